@@ -1,14 +1,17 @@
-# make run      the main job on the example data: the report of two uploads under the sample table.
-#               If no proved program is there, a trial is built and run, and it says so
+# make run      the main job on the example data: the report of two uploads under the sample table,
+#               and one rider's statement with its reasons. If no proved program is there, a trial
+#               is built and run, and it says so
 # make trial    builds the three programs without a proof, in two to three minutes each:
 #               out/trial/NAME. Nothing is proved of them, and they are slow
 # make build    proves the three programs and all crates below them, with a line for each crate, and
 #               builds the programs: crates/NAME/out/NAME. What rt says is in out/build.log
-# make install  the proved programs, their manual pages and completions, into DESTDIR/PREFIX; PREFIX
-#               is /usr/local if not given. scripts/installed tries it
-# make test     everything that must pass: what the documents say of the sources, what must not
-#               compile, the proofs, the tests, the wrong bodies in must-fail/, the stored runs, and
-#               then the cases of the built program and the settled week
+# make install  the three proved programs, their manual pages and completions, the documents for
+#               users, the example, and what others do with a ledger (sql, viewer, audit), into
+#               DESTDIR/PREFIX; PREFIX is /usr/local if not given. scripts/installed tries it
+# make test     everything that must pass: what the documents say of the sources, no lemma proved
+#               once more, what must not compile, the proofs, the tests, the wrong bodies in
+#               must-fail/, the stored runs, and then the cases of the built program and the settled
+#               week
 # make wrong    all wrong bodies, those in wrong/ too: each must be refused by the function that it
 #               changes. Some crates alone: make wrong CRATES="tap_views fare_table"
 # make model    the turn protocol of a shared book in Spin: no worker sleeps for ever, and one at a
@@ -19,8 +22,8 @@
 #               there, a trial is built and measured, and it says so
 # make audit    the checkers of ledgers over the example, some zones, a generated week and spoilt
 #               ledgers
-# make sql      the example's ledger in SQLite and in PostgreSQL, an auditor's questions, and journals
-#               for hledger
+# make sql      the example's ledger in SQLite and in PostgreSQL, an auditor's questions, those that
+#               know the fare table too, and journals for hledger
 # make viewer   the page that shows a ledger, in headless Chromium
 # make cluster  3 million taps over 8 parts: on this machine, on Slurm and on Dask, with a machine
 #               lost in the middle; then what may go wrong. docs/CLUSTER.md says more
@@ -47,10 +50,11 @@ install:
 	@scripts/install_programs "$(DESTDIR)" "$(PREFIX)"
 
 # At most four checks at once, which take 10 GB: without RT_JOBS rt ci plans for more than they
-# take. The last line of the output is the verdict of rt ci: the cases are silent where all is well.
+# take. The last line of the output is the verdict of rt ci: the cases are silent if all is well.
 test:
 	@scripts/check_documents
 	@scripts/private_definitions
+	@scripts/repeated_lemmas
 	scripts/must_not_compile
 	@scripts/version
 	@n=$$(nproc) && RT_JOBS=$${RT_JOBS:-$$((n < 4 ? n : 4))} rt ci

@@ -1,12 +1,19 @@
 #!/usr/bin/env python3
-"""Checks a ledger under a fare table: check_ledger.py --table TABLE LEDGER (`-`: standard input)
+"""Checks a ledger under a fare table, and a report against it (`-`: standard input):
+
+    check_ledger.py [--all] [--report REPORT] --table TABLE LEDGER
 
 Prints `legal N lines` with status 0. Else status 1 and the first wrong line: `line N wants LINE`,
 the line that the fare rules give that tap there, or `line N is no ledger line`; the standard error
-says why it is none. Line 1 is the head line. Status 2 is a fault of the command line.
+says why it is none. Line 1 is the head line. Status 2 is a fault of the command line. With `--all`
+it goes on after a wrong line, and ends with `wrong N of M lines, of K tokens; cents C, wanted D`.
+With `--report` a second line follows `legal N lines`: `report of the ledger`, or status 1 and the
+report's first line that is not that of the ledger's sums, `wrong report line N: wants LINE` or
+`wrong report line N: no report has it`. Of the uploads' lines only the form is known, and that their
+taps are as many as the ledger's: else `wrong report line N: the uploads have A taps, the ledger B`.
 Written from docs/RULES.md and docs/FORMATS.md alone, so that it shares no mistake with the program.
-It keeps one account and one line at a time. It needs Python 3.11 and nothing else."""
-import io, re, struct, sys, tomllib
+It keeps one account and one line at a time, and with `--report` the sums. It needs Python 3.11 and nothing else."""
+import io, os, re, struct, sys, tomllib
 from bisect import bisect_right
 from datetime import date, datetime, timedelta, timezone
 from functools import lru_cache
@@ -19,13 +26,21 @@ NUMBER, WORD = "(?:0|[1-9][0-9]*)", "[a-z-]{0,16}"
 MOMENT = "[0-9]{4}-[0-9]{2}-[0-9]{2}T(?:[01][0-9]|2[0-3])(?::[0-5][0-9]){2}[.][0-9]{3}Z"
 LINE = re.compile(f"([0-9a-f]{{32}}),({NUMBER}),({MOMENT}),({NUMBER}),{WORD},{WORD},({NUMBER}),"
                   f"({MOMENT}|),({MOMENT}|),({NUMBER}|),{WORD},({MOMENT}|)\n")
+# a line that has a tap, whatever it says of it, and its cents behind the validator
+TAP = re.compile(f"([0-9a-f]{{32}}),[^,]*,({MOMENT}),({NUMBER}),(.*\n)")
+CENTS = re.compile(f"[^,]*,[^,]*,({NUMBER}),")
+ANSWERS = {"paid": "paid", "transfer": "transfers", "capped": "capped", "stale": "stale",
+           "unknown": "unknown"}
+UPLOADS = re.compile(f"uploads ({NUMBER})\n")
+UPLOAD = re.compile(f"upload ({NUMBER}) (?:(?:posted|cut) ({NUMBER})|undrawn"
+                    f"|refused ({NUMBER}) at ({NUMBER}) L[1-6])\n")
 # days of a POSIX rule that zoneinfo takes for others: `n`, and J59
 RULE_DAY = re.compile("(?<=.),(J59|[0-2]?[0-9]{1,2}|3[0-5][0-9]|36[0-5])"
                       "(/([+-]?)([0-9]{1,3})(?::([0-5][0-9]))?(?::([0-5][0-9]))?)?(?=,|$)")
 
 @lru_cache(1024)
 def day_ms(text):
-    """The first millisecond of a date. ValueError where no calendar has the date."""
+    """The first millisecond of a date. ValueError if no calendar has the date."""
     return (date.fromisoformat(text) - date(1970, 1, 1)).days * DAY_MS
 
 def moment_ms(text):
@@ -69,7 +84,7 @@ class Fares:
         self.zone = zone_of(table["zone"]) if "zone" in table else None
 
     def mode_of(self, validator):
-        """The mode of a validator, or None where the table does not know it."""
+        """The mode of a validator, or None if the table does not know it."""
         at = bisect_right(self.ranges, validator, key=lambda r: r[0]) - 1
         return self.ranges[at][2] if at >= 0 and validator <= self.ranges[at][1] else None
 
@@ -118,8 +133,55 @@ class Account:
         cents, reason = (fare, "full") if left >= fare else (left, "ceiling-cut")
         return f"paid,{cents},{self.window},{self.rides},{reason}"
 
+class Sums:
+    """Taps, answers and cents of a ledger's lines: of all, by validator and by token."""
+    def __init__(self):
+        self.totals, self.validators, self.tokens = self.none(), {}, {}
+
+    def none(self):
+        return dict.fromkeys(["taps", *ANSWERS.values(), "cents"], 0)
+
+    def add(self, line):
+        """Adds what a right line says."""
+        token, _, _, validator, _, answer, cents, *_ = line.split(",")
+        for sums in (self.totals, self.validators.setdefault(int(validator), self.none()),
+                     self.tokens.setdefault(token, self.none())):
+            sums["taps"] += 1
+            sums[ANSWERS[answer]] += 1
+            sums["cents"] += int(cents)
+
+    def lines(self):
+        """The report's lines behind those of the uploads."""
+        text = lambda sums: " ".join(f"{name} {count}" for name, count in sums.items())
+        yield f"totals {text(self.totals)}\n"
+        for name, of in ("validator", self.validators), ("token", self.tokens):
+            yield f"{name}s {len(of)}\n"
+            for key in sorted(of):
+                yield f"{name} {key} {text(of[key])}\n"
+
+def wrong_in_report(sums, file):
+    """What is wrong with the first line of the report that is not that of these sums, or None."""
+    read = lambda: file.readline(512).decode("latin-1")  # no line of a report has as many bytes
+    none, taps = "wrong report line {}: no report has it", 0
+    if not (head := UPLOADS.fullmatch(read())):
+        return none.format(1)
+    number = 1
+    for upload in range(int(head[1])):
+        number += 1
+        end = UPLOAD.fullmatch(read())
+        if not end or int(end[1]) != upload or max(int(n or 0) for n in end.groups()) >= 2 ** 64:
+            return none.format(number)
+        taps += int(end[2] or end[3] or 0)
+    if taps != sums.totals["taps"]:
+        return (f"wrong report line {number}: the uploads have {taps} taps, the ledger "
+                f"{sums.totals['taps']}")
+    for number, wanted in enumerate(sums.lines(), number + 1):
+        if read() != wanted:
+            return f"wrong report line {number}: wants {wanted[:-1]}"
+    return none.format(number + 1) if read() else None
+
 def tap_of(line):
-    """Token, moment, its text and validator of a ledger line. ValueError where it is none."""
+    """Token, moment, its text and validator of a ledger line. ValueError if it is none."""
     if not (fields := LINE.fullmatch(line)):
         raise ValueError("it is cut, too long, or has not twelve fields in a ledger's form")
     token, place, text, validator, cents, start, end, ride, points_at = fields.groups()
@@ -129,8 +191,9 @@ def tap_of(line):
         raise ValueError("a number or a moment is past its range")
     return token, moments[0], text, int(validator)
 
-def first_wrong(fares, file):
-    """How many lines are right, what is wrong with the next, and why it is no ledger line."""
+def first_wrong(fares, file, sums):
+    """How many lines are right, what is wrong with the next, and why it is no ledger line. The lines
+    that are right are added to the sums, if there are any."""
     read = lambda: file.readline(256).decode("latin-1")  # no ledger line has as many bytes
     if read() != HEAD:
         return 0, "line 1 is no ledger line", "it is not the head line"
@@ -147,19 +210,87 @@ def first_wrong(fares, file):
         wanted = f"{token},{account.post(moment, text, validator)}"
         if line != wanted:
             return count, f"line {count + 2} wants {wanted[:-1]}", None
+        if sums:
+            sums.add(line)
         count += 1
     return count, None, None
 
+def lines_in(file):
+    """Each line, or nothing in place of one that is too long or that the text's end cuts."""
+    while line := file.readline(256):
+        fits = len(line) < 256 and line.endswith(b"\n")
+        while not line.endswith(b"\n") and (more := file.readline(65_536)):
+            line = more
+        yield line.decode("latin-1") if fits or not line else ""
+
+def tap_in(line):
+    """The tap that a line has: token, moment, its text, validator and cents. None if it has none."""
+    if not (found := TAP.fullmatch(line)):
+        return None
+    token, text, validator, rest = found.groups()
+    try:
+        moment = moment_ms(text)
+    except ValueError:
+        return None
+    if not 0 <= moment < MOMENT_LIMIT or int(validator) >= 2 ** 32:
+        return None
+    cents = CENTS.match(rest)
+    cents = int(cents[1]) if cents else 0
+    return token, moment, text, int(validator), cents if cents < 2 ** 32 else 0
+
+def all_wrong(fares, file, sums):
+    """Prints each wrong line and the end. Gives whether no line is wrong. Each line that tells a tap
+    is added to the sums as it should be, if there are any."""
+    account, last, wrong, tokens, last_wrong, cents, wanted_cents = None, "", 0, 0, None, 0, 0
+    number = 0
+    for number, line in enumerate(lines_in(file), 1):
+        if number == 1 or not (tap := tap_in(line)):
+            if number > 1 or line != HEAD:
+                wrong += 1
+                print(f"line {number} is no ledger line")
+            continue
+        token, moment, text, validator, asked = tap
+        falls = token < last
+        if token != last:
+            account, last = Account(fares, token), token
+        wanted = f"{token},{account.post(moment, text, validator)}"
+        cents += asked
+        wanted_cents += int(wanted.split(",")[6])
+        if sums:
+            sums.add(wanted)
+        if falls or line != wanted:
+            print(f"line {number} " + ("is no ledger line" if falls else f"wants {wanted[:-1]}"))
+            wrong, tokens, last_wrong = wrong + 1, tokens + (token != last_wrong), token
+    if number == 0:
+        number, wrong = 1, 1
+        print("line 1 is no ledger line")
+    print(f"wrong {wrong} of {number - 1} lines, of {tokens} tokens; cents {cents}, wanted "
+          f"{wanted_cents}" if wrong else f"legal {number - 1} lines")
+    return not wrong
+
 def main():
-    if len(sys.argv) != 4 or sys.argv[1] != "--table":
+    words = sys.argv[1:]
+    goes_on = words[:1] == ["--all"]
+    words = words[goes_on:]
+    report = words[1] if words[:1] == ["--report"] and len(words) > 1 else None
+    words = words[2 if report is not None else 0:]
+    if len(words) != 3 or words[0] != "--table":
         sys.exit(print(__doc__, file=sys.stderr) or 2)
     try:
-        with open(sys.argv[2], "rb") as table, \
-                open(0 if sys.argv[3] == "-" else sys.argv[3], "rb") as file:
-            count, wrong, why = first_wrong(Fares(tomllib.load(table)), file)
+        with open(words[1], "rb") as table, \
+                open(0 if words[2] == "-" else words[2], "rb") as file, \
+                open(os.devnull if report is None else report, "rb") as reported:
+            fares, sums = Fares(tomllib.load(table)), None if report is None else Sums()
+            if goes_on:
+                wrong, why = "" if all_wrong(fares, file, sums) else "wrong", None
+            else:
+                count, wrong, why = first_wrong(fares, file, sums)
+                print(wrong or f"legal {count} lines")
+            if sums and not wrong:
+                wrong = wrong_in_report(sums, reported)
+                print(wrong or "report of the ledger")
     except (OSError, ValueError, LookupError, TypeError, AttributeError) as why:
         sys.exit(f"fault: {type(why).__name__} {why}")
-    print(wrong or f"legal {count} lines")
     sys.exit(f"fault: {why}" if why else bool(wrong))
 
 if __name__ == "__main__":

@@ -21,7 +21,7 @@ RUSTC += ["-C", "llvm-args=-inline-threshold=600"]
 
 
 def build_rust(name):
-    """Builds bench/NAME/main.rs to out/NAME where a source is newer than that."""
+    """Builds bench/NAME/main.rs to out/NAME if a source is newer than that."""
     OUT.mkdir(exist_ok=True)
     built = OUT / name
     sources = list(BENCH.rglob("*.rs"))

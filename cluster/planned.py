@@ -8,7 +8,7 @@ import socket
 import subprocess
 import sys
 
-# A task's kind, and the file that it names last: where that stands, the task is done.
+# A task's kind, and the file that it names last: if that is there, the task is done.
 DONE = {"split": "ends/{}", "post": "reports/{}", "merge": "status"}
 BATCH_TAPS = 4096  # of each batch in a part's file; the last one may have fewer
 END = "upload ([0-9]+) (?:posted|refused) ([0-9]+)(?: at [0-9]+ L[1-6])?\n"
@@ -62,8 +62,9 @@ class Run:
         return int(status)
 
     def settle(self, words, files, **where):
-        """Runs the program over some uploads."""
-        words = ["--table", "table.toml", "--settle", "--workers", str(self.workers), *words]
+        """Runs the program over files of a part, each of which has its taps in canonical order."""
+        words = ["--table", "table.toml", "--settle", "--sorted", "--workers", str(self.workers),
+                 *words]
         return subprocess.run(["bin/omny_cli", *words, *files], **where)
 
     def part_of(self, number):
@@ -189,7 +190,7 @@ def words(page, least, most):
         print(page.strip())
         sys.exit(0)
     if not least <= len(given) <= most:
-        raise Fault("too few words or too many; --help tells them")
+        raise Fault("too few words or too many; --help lists them")
     return given
 
 

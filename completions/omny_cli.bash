@@ -3,8 +3,8 @@
 _omny_cli() {
     local word=${COMP_WORDS[COMP_CWORD]} before=${COMP_WORDS[COMP_CWORD - 1]} given
     local options=(
-        --table --list --settle --ledger --workers --shards --token --explain -h --help -V
-        --version
+        --table --list --settle --sorted --ledger --workers --shards --token --explain -h --help
+        -V --version
     )
     # bash splits a word at `=`, so that `--table=F` is the words `--table`, `=` and `F`
     if [[ $word == = ]]; then
@@ -32,7 +32,7 @@ _omny_cli() {
     esac
 }
 
-# The folders that begin with the word, and the files that do and have this ending; where there is
+# The folders that begin with the word, and the files that do and have this ending; if there is
 # none with the ending, all files that begin with the word.
 _omny_cli_files() {
     compopt -o filenames 2> /dev/null

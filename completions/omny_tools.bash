@@ -12,7 +12,7 @@ _omny_tools() {
     COMPREPLY=()
     for given in "${COMP_WORDS[@]:1:COMP_CWORD - 1}"; do
         case $given in
-        encode | decode | uploads | table | split | merge | merge-ledgers | corrections)
+        encode | decode | uploads | table | sort | split | merge | merge-ledgers | corrections)
             task=$given && break
             ;;
         esac
@@ -20,13 +20,15 @@ _omny_tools() {
     # the options of the task, and the ending of its files: * is any name
     case $task in
     '') words='-V --version' ;;
-    encode | merge-ledgers) ending=csv ;;
+    encode) words='--columns --only --separator --refused' ending=csv ;;
+    merge-ledgers) ending=csv ;;
     corrections) words='--tokens' ending=csv ;;
-    uploads) words='--good-part --tokens' ;;
+    uploads) words='--good-part --tokens --look --within --from --until --table --list' ;;
     table)
         words='--strict --riders --from'
         [[ ${COMP_WORDS[*]:1:COMP_CWORD - 1} == *.toml* ]] || ending=toml
         ;;
+    sort) words='--merge --out --ends' ;;
     split) words='--parts --part-files --first' ;;
     merge) words='--ends --reports' ending='*' ;;
     esac
@@ -34,22 +36,26 @@ _omny_tools() {
     for given in "${COMP_WORDS[@]:1:COMP_CWORD - 1}"; do
         [[ $given == -- ]] && before=--
     done
+    case $task$before in
+    sort--ends) ending='*' ;;
+    uploads--table) ending=toml ;;
+    esac
     case $before in
-    --from | --parts | --first) return ;;
-    --good-part) ending='*' ;;
+    --from | --until | --within | --parts | --first | --columns | --only | --separator) return ;;
+    --good-part | --refused) ending='*' ;;
     --part-files) ending=/ ;;
     esac
     if [[ $word == -* && $before != -- ]]; then
         mapfile -t COMPREPLY < <(compgen -W "$words -h --help" -- "$word")
     elif [[ -z $task ]]; then
-        words='encode decode uploads table split merge merge-ledgers corrections'
+        words='encode decode uploads table sort split merge merge-ledgers corrections'
         mapfile -t COMPREPLY < <(compgen -W "$words" -- "$word")
     else
         _omny_tools_files "$word" "$ending"
     fi
 }
 
-# The folders that begin with the word, and the files that do and have this ending; where there is
+# The folders that begin with the word, and the files that do and have this ending; if there is
 # none with the ending, all files that begin with the word. The ending * is any name, and / is a
 # folder alone.
 _omny_tools_files() {

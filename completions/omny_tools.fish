@@ -2,7 +2,7 @@
 
 # The subcommand that is not yet there.
 function __omny_tools_no_task
-    not __fish_seen_subcommand_from encode decode uploads table split merge merge-ledgers \
+    not __fish_seen_subcommand_from encode decode uploads table sort split merge merge-ledgers \
         corrections
 end
 
@@ -20,25 +20,42 @@ set -l no_task __omny_tools_no_task
 complete -c omny_tools -f
 complete -c omny_tools -n $no_task -a encode -d 'Write the upload of a tap table'
 complete -c omny_tools -n $no_task -a decode -d 'Write the taps of uploads as a table'
-complete -c omny_tools -n $no_task -a uploads -d 'Tell what uploads have'
-complete -c omny_tools -n $no_task -a table -d 'Tell a fare table as it is understood'
+complete -c omny_tools -n $no_task -a uploads -d 'Show what uploads have'
+complete -c omny_tools -n $no_task -a table -d 'Show a fare table as it is understood'
+complete -c omny_tools -n $no_task -a sort -d 'Make one upload of all taps in canonical order'
 complete -c omny_tools -n $no_task -a split -d 'Split uploads by token into parts'
 complete -c omny_tools -n $no_task -a merge -d 'Merge the reports of parts'
 complete -c omny_tools -n $no_task -a merge-ledgers -d 'Merge the ledgers of parts'
 complete -c omny_tools -n $no_task -a corrections -d 'Write what a later ledger charges otherwise'
 complete -c omny_tools -n $no_task -s V -l version -d 'Print the version'
 complete -c omny_tools -s h -l help -d 'Print help'
+set -l encode '__fish_seen_subcommand_from encode'
+complete -c omny_tools -n $encode -l columns -x -d 'Read any CSV with these columns'
+complete -c omny_tools -n $encode -l only -x -d 'Keep only the rows with this value'
+complete -c omny_tools -n $encode -l separator -x -a ', ";" tab' -d 'What stands between two fields'
+complete -c omny_tools -n $encode -l refused -r -d 'Make a file of the rows that are no taps'
 set -l uploads '__fish_seen_subcommand_from uploads'
 complete -c omny_tools -n $uploads -l good-part -r -d 'Make a file of what stands before the fault'
 complete -c omny_tools -n $uploads -l tokens -d 'Tell how many tokens the uploads share'
+complete -c omny_tools -n $uploads -l look -d 'Look for near doubles and repeated uploads, too'
+complete -c omny_tools -n $uploads -l within -x -d 'How many seconds later a near double is at most'
+complete -c omny_tools -n $uploads -l from -x -d 'Look for taps before this moment'
+complete -c omny_tools -n $uploads -l until -x -d 'Look for taps at this moment or after it'
+complete -c omny_tools -n $uploads -l table -x -k -d 'Look for days on which a validator has no tap' \
+    -a '(__omny_tools_files .toml)'
+complete -c omny_tools -n $uploads -l list -d 'Write all that is found as CSV'
 complete -c omny_tools -n '__fish_seen_subcommand_from corrections' -l tokens \
     -d "Write the sums of each token's corrections"
 set -l table '__fish_seen_subcommand_from table'
-complete -c omny_tools -n $table -l strict -d 'Let the status be 1 where there is a warning'
-complete -c omny_tools -n $table -l riders -d 'Tell each rider with its class'
-complete -c omny_tools -n $table -l from -x -d 'Tell the changes of clocks after this moment'
+complete -c omny_tools -n $table -l strict -d 'Let the status be 1 if there is a warning'
+complete -c omny_tools -n $table -l riders -d 'Show each rider with its class'
+complete -c omny_tools -n $table -l from -x -d 'Show the changes of clocks after this moment'
 complete -c omny_tools -n __omny_tools_no_table -k -a '(__omny_tools_files .toml)'
 complete -c omny_tools -n "$table; and not __omny_tools_no_table" -k -a '(__omny_tools_files .tap)'
+set -l sort '__fish_seen_subcommand_from sort'
+complete -c omny_tools -n $sort -l merge -d 'Merge uploads that are in canonical order already'
+complete -c omny_tools -n $sort -l out -r -d 'The file that is made'
+complete -c omny_tools -n $sort -l ends -r -d 'Make a file of how the uploads ended'
 set -l split '__fish_seen_subcommand_from split'
 complete -c omny_tools -n $split -l parts -x -d 'How many parts'
 complete -c omny_tools -n $split -l part-files -x -a '(__fish_complete_directories)' \
@@ -50,5 +67,5 @@ complete -c omny_tools -n $merge -l reports -r -d 'The reports of the parts'
 complete -c omny_tools -n $merge -F
 complete -c omny_tools -n '__fish_seen_subcommand_from encode merge-ledgers corrections' -k \
     -a '(__omny_tools_files .csv)'
-complete -c omny_tools -n '__fish_seen_subcommand_from decode uploads split' -k \
+complete -c omny_tools -n '__fish_seen_subcommand_from decode uploads sort split' -k \
     -a '(__omny_tools_files .tap)'

@@ -2,13 +2,15 @@
  * place of a few of its functions. Which call fails stands in the environment, each number from 1:
  *
  *   REFUSE_ALLOCATION=N  the Nth allocation, of all threads, finds no memory
- *   REFUSE_READ=N        the Nth read fails
+ *   REFUSE_READ=N        the Nth read fails, at an offset or not
  *   REFUSE_SHORT=1       each read gives one byte
  *   REFUSE_ENDLESS=1     each read gives one zero, without end
  *   REFUSE_THREAD=N      the Nth thread is not started
  *   REFUSE_SEED=1        the system gives no random bytes
  *   REFUSE_AFTER=N       the standard output takes N bytes, and then fails (N from 0)
- *   REFUSE_TOLD=D        one byte goes to the file descriptor D where a call failed so
+ *   REFUSE_WRITE=N       the Nth write to a file fails; the standard output and the standard error are none
+ *   REFUSE_SYNC=1        no file is brought to the disk
+ *   REFUSE_TOLD=D        one byte goes to the file descriptor D if a call failed so
  */
 #define _GNU_SOURCE
 #include <dlfcn.h>
@@ -25,8 +27,9 @@ extern void *__libc_calloc(size_t, size_t);
 extern void *__libc_realloc(void *, size_t);
 extern void *__libc_memalign(size_t, size_t);
 
-static atomic_long allocations, reads, threads, written;
-static long refused_allocation, refused_read, refused_thread, refused_seed, is_short, is_endless, room = -1, told = -1;
+static atomic_long allocations, reads, writes, threads, written;
+static long refused_allocation, refused_read, refused_write, refused_thread, refused_seed, refused_sync;
+static long is_short, is_endless, room = -1, told = -1;
 
 static long number_in(const char *name, long otherwise) {
     const char *text = getenv(name);
@@ -40,6 +43,8 @@ __attribute__((constructor)) static void start(void) {
     is_endless = number_in("REFUSE_ENDLESS", 0);
     refused_thread = number_in("REFUSE_THREAD", 0);
     refused_seed = number_in("REFUSE_SEED", 0);
+    refused_write = number_in("REFUSE_WRITE", 0);
+    refused_sync = number_in("REFUSE_SYNC", 0);
     room = number_in("REFUSE_AFTER", -1);
     told = number_in("REFUSE_TOLD", -1);
     atomic_store(&allocations, 0);
@@ -75,7 +80,17 @@ ssize_t read(int descriptor, void *buffer, size_t size) {
     return syscall(SYS_read, descriptor, buffer, is_short && size > 1 ? 1 : size);
 }
 
+ssize_t pread(int descriptor, void *buffer, size_t size, off_t offset) {
+    if (refused_read != 0 && atomic_fetch_add(&reads, 1) + 1 == refused_read) return fails(EIO);
+    return syscall(SYS_pread64, descriptor, buffer, is_short && size > 1 ? 1 : size, offset);
+}
+
+ssize_t pread64(int descriptor, void *buffer, size_t size, off64_t offset) { return pread(descriptor, buffer, size, offset); }
+
+int fsync(int descriptor) { return refused_sync ? (int)fails(EIO) : (int)syscall(SYS_fsync, descriptor); }
+
 ssize_t write(int descriptor, const void *buffer, size_t size) {
+    if (refused_write != 0 && descriptor > 2 && atomic_fetch_add(&writes, 1) + 1 == refused_write) return fails(ENOSPC);
     if (descriptor == 1 && room >= 0) {
         size_t left = room - atomic_load(&written);
         if (left == 0) return fails(ENOSPC);

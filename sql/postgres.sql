@@ -17,19 +17,32 @@ CREATE TABLE line (
   day          date        GENERATED ALWAYS AS ((moment AT TIME ZONE :'zone')::date) STORED,
   validator    bigint      NOT NULL CHECK (validator BETWEEN 0 AND 4294967295),
   mode         text        COLLATE "C" CHECK ((mode IS NULL) = (answer = 'unknown')),
-  answer       text        COLLATE "C" NOT NULL
-               CHECK (answer IN ('paid', 'capped', 'transfer', 'stale', 'unknown')),
+  answer       text        COLLATE "C" NOT NULL,
   cents        bigint      NOT NULL CHECK ((cents > 0) = (answer = 'paid')),
   window_start timestamptz CHECK ((window_start IS NOT NULL) = (answer IN ('paid', 'capped'))),
   window_end   timestamptz CHECK ((window_end IS NOT NULL) = (answer IN ('paid', 'capped'))),
   ride         bigint,
-  reason       text        COLLATE "C" NOT NULL
-               CHECK (reason IN ('full', 'ceiling-cut', 'ceiling', 'ride-limit', 'transfer',
-                                 'stale', 'unknown')),
-  points_at    timestamptz CHECK ((points_at IS NOT NULL) = (reason IN ('transfer', 'stale')))
+  reason       text        COLLATE "C" NOT NULL,
+  points_at    timestamptz CHECK ((points_at IS NOT NULL) = (reason IN ('transfer', 'stale'))),
+  CHECK (CASE answer WHEN 'paid' THEN reason IN ('full', 'ceiling-cut')
+                     WHEN 'capped' THEN reason IN ('ceiling', 'ride-limit')
+                     WHEN 'transfer' THEN reason = answer WHEN 'stale' THEN reason = answer
+                     WHEN 'unknown' THEN reason = answer ELSE false END)
 );
 \copy line FROM pstdin WITH (FORMAT csv, HEADER match, FREEZE)
 ALTER TABLE line ADD PRIMARY KEY (token, line);
+-- the views of schema.sql
+CREATE VIEW live_taps AS
+  SELECT token, line, mode, answer, last_mode, last_answer,
+         round(extract(epoch FROM moment - last_moment) * 1000)::bigint AS ms
+  FROM (SELECT token, line, moment, mode, answer, lag(moment) OVER earlier AS last_moment,
+               lag(mode) OVER earlier AS last_mode, lag(answer) OVER earlier AS last_answer
+          FROM line WHERE answer IN ('paid', 'capped', 'transfer')
+          WINDOW earlier AS (PARTITION BY token ORDER BY line)) AS taps;
+CREATE VIEW rides AS
+  SELECT token, line, day, moment, window_start, window_end,
+         round(extract(epoch FROM window_end - window_start) * 1000)::bigint AS ms
+  FROM line WHERE answer IN ('paid', 'capped');
 \ir views.sql
 COMMIT;
 ANALYZE line;

@@ -4,30 +4,29 @@
 //! [--once] [--colliding] [--again N] [--ranges N] [--riders N] [--seed N]` writes `table.toml` and `000.tap`, `001.tap`, .. into the folder,
 //! and prints the names of the tap files in order.
 //!
-//! `--again` tells the first upload's last tap so many times more: its token has as many stale taps.
+//! `--again` repeats the first upload's last tap that many times: its token has as many stale taps.
 //! `--own-tokens`: no two uploads share a token, so there are at most as many uploads as tokens.
 //! `--once`: each token has one tap, so there are as many tokens as taps, whatever `--tokens` says.
 //!
 //! The taps of an upload rise in time. Of 64 taps about 16 are of a token that tapped within the last hour (so that
-//! there are transfers), one is of no known validator and one is told twice (so that there are unknown and stale taps).
+//! there are transfers), one is of no known validator and one is there twice (so that there are unknown and stale taps).
 //! The whole load spans four weeks. Riders have a class with a low ceiling, so that there are capped rides.
 
-use std::fmt::Write as _;
+mod numbers;
+mod table;
+
 use std::fs::{self, File};
 use std::io::{self, BufWriter, Write};
 use std::path::Path;
 use std::process::ExitCode;
+
+use numbers::{Numbers, mixed};
 
 /// What the program loads of one file.
 const FILE_LIMIT: u64 = 67_108_864;
 const START: u64 = 1_709_917_200_000;
 const SPAN: u64 = 28 * 86_400_000;
 const HOUR: u64 = 3_600_000;
-/// Numbers of a validator range, and the distance from one range to the next: the rest are of no range.
-const RANGE: u32 = 10;
-const STRIDE: u32 = 16;
-const MODES: [&str; 3] = ["subway", "bus", "tram"];
-
 struct Words {
     out: String,
     taps: u64,
@@ -103,7 +102,7 @@ fn words() -> Option<Words> {
     if words.own_tokens {
         words.uploads = words.uploads.min(words.tokens);
     }
-    // So many uploads that no file is over the limit.
+    // As many uploads as it takes that no file is over the limit.
     let most = FILE_LIMIT / (28 * words.batch + 12) * words.batch;
     words.uploads = words.uploads.max(words.taps.div_ceil(most.max(1))).max(1);
     let fits = !words.out.is_empty()
@@ -111,27 +110,6 @@ fn words() -> Option<Words> {
         && words.tokens >= if words.own_tokens { words.uploads } else { 1 }
         && (3..=100_000_000).contains(&words.ranges);
     fits.then_some(words)
-}
-
-/// The generator of numbers "splitmix64".
-struct Numbers(u64);
-
-impl Numbers {
-    fn next(&mut self) -> u64 {
-        self.0 = self.0.wrapping_add(0x9e37_79b9_7f4a_7c15);
-        mixed(self.0)
-    }
-
-    fn below(&mut self, limit: u64) -> u64 {
-        ((self.next() as u128 * limit as u128) >> 64) as u64
-    }
-}
-
-/// One to one, so that different places give different tokens.
-fn mixed(number: u64) -> u64 {
-    let number = (number ^ (number >> 30)).wrapping_mul(0xbf58_476d_1ce4_e5b9);
-    let number = (number ^ (number >> 27)).wrapping_mul(0x94d0_49bb_1331_11eb);
-    number ^ (number >> 31)
 }
 
 fn token(words: &Words, place: u64) -> [u8; 16] {
@@ -153,38 +131,6 @@ const KNOWN_MULTIPLIER: u64 = 0x9e37_79b9_7f4a_7c15;
 fn folded(a: u64, b: u64) -> u64 {
     let product = a as u128 * b as u128;
     product as u64 ^ (product >> 64) as u64
-}
-
-fn hex(token: [u8; 16]) -> String {
-    format!("{:032x}", u128::from_be_bytes(token))
-}
-
-fn table(words: &Words) -> String {
-    let mut text = String::from(
-        "modes = [\"subway\", \"bus\", \"tram\"]\n\
-         transfers = [[\"subway\", \"bus\"], [\"bus\", \"subway\"], [\"bus\", \"bus\"]]\n\
-         default_class = \"full\"\n\n\
-         [classes.full]\nfare = 300\nrides = 12\nceiling = 3500\n\n\
-         [classes.reduced]\nfare = 150\nrides = 3\n",
-    );
-    for place in 0..words.ranges {
-        let first = first_of(place);
-        let last = first + RANGE - 1;
-        let mode = MODES[place as usize % MODES.len()];
-        let _ = write!(
-            text,
-            "\n[[validators]]\nfirst = {first}\nlast = {last}\nmode = \"{mode}\"\n"
-        );
-    }
-    text.push_str("\n[riders]\n");
-    for place in 0..words.riders.min(words.tokens) {
-        let _ = writeln!(text, "{} = \"reduced\"", hex(token(words, place)));
-    }
-    text
-}
-
-fn first_of(range: u32) -> u32 {
-    1000 + STRIDE * range
 }
 
 #[derive(Clone, Copy)]
@@ -280,12 +226,7 @@ impl<'a> Taps<'a> {
     }
 
     fn validator(&mut self) -> u32 {
-        let first = first_of(self.numbers.below(self.words.ranges as u64) as u32);
-        let unknown = self.numbers.below(64) == 0;
-        let within = self
-            .numbers
-            .below(if unknown { STRIDE - RANGE } else { RANGE } as u64) as u32;
-        first + within + if unknown { RANGE } else { 0 }
+        table::validator(&mut self.numbers, self.words.ranges)
     }
 
     fn next(&mut self) -> Tap {
@@ -347,7 +288,8 @@ fn write_upload(words: &Words, upload: u64, out: &mut impl Write) -> io::Result<
 fn run(words: &Words) -> io::Result<()> {
     let folder = Path::new(&words.out);
     fs::create_dir_all(folder)?;
-    fs::write(folder.join("table.toml"), table(words))?;
+    let riders = (0..words.riders.min(words.tokens)).map(|place| token(words, place));
+    fs::write(folder.join("table.toml"), table::text(words.ranges, riders))?;
     for upload in 0..words.uploads {
         let path = folder.join(format!("{upload:03}.tap"));
         let mut out = BufWriter::with_capacity(1 << 20, File::create(&path)?);

@@ -31,7 +31,7 @@ struct Range {
 pub struct Table {
     /// The names of the modes.
     modes: Vec<String>,
-    /// Bit `to` of word `from` is set where the pair is permitted.
+    /// Bit `to` of word `from` is set if the pair is permitted.
     permitted: [u32; 32],
     /// The classes in the order of the text.
     classes: Vec<Terms>,

@@ -38,7 +38,7 @@ impl Sharding {
 /// The accounts of one shard.
 pub struct Accounts {
     seed: Seed,
-    /// The upper half of the hash, and a place plus one; 0 where there is none.
+    /// The upper half of the hash, and a place plus one; 0 if there is none.
     slots: Vec<u64>,
     mask: usize,
     pub list: Vec<Account>,
@@ -57,7 +57,7 @@ impl Accounts {
         }
     }
 
-    /// Posts taps in order. `keep` is told the account's place, the tap's number among them, and
+    /// Posts taps in order. `keep` is given the account's place, the tap's number among them, and
     /// the reply.
     #[inline(always)]
     pub fn post<T>(
@@ -120,7 +120,7 @@ impl Accounts {
     }
 
     /// The first place whose hash fits, where the token's account is unless hashes meet. It is made
-    /// where there is none.
+    /// if there is none.
     #[inline(always)]
     fn place(&mut self, table: &Table, token: Token, hash: u64) -> u32 {
         let mut at = hash as usize & self.mask;

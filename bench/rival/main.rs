@@ -3,7 +3,7 @@
 //!
 //! `rival [--table F] [--way stream|shards] [--settle] [--list] [--workers N] [--shards N]
 //! [--threads N] [--token HEX] [FILE...]`. `--threads` are those that read and report: as many as
-//! workers but four at least where it is not given, as in the program.
+//! workers but four at least if it is not given, as in the program.
 
 mod account;
 mod accounts;

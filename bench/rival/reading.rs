@@ -100,7 +100,7 @@ impl<S: Sink> Reader<S> {
         }
     }
 
-    /// The batch at this place of the buffer: its length and how many taps it has, or none where
+    /// The batch at this place of the buffer: its length and how many taps it has, or none if
     /// more of the file is needed.
     fn batch(
         &mut self,
@@ -177,9 +177,9 @@ fn deal<const WIDTH: usize, S: Sink>(
     Ok(())
 }
 
-/// Reads all uploads by so many threads, each into the sink that `sink` makes for its number.
+/// Reads all uploads by this many threads, each into the sink that `sink` makes for its number.
 /// Without a name, standard input is the one upload. The first upload that is not loaded, in their
-/// order, is told by its name.
+/// order, is reported by its name.
 pub fn read_all<S: Sink>(
     names: &[String],
     threads: usize,

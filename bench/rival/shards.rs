@@ -138,12 +138,12 @@ impl Kept {
         writer.runs = runs;
         writer.start = self.arena.chunk();
         writer.at = writer.start;
-        // SAFETY: a chunk has so many entries.
+        // SAFETY: a chunk has that many entries.
         writer.end = unsafe { writer.at.add(CHUNK) };
     }
 }
 
-/// Reads all uploads by `threads` threads, and posts them by so many workers.
+/// Reads all uploads by `threads` threads, and posts them by this many workers.
 pub fn run(
     table: &Table,
     seed: Seed,

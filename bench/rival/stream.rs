@@ -19,7 +19,7 @@ const BLOCK: usize = 2 << 20;
 /// Entries of a block.
 const COUNT: usize = BLOCK / size_of::<Entry>();
 
-/// An entry whose token is told by the place of its account.
+/// An entry whose token is known by the place of its account.
 #[derive(Clone, Copy)]
 #[repr(C, align(16))]
 struct Entry {
@@ -178,7 +178,7 @@ impl Gathered<'_> {
     }
 }
 
-/// Posts all uploads by so many workers.
+/// Posts all uploads by this many workers.
 pub fn run(
     table: &Table,
     seed: Seed,

@@ -19,7 +19,7 @@ struct Tally {
 /// An open-addressing index over the validators.
 pub struct Tallies {
     seed: Seed,
-    /// `validator << 32 | place + 1`, 0 where there is none.
+    /// `validator << 32 | place + 1`, 0 if there is none.
     slots: Vec<u64>,
     mask: usize,
     tallies: Vec<Tally>,
@@ -53,7 +53,7 @@ impl Tallies {
         prefetch(self.tallies.as_ptr().wrapping_add(place as usize));
     }
 
-    /// The place of a validator, which is made where there is none.
+    /// The place of a validator, which is made if there is none.
     #[inline(always)]
     pub fn place(&mut self, table: &Table, validator: u32) -> u32 {
         let mut at = self.seed.validator(validator) as usize & self.mask;
@@ -141,7 +141,7 @@ impl Tallies {
     }
 }
 
-/// What so many workers count together, of whom the caller's thread is one.
+/// What this many workers count together, of whom the caller's thread is one.
 pub fn by_workers(table: &Table, workers: usize, work: impl Fn() -> Tallies + Sync) -> Tallies {
     thread::scope(|scope| {
         let others: Vec<_> = (1..workers).map(|_| scope.spawn(&work)).collect();

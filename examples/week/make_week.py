@@ -100,7 +100,7 @@ def tap2(taps):
 
 
 def read(upload):
-    """The posted taps of an upload, and its end as the report tells it."""
+    """The posted taps of an upload, and its end as the report has it."""
     at, taps = 0, []
     while at < len(upload):
         left, two = len(upload) - at, upload[at:at + 4] == b"TAP2"

@@ -7,3 +7,5 @@ pub mod WindowLemmas
 pub mod StepLemmas
 pub mod ShareLemmas
 pub mod ReasonLemmas
+pub mod PriceLemmas
+pub mod NoTransferLemmas

@@ -31,7 +31,8 @@ pub charge-le : (terms : Terms) (place : ℕ) → charge terms place ≤ terms.f
 charge-le terms place = elim (charged terms place)
     [ inl free ↦ omega arith | inr paid ↦ omega (arith, paid.cost) ]
 
-free_from : (terms : Terms) (place : ℕ) → terms.rides ≤ place → charge terms place ≡ 0
+-- at the ride limit and past it a ride is free
+pub free_from : (terms : Terms) (place : ℕ) → terms.rides ≤ place → charge terms place ≡ 0
 free_from terms place past =
     elim (charged terms place)
     [ inl free ↦ free | inr paid ↦ absurd (omega (arith, paid.below_rides)) ]

@@ -39,7 +39,7 @@ unfolding reason
 reason_unknown rules taps tap none = let no_mode : is_some tap.mode ≡ false =
     ap (λ o. is_some o) none in rw no_mode refl
 
-reason_stale : (rules : TokenRules) (taps : List TapIn) (tap : TapIn) (mode : Mode)
+pub reason_stale : (rules : TokenRules) (taps : List TapIn) (tap : TapIn) (mode : Mode)
     → tap.mode ≡ Some mode → is_later taps tap.moment ≡ false
     → reason rules taps tap ≡ Stale (latest taps)
 unfolding reason
@@ -47,7 +47,7 @@ reason_stale rules taps tap mode known not_after =
     let known_mode : is_some tap.mode ≡ true = ap (λ o. is_some o) known in
     rw (known_mode, not_after) refl
 
-reason_live : (rules : TokenRules) (taps : List TapIn) (tap : TapIn) (mode : Mode) → tap.mode ≡ Some mode
+pub reason_live : (rules : TokenRules) (taps : List TapIn) (tap : TapIn) (mode : Mode) → tap.mode ≡ Some mode
     → is_later taps tap.moment ≡ true
     → reason rules taps tap ≡ live_reason rules taps (taps ++ tap ∷ [])
 unfolding reason
@@ -55,7 +55,7 @@ reason_live rules taps tap mode known later =
     let known_mode : is_some tap.mode ≡ true = ap (λ o. is_some o) known in
     rw (known_mode, later) refl
 
-reason_transfer : (rules : TokenRules) (earlier taps : List TapIn) → ends_in_transfer rules taps ≡ true
+pub reason_transfer : (rules : TokenRules) (earlier taps : List TapIn) → ends_in_transfer rules taps ≡ true
     → live_reason rules earlier taps ≡ given_by (last_or None (live earlier))
 unfolding live_reason
 reason_transfer rules earlier taps ends = rw ends refl
@@ -67,7 +67,7 @@ reason_ride rules earlier taps ends = rw ends refl
 
 -- the latest moment of the known taps is the last moment that is kept
 
-later-false : (taps : List TapIn) (moment : ℕ) → is_later taps moment ≡ false → moment ≤ latest taps
+pub later-false : (taps : List TapIn) (moment : ℕ) → is_later taps moment ≡ false → moment ≤ latest taps
 unfolding is_later latest
 later-false [] moment h = cc
 later-false (tap ∷ taps) moment h =
@@ -83,7 +83,7 @@ later-false (tap ∷ taps) moment h =
       | false ↦ λ not_all. later-false taps moment not_all
     ] h
 
-later-true : (taps : List TapIn) (moment : ℕ) → is_later taps moment ≡ true
+pub later-true : (taps : List TapIn) (moment : ℕ) → is_later taps moment ≡ true
     → latest taps ≤ moment - 1
 unfolding is_later latest
 later-true [] moment h = omega arith
@@ -101,7 +101,7 @@ later-true (tap ∷ taps) moment h =
       | false ↦ λ all. later-true taps moment all
     ] h
 
-last-latest : (state : Kept) (taps : List TapIn)
+pub last-latest : (state : Kept) (taps : List TapIn)
     → ((moment : ℕ) → is_after (Some state) moment ≡ is_later taps moment)
     → state.last ≡ latest taps
 unfolding is_after
@@ -156,7 +156,7 @@ last-blocks_from joins block (x ∷ xs) =
           ∙ sym (last_or-cons None block x xs)
     ]
 
-last-blocks_by : {A : Type 0} (joins : List A → A → Bool) (xs : List A)
+pub last-blocks_by : {A : Type 0} (joins : List A → A → Bool) (xs : List A)
     → last_or None (last_block (blocks_by joins xs)) ≡ last_or None xs
 unfolding blocks_by last_block
 last-blocks_by joins [] = refl
@@ -382,7 +382,7 @@ unfolding ride_of
 given_in-ride rules [] = refl
 given_in-ride rules (first ∷ window) = refl
 
-odd-giver : (chain : List LiveTap) (giver : LiveTap) → giver_of chain ≡ Some giver
+pub odd-giver : (chain : List LiveTap) (giver : LiveTap) → giver_of chain ≡ Some giver
     → is_even (length chain) ≡ false
 unfolding giver_of is_even
 odd-giver [] giver some = cc

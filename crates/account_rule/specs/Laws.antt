@@ -82,6 +82,24 @@ WindowsShareTheCents =
     → sum_by (λ reply. reply.cents) (replies rules taps)
     ≡ sum_by (λ window. ride_cents rules.terms (length window)) (windows rules taps)
 
+-- no number of the terms is above the other terms' one
+pub record AreNoHigher (terms higher : Terms) : Type 0 where
+  pub fare : terms.fare ≤ higher.fare
+  pub rides : terms.rides ≤ higher.rides
+  pub ceiling : terms.ceiling ≤ higher.ceiling
+
+-- the rules under other terms
+abbrev pub with_terms : TokenRules → Terms → TokenRules
+with_terms rules terms = record rules { terms = terms }
+
+-- under a higher fare, ride limit or ceiling, the same taps cost as much or more
+abbrev pub HigherTermsAreNeverCheaper : Type 0
+HigherTermsAreNeverCheaper =
+    (rules : TokenRules) (higher : Terms) (taps : List TapIn)
+    → AreNoHigher rules.terms higher
+    → sum_by (λ reply. reply.cents) (replies rules taps)
+    ≤ sum_by (λ reply. reply.cents) (replies (with_terms rules higher) taps)
+
 -- the Paid replies are the paid rides of all windows
 abbrev pub WindowsShareThePaidRides : Type 0
 WindowsShareThePaidRides =

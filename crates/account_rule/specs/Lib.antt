@@ -2,6 +2,7 @@ pub mod Blocks
 pub mod Chains
 pub mod Kept
 pub mod Laws
+pub mod NoTransfers
 pub mod Reasons
 pub mod Replies
 pub mod Stands

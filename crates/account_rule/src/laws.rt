@@ -2,10 +2,12 @@
 //! a function that does nothing.
 
 ghost use Rattle.account_rule.specs.Reasons.{GiversAreRides, RepliesFollow};
-ghost use Rattle.account_rule.specs.Laws.{ChainsAreTheOnlyBlocks, WindowsAreTheOnlyBlocks};
+ghost use Rattle.account_rule.specs.Laws.{ChainsAreTheOnlyBlocks, HigherTermsAreNeverCheaper};
+ghost use Rattle.account_rule.specs.Laws.{WindowsAreTheOnlyBlocks};
 ghost use Rattle.account_rule.specs.Laws.{WindowsKeepTheCeiling, WindowsKeepTheRideLimit};
 ghost use Rattle.account_rule.specs.Laws.{WindowsShareTheCents, WindowsShareThePaidRides};
 ghost use Rattle.account_rule.specs.Laws.{WindowsShareTheRides};
+ghost use Rattle.account_rule.specs.NoTransfers.{RidesLackTransfers};
 
 /// The chains are the only blocks into which links divide live taps, and the windows the only ones
 /// into which window ends divide rides.
@@ -27,6 +29,16 @@ pub fn windows_add_up()
     ensures rides { WindowsShareTheRides }
     ensures cents { WindowsShareTheCents }
     ensures paid { WindowsShareThePaidRides }
+{}
+
+/// No fare, ride limit or ceiling that is raised makes a token's taps cheaper.
+pub fn higher_terms_are_never_cheaper()
+    ensures { HigherTermsAreNeverCheaper }
+{}
+
+/// Of each ride, `Account::no_transfer` names a condition of a transfer that fails.
+pub fn rides_lack_transfers()
+    ensures { RidesLackTransfers }
 {}
 
 /// The reply to each tap follows from its reason, and what gives a transfer is a ride.

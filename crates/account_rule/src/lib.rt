@@ -8,12 +8,14 @@
 
 mod account;
 pub mod laws;
+mod no_transfer;
 mod reason;
 mod reply;
 mod tap;
 mod window;
 
 pub use account::Account;
+pub use no_transfer::NoTransfer;
 pub use reason::{Charge, Reason};
 pub use reply::{Answer, Reply};
 pub use tap::TapIn;

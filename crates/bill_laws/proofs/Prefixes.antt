@@ -13,15 +13,12 @@ use Rattle.tap_views.specs.Encoding.{fields_of}
 use Rattle.tap_views.specs.Layout.{Tap}
 use Rattle.tap_views.specs.declared.encoder.TapFields.{TapFields}
 use Rattle.fare_table.specs.Fares.{Fares}
-use Rattle.fare_table.specs.Token.{bytes_of, token_eq}
-use Rattle.fare_table.specs.declared.token.Token.{Token}
-use Rattle.account_rule.specs.Replies.{reply}
-use Rattle.account_rule.specs.TokenRules.{rules_of}
-use Rattle.shard_book.specs.Entry.{is_of, own, tap_of, taps_of}
+use Rattle.tap_views.specs.Token.{token_eq}
+use Rattle.tap_views.specs.declared.token.Token.{Token}
+use Rattle.shard_book.specs.Entry.{is_of, own, taps_of}
 use Rattle.shard_book.specs.Keys.{same_token}
 use Rattle.shard_book.specs.declared.entry.Entry.{Entry}
-use Rattle.shard_book.proofs.Histories.{taps-push}
-use Rattle.shard_book.specs.Plain.{answered, token_of_bytes, with_reply}
+use Rattle.shard_book.specs.Plain.{answered, token_of_bytes}
 use Rattle.tap_views.specs.Files.{HasOneReading}
 use Rattle.fare_service.proofs.PlacedVisits.{filter_none}
 use Rattle.tap_parts.specs.Canonical.{tap_cmp}
@@ -36,6 +33,7 @@ use Rattle.bill_laws.specs.Bills.{bill_before, live_entries}
 use Rattle.bill_laws.specs.TapSets.{HaveSameTapsBefore, fields_of_uploads, is_before}
 use Rattle.bill_laws.proofs.Once.{Among}
 use Rattle.bill_laws.proofs.Bills.{live_filter}
+use Rattle.bill_laws.proofs.OwnTaps.{answered_alike, push_mine, push_other}
 use Rattle.bill_laws.proofs.Posts.{after, plain_is_after}
 use Rattle.bill_laws.proofs.Sets.{same_bill}
 
@@ -81,33 +79,6 @@ module _ (fares : Fares) (token : Token) (moment : ℕ) where
               let low = ltb-false f.moment moment late in
               le-ltb g.moment moment (omega (arith, rises, low))
 
-  answered_alike : (one other : List Entry) (entry : Entry) → entry.token ≡ token
-      → taps_of fares token one ≡ taps_of fares token other
-      → answered fares one entry ≡ answered fares other entry
-  unfolding answered
-  answered_alike one other entry is same =
-      ap (with_reply entry)
-      (ap (λ t. reply (rules_of fares (bytes_of entry.token)) (taps_of fares t one)
-      (tap_of fares entry)) is
-      ∙ ap (λ ts. reply (rules_of fares (bytes_of entry.token)) ts (tap_of fares entry)) same
-      ∙ ap (λ t. reply (rules_of fares (bytes_of entry.token)) (taps_of fares t other)
-      (tap_of fares entry)) (sym is))
-
-  push_mine : (one other : List Entry) (entry : Entry)
-      → taps_of fares token one ≡ taps_of fares token other
-      → taps_of fares token (one ++ entry ∷ []) ≡ taps_of fares token (other ++ entry ∷ [])
-  push_mine one other entry same =
-      taps-push fares token one entry
-      ∙ ap (λ ts. cond (is_of token entry) (ts ++ tap_of fares entry ∷ []) ts) same
-      ∙ sym (taps-push fares token other entry)
-
-  push_other : (one : List Entry) (entry : Entry) → is_of token entry ≡ false
-      → taps_of fares token (one ++ entry ∷ []) ≡ taps_of fares token one
-  push_other one entry is =
-      taps-push fares token one entry
-      ∙ ap (λ b. cond b (taps_of fares token one ++ tap_of fares entry ∷ [])
-      (taps_of fares token one)) is
-
   -- the entries of the token before the moment are those of its taps before the moment
   pub picked : (one other : List Entry) (fs : List TapFields) → All IsNamedBy fs
       → Pairs NotLess fs → taps_of fares token one ≡ taps_of fares token other
@@ -134,10 +105,10 @@ module _ (fares : Fares) (token : Token) (moment : ℕ) where
           (filter (is_before token moment) fs))
       by_tests true true eb ec more =
           let entry = answered fares one (entry_of f) in
-          let alike = answered_alike one other (entry_of f)
+          let alike = answered_alike fares token one other (entry_of f)
           (same_token (token_of_bytes f.token) token eb) same in
           ap (λ es. entry ∷ es) (more (one ++ entry ∷ []) (other ++ entry ∷ [])
-          (push_mine one other entry same))
+          (push_mine fares token one other entry same))
           ∙ ap (λ (e : Entry). e ∷ after fares (other ++ e ∷ [])
           (filter (is_before token moment) fs)) alike
       by_tests true false eb ec more =
@@ -148,7 +119,7 @@ module _ (fares : Fares) (token : Token) (moment : ℕ) where
           ∙ sym (ap (after fares other) (filter_none (is_before token moment) fs none))
       by_tests false c eb ec more =
           let entry = answered fares one (entry_of f) in
-          more (one ++ entry ∷ []) other (push_other one entry eb ∙ same)
+          more (one ++ entry ∷ []) other (push_other fares token one entry eb ∙ same)
 
 -- ---- the law
 filter_both : {X : Type 0} (p q : X → Bool) (xs : List X)

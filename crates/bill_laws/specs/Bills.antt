@@ -1,12 +1,15 @@
 -- What histories charge: their rides and transfers, and the sums of these.
-use Rattle.std.specs.Prelude.{◌≡◌, ℕ, Bool, not, ◌||◌, List, filter, nat_lt}
-use Rattle.fare_table.specs.Fares.{Fares}
-use Rattle.fare_table.specs.Token.{bytes_of}
-use Rattle.fare_table.specs.declared.token.Token.{Token}
+use Rattle.std.specs.Prelude.{◌≡◌, ℕ, Bool, not, ◌||◌, List, count_by, filter, map, nat_lt}
+use Rattle.fare_table.specs.Fares.{Fares, terms_at}
+use Rattle.tap_views.specs.Token.{bytes_of}
+use Rattle.tap_views.specs.declared.token.Token.{Token}
+use Rattle.account_rule.specs.Laws.{is_ride}
+use Rattle.account_rule.specs.Reasons.{reason}
 use Rattle.account_rule.specs.TokenRules.{rules_of}
 use Rattle.account_rule.specs.Windows.{windows}
 use Rattle.account_rule.specs.declared.reply.Answer.{Answer}
-use Rattle.shard_book.specs.Entry.{own, taps_of}
+use Rattle.account_rule.specs.declared.tap.TapIn.{TapIn}
+use Rattle.shard_book.specs.Entry.{own, reply_of, taps_of}
 use Rattle.shard_book.specs.Sums.{Sums, is_stale, is_unknown, sums}
 use Rattle.shard_book.specs.SumsByKey.{entries_of_validator}
 use Rattle.shard_book.specs.declared.entry.Entry.{Entry}
@@ -47,3 +50,34 @@ pub record BillAlike (fares : Fares) (one other : List Entry) : Type 0 where
 abbrev pub bill_before : Token → ℕ → List Entry → List Entry
 bill_before token moment entries =
     filter (λ entry. nat_lt entry.moment moment) (live_entries (own token entries))
+
+-- both tokens have the same terms, as two riders of one class do
+abbrev pub HaveSameTerms : Fares → Token → Token → Type 0
+HaveSameTerms fares token other =
+    terms_at fares (bytes_of token) ≡ terms_at fares (bytes_of other)
+
+-- the entry as one of the token's
+abbrev pub entry_for : Token → Entry → Entry
+entry_for token entry = record entry { token = token }
+
+-- The one token in its history and the other in the other history have the same lines in the same
+-- order, but for the token: each with the same moment, validator, answer and cents. The rule takes
+-- the same taps of both, and says the same of them: the reason of each tap after those before it,
+-- and the windows.
+pub record ChargedAlike (fares : Fares) (token other : Token) (history again : List Entry)
+    : Type 0 where
+  pub lines : own other again ≡ map (entry_for other) (own token history)
+  pub taps : taps_of fares other again ≡ taps_of fares token history
+  pub reasons : (earlier : List TapIn) (tap : TapIn)
+      → reason (rules_of fares (bytes_of other)) earlier tap
+      ≡ reason (rules_of fares (bytes_of token)) earlier tap
+  pub windows : windows (rules_of fares (bytes_of other)) (taps_of fares other again)
+      ≡ windows (rules_of fares (bytes_of token)) (taps_of fares token history)
+
+-- the entries before the moment, with what they cost: those of stale and unknown taps, too
+abbrev pub lines_before : ℕ → List Entry → List Entry
+lines_before moment entries = filter (λ entry. nat_lt entry.moment moment) entries
+
+-- how many rides the token has in the history, paid or capped
+abbrev pub rides_of : Token → List Entry → ℕ
+rides_of token entries = count_by is_ride (map reply_of (own token entries))

@@ -1,11 +1,14 @@
--- Uploads that have the same set of taps, however often each of them.
-use Rattle.std.specs.Prelude.{ℕ, Bool, ◌&&◌, List, All, Contains, filter, map, nat_lt}
+-- Uploads whose taps are alike: the same set, or some of them, or all but one.
+use Rattle.std.specs.Prelude.{◌≡◌, ◌≢◌, ℕ, Bool, true, ◌&&◌, List, ◌∷◌, All, Contains, filter}
+use Rattle.std.specs.Prelude.{is_some, map, nat_lt}
+use Rattle.std.specs.List.Sorted.{IsPermutation}
+use Rattle.fare_table.specs.Fares.{Fares, mode_at}
 use Rattle.tap_views.specs.Encoding.{fields_of}
 use Rattle.tap_views.specs.Files.{AreGoodTapsOfEach}
 use Rattle.tap_views.specs.Layout.{Tap}
 use Rattle.tap_views.specs.declared.encoder.TapFields.{TapFields}
-use Rattle.fare_table.specs.Token.{token_eq}
-use Rattle.fare_table.specs.declared.token.Token.{Token}
+use Rattle.tap_views.specs.Token.{bytes_of, token_eq}
+use Rattle.tap_views.specs.declared.token.Token.{Token}
 use Rattle.shard_book.specs.Plain.{token_of_bytes}
 use Rattle.tap_parts.specs.Parts.{taps_of_uploads}
 
@@ -49,3 +52,57 @@ pub record HaveSameTapsBefore (token : Token) (moment : ℕ) (uploads others : L
       (filter (is_before token moment) (fields_of_uploads taps))
   pub back : All (Contains (fields_of_uploads taps))
       (filter (is_before token moment) (fields_of_uploads other_taps))
+
+-- whether the tap is the token's
+abbrev pub is_tap_of : Token → TapFields → Bool
+is_tap_of token tap = token_eq (token_of_bytes tap.token) token
+
+-- the token's taps, upload after upload
+abbrev pub own_taps : Token → List (List Tap) → List TapFields
+own_taps token taps = filter (is_tap_of token) (fields_of_uploads taps)
+
+-- the tap with these bytes as its token
+abbrev pub with_token : List ℕ → TapFields → TapFields
+with_token bytes tap = record tap { token = bytes }
+
+-- The good taps of the one token in the uploads are those of the other token in the others, but for
+-- the token: they have the same moments and validators, each as often. What other tokens do is not
+-- asked.
+pub record HaveTapsAlike (token other : Token) (uploads others : List (List ℕ)) : Type 0 where
+  pub taps : List (List Tap)
+  pub other_taps : List (List Tap)
+  pub of_uploads : AreGoodTapsOfEach uploads taps
+  pub of_others : AreGoodTapsOfEach others other_taps
+  pub alike : IsPermutation (map (with_token (bytes_of other)) (own_taps token taps))
+      (own_taps other other_taps)
+
+-- whether the tap is before the moment
+abbrev pub is_tap_before : ℕ → TapFields → Bool
+is_tap_before moment tap = nat_lt tap.moment moment
+
+-- The good taps before the moment are the same, of all tokens, each as often. From the moment on
+-- either may have taps that the other lacks.
+pub record HaveTapsAlikeBefore (moment : ℕ) (uploads others : List (List ℕ)) : Type 0 where
+  pub taps : List (List Tap)
+  pub other_taps : List (List Tap)
+  pub of_uploads : AreGoodTapsOfEach uploads taps
+  pub of_others : AreGoodTapsOfEach others other_taps
+  pub alike : IsPermutation (filter (is_tap_before moment) (fields_of_uploads taps))
+      (filter (is_tap_before moment) (fields_of_uploads other_taps))
+
+-- whether the table has the tap's validator
+abbrev pub is_known_tap : Fares → TapFields → Bool
+is_known_tap fares tap = is_some (mode_at fares tap.validator)
+
+-- The others have the token's good taps of the uploads and one more, at a moment at which none of
+-- these is known.
+pub record HaveOneMoreTap (fares : Fares) (token : Token) (uploads others : List (List ℕ))
+    : Type 0 where
+  pub taps : List (List Tap)
+  pub other_taps : List (List Tap)
+  pub of_uploads : AreGoodTapsOfEach uploads taps
+  pub of_others : AreGoodTapsOfEach others other_taps
+  pub added : TapFields
+  pub alike : IsPermutation (added ∷ own_taps token taps) (own_taps token other_taps)
+  pub apart : All (λ tap. is_known_tap fares tap ≡ true → tap.moment ≢ added.moment)
+      (own_taps token taps)

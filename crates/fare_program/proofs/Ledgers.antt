@@ -8,11 +8,11 @@ use Rattle.shard_book.specs.Book.{Book}
 use Rattle.shard_book.specs.Entry.{own}
 use Rattle.shard_book.specs.SumsByKey.{all_entries, token_of, tokens}
 use Rattle.shard_book.specs.Rising.{rising}
-use Rattle.fare_table.specs.Token.{token_cmp}
+use Rattle.tap_views.specs.Token.{token_cmp}
 use Rattle.shard_book.specs.declared.entry.Entry.{Entry}
-use Rattle.fare_table.specs.declared.token.Token.{Token}
+use Rattle.tap_views.specs.declared.token.Token.{Token}
 use Rattle.shard_book.proofs.RisingLemmas.{rising-is, rising-only}
-use Rattle.shard_book.proofs.TokenLemmas.{token_cmp-total, token_cmp-ties}
+use Rattle.tap_views.proofs.TokenLemmas.{token_cmp-total, token_cmp-ties}
 use Rattle.fare_service.specs.Outcomes.{OutcomeView}
 use Rattle.fare_service.proofs.PlainSums.{same_entries}
 use Rattle.ledger_texts.specs.Ledger.{AreLinesOfEach, IsLedgerOfBooks, IsLedgerOver, tokens_told}

@@ -5,6 +5,7 @@ pub mod Going
 pub mod LastMoments
 pub mod Loads
 pub mod PostedTexts
-pub mod Sizes
 pub mod Ledgers
 pub mod Explains
+pub mod SortedRuns
+pub mod Works

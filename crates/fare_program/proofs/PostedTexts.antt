@@ -2,7 +2,7 @@
 use Rattle.std.proofs.Common.{◌≡◌, ◌∙◌, ℕ, List, Bool, true, false, Option, sym, subst}
 use Rattle.std.specs.Prelude.{MatchBool}
 use Rattle.fare_table.specs.Fares.{Fares}
-use Rattle.fare_table.specs.declared.token.Token.{Token}
+use Rattle.tap_views.specs.declared.token.Token.{Token}
 use Rattle.fare_service.specs.Outcomes.{OutcomeView}
 use Rattle.fare_program.specs.Options.{Asked}
 use Rattle.report_texts.specs.UploadEnds.{are_posted}

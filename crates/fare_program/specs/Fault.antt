@@ -1,17 +1,20 @@
 -- The fault lines, without their line feeds, and their statuses.
 use Rattle.std.specs.Prelude.{ℕ, List, Bool, true, false, Option, Some, None, codes}
-use Rattle.std.specs.Prelude.{if◌then◌else◌, is_ok, is_some}
+use Rattle.std.specs.Prelude.{if◌then◌else◌, is_ok, is_some, [], ◌∷◌}
 use Rattle.hex.specs.Hex.{decode_sized}
 use Rattle.fare_service.specs.declared.faults.GatherFault.{GatherFault}
 use Rattle.fare_service.specs.declared.faults.GatherFault.TheVariants as gather
 use Rattle.program_manners.specs.Lines.{load_text, table_text}
 use Rattle.fare_program.specs.Options.{Asked}
+use Rattle.fare_program.specs.SortedFaults.{late_text, sorted_text, unopened_text}
 use Rattle.fare_program.specs.declared.fault.Fault.{Fault}
 use Rattle.fare_program.specs.declared.fault.Fault.TheVariants.{Digits, NoTable, SettleNoTable}
 use Rattle.fare_program.specs.declared.fault.Fault.TheVariants.{SettleList, LedgerNoTable}
 use Rattle.fare_program.specs.declared.fault.Fault.TheVariants.{LedgerList, ExplainNoToken}
 use Rattle.fare_program.specs.declared.fault.Fault.TheVariants.{ExplainList, ExplainLedger}
-use Rattle.fare_program.specs.declared.fault.Fault.TheVariants.{File, Table}
+use Rattle.fare_program.specs.declared.fault.Fault.TheVariants.{SortedNoSettle, SortedNoFile}
+use Rattle.fare_program.specs.declared.fault.Fault.TheVariants.{File, Table, Unopened, Unsorted}
+use Rattle.fare_program.specs.declared.fault.Fault.TheVariants.{TooManyTaps, Late}
 use Rattle.fare_program.specs.declared.fault.Fault.TheVariants.{Uploads, Gather, Write, NoMemory}
 
 -- a run whose workers' shares were not gathered
@@ -31,8 +34,14 @@ fault_text LedgerList = codes "fault: --ledger cannot be used with --list"
 fault_text ExplainNoToken = codes "fault: --explain needs --token"
 fault_text ExplainList = codes "fault: --explain cannot be used with --list"
 fault_text ExplainLedger = codes "fault: --explain cannot be used with --ledger"
+fault_text SortedNoSettle = codes "fault: --sorted needs --settle"
+fault_text SortedNoFile = codes "fault: --sorted needs a FILE"
 fault_text (File file) = load_text file.name.now file.fault
 fault_text (Table fault) = table_text fault
+fault_text (Unopened file) = unopened_text file.name.now file.fault
+fault_text (Unsorted file) = sorted_text file.name.now file.fault
+fault_text TooManyTaps = codes "fault: too many taps"
+fault_text (Late fault) = late_text fault
 fault_text Uploads = codes "fault: too many uploads"
 fault_text (Gather fault) = gather_text fault
 fault_text Write = codes "fault: cannot write"
@@ -49,7 +58,14 @@ status_of LedgerList = 2
 status_of ExplainNoToken = 2
 status_of ExplainList = 2
 status_of ExplainLedger = 2
+status_of SortedNoSettle = 2
+status_of SortedNoFile = 2
 status_of _ = 1
+
+-- the text of sorted files was broken off: one of them was refused after all were checked
+abbrev pub IsLate : Fault → Type 0
+IsLate (Late fault) = Unit {0}
+IsLate _ = ⊥
 
 -- What is wrong with the token that is asked for, if anything: first its digits, and then that
 -- there is no table.
@@ -94,14 +110,27 @@ explain_mistake_of true false false (Some digits) = None
 abbrev pub explain_mistake : Asked → Option Fault
 explain_mistake asked = explain_mistake_of asked.explain asked.list asked.ledger asked.token
 
+-- What is wrong with sorted files where they are asked for: first that the taps are not to be
+-- settled, and then that no file is named, for standard input is none.
+abbrev pub sorted_mistake_of : Bool → Bool → List (List ℕ) → Option Fault
+sorted_mistake_of false settle files = None
+sorted_mistake_of true false files = Some SortedNoSettle
+sorted_mistake_of true true [] = Some SortedNoFile
+sorted_mistake_of true true (file ∷ files) = None
+
+-- what is wrong with `--sorted` among them
+abbrev pub sorted_mistake : Asked → Option Fault
+sorted_mistake asked = sorted_mistake_of asked.sorted asked.settle asked.files
+
 -- the first of two faults, if there is one
 abbrev pub first_of_two : Option Fault → Option Fault → Option Fault
 first_of_two None other = other
 first_of_two (Some fault) other = Some fault
 
 -- what is wrong with what is asked for, if anything: the token is looked at first, then settling,
--- then the ledger, then the explained statement
+-- then the ledger, then the explained statement, then sorted files
 abbrev pub mistake : Asked → Option Fault
 mistake asked =
     first_of_two (token_mistake asked) (first_of_two (settle_mistake asked)
-    (first_of_two (ledger_mistake asked) (explain_mistake asked)))
+    (first_of_two (ledger_mistake asked) (first_of_two (explain_mistake asked)
+    (sorted_mistake asked))))

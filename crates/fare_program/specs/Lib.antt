@@ -1,8 +1,11 @@
 pub mod Fault
 pub mod Lines
 pub mod Listing
+pub mod Notes
 pub mod Options
 pub mod Program
+pub mod Runs
 pub mod Settling
+pub mod SortedFaults
 pub mod Uploads
 pub mod inside

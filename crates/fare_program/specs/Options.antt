@@ -35,6 +35,10 @@ token_option = option_rule (codes "token")
 abbrev pub settle_flag : Rule
 settle_flag = flag_rule (codes "settle")
 
+-- `--sorted`
+abbrev pub sorted_flag : Rule
+sorted_flag = flag_rule (codes "sorted")
+
 -- `--ledger`
 abbrev pub ledger_flag : Rule
 ledger_flag = flag_rule (codes "ledger")
@@ -50,10 +54,10 @@ file_argument = positional_rule (codes "FILE") Append
 -- the program's options, without its files
 abbrev pub app_of_options : App
 app_of_options =
-    with_rule (with_rule (with_rule (with_rule
+    with_rule (with_rule (with_rule (with_rule (with_rule
     (with_rule (with_rule (with_rule (with_rule (named_app (codes "omny_cli"))
-    table_option) list_flag) workers_option) shards_option) token_option) settle_flag) ledger_flag)
-    explain_flag
+    table_option) list_flag) workers_option) shards_option) token_option) settle_flag) sorted_flag)
+    ledger_flag) explain_flag
 
 -- all words that the program takes
 unfoldable pub program : App
@@ -100,6 +104,7 @@ pub record Asked : Type 0 where
   pub shards : ℕ
   pub token : Option Text
   pub settle : Bool
+  pub sorted : Bool
   pub ledger : Bool
   pub explain : Bool
   pub files : List Text
@@ -113,6 +118,7 @@ asked_by words = record {
   shards = number_of (codes "shards") (matches_of program words);
   token = token_named words;
   settle = is_given (codes "settle") (matches_of program words);
+  sorted = is_given (codes "sorted") (matches_of program words);
   ledger = is_given (codes "ledger") (matches_of program words);
   explain = is_given (codes "explain") (matches_of program words);
   files = files_named words;

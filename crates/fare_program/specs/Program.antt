@@ -5,15 +5,15 @@ use Rattle.std.specs.Io.KnownBytes.{Appends, Keeps}
 use Rattle.hex.specs.Hex.{decode_sized}
 use Rattle.fare_table.specs.Fares.{Fares}
 use Rattle.fare_table.specs.Meaning.{Means}
-use Rattle.fare_table.specs.Token.{bytes_of}
-use Rattle.fare_table.specs.declared.token.Token.{Token}
+use Rattle.tap_views.specs.Token.{bytes_of}
+use Rattle.tap_views.specs.declared.token.Token.{Token}
 use Rattle.report_texts.specs.declared.upload_end.UploadEnd.{UploadEnd}
 use Rattle.shard_book.specs.declared.entry.Entry.{Entry}
 use Rattle.fare_service.specs.Headline.{HasRun}
 use Rattle.fare_service.specs.Outcomes.{OutcomeView}
 use Rattle.fare_service.specs.Plain.{AreApart, IsPlain}
 use Rattle.fare_service.specs.Printed.{IsStatementOf, report_with}
-use Rattle.fare_program.specs.Fault.{fault_text}
+use Rattle.fare_program.specs.Fault.{IsLate, fault_text}
 use Rattle.fare_program.specs.Options.{Asked, lists}
 use Rattle.report_texts.specs.UploadEnds.{are_posted}
 use Rattle.fare_program.specs.Settling.{ShowsOver, ShowsSettled}
@@ -128,15 +128,39 @@ pub record RunsService (asked : Asked) (told told' : Option (List Loaded))
   pub shows : ShowsAsked asked fares files token text well
   pub written : Appends out out' text
 
--- what is asked for was done
-abbrev pub Does : Asked → Option (List Loaded) → Option (List Loaded) → Option (List ℕ)
-    → Option (List ℕ) → Bool → Type 0
-Does asked told told' out out' well = MatchBool (lists asked)
+-- The named table was loaded, and the named files were opened, each of which has its taps in
+-- canonical order. What was appended to the writer is what is asked for of the settled history of
+-- the files, where what stands under their names is known. All is well.
+pub record RunsSorted (asked : Asked) (known : List ℕ → Option (List ℕ))
+    (told told' : Option (List Loaded)) (out out' : Option (List ℕ)) (well : Bool) : Type 0 where
+  pub fares : Fares
+  pub loads : LoadsTable asked.table told told' (Some fares)
+  pub token : Option Token
+  pub is_token : IsTokenIn asked.token token
+  pub text : List ℕ
+  pub shows : (files : List (List ℕ)) → map known asked.files ≡ map Some files
+      → ShowsSettled asked fares files token text well
+  pub written : Appends out out' text
+  pub is_well : well ≡ true
+
+-- What is asked for was done, of files that were loaded, or of sorted files. What stands under a name
+-- of a sorted file is given, where it is known.
+abbrev pub Does : Asked → (List ℕ → Option (List ℕ)) → Option (List Loaded) → Option (List Loaded)
+    → Option (List ℕ) → Option (List ℕ) → Bool → Type 0
+Does asked known told told' out out' well = MatchBool (lists asked)
     (RunsListing asked.table asked.files told told' out out' well)
-    (RunsService asked told told' out out' well)
+    (MatchBool asked.sorted (RunsSorted asked known told told' out out' well)
+    (RunsService asked told told' out out' well))
 
 -- The program gave up: the fault's line was told, and nothing was written but where a write failed.
 pub record GaveUp (fault : Fault) (said said' : Option (List ℕ)) (failed : Bool)
     (out out' : Option (List ℕ)) : Type 0 where
   pub line_told : LineWritten said said' failed (fault_text fault)
   pub kept : fault ≢ Write → Keeps out out'
+
+-- The program gave up on what is asked for: the fault's line was told, and nothing was written but
+-- where a write failed, or where a sorted file was refused after all were checked.
+pub record GaveUpOn (asked : Asked) (fault : Fault) (said said' : Option (List ℕ)) (failed : Bool)
+    (out out' : Option (List ℕ)) : Type 0 where
+  pub line_told : LineWritten said said' failed (fault_text fault)
+  pub kept : fault ≢ Write → (asked.sorted ≡ true → IsLate fault → ⊥) → Keeps out out'

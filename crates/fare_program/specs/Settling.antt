@@ -2,7 +2,7 @@
 use Rattle.std.specs.Prelude.{◌≡◌, ℕ, Bool, List, Option, None, Some, MatchBool}
 use Rattle.fare_table.specs.Fares.{Fares}
 use Rattle.shard_book.specs.declared.entry.Entry.{Entry}
-use Rattle.fare_table.specs.declared.token.Token.{Token}
+use Rattle.tap_views.specs.declared.token.Token.{Token}
 use Rattle.report_texts.specs.UploadEnds.{ArePlainEnds}
 use Rattle.report_texts.specs.OverHistory.{IsReportOver, IsStatementOver}
 use Rattle.report_texts.specs.declared.upload_end.UploadEnd.{UploadEnd}

@@ -1,5 +1,7 @@
 -- What only private functions cite. Who reads the contracts of public calls need not read it.
 pub mod FilesAhead
+pub mod ChargedAhead
+pub mod ChargedSorted
 pub mod Fault
 pub mod Listing
 pub mod Options

@@ -1,15 +1,20 @@
 //! The report of settled files, account by account.
-ghost use Rattle.std.specs.Prelude.{◌≡◌, ◌≢◌, List, ℕ, None, IfErr, IfOk, map};
+ghost use Rattle.std.specs.Prelude.{◌≡◌, ◌≢◌, ◌^◌, ◌≤◌, List, ℕ, IfErr, IfOk, length};
 ghost use Rattle.std.specs.Io.KnownBytes.{Appends, Keeps};
 ghost use Rattle.fare_program.specs.Fault.{status_of};
 ghost use Rattle.fare_program.specs.inside.Settling.{ShowsBill};
+ghost use Rattle.report_texts.specs.OverHistory.{IsReportOver};
+ghost use Rattle.report_texts.specs.UploadEnds.{ArePlainEnds, are_posted};
+ghost use Rattle.settlement.specs.Bills.{IsBillOf};
+ghost use Rattle.settlement.specs.Reading.{AreRead};
+ghost use Rattle.shard_book.specs.declared.entry.Entry.{Entry};
 
 use crate::fault::Fault;
 use crate::output::flush;
 use crate::run::are_posted;
 use fare_table::FareTable;
 use report_texts::write_report;
-use settlement::{Billed, settled_bill};
+use settlement::{Billed, Uploads, settled_bill};
 use shard_book::HashSeed;
 use std::alloc::Global;
 use std::io::Write;
@@ -17,28 +22,49 @@ use std::marker::Sync;
 use std::random::RandomSource;
 use std::thread::Threads;
 
-/// Writes the report of the settled history of the files, which so many workers make. Says whether
+/// Writes the report of a bill. Says whether each file was posted whole.
+pub(crate) fn write_billed<'a, W: Write>(
+    alloc: Global,
+    made: Billed,
+    out: &mut W,
+) -> Result<bool, Fault<'a>>
+    requires { (history : List Entry) × IsBillOf history made.bill × (length history ≤ 2 ^ 95) }
+    ensures ok { IfOk result (λ well. (text : List ℕ)
+        × ((files : List (List ℕ)) (history : List Entry) → IsBillOf history made.bill
+        → ArePlainEnds files made.ends.items → IsReportOver files history text)
+        × (well ≡ are_posted made.ends.items)
+        × Appends (W.contents out.old) (W.contents out.new) text) }
+    ensures status { IfErr result (λ fault. status_of fault ≡ 1) }
+    ensures fault { IfErr result (λ fault. fault ≢ Fault.Write
+        → Keeps (W.contents out.old) (W.contents out.new)) }
+{
+    let Billed { ends, bill } = made;
+    let totals = bill.totals.totals();
+    let validators = bill.validators.sums(alloc)?;
+    write_report(alloc, &ends, &totals, &validators, &bill.tokens, out)?;
+    flush(out)?;
+    Ok(are_posted(&ends))
+}
+
+/// Writes the report of the settled history of the uploads, which so many workers make. Says whether
 /// each file was posted whole.
-pub(crate) fn write_bill<'a, R: Threads + RandomSource + Sync, W: Write>(
+pub(crate) fn write_bill<'a, R: Threads + RandomSource + Sync, U: Uploads + Sync, W: Write>(
     rt: &R,
     alloc: Global,
     table: &FareTable,
     workers: u32,
-    files: Vec<Vec<u8>>,
+    uploads: &U,
     out: &mut W,
 ) -> Result<bool, Fault<'a>>
-    ensures ok { IfOk result (λ well. (text : List ℕ)
-        × ShowsBill table.now (map (λ f. f.items) files.items) text well
+    ensures ok { IfOk result (λ well. (files : List (List ℕ)) × (text : List ℕ)
+        × AreRead (U.may_be uploads.now) 0 (U.number uploads.now) files
+        × ShowsBill table.now files text well
         × Appends (W.contents out.old) (W.contents out.new) text) }
     ensures status { IfErr result (λ fault. status_of fault ≡ 1) }
     ensures fault { IfErr result (λ fault. fault ≢ Fault.Write
         → Keeps (W.contents out.old) (W.contents out.new)) }
 {
     let seed = HashSeed::new(rt)?;
-    let Billed { ends, bill } = settled_bill(rt, alloc, table, seed, files, workers)?;
-    let totals = bill.totals.totals();
-    let validators = bill.validators.sums(alloc)?;
-    write_report(alloc, &ends, &totals, &validators, &bill.tokens, out)?;
-    flush(out)?;
-    Ok(are_posted(&ends))
+    let made = settled_bill(rt, alloc, table, seed, uploads, workers)?;
+    write_billed(alloc, made, out)
 }

@@ -29,12 +29,16 @@ const NOTES: &str = "What is printed:
              of its token before it), stale (not so) or unknown (the table lacks its validator)
 With --settle all taps are posted in one order, so that what is printed depends on the taps alone.
 Without it the order of the files and the number of workers can change what a token pays.
+With --sorted beside it each file has its taps in that order already, as `omny_tools sort` makes it.
+The files are read in pieces and merged, so that little memory is taken. A file that is out of order
+or has a layout fault ends the run.
 Amounts are cents. Of a file with a layout fault the batches before it count, and its line tells
 the fault: `upload 1 refused 2 at 64 L5` in a report, `1 refused 64 L5` in a listing.
 
 Examples:
   omny_cli --table table.toml --settle a.tap b.tap
   omny_cli --table table.toml --settle --token 000000000000000000000000000000a1 a.tap b.tap
+  omny_cli --table table.toml --settle --sorted monday.tap tuesday.tap
   omny_cli a.tap
 
 Exit status:
@@ -62,6 +66,9 @@ const TOKEN_HELP: &str =
 /// The help of `--settle`.
 const SETTLE_HELP: &str = "Post all taps in order of token, moment and validator; needs --table";
 
+/// The help of `--sorted`.
+const SORTED_HELP: &str = "Merge FILEs that `omny_tools sort` made, of any length; needs --settle";
+
 /// The help of `--ledger`.
 const LEDGER_HELP: &str = "Print the ledger, of all tokens or that of --token; needs --table";
 
@@ -82,6 +89,7 @@ fn command<'a>(alloc: Global) -> Result<Command<'a>, AllocError>
     let shards = number_arg(alloc, "shards", 64, "8", SHARDS_HELP);
     let token = option_arg(alloc, "token", "HEX", TOKEN_HELP);
     let settle = flag_arg(alloc, "settle", SETTLE_HELP);
+    let sorted = flag_arg(alloc, "sorted", SORTED_HELP);
     let ledger = flag_arg(alloc, "ledger", LEDGER_HELP);
     let explain = flag_arg(alloc, "explain", EXPLAIN_HELP);
     let file = positional_arg(alloc, "FILE", ArgAction::Append, FILE_HELP);
@@ -92,6 +100,7 @@ fn command<'a>(alloc: Global) -> Result<Command<'a>, AllocError>
         .arg(shards)?
         .arg(token)?
         .arg(settle)?
+        .arg(sorted)?
         .arg(ledger)?
         .arg(explain)?
         .arg(file)
@@ -146,6 +155,7 @@ impl<'a> Options<'a> {
             shards: number_in(&matches, "shards"),
             token: matches.get_str("token"),
             settle: flag_in(&matches, "settle"),
+            sorted: flag_in(&matches, "sorted"),
             ledger: flag_in(&matches, "ledger"),
             explain: flag_in(&matches, "explain"),
             files: names_in(alloc, &matches, "FILE")?,

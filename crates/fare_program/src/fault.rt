@@ -1,13 +1,18 @@
 //! Why the program gives up, with the line that says so and the status.
 ghost use Rattle.std.specs.Prelude.{◌≡◌, ◌≢◌, Some, if◌then◌else◌};
 ghost use Rattle.fare_service.specs.declared.faults.GatherFault.{GatherFault};
-ghost use Rattle.fare_program.specs.Fault.{fault_text, gather_text, status_of};
+ghost use Rattle.fare_program.specs.Fault.{IsLate, fault_text, gather_text, status_of};
+ghost use Rattle.sorted_bills.specs.Faults.{IsBeforeText};
 ghost use Rattle.program_manners.specs.Lines.{load_text, table_text};
 
+use crate::sorted_fault::{LateFault, UnopenedFile, UnsortedFile};
 use fare_service::{GatherFault, OpenFault, PrintFault, RunFault};
-use fare_table::{NoMemory, TableFault};
+use fare_table::TableFault;
+use placed_files::Unopened;
 use program_manners::{FileFault, LoadFault, TableLine};
+use sorted_bills::BillFault;
 use std::fmt;
+use tap_views::NoMemory;
 
 /// Why the program gives up. Its `Display` is the fault line without its line feed.
 #[derive(Clone, Copy, Debug)]
@@ -30,10 +35,22 @@ pub(crate) enum Fault<'a> {
     ExplainList,
     /// An explained statement is asked for, and the ledger.
     ExplainLedger,
+    /// The files are sorted ones, and the taps are not to be settled.
+    SortedNoSettle,
+    /// Sorted files are asked for, and none is named.
+    SortedNoFile,
     /// A file or standard input was not loaded.
     File(FileFault<'a>),
     /// The fare table's text is no table.
     Table(TableFault),
+    /// A sorted file was not opened.
+    Unopened(UnopenedFile<'a>),
+    /// A file is not read as taps in canonical order, and each file before it is.
+    Unsorted(UnsortedFile<'a>),
+    /// Sorted files have more than 2^46 taps.
+    TooManyTaps,
+    /// A sorted file was refused after all were checked. A beginning of a text may be written.
+    Late(LateFault),
     /// There are more uploads than a service takes.
     Uploads,
     /// What the workers did was not gathered.
@@ -51,6 +68,34 @@ impl<'a> Fault<'a> {
         ensures status { status_of result ≡ 1 }
     {
         Fault::File(FileFault { name, fault })
+    }
+
+    /// Why the sorted file of this name was not opened.
+    pub(crate) fn of_unopened(name: &'a str, fault: Unopened) -> Fault<'a>
+        ensures { status_of result ≡ 1 }
+    {
+        Fault::Unopened(UnopenedFile { name, fault })
+    }
+
+    /// Why the sorted files of these names are not charged.
+    pub(crate) fn of_bill(names: &[&'a str], fault: BillFault) -> Fault<'a>
+        ensures status { status_of result ≡ 1 }
+        ensures before { result ≢ Fault.Write → (IsLate result → ⊥) → IsBeforeText fault }
+    {
+        match fault {
+            BillFault::File(refused) => match names.get(refused.index) {
+                Some(name) => Fault::Unsorted(UnsortedFile {
+                    name,
+                    fault: refused.fault,
+                }),
+                None => Fault::Late(LateFault::of(refused.fault)),
+            },
+            BillFault::TooManyTaps => Fault::TooManyTaps,
+            BillFault::NoMemory => Fault::NoMemory,
+            BillFault::Changed => Fault::Late(LateFault::Changed),
+            BillFault::Late(fault) => Fault::Late(LateFault::of(fault)),
+            BillFault::Write => Fault::Write,
+        }
     }
 
     /// Why the service was not opened, with a number of shards that it takes.
@@ -89,6 +134,7 @@ impl<'a> Fault<'a> {
             Fault::SettleNoTable | Fault::SettleList => 2,
             Fault::LedgerNoTable | Fault::LedgerList => 2,
             Fault::ExplainNoToken | Fault::ExplainList | Fault::ExplainLedger => 2,
+            Fault::SortedNoSettle | Fault::SortedNoFile => 2,
             _ => 1,
         }
     }
@@ -156,8 +202,14 @@ impl fmt::Display for Fault<'_> {
             Fault::ExplainNoToken => f.write_str("fault: --explain needs --token"),
             Fault::ExplainList => f.write_str("fault: --explain cannot be used with --list"),
             Fault::ExplainLedger => f.write_str("fault: --explain cannot be used with --ledger"),
+            Fault::SortedNoSettle => f.write_str("fault: --sorted needs --settle"),
+            Fault::SortedNoFile => f.write_str("fault: --sorted needs a FILE"),
             Fault::File(fault) => fault.fmt(f),
             Fault::Table(fault) => TableLine(*fault).fmt(f),
+            Fault::Unopened(fault) => fault.fmt(f),
+            Fault::Unsorted(fault) => fault.fmt(f),
+            Fault::TooManyTaps => f.write_str("fault: too many taps"),
+            Fault::Late(fault) => fault.fmt(f),
             Fault::Uploads => f.write_str("fault: too many uploads"),
             Fault::Gather(fault) => GatherLine(*fault).fmt(f),
             Fault::Write => f.write_str("fault: cannot write"),

@@ -3,6 +3,7 @@ ghost use Rattle.std.specs.Prelude.{◌≡◌, ◌<◌, ◌≤◌, ◌++◌, ◌
 ghost use Rattle.std.specs.Prelude.{string_bytes};
 ghost use Rattle.fare_program.specs.inside.FilesAhead.{IsNotNext};
 
+use placed_files::{Placed, Unopened};
 use program_manners::LoadFault;
 use std::alloc::{AllocError, Global};
 use std::marker::Sync;
@@ -11,11 +12,36 @@ use std::thread::Threads;
 
 /// A disk: files by their names. Several threads may read them at once.
 pub trait Disk {
-    /// Whether the file of this name may be read before it is due.
-    fn may_be_read_ahead(&self, name: &str) -> bool;
+    ghost use Rattle.std.specs.Prelude.{◌≡◌, ℕ, List, IfOk, Option, None};
+
+    /// A file that was opened to be read at any offset.
+    type File: Placed + Sync + Drop;
+
+    // What the file of a name has, where that is known. It does not change.
+    ghost bytes_under: { Self → List ℕ → Option (List ℕ) } = { λ _ _. None };
+
+    /// The file of this name, opened to be read at any offset.
+    fn open_placed(&self, name: &str) -> Result<Self::File, Unopened>
+        ensures { IfOk result (λ file. Self.File.bytes file ≡ bytes_under self.now name.now) };
+
+    /// The size in bytes of the file of this name, if it may be read before it is due.
+    fn size_ahead(&self, name: &str) -> Option<u64>;
+
+    /// Adds some tokens of the file of this name to a sample, as big-endian numbers. Any serve, and
+    /// none, as where the file cannot be read.
+    fn push_sample(
+        &self,
+        alloc: Global,
+        name: &str,
+        sample: &mut Vec<u128>,
+    ) -> Result<(), AllocError>;
 
     /// All bytes of the file of this name.
     fn read(&self, alloc: Global, name: &str) -> Result<Vec<u8>, LoadFault>;
+
+    /// All bytes of the file of this name, read into the memory of `room`. What stands there is
+    /// overwritten, and more room is asked for where the file is no shorter.
+    fn read_into(&self, name: &str, room: Vec<u8>) -> Result<Vec<u8>, LoadFault>;
 }
 
 /// What came of reading a file before it is due.
@@ -51,7 +77,7 @@ fn count_ahead<D: Disk>(disk: &D, names: &[&str]) -> usize
     ensures { result ≤ length names.now }
 {
     for (count, name) in names.iter().enumerate() {
-        if !disk.may_be_read_ahead(name) {
+        if disk.size_ahead(name).is_none() {
             return count;
         }
     }

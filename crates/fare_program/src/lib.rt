@@ -6,15 +6,18 @@
 //! |---|---|
 //! | `command_line`, `options` | what a command line asks for; its words, as `clap` reads them |
 //! | `source`, `files_ahead` | whole files from a source; those that are read before their turns |
-//! | `host` | the system's files and standard input as a source |
+//! | `host`, `sampling` | the system's files and standard input as a source; a sample of a file's tokens |
+//! | `named_files` | files that are read while their taps are settled |
 //! | `listing` | the liveness of each tap, from those before it |
 //! | `lines`, `uploads` | the text of a listing |
 //! | `run` | a run of the service |
 //! | `settle`, `bill` | what is asked for of settled files, whose taps are charged in one order |
 //! | `settled_token` | what is asked for of one token of settled files |
+//! | `sorted`, `sorted_fault` | what is asked for of sorted files, and why they are not charged |
 //! | `posting` | the text that is asked for of files, posted as they are or settled |
 //! | `output` | texts written out whole |
 //! | `fault` | why the program gives up, and the line that says so |
+//! | `note` | what a person should know of a run before it begins |
 //! | `program` | the whole |
 #![tactic(auto)]
 
@@ -25,18 +28,24 @@ mod files_ahead;
 mod host;
 mod lines;
 mod listing;
+mod named_files;
+mod note;
 mod options;
 mod output;
 mod posting;
 mod program;
 mod run;
+mod sampling;
 mod settle;
 mod settled_token;
+mod sorted;
+mod sorted_fault;
 mod source;
 mod uploads;
 
 pub use files_ahead::{Disk, FileAhead, read_ahead};
 pub use host::Host;
+pub use note::Note;
 pub use program::main_over;
 pub use program_manners::{
     Complaints, LOAD_LIMIT_BYTES, LoadFault, load_from, unread_words, words_of,

@@ -3,10 +3,9 @@ ghost use Rattle.std.specs.Prelude.{◌≡◌, ◌++◌, OnOk, Some, string_byte
 ghost use Rattle.fare_program.specs.Lines.{counts_line, refused_line, tap_line, word_text};
 
 use crate::listing::{ListCounts, Liveness};
-use fare_table::{NoMemory, Token};
 use fare_texts::Digits;
 use std::fmt;
-use tap_views::{LayoutFault, TapView};
+use tap_views::{LayoutFault, NoMemory, TapView, Token};
 
 impl fmt::Display for Liveness {
     ghost output = { λ liveness. Some (word_text liveness) };

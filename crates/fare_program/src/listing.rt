@@ -10,11 +10,10 @@ ghost use Rattle.fare_program.specs.Listing.{listed_of, liveness_of};
 ghost use Rattle.fare_program.specs.inside.Listing.{last_of};
 ghost use Rattle.fare_program.specs.inside.Listing.{last_after, liveness_by};
 
-use fare_table::NoMemory;
 use std::alloc::Global;
 use std::collections::BTreeMap;
 use std::marker::Model;
-use tap_views::TapView;
+use tap_views::{NoMemory, TapView};
 
 /// What a listing says of a tap.
 #[derive(Clone, Copy, Debug, PartialEq, Eq)]

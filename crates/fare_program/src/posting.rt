@@ -13,13 +13,14 @@ use crate::settle::charge_settled;
 use fare_service::Outcome;
 use fare_table::FareTable;
 use ledger_texts::{write_explained, write_ledger};
-use shard_book::Token;
+use settlement::LoadedUploads;
 use std::alloc::Global;
 use std::io::Write;
 use std::marker::Sync;
 use std::random::RandomSource;
 use std::sync::Wait;
 use std::thread::Threads;
+use tap_views::Token;
 
 /// Prints the statement of the token, explained where that is asked for.
 fn print_statement<'a, W: Write>(
@@ -110,7 +111,8 @@ pub(crate) fn charge<'a, R: Threads + Wait + RandomSource + Sync, W: Write>(
         → Keeps (W.contents out.old) (W.contents out.new)) }
 {
     if options.settle {
-        return charge_settled(rt, alloc, options, &table, token, files, out);
+        let uploads = LoadedUploads { all: &files };
+        return charge_settled(rt, alloc, options, &table, token, &uploads, out);
     }
     let outcome = post_live(rt, alloc, table, options, files)?;
     print_asked(rt, alloc, options, &outcome, token, out)?;

@@ -1,40 +1,42 @@
 //! The whole program, over any source of bytes and any two writers.
 ghost use Rattle.std.specs.Prelude.{MatchOption, codes, ◌≡◌, ◌≢◌, ◌≤◌, ◌⊎◌, ◌++◌, ◌∷◌, [], ℕ};
-ghost use Rattle.std.specs.Prelude.{List, true, false, None, Some, IfErr, IfOk, OnOk};
+ghost use Rattle.std.specs.Prelude.{List, Option, true, false, None, Some, IfErr, IfOk, OnOk};
 ghost use Rattle.std.specs.Prelude.{is_some, map, option_map, string_bytes};
 ghost use Rattle.clap.specs.Words.{kind_of};
 ghost use Rattle.std.specs.Io.KnownBytes.{Appends, Keeps};
-ghost use Rattle.fare_program.specs.Fault.{charge_mistake_of, explain_mistake, fault_text, mistake};
-ghost use Rattle.fare_program.specs.Fault.{status_of, token_mistake};
+ghost use Rattle.fare_program.specs.Fault.{IsLate, charge_mistake_of, explain_mistake, fault_text};
+ghost use Rattle.fare_program.specs.Fault.{mistake, sorted_mistake, status_of, token_mistake};
 ghost use Rattle.fare_program.specs.inside.Fault.{IsLoadLine, IsTableLine, IsWhyOf};
 ghost use Rattle.fare_program.specs.Options.{AsksForText, Parses, asked_by};
 ghost use Rattle.fare_program.specs.inside.Options.{asked_of};
-ghost use Rattle.fare_program.specs.Program.{Does, GaveUp, IsTokenIn, Loads, LoadsFiles};
+ghost use Rattle.fare_program.specs.Program.{Does, GaveUp, GaveUpOn, IsTokenIn, LoadsFiles};
 ghost use Rattle.fare_program.specs.Program.{LoadsTable, names_to_load};
-ghost use Rattle.program_manners.specs.Loads.{TellsOne};
+ghost use Rattle.program_manners.specs.Loads.{Loaded, TellsOne};
 ghost use Rattle.program_manners.specs.LineWritten.{LineWritten};
 ghost use Rattle.program_manners.specs.Words.{IsRequest};
 ghost use Rattle.fare_program.specs.Uploads.{IsListing};
 
 use crate::fault::Fault;
 use crate::files_ahead::{Disk, read_ahead};
+use crate::named_files::charge_ahead;
 use crate::options::Options;
 use crate::output::write_text;
 use crate::posting::charge;
+use crate::sorted::work_sorted;
 use crate::source::Source;
 use crate::uploads::listing_text;
 use clap::Error;
 use clap::error::ErrorKind;
-use fare_table::{FareTable, NoMemory};
+use fare_table::FareTable;
 use hex::FromHex;
 use program_manners::{Complaints, STANDARD_INPUT, show_answer};
-use shard_book::Token;
 use std::alloc::Global;
 use std::io::Write;
 use std::marker::Sync;
 use std::random::RandomSource;
 use std::sync::Wait;
 use std::thread::Threads;
+use tap_views::{NoMemory, Token};
 
 /// How many threads read files at once, or as many as there are workers where these are more. What
 /// is loaded does not depend on it.
@@ -93,7 +95,7 @@ fn load_files<'a, R: Threads + Sync, D: Disk + Sync, S: Source>(
     alloc: Global,
     disk: &D,
     names: &[&'a str],
-    workers: u32,
+    threads: usize,
     source: &mut S,
 ) -> Result<Vec<Vec<u8>>, Fault<'a>>
     ensures ok { IfOk result (λ files. LoadsFiles (names_to_load (map (λ n. n.now) names.now))
@@ -106,7 +108,7 @@ fn load_files<'a, R: Threads + Sync, D: Disk + Sync, S: Source>(
         push(&mut files, bytes)?;
         return Ok(files);
     }
-    let ahead = read_ahead(rt, alloc, disk, names, workers.max(READERS) as usize);
+    let ahead = read_ahead(rt, alloc, disk, names, threads);
     source.keep_ahead(ahead);
     for name in names {
         let bytes = load_named(source, name)?;
@@ -123,22 +125,14 @@ fn push(files: &mut Vec<Vec<u8>>, bytes: Vec<u8>) -> Result<(), NoMemory>
     Ok(())
 }
 
-/// Table and files, the table first.
-fn load<'a, R: Threads + Sync, D: Disk + Sync, S: Source>(
-    rt: &R,
-    alloc: Global,
-    disk: &D,
-    options: &Options<'a>,
-    source: &mut S,
-) -> Result<(Option<FareTable>, Vec<Vec<u8>>), Fault<'a>>
-    ensures loads { IfOk result
-        (λ loaded. Loads (asked_of options.now).table (asked_of options.now).files
-        (S.loaded source.old) (S.loaded source.new) loaded.0 (map (λ f. f.items) loaded.1.items)) }
-    ensures status { IfErr result (λ fault. status_of fault ≡ 1) }
-{
-    let table = load_table(alloc, options.table, source)?;
-    let files = load_files(rt, alloc, disk, &options.files, options.workers, source)?;
-    Ok((table, files))
+/// How many threads read files before they are due. Settled files are loaded in their turns, where
+/// they were not read while they were settled.
+fn readers_for(options: &Options<'_>) -> usize {
+    if options.settle {
+        1
+    } else {
+        options.workers.max(READERS) as usize
+    }
 }
 
 /// The token whose statement is asked for, if any: 32 hexadecimal digits, and a table to charge by.
@@ -210,8 +204,27 @@ fn check_explain<'a>(options: &Options<'a>) -> Result<(), Fault<'a>>
     Ok(())
 }
 
+/// Looks whether the files may be sorted ones, where that is asked for: the taps are to be settled,
+/// and a file is named.
+fn check_sorted<'a>(options: &Options<'a>) -> Result<(), Fault<'a>>
+    ensures right { OnOk result (sorted_mistake (asked_of options.now) ≡ None) }
+    ensures fault { IfErr result (λ fault. sorted_mistake (asked_of options.now) ≡ Some fault) }
+    ensures status { IfErr result (λ fault. status_of fault ≡ 2) }
+{
+    if !options.sorted {
+        return Ok(());
+    }
+    if !options.settle {
+        return Err(Fault::SortedNoSettle);
+    }
+    if options.files.is_empty() {
+        return Err(Fault::SortedNoFile);
+    }
+    Ok(())
+}
+
 /// Looks for a mistake in what is asked for, and gives the token whose statement is, if any.
-fn checked<'a>(options: &Options<'a>) -> Result<Option<Token>, Fault<'a>>
+pub(crate) fn checked<'a>(options: &Options<'a>) -> Result<Option<Token>, Fault<'a>>
     ensures token { IfOk result (IsTokenIn (asked_of options.now).token) }
     ensures right { OnOk result (mistake (asked_of options.now) ≡ None) }
     ensures fault { IfErr result (λ fault. mistake (asked_of options.now) ≡ Some fault) }
@@ -231,6 +244,7 @@ fn checked<'a>(options: &Options<'a>) -> Result<Option<Token>, Fault<'a>>
         Fault::LedgerList,
     )?;
     check_explain(options)?;
+    check_sorted(options)?;
     Ok(token)
 }
 
@@ -254,9 +268,49 @@ fn list<'a, W: Write>(
     Ok(clean)
 }
 
+/// Loads the files, and does what is asked for by the table that was loaded before. Says whether
+/// each upload was listed without a layout fault, or posted whole.
+fn work_by_table<'a, R: Threads + Wait + RandomSource + Sync, D: Disk + Sync, S: Source, W: Write>(
+    rt: &R,
+    alloc: Global,
+    disk: &D,
+    options: &Options<'a>,
+    table: Option<FareTable>,
+    token: Option<Token>,
+    source: &mut S,
+    out: &mut W,
+) -> Result<bool, Fault<'a>>
+    ensures ok { IfOk result (λ well. (told : Option (List Loaded)) (before : Option (List ℕ))
+        → LoadsTable (asked_of options.now).table told (S.loaded source.old) table
+        → IsTokenIn (asked_of options.now).token token → Keeps before (W.contents out.old)
+        → (asked_of options.now).sorted ≡ false
+        → Does (asked_of options.now) (D.bytes_under disk.now) told (S.loaded source.new) before
+        (W.contents out.new) well) }
+    ensures fault { IfErr result (λ fault. fault ≢ Fault.Write
+        → Keeps (W.contents out.old) (W.contents out.new)) }
+    ensures status { IfErr result (λ fault. status_of fault ≡ 1) }
+{
+    let files = load_files(
+        rt,
+        alloc,
+        disk,
+        &options.files,
+        readers_for(options),
+        source,
+    )?;
+    if options.list {
+        return list(alloc, table, &files, out);
+    }
+    match table {
+        Some(table) => charge(rt, alloc, options, table, token, files, out),
+        None => list(alloc, None, &files, out),
+    }
+}
+
 /// Does what is asked for, and says whether each upload was listed without a layout fault, or
 /// posted whole. The token is looked at first, then settling, then the table is loaded, then the
-/// files, and all memory is taken before the first byte is written.
+/// files, which may be settled while they are read, and all memory is taken before the first byte is
+/// written. Sorted files are opened, and read in pieces.
 fn work<'a, R: Threads + Wait + RandomSource + Sync, D: Disk + Sync, S: Source, W: Write>(
     rt: &R,
     alloc: Global,
@@ -266,12 +320,14 @@ fn work<'a, R: Threads + Wait + RandomSource + Sync, D: Disk + Sync, S: Source, 
     out: &mut W,
 ) -> Result<bool, Fault<'a>>
     ensures ok { IfOk result (λ well.
-        Does (asked_of options.now) (S.loaded source.old) (S.loaded source.new) (W.contents out.old)
-        (W.contents out.new) well) }
+        Does (asked_of options.now) (D.bytes_under disk.now) (S.loaded source.old)
+        (S.loaded source.new) (W.contents out.old) (W.contents out.new) well) }
     ensures right { OnOk result (mistake (asked_of options.now) ≡ None) }
 
-    // Only a write that fails leaves something of a text behind.
+    // Only a write that fails leaves something of a text behind, or a sorted file that is refused
+    // after all were checked.
     ensures fault { IfErr result (λ fault. fault ≢ Fault.Write
+        → ((asked_of options.now).sorted ≡ true → IsLate fault → ⊥)
         → Keeps (W.contents out.old) (W.contents out.new)) }
 
     // A mistake in what is asked for is seen before all else, and then nothing was loaded. Another
@@ -281,10 +337,14 @@ fn work<'a, R: Threads + Wait + RandomSource + Sync, D: Disk + Sync, S: Source, 
         → S.loaded source.new ≡ S.loaded source.old) }
 {
     let token = checked(options)?;
-    let (table, files) = load(rt, alloc, disk, options, source)?;
-    match table {
-        Some(table) if !options.list => charge(rt, alloc, options, table, token, files, out),
-        table => list(alloc, table, &files, out),
+    let table = load_table(alloc, options.table, source)?;
+    if options.sorted {
+        return work_sorted(rt, alloc, disk, options, table, token, out);
+    }
+    let keeps_loads = source.keeps_loads();
+    match charge_ahead(rt, alloc, disk, options, keeps_loads, &table, token, out)? {
+        Some(well) => Ok(well),
+        None => work_by_table(rt, alloc, disk, options, table, token, source, out),
     }
 }
 
@@ -344,8 +404,9 @@ pub fn main_over<
 ) -> u8
     // With status 0 the whole text was written, and each upload is well.
     ensures done { Parses (map string_bytes words.now) → result ≡ 0
-        → Does (asked_by (map string_bytes words.now)) (S.loaded source.old) (S.loaded source.new)
-        (W.contents out.old) (W.contents out.new) true }
+        → Does (asked_by (map string_bytes words.now)) (D.bytes_under disk.now)
+        (S.loaded source.old) (S.loaded source.new) (W.contents out.old) (W.contents out.new)
+        true }
 
     // Words that are no command line end well only where they ask for help or the version.
     ensures helped { ¬ Parses (map string_bytes words.now) → result ≡ 0
@@ -372,14 +433,16 @@ pub fn main_over<
         ⊎ (is_some (mistake (asked_by (map string_bytes words.now))) ≡ true) }
 
     // With status 1 the whole text was written, and tells of an upload that is not well, and nothing
-    // was said on `err`; or a fault was told, and nothing was written but where a write failed.
+    // was said on `err`; or a fault was told, and nothing was written but where a write failed, or
+    // where a sorted file was refused after all were checked.
     ensures faults { result ≡ 1
         → (Parses (map string_bytes words.now)
-        × Does (asked_by (map string_bytes words.now)) (S.loaded source.old) (S.loaded source.new)
-        (W.contents out.old) (W.contents out.new) false × (err.new ≡ err.old))
+        × Does (asked_by (map string_bytes words.now)) (D.bytes_under disk.now)
+        (S.loaded source.old) (S.loaded source.new) (W.contents out.old) (W.contents out.new)
+        false × (err.new ≡ err.old))
         ⊎ ((fault : Fault) × (status_of fault ≡ 1)
-        × GaveUp fault (E.contents err.old.writer) (E.contents err.new.writer) err.new.failed
-        (W.contents out.old) (W.contents out.new)) }
+        × GaveUpOn (asked_by (map string_bytes words.now)) fault (E.contents err.old.writer)
+        (E.contents err.new.writer) err.new.failed (W.contents out.old) (W.contents out.new)) }
 
     // Nothing is said on `err` where all is well.
     ensures quiet { result ≡ 0 → err.new ≡ err.old }

@@ -1,10 +1,11 @@
 //! What is asked for of settled files, whose taps are charged account by account in one order.
-ghost use Rattle.std.specs.Prelude.{◌≡◌, ◌≢◌, ℕ, true, List, None, IfErr, IfOk, map};
+ghost use Rattle.std.specs.Prelude.{◌≡◌, ◌≢◌, ℕ, true, List, None, IfErr, IfOk};
 ghost use Rattle.std.specs.Io.KnownBytes.{Appends, Keeps};
 ghost use Rattle.fare_program.specs.Fault.{status_of};
 ghost use Rattle.fare_program.specs.Options.{Asked};
 ghost use Rattle.fare_program.specs.Settling.{ShowsSettled};
 ghost use Rattle.fare_program.specs.inside.Options.{asked_of};
+ghost use Rattle.settlement.specs.Reading.{AreRead};
 
 use crate::bill::write_bill;
 use crate::fault::Fault;
@@ -14,33 +15,34 @@ use crate::run::are_posted;
 use crate::settled_token::write_token;
 use fare_table::FareTable;
 use settled_texts::write_settled_ledger;
-use settlement::{SettledTaps, laws, settled_taps};
-use shard_book::Token;
+use settlement::{SettledTaps, Uploads, laws, settled_taps};
 use std::alloc::Global;
 use std::io::Write;
 use std::marker::Sync;
 use std::random::RandomSource;
 use std::thread::Threads;
+use tap_views::Token;
 
-/// Writes the ledger of the settled history of the files, which so many workers make. Says whether
+/// Writes the ledger of the settled history of the uploads, which so many workers make. Says whether
 /// each file was posted whole.
-fn write_ledger<'a, R: Threads + Sync, W: Write>(
+fn write_ledger<'a, R: Threads + Sync, U: Uploads + Sync, W: Write>(
     rt: &R,
     alloc: Global,
     table: &FareTable,
     workers: u32,
-    files: Vec<Vec<u8>>,
+    uploads: &U,
     out: &mut W,
 ) -> Result<bool, Fault<'a>>
-    ensures ok { IfOk result (λ well. (text : List ℕ)
+    ensures ok { IfOk result (λ well. (files : List (List ℕ)) × (text : List ℕ)
+        × AreRead (U.may_be uploads.now) 0 (U.number uploads.now) files
         × ((asked : Asked) → asked.ledger ≡ true
-        → ShowsSettled asked table.now (map (λ f. f.items) files.items) None text well)
+        → ShowsSettled asked table.now files None text well)
         × Appends (W.contents out.old) (W.contents out.new) text) }
     ensures status { IfErr result (λ fault. status_of fault ≡ 1) }
     ensures fault { IfErr result (λ fault. fault ≢ Fault.Write
         → Keeps (W.contents out.old) (W.contents out.new)) }
 {
-    let SettledTaps { ends, lists } = settled_taps(rt, alloc, files, workers)?;
+    let SettledTaps { ends, lists } = settled_taps(rt, alloc, uploads, workers)?;
     // proof: the taps, posted in their order, are the settled history
     laws::posted_taps();
     write_settled_ledger(rt, alloc, table, &lists, workers, out)?;
@@ -50,46 +52,48 @@ fn write_ledger<'a, R: Threads + Sync, W: Write>(
 
 /// Writes what is asked for of all tokens: the ledger, or the report. Says whether each file was
 /// posted whole.
-fn charge_all<'a, R: Threads + RandomSource + Sync, W: Write>(
+fn charge_all<'a, R: Threads + RandomSource + Sync, U: Uploads + Sync, W: Write>(
     rt: &R,
     alloc: Global,
     options: &Options<'a>,
     table: &FareTable,
-    files: Vec<Vec<u8>>,
+    uploads: &U,
     out: &mut W,
 ) -> Result<bool, Fault<'a>>
-    ensures ok { IfOk result (λ well. (text : List ℕ)
-        × ShowsSettled (asked_of options.now) table.now (map (λ f. f.items) files.items) None text
-        well × Appends (W.contents out.old) (W.contents out.new) text) }
+    ensures ok { IfOk result (λ well. (files : List (List ℕ)) × (text : List ℕ)
+        × AreRead (U.may_be uploads.now) 0 (U.number uploads.now) files
+        × ShowsSettled (asked_of options.now) table.now files None text well
+        × Appends (W.contents out.old) (W.contents out.new) text) }
     ensures status { IfErr result (λ fault. status_of fault ≡ 1) }
     ensures fault { IfErr result (λ fault. fault ≢ Fault.Write
         → Keeps (W.contents out.old) (W.contents out.new)) }
 {
     if options.ledger {
-        return write_ledger(rt, alloc, table, options.workers, files, out);
+        return write_ledger(rt, alloc, table, options.workers, uploads, out);
     }
-    write_bill(rt, alloc, table, options.workers, files, out)
+    write_bill(rt, alloc, table, options.workers, uploads, out)
 }
 
-/// Settles the files, and writes what is asked for. Says whether each file was posted whole.
-pub(crate) fn charge_settled<'a, R: Threads + RandomSource + Sync, W: Write>(
+/// Settles the uploads, and writes what is asked for. Says whether each file was posted whole.
+pub(crate) fn charge_settled<'a, R: Threads + RandomSource + Sync, U: Uploads + Sync, W: Write>(
     rt: &R,
     alloc: Global,
     options: &Options<'a>,
     table: &FareTable,
     token: Option<Token>,
-    files: Vec<Vec<u8>>,
+    uploads: &U,
     out: &mut W,
 ) -> Result<bool, Fault<'a>>
-    ensures ok { IfOk result (λ well. (text : List ℕ)
-        × ShowsSettled (asked_of options.now) table.now (map (λ f. f.items) files.items) token
-        text well × Appends (W.contents out.old) (W.contents out.new) text) }
+    ensures ok { IfOk result (λ well. (files : List (List ℕ)) × (text : List ℕ)
+        × AreRead (U.may_be uploads.now) 0 (U.number uploads.now) files
+        × ShowsSettled (asked_of options.now) table.now files token text well
+        × Appends (W.contents out.old) (W.contents out.new) text) }
     ensures status { IfErr result (λ fault. status_of fault ≡ 1) }
     ensures fault { IfErr result (λ fault. fault ≢ Fault.Write
         → Keeps (W.contents out.old) (W.contents out.new)) }
 {
     match token {
-        Some(token) => write_token(rt, alloc, options, table, token, files, out),
-        None => charge_all(rt, alloc, options, table, files, out),
+        Some(token) => write_token(rt, alloc, options, table, token, uploads, out),
+        None => charge_all(rt, alloc, options, table, uploads, out),
     }
 }

@@ -1,5 +1,5 @@
 //! What is told of one token of settled files, from its taps alone.
-ghost use Rattle.std.specs.Prelude.{◌≡◌, ◌≢◌, ℕ, List, All, Some, IfErr, IfOk, MatchBool, OnOk, map};
+ghost use Rattle.std.specs.Prelude.{◌≡◌, ◌≢◌, ℕ, List, All, Some, IfErr, IfOk, MatchBool, OnOk};
 ghost use Rattle.std.specs.Io.KnownBytes.{Appends, Keeps};
 ghost use Rattle.tap_views.specs.Encoding.{AreEarly};
 ghost use Rattle.shard_book.specs.Entry.{own};
@@ -7,6 +7,7 @@ ghost use Rattle.shard_book.specs.declared.entry.Entry.{Entry};
 ghost use Rattle.report_texts.specs.OverHistory.{IsStatementOver};
 ghost use Rattle.ledger_texts.specs.Explained.{IsExplainedOver};
 ghost use Rattle.settlement.specs.Posted.{posted, token_of_tap};
+ghost use Rattle.settlement.specs.Reading.{AreRead};
 ghost use Rattle.fare_program.specs.Fault.{status_of};
 ghost use Rattle.fare_program.specs.Settling.{ShowsOver, ShowsSettled};
 ghost use Rattle.fare_program.specs.inside.Options.{asked_of};
@@ -17,13 +18,12 @@ use crate::output::flush;
 use crate::run::are_posted;
 use fare_table::FareTable;
 use settled_texts::{write_token_explained, write_token_ledger, write_token_statement};
-use settlement::{TokenTaps, laws, settled_taps_of};
-use shard_book::Token;
+use settlement::{TokenTaps, Uploads, laws, settled_taps_of};
 use std::alloc::Global;
 use std::io::Write;
 use std::marker::Sync;
 use std::thread::Threads;
-use tap_views::TapFields;
+use tap_views::{TapFields, Token};
 
 /// Writes the statement of a token that has these taps, explained where that is asked for.
 fn write_statement<'a, W: Write>(
@@ -55,7 +55,7 @@ fn write_statement<'a, W: Write>(
 
 /// Writes the ledger of a token that has these taps, or its statement, explained where that is
 /// asked for.
-fn write_text<'a, W: Write>(
+pub(crate) fn write_text<'a, W: Write>(
     alloc: Global,
     options: &Options<'a>,
     table: &FareTable,
@@ -82,25 +82,26 @@ fn write_text<'a, W: Write>(
     Ok(())
 }
 
-/// Writes what is asked for of the token: of the taps of the files no others are kept. Says whether
+/// Writes what is asked for of the token: of the taps of the uploads no others are kept. Says whether
 /// each file was posted whole.
-pub(crate) fn write_token<'a, R: Threads + Sync, W: Write>(
+pub(crate) fn write_token<'a, R: Threads + Sync, U: Uploads + Sync, W: Write>(
     rt: &R,
     alloc: Global,
     options: &Options<'a>,
     table: &FareTable,
     token: Token,
-    files: Vec<Vec<u8>>,
+    uploads: &U,
     out: &mut W,
 ) -> Result<bool, Fault<'a>>
-    ensures ok { IfOk result (λ well. (text : List ℕ)
-        × ShowsSettled (asked_of options.now) table.now (map (λ f. f.items) files.items)
-        (Some token) text well × Appends (W.contents out.old) (W.contents out.new) text) }
+    ensures ok { IfOk result (λ well. (files : List (List ℕ)) × (text : List ℕ)
+        × AreRead (U.may_be uploads.now) 0 (U.number uploads.now) files
+        × ShowsSettled (asked_of options.now) table.now files (Some token) text well
+        × Appends (W.contents out.old) (W.contents out.new) text) }
     ensures status { IfErr result (λ fault. status_of fault ≡ 1) }
     ensures fault { IfErr result (λ fault. fault ≢ Fault.Write
         → Keeps (W.contents out.old) (W.contents out.new)) }
 {
-    let TokenTaps { ends, taps } = settled_taps_of(rt, alloc, files, token)?;
+    let TokenTaps { ends, taps } = settled_taps_of(rt, alloc, uploads, token)?;
     // proof: the taps, posted alone, are the token's entries in the settled history
     laws::posted_taps();
     write_text(alloc, options, table, token, &taps, out)?;

@@ -5,11 +5,15 @@ use program_manners::LoadFault;
 
 /// Where the program's bytes come from.
 pub trait Source {
-    ghost use Rattle.std.specs.Prelude.{◌≡◌, List, IfOk, Option, None, Some};
+    ghost use Rattle.std.specs.Prelude.{◌≡◌, List, IfOk, Option, None, Some, false};
     ghost use Rattle.program_manners.specs.Loads.{Loaded, TellsOne};
 
     // What was loaded so far, in order, by a source that keeps it.
     ghost loaded: { Self → Option (List Loaded) } = { λ _. None };
+
+    /// Whether it keeps what it loaded. Files need not be loaded from a source that keeps nothing.
+    fn keeps_loads(&self) -> bool
+        ensures { result ≡ false → loaded self.now ≡ None };
 
     /// Takes what was read of the next files before they are due, the first one last. None is
     /// loaded by it: each is given, or its fault told, when it is loaded by its name.

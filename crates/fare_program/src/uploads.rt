@@ -8,9 +8,9 @@ ghost use Rattle.fare_program.specs.inside.Uploads.{Lists, ListsUpload, ListsUpl
 
 use crate::lines::{write_counts, write_refused, write_tap};
 use crate::listing::Listing;
-use fare_table::{FareTable, NoMemory};
+use fare_table::FareTable;
 use std::alloc::Global;
-use tap_views::{Batch, TapView, batches};
+use tap_views::{Batch, NoMemory, TapView, good_batches};
 
 /// Whether the tap's validator is known.
 fn is_known(table: Option<&FareTable>, tap: &TapView) -> bool
@@ -83,17 +83,15 @@ fn list_upload(
         (listing.new.counts.taps ≤ listing.old.counts.taps + length file.now) }
 {
     let mut number = 0;
-    let mut whole = true;
-    for item in batches(file) {
-        match item {
-            Ok(batch) => number = list_batch(text, listing, table, upload, number, &batch)?,
-            Err((offset, fault)) => {
-                write_refused(text, upload, offset, &fault)?;
-                whole = false;
-            }
-        }
+    let mut good = good_batches(file);
+    while let Some(batch) = good.next() {
+        number = list_batch(text, listing, table, upload, number, &batch)?;
     }
-    Ok(whole)
+    let Some((offset, fault)) = good.fault() else {
+        return Ok(true);
+    };
+    write_refused(text, upload, offset, &fault)?;
+    Ok(false)
 }
 
 /// Lists uploads, of which the files are given, from the first on. Says whether none has a layout

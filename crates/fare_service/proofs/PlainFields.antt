@@ -11,7 +11,7 @@ use Rattle.fare_table.specs.Fares.{Fares}
 use Rattle.tap_views.specs.Layout.{Tap, Layout, Tap1, Tap2, IsTapOf, spelling, magic, shared, IsBatch}
 use Rattle.tap_views.specs.Files.{IsFile, AreGoodTaps, AreGoodTapsOfEach}
 use Rattle.shard_book.specs.declared.entry.Entry.{Entry}
-use Rattle.fare_table.specs.Token.{bytes_of}
+use Rattle.tap_views.specs.Token.{bytes_of}
 use Rattle.shard_book.specs.Visits.{AreEntriesOf}
 use Rattle.fare_service.specs.Plain.{IsPlain}
 use Rattle.shard_book.specs.Plain.{answered, unanswered, plain_after, token_of_bytes}

@@ -8,10 +8,10 @@ use Rattle.std.proofs.lemmas.List.Concat.{flat_map-append}
 use Rattle.tap_views.specs.Layout.{Tap, num}
 use Rattle.tap_views.specs.Shards.{shard_of_token, run_of}
 use Rattle.shard_book.specs.declared.entry.Entry.{Entry}
-use Rattle.fare_table.specs.declared.token.Token.{Token}
+use Rattle.tap_views.specs.declared.token.Token.{Token}
 use Rattle.shard_book.specs.Entry.{IsEntryOf, is_of, own}
 use Rattle.shard_book.specs.Keys.{same_token}
-use Rattle.fare_table.specs.Token.{bytes_of}
+use Rattle.tap_views.specs.Token.{bytes_of}
 use Rattle.shared_books.specs.Marks.{history_of_visits}
 use Rattle.shard_book.specs.Plain.{unanswered, token_of_bytes, IsNamed}
 use Rattle.fare_service.specs.Runs.{PlacedTap, placed_from, taps_of_placed, of_shard, PlacedRun, placed_run, if_any, runs_below, runs_of, RunVisit, IsEntered, run_of_visit, ArePostedWhole, entries_to}

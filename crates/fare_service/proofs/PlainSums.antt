@@ -12,13 +12,13 @@ use Rattle.account_rule.specs.declared.reply.Reply.{Reply}
 use Rattle.tap_views.specs.Shards.{shard_of_token}
 use Rattle.shard_book.specs.Book.{Book, AreOfShard}
 use Rattle.shard_book.specs.declared.entry.Entry.{Entry}
-use Rattle.fare_table.specs.declared.token.Token.{Token}
+use Rattle.tap_views.specs.declared.token.Token.{Token}
 use Rattle.shard_book.specs.Entry.{is_of, is_at, own, reply_of}
 use Rattle.shard_book.specs.SumsByKey.{all_entries, entries_of_validator, validators, tokens, sums_by_validator, sums_by_token, validator_of, token_of}
 use Rattle.shard_book.specs.Keys.{same_token}
 use Rattle.shard_book.specs.Rising.{rising, IsRising}
 use Rattle.shard_book.specs.Sums.{sums, sums_of_replies, is_paid, is_transfer, is_capped, is_stale, is_unknown}
-use Rattle.fare_table.specs.Token.{bytes_of, token_cmp, token_eq}
+use Rattle.tap_views.specs.Token.{bytes_of, token_cmp, token_eq}
 use Rattle.fare_service.specs.Outcomes.{OutcomeView}
 use Rattle.fare_service.specs.Plain.{IsUncutGathering}
 use Rattle.report_texts.specs.OverHistory.{IsReportOver}

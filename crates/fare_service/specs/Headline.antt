@@ -4,7 +4,7 @@ use Rattle.std.specs.Prelude.{filter, All, slice_get, slice_index_or, Some}
 use Rattle.std.specs.List.{flat_map, AllZip}
 use Rattle.fare_table.specs.Fares.{Fares}
 use Rattle.shard_book.specs.declared.entry.Entry.{Entry}
-use Rattle.fare_table.specs.declared.token.Token.{Token}
+use Rattle.tap_views.specs.declared.token.Token.{Token}
 use Rattle.shard_book.specs.Book.{EachBook}
 use Rattle.shard_book.specs.History.{IsLegal}
 use Rattle.shard_book.specs.Windows.{WindowsKeepLimits}

@@ -3,11 +3,11 @@ use Rattle.std.specs.Prelude.{◌≡◌, ℕ, List, length, slice_get, Some}
 use Rattle.tap_views.specs.Shards.{shard_of_token}
 use Rattle.shard_book.specs.Book.{Book}
 use Rattle.shard_book.specs.declared.statement.Statement.{Statement}
-use Rattle.fare_table.specs.declared.token.Token.{Token}
+use Rattle.tap_views.specs.declared.token.Token.{Token}
 use Rattle.shard_book.specs.SumsByKey.{all_entries, sums_by_validator, sums_by_token}
 use Rattle.shard_book.specs.Statement.{IsStatement}
 use Rattle.shard_book.specs.Sums.{sums}
-use Rattle.fare_table.specs.Token.{bytes_of}
+use Rattle.tap_views.specs.Token.{bytes_of}
 use Rattle.report_texts.specs.declared.upload_end.UploadEnd.{UploadEnd}
 use Rattle.fare_service.specs.Outcomes.{OutcomeView}
 use Rattle.fare_texts.specs.StatementText.{IsStatementText}

@@ -1,7 +1,7 @@
 //! What may keep a service from opening, running or gathering.
 
-use fare_table::NoMemory;
 use std::alloc::AllocError;
+use tap_views::NoMemory;
 
 /// Why a service was not opened. What was handed in is dropped.
 #[derive(Clone, Copy, Debug, PartialEq, Eq, thiserror::Error)]

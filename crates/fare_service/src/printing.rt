@@ -10,15 +10,14 @@ ghost use Rattle.fare_service.specs.Printed.{report_of, report_with, IsStatement
 ghost use Rattle.fare_texts.specs.PrintFaults.{KeepsUnlessWrite};
 
 use crate::outcome::Outcome;
-use fare_table::NoMemory;
 use fare_texts::{PrintFault, statement_text, write_out};
 use report_texts::{UploadEnd, write_report};
-use shard_book::{Token, TokenSums, ValidatorSum, sums_by_validator};
+use shard_book::{TokenSums, ValidatorSum, sums_by_validator};
 use std::alloc::Global;
 use std::io::Write;
 use std::marker::Sync;
 use std::thread::Threads;
-use tap_views::shard_of;
+use tap_views::{NoMemory, Token, shard_of};
 
 impl Outcome {
     /// The sums of each validator, and those of each token.

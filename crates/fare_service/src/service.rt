@@ -3,12 +3,13 @@
 use crate::faults::OpenFault;
 use crate::service::shard_books::open_books;
 use crate::service::share::{Posting, Share};
-use fare_table::{FareTable, NoMemory};
+use fare_table::FareTable;
 use shard_book::{HashSeed, Totals};
 use shared_books::{Draw, SharedBook};
 use std::alloc::Global;
 use std::marker::Model;
 use std::random::RandomSource;
+use tap_views::NoMemory;
 
 pub(crate) mod gathering;
 pub(crate) mod running;

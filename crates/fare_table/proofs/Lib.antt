@@ -13,5 +13,5 @@ pub mod RowLemmas
 pub mod SortLemmas
 pub mod UntilLemmas
 pub mod TextFaultLemmas
-pub mod TokenBytes
+pub mod RiderBytes
 pub mod TokenMarks

@@ -9,9 +9,9 @@ use Rattle.std.specs.BTreeMap.{is_at}
 use Rattle.std.specs.Map.{keys_of, lookup}
 use Rattle.std.specs.Ordering.{is_eq}
 use Rattle.fare_table.specs.RiderMarks.{is_marked, mark_place}
-use Rattle.fare_table.specs.Token.{token_cmp}
+use Rattle.tap_views.specs.Token.{token_cmp}
 use Rattle.fare_table.specs.declared.terms.Terms.{Terms}
-use Rattle.fare_table.specs.declared.token.Token.{Token}
+use Rattle.tap_views.specs.declared.token.Token.{Token}
 
 -- a further mark takes none away
 marked-kept : (marks : List Bool) (i j : ℕ) → i < length marks → get_or marks j false ≡ true

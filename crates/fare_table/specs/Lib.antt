@@ -14,7 +14,6 @@ pub mod Riders
 pub mod TableMeaning
 pub mod Terms
 pub mod TextRanges
-pub mod Token
 pub mod Transfers
 pub mod Until
 pub mod Validators

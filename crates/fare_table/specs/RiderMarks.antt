@@ -1,6 +1,6 @@
 -- Marks of tokens, each at the place that the token's last bits tell.
 use Rattle.std.specs.Prelude.{ℕ, ◌-◌, Bool, false, List, bit_and, length, slice_index_or}
-use Rattle.fare_table.specs.declared.token.Token.{Token}
+use Rattle.tap_views.specs.declared.token.Token.{Token}
 
 -- the place of the token's mark among so many, a power of two
 abbrev pub mark_place : Token → ℕ → ℕ

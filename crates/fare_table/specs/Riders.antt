@@ -1,5 +1,6 @@
 -- The key `riders`: the terms of single riders by their tokens.
-use Rattle.std.specs.Prelude.{ℕ, Bool, List, [], Option, Some, None, Ok, Err, codes, if◌then◌else◌}
+use Rattle.std.specs.Prelude.{ℕ, Bool, List, [], Option, Some, None, Ok, Err, codes, map}
+use Rattle.std.specs.Prelude.{if◌then◌else◌}
 use Rattle.std.specs.BTreeMap.{insert_entry, is_at}
 use Rattle.std.specs.Cmp.Lexicographic.{slice_cmp}
 use Rattle.std.specs.Map.{lookup}
@@ -15,6 +16,8 @@ use Rattle.fare_table.specs.OrFault.{OrFault, ◌>>=◌}
 use Rattle.fare_table.specs.declared.fault.Key.TheVariants as the_key
 use Rattle.fare_table.specs.declared.fault.TableFault.TheVariants.{Kind, Rider}
 use Rattle.fare_table.specs.declared.terms.Terms.{Terms}
+use Rattle.tap_views.specs.Token.{bytes_of}
+use Rattle.tap_views.specs.declared.token.Token.{Token}
 
 -- the token that 32 hexadecimal digits name, of either case
 abbrev pub token_of_digits : List ℕ → OrFault (List ℕ)
@@ -56,3 +59,7 @@ riders_at classes (Some value) = do
 -- the riders that the text names, in the order of their tokens
 unfoldable pub riders_of : Members → Members → OrFault (List (List ℕ × Terms))
 riders_of classes tree = riders_at classes (get_member (codes "riders") tree)
+
+-- terms by tokens, as terms by the tokens' bytes
+abbrev pub by_bytes : List (Token × Terms) → List (List ℕ × Terms)
+by_bytes entries = map (λ entry. (bytes_of entry.0, entry.1)) entries

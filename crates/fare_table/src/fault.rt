@@ -1,9 +1,10 @@
-//! Why a text is no fare table, and want of memory.
+//! Why a text is no fare table.
 ghost use Rattle.std.specs.Prelude.{◌≡◌, Some};
 ghost use Rattle.fare_table.specs.Key.{key_name};
 
 use std::alloc::{AllocError, AllocFailed};
 use std::fmt;
+use tap_views::NoMemory;
 use thiserror::Error;
 
 /// A key of the table's text, as faults name it.
@@ -111,23 +112,6 @@ pub enum TableFault {
     /// The zone is no POSIX rule text.
     #[error("the zone is no POSIX rule")]
     Zone,
-}
-
-/// A growth of memory was refused.
-#[derive(Clone, Copy, Debug, PartialEq, Eq, Error)]
-#[error("out of memory")]
-pub struct NoMemory;
-
-impl From<AllocError> for NoMemory {
-    fn from(_error: AllocError) -> NoMemory {
-        NoMemory
-    }
-}
-
-impl<T: Drop> From<AllocFailed<T>> for NoMemory {
-    fn from(_error: AllocFailed<T>) -> NoMemory {
-        NoMemory
-    }
 }
 
 impl From<AllocError> for TableFault {

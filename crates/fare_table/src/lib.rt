@@ -14,14 +14,12 @@ mod read;
 mod riders;
 mod table;
 mod terms;
-mod token;
 mod transfers;
 mod validators;
 mod zone;
 
 pub use clock::Clock;
-pub use fault::{Key, NoMemory, TableFault};
+pub use fault::{Key, TableFault};
 pub use mode::Mode;
 pub use table::FareTable;
 pub use terms::Terms;
-pub use token::Token;

@@ -1,15 +1,15 @@
 //! The terms of single riders by their tokens.
 ghost use Rattle.std.specs.Prelude.{◌≡◌, All, IfOk, length};
 ghost use Rattle.std.specs.Map.{keys_of};
-ghost use Rattle.fare_table.specs.Token.{Fits, by_bytes};
+ghost use Rattle.tap_views.specs.Token.{Fits};
+ghost use Rattle.fare_table.specs.Riders.{by_bytes};
 
-use crate::fault::NoMemory;
 use crate::riders::marks::RiderMarks;
 use crate::terms::Terms;
-use crate::token::Token;
 use std::alloc::Global;
 use std::collections::BTreeMap;
 use std::marker::Model;
+use tap_views::{NoMemory, Token};
 
 mod marks;
 
@@ -26,7 +26,7 @@ impl Model for Riders {
     ghost use Rattle.std.specs.Prelude.{ℕ, List};
     ghost use Rattle.fare_table.specs.declared.terms.Terms.{Terms};
     ghost use Rattle.fare_table.specs.inside.RiderMarks.{AreMarked};
-    ghost use Rattle.fare_table.specs.Token.{by_bytes};
+    ghost use Rattle.fare_table.specs.Riders.{by_bytes};
 
     ghost Value = { List (List ℕ × Terms) };
 
@@ -41,7 +41,8 @@ impl Riders {
     ghost use Rattle.std.specs.Cmp.Lexicographic.{slice_cmp};
     ghost use Rattle.std.specs.Map.{keys_of, lookup};
     ghost use Rattle.std.specs.Ordering.{nat_cmp};
-    ghost use Rattle.fare_table.specs.Token.{Fits, by_bytes};
+    ghost use Rattle.tap_views.specs.Token.{Fits};
+    ghost use Rattle.fare_table.specs.Riders.{by_bytes};
 
     /// The riders of a map by their tokens. `NoMemory` is answered where a growth is refused.
     pub(crate) fn new(alloc: Global, terms: BTreeMap<Token, Terms>) -> Result<Riders, NoMemory>

@@ -13,7 +13,7 @@ ghost use Rattle.fare_table.specs.Zone.{IsZoneOf, zone_rule, zone_text};
 ghost use Rattle.fare_table.specs.Terms.{AreBoundedTerms};
 
 use crate::clock::Clock;
-use crate::fault::{NoMemory, TableFault};
+use crate::fault::TableFault;
 use crate::mode::Mode;
 use crate::read::classes::{classes_of, default_of};
 use crate::read::modes::modes_of;
@@ -30,6 +30,7 @@ use jiff::tz::TimeZone;
 use std::alloc::Global;
 use std::marker::Model;
 use std::sync::Arc;
+use tap_views::NoMemory;
 use toml::Table;
 
 /// An agency's fare table. Look-ups take no memory; those of validators and riders are searches by

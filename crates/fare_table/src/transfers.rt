@@ -2,10 +2,10 @@
 ghost use Rattle.std.specs.Prelude.{◌≡◌, ◌<◌, [], OnOk, OnErr};
 ghost use Rattle.fare_table.specs.Transfers.{has_pair, with_pair};
 
-use crate::fault::NoMemory;
 use crate::mode::MAX_MODES;
 use std::alloc::Global;
 use std::marker::Model;
+use tap_views::NoMemory;
 
 /// Pairs of places of modes, each once, in the order in which they were added.
 #[derive(Drop)]

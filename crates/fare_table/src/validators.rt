@@ -6,11 +6,11 @@ ghost use Rattle.fare_table.specs.Validators.{stand_apart};
 ghost use Rattle.fare_table.specs.inside.Validators.{is_rising, last_begun, AreSearchable};
 ghost use Rattle.fare_table.specs.inside.Validators.{IsSplitAt};
 
-use crate::fault::NoMemory;
 use crate::validators::guesses::Guesses;
 use std::alloc::Global;
 use std::collections::BTreeMap;
 use std::marker::Model;
+use tap_views::NoMemory;
 
 mod guesses;
 

@@ -2,8 +2,8 @@
 
 ghost use Rattle.std.specs.Prelude.{Some};
 
-use shard_book::Token;
 use std::fmt;
+use tap_views::Token;
 
 /// A token as 32 hexadecimal digits.
 #[derive(Drop)]
@@ -11,7 +11,7 @@ pub struct Digits(pub Token);
 
 impl fmt::Display for Digits {
     ghost use Rattle.hex.specs.Hex.{encode_lower};
-    ghost use Rattle.fare_table.specs.Token.{bytes_of};
+    ghost use Rattle.tap_views.specs.Token.{bytes_of};
 
     ghost output = { λ d. Some (encode_lower (bytes_of d.0)) };
 

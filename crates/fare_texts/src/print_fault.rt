@@ -1,6 +1,6 @@
 //! What printing may meet.
 
-use fare_table::NoMemory;
+use tap_views::NoMemory;
 
 /// Why a text was not printed.
 #[derive(Clone, Copy, Debug, PartialEq, Eq, thiserror::Error)]

@@ -6,10 +6,10 @@ use crate::sample::{UNTIL, table};
 use crate::stop::{Case, Stop, again, ended, promise, twice};
 use account_rule::Answer;
 use sample_table::{START, SUBWAY, bytes_of, tap_after};
-use shard_book::{Entry, HashSeed, Replies, RunEnd, ShardBook, Token, TokenSums};
+use shard_book::{Entry, HashSeed, Replies, RunEnd, ShardBook, TokenSums};
 use std::alloc::Global;
 use std::random::RandomSource;
-use tap_views::{Batch, TapFields, encode};
+use tap_views::{Batch, TapFields, Token, encode};
 
 /// A book without entries, the only one of its service.
 fn book<R: RandomSource>(rt: &R, alloc: Global) -> Result<ShardBook, Stop>

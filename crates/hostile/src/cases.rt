@@ -2,6 +2,7 @@
 
 use crate::books::{cut_run, posts, statement, sums, tokens};
 use crate::service::{opening, prints_report, prints_statement, run};
+use crate::settled::{bill, bill_of_sorted, ledger_of_sorted, merge, sort};
 use crate::stop::{Case, Stop};
 use crate::tables::{clock, clone, encodes, read};
 use std::alloc::Global;
@@ -10,7 +11,7 @@ use std::random::RandomSource;
 use std::sync::Wait;
 use std::thread::Threads;
 
-/// The cases, in the order in which they are made.
+/// The cases but those of settled runs, in the order in which they are made.
 pub(crate) const CASES: [&str; 13] = [
     "encode",
     "read",
@@ -25,6 +26,15 @@ pub(crate) const CASES: [&str; 13] = [
     "run",
     "write_report",
     "write_statement",
+];
+
+/// The cases of settled runs, which are made behind the others.
+pub(crate) const SETTLED_CASES: [&str; 5] = [
+    "settled_bill",
+    "sort_uploads",
+    "merge_sorted",
+    "sorted_bill",
+    "write_sorted_ledger",
 ];
 
 /// Makes the case of this name.
@@ -47,6 +57,11 @@ pub(crate) fn made<R: Threads + Wait + RandomSource + Sync + Print>(
         "run" => run(rt, alloc),
         "write_report" => prints_report(rt, alloc),
         "write_statement" => prints_statement(rt, alloc),
+        "settled_bill" => bill(rt, alloc),
+        "sort_uploads" => sort(rt, alloc),
+        "merge_sorted" => merge(alloc),
+        "sorted_bill" => bill_of_sorted(rt, alloc),
+        "write_sorted_ledger" => ledger_of_sorted(rt, alloc),
         _ => Err(Stop::Wrong("is no case")),
     }
 }

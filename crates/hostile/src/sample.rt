@@ -21,3 +21,15 @@ pub(crate) fn uploads(alloc: Global) -> Result<Vec<Vec<u8>>, Stop> {
     uploads.push(encode(alloc, &strays())?)?;
     Ok(uploads)
 }
+
+/// The example's uploads as sorted files: the second one's taps are in order of time.
+pub(crate) fn sorted_files(alloc: Global) -> Result<(Vec<u8>, Vec<u8>), Stop> {
+    let [late, early] = strays();
+    Ok((encode(alloc, &rides())?, encode(alloc, &[early, late])?))
+}
+
+/// The example's taps as one sorted file.
+pub(crate) fn merged_file(alloc: Global) -> Result<Vec<u8>, Stop> {
+    let ([first, second, third, fourth], [late, early]) = (rides(), strays());
+    Ok(encode(alloc, &[first, second, third, fourth, early, late])?)
+}

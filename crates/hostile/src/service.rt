@@ -4,12 +4,12 @@ use crate::sample::{table, uploads};
 use crate::stop::{Case, Stop, again, promise, twice};
 use fare_service::{Gate, OpenGate, Outcome, PrintFault, Service, UploadEnd};
 use sample_table::{NEW_YORK_STATEMENT, REPORT, bytes_of};
-use shard_book::Token;
 use std::alloc::Global;
 use std::marker::Sync;
 use std::random::RandomSource;
 use std::sync::Wait;
 use std::thread::Threads;
+use tap_views::Token;
 
 /// A gate that prints which uploads have ended, so that whoever refuses memory knows what was
 /// refused before and what after.

@@ -1,9 +1,11 @@
 //! Why a case stops before all is answered.
 
 use fare_service::{GatherFault, OpenFault, RunFault};
-use fare_table::{NoMemory, TableFault};
+use fare_table::TableFault;
+use sorted_bills::BillFault;
+use sorted_taps::{FileFault, MergeFault, SortedFault, WriteFault};
 use std::alloc::{AllocError, AllocFailed};
-use tap_views::{EncodeFault, LayoutFault};
+use tap_views::{EncodeFault, LayoutFault, NoMemory};
 
 /// Why a case stops before all is answered.
 #[derive(Clone, Copy, Debug, PartialEq, Eq)]
@@ -121,6 +123,44 @@ impl From<RunFault> for Stop {
         match fault {
             RunFault::NoMemory | RunFault::Gather(GatherFault::NoMemory) => Stop::Refused,
             _ => Stop::Wrong("a run is refused for another cause than memory"),
+        }
+    }
+}
+
+impl From<SortedFault> for Stop {
+    fn from(fault: SortedFault) -> Self {
+        match fault {
+            SortedFault::NoMemory => Stop::Refused,
+            _ => Stop::Wrong("refuses a sorted file"),
+        }
+    }
+}
+
+impl From<WriteFault> for Stop {
+    fn from(fault: WriteFault) -> Self {
+        match fault {
+            WriteFault::NoMemory => Stop::Refused,
+            WriteFault::Write => Stop::Wrong("a writer that takes all is said to fail"),
+        }
+    }
+}
+
+impl From<MergeFault> for Stop {
+    fn from(fault: MergeFault) -> Self {
+        match fault {
+            MergeFault::NoMemory => Stop::Refused,
+            MergeFault::File(FileFault { fault, .. }) => Stop::from(fault),
+            _ => Stop::Wrong("does not merge"),
+        }
+    }
+}
+
+impl From<BillFault> for Stop {
+    fn from(fault: BillFault) -> Self {
+        match fault {
+            BillFault::NoMemory => Stop::Refused,
+            BillFault::File(FileFault { fault, .. }) | BillFault::Late(fault) => Stop::from(fault),
+            _ => Stop::Wrong("does not charge sorted files"),
         }
     }
 }

@@ -2,7 +2,7 @@
 use Rattle.std.proofs.Common.{◌≡◌, ◌<◌, ◌≤◌, ◌+◌, ℕ, zero, suc, List, [], ◌∷◌, ◌++◌, Option, Some, None, Bool}
 use Rattle.std.proofs.Common.{true, false, refl, sym, ap, subst, ◌∙◌, arith, length, length-append, append_assoc}
 use Rattle.std.proofs.Common.{append-nil, filter, flat_map, get_or}
-use Rattle.std.specs.Prelude.{⊤}
+use Rattle.std.specs.Prelude.{⊤, if◌then◌else◌}
 use Rattle.std.specs.Io.KnownBytes.{Appends}
 use Rattle.std.specs.List.{AllByRecursion}
 use Rattle.std.specs.List.Sorted.{IsSorted}
@@ -16,12 +16,13 @@ use Rattle.ledger_changes.specs.Changes.{AreSideBySide, IsSomeLine, Pair, UseUp,
 use Rattle.ledger_changes.specs.Changes.{afters, befores, is_changed, row_of}
 use Rattle.ledger_changes.specs.Rows.{Charge, Key, Row, key_cmp}
 use Rattle.ledger_changes.specs.Ledgers.{IsSettledLedger}
+use Rattle.ledger_changes.specs.declared.row.LedgerRow.{LedgerRow}
 use Rattle.ledger_changes.specs.Texts.{IsCorrectionsText, correction_line, corrections_head}
 use Rattle.ledger_changes.specs.Texts.{corrections_lines, is_removed, removed_in}
 use Rattle.ledger_changes.specs.inside.LedgerRows.{rows_in}
 use Rattle.ledger_changes.specs.inside.Standings.{HasRows, HasRowsAt, IsKnown, IsMoved, Standing, StandsBefore}
 use Rattle.ledger_changes.specs.inside.Written.{AreTold, AreWritten, changes_of, next_sides, pairs_of}
-use Rattle.ledger_changes.specs.inside.Written.{sides_by, taken_if}
+use Rattle.ledger_changes.specs.inside.Written.{row_in, sides_by, taken_if}
 use Rattle.ledger_changes.proofs.Keys.{key_cmp_total, same_key}
 use Rattle.ledger_changes.proofs.Sorted.{Rise, rise_all}
 
@@ -306,6 +307,12 @@ equal_same a b e =
 
 not_two : (x y : Bool × Bool) → x ≡ y → (x.0 ≡ y.0) × (x.1 ≡ y.1)
 not_two x y e = (ap (λ (p : Bool × Bool). p.0) e, ap (λ (p : Bool × Bool). p.1) e)
+
+-- the row of a line that is taken, if it is
+pub taken_row : (is_taken : Bool) (row : Option LedgerRow)
+    → row_in (if is_taken then row else None) ≡ taken_if is_taken (row_in row)
+taken_row true row = refl
+taken_row false row = refl
 
 abbrev pub First : Option Row → Option Row → Bool × Bool → List Row → List Row → Type 0
 First o n sides olds news =

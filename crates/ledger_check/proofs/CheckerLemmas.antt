@@ -88,7 +88,7 @@ next_ends fares earlier entry line is lacks =
     let four = lacks-end 10 shown.reason_fields (10 ∷ []) three in
     four.0 refl
 
-head_ends : (line : List ℕ) → Lacks 10 line → line ≢ head_text
+pub head_ends : (line : List ℕ) → Lacks 10 line → line ≢ head_text
 head_ends line lacks is =
     lacks-last 10 (codes "token,line,moment,validator,mode,answer,cents,window_start,window_end,ride,reason,points_at") line is lacks
 

@@ -15,9 +15,9 @@ use Rattle.account_rule.specs.declared.reply.Reply.{Reply}
 use Rattle.account_rule.specs.declared.tap.TapIn.{TapIn}
 use Rattle.shard_book.specs.Entry.{own, reply_of, tap_of, taps_of}
 use Rattle.shard_book.specs.History.{IsReplied}
-use Rattle.fare_table.specs.Token.{bytes_of}
+use Rattle.tap_views.specs.Token.{bytes_of}
 use Rattle.shard_book.specs.declared.entry.Entry.{Entry}
-use Rattle.fare_table.specs.declared.token.Token.{Token}
+use Rattle.tap_views.specs.declared.token.Token.{Token}
 use Rattle.fare_texts.specs.Moments.{IsCivilText, IsMomentText, clock_text}
 use Rattle.reason_texts.specs.Ledger.{IsReasonFields, IsLedgerLine, IsPointing, IsRideFields, entry_fields, line_head, ride_rest}
 use Rattle.ledger_check.specs.Ledger.{IsNextLine, IsNext}

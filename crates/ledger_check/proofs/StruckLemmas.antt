@@ -3,7 +3,7 @@ use Rattle.std.proofs.Common.{◌≡◌, ℕ, Bool, true, false, List, [], ◌�
 use Rattle.std.proofs.lemmas.List.{map-append}
 use Rattle.fare_table.specs.Fares.{Fares}
 use Rattle.reason_texts.specs.Ledger.{head_text}
-use Rattle.fare_table.specs.Token.{bytes_of}
+use Rattle.tap_views.specs.Token.{bytes_of}
 use Rattle.shard_book.specs.declared.entry.Entry.{Entry}
 use Rattle.tap_balance.specs.Balances.{IsBalance}
 use Rattle.tap_balance.specs.declared.balance.Balance.{Balance}

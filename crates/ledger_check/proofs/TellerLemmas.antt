@@ -12,9 +12,9 @@ use Rattle.account_rule.specs.declared.tap.TapIn.{TapIn}
 use Rattle.account_rule.proofs.ReasonLemmas.{reply-follows}
 use Rattle.shard_book.specs.Entry.{own, reply_of, tap_of, taps_of}
 use Rattle.shard_book.specs.History.{IsReplied}
-use Rattle.fare_table.specs.Token.{Fits, bytes_of}
+use Rattle.tap_views.specs.Token.{Fits, bytes_of}
 use Rattle.shard_book.specs.declared.entry.Entry.{Entry}
-use Rattle.fare_table.specs.declared.token.Token.{Token}
+use Rattle.tap_views.specs.declared.token.Token.{Token}
 use Rattle.reason_texts.specs.Ledger.{IsLedgerLine, IsLedgerLineAfter, reason_after}
 use Rattle.reason_texts.specs.Tellers.{HasTold}
 use Rattle.reason_texts.specs.declared.teller.Teller.{Teller}

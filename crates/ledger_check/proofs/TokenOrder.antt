@@ -4,10 +4,10 @@ use Rattle.std.proofs.lemmas.Bool.{cases_Bool}
 use Rattle.std.proofs.lemmas.Bool.Decides.{nat_tests}
 use Rattle.std.proofs.lemmas.List.Elements.{filter-append}
 use Rattle.shard_book.specs.Entry.{is_of, own, taps_of}
-use Rattle.fare_table.specs.Token.{Fits, token_cmp, token_eq}
+use Rattle.tap_views.specs.Token.{Fits, token_cmp, token_eq}
 use Rattle.shard_book.specs.declared.entry.Entry.{Entry}
-use Rattle.fare_table.specs.declared.token.Token.{Token}
-use Rattle.shard_book.proofs.Histories.{same_token, token_eq-refl}
+use Rattle.tap_views.specs.declared.token.Token.{Token}
+use Rattle.tap_views.proofs.TokenLemmas.{same_token, token_eq-refl}
 use Rattle.ledger_check.specs.Ledger.{token_number}
 
 pub less_number : (a b : Token) → Fits a → Fits b → token_cmp a b ≡ Less → token_number a < token_number b

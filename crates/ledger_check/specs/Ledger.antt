@@ -3,9 +3,9 @@ use Rattle.std.specs.Prelude.{◌≡◌, ℕ, ◌+◌, ◌*◌, ◌^◌, ◌<◌
 use Rattle.fare_table.specs.Fares.{Fares}
 use Rattle.shard_book.specs.Entry.{own}
 use Rattle.shard_book.specs.History.{IsReplied}
-use Rattle.fare_table.specs.Token.{Fits}
+use Rattle.tap_views.specs.Token.{Fits}
 use Rattle.shard_book.specs.declared.entry.Entry.{Entry}
-use Rattle.fare_table.specs.declared.token.Token.{Token}
+use Rattle.tap_views.specs.declared.token.Token.{Token}
 use Rattle.reason_texts.specs.Ledger.{IsLedgerLineAfter, head_text}
 use Rattle.ledger_check.specs.Lines.{lines_of}
 

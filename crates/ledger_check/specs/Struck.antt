@@ -4,7 +4,7 @@ use Rattle.tap_balance.specs.Balances.{IsBalance}
 use Rattle.tap_balance.specs.declared.balance.Balance.{Balance}
 use Rattle.tap_views.specs.declared.encoder.TapFields.{TapFields}
 use Rattle.fare_table.specs.Fares.{Fares}
-use Rattle.fare_table.specs.Token.{bytes_of}
+use Rattle.tap_views.specs.Token.{bytes_of}
 use Rattle.shard_book.specs.declared.entry.Entry.{Entry}
 use Rattle.ledger_check.specs.Ledger.{AreNext}
 use Rattle.ledger_check.specs.Verdicts.{HasFed, is_legal}

@@ -25,6 +25,8 @@ pub(crate) fn field(text: &[u8]) -> Option<(&[u8], &[u8])>
     ensures found { (front : List ℕ) (back : List ℕ) → Lacks 44 front
         → text.now ≡ front ++ 44 ∷ back
         → IsSomeAnd result (λ parts. (parts.0.now ≡ front) × (parts.1.now ≡ back)) }
+    ensures cut { IfSome result (λ parts. Lacks 44 parts.0.now
+        × (text.now ≡ parts.0.now ++ 44 ∷ parts.1.now)) }
 {
     match split_at_byte(text, b',') {
         Some(parts) => Some(parts),

@@ -17,10 +17,11 @@ ghost use Rattle.ledger_check.specs.declared.checker.Verdict.TheVariants.{NoLine
 
 use crate::bytes::{same_bytes, split_line};
 use crate::replay::{MAX_LINE_BYTES, Replay, Step};
-use fare_table::{Clock, FareTable, NoMemory};
+use fare_table::{Clock, FareTable};
 use reason_texts::head_line;
 use std::alloc::Global;
 use tap_balance::Balance;
+use tap_views::NoMemory;
 
 /// What a check tells of a text. Lines count from 1, the head line.
 #[derive(Drop)]

@@ -1,9 +1,15 @@
-//! What follows from a verdict.
+//! What follows from a verdict, and from a recount.
 
+ghost use Rattle.ledger_check.specs.Recounts.{RecountsDecide};
 ghost use Rattle.ledger_check.specs.Verdicts.{VerdictsDecide};
 
 /// A verdict that is true of a text is `legal` exactly where the text is, whole, a ledger of legal
 /// histories.
 pub fn verdicts_decide()
     ensures { VerdictsDecide }
+{}
+
+/// A recount tells of no line exactly if the text is, whole, a ledger of legal histories.
+pub fn recounts_decide()
+    ensures { RecountsDecide }
 {}

@@ -8,11 +8,16 @@
 
 mod bytes;
 mod checker;
+mod exact;
 mod form;
 pub mod laws;
 mod moment;
+mod recount;
+mod recount_sums;
 mod replay;
 mod tap;
+mod walk;
 mod wanted;
 
 pub use checker::{Checker, Verdict};
+pub use recount::Recount;

@@ -6,17 +6,16 @@ ghost use Rattle.std.specs.Fmt.{decimal};
 ghost use Rattle.hex.specs.Hex.{encode_lower};
 ghost use Rattle.account_rule.specs.declared.reason.Reason.{Reason};
 ghost use Rattle.fare_table.specs.Fares.{Fares};
-ghost use Rattle.fare_table.specs.Token.{Fits, bytes_of};
+ghost use Rattle.tap_views.specs.Token.{Fits, bytes_of};
 ghost use Rattle.shard_book.specs.declared.entry.Entry.{Entry};
-ghost use Rattle.fare_table.specs.declared.token.Token.{Token};
+ghost use Rattle.tap_views.specs.declared.token.Token.{Token};
 ghost use Rattle.reason_texts.specs.Ledger.{IsLedgerLine};
 ghost use Rattle.ledger_check.specs.Ledger.{IsPostable};
 ghost use Rattle.ledger_check.specs.inside.Taps.{IsEntryOfTap, tap_fields};
 
 use crate::bytes::field;
 use crate::moment::read_moment;
-use shard_book::Token;
-use tap_views::TapFields;
+use tap_views::{TapFields, Token};
 
 /// What a line tells of a tap.
 #[derive(Clone, Copy)]
@@ -43,7 +42,7 @@ impl Tap {
 }
 
 /// The token of 32 hexadecimal digits.
-fn read_token(digits: &[u8]) -> Option<Token>
+pub(crate) fn read_token(digits: &[u8]) -> Option<Token>
     ensures fits { IfSome result Fits }
     ensures found { (token : Token) → Fits token → digits.now ≡ encode_lower (bytes_of token)
         → result ≡ Some token }

@@ -9,14 +9,15 @@ use Rattle.shard_book.specs.Book.{AreOfShard, Book}
 use Rattle.shard_book.specs.Entry.{is_of, own}
 use Rattle.shard_book.specs.SumsByKey.{all_entries}
 use Rattle.shard_book.specs.History.{IsLegal}
-use Rattle.fare_table.specs.Token.{bytes_of}
+use Rattle.tap_views.specs.Token.{bytes_of}
 use Rattle.shard_book.specs.declared.entry.Entry.{Entry}
-use Rattle.fare_table.specs.declared.token.Token.{Token}
-use Rattle.shard_book.proofs.Histories.{same_token}
+use Rattle.tap_views.specs.declared.token.Token.{Token}
+use Rattle.tap_views.proofs.TokenLemmas.{same_token}
 use Rattle.ledger_check.specs.Ledger.{IsLedgerOf, IsPostable}
 use Rattle.ledger_texts.specs.Ledger.{IsLedgerOfBooks as IsWrittenOf, IsLedgerOver}
 use Rattle.ledger_laws.specs.Written.{AreBooksOf, AreLetters, AreShort, CanBeTold, told_entries}
-use Rattle.ledger_laws.proofs.Owned.{own_both, own_is_legal, own_none, own_not}
+use Rattle.ledger_texts.proofs.Rising.{own_both, own_none, own_not}
+use Rattle.ledger_laws.proofs.Owned.{own_is_legal}
 use Rattle.ledger_laws.proofs.Telling.{written_is_read}
 
 same_or_not : (a b : ℕ) → (a ≡ b) ⊎ (a ≢ b)

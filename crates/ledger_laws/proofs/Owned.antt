@@ -1,20 +1,19 @@
 -- The entries of one token among entries, and what holds of each of them.
-use Rattle.std.proofs.Common.{◌≡◌, Bool, true, false, cond, List, [], ◌∷◌, ◌++◌, filter, map, refl, sym, ap, subst, ◌∙◌, arith, zero, suc, ⊎_elim, All}
+use Rattle.std.proofs.Common.{◌≡◌, true, false, List, [], ◌∷◌, ◌++◌, map, refl, sym, ap, subst, ◌∙◌, arith, zero, suc, ⊎_elim, All}
 use Rattle.std.specs.List.{AllByRecursion}
 use Rattle.std.specs.declared.cmp.Ordering.TheVariants.{Less, Equal}
 use Rattle.std.proofs.lemmas.Bool.{cases_Bool}
 use Rattle.std.proofs.lemmas.Cmp.{tied_itself}
-use Rattle.std.proofs.lemmas.List.Elements.{filter-append}
 use Rattle.fare_table.specs.Fares.{Fares}
 use Rattle.account_rule.specs.Replies.{reply}
 use Rattle.account_rule.specs.TokenRules.{rules_of}
 use Rattle.shard_book.specs.Entry.{is_of, own, tap_of, taps_of}
 use Rattle.shard_book.specs.History.{IsLegal, IsReplied}
-use Rattle.fare_table.specs.Token.{bytes_of, token_cmp, token_eq}
+use Rattle.tap_views.specs.Token.{bytes_of, token_cmp, token_eq}
 use Rattle.shard_book.specs.declared.entry.Entry.{Entry}
-use Rattle.fare_table.specs.declared.token.Token.{Token}
-use Rattle.shard_book.proofs.Histories.{same_token, token_eq-refl}
-use Rattle.shard_book.proofs.TokenLemmas.{token_cmp-total}
+use Rattle.tap_views.specs.declared.token.Token.{Token}
+use Rattle.ledger_texts.proofs.Rising.{own_here, own_none, own_not}
+use Rattle.tap_views.proofs.TokenLemmas.{same_token, token_eq-refl, token_cmp-total}
 
 -- each of these is the token's
 abbrev pub AllOf : Token → List Entry → Type 0
@@ -36,22 +35,6 @@ pub all_read : {X : Type 0} (P : X → Type 0) (xs : List X) → AllByRecursion 
 all_read P [] all k d within = absurd (omega arith)
 all_read P (x ∷ xs) all zero d within = all.0
 all_read P (x ∷ xs) all (suc k) d within = all_read P xs all.1 k d (omega arith)
-
-own_here : (token : Token) (entry : Entry) (entries : List Entry) → is_of token entry ≡ true → own token (entry ∷ entries) ≡ entry ∷ own token entries
-unfolding own
-own_here token entry entries is = ap (λ (b : Bool). cond b (entry ∷ filter (is_of token) entries) (filter (is_of token) entries)) is
-
-pub own_not : (token : Token) (entry : Entry) (entries : List Entry) → is_of token entry ≡ false → own token (entry ∷ entries) ≡ own token entries
-unfolding own
-own_not token entry entries is = ap (λ (b : Bool). cond b (entry ∷ filter (is_of token) entries) (filter (is_of token) entries)) is
-
-pub own_none : (token : Token) → own token [] ≡ []
-unfolding own
-own_none token = refl
-
-pub own_both : (token : Token) (entries more : List Entry) → own token (entries ++ more) ≡ own token entries ++ own token more
-unfolding own
-own_both token entries more = filter-append (is_of token) entries more
 
 is_own : (token : Token) (entry : Entry) → entry.token ≡ token → is_of token entry ≡ true
 is_own token entry is = ap (λ (t : Token). token_eq t token) is ∙ token_eq-refl token

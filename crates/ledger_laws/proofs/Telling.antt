@@ -7,11 +7,11 @@ use Rattle.fare_table.specs.Fares.{Fares}
 use Rattle.shard_book.specs.Entry.{own}
 use Rattle.shard_book.specs.SumsByKey.{token_of, tokens}
 use Rattle.shard_book.specs.History.{IsLegal}
-use Rattle.fare_table.specs.Token.{token_cmp}
+use Rattle.tap_views.specs.Token.{token_cmp}
 use Rattle.shard_book.specs.declared.entry.Entry.{Entry}
-use Rattle.fare_table.specs.declared.token.Token.{Token}
+use Rattle.tap_views.specs.declared.token.Token.{Token}
 use Rattle.shard_book.proofs.RisingLemmas.{rising-is}
-use Rattle.shard_book.proofs.TokenLemmas.{token_cmp-total, token_cmp-ties}
+use Rattle.tap_views.proofs.TokenLemmas.{token_cmp-total, token_cmp-ties}
 use Rattle.reason_texts.specs.Ledger.{AreLedgerLinesAfter, IsLedgerLine, head_text, reason_after}
 use Rattle.ledger_texts.specs.Ledger.{AreLinesOfEach, IsLedgerOver, tokens_told}
 use Rattle.ledger_check.specs.Ledger.{AreNext, IsLedgerOf, IsNextLine, IsNext, IsPostable, token_number}
@@ -20,7 +20,8 @@ use Rattle.ledger_check.proofs.LineLemmas.{lacks-tested, lines-line}
 use Rattle.ledger_check.proofs.TokenOrder.{less_number}
 use Rattle.ledger_laws.specs.Written.{AreLetters, AreShort, CanBeTold, told_entries}
 use Rattle.ledger_laws.proofs.Lacking.{line_ends_once}
-use Rattle.ledger_laws.proofs.Owned.{AllOf, all_append, all_parts, all_read, all_weaker, own_all, own_below, own_both, own_each, replied_same}
+use Rattle.ledger_texts.proofs.Rising.{own_both}
+use Rattle.ledger_laws.proofs.Owned.{AllOf, all_append, all_parts, all_read, all_weaker, own_all, own_below, own_each, replied_same}
 
 abbrev Short : List ℕ → Type 0
 Short line = length line ≤ 255

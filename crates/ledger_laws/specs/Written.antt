@@ -7,7 +7,7 @@ use Rattle.shard_book.specs.Book.{AreOfShard, Book, EachBook}
 use Rattle.shard_book.specs.Entry.{own}
 use Rattle.shard_book.specs.History.{IsLegal}
 use Rattle.shard_book.specs.declared.entry.Entry.{Entry}
-use Rattle.fare_table.specs.declared.token.Token.{Token}
+use Rattle.tap_views.specs.declared.token.Token.{Token}
 use Rattle.ledger_check.specs.Ledger.{IsPostable}
 use Rattle.ledger_check.specs.Lines.{lines_of}
 use Rattle.ledger_texts.specs.Ledger.{tokens_told}

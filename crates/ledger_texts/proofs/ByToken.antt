@@ -12,12 +12,11 @@ use Rattle.fare_table.specs.Fares.{Fares}
 use Rattle.shard_book.specs.Entry.{own}
 use Rattle.shard_book.specs.SumsByKey.{token_of, tokens}
 use Rattle.shard_book.specs.Rising.{IsRising, rising}
-use Rattle.fare_table.specs.Token.{token_cmp, token_eq}
+use Rattle.tap_views.specs.Token.{token_cmp, token_eq}
 use Rattle.shard_book.specs.declared.entry.Entry.{Entry}
-use Rattle.fare_table.specs.declared.token.Token.{Token}
-use Rattle.shard_book.proofs.Histories.{same_token, token_eq-refl, token_eq-sym}
+use Rattle.tap_views.specs.declared.token.Token.{Token}
+use Rattle.tap_views.proofs.TokenLemmas.{same_token, token_eq-refl, token_eq-sym, token_cmp-total, token_cmp-ties}
 use Rattle.shard_book.proofs.RisingLemmas.{rising-only}
-use Rattle.shard_book.proofs.TokenLemmas.{token_cmp-total, token_cmp-ties}
 use Rattle.reason_texts.specs.Ledger.{AreLedgerLinesAfter, AreLedgerLines, IsLedgerLine, reason_after}
 use Rattle.ledger_texts.specs.Ledger.{AreLinesOfEach}
 use Rattle.ledger_texts.specs.Lines.{AreLinesAlong, AreUpTo, IsLineAfter, IsUpTo}

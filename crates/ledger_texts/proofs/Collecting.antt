@@ -7,7 +7,7 @@ use Rattle.shard_book.specs.Book.{Book}
 use Rattle.shard_book.specs.Entry.{own}
 use Rattle.shard_book.specs.SumsByKey.{all_entries}
 use Rattle.shard_book.specs.declared.entry.Entry.{Entry}
-use Rattle.fare_table.specs.declared.token.Token.{Token}
+use Rattle.tap_views.specs.declared.token.Token.{Token}
 use Rattle.ledger_texts.specs.inside.Spots.{book_at, entry_in, entry_at_spot, no_entry, place_at, entries_at_spots}
 use Rattle.ledger_texts.specs.declared.spot.Spot.{Spot}
 use Rattle.ledger_texts.proofs.Rising.{own_both}

@@ -3,12 +3,14 @@ use Rattle.std.specs.Prelude.{codes}
 use Rattle.std.proofs.Common.{◌≡◌, ℕ, ◌+◌, ◌<◌, List, [], ◌∷◌, ◌++◌, length, get_or, take, Option}
 use Rattle.std.proofs.Common.{refl, sym, ap, subst, ◌∙◌, append_assoc, append-nil}
 use Rattle.jiff_tz.specs.declared.posix.TimeZone.{TimeZone as PosixRule}
+use Rattle.account_rule.specs.declared.no_transfer.NoTransfer.{NoTransfer}
 use Rattle.account_rule.specs.declared.reason.Reason.{Reason}
 use Rattle.account_rule.specs.declared.window.WindowView.{WindowView}
 use Rattle.fare_table.specs.Fares.{Fares}
 use Rattle.shard_book.specs.declared.entry.Entry.{Entry}
-use Rattle.fare_table.specs.declared.token.Token.{Token}
+use Rattle.tap_views.specs.declared.token.Token.{Token}
 use Rattle.reason_texts.specs.Ledger.{reason_after}
+use Rattle.reason_texts.specs.NoTransferWords.{no_transfer_after}
 use Rattle.reason_texts.proofs.LineLists.{taken}
 use Rattle.ledger_texts.specs.Explained.{AreEarlierLines, AreExplainedAfter, IsExplainedLine}
 use Rattle.ledger_texts.specs.Explained.{IsExplainedWindow}
@@ -18,13 +20,14 @@ use Rattle.std.proofs.Common.{add-one}
 lines-push : (fares : Fares) (token : Token) (earlier entries : List Entry) (entry : Entry)
     (text line : List ℕ)
     → AreExplainedAfter fares token earlier entries text
-    → IsExplainedLine fares entry (reason_after fares token (earlier ++ entries) entry) line
+    → IsExplainedLine fares entry (reason_after fares token (earlier ++ entries) entry)
+    (no_transfer_after fares token (earlier ++ entries) entry) line
     → AreExplainedAfter fares token earlier (entries ++ entry ∷ []) (text ++ line)
 lines-push fares token earlier [] entry text line empty is = (
   line,
   [],
-  subst (λ (es : List Entry). IsExplainedLine fares entry (reason_after fares token es entry) line)
-      (append-nil earlier) is,
+  subst (λ (es : List Entry). IsExplainedLine fares entry (reason_after fares token es entry)
+      (no_transfer_after fares token es entry) line) (append-nil earlier) is,
   refl,
   ap (λ t. t ++ line) empty ∙ sym (append-nil line),
 )
@@ -35,7 +38,8 @@ lines-push fares token earlier (first ∷ entries) entry text line (start, rest,
       shown,
       lines-push fares token (earlier ++ first ∷ []) entries entry rest line are
           (subst (λ (es : List Entry).
-          IsExplainedLine fares entry (reason_after fares token es entry) line)
+          IsExplainedLine fares entry (reason_after fares token es entry)
+          (no_transfer_after fares token es entry) line)
           (sym (append_assoc earlier (first ∷ []) entries)) is),
       ap (λ t. t ++ line) whole ∙ append_assoc start rest line,
     )
@@ -43,18 +47,21 @@ lines-push fares token earlier (first ∷ entries) entry text line (start, rest,
 -- the lines of the first entries, and the next one's
 pub next_explained : (fares : Fares) (token : Token) (entries : List Entry) (place : ℕ)
     (other : Entry)
-    → place < length entries → (text line : List ℕ) (why : Reason)
+    → place < length entries → (text line : List ℕ) (why : Reason) (none : Option NoTransfer)
     → why ≡ reason_after fares token (take place entries) (get_or entries place other)
+    → none ≡ no_transfer_after fares token (take place entries) (get_or entries place other)
     → AreExplainedAfter fares token [] (take place entries) text
-    → IsExplainedLine fares (get_or entries place other) why line
+    → IsExplainedLine fares (get_or entries place other) why none line
     → AreExplainedAfter fares token [] (take (place + 1) entries) (text ++ line)
-next_explained fares token entries place other within text line why is_why are is =
+next_explained fares token entries place other within text line why none is_why is_none are is =
     let done = take place entries in
     let entry = get_or entries place other in
     subst (λ (es : List Entry). AreExplainedAfter fares token [] es (text ++ line))
     (sym (taken entries place other within))
     (lines-push fares token [] done entry text line are
-    (subst (λ (w : Reason). IsExplainedLine fares entry w line) is_why is))
+    (subst (λ (n : Option NoTransfer).
+    IsExplainedLine fares entry (reason_after fares token done entry) n line) is_none
+    (subst (λ (w : Reason). IsExplainedLine fares entry w none line) is_why is)))
 
 windows-push : (clocks : Option PosixRule) (windows : List WindowView) (window : WindowView)
     (text line : List ℕ)

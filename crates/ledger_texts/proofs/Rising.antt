@@ -11,11 +11,10 @@ use Rattle.std.proofs.lemmas.Cmp.{tied_itself}
 use Rattle.std.proofs.lemmas.List.Elements.{filter-append}
 use Rattle.std.proofs.lemmas.List.Sorted.{ranks_by}
 use Rattle.shard_book.specs.Entry.{is_of, own}
-use Rattle.fare_table.specs.Token.{token_cmp, token_eq}
+use Rattle.tap_views.specs.Token.{token_cmp, token_eq}
 use Rattle.shard_book.specs.declared.entry.Entry.{Entry}
-use Rattle.fare_table.specs.declared.token.Token.{Token}
-use Rattle.shard_book.proofs.Histories.{same_token, token_eq-refl}
-use Rattle.shard_book.proofs.TokenLemmas.{token_cmp-total, token_cmp-ties}
+use Rattle.tap_views.specs.declared.token.Token.{Token}
+use Rattle.tap_views.proofs.TokenLemmas.{same_token, token_eq-refl, token_cmp-total, token_cmp-ties}
 use Rattle.ledger_texts.specs.Lines.{AreUpTo, IsUpTo, NoFallFrom}
 
 -- ---- the order of tokens

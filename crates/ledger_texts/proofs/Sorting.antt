@@ -7,14 +7,14 @@ use Rattle.std.proofs.lemmas.Bool.{false≢true}
 use Rattle.std.proofs.lemmas.Bool.Decides.{nat_tests}
 use Rattle.std.proofs.lemmas.List.Sorted.{IsPermutation-map, list_any-IsPermutation}
 use Rattle.shard_book.specs.Entry.{is_of, own}
-use Rattle.fare_table.specs.Token.{token_cmp, token_eq}
+use Rattle.tap_views.specs.Token.{token_cmp, token_eq}
 use Rattle.shard_book.specs.declared.entry.Entry.{Entry}
-use Rattle.fare_table.specs.declared.token.Token.{Token}
+use Rattle.tap_views.specs.declared.token.Token.{Token}
 use Rattle.ledger_texts.specs.Lines.{NoFall, NoFallFrom}
 use Rattle.ledger_texts.specs.inside.ByToken.{IsByToken}
 use Rattle.ledger_texts.specs.inside.Spots.{entry_at_spot, entries_at_spots}
 use Rattle.ledger_texts.specs.declared.spot.Spot.{Spot}
-use Rattle.shard_book.proofs.Histories.{same_token}
+use Rattle.tap_views.proofs.TokenLemmas.{same_token}
 use Rattle.shard_book.specs.Book.{Book}
 
 abbrev pub key : List Book → Spot → Token

@@ -7,7 +7,7 @@ use Rattle.shard_book.specs.Book.{Book}
 use Rattle.shard_book.specs.Entry.{own}
 use Rattle.shard_book.specs.SumsByKey.{all_entries, tokens}
 use Rattle.shard_book.specs.declared.entry.Entry.{Entry}
-use Rattle.fare_table.specs.declared.token.Token.{Token}
+use Rattle.tap_views.specs.declared.token.Token.{Token}
 use Rattle.reason_texts.specs.Ledger.{AreLedgerLines, head_text}
 use Rattle.ledger_texts.specs.Ledger.{AreLinesOfEach, IsLedgerOfBooks, IsLedgerOver}
 use Rattle.ledger_texts.specs.Lines.{AreLinesAlong}

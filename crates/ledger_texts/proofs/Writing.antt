@@ -6,10 +6,10 @@ use Rattle.std.proofs.lemmas.List.{get_or-map, length-map}
 use Rattle.std.proofs.Math.Seq.{take-suc}
 use Rattle.fare_table.specs.Fares.{Fares}
 use Rattle.shard_book.specs.Entry.{own}
-use Rattle.fare_table.specs.Token.{token_eq}
+use Rattle.tap_views.specs.Token.{token_eq}
 use Rattle.shard_book.specs.declared.entry.Entry.{Entry}
-use Rattle.fare_table.specs.declared.token.Token.{Token}
-use Rattle.shard_book.proofs.Histories.{token_eq-refl}
+use Rattle.tap_views.specs.declared.token.Token.{Token}
+use Rattle.tap_views.proofs.TokenLemmas.{token_eq-refl}
 use Rattle.reason_texts.specs.Tellers.{HasTold}
 use Rattle.ledger_texts.specs.Lines.{AreLinesAlong, AreUpTo, HasCome, IsLineAfter, IsUpTo, NoFall, NoFallFrom}
 use Rattle.ledger_texts.specs.inside.Spots.{entry_at_spot, entries_at_spots}

@@ -9,6 +9,7 @@ use Rattle.fare_table.specs.Fares.{Fares, terms_at}
 use Rattle.fare_table.specs.declared.terms.Terms.{Terms}
 use Rattle.account_rule.specs.TokenRules.{TokenRules, rules_of}
 use Rattle.account_rule.specs.Windows.{last_window, shown_window, windows}
+use Rattle.account_rule.specs.declared.no_transfer.NoTransfer.{NoTransfer}
 use Rattle.account_rule.specs.declared.reason.Reason.{Reason}
 use Rattle.account_rule.specs.declared.tap.TapIn.{TapIn}
 use Rattle.account_rule.specs.declared.window.WindowView.{WindowView}
@@ -16,14 +17,15 @@ use Rattle.shard_book.specs.Book.{Book}
 use Rattle.shard_book.specs.Entry.{own, tap_of}
 use Rattle.shard_book.specs.SumsByKey.{all_entries}
 use Rattle.shard_book.specs.Sums.{sums}
-use Rattle.fare_table.specs.Token.{bytes_of}
+use Rattle.tap_views.specs.Token.{bytes_of}
 use Rattle.shard_book.specs.declared.entry.Entry.{Entry}
-use Rattle.fare_table.specs.declared.token.Token.{Token}
+use Rattle.tap_views.specs.declared.token.Token.{Token}
 use Rattle.fare_texts.specs.Counts.{totals_line}
 use Rattle.fare_texts.specs.Local.{IsLocal}
 use Rattle.fare_texts.specs.Moments.{IsMomentText}
 use Rattle.fare_texts.specs.StatementText.{entry_words, statement_head, window_words}
 use Rattle.reason_texts.specs.Ledger.{reason_after}
+use Rattle.reason_texts.specs.NoTransferWords.{IsNoTransferEnd, no_transfer_after}
 use Rattle.reason_texts.specs.ReasonWords.{IsReasonWords}
 
 -- all elements but the last
@@ -43,25 +45,30 @@ terms_line terms =
     codes "terms fare " ++ (decimal terms.fare ++ (codes " rides " ++ (decimal terms.rides
     ++ (codes " ceiling " ++ (decimal terms.ceiling ++ codes "\n")))))
 
--- the entry's line of a statement, then its reason, and under a zone what clocks showed, as
--- `2024-03-08T17:00:00.000Z subway 1000 paid 300 because .., local 2024-03-08T12:00:00-05:00`
-pub record IsExplainedLine (fares : Fares) (entry : Entry) (why : Reason) (line : List ℕ)
-    : Type 0 where
+-- the entry's line of a statement, then its reason, why a ride is no transfer, and under a zone
+-- what clocks showed, as `2024-03-08T17:00:00.000Z subway 1000 paid 300 because .., no transfer
+-- since .., local 2024-03-08T12:00:00-05:00`
+pub record IsExplainedLine (fares : Fares) (entry : Entry) (why : Reason)
+    (none : Option NoTransfer) (line : List ℕ) : Type 0 where
   pub moment : List ℕ
   pub is : IsMomentText entry.moment moment
   pub reason_words : List ℕ
   pub told : IsReasonWords fares why reason_words
+  pub lack : List ℕ
+  pub lacks : IsNoTransferEnd fares entry.moment why none lack
   pub local : List ℕ
   pub at : IsLocal fares.zone (codes ", local ") entry.moment local
-  pub shown : line ≡ moment ++ (entry_words fares entry ++ (reason_words ++ (local ++ codes "\n")))
+  pub shown : line ≡ moment ++ (entry_words fares entry ++ (reason_words ++ (lack ++ (local
+      ++ codes "\n"))))
 
 -- a line for each of the token's entries that follow the earlier ones, each with the reason that it
--- has after those before it
+-- has after those before it, and if it is a ride, why it is no transfer after them
 abbrev pub AreExplainedAfter : Fares → Token → List Entry → List Entry → List ℕ → Type 0
 AreExplainedAfter fares token earlier [] text = text ≡ []
 AreExplainedAfter fares token earlier (entry ∷ entries) text =
     (line : List ℕ) × (rest : List ℕ)
-    × IsExplainedLine fares entry (reason_after fares token earlier entry) line
+    × IsExplainedLine fares entry (reason_after fares token earlier entry)
+    (no_transfer_after fares token earlier entry) line
     × AreExplainedAfter fares token (earlier ++ entry ∷ []) entries rest
     × (text ≡ line ++ rest)
 

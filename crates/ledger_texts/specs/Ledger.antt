@@ -5,7 +5,7 @@ use Rattle.shard_book.specs.Book.{Book}
 use Rattle.shard_book.specs.Entry.{own}
 use Rattle.shard_book.specs.SumsByKey.{all_entries, tokens}
 use Rattle.shard_book.specs.declared.entry.Entry.{Entry}
-use Rattle.fare_table.specs.declared.token.Token.{Token}
+use Rattle.tap_views.specs.declared.token.Token.{Token}
 use Rattle.reason_texts.specs.Ledger.{AreLedgerLines, head_text}
 
 -- whose lines a ledger has: those of the one token that is asked for, or of all tokens of the

@@ -3,9 +3,9 @@ use Rattle.std.specs.Prelude.{◌≡◌, ℕ, false, List, [], ◌∷◌, ◌++�
 use Rattle.std.specs.Ordering.{is_lt}
 use Rattle.fare_table.specs.Fares.{Fares}
 use Rattle.shard_book.specs.Entry.{own}
-use Rattle.fare_table.specs.Token.{token_cmp}
+use Rattle.tap_views.specs.Token.{token_cmp}
 use Rattle.shard_book.specs.declared.entry.Entry.{Entry}
-use Rattle.fare_table.specs.declared.token.Token.{Token}
+use Rattle.tap_views.specs.declared.token.Token.{Token}
 use Rattle.reason_texts.specs.Ledger.{IsLedgerLineAfter}
 use Rattle.reason_texts.specs.Tellers.{HasTold}
 use Rattle.reason_texts.specs.declared.teller.Teller.{Teller}

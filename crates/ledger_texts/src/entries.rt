@@ -8,9 +8,9 @@ ghost use Rattle.ledger_texts.specs.inside.ByToken.{IsByToken};
 ghost use Rattle.ledger_texts.specs.inside.Spots.{entries_at_spots};
 
 use crate::spot::Spot;
-use fare_table::NoMemory;
-use shard_book::{Entry, ShardBook, Token};
+use shard_book::{Entry, ShardBook};
 use std::alloc::Global;
+use tap_views::{NoMemory, Token};
 
 /// How many entries the books have.
 fn count(books: &[ShardBook]) -> usize {

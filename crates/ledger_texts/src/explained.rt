@@ -15,12 +15,13 @@ mod windows;
 use crate::entries::own_of;
 use crate::ledger::table_of;
 use crate::lines::pass_on;
-use fare_table::{FareTable, NoMemory, Terms};
+use fare_table::{FareTable, Terms};
 use fare_texts::{PrintFault, write_statement_head, write_totals};
 use lines::write_lines;
-use shard_book::{Entry, ShardBook, Token, totals_of_entries};
+use shard_book::{Entry, ShardBook, totals_of_entries};
 use std::alloc::{AllocError, Global};
 use std::io::Write;
+use tap_views::{NoMemory, Token};
 use window_lines::write_windows;
 
 /// Appends the line of the token's terms.

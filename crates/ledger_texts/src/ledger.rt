@@ -17,12 +17,13 @@ ghost use Rattle.ledger_texts.specs.inside.Spots.{entries_at_spots};
 use crate::entries::{by_token, own_of};
 use crate::lines::{PIECE_BYTES, pass_on, write_lines};
 use crate::spot::Spot;
-use fare_table::{FareTable, NoMemory};
+use fare_table::FareTable;
 use fare_texts::PrintFault;
 use reason_texts::{head_line, write_token_lines};
-use shard_book::{Entry, ShardBook, Token};
+use shard_book::{Entry, ShardBook};
 use std::alloc::Global;
 use std::io::Write;
+use tap_views::{NoMemory, Token};
 
 /// More bytes than a line has.
 pub const LINE_ROOM_BYTES: usize = 1_024;

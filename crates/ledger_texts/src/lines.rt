@@ -7,15 +7,16 @@ ghost use Rattle.ledger_texts.specs.Lines.{AreLinesAlong, HasCome, IsUpTo, NoFal
 ghost use Rattle.ledger_texts.specs.Lines.{NoFallFrom};
 ghost use Rattle.ledger_texts.specs.inside.Spots.{entries_at_spots};
 ghost use Rattle.fare_table.specs.Fares.{Fares};
-ghost use Rattle.fare_table.specs.declared.token.Token.{Token};
+ghost use Rattle.tap_views.specs.declared.token.Token.{Token};
 ghost use Rattle.shard_book.specs.declared.entry.Entry.{Entry};
 
 use crate::spot::Spot;
 use fare_table::{Clock, FareTable};
 use fare_texts::{PrintFault, write_out};
 use reason_texts::Teller;
-use shard_book::{ShardBook, Token};
+use shard_book::ShardBook;
 use std::io::Write;
+use tap_views::Token;
 
 /// How many bytes wait at least before they are written out: so many that a write is little beside
 /// them.

@@ -5,8 +5,8 @@ ghost use Rattle.ledger_texts.specs.inside.Spots.{book_at, entry_in, entry_at_sp
 ghost use Rattle.ledger_texts.specs.inside.Spots.{place_at};
 
 use account_rule::Answer;
-use fare_table::NoMemory;
-use shard_book::{Entry, ShardBook, Token};
+use shard_book::{Entry, ShardBook};
+use tap_views::{NoMemory, Token};
 
 /// 2^16, above the place of every book among the books.
 const MAX_BOOKS: u64 = 65_536;
@@ -26,7 +26,7 @@ fn nothing() -> Entry
     ensures { result ≡ no_entry }
 {
     // proof: the token of 16 zero bytes is that of two zero numbers
-    shard_book::laws::same_bytes_same_token();
+    tap_views::laws::same_bytes_same_token();
     let token = Token::of(&[0; 16]);
     Entry {
         token,

@@ -8,7 +8,7 @@ use std::alloc::Global;
 use std::hash::BuildHasher;
 use std::random::RandomSource;
 use std::test::Fail;
-use tap_views::{Batch, TapFields, encode};
+use tap_views::{Batch, TapFields, Token, encode};
 
 /// Taps, paid, transfers, capped, stale, unknown and cents.
 fn shown(totals: &Totals) -> [u128; 7] {

@@ -2,13 +2,13 @@
 
 ghost use Rattle.std.specs.Prelude.{◌≡◌, IfOk};
 
-use fare_table::NoMemory;
 use shared_books::{Draw, Drawer};
 use std::alloc::Global;
 use std::process::Abort;
 use std::test::Fail;
 use std::thread;
 use std::thread::Threads;
+use tap_views::NoMemory;
 
 #[test]
 fn no_number_is_drawn_of_none(rt: HostRuntime) -> Result<(), Fail> {

@@ -2,7 +2,7 @@
 
 use sample_table::bytes_of;
 pub(crate) use sample_table::{BUS, SAMPLE, START, SUBWAY, rides, tap};
-use shard_book::Token;
+use tap_views::Token;
 
 /// The token whose last byte is the given one and whose other bytes are 0.
 pub(crate) fn token(last: u8) -> Token {

@@ -3,7 +3,7 @@
 ghost use Rattle.std.specs.Prelude.{◌≡◌, ◌^◌, ◌≤◌, IfOk, IfSome};
 
 use crate::sample::{BUS, SAMPLE, START, SUBWAY, tap, token};
-use fare_table::{Clock, FareTable, NoMemory};
+use fare_table::{Clock, FareTable};
 use shard_book::{HashSeed, Lines, Replies, RunEnd, ShardBook};
 use shared_books::{Missing, Pass, ReadFault, SharedBook};
 use std::alloc::Global;
@@ -13,7 +13,7 @@ use std::sync::Wait;
 use std::test::Fail;
 use std::thread;
 use std::thread::Threads;
-use tap_views::{Batch, TapFields};
+use tap_views::{Batch, NoMemory, TapFields};
 
 /// A book that is the only one of its service, shared from the number on, with its first pass and
 /// its clock.

@@ -1,3 +1,6 @@
 pub mod FindingLemmas
+pub mod FullFindingLemmas
 pub mod ProgramLemmas
 pub mod ReadLemmas
+pub mod TapLines
+pub mod Written

@@ -1,19 +1,23 @@
 -- What was loaded, one more each time, and what the program compares.
-use Rattle.std.proofs.Common.{◌≡◌, ◌∙◌, ℕ, Bool, false, not, List, [], ◌∷◌, ◌++◌, length, map, refl, sym, ap, subst, append-nil, append_assoc, nat_eq, Option, Some, None, if◌then◌else◌, Bor, ◌<◌, zero, suc, get_or, inl, inr, arith, codes}
-use Rattle.std.specs.Prelude.{IfErr, IfSome, Result, Ok, Err, unwrap_or}
-use Rattle.std.specs.Result.{IsErrAnd}
+use Rattle.std.proofs.Common.{◌≡◌, ◌∙◌, ℕ, Bool, true, false, not, List, [], ◌∷◌, ◌++◌, length, map, refl, sym, ap, subst, append-nil, append_assoc, nat_eq, Option, Some, None, if◌then◌else◌, Bor, ◌<◌, zero, suc, get_or, inl, inr, arith, codes}
+use Rattle.std.specs.Prelude.{IfErr, IfSome, Result, Ok, Err, option_map, unwrap_or}
+use Rattle.std.specs.Result.{IsErrAnd, IsErrOf}
+use Rattle.fare_table.specs.declared.fault.TableFault.{TableFault}
 use Rattle.std.proofs.lemmas.Bool.Decides.{nat_tests}
 use Rattle.std.proofs.lemmas.List.{map-append}
 use Rattle.clap.specs.Words.{Text}
 use Rattle.tap_balance.specs.Balances.{AreGoodFields}
 use Rattle.tap_views.specs.declared.encoder.TapFields.{TapFields}
-use Rattle.omny_audit.specs.Fault.{IsOneOf, NamesOneOf, named_by}
+use Rattle.omny_audit.specs.Fault.{IsOneOf, IsRightFault, NamesOneOf, is_unwritten, named_by}
 use Rattle.omny_audit.specs.Options.{AuditAsked, files_of}
 use Rattle.omny_audit.specs.declared.fault.Fault.{Fault}
-use Rattle.omny_audit.specs.Program.{AreGoodFieldsOfAll, LoadsNamedFiles, compared}
-use Rattle.omny_audit.specs.Source.{OpensOne}
+use Rattle.omny_audit.specs.declared.fault.Fault.TheVariants.{File, Ledger, Table, Write, Closed, NoMemory}
+use Rattle.omny_audit.specs.Program.{AreGoodFieldsOfAll, IsRightAuditFault, LoadsNamedFiles, compared}
+use Rattle.omny_audit.specs.Source.{OpensOne, Refuses, TellsRefusal}
+use Rattle.omny_audit.specs.inside.Fault.{is_of_loading}
 use Rattle.omny_audit.specs.inside.Source.{IsAllOf}
 use Rattle.program_manners.specs.Loads.{Loaded, Tells, TellsOne}
+use Rattle.program_manners.specs.declared.loading.LoadFault.{LoadFault}
 
 pub tells_none : (told : Option (List Loaded)) → Tells told told []
 tells_none None = tt
@@ -127,3 +131,49 @@ loads_same names same told told' files is loads = subst (λ (ns : List (Bor Text
 
 pub names_same : (names same : List (Bor Text)) (fault : Fault) → names ≡ same → NamesOneOf (map (λ n. n.now) names) fault → NamesOneOf (map (λ n. n.now) same) fault
 names_same names same fault is one = subst (λ (ns : List (Bor Text)). NamesOneOf (map (λ n. n.now) ns) fault) is one
+
+-- a fault that comes after all files were loaded
+pub right_later : (table : Text) (told told' : Option (List Loaded)) (refused : Option (Option (List ℕ) × LoadFault)) (fault : Fault)
+    → is_of_loading fault ≡ false → IsRightFault table told told' refused fault
+right_later table told told' refused (File file) later = absurd (cc)
+right_later table told told' refused Ledger later = tt
+right_later table told told' refused (Table fault) later = absurd (cc)
+right_later table told told' refused Write later = tt
+right_later table told told' refused Closed later = tt
+right_later table told told' refused NoMemory later = tt
+
+-- what two clauses say of an error
+pub both_err : {A : Type 0} (r : Result A Fault) (P Q R : Fault → Type 0) → ((fault : Fault) → P fault → Q fault → R fault) → IfErr r P → IfErr r Q → IfErr r R
+both_err (Ok x) P Q R both p q = tt
+both_err (Err e) P Q R both p q = both e p q
+
+-- a fault of loading is no write that failed
+pub written_first : (asked : AuditAsked) (told told' : Option (List Loaded)) (refused : Option (Option (List ℕ) × LoadFault)) (fault : Fault) (out out' : Option (List ℕ))
+    → is_unwritten fault ≡ false → IsRightFault asked.table told told' refused fault → IsRightAuditFault asked told told' refused fault out out'
+written_first asked told told' refused fault out out' written right = record {
+  right = right;
+  begun = λ all un. absurd (apart (sym written ∙ un));
+}
+  where
+    apart : false ≡ true → ⊥
+    apart same = cc
+
+-- what the source tells of a load that it refused
+pub refusal_told : (refused : Option (Option (List ℕ) × LoadFault)) (name : Option (List ℕ)) (fault : LoadFault) → Refuses refused name fault
+    → TellsRefusal refused (unwrap_or name (codes "standard input")) fault
+refusal_told None name fault is = tt
+refusal_told (Some one) name fault is = (ap (λ (n : Option (List ℕ)). unwrap_or n (codes "standard input")) is.0, is.1)
+
+-- a name that is lent, or what stands for it
+pub lent_name : (name : Option (Bor Text)) (usual : Bor Text) → (unwrap_or name usual).now ≡ unwrap_or (option_map (λ n. n.now) name) usual.now
+lent_name None usual = refl
+lent_name (Some n) usual = refl
+
+-- an error is one
+pub one_error : {A : Type 0} (r : Result A TableFault) (fault other : TableFault) → r ≡ Err fault → IsErrOf r other → fault ≡ other
+one_error r fault other same is = cc
+
+-- what is left behind where a write failed
+pub unwritten_on : {A : Type 0} (r : Result A Fault) (P : Type 0) → P → IfErr r (λ fault. is_unwritten fault ≡ true → P)
+unwritten_on (Ok x) P is = tt
+unwritten_on (Err e) P is = λ un. is

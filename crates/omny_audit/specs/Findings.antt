@@ -1,17 +1,19 @@
 -- What is found of a ledger's text.
 use Rattle.std.specs.Prelude.{◌≡◌, ◌↔◌, ℕ, Bool, true, false, List, [], ◌++◌, map, Option, None}
-use Rattle.std.specs.Prelude.{Some}
+use Rattle.std.specs.Prelude.{Some, ◌&&◌, nat_eq}
 use Rattle.std.specs.List.Sorted.{IsPermutation}
 use Rattle.fare_table.specs.Fares.{Fares}
 use Rattle.shard_book.specs.declared.entry.Entry.{Entry}
 use Rattle.ledger_check.specs.Ledger.{IsLedgerOf}
+use Rattle.ledger_check.specs.Recounts.{IsRecount, TakenLine, recount_text, taps_from, wrong_count}
 use Rattle.ledger_check.specs.Struck.{tap_of_entry}
 use Rattle.ledger_check.specs.Verdicts.{IsVerdict, is_legal}
 use Rattle.ledger_check.specs.declared.checker.Verdict.{Verdict}
 use Rattle.tap_balance.specs.Balances.{IsDifference}
+use Rattle.tap_balance.specs.FullBalances.{AreLacking}
 use Rattle.tap_balance.specs.declared.balance.Difference.{Difference}
 use Rattle.tap_views.specs.declared.encoder.TapFields.{TapFields}
-use Rattle.omny_audit.specs.Text.{IsDifferenceText, verdict_text}
+use Rattle.omny_audit.specs.Text.{IsDifferenceText, IsDifferencesText, are_none, verdict_text}
 
 -- the difference is that of the good taps and the ledger's, whatever entries the ledger has
 abbrev pub IsDifferenceOf : Fares → List ℕ → List TapFields → Option Difference → Type 0
@@ -60,4 +62,37 @@ abbrev pub FindingsDecide : Type 0
 FindingsDecide =
     (fares : Fares) (text : List ℕ) (good : Option (List TapFields)) (told : List ℕ)
     (well : Bool) → IsFinding fares text good told well
+    → (well ≡ true) ↔ IsRightLedger fares text good
+
+-- What follows a recount, which found the ledger legal or not: nothing, or, if there are uploads,
+-- how the taps that its lines tell differ from theirs. It is well if the ledger is legal and there
+-- is no difference.
+abbrev pub IsDifferencesEnd : Option (List TapFields) → List TapFields → Bool → List ℕ → Bool
+    → Type 0
+IsDifferencesEnd None taps legal rest well = (rest ≡ []) × (well ≡ legal)
+IsDifferencesEnd (Some good) taps legal rest well =
+    (missing : List TapFields) × (surplus : List TapFields) × AreLacking good taps missing
+    × AreLacking taps good surplus × IsDifferencesText missing surplus rest
+    × (well ≡ (legal && are_none missing surplus))
+
+-- what is told of all lines of the text, beside the good taps of the uploads, if there are uploads:
+-- a recount, and the differences
+pub record IsFullFinding (fares : Fares) (text : List ℕ) (good : Option (List TapFields))
+    (told : List ℕ) (well : Bool) : Type 0 where
+  pub taken : List TakenLine
+  pub recount : IsRecount fares text taken
+  pub rest : List ℕ
+  pub shown : told ≡ recount_text taken ++ rest
+  pub second : IsDifferencesEnd good (taps_from taken) (nat_eq (wrong_count taken) 0) rest well
+
+-- the finding, of all lines or up to the first wrong one
+abbrev pub IsFindingOf : Bool → Fares → List ℕ → Option (List TapFields) → List ℕ → Bool → Type 0
+IsFindingOf true fares text good told well = IsFullFinding fares text good told well
+IsFindingOf false fares text good told well = IsFinding fares text good told well
+
+-- what is found of all lines is well exactly if the text is right
+abbrev pub FullFindingsDecide : Type 0
+FullFindingsDecide =
+    (fares : Fares) (text : List ℕ) (good : Option (List TapFields)) (told : List ℕ)
+    (well : Bool) → IsFullFinding fares text good told well
     → (well ≡ true) ↔ IsRightLedger fares text good

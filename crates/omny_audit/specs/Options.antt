@@ -1,16 +1,21 @@
 -- The command line, and what its words ask for.
-use Rattle.std.specs.Prelude.{◌≡◌, ◌⊎◌, List, [], ◌∷◌, ◌++◌, Option, None, Some, codes, true}
+use Rattle.std.specs.Prelude.{◌≡◌, ◌⊎◌, Bool, List, [], ◌∷◌, ◌++◌, Option, None, Some, codes, true}
 use Rattle.std.specs.Prelude.{if◌then◌else◌, option_and_then, unwrap_or}
 use Rattle.std.specs.Str.{bytes_eq}
 use Rattle.clap.specs.Words.{App, IsAmong, Rule, Text, all_of, fault_of, first_of, matches_of}
 use Rattle.clap.specs.Words.{with_rule}
 use Rattle.clap.specs.declared.builder.action.ArgAction.TheVariants.{Set}
 use Rattle.clap.specs.declared.error.kind.ErrorKind.TheVariants.{DisplayHelp, DisplayVersion}
-use Rattle.program_manners.specs.Words.{files_rule, named_app, option_rule, positional_rule}
+use Rattle.program_manners.specs.Words.{files_rule, flag_rule, is_given, named_app, option_rule}
+use Rattle.program_manners.specs.Words.{positional_rule}
 
 -- `--table F`, which has to be given
 abbrev pub required_table_option : Rule
 required_table_option = record (option_rule (codes "table")) { required = true }
+
+-- `--all`
+abbrev pub all_flag : Rule
+all_flag = flag_rule (codes "all")
 
 -- `--uploads FILE..`, as often as wanted
 abbrev pub uploads_option : Rule
@@ -23,8 +28,8 @@ ledger_argument = positional_rule (codes "LEDGER") Set
 -- all words that the program takes
 unfoldable pub audit_program : App
 audit_program =
-    with_rule (with_rule (with_rule (named_app (codes "omny_audit")) required_table_option)
-    uploads_option) ledger_argument
+    with_rule (with_rule (with_rule (with_rule (named_app (codes "omny_audit"))
+    required_table_option) all_flag) uploads_option) ledger_argument
 
 -- the words after the program's name are a command line of the program
 abbrev pub ParsesForAudit : List Text → Type 0
@@ -43,14 +48,16 @@ not_dash text = if bytes_eq text (codes "-") then None else Some text
 -- what a command line asks for
 pub record AuditAsked : Type 0 where
   pub table : Text
+  pub all : Bool
   pub uploads : List Text
   pub ledger : Option Text
 
--- the words' table, which no command line goes without; their uploads, in order; and the ledger's
--- file, where one is named
+-- the words' table, which no command line goes without; whether all wrong lines are asked for; their
+-- uploads, in order; and the ledger's file, if one is named
 abbrev pub audit_asked_by : List Text → AuditAsked
 audit_asked_by words = record {
   table = unwrap_or (first_of (codes "table") (matches_of audit_program words)) [];
+  all = is_given (codes "all") (matches_of audit_program words);
   uploads = unwrap_or (all_of (codes "uploads") (matches_of audit_program words)) [];
   ledger = option_and_then not_dash (first_of (codes "LEDGER") (matches_of audit_program words));
 }

@@ -7,11 +7,13 @@ use Rattle.fare_table.specs.Fares.{Fares}
 use Rattle.fare_table.specs.Meaning.{Means}
 use Rattle.tap_balance.specs.Balances.{AreGoodFields}
 use Rattle.tap_views.specs.declared.encoder.TapFields.{TapFields}
-use Rattle.omny_audit.specs.Findings.{IsFinding, IsRightLedger}
-use Rattle.omny_audit.specs.Fault.{audit_fault_text, is_quiet, is_unwritten}
+use Rattle.omny_audit.specs.Findings.{IsFindingOf, IsRightLedger}
+use Rattle.omny_audit.specs.Fault.{IsRightFault, audit_fault_text, is_quiet, is_unwritten}
 use Rattle.omny_audit.specs.Options.{AuditAsked}
+use Rattle.omny_audit.specs.Text.{Begins}
 use Rattle.program_manners.specs.Loads.{Loaded, Tells, TellsOne}
 use Rattle.program_manners.specs.LineWritten.{LineWritten}
+use Rattle.program_manners.specs.declared.loading.LoadFault.{LoadFault}
 use Rattle.omny_audit.specs.declared.fault.Fault.{Fault}
 
 -- The file of this name was loaded, and its text means these fares.
@@ -41,11 +43,11 @@ abbrev pub compared : List Text → List TapFields → Option (List TapFields)
 compared [] good = None
 compared (name ∷ names) good = Some good
 
--- The table was loaded, then the uploads, and then all of the ledger; what was appended to the
--- writer is the finding on the ledger's text beside the good taps of the uploads, if uploads are
--- named. It says that all is well, or not.
-pub record Audits (asked : AuditAsked) (told told' : Option (List Loaded))
-    (out out' : Option (List ℕ)) (well : Bool) : Type 0 where
+-- The table was loaded, then the uploads, and then all of the ledger; the text is the finding on the
+-- ledger's text beside the good taps of the uploads, if uploads are named. It says that all is well,
+-- or not.
+pub record HasFound (asked : AuditAsked) (told told' : Option (List Loaded)) (text : List ℕ)
+    (well : Bool) : Type 0 where
   pub after_table : Option (List Loaded)
   pub after_uploads : Option (List Loaded)
   pub fares : Fares
@@ -56,11 +58,24 @@ pub record Audits (asked : AuditAsked) (told told' : Option (List Loaded))
   pub are_good : AreGoodFieldsOfAll uploads good
   pub ledger : List ℕ
   pub loads_ledger : TellsOne after_uploads told' asked.ledger ledger
-  pub text : List ℕ
-  pub finding : IsFinding fares ledger (compared asked.uploads good) text well
+  pub finding : IsFindingOf asked.all fares ledger (compared asked.uploads good) text well
   -- well exactly if the text is, whole, a ledger of legal histories, with the taps of the uploads
   pub right : (well ≡ true) ↔ IsRightLedger fares ledger (compared asked.uploads good)
+
+-- what was appended to the writer is the text of what was found
+pub record Audits (asked : AuditAsked) (told told' : Option (List Loaded))
+    (out out' : Option (List ℕ)) (well : Bool) : Type 0 where
+  pub text : List ℕ
+  pub found : HasFound asked told told' text well
   pub written : Appends out out' text
+
+-- what was appended to the writer is a beginning of that text
+pub record BeginsAudit (asked : AuditAsked) (told told' : Option (List Loaded))
+    (out out' : Option (List ℕ)) : Type 0 where
+  pub text : List ℕ
+  pub well : Bool
+  pub found : HasFound asked told told' text well
+  pub begun : Begins out out' text
 
 -- The fault's line was told, unless a write of it failed. Where who reads the text has closed it,
 -- nothing is told.
@@ -68,8 +83,17 @@ abbrev pub IsFaultTold : Fault → Option (List ℕ) → Option (List ℕ) → B
 IsFaultTold fault said said' failed = MatchBool (is_quiet fault) (said' ≡ said)
     (LineWritten said said' failed (audit_fault_text fault))
 
--- The program gave up: the fault was told, and nothing was written but where a write failed.
-pub record AuditGaveUp (fault : Fault) (said said' : Option (List ℕ)) (failed : Bool)
+-- The program gave up: the fault was told, and nothing was written, unless a write failed or all
+-- wrong lines are asked for, which are written as they are found.
+pub record AuditGaveUp (all : Bool) (fault : Fault) (said said' : Option (List ℕ)) (failed : Bool)
     (out out' : Option (List ℕ)) : Type 0 where
   pub line_told : IsFaultTold fault said said' failed
-  pub kept : is_unwritten fault ≡ false → Keeps out out'
+  pub kept : all ≡ false → is_unwritten fault ≡ false → Keeps out out'
+
+-- The fault is the right one. Where a write failed, what it left is a beginning of the right text,
+-- unless all wrong lines are asked for.
+pub record IsRightAuditFault (asked : AuditAsked) (told told' : Option (List Loaded))
+    (refused : Option (Option (List ℕ) × LoadFault)) (fault : Fault) (out out' : Option (List ℕ))
+    : Type 0 where
+  pub right : IsRightFault asked.table told told' refused fault
+  pub begun : asked.all ≡ false → is_unwritten fault ≡ true → BeginsAudit asked told told' out out'

@@ -1,6 +1,8 @@
 -- The lines that tell a verdict, and how the ledger's taps differ from those of the uploads.
-use Rattle.std.specs.Prelude.{◌≡◌, ℕ, List, ◌++◌, codes, string_bytes, Option, None, Some}
+use Rattle.std.specs.Prelude.{◌≡◌, ℕ, List, [], ◌∷◌, ◌++◌, codes, string_bytes, Option, None, Some}
+use Rattle.std.specs.Prelude.{◌&&◌, Bool, MatchBool, length, nat_eq}
 use Rattle.std.specs.Fmt.{decimal}
+use Rattle.std.specs.Io.KnownBytes.{Appends}
 use Rattle.hex.specs.Hex.{encode_lower}
 use Rattle.fare_texts.specs.Moments.{IsMomentText}
 use Rattle.tap_balance.specs.declared.balance.Difference.{Difference}
@@ -41,3 +43,35 @@ abbrev pub IsDifferenceText : Option Difference → List ℕ → Type 0
 IsDifferenceText None text = text ≡ codes "all taps of the uploads\n"
 IsDifferenceText (Some (Missing tap)) text = IsTapLineOf (codes "missing tap ") tap text
 IsDifferenceText (Some (Surplus tap)) text = IsTapLineOf (codes "surplus tap ") tap text
+
+-- a line for each of these taps, behind these words
+abbrev pub AreTapLinesOf : List ℕ → List TapFields → List ℕ → Type 0
+AreTapLinesOf words [] text = text ≡ []
+AreTapLinesOf words (tap ∷ taps) text =
+    (line : List ℕ) × (rest : List ℕ) × IsTapLineOf words tap line
+    × AreTapLinesOf words taps rest × (text ≡ line ++ rest)
+
+-- `missing tap ..` for each missing tap, then `surplus tap ..` for each surplus one
+pub record AreDifferenceLines (missing surplus : List TapFields) (text : List ℕ) : Type 0 where
+  pub missing_lines : List ℕ
+  pub are_missing : AreTapLinesOf (codes "missing tap ") missing missing_lines
+  pub surplus_lines : List ℕ
+  pub are_surplus : AreTapLinesOf (codes "surplus tap ") surplus surplus_lines
+  pub shown : text ≡ missing_lines ++ surplus_lines
+
+-- whether nothing is missing and nothing surplus
+abbrev pub are_none : List TapFields → List TapFields → Bool
+are_none missing surplus = nat_eq (length missing) 0 && nat_eq (length surplus) 0
+
+-- `all taps of the uploads`, or a line for each missing and each surplus tap
+abbrev pub IsDifferencesText : List TapFields → List TapFields → List ℕ → Type 0
+IsDifferencesText missing surplus text =
+    MatchBool (are_none missing surplus) (IsDifferenceText None text)
+    (AreDifferenceLines missing surplus text)
+
+-- known bytes grow by a beginning of the text
+pub record Begins (before after : Option (List ℕ)) (text : List ℕ) : Type 0 where
+  pub front : List ℕ
+  pub rest : List ℕ
+  pub whole : text ≡ front ++ rest
+  pub written : Appends before after front

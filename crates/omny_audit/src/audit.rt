@@ -1,7 +1,7 @@
 //! The finding on all that a reader gives.
 
 ghost use Rattle.std.specs.Prelude.{◌≡◌, ℕ, List, [], IfErr, IfOk, IsTrue, None, Some, false, map};
-ghost use Rattle.std.specs.Prelude.{if◌then◌else◌, string_bytes};
+ghost use Rattle.std.specs.Prelude.{Bool, if◌then◌else◌, string_bytes, true};
 ghost use Rattle.std.specs.Io.KnownBytes.{Appends, Keeps};
 ghost use Rattle.fare_table.specs.Fares.{Fares};
 ghost use Rattle.shard_book.specs.declared.entry.Entry.{Entry};
@@ -13,6 +13,8 @@ ghost use Rattle.ledger_check.specs.Verdicts.{IsVerdict, is_legal};
 ghost use Rattle.omny_audit.specs.Findings.{IsFinding, agrees};
 ghost use Rattle.omny_audit.specs.inside.Findings.{StrikesOut};
 ghost use Rattle.omny_audit.specs.Fault.{is_unwritten, named_by};
+ghost use Rattle.omny_audit.specs.inside.Fault.{is_of_loading};
+ghost use Rattle.omny_audit.specs.Text.{Begins};
 ghost use Rattle.omny_audit.specs.inside.Source.{IsAllOf};
 
 use crate::fault::Fault;
@@ -42,6 +44,7 @@ pub(crate) fn verdict_of<R: Read>(
         × StrikesOut table.now text balance.old balance.new verdict) }
     ensures fault { IfErr result (λ fault. is_unwritten fault ≡ false) }
     ensures named { IfErr result (λ fault. named_by fault ≡ None) }
+    ensures later { IfErr result (λ fault. is_of_loading fault ≡ false) }
 {
     let mut checker = Checker::new(alloc);
     let mut step = [0u8; PIECE_BYTES];
@@ -126,7 +129,14 @@ pub(crate) fn audit_over<R: Read, W: Write>(
     // Only a write that fails leaves something of a text behind.
     ensures fault { IfErr result (λ fault. is_unwritten fault ≡ false
         → Keeps (W.contents out.old) (W.contents out.new)) }
+    // And what it leaves is a beginning of the right text.
+    ensures begun { IfErr result (λ fault. is_unwritten fault ≡ true → (text : List ℕ)
+        × IsAllOf (R.remaining reader.old) text
+        × ((good : List TapFields) → IsBalance balance good [] → (told : List ℕ) × (well : Bool)
+        × IsFinding table.now text (if has_uploads then Some good else None) told well
+        × Begins (W.contents out.old) (W.contents out.new) told)) }
     ensures named { IfErr result (λ fault. named_by fault ≡ None) }
+    ensures later { IfErr result (λ fault. is_of_loading fault ≡ false) }
 {
     let verdict = verdict_of(alloc, table, clock, reader, &mut balance)?;
     let told = finding_text(alloc, &verdict, &balance, has_uploads)?;

@@ -1,12 +1,17 @@
 //! Why the program gives up, with the line that says so.
-ghost use Rattle.std.specs.Prelude.{◌≡◌, IfSome, Some, false};
-ghost use Rattle.omny_audit.specs.Fault.{audit_fault_text, is_quiet, is_unwritten, named_by};
+ghost use Rattle.std.specs.Prelude.{◌≡◌, ℕ, IfSome, List, Option, Some, false};
+ghost use Rattle.omny_audit.specs.Fault.{IsRightFault, audit_fault_text, is_quiet, is_unwritten};
+ghost use Rattle.omny_audit.specs.Fault.{named_by};
+ghost use Rattle.omny_audit.specs.Source.{TellsRefusal};
+ghost use Rattle.program_manners.specs.Loads.{Loaded};
+ghost use Rattle.program_manners.specs.declared.loading.LoadFault.{LoadFault as ALoadFault};
 ghost use Rattle.program_manners.specs.Lines.{load_text};
 
-use fare_table::{NoMemory, TableFault};
+use fare_table::TableFault;
 use program_manners::{FileFault, LoadFault, TableLine};
 use std::alloc::AllocError;
 use std::fmt;
+use tap_views::NoMemory;
 
 /// Why the program gives up. Its `Display` is the fault line without its line feed.
 #[derive(Clone, Copy, Debug)]
@@ -31,6 +36,10 @@ impl<'a> Fault<'a> {
         ensures line { audit_fault_text result ≡ load_text name.entry.now fault }
         ensures named { IfSome (named_by result) (λ told. told ≡ name.entry.now) }
         ensures unwritten { is_unwritten result ≡ false }
+        ensures right { (table : List ℕ) (told after : Option (List Loaded))
+            (refused : Option (Option (List ℕ) × ALoadFault))
+            → TellsRefusal refused name.entry.now fault
+            → IsRightFault table told after refused result }
     {
         Fault::File(FileFault { name, fault })
     }

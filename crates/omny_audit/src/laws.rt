@@ -1,6 +1,6 @@
 //! What follows of a finding.
 
-ghost use Rattle.omny_audit.specs.Findings.{FindingsDecide};
+ghost use Rattle.omny_audit.specs.Findings.{FindingsDecide, FullFindingsDecide};
 
 /// What is found is well exactly where the text is, whole, a ledger of legal histories under the
 /// table and, if there are uploads, its taps are theirs in some order.
@@ -9,4 +9,12 @@ pub fn findings_decide()
 {
     ledger_check::laws::verdicts_decide();
     tap_balance::laws::differences_are_real();
+}
+
+/// What is found of all lines is well exactly if the text is right, as above.
+pub fn full_findings_decide()
+    ensures { FullFindingsDecide }
+{
+    ledger_check::laws::recounts_decide();
+    tap_balance::laws::even_sides_lack_nothing();
 }

@@ -4,7 +4,8 @@
 //!
 //! | module | what it does |
 //! |---|---|
-//! | `audit` | the finding on all that a reader gives |
+//! | `audit` | the finding on all that a reader gives, up to the first wrong line |
+//! | `full_audit` | the finding on all lines |
 //! | `laws` | what follows of a finding |
 //! | `source` | where the table, the uploads and the ledger come from |
 //! | `files` | the files and the standard input of the system as a source |
@@ -20,6 +21,7 @@ mod audit;
 mod escaping;
 mod fault;
 mod files;
+mod full_audit;
 mod laws;
 mod options;
 mod output;

@@ -8,7 +8,9 @@ ghost use Rattle.omny_audit.specs.inside.Options.{audit_asked_of};
 ghost use Rattle.omny_audit.specs.Options.{required_table_option};
 
 use clap::{Arg, ArgAction, ArgMatches, Command, Error};
-use program_manners::{files_arg, names_in, new_command, option_arg, positional_arg};
+use program_manners::{
+    files_arg, flag_arg, flag_in, names_in, new_command, option_arg, positional_arg,
+};
 use std::alloc::{AllocError, Global};
 
 /// What the program is for, as the help says it first.
@@ -17,7 +19,7 @@ const ABOUT: &str = "Checks a ledger under a fare table, and against uploads.
 A ledger has a head line, and for each token, rising, a line for each of its taps: what it cost and
 why. It is legal where each line is the one that the fare rules give its tap after those before it.
 With --uploads its taps must be those of the uploads before their layout faults, each as often as
-there, in whatever order.";
+there, in whatever order. With --all it goes on after the first wrong line.";
 
 /// What the help says last: what is printed, and the exit status.
 const NOTES: &str = "What is printed:
@@ -30,10 +32,16 @@ With --uploads a second line follows `legal N lines`:
   all taps of the uploads                    the ledger has these taps, and no others
   missing tap TOKEN MOMENT VALIDATOR         the uploads have this tap more often than the ledger
   surplus tap TOKEN MOMENT VALIDATOR         the ledger has this tap more often than the uploads
+With --all each wrong line is printed, held against the rules after the taps that the lines before it
+tell, and then, in place of `legal N lines`:
+  wrong N of M lines, of K tokens; cents C, wanted D
+                             C is what the lines ask for, and D what the rules give their taps
+With --uploads each missing and each surplus tap follows.
 
 Examples:
   omny_audit --table table.toml ledger.csv
   omny_audit --table table.toml ledger.csv --uploads a.tap b.tap
+  omny_audit --all --table table.toml ledger.csv
   omny_cli --table table.toml --ledger a.tap b.tap | omny_audit --table table.toml --uploads a.tap b.tap
 
 Exit status:
@@ -47,6 +55,8 @@ Exit status:
 pub(crate) struct Options<'a> {
     /// The file of the fare table.
     pub(crate) table: &'a str,
+    /// Whether all wrong lines are asked for.
+    pub(crate) all: bool,
     /// The files of the uploads whose taps the ledger should have; none asks for no such check.
     pub(crate) uploads: Vec<&'a str>,
     /// The file of the ledger; none stands for standard input.
@@ -55,6 +65,9 @@ pub(crate) struct Options<'a> {
 
 /// The help of `--table`.
 const TABLE_HELP: &str = "The fare table, a TOML file";
+
+/// The help of `--all`.
+const ALL_HELP: &str = "Print each wrong line, each missing and each surplus tap";
 
 /// The help of `--uploads`.
 const UPLOADS_HELP: &str =
@@ -77,10 +90,12 @@ fn command<'a>(alloc: Global) -> Result<Command<'a>, AllocError>
     ensures { IfOk result (λ command. app_of command ≡ audit_program) }
 {
     let table = table_arg(alloc);
+    let all = flag_arg(alloc, "all", ALL_HELP);
     let uploads = files_arg(alloc, "uploads", UPLOADS_HELP);
     let ledger = positional_arg(alloc, "LEDGER", ArgAction::Set, LEDGER_HELP);
     new_command(alloc, "omny_audit", ABOUT, NOTES)
         .arg(table)?
+        .arg(all)?
         .arg(uploads)?
         .arg(ledger)
 }
@@ -123,6 +138,7 @@ impl<'a> Options<'a> {
         let matches = matched(alloc, words)?;
         Ok(Options {
             table: matches.get_str("table").unwrap_or(""),
+            all: flag_in(&matches, "all"),
             uploads: names_in(alloc, &matches, "uploads")?,
             ledger: ledger_in(matches.get_str("LEDGER")),
         })

@@ -1,8 +1,10 @@
 //! Texts that are written out whole.
-ghost use Rattle.std.specs.Prelude.{◌≡◌, ◌↔◌, IfErr, None, OnOk, true};
+ghost use Rattle.std.specs.Prelude.{◌≡◌, ◌↔◌, IfErr, None, OnErr, OnOk, false, true};
 ghost use Rattle.std.specs.Io.KnownBytes.{Appends, Keeps};
 ghost use Rattle.std.specs.IoError.{error_kind};
 ghost use Rattle.omny_audit.specs.Fault.{is_quiet, is_unwritten, named_by};
+ghost use Rattle.omny_audit.specs.inside.Fault.{is_of_loading};
+ghost use Rattle.omny_audit.specs.Text.{Begins};
 
 use crate::fault::Fault;
 use std::io;
@@ -13,6 +15,7 @@ pub(crate) fn unwritten<'a>(error: &io::Error) -> Fault<'a>
     ensures unwritten { is_unwritten result ≡ true }
     ensures quiet { (error_kind error.now ≡ ErrorKind.BrokenPipe) ↔ (is_quiet result ≡ true) }
     ensures named { named_by result ≡ None }
+    ensures later { is_of_loading result ≡ false }
 {
     if error.kind() == ErrorKind::BrokenPipe {
         Fault::Closed
@@ -21,13 +24,50 @@ pub(crate) fn unwritten<'a>(error: &io::Error) -> Fault<'a>
     }
 }
 
+/// Writes the whole text. If a write fails, a beginning of it was written.
+fn write_bytes<W: Write>(out: &mut W, text: &[u8]) -> io::Result<()>
+    ensures text { OnOk result (Appends (W.contents out.old) (W.contents out.new) text.now) }
+    ensures begun { OnErr result (Begins (W.contents out.old) (W.contents out.new) text.now) }
+{
+    let mut rest = text;
+    for _write in 0..u64::MAX {
+        if rest.is_empty() {
+            return Ok(());
+        }
+        match out.write(rest) {
+            Ok(0) => return Err(io::Error::from(ErrorKind::WriteZero)),
+            Ok(count) => rest = &rest[count..],
+            Err(error) => {
+                if error.kind() != ErrorKind::Interrupted {
+                    return Err(error);
+                }
+            }
+        }
+    }
+    Err(io::Error::from(ErrorKind::WriteZero))
+}
+
 /// Flushes the writer. No contract says where the bytes go.
 pub(crate) fn flush<'a, W: Write>(out: &mut W) -> Result<(), Fault<'a>>
     ensures fault { IfErr result (λ fault. is_unwritten fault ≡ true) }
     ensures named { IfErr result (λ fault. named_by fault ≡ None) }
+    ensures later { IfErr result (λ fault. is_of_loading fault ≡ false) }
     ensures kept { Keeps (W.contents out.old) (W.contents out.new) }
 {
     match out.flush() {
+        Ok(()) => Ok(()),
+        Err(error) => Err(unwritten(&error)),
+    }
+}
+
+/// Writes the whole text, which may wait in the writer.
+pub(crate) fn write_piece<'a, W: Write>(out: &mut W, text: &str) -> Result<(), Fault<'a>>
+    ensures fault { IfErr result (λ fault. is_unwritten fault ≡ true) }
+    ensures named { IfErr result (λ fault. named_by fault ≡ None) }
+    ensures later { IfErr result (λ fault. is_of_loading fault ≡ false) }
+    ensures text { OnOk result (Appends (W.contents out.old) (W.contents out.new) text.now) }
+{
+    match out.write_all(text.as_bytes()) {
         Ok(()) => Ok(()),
         Err(error) => Err(unwritten(&error)),
     }
@@ -37,9 +77,13 @@ pub(crate) fn flush<'a, W: Write>(out: &mut W) -> Result<(), Fault<'a>>
 pub(crate) fn write_text<'a, W: Write>(out: &mut W, text: &str) -> Result<(), Fault<'a>>
     ensures fault { IfErr result (λ fault. is_unwritten fault ≡ true) }
     ensures named { IfErr result (λ fault. named_by fault ≡ None) }
+    ensures later { IfErr result (λ fault. is_of_loading fault ≡ false) }
     ensures text { OnOk result (Appends (W.contents out.old) (W.contents out.new) text.now) }
+
+    // What a write that fails leaves is a beginning of the text.
+    ensures begun { OnErr result (Begins (W.contents out.old) (W.contents out.new) text.now) }
 {
-    match out.write_all(text.as_bytes()) {
+    match write_bytes(out, text.as_bytes()) {
         Ok(()) => flush(out),
         Err(error) => Err(unwritten(&error)),
     }

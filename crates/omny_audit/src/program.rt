@@ -1,26 +1,27 @@
 //! The whole program, over any source of bytes and any two writers.
 ghost use Rattle.std.specs.Prelude.{◌≡◌, ◌≢◌, ◌≤◌, ◌⊎◌, ◌++◌, ◌∷◌, [], List, ℕ, IfErr, IfOk};
 ghost use Rattle.std.specs.Prelude.{IfSome, None, Some, codes, false, map, option_map};
-ghost use Rattle.std.specs.Prelude.{string_bytes, true, unwrap_or};
+ghost use Rattle.std.specs.Prelude.{Option, string_bytes, true, unwrap_or};
 ghost use Rattle.std.specs.Io.KnownBytes.{Appends, Keeps};
 ghost use Rattle.clap.specs.Words.{kind_of};
 ghost use Rattle.tap_balance.specs.Balances.{IsBalance};
 ghost use Rattle.tap_views.specs.declared.encoder.TapFields.{TapFields};
-ghost use Rattle.omny_audit.specs.Fault.{NamesOneOf, is_unwritten, named_by};
+ghost use Rattle.omny_audit.specs.Fault.{IsRightFault, NamesOneOf, is_unwritten, named_by};
 ghost use Rattle.omny_audit.specs.Options.{AsksForAuditText, ParsesForAudit, audit_asked_by};
 ghost use Rattle.omny_audit.specs.inside.Options.{audit_asked_of};
 ghost use Rattle.omny_audit.specs.Options.{files_of};
 ghost use Rattle.omny_audit.specs.Program.{AreGoodFieldsOfAll, AuditGaveUp, Audits};
 ghost use Rattle.omny_audit.specs.Program.{LoadsNamedFiles};
 ghost use Rattle.omny_audit.specs.Program.{LoadsRequiredTable};
-ghost use Rattle.omny_audit.specs.Program.{IsFaultTold};
+ghost use Rattle.omny_audit.specs.Program.{IsFaultTold, IsRightAuditFault};
 ghost use Rattle.omny_audit.specs.Source.{OpensOne};
-ghost use Rattle.program_manners.specs.Loads.{TellsOne};
+ghost use Rattle.program_manners.specs.Loads.{Loaded, TellsOne};
 ghost use Rattle.program_manners.specs.Words.{IsRequest};
 
 use crate::audit::audit_over;
 use crate::fault::Fault;
-use crate::laws::findings_decide;
+use crate::full_audit::full_audit_over;
+use crate::laws::{findings_decide, full_findings_decide};
 use crate::options::Options;
 use crate::output::unwritten;
 use crate::source::Source;
@@ -39,6 +40,8 @@ fn load_named<'a, S: Source>(source: &mut S, name: &'a str) -> Result<Vec<u8>, F
     ensures fault { IfErr result (λ fault. is_unwritten fault ≡ false) }
     ensures named { IfErr result (λ fault. IfSome (named_by fault)
         (λ told. told ≡ name.entry.now)) }
+    ensures right { IfErr result (λ fault. (table : List ℕ) (told after : Option (List Loaded))
+        → IsRightFault table told after (S.refused source.new) fault) }
 {
     match source.load(name) {
         Ok(bytes) => Ok(bytes),
@@ -57,6 +60,8 @@ fn load_table<'a, S: Source>(
     ensures fault { IfErr result (λ fault. is_unwritten fault ≡ false) }
     ensures named { IfErr result (λ fault. IfSome (named_by fault)
         (λ told. told ≡ name.entry.now)) }
+    ensures right { IfErr result (λ fault. IsRightFault name.entry.now (S.loaded source.old)
+        (S.loaded source.new) (S.refused source.new) fault) }
 {
     let text = load_named(source, name)?;
     let table = FareTable::read(alloc, &text)?;
@@ -75,6 +80,8 @@ fn load_balance<'a, S: Source>(
         × AreGoodFieldsOfAll files good × IsBalance balance good []) }
     ensures fault { IfErr result (λ fault. is_unwritten fault ≡ false) }
     ensures named { IfErr result (λ fault. NamesOneOf (map (λ n. n.now) names.now) fault) }
+    ensures right { IfErr result (λ fault. (table : List ℕ) (told after : Option (List Loaded))
+        → IsRightFault table told after (S.refused source.new) fault) }
 {
     let mut balance = Balance::new(alloc);
     for name in names {
@@ -91,6 +98,8 @@ fn open_ledger<'a, S: Source>(name: Option<&'a str>, source: &mut S) -> Result<S
     ensures fault { IfErr result (λ fault. is_unwritten fault ≡ false) }
     ensures named { IfErr result (λ fault. IfSome (named_by fault) (λ told. told
         ≡ unwrap_or (option_map (λ n. n.now) name.entry) (codes "standard input"))) }
+    ensures right { IfErr result (λ fault. (table : List ℕ) (told after : Option (List Loaded))
+        → IsRightFault table told after (S.refused source.new) fault) }
 {
     match source.open(name) {
         Ok(ledger) => Ok(ledger),
@@ -110,11 +119,15 @@ fn audit<'a, S: Source, W: Write>(
         Audits (audit_asked_of options.now) (S.loaded source.old) (S.loaded source.new)
         (W.contents out.old) (W.contents out.new) well) }
 
-    // Only a write that fails leaves something of a text behind.
-    ensures fault { IfErr result (λ fault. is_unwritten fault ≡ false
+    // Only a write that fails leaves something of a text behind, unless all wrong lines are asked
+    // for, which are written as they are found.
+    ensures fault { options.now.all ≡ false → IfErr result (λ fault. is_unwritten fault ≡ false
         → Keeps (W.contents out.old) (W.contents out.new)) }
     ensures named { IfErr result
         (λ fault. NamesOneOf (files_of (audit_asked_of options.now)) fault) }
+    ensures right { IfErr result (λ fault. IsRightAuditFault (audit_asked_of options.now)
+        (S.loaded source.old) (S.loaded source.new) (S.refused source.new) fault
+        (W.contents out.old) (W.contents out.new)) }
 {
     let table = load_table(alloc, options.table, source)?;
     let clock = table.clock(alloc)?;
@@ -122,6 +135,19 @@ fn audit<'a, S: Source, W: Write>(
     let balance = load_balance(alloc, names, source)?;
     let has_uploads = !names.is_empty();
     let mut ledger = open_ledger(options.ledger, source)?;
+    if options.all {
+        // proof: what is found of all lines is well exactly if the ledger is right
+        full_findings_decide();
+        return full_audit_over(
+            alloc,
+            &table,
+            &clock,
+            &mut ledger,
+            balance,
+            has_uploads,
+            out,
+        );
+    }
     // proof: what is found is well exactly if the ledger is right
     findings_decide();
     audit_over(
@@ -152,16 +178,16 @@ fn tell<E: Write>(err: &mut Complaints<E>, fault: &Fault) -> u8
 fn show<W: Write, E: Write>(error: &Error, out: &mut W, err: &mut Complaints<E>) -> u8
     ensures help { result ≡ 0 → IsRequest (kind_of error.now) }
     ensures memory { kind_of error.now ≡ ErrorKind.OutOfMemory → (result ≡ 1)
-        × AuditGaveUp Fault.NoMemory (E.contents err.old.writer) (E.contents err.new.writer)
-        err.new.failed (W.contents out.old) (W.contents out.new) }
+        × AuditGaveUp false Fault.NoMemory (E.contents err.old.writer)
+        (E.contents err.new.writer) err.new.failed (W.contents out.old) (W.contents out.new) }
     ensures words { (¬ IsRequest (kind_of error.now))
         → kind_of error.now ≢ ErrorKind.OutOfMemory → result ≡ 2 }
     ensures right { result ≡ 2 → ¬ IsRequest (kind_of error.now) }
     ensures mistake { result ≡ 2 → Keeps (W.contents out.old) (W.contents out.new) }
     ensures quiet { result ≡ 0 → err.new ≡ err.old }
     ensures fault { result ≡ 1 → (fault : Fault) × (named_by fault ≡ None)
-        × AuditGaveUp fault (E.contents err.old.writer) (E.contents err.new.writer) err.new.failed
-        (W.contents out.old) (W.contents out.new) }
+        × AuditGaveUp false fault (E.contents err.old.writer) (E.contents err.new.writer)
+        err.new.failed (W.contents out.old) (W.contents out.new) }
     ensures status { result ≤ 2 }
 {
     match show_answer(error, out, err) {
@@ -188,7 +214,8 @@ pub fn main_over<S: Source, W: Write, E: Write>(
 
     // With status 1 the finding was written, and says that not all is well, and nothing was said on
     // `err`; or a fault was told, which names no other file than one that the words name, and
-    // nothing was written but where a write failed.
+    // nothing was written, unless a write failed or all wrong lines are asked for. The fault is the
+    // right one, and what a write that failed left is a beginning of the right text.
     ensures faults { result ≡ 1
         → (ParsesForAudit (map string_bytes words.now)
         × Audits (audit_asked_by (map string_bytes words.now)) (S.loaded source.old)
@@ -196,7 +223,12 @@ pub fn main_over<S: Source, W: Write, E: Write>(
         × (err.new ≡ err.old))
         ⊎ ((fault : Fault)
         × NamesOneOf (files_of (audit_asked_by (map string_bytes words.now))) fault
-        × AuditGaveUp fault (E.contents err.old.writer) (E.contents err.new.writer) err.new.failed
+        × (ParsesForAudit (map string_bytes words.now)
+        → IsRightAuditFault (audit_asked_by (map string_bytes words.now)) (S.loaded source.old)
+        (S.loaded source.new) (S.refused source.new) fault (W.contents out.old)
+        (W.contents out.new))
+        × AuditGaveUp (audit_asked_by (map string_bytes words.now)).all fault
+        (E.contents err.old.writer) (E.contents err.new.writer) err.new.failed
         (W.contents out.old) (W.contents out.new)) }
 
     // Words that are no command line end well only where they ask for help or the version.
@@ -207,8 +239,9 @@ pub fn main_over<S: Source, W: Write, E: Write>(
     // where the words are read, may come before it.
     ensures mistaken { ¬ ParsesForAudit (map string_bytes words.now)
         → (¬ AsksForAuditText (map string_bytes words.now))
-        → (result ≡ 2) ⊎ ((result ≡ 1) × AuditGaveUp Fault.NoMemory (E.contents err.old.writer)
-        (E.contents err.new.writer) err.new.failed (W.contents out.old) (W.contents out.new)) }
+        → (result ≡ 2) ⊎ ((result ≡ 1) × AuditGaveUp false Fault.NoMemory
+        (E.contents err.old.writer) (E.contents err.new.writer) err.new.failed
+        (W.contents out.old) (W.contents out.new)) }
 
     // Only such words have status 2.
     ensures right { result ≡ 2 → ¬ ParsesForAudit (map string_bytes words.now) }

@@ -6,7 +6,9 @@ use std::io::Read;
 /// Where the program's bytes come from.
 pub trait Source {
     ghost use Rattle.std.specs.Prelude.{◌≡◌, IfOk, List, Option, None, Some, option_map};
-    ghost use Rattle.omny_audit.specs.Source.{OpensOne};
+    ghost use Rattle.std.specs.Prelude.{IfErr, ℕ};
+    ghost use Rattle.omny_audit.specs.Source.{OpensOne, Refuses};
+    ghost use Rattle.program_manners.specs.declared.loading.LoadFault.{LoadFault as AFault};
     ghost use Rattle.program_manners.specs.Loads.{Loaded, TellsOne};
 
     /// A ledger that was opened.
@@ -15,14 +17,21 @@ pub trait Source {
     // What was loaded and opened so far, in order, by a source that keeps it.
     ghost loaded: { Self → Option (List Loaded) } = { λ _. None };
 
+    // The last load or opening that it refused: the name, and why; of a source that keeps it.
+    ghost refused: { Self → Option (Option (List ℕ) × AFault) } = { λ _. None };
+
     /// All bytes of the file of this name. What a fault leaves loaded is not told.
     fn load(&mut self, name: &str) -> Result<Vec<u8>, LoadFault>
-        ensures { IfOk result (λ bytes.
-            TellsOne (loaded self.old) (loaded self.new) (Some name.now) bytes.items) };
+        ensures told { IfOk result (λ bytes.
+            TellsOne (loaded self.old) (loaded self.new) (Some name.now) bytes.items) }
+        ensures fault { IfErr result
+            (λ fault. Refuses (refused self.new) (Some name.now) fault) };
 
     /// The ledger of this name, or standard input where none is named, to be read from its
     /// beginning. What a fault leaves opened is not told.
     fn open(&mut self, name: Option<&str>) -> Result<Self::Ledger, LoadFault>
-        ensures { IfOk result (λ ledger. OpensOne (loaded self.old) (loaded self.new)
-            (option_map (λ n. n.now) name.entry) (Self.Ledger.remaining ledger)) };
+        ensures told { IfOk result (λ ledger. OpensOne (loaded self.old) (loaded self.new)
+            (option_map (λ n. n.now) name.entry) (Self.Ledger.remaining ledger)) }
+        ensures fault { IfErr result (λ fault. Refuses (refused self.new)
+            (option_map (λ n. n.now) name.entry) fault) };
 }

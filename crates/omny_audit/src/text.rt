@@ -1,16 +1,16 @@
 //! The lines of a finding.
 
-ghost use Rattle.std.specs.Prelude.{◌≡◌, ◌++◌, ℕ, List, IfOk, OnOk, string_bytes};
-ghost use Rattle.omny_audit.specs.Text.{IsDifferenceText, IsTapText, token_and_space};
+ghost use Rattle.std.specs.Prelude.{◌≡◌, ◌++◌, ℕ, List, IfOk, OnOk, codes, string_bytes};
+ghost use Rattle.omny_audit.specs.Text.{AreTapLinesOf, IsDifferenceText, IsDifferencesText};
+ghost use Rattle.omny_audit.specs.Text.{IsTapLineOf, IsTapText, are_none, token_and_space};
 ghost use Rattle.omny_audit.specs.Text.{space_and_validator};
 ghost use Rattle.omny_audit.specs.Text.{verdict_text};
 
 use fare_texts::{Digits, write_moment};
 use ledger_check::Verdict;
-use shard_book::Token;
 use std::alloc::{AllocError, Global};
 use tap_balance::Difference;
-use tap_views::TapFields;
+use tap_views::{TapFields, Token};
 
 /// The line of the verdict, with its line feed.
 #[tactic(auto, unfolding(crate::specs::Text::verdict_text))]
@@ -74,4 +74,57 @@ pub(crate) fn write_difference(
             write_tap(text, tap)
         }
     }
+}
+
+/// Appends the words and the tap, with a line feed.
+fn write_tap_line(text: &mut String, words: &str, tap: &TapFields) -> Result<(), AllocError>
+    ensures { OnOk result ((written : List ℕ) × IsTapLineOf words.now tap.now written
+        × (string_bytes text.new ≡ string_bytes text.old ++ written)) }
+{
+    text.push_str(words)?;
+    write_tap(text, tap)
+}
+
+/// Appends a line for each tap, behind the words.
+fn write_tap_lines(text: &mut String, words: &str, taps: &[TapFields]) -> Result<(), AllocError>
+    ensures { OnOk result ((written : List ℕ) × AreTapLinesOf words.now taps.now written
+        × (string_bytes text.new ≡ string_bytes text.old ++ written)) }
+{
+    for tap in taps {
+        write_tap_line(text, words, tap)?;
+    }
+    Ok(())
+}
+
+/// Whether there are no taps on either side.
+pub(crate) fn are_none(missing: &[TapFields], surplus: &[TapFields]) -> bool
+    ensures { result ≡ are_none missing.now surplus.now }
+{
+    missing.is_empty() && surplus.is_empty()
+}
+
+/// Appends that there is no difference.
+fn write_even(text: &mut String) -> Result<(), AllocError>
+    ensures { OnOk result (string_bytes text.new
+        ≡ string_bytes text.old ++ codes "all taps of the uploads\n") }
+{
+    text.push_str("all taps of the uploads\n")
+}
+
+/// Appends the lines of all differences.
+pub(crate) fn write_differences(
+    text: &mut String,
+    missing: &[TapFields],
+    surplus: &[TapFields],
+) -> Result<(), AllocError>
+    ensures { OnOk result ((written : List ℕ) × IsDifferencesText missing.now surplus.now written
+        × (string_bytes text.new ≡ string_bytes text.old ++ written)) }
+{
+    if are_none(missing, surplus) {
+        write_even(text)?;
+        return Ok(());
+    }
+    write_tap_lines(text, "missing tap ", missing)?;
+    write_tap_lines(text, "surplus tap ", surplus)?;
+    Ok(())
 }

@@ -15,12 +15,19 @@ pub(crate) struct Hushing<'a, R: Wait, W: Write + Drop> {
     ticker: &'a Ticker,
     /// Where the bytes go.
     to: W,
+    /// Whether it has taken the line away.
+    is_over: bool,
 }
 
 impl<'a, R: Wait, W: Write + Drop> Hushing<'a, R, W> {
     /// A writer to which nothing was written.
     pub(crate) fn new(rt: &'a R, ticker: &'a Ticker, to: W) -> Hushing<'a, R, W> {
-        Hushing { rt, ticker, to }
+        Hushing {
+            rt,
+            ticker,
+            to,
+            is_over: false,
+        }
     }
 }
 
@@ -28,7 +35,10 @@ impl<R: Wait, W: Write + Drop> Write for Hushing<'_, R, W> {
     ghost contents = { λ h. W.contents h.to };
 
     fn write(&mut self, bytes: &[u8]) -> io::Result<usize> {
-        self.ticker.end(self.rt);
+        if !self.is_over {
+            self.ticker.end(self.rt);
+            self.is_over = true;
+        }
         self.to.write(bytes)
     }
 

@@ -1,5 +1,6 @@
 //! The program: `fare_program` over the words, the files, the standard input and the outputs of the
-//! system. If the standard error is a terminal, a line there says what a long run does.
+//! system. If the standard error is a terminal, a note there says what one should know of the run,
+//! and a line says what a long run does.
 //!
 //! | module | what it does |
 //! |---|---|
@@ -17,27 +18,41 @@ mod ticker;
 mod watched;
 
 use beside::run_beside_line;
-use fare_program::{Complaints, Host, main_over, unread_words, words_of};
+use fare_program::{Complaints, Host, Note, unread_words, words_of};
+use hushing::Hushing;
+use progress::Steps;
 use std::io::IsTerminal;
 use std::process::ExitCode;
+use ticker::Ticker;
+use watched::{Watched, WatchedDisk};
+
+/// The ticker of the run that the words ask for. If the standard error is a terminal, the note on
+/// them is told there, if there is one.
+fn ticker_for(rt: &HostRuntime, words: &[String]) -> Ticker {
+    let is_terminal = rt.stderr().is_terminal();
+    if is_terminal && let Ok(Some(note)) = Note::of(rt.alloc(), words) {
+        Complaints::new(rt.stderr()).tell_line(note);
+    }
+    Ticker::new(Steps::of(words), rt.stderr(), is_terminal)
+}
 
 /// The program.
 fn main(rt: HostRuntime) -> ExitCode {
-    let mut err = Complaints::new(rt.stderr());
-    let status = match words_of(&rt) {
-        Ok(words) if rt.stderr().is_terminal() => {
-            run_beside_line(&rt, &words, rt.stdout(), rt.stderr())
+    let words = match words_of(&rt) {
+        Ok(words) => words,
+        Err(error) => {
+            let mut err = Complaints::new(rt.stderr());
+            return ExitCode::from(unread_words(&error, &mut err));
         }
-        Ok(words) => main_over(
-            &rt,
-            rt.alloc(),
-            &words,
-            &rt,
-            &mut Host::new(&rt),
-            &mut rt.stdout(),
-            &mut err,
-        ),
-        Err(error) => unread_words(&error, &mut err),
     };
-    ExitCode::from(status)
+    let ticker = ticker_for(&rt, &words);
+    ExitCode::from(run_beside_line(
+        &rt,
+        &words,
+        &ticker,
+        &WatchedDisk::new(&rt, &ticker),
+        &mut Watched::new(&rt, &ticker, Host::new(&rt)),
+        &mut Hushing::new(&rt, &ticker, rt.stdout()),
+        &mut Complaints::new(Hushing::new(&rt, &ticker, rt.stderr())),
+    ))
 }

@@ -38,11 +38,11 @@ pub(crate) struct Steps {
 }
 
 impl Steps {
-    /// A run that begins.
-    pub(crate) fn new(asks_for_list: bool) -> Steps {
+    /// A run that begins, for which these words ask.
+    pub(crate) fn of(words: &[String]) -> Steps {
         Steps {
             stage: Stage::Starting,
-            asks_for_list,
+            asks_for_list: asks_for_list(words),
             has_table: false,
             found: 0,
             knows_all: true,
@@ -65,9 +65,22 @@ impl Steps {
         self.stage = Stage::Files;
     }
 
+    /// Has opened a sorted file, which is read while it is charged.
+    pub(crate) fn open(&mut self) {
+        self.stage = Stage::Loaded;
+    }
+
     /// Has read one more file before its turn.
     pub(crate) fn end_ahead(&mut self) {
         self.ahead = self.ahead.saturating_add(1);
+    }
+
+    /// Has read one more file while taps are settled. Behind the last one they are charged.
+    pub(crate) fn end_settled(&mut self) {
+        self.end_ahead();
+        if self.knows_all && self.ahead >= self.found {
+            self.stage = Stage::Loaded;
+        }
     }
 
     /// Begins to read files in their turns. So many were read before.
@@ -110,6 +123,18 @@ impl Steps {
     fn read(&self) -> usize {
         self.ahead.max(self.loaded)
     }
+}
+
+/// Whether the words ask for a listing. Words behind `--` are names of files.
+fn asks_for_list(words: &[String]) -> bool {
+    for word in words {
+        match word.as_str() {
+            "--" => return false,
+            "--list" => return true,
+            _ => {}
+        }
+    }
+    false
 }
 
 impl Display for Steps {

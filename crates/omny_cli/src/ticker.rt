@@ -26,7 +26,7 @@ impl Line {
 
 /// What a run and the thread that shows its line share.
 #[derive(Drop)]
-pub(crate) struct Ticker {
+pub struct Ticker {
     /// How far the run is.
     pub(crate) steps: Mutex<Steps>,
     /// The line, which one thread at a time writes.
@@ -36,13 +36,13 @@ pub(crate) struct Ticker {
 }
 
 impl Ticker {
-    /// A run that begins, of which no line is shown yet.
-    pub(crate) fn new(steps: Steps, err: io::Stderr) -> Ticker {
+    /// A run that begins, of which no line is shown yet, nor ever if `err` is no terminal.
+    pub(crate) fn new(steps: Steps, err: io::Stderr, is_terminal: bool) -> Ticker {
         Ticker {
             steps: Mutex::new(steps),
             line: Mutex::new(Line {
                 shown: TerminalLine::new(err),
-                is_over: false,
+                is_over: !is_terminal,
             }),
             ended: Condvar::new(),
         }

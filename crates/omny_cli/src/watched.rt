@@ -2,7 +2,8 @@
 
 use crate::ticker::Ticker;
 use fare_program::{Disk, FileAhead, LoadFault, Source};
-use std::alloc::Global;
+use placed_files::Unopened;
+use std::alloc::{AllocError, Global};
 use std::sync::Wait;
 
 /// A disk or a source whose reads are noted. It gives what the one below gives.
@@ -40,10 +41,29 @@ impl<'a, R: Wait> WatchedDisk<'a, R> {
 }
 
 impl<R: Disk + Wait> Disk for WatchedDisk<'_, R> {
-    fn may_be_read_ahead(&self, name: &str) -> bool {
-        let may_be_read_ahead = self.rt.may_be_read_ahead(name);
-        self.ticker.steps.lock(self.rt).look(may_be_read_ahead);
-        may_be_read_ahead
+    type File = R::File;
+
+    ghost bytes_under = { λ w name. R.bytes_under w.rt.now name };
+
+    fn open_placed(&self, name: &str) -> Result<R::File, Unopened> {
+        let file = self.rt.open_placed(name)?;
+        self.ticker.steps.lock(self.rt).open();
+        Ok(file)
+    }
+
+    fn size_ahead(&self, name: &str) -> Option<u64> {
+        let size = self.rt.size_ahead(name);
+        self.ticker.steps.lock(self.rt).look(size.is_some());
+        size
+    }
+
+    fn push_sample(
+        &self,
+        alloc: Global,
+        name: &str,
+        sample: &mut Vec<u128>,
+    ) -> Result<(), AllocError> {
+        self.rt.push_sample(alloc, name, sample)
     }
 
     fn read(&self, alloc: Global, name: &str) -> Result<Vec<u8>, LoadFault> {
@@ -52,10 +72,21 @@ impl<R: Disk + Wait> Disk for WatchedDisk<'_, R> {
         self.ticker.steps.lock(self.rt).end_ahead();
         Ok(bytes)
     }
+
+    fn read_into(&self, name: &str, room: Vec<u8>) -> Result<Vec<u8>, LoadFault> {
+        self.ticker.steps.lock(self.rt).begin_ahead();
+        let bytes = self.rt.read_into(name, room)?;
+        self.ticker.steps.lock(self.rt).end_settled();
+        Ok(bytes)
+    }
 }
 
 impl<R: Wait, S: Source + Drop> Source for Watched<'_, R, S> {
     ghost loaded = { λ w. S.loaded w.from };
+
+    fn keeps_loads(&self) -> bool {
+        self.from.keeps_loads()
+    }
 
     fn keep_ahead(&mut self, ahead: Vec<FileAhead>) {
         self.ticker.steps.lock(self.rt).keep_ahead(ahead.len());

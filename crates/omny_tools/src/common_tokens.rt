@@ -2,7 +2,7 @@
 
 use std::alloc::{AllocError, Global};
 use std::collections::BTreeMap;
-use tap_views::batches;
+use tap_views::good_batches;
 
 /// The uploads that have a token.
 #[derive(Clone, Copy)]
@@ -86,10 +86,7 @@ impl CommonTokens {
     pub(crate) fn add(&mut self, upload: &[u8]) -> Result<(), AllocError> {
         let number = self.counts.len();
         self.counts.push(CommonCounts { all: 0, common: 0 })?;
-        for item in batches(upload) {
-            let Ok(batch) = item else {
-                return Ok(());
-            };
+        for batch in good_batches(upload) {
             for tap in batch.taps() {
                 self.add_token(tap.token(), number)?;
             }

@@ -2,14 +2,15 @@
 
 use crate::layout::{Cause, Remedy};
 use crate::names::Name;
-use fare_table::{NoMemory, TableFault};
+use crate::row_coding::WrongRows;
+use fare_table::TableFault;
 use part_reports::Wrong;
 use program_manners::LoadFault;
 use std::alloc::{AllocError, AllocFailed};
 use std::fmt;
 use std::io::Write;
 use tap_rows::{Column, RowsFault};
-use tap_views::LayoutFault;
+use tap_views::{LayoutFault, NoMemory};
 use toml::de::Error as TomlError;
 
 /// Why a task is given up. Its `Display` is the line on the standard error without its line feed.
@@ -21,6 +22,8 @@ pub(crate) enum Fault<'a> {
     TooLong(Name<'a>),
     /// The file is no tap table.
     TapTable(Name<'a>, RowsFault),
+    /// The file is no CSV of the columns that are wanted, or one of its rows is no tap.
+    Rows(Name<'a>, WrongRows<'a>),
     /// The upload has this layout fault, in the batch at this offset.
     Layout(Name<'a>, u64, LayoutFault),
     /// The text of a fare table is not UTF-8.
@@ -29,6 +32,12 @@ pub(crate) enum Fault<'a> {
     NotToml(Name<'a>, usize, usize, TomlError),
     /// The text is no fare table, and no value was found to be wrong.
     Table(Name<'a>, TableFault),
+    /// The tap of this number, in this file, is before its predecessor.
+    OutOfOrder(Name<'a>, u64),
+    /// A file changed while it was read.
+    Changed,
+    /// The file could not be opened, since the system has too many open.
+    TooManyOpen(Name<'a>),
     /// The file that was to be made is there already.
     Exists(Name<'a>),
     /// The file could not be made.
@@ -117,6 +126,8 @@ impl fmt::Display for WrongLine {
             Wrong::Order => "it does not come after the line before it",
             Wrong::Twice => "its token is in two parts",
             Wrong::Sums => "the sums are too large",
+            Wrong::Validators => "the validators do not add up to the totals",
+            Wrong::Tokens => "the tokens do not add up to the totals",
         })
     }
 }
@@ -139,6 +150,7 @@ impl fmt::Display for Fault<'_> {
                 RowsFault::Write => f.write_str("fault: cannot write"),
                 RowsFault::NoMemory => f.write_str("fault: out of memory"),
             },
+            Fault::Rows(name, wrong) => write!(f, "fault: {name} {wrong}"),
             Fault::Layout(name, offset, fault) => {
                 let cause = Cause(*fault);
                 let remedy = Remedy(*fault);
@@ -150,6 +162,11 @@ impl fmt::Display for Fault<'_> {
                 write!(f, "fault: {name} line {line} column {column}: {why}")
             }
             Fault::Table(name, fault) => write!(f, "fault: {name}: {fault}"),
+            Fault::OutOfOrder(name, tap) => write!(f, "fault: {name}: tap {tap} is out of order"),
+            Fault::Changed => f.write_str("fault: a file changed while it was read"),
+            Fault::TooManyOpen(name) => {
+                write!(f, "fault: cannot open {name}: too many files are open")
+            }
             Fault::Exists(name) => write!(f, "fault: {name} is there already"),
             Fault::Unmade(name) => write!(f, "fault: cannot make {name}"),
             Fault::Line(name, number, wrong) => {

@@ -33,6 +33,20 @@ pub(crate) fn open<'a>(rt: &HostRuntime, name: Name<'a>) -> Result<fs::File, Fau
     }
 }
 
+/// The numbers by which the system says that too many files are open: in the process, and in all.
+const TOO_MANY_OPEN: [i32; 2] = [24, 23];
+
+/// Opens a file that is read at any offset.
+pub(crate) fn open_placed<'a>(rt: &HostRuntime, name: Name<'a>) -> Result<fs::File, Fault<'a>> {
+    match fs::open(rt, name.0) {
+        Ok(file) => Ok(file),
+        Err(error) => match error.raw_os_error() {
+            Some(number) if TOO_MANY_OPEN.contains(&number) => Err(Fault::TooManyOpen(name)),
+            _ => Err(Fault::Unread(name)),
+        },
+    }
+}
+
 /// A file or standard input, read in pieces.
 pub(crate) fn open_in_pieces<'a>(
     rt: &HostRuntime,

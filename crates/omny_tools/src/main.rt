@@ -10,8 +10,12 @@
 //! | `fault` | why a task is given up, and the line that says so |
 //! | `layout` | what a layout fault means, and what to do |
 //! | `coding` | `encode` and `decode` |
+//! | `encode_words`, `row_coding` | `encode` of an agency's own CSV |
 //! | `telling`, `common_tokens` | `uploads` |
+//! | `look_words`, `looking` | what `uploads` looks for |
 //! | `splitting` | `split` |
+//! | `sorting` | `sort` |
+//! | `making` | files that are made whole |
 //! | `merging` | `merge` and `merge-ledgers` |
 //! | `part_words` | the command lines of `split`, `merge` and `merge-ledgers` |
 //! | `correcting` | `corrections` |
@@ -22,14 +26,20 @@
 mod coding;
 mod common_tokens;
 mod correcting;
+mod encode_words;
 mod fault;
 mod input;
 mod layout;
+mod look_words;
+mod looking;
+mod making;
 mod merging;
 mod names;
 mod output;
 mod part_words;
 mod progress;
+mod row_coding;
+mod sorting;
 mod splitting;
 mod table;
 mod tasks;
@@ -44,7 +54,7 @@ use tasks::run;
 fn main(rt: HostRuntime) -> ExitCode {
     let mut err = rt.stderr();
     let status = match words_of(&rt) {
-        Ok(words) => run(&rt, &words, &mut err),
+        Ok(words) => run(&rt, &rt, &words, &mut err),
         Err(error) => unread_words(&error, &mut Complaints::new(err)),
     };
     ExitCode::from(status)

@@ -48,8 +48,9 @@ const MERGE_ABOUT: &str =
     "Merges the reports of all parts into that of the whole, on standard output.
 
 The uploads were split by omny_tools split, which wrote how they ended, and each part was posted by
-a run of omny_cli --settle. The report is that of one such run over the uploads. The reports are
-read as it is written, so they may be larger than memory.";
+a run of omny_cli --settle. The report is that of one such run over the uploads. A report is
+refused if its totals are not the sums of its validators and of its tokens. The reports are read as
+the whole's is written, so they may be larger than memory.";
 
 /// The help of `--ends`.
 const ENDS_HELP: &str =

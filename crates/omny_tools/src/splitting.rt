@@ -2,13 +2,13 @@
 
 use crate::fault::Fault;
 use crate::input::load_upload;
+use crate::making::make_file;
 use crate::names::Name;
 use crate::output::Output;
 use crate::progress::Progress;
 use report_texts::{UploadEnd, write_upload};
 use std::alloc::{AllocError, Global};
 use std::io::Write;
-use std::{fs, io};
 use tap_parts::{Split, UploadTaps};
 
 /// The most parts.
@@ -51,26 +51,6 @@ fn split_all<'a>(
     Ok(split)
 }
 
-/// Makes a file of these bytes, which are on the disk when it returns.
-fn store(rt: &HostRuntime, path: &str, bytes: &[u8]) -> io::Result<()> {
-    let mut file = fs::File::create(rt, path)?;
-    file.write_all(bytes)?;
-    file.sync_all()
-}
-
-/// Makes the file of this name under another name, and then gives it its own: so a file of its own
-/// name is whole. If that fails, none is left under the other name.
-fn store_whole(rt: &HostRuntime, begun: &str, whole: &str, bytes: &[u8]) -> io::Result<()> {
-    let made = match store(rt, begun, bytes) {
-        Ok(()) => fs::rename(rt, begun, whole),
-        Err(error) => Err(error),
-    };
-    if made.is_err() {
-        let _ = fs::remove_file(rt, begun);
-    }
-    made
-}
-
 /// The name of a part's file.
 fn part_name(alloc: Global, folder: Name<'_>, part: u32) -> Result<String, AllocError> {
     let folder = folder.0;
@@ -86,8 +66,9 @@ fn make_part<'a>(
 ) -> Result<(), Fault<'a>> {
     let whole = part_name(rt.alloc(), folder, part)?;
     let begun = format!(in rt.alloc(); "{whole}.")?;
-    match store_whole(rt, begun.as_str(), whole.as_str(), bytes) {
+    match make_file(rt, begun, Name(whole.as_str()), bytes) {
         Ok(()) => Ok(()),
+        Err(Fault::NoMemory) => Err(Fault::NoMemory),
         Err(_) => Err(Fault::UnmadePart(folder, part)),
     }
 }

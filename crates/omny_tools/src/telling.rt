@@ -14,7 +14,7 @@ use std::io::{ErrorKind, Write};
 use tap_views::{Facts, facts_of, good_part};
 
 /// Appends a moment, or `-` where there is none.
-fn push_moment(text: &mut String, moment: Option<u64>) -> Result<(), AllocError> {
+pub(crate) fn push_moment(text: &mut String, moment: Option<u64>) -> Result<(), AllocError> {
     match moment {
         Some(moment) => write_moment(text, moment),
         None => text.push_str("-"),
@@ -22,7 +22,7 @@ fn push_moment(text: &mut String, moment: Option<u64>) -> Result<(), AllocError>
 }
 
 /// The lines of an upload that has this number.
-fn lines_of(
+pub(crate) fn lines_of(
     alloc: Global,
     number: usize,
     name: Name<'_>,
@@ -73,7 +73,7 @@ fn token_lines(alloc: Global, common: &CommonTokens) -> Result<String, AllocErro
 }
 
 /// Counts no tokens yet, where that is asked for.
-fn no_tokens_yet(alloc: Global, has_tokens: bool) -> Option<CommonTokens> {
+pub(crate) fn no_tokens_yet(alloc: Global, has_tokens: bool) -> Option<CommonTokens> {
     if has_tokens {
         Some(CommonTokens::new(alloc))
     } else {
@@ -82,7 +82,10 @@ fn no_tokens_yet(alloc: Global, has_tokens: bool) -> Option<CommonTokens> {
 }
 
 /// Counts the tokens of the next upload, where that is asked for.
-fn add_tokens<'a>(common: &mut Option<CommonTokens>, upload: &[u8]) -> Result<(), Fault<'a>> {
+pub(crate) fn add_tokens<'a>(
+    common: &mut Option<CommonTokens>,
+    upload: &[u8],
+) -> Result<(), Fault<'a>> {
     if let Some(common) = common {
         common.add(upload)?;
     }
@@ -90,7 +93,7 @@ fn add_tokens<'a>(common: &mut Option<CommonTokens>, upload: &[u8]) -> Result<()
 }
 
 /// Writes how many tokens the uploads have and share, where that is asked for.
-fn tell_tokens<'a, W: Write + Drop>(
+pub(crate) fn tell_tokens<'a, W: Write + Drop>(
     alloc: Global,
     common: &Option<CommonTokens>,
     out: &mut Output<W>,

@@ -1,12 +1,15 @@
 //! The command line.
 
 use crate::correcting::{CorrectionsWords, corrections_command, corrections_words};
+use crate::encode_words::{EncodeMistake, EncodeWords, RowsWords, encode_command, encode_words};
+use crate::look_words::{LookMistake, LookWords, add_look_args, asks_for_look, look_words};
 use crate::merging::MergeWords;
 use crate::names::Name;
 use crate::part_words::{
     merge_command, merge_ledgers_command, merge_ledgers_words, merge_words, split_command,
     split_words,
 };
+use crate::sorting::{SortWords, sort_command, sort_words};
 use crate::splitting::SplitWords;
 use crate::table::Question;
 use clap::{ArgAction, ArgMatches, Command, Error};
@@ -25,21 +28,6 @@ const STATUS: &str = "Exit status:
      error tells
   2  the command line is wrong";
 
-/// What `encode` does.
-const ENCODE_ABOUT: &str = "Writes the upload of a tap table to standard output.
-
-The tap table is CSV. Its first line is token,validator,moment. Each other line is a tap: 32
-hexadecimal digits, a number from 0 to 4294967295, and a moment before 2100, in milliseconds
-since 1970-01-01T00:00Z or as 2024-03-08T17:00:00Z. A field may stand between double quotes. A line
-ends with LF or CRLF.
-
-The taps come out in the order of their lines, in TAP1 batches of 4096, the last of fewer.
-If a line is wrong, nothing is written, and its number is told. So a file is read twice, and may be
-larger than memory. Standard input and pipes are held in memory whole.";
-
-/// The help of `encode`'s table.
-const ENCODE_HELP: &str = "The tap table; - stands for standard input [default: standard input]";
-
 /// What `decode` does.
 const DECODE_ABOUT: &str =
     "Writes the taps of uploads as one tap table for encode, to standard output.
@@ -56,7 +44,11 @@ const UPLOADS_ABOUT: &str =
     "Tells what uploads have: batches, taps, first and last moment, and the layout fault, if any, with
 its batch, its tap (both from 0), the offset of its batch in bytes, and what to do.
 
-An upload with a layout fault is told up to it, and the status is 1.";
+An upload with a layout fault is told up to it, and the status is 1.
+
+With --look, or an option that says what to look for, the uploads are also searched for what an
+auditor fears, and it is told how much of each kind is found, with the first of it. Nothing is
+changed or left out, and the status does not depend on what is found. All taps are in memory.";
 
 /// The help of `--tokens`.
 const TOKENS_HELP: &str =
@@ -103,6 +95,8 @@ const FROM_HELP: &str =
 pub(crate) enum Task<'a> {
     /// Write the upload of a table.
     Encode(Name<'a>),
+    /// Write the upload of the rows of an agency's CSV.
+    EncodeRows(Name<'a>, RowsWords<'a>),
     /// Write the table of uploads.
     Decode(Vec<Name<'a>>),
     /// Tell what uploads have, and how many tokens they share, where that is asked for.
@@ -110,8 +104,12 @@ pub(crate) enum Task<'a> {
     /// Tell what one upload has, make a file of its good part, and tell how many tokens it has,
     /// where that is asked for.
     GoodPart(Name<'a>, Name<'a>, bool),
+    /// Tell what uploads have, and what is found in them.
+    Look(LookWords<'a>),
     /// Tell what a fare table has.
     Table(Question<'a>),
+    /// Sort uploads, or merge sorted ones.
+    Sort(SortWords<'a>),
     /// Split uploads into parts.
     Split(SplitWords<'a>),
     /// Merge the reports of parts.
@@ -124,8 +122,14 @@ pub(crate) enum Task<'a> {
     NotOneUpload,
     /// Two texts that are to be read side by side are standard input.
     InputTwice,
+    /// Standard input is to be merged.
+    InputMerged,
     /// What is to be a moment is none.
     NoMoment,
+    /// The words of `encode` are wrong in this way.
+    WrongRows(EncodeMistake),
+    /// The options of a look are wrong.
+    WrongLook(LookMistake),
     /// No subcommand.
     Nothing,
 }
@@ -140,27 +144,21 @@ pub(crate) fn subcommand<'a>(
     Command::new(alloc, name).about(about).after_help(status)
 }
 
-/// `encode [FILE]`
-fn encode_command<'a>(alloc: Global) -> Result<Command<'a>, AllocError> {
-    let file = positional_arg(alloc, "FILE", ArgAction::Set, ENCODE_HELP);
-    subcommand(alloc, "encode", ENCODE_ABOUT, STATUS).arg(file)
-}
-
 /// `decode [FILE]...`
 fn decode_command<'a>(alloc: Global) -> Result<Command<'a>, AllocError> {
     let file = positional_arg(alloc, "FILE", ArgAction::Append, DECODE_HELP);
     subcommand(alloc, "decode", DECODE_ABOUT, STATUS).arg(file)
 }
 
-/// `uploads [--good-part OUT] [--tokens] FILE...`
+/// `uploads [--good-part OUT] [--tokens] [LOOK]... FILE...`
 fn uploads_command<'a>(alloc: Global) -> Result<Command<'a>, AllocError> {
     let good = option_arg(alloc, "good-part", "OUT", GOOD_PART_HELP);
     let tokens = flag_arg(alloc, "tokens", TOKENS_HELP);
     let file = positional_arg(alloc, "FILE", ArgAction::Append, UPLOADS_HELP).required(true);
-    subcommand(alloc, "uploads", UPLOADS_ABOUT, STATUS)
+    let command = subcommand(alloc, "uploads", UPLOADS_ABOUT, STATUS)
         .arg(good)?
-        .arg(tokens)?
-        .arg(file)
+        .arg(tokens)?;
+    add_look_args(alloc, command)?.arg(file)
 }
 
 /// `table [--strict] [--riders] [--from MOMENT] F [UPLOAD]...`
@@ -184,6 +182,7 @@ fn command<'a>(alloc: Global) -> Result<Command<'a>, AllocError> {
     let decode = decode_command(alloc)?;
     let uploads = uploads_command(alloc)?;
     let table = table_command(alloc)?;
+    let sort = sort_command(alloc)?;
     let split = split_command(alloc)?;
     let merge = merge_command(alloc)?;
     let merge_ledgers = merge_ledgers_command(alloc)?;
@@ -195,6 +194,7 @@ fn command<'a>(alloc: Global) -> Result<Command<'a>, AllocError> {
         .subcommand(decode)?
         .subcommand(uploads)?
         .subcommand(table)?
+        .subcommand(sort)?
         .subcommand(split)?
         .subcommand(merge)?
         .subcommand(merge_ledgers)?
@@ -230,6 +230,9 @@ fn names_or_input<'a>(
 
 /// What `uploads` is asked for.
 fn uploads_task<'a>(alloc: Global, matches: &ArgMatches<'a>) -> Result<Task<'a>, AllocError> {
+    if asks_for_look(matches) {
+        return Ok(look_task(look_words(alloc, matches)?));
+    }
     let names = names_at(alloc, matches, "FILE")?;
     let has_tokens = matches.get_flag("tokens");
     let Some(good) = matches.get_str("good-part") else {
@@ -266,6 +269,22 @@ fn inputs_in(names: &[Name<'_>]) -> usize {
     names.iter().filter(|name| name.is_input()).count()
 }
 
+/// What a look at uploads is asked for.
+fn look_task<'a>(words: Result<LookWords<'a>, LookMistake>) -> Task<'a> {
+    let words = match words {
+        Ok(words) => words,
+        Err(mistake) => return Task::WrongLook(mistake),
+    };
+    let table = match words.table {
+        Some(name) if name.is_input() => 1,
+        _ => 0,
+    };
+    if inputs_in(&words.uploads).saturating_add(table) > 1 {
+        return Task::InputTwice;
+    }
+    Task::Look(words)
+}
+
 /// What `merge` is asked for.
 fn merge_task<'a>(words: MergeWords<'a>) -> Task<'a> {
     if inputs_in(&words.ends).saturating_add(inputs_in(&words.reports)) > 1 {
@@ -280,6 +299,25 @@ fn merge_ledgers_task<'a>(names: Vec<Name<'a>>) -> Task<'a> {
         return Task::InputTwice;
     }
     Task::MergeLedgers(names)
+}
+
+/// What `sort` is asked for. Uploads that are merged are read at any offset.
+fn sort_task<'a>(words: SortWords<'a>) -> Task<'a> {
+    match inputs_in(&words.uploads) {
+        0 => Task::Sort(words),
+        _ if words.is_merge => Task::InputMerged,
+        1 => Task::Sort(words),
+        _ => Task::InputTwice,
+    }
+}
+
+/// What `encode` is asked for.
+fn encode_task<'a>(words: EncodeWords<'a>) -> Task<'a> {
+    match words {
+        EncodeWords::TapTable(name) => Task::Encode(name),
+        EncodeWords::Rows(name, words) => Task::EncodeRows(name, words),
+        EncodeWords::Mistake(mistake) => Task::WrongRows(mistake),
+    }
 }
 
 /// What `corrections` is asked for.
@@ -297,16 +335,16 @@ pub(crate) fn task_of<'a>(alloc: Global, words: &'a [String]) -> Result<Task<'a>
         return Ok(Task::Nothing);
     };
     if name == "encode" {
-        let file = matches
-            .get_str("FILE")
-            .map_or(Name::input(), |word| Name(word));
-        return Ok(Task::Encode(file));
+        return Ok(encode_task(encode_words(alloc, matches)?));
     }
     if name == "decode" {
         return Ok(Task::Decode(names_or_input(alloc, matches)?));
     }
     if name == "table" {
         return Ok(table_task(alloc, matches)?);
+    }
+    if name == "sort" {
+        return Ok(sort_task(sort_words(alloc, matches)?));
     }
     if name == "split" {
         return Ok(Task::Split(split_words(alloc, matches)?));

@@ -6,7 +6,7 @@ use Rattle.std.proofs.lemmas.List.Elements.{All-cons, All-nil}
 use Rattle.tap_views.specs.Layout.{Tap}
 use Rattle.fare_table.specs.Fares.{Fares}
 use Rattle.fare_table.specs.Terms.{AreBoundedTerms}
-use Rattle.fare_table.specs.Token.{bytes_of}
+use Rattle.tap_views.specs.Token.{bytes_of}
 use Rattle.account_rule.specs.Chains.{ends_in_transfer}
 use Rattle.account_rule.specs.Blocks.{last_block}
 use Rattle.account_rule.specs.Replies.{live_reply, reply, reply_with, ride_reply}

@@ -16,7 +16,7 @@ use Rattle.tap_views.specs.Layout.{IsBatch, IsTapOf, Layout, Tap, Tap1, Tap2, ma
 use Rattle.tap_views.specs.Layout.{spelling}
 use Rattle.tap_views.specs.declared.encoder.TapFields.{TapFields}
 use Rattle.fare_table.specs.Fares.{Fares}
-use Rattle.fare_table.specs.Token.{Fits}
+use Rattle.tap_views.specs.Token.{Fits}
 use Rattle.shard_book.specs.declared.entry.Entry.{Entry}
 use Rattle.shard_book.specs.Plain.{token_of_bytes, unanswered}
 use Rattle.fare_service.proofs.PlainFields.{AreBytes}

@@ -1,5 +1,9 @@
 mod CentsFit
+mod Exchanged
 mod FieldsFit
+mod KeySums
+mod LedgerLines
+mod MergedLedgers
 mod MergedTexts
 mod Merging
 mod PartSums

@@ -14,7 +14,7 @@ use Rattle.account_rule.specs.declared.reply.Reply.{Reply}
 use Rattle.tap_views.specs.Layout.{Tap}
 use Rattle.fare_table.specs.Fares.{Fares}
 use Rattle.shard_book.specs.declared.entry.Entry.{Entry}
-use Rattle.fare_table.specs.declared.token.Token.{Token}
+use Rattle.tap_views.specs.declared.token.Token.{Token}
 use Rattle.shard_book.specs.Entry.{is_of, is_at, own, reply_of}
 use Rattle.shard_book.specs.SumsByKey.{entries_of_validator, validators, tokens, sums_by_validator, sums_by_token}
 use Rattle.shard_book.specs.SumsByKey.{validator_of, token_of}
@@ -22,7 +22,7 @@ use Rattle.shard_book.specs.Keys.{same_token}
 use Rattle.shard_book.specs.Rising.{rising, IsRising}
 use Rattle.shard_book.specs.Sums.{sums, sums_of_replies, is_paid, is_transfer, is_capped, is_stale}
 use Rattle.shard_book.specs.Sums.{is_unknown}
-use Rattle.fare_table.specs.Token.{bytes_of, token_cmp, token_eq}
+use Rattle.tap_views.specs.Token.{bytes_of, token_cmp, token_eq}
 use Rattle.std.specs.List.{sum_by}
 use Rattle.std.specs.List.Sorted.{IsSorted}
 use Rattle.std.specs.Ordering.{is_lt}

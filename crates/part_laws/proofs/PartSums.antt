@@ -52,7 +52,7 @@ none_add s = λ i. record {
 sum_assoc : (a b c : ℕ) → a + (b + c) ≡ (a + b) + c
 sum_assoc a b c = omega arith
 
-add_assoc : (a b c : Sums) → add_sums a (add_sums b c) ≡ add_sums (add_sums a b) c
+pub add_assoc : (a b c : Sums) → add_sums a (add_sums b c) ≡ add_sums (add_sums a b) c
 add_assoc a b c = λ i. record {
   taps = sum_assoc a.taps b.taps c.taps i;
   paid = sum_assoc a.paid b.paid c.paid i;

@@ -14,8 +14,8 @@ use Rattle.account_rule.specs.declared.reply.Answer.{Answer}
 use Rattle.account_rule.specs.declared.reply.Answer.TheVariants.{Paid, Transfer, Capped, Stale}
 use Rattle.account_rule.specs.declared.reply.Answer.TheVariants.{Unknown}
 use Rattle.account_rule.specs.declared.reply.Reply.{Reply}
-use Rattle.fare_table.specs.Token.{Fits, token_cmp}
-use Rattle.fare_table.specs.declared.token.Token.{Token}
+use Rattle.tap_views.specs.Token.{Fits, token_cmp}
+use Rattle.tap_views.specs.declared.token.Token.{Token}
 use Rattle.shard_book.specs.declared.entry.Entry.{Entry}
 use Rattle.shard_book.specs.Entry.{is_at, is_of, own, reply_of}
 use Rattle.shard_book.specs.SumsByKey.{entries_of_validator, sums_by_token, sums_by_validator, token_of, tokens}

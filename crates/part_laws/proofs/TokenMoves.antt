@@ -12,8 +12,8 @@ use Rattle.std.proofs.lemmas.Bool.Decides.{nat_tests}
 use Rattle.std.proofs.lemmas.List.Elements.{filter-append}
 use Rattle.std.proofs.lemmas.Option.{slice_get-get_or}
 use Rattle.fare_table.specs.Fares.{Fares}
-use Rattle.fare_table.specs.Token.{bytes_of, token_cmp, token_eq}
-use Rattle.fare_table.specs.declared.token.Token.{Token}
+use Rattle.tap_views.specs.Token.{bytes_of, token_cmp, token_eq}
+use Rattle.tap_views.specs.declared.token.Token.{Token}
 use Rattle.shard_book.specs.declared.entry.Entry.{Entry}
 use Rattle.shard_book.specs.Entry.{is_of, own}
 use Rattle.shard_book.specs.SumsByKey.{sums_by_token, token_of, tokens}

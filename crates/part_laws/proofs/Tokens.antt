@@ -17,12 +17,12 @@ use Rattle.std.proofs.lemmas.Map.Views.{All-insert_key}
 use Rattle.tap_views.specs.Layout.{Tap}
 use Rattle.fare_table.specs.Fares.{Fares}
 use Rattle.shard_book.specs.declared.entry.Entry.{Entry}
-use Rattle.fare_table.specs.declared.token.Token.{Token}
+use Rattle.tap_views.specs.declared.token.Token.{Token}
 use Rattle.shard_book.specs.Entry.{own}
 use Rattle.shard_book.specs.SumsByKey.{tokens, sums_by_token, token_of}
 use Rattle.shard_book.specs.Rising.{rising}
 use Rattle.shard_book.specs.Sums.{Sums, sums}
-use Rattle.fare_table.specs.Token.{bytes_of, token_cmp}
+use Rattle.tap_views.specs.Token.{bytes_of, token_cmp}
 use Rattle.shard_book.specs.Plain.{unanswered}
 use Rattle.shard_book.proofs.PlainReplies.{bare}
 use Rattle.tap_parts.specs.Parts.{part_of_token, of_part}

@@ -17,8 +17,8 @@ use Rattle.tap_views.specs.Encoding.{fields_of}
 use Rattle.tap_views.specs.Layout.{Tap}
 use Rattle.tap_views.specs.declared.fault.LayoutFault.{LayoutFault}
 use Rattle.fare_table.specs.Fares.{Fares}
-use Rattle.fare_table.specs.Token.{token_cmp}
-use Rattle.fare_table.specs.declared.token.Token.{Token}
+use Rattle.tap_views.specs.Token.{token_cmp}
+use Rattle.tap_views.specs.declared.token.Token.{Token}
 use Rattle.shard_book.specs.declared.entry.Entry.{Entry}
 use Rattle.shard_book.specs.Entry.{own, reply_of}
 use Rattle.shard_book.specs.SumsByKey.{entries_of_validator, sums_by_token, sums_by_validator, token_of, tokens}
@@ -42,6 +42,7 @@ use Rattle.part_laws.specs.Sizes.{HasSize}
 use Rattle.part_laws.specs.Split.{IsSplit, Part, entries_of_parts}
 use Rattle.part_laws.proofs.MergedTexts.{IsWritable, TellsOf, own_can_be_told, own_told}
 use Rattle.part_laws.proofs.MergedTexts.{tokens_told, totals_told, validators_told}
+use Rattle.part_laws.proofs.KeySums.{tokens_add, validators_add}
 use Rattle.part_laws.proofs.Merging.{RisingNumbers, RisingTokens, own_all, same_entries}
 use Rattle.part_laws.proofs.PartSums.{keys-map as number_keys, listed_parts, members}
 use Rattle.part_laws.proofs.ReportTexts.{end_of, ends_fit, same_lines, same_text}
@@ -96,7 +97,7 @@ record Telling (parts : List Part) (files : List (List ℕ)) : Type 0 where
   tell : AllZip TellsOf parts told
   fit : All IsPartReport told
 
-module _ (numbers : RisingNumbers) (names : RisingTokens) where
+module _ (law : SumsAdd) (numbers : RisingNumbers) (names : RisingTokens) where
   own_is_part : (part : Part) (ends : List UploadEnd) → IsWritable part
       → All HasNoFault part.files → ArePlainEnds part.files ends
       → IsPartReport (own_told part ends)
@@ -111,9 +112,11 @@ module _ (numbers : RisingNumbers) (names : RisingTokens) where
         validators_number = told.validators_number;
         validators = told.validators;
         validators_rise = numbers_rise numbers part.history;
+        validators_add = validators_add numbers law part.history;
         tokens_number = told.tokens_number;
         tokens = told.tokens;
         tokens_rise = names_rise names part.history;
+        tokens_add = tokens_add names law part.history;
       }
 
   telling : (parts : List Part) (files : List (List ℕ)) → AllByRecursion IsWritable parts
@@ -225,7 +228,7 @@ module _ (fares : Fares) (uploads : List (List ℕ)) (history : List Entry) (par
     report_files) where
   tellings : Telling parts report_files
   tellings =
-      telling numbers names parts report_files (recursion_from_All IsWritable parts can)
+      telling law numbers names parts report_files (recursion_from_All IsWritable parts can)
       (recursion_from_All (λ part. All HasNoFault part.files) parts none) told_parts
 
   history_taps : (sums history).taps ≡ length (taps_of_uploads split.settled.taps)

@@ -2,17 +2,21 @@
 //! what these runs print, merged by `part_reports`, is what one settled run prints.
 #![tactic(auto)]
 
-ghost use Rattle.std.specs.Prelude.{◌≡◌, ℕ, List, All, Some, slice_get, length, map, flat_map};
+ghost use Rattle.std.specs.Prelude.{◌≡◌, ℕ, List, ◌∷◌, ◌++◌, All, None, Some, slice_get, length};
+ghost use Rattle.std.specs.Prelude.{flat_map, map};
 ghost use Rattle.std.specs.List.{AllZip};
 ghost use Rattle.tap_views.specs.Layout.{Tap};
 ghost use Rattle.fare_table.specs.Fares.{Fares};
 ghost use Rattle.shard_book.specs.declared.entry.Entry.{Entry};
-ghost use Rattle.fare_table.specs.declared.token.Token.{Token};
+ghost use Rattle.tap_views.specs.declared.token.Token.{Token};
 ghost use Rattle.shard_book.specs.Entry.{own};
 ghost use Rattle.shard_book.specs.SumsByKey.{sums_by_token, sums_by_validator};
 ghost use Rattle.shard_book.specs.Sums.{Sums, add_all, sums};
-ghost use Rattle.fare_table.specs.Token.{bytes_of};
+ghost use Rattle.tap_views.specs.Token.{bytes_of};
 ghost use Rattle.tap_views.specs.Files.{AreGoodTapsOfEach, HasOneReading};
+ghost use Rattle.ledger_laws.specs.Written.{AreLetters};
+ghost use Rattle.ledger_texts.specs.Explained.{IsExplainedOver};
+ghost use Rattle.ledger_texts.specs.Ledger.{IsLedgerOver};
 ghost use Rattle.report_texts.specs.UploadEnds.{ArePlainEnds};
 ghost use Rattle.report_texts.specs.OverHistory.{IsReportOver, IsStatementOver};
 ghost use Rattle.report_texts.specs.Report.{report, upload_lines};
@@ -21,6 +25,7 @@ ghost use Rattle.tap_parts.specs.Parts.{part_of_token};
 ghost use Rattle.settlement.specs.Settled.{IsSettledHistory};
 ghost use Rattle.tap_parts.specs.Parts.{taps_of_uploads};
 ghost use Rattle.tap_parts.specs.Split.{IsSplitFile};
+ghost use Rattle.part_reports.specs.Ledgers.{IsMergedLedger};
 ghost use Rattle.part_reports.specs.Reports.{IsMerged, end_texts};
 ghost use Rattle.part_laws.specs.Files.{HasNoFault};
 ghost use Rattle.part_laws.specs.Sizes.{CanBeWritten, HasSize, HaveBoundedTerms};
@@ -83,6 +88,25 @@ pub fn parts_have_the_whole_sums()
     one_rising_list();
 }
 
+/// Uploads were split by token, and each part was settled by itself. A token's explained statement
+/// over its part is that over the settled history of the uploads, and so is its ledger.
+pub fn parts_tell_each_token()
+    ensures explained { (fares : Fares) (uploads : List (List ℕ)) (history : List Entry)
+        (parts : List Part) → IsSplit fares uploads history parts
+        → (token : Token) (part : Part)
+        → slice_get parts (part_of_token (bytes_of token) (length parts)) ≡ Some part
+        → (text : List ℕ) → IsExplainedOver fares part.history token text
+        → IsExplainedOver fares history token text }
+    ensures ledgers { (fares : Fares) (uploads : List (List ℕ)) (history : List Entry)
+        (parts : List Part) → IsSplit fares uploads history parts
+        → (token : Token) (part : Part)
+        → slice_get parts (part_of_token (bytes_of token) (length parts)) ≡ Some part
+        → (text : List ℕ) → IsLedgerOver fares part.history (Some token) text
+        → IsLedgerOver fares history (Some token) text }
+{
+    parts_have_the_whole_sums();
+}
+
 /// The parts' totals add up to those of the settled history. A rising list of the parts'
 /// validators, each with its sums in all parts, is that of the settled history.
 pub fn merged_sums()
@@ -141,6 +165,28 @@ pub fn merged_text()
     one_rising_list();
     merged_report();
 }
+
+/// Each part's file is the ledger of the part's settled history. Whatever is merged of these files
+/// is the ledger of the uploads' settled history. The names of modes are of letters `a` to `z`, as
+/// those of every table that was read.
+pub fn merged_ledger()
+    ensures { (fares : Fares) (uploads : List (List ℕ)) (history : List Entry)
+        (parts : List Part) → IsSplit fares uploads history parts
+        → AreLetters fares.meaning.modes → (files : List (List ℕ))
+        → AllZip (λ part file. IsLedgerOver fares part.history None file) parts files
+        → (text : List ℕ) → IsMergedLedger files text → IsLedgerOver fares history None text }
+{
+    one_rising_list();
+}
+
+/// Two reports may change their places: what is merged stays the same. So the reports of the parts
+/// may come in any order, since each order is reached by such exchanges.
+pub fn reports_change_places()
+    ensures { (end_files front : List (List ℕ)) (a : List ℕ) (middle : List (List ℕ))
+        (b : List ℕ) (back : List (List ℕ)) (text : List ℕ)
+        → IsMerged end_files (front ++ a ∷ (middle ++ b ∷ back)) text
+        → IsMerged end_files (front ++ b ∷ (middle ++ a ∷ back)) text }
+{}
 
 /// Each part's files have no layout fault, and its report file is the report of its settled
 /// history. Each of the ends' files has the lines of the next uploads. Such files can be merged. An

@@ -10,8 +10,8 @@ use Rattle.std.specs.declared.cmp.Ordering.TheVariants.{Less}
 use Rattle.std.proofs.lemmas.List.Elements.{All-cons, All-filter, All-head, All-nil, All-tail}
 use Rattle.std.proofs.lemmas.List.Sorted.{All-permutation, sum_by-IsPermutation}
 use Rattle.std.proofs.lemmas.List.Sums.{sum_by-append}
-use Rattle.fare_table.specs.Token.{token_cmp, token_eq}
-use Rattle.fare_table.specs.declared.token.Token.{Token}
+use Rattle.tap_views.specs.Token.{token_cmp, token_eq}
+use Rattle.tap_views.specs.declared.token.Token.{Token}
 use Rattle.shard_book.specs.Sums.{Sums, add_all}
 use Rattle.fare_texts.specs.ReportLines.{token_line}
 use Rattle.report_texts.specs.Numbers.{IsUploadEnd}
@@ -36,7 +36,9 @@ use Rattle.part_reports.proofs.PartsBegun.{told_unique}
 use Rattle.part_reports.proofs.PermutedTokens.{of_token, same_token}
 use Rattle.part_reports.proofs.Risings.{Rise, falls_from}
 use Rattle.part_reports.proofs.TextsRead.{lines_whole}
-use Rattle.part_reports.proofs.TokenSums.{Sum, line_of, lines_keys, lines_length, lines_stand}
+use Rattle.part_reports.proofs.Added.{lines_stand}
+use Rattle.part_reports.proofs.TokenSums.{Sum, line_of, lines_keys, lines_length}
+use Rattle.part_reports.specs.inside.SumsLeft.{left_of}
 use Rattle.part_reports.proofs.WholeReports.{fronts_totals, lines_filtered, parts_taps}
 use Rattle.report_texts.specs.UploadEnds.{taps_told}
 use Rattle.report_texts.specs.declared.upload_end.UploadEnd.{UploadEnd}
@@ -59,7 +61,8 @@ ends_same first (a ∷ some) (b ∷ more) may may_too same =
 
 -- what is left of a part's report behind the head of its tokens
 abbrev part_left : Report → LineKind × List ℕ
-part_left part = (Tokens (length part.tokens), flat_map token_line part.tokens)
+part_left part =
+    (Tokens (length part.tokens) (left_of part.totals), flat_map token_line part.tokens)
 
 fronts_same : (begun : List BegunReport) (parts : List Report) → All (λ one. MayBePart one.0) begun
     → All IsPartReport parts → map begun_text begun ≡ map report_text parts
@@ -78,8 +81,10 @@ fronts_same (one ∷ begun) (part ∷ parts) may fit same =
     (All-tail IsPartReport part parts fit) tail in (
       ap (λ told. told ∷ map (λ (one : BegunReport). one.0) begun) first.0
           ∙ ap (λ more. told_of part ∷ more) rest.0,
-      ap (λ (told : ToldFront). (Tokens told.tokens, one.1) ∷ map left_text begun) first.0
-          ∙ ap (λ left. (Tokens (length part.tokens), left) ∷ map left_text begun) first.1
+      ap (λ (told : ToldFront). (Tokens told.tokens (left_of told.totals), one.1)
+          ∷ map left_text begun) first.0
+          ∙ ap (λ left. (Tokens (length part.tokens) (left_of part.totals), left)
+          ∷ map left_text begun) first.1
           ∙ ap (λ more. part_left part ∷ more) rest.1,
     )
 
@@ -129,7 +134,7 @@ lines_texts : (parts : List Report) → All IsPartReport parts
 lines_texts [] fit = tt
 lines_texts (part ∷ parts) fit =
     let first = All-head IsPartReport part parts fit in (
-      lines_stand part.tokens first.tokens first.tokens_rise,
+      lines_stand part.tokens part.totals first.tokens first.tokens_rise first.tokens_add,
       lines_texts parts
           (All-tail IsPartReport part parts fit),
     )

@@ -27,7 +27,8 @@ use Rattle.part_reports.proofs.PartsBegun.{BegunSo}
 use Rattle.part_reports.proofs.Rising.{is_less}
 use Rattle.part_reports.proofs.SumsAdded.{taps_joined, taps_nothing}
 use Rattle.part_reports.proofs.TextsRead.{behind_front, split}
-use Rattle.part_reports.proofs.TokenSums.{line_of, lines_stand}
+use Rattle.part_reports.proofs.Added.{lines_stand}
+use Rattle.part_reports.proofs.TokenSums.{line_of}
 
 -- a validator stands once among those that rise
 above_none : (q first : ℕ) (list : List (ℕ × Sums)) → q ≡ first
@@ -137,6 +138,7 @@ told_may part is = record {
     are =
         record { number = refl; each = is.validators; rise = is.validators_rise };
   };
+  add = is.validators_add;
   tokens = is.tokens_number;
 }
 
@@ -185,5 +187,5 @@ parts_refused remaining items readers x before sources front within here so_far 
     no_part fronts done.counted (told_of part, flat_map token_line part.tokens)
     (map line_of part.tokens) (told_may part is)
     (shown ∙ sym (whole_text part.ends part.totals part.validators part.tokens))
-    (lines_stand part.tokens is.tokens is.tokens_rise)
+    (lines_stand part.tokens part.totals is.tokens is.tokens_rise is.tokens_add)
     (few (fronts ++ told_of part ∷ []) all_may (omega (arith, count, total, size, short)))

@@ -4,10 +4,11 @@ use Rattle.std.proofs.Common.{Option, Some, None, ap, subst, ◌∙◌, arith}
 use Rattle.std.specs.Prelude.{◌==◌, if◌then◌else◌, IfSome}
 use Rattle.std.specs.Io.BufRead.{drop_through, take_through}
 use Rattle.shard_book.specs.Sums.{Sums}
-use Rattle.fare_table.specs.declared.token.Token.{Token}
+use Rattle.tap_views.specs.declared.token.Token.{Token}
 use Rattle.fare_texts.specs.ReportLines.{token_line}
 use Rattle.part_reports.specs.TokenLines.{TokenLine, text_of}
 use Rattle.part_reports.specs.inside.Kinds.{IsSumLine, IsTextOf}
+use Rattle.part_reports.specs.inside.SumsLeft.{left_of}
 use Rattle.part_reports.specs.inside.Standings.{IsAtLine, IsBehindOne, IsFirstLine, IsLineOfKind}
 use Rattle.part_reports.specs.inside.Standings.{StandsInText, MayEnd, MayFollowAll, MayFollowToken}
 use Rattle.part_reports.specs.inside.Standings.{StandsInTextAt, Standing}
@@ -24,7 +25,7 @@ weaker (Some text) P Q f holds = f text holds
 
 -- ---- single lines
 pub line_is_one : (kind : LineKind) (line : TokenLine) → IsLineOfKind kind line → IsOneLine line.text
-line_is_one (Tokens left) line is =
+line_is_one (Tokens left rest) line is =
     subst IsOneLine (sym is.shown) (token_line_is_one (line.token, is.sums) is.is)
 line_is_one Entries line is = entry_line_is_one line is
 
@@ -39,11 +40,11 @@ pub line_is_some : (kind : LineKind) (line : TokenLine) → IsLineOfKind kind li
 line_is_some kind line is = one_is_some line.text (line_is_one kind line is)
 
 -- the kind of a line is not in how many are left
-pub same_line : (kind behind : LineKind) (line : TokenLine) → IsBehindOne kind behind
+pub same_line : (kind behind : LineKind) (line : TokenLine) → IsBehindOne kind line behind
     → IsLineOfKind kind line → IsLineOfKind behind line
-same_line (Tokens left) (Tokens behind) line one is = is
-same_line (Tokens left) Entries line one is = elim one [ ]
-same_line Entries (Tokens behind) line one is = elim one [ ]
+same_line (Tokens left rest) (Tokens behind after) line one is = is
+same_line (Tokens left rest) Entries line one is = elim one [ ]
+same_line Entries (Tokens behind after) line one is = elim one [ ]
 same_line Entries Entries line one is = is
 
 sum_line_unique : (a b : TokenLine) (x y : List ℕ) → IsSumLine a → IsSumLine b
@@ -59,7 +60,7 @@ sum_line_unique a b x y is also same =
 
 pub line_unique : (kind : LineKind) (a b : TokenLine) (x y : List ℕ) → IsLineOfKind kind a
     → IsLineOfKind kind b → a.text ++ x ≡ b.text ++ y → (a ≡ b) × (x ≡ y)
-line_unique (Tokens left) a b x y is also same = sum_line_unique a b x y is also same
+line_unique (Tokens left rest) a b x y is also same = sum_line_unique a b x y is also same
 line_unique Entries a b x y is also same = entry_line_unique a b x y is also same
 
 -- ---- what a reader takes and leaves
@@ -106,16 +107,17 @@ no_first_line kind token is = line_is_some kind (record { token = token; text = 
 
 behind_of : (kind : LineKind) (line : TokenLine) (lines : List TokenLine) (text : List ℕ)
     → IsTextOf (kind, text) (line ∷ lines)
-    → (behind : LineKind) × IsBehindOne kind behind × IsLineOfKind kind line
-behind_of (Tokens left) line lines text is = (
-  Tokens (length lines),
-  omega (arith, is.0.0),
-  is.0.1 0 line (omega arith),
-)
+    → (behind : LineKind) × IsBehindOne kind line behind × IsLineOfKind kind line
+behind_of (Tokens left rest) line lines text is =
+    let (its, more, has, add, leave) = is.0.3 in (
+      Tokens (length lines) (left_of more),
+      (omega (arith, is.0.0), (its, has, add)),
+      is.0.1 0 line (omega arith),
+    )
 behind_of Entries line lines text is = (Entries, tt, is.0.0 0 line (omega arith))
 
 may_end_of : (kind : LineKind) (text : List ℕ) → IsTextOf (kind, text) [] → MayEnd kind
-may_end_of (Tokens left) text is = sym is.0.0
+may_end_of (Tokens left rest) text is = (sym is.0.0, is.0.3)
 may_end_of Entries text is = tt
 
 pub no_text : (kind : LineKind) (text line : List ℕ) → line ≡ take_through 10 text
@@ -130,7 +132,8 @@ no_text kind text line taken none (first ∷ list) is =
     none behind (Some first.token) (
       subst (λ text. IsLineOfKind kind (record { token = first.token; text = text }))
           (sym same) fits,
-      one,
+      subst (λ text. IsBehindOne kind (record { token = first.token; text = text }) behind)
+          (sym same) one,
     )
 
 -- the lines of a text at whose first line a source stands begin with that line

@@ -9,8 +9,8 @@ use Rattle.std.specs.declared.cmp.Ordering.TheVariants.{Less, Equal, Greater}
 use Rattle.std.proofs.lemmas.Bool.{cases_eq, cases_lt}
 use Rattle.std.proofs.lemmas.Cmp.{nat_cmp_total, on_total, then_total}
 use Rattle.std.proofs.lemmas.Option.{slice_get-get_or, slice_get_within}
-use Rattle.fare_table.specs.Token.{token_cmp}
-use Rattle.fare_table.specs.declared.token.Token.{Token}
+use Rattle.tap_views.specs.Token.{token_cmp}
+use Rattle.tap_views.specs.declared.token.Token.{Token}
 use Rattle.part_reports.specs.inside.Least.{IsBelowOthers, IsLeast, StandsTwice, StandsAt}
 
 -- of the places before the end, the one found has the least token

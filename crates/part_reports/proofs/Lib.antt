@@ -1,3 +1,5 @@
+pub mod Added
+pub mod Adding
 pub mod CannotMerge
 pub mod Counted
 pub mod EndsRead
@@ -27,3 +29,4 @@ pub mod Unique
 pub mod UniqueTexts
 pub mod WholeFronts
 pub mod WholeReports
+pub mod Wrongs

@@ -5,8 +5,8 @@ use Rattle.std.specs.declared.cmp.Ordering.{Ordering}
 use Rattle.std.specs.declared.cmp.Ordering.TheVariants.{Less, Equal, Greater}
 use Rattle.std.proofs.lemmas.Cmp.{tied_itself, upto}
 use Rattle.std.proofs.lemmas.Bool.{true≢false}
-use Rattle.fare_table.specs.Token.{token_cmp}
-use Rattle.fare_table.specs.declared.token.Token.{Token}
+use Rattle.tap_views.specs.Token.{token_cmp}
+use Rattle.tap_views.specs.declared.token.Token.{Token}
 use Rattle.part_reports.specs.inside.Standings.{MayFollow}
 use Rattle.part_reports.specs.declared.merging.LineKind.{LineKind}
 use Rattle.part_reports.specs.declared.merging.LineKind.TheVariants.{Tokens, Entries}
@@ -56,10 +56,10 @@ below_then a b c less second = by_order (token_cmp a c) refl
         absurd (true≢false (sym (ap is_lt wrong) ∙ second))
 
 pub may_not_below : (kind : LineKind) (a b : Token) → MayFollow kind a b → NotBelow a b
-may_not_below (Tokens left) a b may = below_not_below a b may
+may_not_below (Tokens left rest) a b may = below_not_below a b may
 may_not_below Entries a b may = may
 
 pub may_follow_trans : (kind : LineKind) (a b c : Token) → MayFollow kind a b → MayFollow kind b c
     → MayFollow kind a c
-may_follow_trans (Tokens left) a b c first second = token_total.trans a b c first second
+may_follow_trans (Tokens left rest) a b c first second = token_total.trans a b c first second
 may_follow_trans Entries a b c first second = not_below_trans a b c first second

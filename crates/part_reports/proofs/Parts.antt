@@ -6,14 +6,17 @@ use Rattle.std.specs.Prelude.{IfSome}
 use Rattle.std.specs.List.{AllByRecursion}
 use Rattle.std.proofs.lemmas.List.{length_push}
 use Rattle.std.proofs.lemmas.List.Concat.{flat_map-append}
-use Rattle.fare_table.specs.declared.token.Token.{Token}
+use Rattle.tap_views.specs.declared.token.Token.{Token}
 use Rattle.part_reports.specs.TokenLines.{TokenLine, text_of}
-use Rattle.part_reports.specs.inside.Kinds.{AreLines, IsTextOf}
+use Rattle.shard_book.specs.Sums.{sums}
+use Rattle.part_reports.specs.inside.Kinds.{AreLines, HasTokenSums, IsTextOf, Leave}
+use Rattle.part_reports.specs.inside.SumsLeft.{sums_left}
 use Rattle.part_reports.specs.inside.Standings.{IsAtEnd, IsAtLine, IsBehindOne, IsLineOfKind, IsMoved}
 use Rattle.part_reports.specs.inside.Standings.{StandsInText, StandsInTextAt, IsStuck, MayEnd, MayFollow}
 use Rattle.part_reports.specs.inside.Standings.{MayFollowAll, MayFollowToken, Standing}
 use Rattle.part_reports.specs.declared.merging.LineKind.{LineKind}
 use Rattle.part_reports.specs.declared.merging.LineKind.TheVariants.{Tokens, Entries}
+use Rattle.part_reports.proofs.Added.{leave_all, leave_behind, leave_push, one_of_token}
 use Rattle.part_reports.proofs.Orders.{may_follow_trans}
 use Rattle.part_reports.proofs.Risings.{AreCounted, Rise, begins, each_behind, each_push}
 use Rattle.part_reports.proofs.Risings.{each_weaker}
@@ -27,76 +30,90 @@ pub record Part : Type 0 where
   pub at : Standing
   pub done : List TokenLine
 
--- after so many lines of the first kind those of the second kind are left
-abbrev pub IsBehindSo : LineKind → LineKind → ℕ → Type 0
-IsBehindSo (Tokens all) (Tokens left) count = all ≡ count + left
-IsBehindSo (Tokens all) Entries count = ⊥
-IsBehindSo Entries (Tokens left) count = ⊥
-IsBehindSo Entries Entries count = Unit {0}
+-- behind these lines of the first kind those of the second kind are left
+abbrev pub IsBehindSo : LineKind → LineKind → List TokenLine → Type 0
+IsBehindSo (Tokens all total) (Tokens left rest) done =
+    (all ≡ length done + left) × Leave HasTokenSums done (sums_left total) (sums_left rest)
+IsBehindSo (Tokens all total) Entries done = ⊥
+IsBehindSo Entries (Tokens left rest) done = ⊥
+IsBehindSo Entries Entries done = Unit {0}
 
-none_behind : (kind : LineKind) → IsBehindSo kind kind 0
-none_behind (Tokens left) = omega arith
+none_behind : (kind : LineKind) → IsBehindSo kind kind []
+none_behind (Tokens left rest) = (omega arith, refl)
 none_behind Entries = tt
 
-one_behind : (all kind behind : LineKind) (count : ℕ) → IsBehindSo all kind count
-    → IsBehindOne kind behind → IsBehindSo all behind (count + 1)
-one_behind (Tokens all) (Tokens left) (Tokens behind) count is one = omega (arith, is, one)
-one_behind (Tokens all) (Tokens left) Entries count is one = elim one [ ]
-one_behind (Tokens all) Entries behind count is one = elim is [ ]
-one_behind Entries (Tokens left) behind count is one = elim is [ ]
-one_behind Entries Entries (Tokens behind) count is one = elim one [ ]
-one_behind Entries Entries Entries count is one = tt
+one_behind : (all kind behind : LineKind) (done : List TokenLine) (line : TokenLine)
+    → IsBehindSo all kind done → IsBehindOne kind line behind
+    → IsBehindSo all behind (done ++ line ∷ [])
+one_behind (Tokens all total) (Tokens left rest) (Tokens behind after) done line is one =
+    let (its, has, add) = one.1 in (
+      omega (arith, is.0, one.0, length_push done line),
+      leave_push HasTokenSums done line (sums_left total) (sums_left rest) (sums_left after) its
+          is.1 has add,
+    )
+one_behind (Tokens all total) (Tokens left rest) Entries done line is one = elim one [ ]
+one_behind (Tokens all total) Entries behind done line is one = elim is [ ]
+one_behind Entries (Tokens left rest) behind done line is one = elim is [ ]
+one_behind Entries Entries (Tokens behind after) done line is one = elim one [ ]
+one_behind Entries Entries Entries done line is one = tt
 
-all_done : (all kind : LineKind) (count : ℕ) → IsBehindSo all kind count → MayEnd kind
-    → AreCounted all count
-all_done (Tokens all) (Tokens left) count is may = omega (arith, is, may)
-all_done (Tokens all) Entries count is may = elim is [ ]
-all_done Entries kind count is may = tt
+all_done : (all kind : LineKind) (done : List TokenLine) → IsBehindSo all kind done → MayEnd kind
+    → AreCounted all done
+all_done (Tokens all total) (Tokens left rest) done is may = (
+  omega (arith, is.0, may.0),
+  leave_all HasTokenSums done (sums_left total) (sums_left rest) (sums []) is.1 may.1,
+)
+all_done (Tokens all total) Entries done is may = elim is [ ]
+all_done Entries kind done is may = tt
 
-rest_count : (all kind : LineKind) (count more : ℕ) → IsBehindSo all kind count
-    → AreCounted all (count + more) → AreCounted kind more
-rest_count (Tokens all) (Tokens left) count more is counted = omega (arith, is, counted)
-rest_count (Tokens all) Entries count more is counted = elim is [ ]
-rest_count Entries (Tokens left) count more is counted = elim is [ ]
-rest_count Entries Entries count more is counted = tt
+rest_count : (all kind : LineKind) (done more : List TokenLine) → IsBehindSo all kind done
+    → AreCounted all (done ++ more) → AreCounted kind more
+rest_count (Tokens all total) (Tokens left rest) done more is counted = (
+  omega (arith, is.0, counted.0, length-append done more),
+  leave_behind HasTokenSums one_of_token done more (sums_left total) (sums_left rest) (sums [])
+      is.1 counted.1,
+)
+rest_count (Tokens all total) Entries done more is counted = elim is [ ]
+rest_count Entries (Tokens left rest) done more is counted = elim is [ ]
+rest_count Entries Entries done more is counted = tt
 
-like_line : (all kind : LineKind) (count : ℕ) (line : TokenLine) → IsBehindSo all kind count
+like_line : (all kind : LineKind) (done : List TokenLine) (line : TokenLine) → IsBehindSo all kind done
     → IsLineOfKind kind line → IsLineOfKind all line
-like_line (Tokens all) (Tokens left) count line is fits = fits
-like_line (Tokens all) Entries count line is fits = elim is [ ]
-like_line Entries (Tokens left) count line is fits = elim is [ ]
-like_line Entries Entries count line is fits = fits
+like_line (Tokens all total) (Tokens left rest) done line is fits = fits
+like_line (Tokens all total) Entries done line is fits = elim is [ ]
+like_line Entries (Tokens left rest) done line is fits = elim is [ ]
+like_line Entries Entries done line is fits = fits
 
-like_order : (all kind : LineKind) (count : ℕ) (a b : Token) → IsBehindSo all kind count
+like_order : (all kind : LineKind) (done : List TokenLine) (a b : Token) → IsBehindSo all kind done
     → MayFollow kind a b → MayFollow all a b
-like_order (Tokens all) (Tokens left) count a b is may = may
-like_order (Tokens all) Entries count a b is may = elim is [ ]
-like_order Entries (Tokens left) count a b is may = elim is [ ]
-like_order Entries Entries count a b is may = may
+like_order (Tokens all total) (Tokens left rest) done a b is may = may
+like_order (Tokens all total) Entries done a b is may = elim is [ ]
+like_order Entries (Tokens left rest) done a b is may = elim is [ ]
+like_order Entries Entries done a b is may = may
 
 -- the lines behind so many, as lines of what is left
-rest_lines : (all kind : LineKind) (count : ℕ) (lines : List TokenLine) → IsBehindSo all kind count
-    → AreCounted kind (length lines) → AllByRecursion (IsLineOfKind all) lines → Rise all lines
+rest_lines : (all kind : LineKind) (done : List TokenLine) (lines : List TokenLine) → IsBehindSo all kind done
+    → AreCounted kind lines → AllByRecursion (IsLineOfKind all) lines → Rise all lines
     → AreLines kind lines
-rest_lines (Tokens all) (Tokens left) count lines is counted each rise =
-    lines_from (Tokens left) lines counted each (same_rise lines rise)
+rest_lines (Tokens all total) (Tokens left rest) done lines is counted each rise =
+    lines_from (Tokens left rest) lines counted each (same_rise lines rise)
   where
-    same_rise : (lines : List TokenLine) → Rise (Tokens all) lines → Rise (Tokens left) lines
+    same_rise : (lines : List TokenLine) → Rise (Tokens all total) lines → Rise (Tokens left rest) lines
     same_rise [] rise = tt
     same_rise (line ∷ lines) rise = (rise.0, same_rise lines rise.1)
-rest_lines (Tokens all) Entries count lines is counted each rise = elim is [ ]
-rest_lines Entries (Tokens left) count lines is counted each rise = elim is [ ]
-rest_lines Entries Entries count lines is counted each rise =
+rest_lines (Tokens all total) Entries done lines is counted each rise = elim is [ ]
+rest_lines Entries (Tokens left rest) done lines is counted each rise = elim is [ ]
+rest_lines Entries Entries done lines is counted each rise =
     lines_from Entries lines counted each rise
 
-rest_may : (all kind : LineKind) (count : ℕ) (before : Token) (lines : List TokenLine)
-    → IsBehindSo all kind count → MayFollowAll all before lines → MayFollowAll kind before lines
-rest_may (Tokens all) (Tokens left) count before [] is may = tt
-rest_may (Tokens all) (Tokens left) count before (line ∷ lines) is may = may
-rest_may (Tokens all) Entries count before lines is may = elim is [ ]
-rest_may Entries (Tokens left) count before lines is may = elim is [ ]
-rest_may Entries Entries count before [] is may = tt
-rest_may Entries Entries count before (line ∷ lines) is may = may
+rest_may : (all kind : LineKind) (done : List TokenLine) (before : Token) (lines : List TokenLine)
+    → IsBehindSo all kind done → MayFollowAll all before lines → MayFollowAll kind before lines
+rest_may (Tokens all total) (Tokens left rest) done before [] is may = tt
+rest_may (Tokens all total) (Tokens left rest) done before (line ∷ lines) is may = may
+rest_may (Tokens all total) Entries done before lines is may = elim is [ ]
+rest_may Entries (Tokens left rest) done before lines is may = elim is [ ]
+rest_may Entries Entries done before [] is may = tt
+rest_may Entries Entries done before (line ∷ lines) is may = may
 
 -- the line at which a source stands
 abbrev pub line_at : Standing → Token → TokenLine
@@ -107,7 +124,7 @@ pub record IsGoing (part : Part) : Type 0 where
   pub kind : LineKind
   pub left : List ℕ
   pub source : StandsInText (kind, left) part.at
-  pub behind : IsBehindSo part.text.0 kind (length part.done)
+  pub behind : IsBehindSo part.text.0 kind part.done
   pub shown : part.text.1 ≡ text_of part.done ++ left
   pub each : AllByRecursion (IsLineOfKind part.text.0) part.done
   pub rise : Rise part.text.0 part.done
@@ -178,11 +195,11 @@ itself_below kind line None lines may below = tt
 itself_below kind line (Some token) lines may below =
     each_push (λ line. MayFollow kind line.token token) lines line below may
 
-head_like : (all kind : LineKind) (count : ℕ) (before : Token) (head : Option Token)
-    → IsBehindSo all kind count → MayFollowToken kind (Some before) head
+head_like : (all kind : LineKind) (done : List TokenLine) (before : Token) (head : Option Token)
+    → IsBehindSo all kind done → MayFollowToken kind (Some before) head
     → MayFollowToken all (Some before) head
-head_like all kind count before None is may = tt
-head_like all kind count before (Some token) is may = like_order all kind count before token is may
+head_like all kind done before None is may = tt
+head_like all kind done before (Some token) is may = like_order all kind done before token is may
 
 -- the part behind the line at which its source stands
 abbrev pub next_part : Part → Token → Standing → Part
@@ -197,8 +214,9 @@ pub order_next : (part : Part) (token : Token) (after : Standing) → IsGoing pa
     → MayFollowToken part.text.0 (Some token) after.token
 order_next part token after going is moved =
     let at = here part token going is in
-    head_like part.text.0 part.at.behind (length part.done + 1) token after.token
-    (one_behind part.text.0 going.kind part.at.behind (length part.done) going.behind at.behind)
+    let line = line_at part.at token in
+    head_like part.text.0 part.at.behind (part.done ++ line ∷ []) token after.token
+    (one_behind part.text.0 going.kind part.at.behind part.done line going.behind at.behind)
     (subst (λ head. MayFollowToken part.at.behind head after.token) is moved.order)
 
 pub going_next : (part : Part) (token : Token) (after : Standing) → IsGoing part
@@ -206,8 +224,8 @@ pub going_next : (part : Part) (token : Token) (after : Standing) → IsGoing pa
 going_next part token after going is moved =
     let at = here part token going is in
     let line = line_at part.at token in
-    let behind = one_behind part.text.0 going.kind part.at.behind
-    (length part.done) going.behind at.behind in
+    let behind = one_behind part.text.0 going.kind part.at.behind part.done line going.behind
+    at.behind in
     let below = below_here part token going is in
     let may = order_next part token after going is moved in
     record {
@@ -215,11 +233,10 @@ going_next part token after going is moved =
       left = at.rest;
       source = subst (λ left. IfSome left (λ text. StandsInText (part.at.behind, text) after)) at.left
           moved.read;
-      behind = subst (λ n. IsBehindSo part.text.0 part.at.behind n)
-          (sym (length_push part.done line)) behind;
+      behind = behind;
       shown = shown_here part token going is;
       each = each_push (IsLineOfKind part.text.0) part.done line going.each
-          (like_line part.text.0 going.kind (length part.done) line going.behind at.line);
+          (like_line part.text.0 going.kind part.done line going.behind at.line);
       rise = rise_push part.text.0 part.done line going.rise below;
       below = itself_below part.text.0 line after.token part.done may
           (next_below part.text.0 token after.token part.done below may);
@@ -231,7 +248,7 @@ going_end part going is =
     let end : IsAtEnd (going.kind, going.left) =
     subst (λ head. StandsInTextAt (going.kind, going.left) part.at head) is going.source in (
       lines_from part.text.0 part.done
-          (all_done part.text.0 going.kind (length part.done) going.behind end.may) going.each
+          (all_done part.text.0 going.kind part.done going.behind end.may) going.each
           going.rise,
       going.shown ∙ ap (λ left. text_of part.done ++ left) end.shown
           ∙ append-nil (text_of part.done),
@@ -248,7 +265,7 @@ going_line part token going is list text =
     let line = line_at part.at token in
     begins part.text.0 (part.done ++ line ∷ []) list at.rest
     (each_push (IsLineOfKind part.text.0) part.done line going.each
-    (like_line part.text.0 going.kind (length part.done) line going.behind at.line))
+    (like_line part.text.0 going.kind part.done line going.behind at.line))
     (lines_each part.text.0 list text.0) (sym text.1 ∙ shown_here part token going is)
 
 -- a source that is stuck has no such lines
@@ -258,26 +275,23 @@ going_stuck part token going is stuck list text =
     let at = here part token going is in
     let line = line_at part.at token in
     let (more, begun, rest) = going_line part token going is list text in
-    let behind = one_behind part.text.0 going.kind part.at.behind
-    (length part.done) going.behind at.behind in
+    let behind = one_behind part.text.0 going.kind part.at.behind part.done line going.behind
+    at.behind in
     let front = part.done ++ line ∷ [] in
-    let count : AreCounted part.text.0 ((length part.done + 1) + length more) =
-    subst (λ n. AreCounted part.text.0 n)
-    (ap length begun ∙ length-append front more
-    ∙ ap (λ n. n + length more) (length_push part.done line))
-    (lines_count part.text.0 list text.0) in
+    let count : AreCounted part.text.0 (front ++ more) =
+    subst (λ lines. AreCounted part.text.0 lines) begun (lines_count part.text.0 list text.0) in
     let rise : Rise part.text.0 (front ++ more) =
     subst (λ lines. Rise part.text.0 lines) begun (lines_rise part.text.0 list text.0) in
     let each : AllByRecursion (IsLineOfKind part.text.0) (front ++ more) =
     subst (λ lines. AllByRecursion (IsLineOfKind part.text.0) lines) begun
     (lines_each part.text.0 list text.0) in
     let lines : AreLines part.at.behind more =
-    rest_lines part.text.0 part.at.behind (length part.done + 1) more behind
-    (rest_count part.text.0 part.at.behind (length part.done + 1) (length more) behind count)
+    rest_lines part.text.0 part.at.behind front more behind
+    (rest_count part.text.0 part.at.behind front more behind count)
     (each_behind (IsLineOfKind part.text.0) front more each) (rise_behind part.text.0 front more rise)
     in
     let may : MayFollowAll part.at.behind token more =
-    rest_may part.text.0 part.at.behind (length part.done + 1) token more behind
+    rest_may part.text.0 part.at.behind front token more behind
     (rise_middle part.text.0 part.done line more rise) in
     let no : (list : List TokenLine) → IsTextOf (part.at.behind, at.rest) list
     → IfSome part.at.token (λ token. ¬ (MayFollowAll part.at.behind token list)) =

@@ -13,7 +13,12 @@ use Rattle.part_reports.specs.declared.sums.WholeSums.{WholeSums}
 use Rattle.part_reports.specs.Faults.{IsOfTexts}
 use Rattle.part_reports.specs.Texts.{AreLeft}
 use Rattle.part_reports.specs.TokenLines.{TokenLine}
-use Rattle.part_reports.specs.inside.Fronts.{IsFront, MayBePart, ToldFront, told_text}
+use Rattle.shard_book.specs.Shown.{validator_sum}
+use Rattle.shard_book.specs.Sums.{sums_of}
+use Rattle.part_reports.specs.Reports.{added}
+use Rattle.part_reports.specs.inside.SumsLeft.{left_of}
+use Rattle.part_reports.specs.inside.Fronts.{IsFront, MayBePart, MayBeSections, ToldFront}
+use Rattle.part_reports.specs.inside.Fronts.{told_text}
 use Rattle.part_reports.specs.inside.Kinds.{IsTextOf}
 use Rattle.part_reports.specs.inside.Parts.{AreParts, BegunReport, IsNoPart, IsPart, begun_text}
 use Rattle.part_reports.specs.inside.Parts.{left_text}
@@ -26,8 +31,8 @@ use Rattle.part_reports.proofs.WholeFronts.{IsUnique, behind_ends, behind_totals
 use Rattle.part_reports.proofs.WholeFronts.{told_parts, tokens_text, validators_unique}
 
 -- what stands before the tokens is determined by the text
-pub told_unique : IsUnique MayBePart told_text
-told_unique a b x y may may_too same =
+pub sections_unique : IsUnique MayBeSections told_text
+sections_unique a b x y may may_too same =
     let ends = ends_unique a.ends b.ends (behind_ends a x) (behind_ends b y) may.ends may_too.ends
     (sym (told_parts a x) ∙ same ∙ told_parts b y) in
     let totals = totals_line_unique a.totals b.totals (behind_totals a x) (behind_totals b y)
@@ -45,6 +50,72 @@ told_unique a b x y may may_too same =
       },
       tokens.1,
     )
+
+pub sections : (told : ToldFront) → MayBePart told → MayBeSections told
+sections told may = record {
+  ends = may.ends;
+  totals = may.totals;
+  validators = may.validators;
+  tokens = may.tokens;
+}
+
+pub told_unique : IsUnique MayBePart told_text
+told_unique a b x y may may_too same =
+    sections_unique a b x y (sections a may) (sections b may_too) same
+
+-- what was read is that of a part if the validators add up
+pub front_adds : (text now : Option (List ℕ)) (front : Front)
+    → IsRead IsFront MayBeSections told_text text now (Ok front)
+    → sums_of front.totals ≡ added (map validator_sum front.validators.items)
+    → IsRead IsFront MayBePart told_text text now (Ok front)
+front_adds None now front read add = tt
+front_adds (Some text) now front read add = record {
+  value = read.value;
+  is = read.is;
+  may = record {
+    ends = read.may.ends;
+    totals = read.may.totals;
+    validators = read.may.validators;
+    add = sym read.is.totals ∙ add ∙ ap added read.is.validators;
+    tokens = read.may.tokens;
+  };
+  rest = read.rest;
+  shown = read.shown;
+  left = read.left;
+}
+
+-- and no front of a part is there if they do not
+pub no_adding : (text now after : Option (List ℕ)) (front : Front) (fault : MergeFault)
+    → IsRead IsFront MayBeSections told_text text now (Ok front)
+    → ¬ (sums_of front.totals ≡ added (map validator_sum front.validators.items))
+    → IsRead IsFront MayBePart told_text text after (Err fault)
+no_adding None now after front fault read not = tt
+no_adding (Some text) now after front fault read not =
+    λ of_texts value rest may shown.
+    let same = (sections_unique read.value value read.rest rest read.may (sections value may)
+    (sym read.shown ∙ shown)).0 in
+    not (read.is.totals ∙ ap (λ (told : ToldFront). told.totals) same ∙ may.add
+    ∙ ap (λ (told : ToldFront). added told.validators) (sym same)
+    ∙ ap added (sym read.is.validators))
+
+-- no sections are there, so that no front of a part is
+pub no_sections : (text now after : Option (List ℕ)) (fault : MergeFault)
+    → IsRead IsFront MayBeSections told_text text now (Err fault)
+    → IsRead IsFront MayBePart told_text text after (Err fault)
+no_sections None now after fault read = tt
+no_sections (Some text) now after fault read =
+    λ of_texts value rest may shown. read of_texts value rest (sections value may) shown
+
+-- what the lines of the tokens are
+abbrev pub front_kind : Front → LineKind
+front_kind front = Tokens front.tokens (left_of (sums_of front.totals))
+
+abbrev told_kind : ToldFront → LineKind
+told_kind told = Tokens told.tokens (left_of told.totals)
+
+kind_is : (front : Front) (told : ToldFront) → IsFront front told
+    → front_kind front ≡ told_kind told
+kind_is front told is = λ i. Tokens (is.tokens i) (left_of (is.totals i))
 
 abbrev FrontRead : Option (List ℕ) → Option (List ℕ) → Result Front MergeFault → Type 0
 FrontRead text now result = IsRead IsFront MayBePart told_text text now result
@@ -74,7 +145,7 @@ no_sums before after (Some file) now front read full =
 pub no_lines : (before : WholeSums) (file : Option (List ℕ)) (now : Option (List ℕ)) (front : Front)
     (fault : MergeFault)
     → FrontRead file now (Ok front)
-    → IfSome now (λ left. (lines : List TokenLine) → ¬ (IsTextOf (Tokens front.tokens, left) lines))
+    → IfSome now (λ left. (lines : List TokenLine) → ¬ (IsTextOf (front_kind front, left) lines))
     → IfSome file (IsNoPart before)
 no_lines before None now front fault read none_there = tt
 no_lines before (Some file) now front fault read none_there =
@@ -82,27 +153,28 @@ no_lines before (Some file) now front fault read none_there =
     let same = told_unique read.value begun.0 read.rest begun.1 read.may may (sym read.shown
     ∙ shown) in
     let here = subst (λ now. IfSome now (λ left. (lines : List TokenLine)
-    → ¬ (IsTextOf (Tokens front.tokens, left) lines))) read.left none_there in
-    let tokens : begun.0.tokens ≡ front.tokens =
-    sym (read.is.tokens ∙ ap (λ (told : ToldFront). told.tokens) same.0) in
-    here lines (subst (λ text. IsTextOf text lines) (ap (λ n. (Tokens n, begun.1)) tokens
-    ∙ ap (λ left. (Tokens front.tokens, left)) (sym same.1)) is)
+    → ¬ (IsTextOf (front_kind front, left) lines))) read.left none_there in
+    let kind : told_kind begun.0 ≡ front_kind front =
+    sym (kind_is front read.value read.is ∙ ap told_kind same.0) in
+    here lines (subst (λ text. IsTextOf text lines) (ap (λ kind. (kind, begun.1)) kind
+    ∙ ap (λ left. (front_kind front, left)) (sym same.1)) is)
 
 pub is_part : (before after : WholeSums) (file now : Option (List ℕ)) (front : Front)
     (at : Standing)
     → FrontRead file now (Ok front) → WithFront before after front true
-    → IfSome now (λ left. StandsInText (Tokens front.tokens, left) at)
+    → IfSome now (λ left. StandsInText (front_kind front, left) at)
     → IfSome file (λ file. IsPart before after file at)
 is_part before after None now front at read added stands = tt
 is_part before after (Some file) now front at read added stands =
-    let here = subst (λ now. IfSome now (λ left. StandsInText (Tokens front.tokens, left) at)) read.left
+    let here = subst (λ now. IfSome now (λ left. StandsInText (front_kind front, left) at)) read.left
     stands in
     record {
       begun = (read.value, read.rest);
       may = read.may;
       shown = read.shown;
       added = λ fronts counted. added fronts read.value counted read.is;
-      stands = subst (λ n. StandsInText (Tokens n, read.rest) at) read.is.tokens here;
+      stands = subst (λ kind. StandsInText (kind, read.rest) at) (kind_is front read.value read.is)
+          here;
     }
 
 -- ---- report after report

@@ -7,13 +7,16 @@ use Rattle.std.specs.List.Sorted.{IsStrictlySortedBy}
 use Rattle.std.specs.Ordering.{is_lt}
 use Rattle.std.specs.declared.cmp.Ordering.TheVariants.{Less}
 use Rattle.std.proofs.lemmas.List.Elements.{All-from_recursion, recursion_from_All}
-use Rattle.fare_table.specs.Token.{token_cmp}
-use Rattle.fare_table.specs.declared.token.Token.{Token}
+use Rattle.tap_views.specs.Token.{token_cmp}
+use Rattle.tap_views.specs.declared.token.Token.{Token}
 use Rattle.part_reports.specs.Ledgers.{IsLedgerEntryLine}
 use Rattle.part_reports.specs.TokenLines.{DoNotFall, TokenLine, text_of}
-use Rattle.part_reports.specs.inside.Kinds.{AreLines, IsSumLine}
+use Rattle.part_reports.specs.inside.Kinds.{AreLines, HasTokenSums, IsSumLine, Leave}
+use Rattle.part_reports.specs.inside.SumsLeft.{sums_left}
 use Rattle.part_reports.specs.inside.Standings.{IsLineOfKind, MayFollow, MayFollowAll}
 use Rattle.part_reports.specs.declared.merging.LineKind.{LineKind}
+use Rattle.part_reports.specs.declared.sums_left.SumsLeft.{SumsLeft}
+use Rattle.shard_book.specs.Sums.{sums}
 use Rattle.part_reports.specs.declared.merging.LineKind.TheVariants.{Tokens, Entries}
 use Rattle.part_reports.proofs.Firsts.{line_is_some, line_unique}
 use Rattle.part_reports.proofs.Orders.{NotBelow, not_below_trans}
@@ -83,24 +86,24 @@ rise_middle kind [] line lines rise = may_all kind line.token lines rise.0
 rise_middle kind (first ∷ front) line lines rise = rise_middle kind front line lines rise.1
 
 -- the same, as std says it
-strictly_from : (left : ℕ) (lines : List TokenLine) → Rise (Tokens left) lines
+strictly_from : (left : ℕ) (rest : SumsLeft) (lines : List TokenLine) → Rise (Tokens left rest) lines
     → IsStrictlySortedBy token_cmp (map (λ line. line.token) lines)
 unfolding IsStrictlySortedBy
-strictly_from left [] rise = tt
-strictly_from left (line ∷ lines) rise = (
+strictly_from left rest [] rise = tt
+strictly_from left rest (line ∷ lines) rise = (
   each_of_map (λ (other : TokenLine). other.token) (λ token. token_cmp line.token token ≡ Less)
       lines rise.0,
-  strictly_from left lines rise.1,
+  strictly_from left rest lines rise.1,
 )
 
-strictly_to : (left : ℕ) (lines : List TokenLine)
-    → IsStrictlySortedBy token_cmp (map (λ line. line.token) lines) → Rise (Tokens left) lines
+strictly_to : (left : ℕ) (rest : SumsLeft) (lines : List TokenLine)
+    → IsStrictlySortedBy token_cmp (map (λ line. line.token) lines) → Rise (Tokens left rest) lines
 unfolding IsStrictlySortedBy
-strictly_to left [] rise = tt
-strictly_to left (line ∷ lines) rise = (
+strictly_to left rest [] rise = tt
+strictly_to left rest (line ∷ lines) rise = (
   each_from_map (λ (other : TokenLine). other.token) (λ token. token_cmp line.token token ≡ Less)
       lines rise.0,
-  strictly_to left lines rise.1,
+  strictly_to left rest lines rise.1,
 )
 
 sorted_at : (lines : List TokenLine) → Rise Entries lines → (k : ℕ) (d : TokenLine)
@@ -140,30 +143,35 @@ falls_to (line ∷ (next ∷ lines)) sorted =
     falls_to (next ∷ lines) (rest_falls line (next ∷ lines) sorted) in
     (from_next line next lines (sorted 0 line (omega arith) (omega arith)) rise, rise)
 
--- there are so many lines, where that is known
-abbrev pub AreCounted : LineKind → ℕ → Type 0
-AreCounted (Tokens left) count = count ≡ left
-AreCounted Entries count = Unit {0}
+-- there are so many lines, and they add up, where that is known
+abbrev pub AreCounted : LineKind → List TokenLine → Type 0
+AreCounted (Tokens left rest) lines =
+    (length lines ≡ left) × Leave HasTokenSums lines (sums_left rest) (sums [])
+AreCounted Entries lines = Unit {0}
 
-pub lines_from : (kind : LineKind) (lines : List TokenLine) → AreCounted kind (length lines)
+pub lines_from : (kind : LineKind) (lines : List TokenLine) → AreCounted kind lines
     → AllByRecursion (IsLineOfKind kind) lines → Rise kind lines → AreLines kind lines
-lines_from (Tokens left) lines count each rise =
-    (count, All-from_recursion IsSumLine lines each, strictly_from left lines rise)
+lines_from (Tokens left rest) lines count each rise = (
+  count.0,
+  All-from_recursion IsSumLine lines each,
+  strictly_from left rest lines rise,
+  count.1,
+)
 lines_from Entries lines count each rise =
     (All-from_recursion IsLedgerEntryLine lines each, falls_from lines rise)
 
 pub lines_count : (kind : LineKind) (lines : List TokenLine) → AreLines kind lines
-    → AreCounted kind (length lines)
-lines_count (Tokens left) lines are = are.0
+    → AreCounted kind lines
+lines_count (Tokens left rest) lines are = (are.0, are.3)
 lines_count Entries lines are = tt
 
 pub lines_each : (kind : LineKind) (lines : List TokenLine) → AreLines kind lines
     → AllByRecursion (IsLineOfKind kind) lines
-lines_each (Tokens left) lines are = recursion_from_All IsSumLine lines are.1
+lines_each (Tokens left rest) lines are = recursion_from_All IsSumLine lines are.1
 lines_each Entries lines are = recursion_from_All IsLedgerEntryLine lines are.0
 
 pub lines_rise : (kind : LineKind) (lines : List TokenLine) → AreLines kind lines → Rise kind lines
-lines_rise (Tokens left) lines are = strictly_to left lines are.2
+lines_rise (Tokens left rest) lines are = strictly_to left rest lines are.2
 lines_rise Entries lines are = falls_to lines are.1
 
 -- ---- lines that a text begins with

@@ -1,17 +1,14 @@
 -- The lines of a report's tokens, and the sums that they tell.
 use Rattle.std.proofs.Common.{◌≡◌, List, [], ◌∷◌, ◌++◌, length, refl, sym, ap, subst, ◌∙◌, arith}
 use Rattle.std.specs.Prelude.{All, flat_map, map}
-use Rattle.std.specs.List.Sorted.{IsStrictlySortedBy}
 use Rattle.std.specs.Map.{keys_of}
 use Rattle.std.proofs.lemmas.List.Elements.{All-cons, All-head, All-nil, All-tail}
-use Rattle.fare_table.specs.Token.{token_cmp}
-use Rattle.fare_table.specs.declared.token.Token.{Token}
+use Rattle.tap_views.specs.declared.token.Token.{Token}
 use Rattle.shard_book.specs.Sums.{Sums}
 use Rattle.fare_texts.specs.ReportLines.{token_line}
 use Rattle.report_texts.specs.Numbers.{IsTokenSum}
 use Rattle.part_reports.specs.TokenLines.{TokenLine, text_of}
-use Rattle.part_reports.specs.inside.Kinds.{IsSumLine, IsTextOf}
-use Rattle.part_reports.specs.declared.merging.LineKind.TheVariants.{Tokens}
+use Rattle.part_reports.specs.inside.Kinds.{IsSumLine}
 use Rattle.part_reports.proofs.Unique.{token_line_unique}
 
 abbrev pub Sum : Type 0
@@ -39,20 +36,6 @@ lines_are [] all = All-nil IsSumLine
 lines_are (sum ∷ sums) all = All-cons IsSumLine (line_of sum) (map line_of sums)
     (record { sums = sum.1; is = All-head IsTokenSum sum sums all; shown = refl })
     (lines_are sums (All-tail IsTokenSum sum sums all))
-
--- the lines of these sums are a report's
-pub lines_stand : (sums : List Sum) → All IsTokenSum sums
-    → IsStrictlySortedBy token_cmp (keys_of sums)
-    → IsTextOf (Tokens (length sums), flat_map token_line sums) (map line_of sums)
-lines_stand sums all rise = (
-  (
-    lines_length sums,
-    lines_are sums all,
-    subst (λ keys. IsStrictlySortedBy token_cmp keys)
-        (sym (lines_keys sums)) rise,
-  ),
-  sym (lines_text sums),
-)
 
 -- the sums that lines tell
 pub record Told (lines : List TokenLine) : Type 0 where

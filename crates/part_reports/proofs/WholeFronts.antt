@@ -4,7 +4,7 @@ use Rattle.std.proofs.Common.{length, refl, sym, ap, subst, ◌∙◌, append_as
 use Rattle.std.specs.Prelude.{flat_map}
 use Rattle.fare_texts.specs.Counts.{totals_line}
 use Rattle.shard_book.specs.Sums.{Sums}
-use Rattle.fare_table.specs.declared.token.Token.{Token}
+use Rattle.tap_views.specs.declared.token.Token.{Token}
 use Rattle.fare_texts.specs.ReportLines.{token_line}
 use Rattle.part_reports.specs.inside.Fronts.{front_text}
 use Rattle.report_texts.specs.Report.{report}
@@ -13,7 +13,7 @@ use Rattle.part_reports.specs.declared.fault.MergeFault.{MergeFault}
 use Rattle.part_reports.specs.Faults.{IsOfTexts}
 use Rattle.report_texts.specs.Numbers.{AreCounts, IsUploadEnd, IsValidatorSum}
 use Rattle.fare_texts.specs.ReportLines.{number_line, validator_line}
-use Rattle.part_reports.specs.inside.Fronts.{AreEnds, AreValidators, MayBePart, ToldFront, ends_text}
+use Rattle.part_reports.specs.inside.Fronts.{AreEnds, AreValidators, MayBeSections, ToldFront, ends_text}
 use Rattle.part_reports.specs.inside.Fronts.{told_text, validators_text}
 use Rattle.part_reports.specs.inside.LinesRead.{IsRead, BeginsWithValue}
 use Rattle.part_reports.proofs.ListsWritten.{lines_unique, end_lines_from, flat_map_from}
@@ -113,7 +113,7 @@ NumberRead text now result = IsRead {T = ℕ} {V =
 
 pub no_ends : {T : Type 0} (Is : T → ToldFront → Type 0) (text now after : Option (List ℕ))
     (fault : MergeFault)
-    → EndsRead text now (Err fault) → IsRead Is MayBePart told_text text after (Err fault)
+    → EndsRead text now (Err fault) → IsRead Is MayBeSections told_text text after (Err fault)
 no_ends Is None now after fault ends = tt
 no_ends Is (Some text) now after fault ends = λ of_texts told rest may shown.
     ends of_texts told.ends (behind_ends told rest) may.ends (shown ∙ told_parts told rest)
@@ -121,7 +121,7 @@ no_ends Is (Some text) now after fault ends = λ of_texts told rest may shown.
 pub no_totals : {T A : Type 0} (Is : T → ToldFront → Type 0) (IsA : A → Sums → Type 0)
     (text now then_now after : Option (List ℕ)) (fault : MergeFault)
     → EndsRead text now (Ok tt) → IsRead IsA AreCounts totals_line now then_now (Err fault)
-    → IsRead Is MayBePart told_text text after (Err fault)
+    → IsRead Is MayBeSections told_text text after (Err fault)
 no_totals Is IsA None now then_now after fault ends totals = tt
 no_totals Is IsA (Some text) now then_now after fault ends totals = λ of_texts told rest may shown.
     absent IsA AreCounts totals_line now then_now fault told.totals (behind_totals told rest) totals
@@ -133,7 +133,7 @@ no_totals Is IsA (Some text) now then_now after fault ends totals = λ of_texts 
 behind_two : {A : Type 0} (IsA : A → Sums → Type 0) (a : A) (text : List ℕ)
     (now then_now : Option (List ℕ)) (told : ToldFront) (rest : List ℕ)
     → EndsRead (Some text) now (Ok tt) → IsRead IsA AreCounts totals_line now then_now (Ok a)
-    → MayBePart told → text ≡ told_text told ++ rest
+    → MayBeSections told → text ≡ told_text told ++ rest
     → then_now ≡ Some (behind_totals told rest)
 behind_two IsA a text now then_now told rest ends totals may shown =
     let at = behind ends_unique text now told.ends (behind_ends told rest) ends may.ends (shown
@@ -146,7 +146,7 @@ pub no_validators : {T A B : Type 0} (Is : T → ToldFront → Type 0) (IsA : A 
     (text now then_now later after : Option (List ℕ)) (fault : MergeFault)
     → EndsRead text now (Ok tt) → IsRead IsA AreCounts totals_line now then_now (Ok a)
     → IsRead IsB AreValidators validators_text then_now later (Err fault)
-    → IsRead Is MayBePart told_text text after (Err fault)
+    → IsRead Is MayBeSections told_text text after (Err fault)
 no_validators Is IsA IsB a None now then_now later after fault ends totals validators = tt
 no_validators Is IsA IsB a (Some text) now then_now later after fault ends totals validators =
     λ of_texts told rest may shown.
@@ -160,7 +160,7 @@ pub no_tokens : {T A B : Type 0} (Is : T → ToldFront → Type 0) (IsA : A → 
     → EndsRead text now (Ok tt) → IsRead IsA AreCounts totals_line now then_now (Ok a)
     → IsRead IsB AreValidators validators_text then_now later (Ok b)
     → NumberRead later last (Err fault)
-    → IsRead Is MayBePart told_text text after (Err fault)
+    → IsRead Is MayBeSections told_text text after (Err fault)
 no_tokens Is IsA IsB a b None now then_now later last after fault ends totals validators tokens = tt
 no_tokens Is IsA IsB a b (Some text) now then_now later last after fault ends totals validators
     tokens = λ of_texts told rest may shown.
@@ -180,7 +180,7 @@ pub whole_front : {T A B : Type 0} (Is : T → ToldFront → Type 0) (IsA : A �
     → IsRead IsB AreValidators validators_text then_now later (Ok b)
     → NumberRead later last (Ok number)
     → ((told : ToldFront) → IsA a told.totals → IsB b told.validators → number ≡ told.tokens → Is x told)
-    → IsRead Is MayBePart told_text text last (Ok x)
+    → IsRead Is MayBeSections told_text text last (Ok x)
 whole_front Is IsA IsB a b number x None now then_now later last ends totals validators tokens is =
     tt
 whole_front Is IsA IsB a b number x (Some text) now then_now later last ends totals validators

@@ -16,13 +16,13 @@ use Rattle.std.proofs.lemmas.List.Elements.{All-append, All-cons, All-filter, Al
 use Rattle.std.proofs.lemmas.List.Elements.{All-map, All-nil, All-tail}
 use Rattle.std.proofs.lemmas.List.Sorted.{length_permutation}
 use Rattle.std.proofs.lemmas.List.Sums.{sum_by-append}
-use Rattle.fare_table.specs.Token.{token_cmp, token_eq}
-use Rattle.fare_table.specs.declared.token.Token.{Token}
+use Rattle.tap_views.specs.Token.{token_cmp, token_eq}
+use Rattle.tap_views.specs.declared.token.Token.{Token}
 use Rattle.shard_book.specs.Sums.{Sums, add_all, sums, sums_of}
 use Rattle.shard_book.specs.declared.sums.totals.Totals.{Totals}
 use Rattle.fare_texts.specs.ReportLines.{token_line}
 use Rattle.report_texts.specs.Numbers.{IsTokenSum}
-use Rattle.part_reports.specs.Reports.{IsMerged, IsPartReport, Report, end_texts}
+use Rattle.part_reports.specs.Reports.{IsMerged, IsPartReport, Report, added, end_texts}
 use Rattle.part_reports.specs.inside.Fronts.{front_text}
 use Rattle.part_reports.specs.Reports.{all_ends, report_text, sums_of_validator, tokens_of_reports, validators_of_reports}
 use Rattle.part_reports.specs.TokenLines.{IsMergedByToken, TokenLine, lines_of_token, text_of}
@@ -30,12 +30,13 @@ use Rattle.part_reports.specs.declared.sums.WholeSums.{WholeSums}
 use Rattle.part_reports.specs.declared.upload_ends.UploadEnds.{UploadEnds}
 use Rattle.part_reports.specs.inside.UploadEnds.{HaveReadEnds}
 use Rattle.part_reports.specs.inside.Fronts.{MayBePart, ToldFront}
-use Rattle.part_reports.specs.inside.Kinds.{AreTexts, IsSumLine, IsTextOf}
+use Rattle.part_reports.specs.inside.Kinds.{AreTexts, HasTokenSums, IsSumLine, IsTextOf, Leave}
 use Rattle.part_reports.specs.inside.Parts.{AreParts, BegunReport, begun_text, left_text}
 use Rattle.part_reports.specs.inside.Standings.{Standing}
 use Rattle.part_reports.specs.inside.Sums.{AreSumsOf}
 use Rattle.part_reports.specs.inside.Whole.{validators_in}
 use Rattle.part_reports.proofs.WholeFronts.{whole_text}
+use Rattle.part_reports.proofs.Added.{leave_sums}
 use Rattle.part_reports.proofs.FewParts.{told_of}
 use Rattle.part_reports.proofs.JoinedTokens.{StandOnce, joined_each, once_all, strictly_rise}
 use Rattle.part_reports.proofs.Merges.{appends_more}
@@ -98,6 +99,9 @@ parts_of (one ∷ begun) (list ∷ lists) may are =
     subst (λ keys. IsStrictlySortedBy token_cmp keys)
     (ap (map (λ (line : TokenLine). line.token)) of_list.is ∙ lines_keys of_list.sums) are.0.0.2
     in
+    let adds : front.totals ≡ added of_list.sums =
+    leave_sums of_list.sums front.totals of_list.fit
+    (subst (λ lines. Leave HasTokenSums lines front.totals (sums [])) of_list.is are.0.0.3) in
     let shown : begun_text one ≡ report_text part =
     ap (λ n. front_text front.ends front.totals front.validators n ++ one.1) number
     ∙ ap (λ text. front_text front.ends front.totals front.validators (length of_list.sums) ++ text)
@@ -121,9 +125,11 @@ parts_of (one ∷ begun) (list ∷ lists) may are =
         validators_number = fits.validators.few;
         validators = fits.validators.are.each;
         validators_rise = fits.validators.are.rise;
+        validators_add = fits.add;
         tokens_number = subst (λ n. n < 2 ^ 64) number fits.tokens;
         tokens = of_list.fit;
         tokens_rise = rises;
+        tokens_add = adds;
       }) rest.fit;
       fronts = ap (λ front. front ∷ map (λ (one : BegunReport). one.0) begun) same_front
           ∙ ap (λ more. told_of part ∷ more) rest.fronts;

@@ -2,7 +2,7 @@
 use Rattle.std.specs.Prelude.{◌≡◌, ℕ, List, ◌++◌, All, codes}
 use Rattle.std.specs.List.{AllZip}
 use Rattle.hex.specs.Hex.{encode_lower}
-use Rattle.fare_table.specs.Token.{Fits, bytes_of}
+use Rattle.tap_views.specs.Token.{Fits, bytes_of}
 use Rattle.reason_texts.specs.Ledger.{head_text}
 use Rattle.part_reports.specs.TokenLines.{TokenLine, DoNotFall, IsMergedByToken, text_of}
 

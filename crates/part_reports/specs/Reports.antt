@@ -6,8 +6,8 @@ use Rattle.std.specs.Map.{keys_of}
 use Rattle.std.specs.Ordering.{eq_by_cmp, nat_cmp}
 use Rattle.std.specs.Set.{is_member}
 use Rattle.shard_book.specs.Sums.{Sums, add_all}
-use Rattle.fare_table.specs.Token.{token_cmp}
-use Rattle.fare_table.specs.declared.token.Token.{Token}
+use Rattle.tap_views.specs.Token.{token_cmp}
+use Rattle.tap_views.specs.declared.token.Token.{Token}
 use Rattle.report_texts.specs.Numbers.{IsUploadEnd, AreCounts, IsValidatorSum, IsTokenSum}
 use Rattle.report_texts.specs.Report.{report, upload_lines}
 use Rattle.report_texts.specs.UploadEnds.{is_posted, taps_told}
@@ -35,8 +35,13 @@ pub record HasTapNumbers (report : Report) : Type 0 where
   pub tokens_number : length report.tokens < 2 ^ 64
   pub tokens : All IsTokenSum report.tokens
 
+-- the sums of keys, added up
+abbrev pub added : {K : Type 0} → List (K × Sums) → Sums
+added sums = add_all (map (λ sum. sum.1) sums)
+
 -- The report of a part: each of its uploads was posted, its validators rise and its tokens rise,
--- and the numbers of its lines can be those of taps.
+-- and the numbers of its lines can be those of taps. It adds up: its totals are the sums of its
+-- validators, and those of its tokens.
 pub record IsPartReport (report : Report) : Type 0 where
   pub number : length report.ends < 2 ^ 64
   pub ends : All IsUploadEnd report.ends
@@ -45,9 +50,11 @@ pub record IsPartReport (report : Report) : Type 0 where
   pub validators_number : length report.validators < 2 ^ 64
   pub validators : All IsValidatorSum report.validators
   pub validators_rise : IsStrictlySortedBy nat_cmp (keys_of report.validators)
+  pub validators_add : report.totals ≡ added report.validators
   pub tokens_number : length report.tokens < 2 ^ 64
   pub tokens : All IsTokenSum report.tokens
   pub tokens_rise : IsStrictlySortedBy token_cmp (keys_of report.tokens)
+  pub tokens_add : report.totals ≡ added report.tokens
 
 -- the texts of the uploads' ends: in each text the lines of the next uploads
 abbrev pub end_texts : ℕ → List (List UploadEnd) → List (List ℕ)

@@ -7,5 +7,6 @@ pub mod Parts
 pub mod LinesRead
 pub mod Standings
 pub mod Sums
+pub mod SumsLeft
 pub mod UploadEnds
 pub mod Whole

@@ -15,6 +15,10 @@ pub enum Wrong {
     Twice,
     /// The sums are more than any run has.
     Sums,
+    /// The validators before it do not add up to the report's totals.
+    Validators,
+    /// The tokens before it, or up to it, do not add up to the report's totals.
+    Tokens,
 }
 
 /// Why texts of parts are not merged.

@@ -10,12 +10,15 @@ ghost use Rattle.fare_texts.specs.ReportLines.{number_line, validator_line};
 ghost use Rattle.report_texts.specs.Report.{upload_line, upload_lines};
 ghost use Rattle.part_reports.specs.inside.Fronts.{AreEnds, AreSoManyPosted, AreRising, AreSums};
 ghost use Rattle.part_reports.specs.inside.Fronts.{AreValidators, IsFront, MayBePart};
+ghost use Rattle.part_reports.specs.inside.Fronts.{MayBeSections};
 ghost use Rattle.part_reports.specs.inside.Fronts.{MayFollowValidators};
 ghost use Rattle.part_reports.specs.inside.Fronts.{ends_text, told_text, validators_text};
+ghost use Rattle.part_reports.specs.Reports.{added};
 ghost use Rattle.part_reports.specs.inside.LinesRead.{IsRead};
 
 use crate::fault::{MergeFault, Wrong};
 use crate::line_reader::LineReader;
+use crate::sums_left::SumsLeft;
 use report_texts::{UploadEnd, end_of, head_of, totals_of, validator_sum_of};
 use shard_book::{Totals, ValidatorSum};
 use std::alloc::Global;
@@ -149,12 +152,12 @@ fn read_validators<R: BufRead + Drop>(
     read_rising(alloc, reader, number)
 }
 
-/// Reads a part's report up to the lines of its tokens.
-pub(crate) fn read_front<R: BufRead + Drop>(
+/// Reads a part's report up to the lines of its tokens, whatever its validators add up to.
+fn read_sections<R: BufRead + Drop>(
     alloc: Global,
     reader: &mut LineReader<R>,
 ) -> Result<Front, MergeFault>
-    ensures read { IsRead IsFront MayBePart told_text
+    ensures read { IsRead IsFront MayBeSections told_text
         (R.remaining reader.old.from) (R.remaining reader.new.from) result }
     ensures other { IfErr result (λ fault. ¬ (IsOfTaps fault)) }
 {
@@ -167,4 +170,35 @@ pub(crate) fn read_front<R: BufRead + Drop>(
         validators,
         tokens,
     })
+}
+
+/// Whether the validators add up to the totals.
+fn add_up(totals: &Totals, validators: &[ValidatorSum]) -> bool
+    ensures { IsTrue result
+        ↔ (sums_of totals.now ≡ added (map validator_sum validators.now)) }
+{
+    let mut left = SumsLeft::of(totals);
+    for sum in validators {
+        match left.behind(&sum.totals) {
+            Some(behind) => left = behind,
+            None => return false,
+        }
+    }
+    left.is_nothing()
+}
+
+/// Reads a part's report up to the lines of its tokens. The validators add up to the totals.
+pub(crate) fn read_front<R: BufRead + Drop>(
+    alloc: Global,
+    reader: &mut LineReader<R>,
+) -> Result<Front, MergeFault>
+    ensures read { IsRead IsFront MayBePart told_text
+        (R.remaining reader.old.from) (R.remaining reader.new.from) result }
+    ensures other { IfErr result (λ fault. ¬ (IsOfTaps fault)) }
+{
+    let front = read_sections(alloc, reader)?;
+    if !add_up(&front.totals, &front.validators) {
+        return Err(reader.fault(Wrong::Validators));
+    }
+    Ok(front)
 }

@@ -6,7 +6,7 @@ ghost use Rattle.part_reports.specs.Ledgers.{IsLedgerEntryLine};
 ghost use Rattle.part_reports.specs.TokenLines.{TokenLine};
 
 use report_texts::{after_word, token_before};
-use shard_book::Token;
+use tap_views::Token;
 
 /// The token of a ledger's line: of the 32 digits before its first comma.
 pub(crate) fn ledger_token_of(line: &[u8]) -> Option<Token>

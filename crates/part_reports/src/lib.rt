@@ -15,6 +15,7 @@ mod line_reader;
 mod merging;
 mod reports;
 mod sums;
+mod sums_left;
 mod upload_ends;
 
 pub use fault::{MergeFault, Wrong};

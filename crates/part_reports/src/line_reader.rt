@@ -1,6 +1,7 @@
 //! Lines, read one after the other.
 
-ghost use Rattle.std.specs.Prelude.{◌≡◌, [], Some, None, IfErr, IfOk, IfSome, IsTrue, OnOk, ◌↔◌};
+ghost use Rattle.std.specs.Prelude.{◌≡◌, [], Some, None, Ok, IfErr, IfOk, IfSome, IsErr};
+ghost use Rattle.std.specs.Prelude.{IsTrue, OnOk, ◌↔◌};
 ghost use Rattle.std.specs.Io.BufRead.{drop_through, take_through};
 ghost use Rattle.part_reports.specs.Faults.{IsOfTaps, IsOfTexts};
 
@@ -84,6 +85,17 @@ impl<R: BufRead + Drop> LineReader<R> {
             text: self.text,
             number: self.lines,
             wrong,
+        }
+    }
+
+    /// What is told of the line that was read last; the line's fault if it is wrong.
+    pub(crate) fn right<T: Drop>(&self, told: Result<T, Wrong>) -> Result<T, MergeFault>
+        ensures value { IfOk result (λ value. told ≡ Ok value) }
+        ensures wrong { IfErr result (λ fault. IsErr told × ¬ (IsOfTaps fault)) }
+    {
+        match told {
+            Ok(told) => Ok(told),
+            Err(wrong) => Err(self.fault(wrong)),
         }
     }
 

@@ -8,8 +8,9 @@ ghost use Rattle.std.specs.List.{AllZip};
 ghost use Rattle.part_reports.specs.Faults.{IsOfTaps, IsOfTexts};
 ghost use Rattle.part_reports.specs.TokenLines.{IsMergedByToken, TokenLine, text_of};
 ghost use Rattle.part_reports.specs.inside.Kinds.{AreTexts, IsTextOf};
+ghost use Rattle.part_reports.specs.declared.merging.LineKind.TheVariants.{Tokens};
 ghost use Rattle.part_reports.specs.inside.Least.{IsLeast, StandsTwice};
-ghost use Rattle.part_reports.specs.inside.Standings.{IsBehindOne, IsFirstLine, IsLineOfKind};
+ghost use Rattle.part_reports.specs.inside.Standings.{IsFirstLine};
 ghost use Rattle.part_reports.specs.inside.Standings.{MayEnd, MayFollow, MayFollowAll};
 ghost use Rattle.part_reports.specs.inside.Standings.{MayFollowToken, StandsInText};
 ghost use Rattle.part_reports.specs.inside.Standings.{IsMovedAt, IsStuckAt, standing};
@@ -17,17 +18,18 @@ ghost use Rattle.part_reports.specs.inside.Standings.{IsMovedAt, IsStuckAt, stan
 use crate::fault::{MergeFault, Wrong};
 use crate::ledger_line::ledger_token_of;
 use crate::line_reader::LineReader;
+use crate::sums_left::SumsLeft;
 use report_texts::token_sum_of;
-use shard_book::Token;
 use std::alloc::{AllocError, Global};
 use std::cmp::Ordering;
 use std::io::{BufRead, Write};
+use tap_views::Token;
 
 /// What the lines are.
 #[derive(Clone, Copy, Debug, PartialEq, Eq)]
 pub(crate) enum LineKind {
-    /// The tokens of a report, each once, and so many lines are left to read.
-    Tokens { left: u64 },
+    /// The tokens of a report, each once: so many lines are left to read, and what they add up to.
+    Tokens { left: u64, rest: SumsLeft },
     /// The entries of a ledger.
     Entries,
 }
@@ -43,64 +45,80 @@ pub(crate) struct OrderedText<R: BufRead + Drop> {
     token: Option<Token>,
 }
 
-/// The token of a line.
-fn token_in(lines: LineKind, line: &[u8]) -> Option<Token>
-    ensures { MatchOption result
-        ((token : Token) → ¬ (IsLineOfKind lines (record { token = token; text = line.now })))
-        (λ token. (left : List ℕ) → line.now ≡ take_through 10 left
-        → IsLineOfKind lines (record { token = token; text = line.now })) }
+/// What the lines are behind a line of a report's token, and the token.
+fn behind_token(left: u64, rest: SumsLeft, line: &[u8]) -> Result<(LineKind, Token), Wrong>
+    ensures { MatchResult result
+        (λ told. (text : List ℕ) → line.now ≡ take_through 10 text
+        → IsFirstLine (Tokens left rest) line.now told.0 (Some told.1))
+        (λ wrong. (behind : LineKind) (token : Token)
+        → ¬ (IsFirstLine (Tokens left rest) line.now behind (Some token))) }
+{
+    let Some(left) = left.checked_sub(1) else {
+        return Err(Wrong::Form);
+    };
+    let Some(sum) = token_sum_of(line) else {
+        return Err(Wrong::Form);
+    };
+    let Some(rest) = rest.behind(&sum.totals) else {
+        return Err(Wrong::Tokens);
+    };
+    Ok((LineKind::Tokens { left, rest }, sum.token))
+}
+
+/// What the lines are behind one of them, and the token of that line.
+fn behind_line(lines: LineKind, line: &[u8]) -> Result<(LineKind, Token), Wrong>
+    ensures { MatchResult result
+        (λ told. (text : List ℕ) → line.now ≡ take_through 10 text
+        → IsFirstLine lines line.now told.0 (Some told.1))
+        (λ wrong. (behind : LineKind) (token : Token)
+        → ¬ (IsFirstLine lines line.now behind (Some token))) }
 {
     match lines {
-        LineKind::Tokens { .. } => match token_sum_of(line) {
-            Some(sum) => Some(sum.token),
-            None => None,
+        LineKind::Tokens { left, rest } => behind_token(left, rest, line),
+        LineKind::Entries => match ledger_token_of(line) {
+            Some(token) => Ok((LineKind::Entries, token)),
+            None => Err(Wrong::Form),
         },
-        LineKind::Entries => ledger_token_of(line),
     }
 }
 
-/// What the lines are behind one of them; none where no line was left.
-fn behind_one(lines: LineKind) -> Option<LineKind>
-    ensures { MatchOption result ((behind : LineKind) → ¬ (IsBehindOne lines behind))
-        (λ behind. IsBehindOne lines behind) }
+/// What is wrong if the text ends here; nothing if it may end.
+fn wrong_end(lines: LineKind) -> Option<Wrong>
+    ensures { MatchOption result (MayEnd lines) (λ wrong. ¬ (MayEnd lines)) }
 {
     match lines {
-        LineKind::Tokens { left } => {
-            let left = left.checked_sub(1)?;
-            Some(LineKind::Tokens { left })
+        LineKind::Tokens { left, rest } => {
+            if left != 0 {
+                Some(Wrong::Form)
+            } else if !rest.is_nothing() {
+                Some(Wrong::Tokens)
+            } else {
+                None
+            }
         }
-        LineKind::Entries => Some(LineKind::Entries),
-    }
-}
-
-/// Whether the text may end here.
-fn may_end(lines: LineKind) -> bool
-    ensures { IsTrue result ↔ MayEnd lines }
-{
-    match lines {
-        LineKind::Tokens { left } => left == 0,
-        LineKind::Entries => true,
+        LineKind::Entries => None,
     }
 }
 
 /// What the first line of a text tells, which is empty where the text has ended: what the lines
-/// behind it are, and its token. Nothing where such a line may not stand there.
-fn first_of(lines: LineKind, line: &[u8]) -> Option<(LineKind, Option<Token>)>
-    ensures { MatchOption result
-        ((behind : LineKind) (token : Option Token) → ¬ (IsFirstLine lines line.now behind token))
-        (λ told. (left : List ℕ) → line.now ≡ take_through 10 left
-        → IsFirstLine lines line.now told.0 told.1) }
+/// behind it are, and its token. What is wrong if such a line may not stand there.
+fn first_of(lines: LineKind, line: &[u8]) -> Result<(LineKind, Option<Token>), Wrong>
+    ensures { MatchResult result
+        (λ told. (text : List ℕ) → line.now ≡ take_through 10 text
+        → IsFirstLine lines line.now told.0 told.1)
+        (λ wrong. (behind : LineKind) (token : Option Token)
+        → ¬ (IsFirstLine lines line.now behind token)) }
 {
     if line.is_empty() {
-        return if may_end(lines) {
-            Some((lines, None))
-        } else {
-            None
+        return match wrong_end(lines) {
+            Some(wrong) => Err(wrong),
+            None => Ok((lines, None)),
         };
     }
-    let behind = behind_one(lines)?;
-    let token = token_in(lines, line)?;
-    Some((behind, Some(token)))
+    match behind_line(lines, line) {
+        Ok((behind, token)) => Ok((behind, Some(token))),
+        Err(wrong) => Err(wrong),
+    }
 }
 
 /// Whether a line of the token may stand behind one of the other.
@@ -155,7 +173,7 @@ impl<R: BufRead + Drop> OrderedText<R> {
         ensures no_taps { IfErr result (λ fault. ¬ (IsOfTaps fault)) }
     {
         self.reader.next()?;
-        let (lines, token) = self.reader.told(first_of(self.lines, self.reader.line()))?;
+        let (lines, token) = self.reader.right(first_of(self.lines, self.reader.line()))?;
         self.lines = lines;
         self.token = token;
         Ok(())

@@ -27,6 +27,7 @@ use crate::front::read_front;
 use crate::line_reader::LineReader;
 use crate::merging::{LineKind, OrderedText, write_merged, write_text};
 use crate::sums::{WholeSums, add_front, no_sums};
+use crate::sums_left::SumsLeft;
 use crate::upload_ends::UploadEnds;
 use crate::upload_ends::read::read_ends;
 use fare_texts::write_totals;
@@ -64,7 +65,8 @@ fn read_part<R: BufRead + Drop>(
         return Err(reader.fault(Wrong::Sums));
     }
     let left = front.tokens;
-    OrderedText::begin(reader, LineKind::Tokens { left })
+    let rest = SumsLeft::of(&front.totals);
+    OrderedText::begin(reader, LineKind::Tokens { left, rest })
 }
 
 /// Reads the reports of parts up to the lines of their first tokens. The first of the texts has

@@ -5,9 +5,11 @@
 #![tactic(auto)]
 
 mod fill;
+mod opening;
 mod placed;
 mod stamp;
 
 pub use fill::{Unread, fill_from};
+pub use opening::{Unopened, open_regular};
 pub use placed::{InMemory, Placed};
 pub use stamp::FileStamp;

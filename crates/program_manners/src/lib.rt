@@ -32,5 +32,5 @@ pub use opened::Opened;
 pub use table_line::TableLine;
 pub use terminal_line::{PACE_MS, QUIET_MS, TerminalLine};
 pub use words::{
-    files_arg, flag_arg, names_in, new_command, number_arg, option_arg, positional_arg,
+    files_arg, flag_arg, flag_in, names_in, new_command, number_arg, option_arg, positional_arg,
 };

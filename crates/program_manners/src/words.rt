@@ -2,7 +2,8 @@
 ghost use Rattle.std.specs.Prelude.{◌≡◌, IfOk, [], false, map, pos, unwrap_or};
 ghost use Rattle.clap.specs.Simple.{app_of};
 ghost use Rattle.clap.specs.Words.{all_of, found_of, rows_of, rule_of};
-ghost use Rattle.program_manners.specs.Words.{files_rule, flag_rule, named_app, number_rule};
+ghost use Rattle.program_manners.specs.Words.{files_rule, flag_rule, is_given, named_app};
+ghost use Rattle.program_manners.specs.Words.{number_rule};
 ghost use Rattle.program_manners.specs.Words.{option_rule, positional_rule};
 
 use clap::builder::ValueParser;
@@ -93,4 +94,11 @@ pub fn names_in<'a>(
         Some(names) => Vec::from_slice(alloc, names),
         None => Ok(Vec::new(alloc)),
     }
+}
+
+/// Whether a flag was given. The contract of `get_flag` says less of what it answers.
+pub fn flag_in<'a>(matches: &ArgMatches<'a>, name: &str) -> bool
+    ensures { result ≡ is_given name.now (rows_of (found_of matches.now)) }
+{
+    matches.get_one(name).unwrap_or(false)
 }

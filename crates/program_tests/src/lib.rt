@@ -1,5 +1,5 @@
 //! Tests of the program by its public calls: readers and writers that fail, files that are read
-//! ahead. The command lines are in `cases/`, run over the built program.
+//! ahead, and sorted files. The command lines are in `cases/`, run over the built program.
 //!
 //! They stand in a crate of their own, so that the program is not proved anew with them.
 #![tactic(auto)]
@@ -12,5 +12,7 @@ mod pieces;
 mod running;
 #[cfg(test)]
 mod shelf;
+#[cfg(test)]
+mod sorted;
 #[cfg(test)]
 mod writers;

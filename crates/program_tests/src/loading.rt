@@ -6,7 +6,8 @@ use super::shelf::{Content, Shelf};
 use fare_program::{
     Disk, FileAhead, Host, LOAD_LIMIT_BYTES, LoadFault, Source, load_from, read_ahead,
 };
-use std::alloc::Global;
+use placed_files::{InMemory, Unopened};
+use std::alloc::{AllocError, Global};
 use std::io::Read;
 use std::marker::Sync;
 use std::process::Abort;
@@ -133,8 +134,32 @@ fn reads_files_ahead_by_several_threads_alone(rt: HostRuntime) -> Result<(), Fai
 struct Names;
 
 impl Disk for Names {
-    fn may_be_read_ahead(&self, name: &str) -> bool {
-        name != "pipe"
+    type File = InMemory<'static>;
+
+    fn open_placed(&self, _: &str) -> Result<InMemory<'static>, Unopened> {
+        Err(Unopened::Unread)
+    }
+
+    fn size_ahead(&self, name: &str) -> Option<u64> {
+        if name == "pipe" { None } else { Some(0) }
+    }
+
+    fn push_sample(&self, _: Global, _: &str, _: &mut Vec<u128>) -> Result<(), AllocError> {
+        Ok(())
+    }
+
+    fn read_into(&self, name: &str, room: Vec<u8>) -> Result<Vec<u8>, LoadFault> {
+        match name {
+            "none" => Err(LoadFault::Unread),
+            "long" => Err(LoadFault::TooLong),
+            "large" => Err(LoadFault::NoMemory),
+            _ => {
+                let mut bytes = room;
+                bytes.clear();
+                bytes.extend_from_slice(name.as_bytes())?;
+                Ok(bytes)
+            }
+        }
     }
 
     fn read(&self, alloc: Global, name: &str) -> Result<Vec<u8>, LoadFault> {
@@ -190,6 +215,10 @@ struct AheadCount {
 }
 
 impl Source for AheadCount {
+    fn keeps_loads(&self) -> bool {
+        true
+    }
+
     fn keep_ahead(&mut self, ahead: Vec<FileAhead>) {
         self.files = ahead.len();
     }

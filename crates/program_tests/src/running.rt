@@ -1,6 +1,7 @@
 //! A run of the program over words, a disk, a source and a writer.
 
 use fare_program::{Complaints, Disk, LoadFault, Source, main_over};
+use placed_files::{InMemory, Unopened};
 use std::alloc::{AllocError, Global};
 use std::io::Write;
 use std::marker::Sync;
@@ -12,8 +13,22 @@ use std::thread::Threads;
 pub(crate) struct NoDisk;
 
 impl Disk for NoDisk {
-    fn may_be_read_ahead(&self, _: &str) -> bool {
-        false
+    type File = InMemory<'static>;
+
+    fn open_placed(&self, _: &str) -> Result<InMemory<'static>, Unopened> {
+        Err(Unopened::Unread)
+    }
+
+    fn size_ahead(&self, _: &str) -> Option<u64> {
+        None
+    }
+
+    fn push_sample(&self, _: Global, _: &str, _: &mut Vec<u128>) -> Result<(), AllocError> {
+        Ok(())
+    }
+
+    fn read_into(&self, _: &str, _: Vec<u8>) -> Result<Vec<u8>, LoadFault> {
+        Err(LoadFault::Unread)
     }
 
     fn read(&self, _: Global, _: &str) -> Result<Vec<u8>, LoadFault> {

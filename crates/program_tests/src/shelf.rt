@@ -69,6 +69,10 @@ impl Source for Shelf<'_> {
       bytes = g.bytes.items;
     }) s.given.items) };
 
+    fn keeps_loads(&self) -> bool {
+        true
+    }
+
     fn keep_ahead(&mut self, _: Vec<FileAhead>) {}
 
     fn load(&mut self, name: &str) -> Result<Vec<u8>, LoadFault> {

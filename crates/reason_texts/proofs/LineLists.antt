@@ -6,7 +6,7 @@ use Rattle.std.proofs.Math.Seq.{take-suc}
 use Rattle.account_rule.specs.declared.tap.TapIn.{TapIn}
 use Rattle.fare_table.specs.Fares.{Fares}
 use Rattle.shard_book.specs.declared.entry.Entry.{Entry}
-use Rattle.fare_table.specs.declared.token.Token.{Token}
+use Rattle.tap_views.specs.declared.token.Token.{Token}
 use Rattle.reason_texts.specs.Ledger.{AreLedgerLinesAfter, AreLedgerLines, IsLedgerLineAfter}
 
 lines-push : (fares : Fares) (token : Token) (earlier entries : List Entry) (entry : Entry)

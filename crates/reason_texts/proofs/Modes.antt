@@ -14,15 +14,9 @@ use Rattle.account_rule.specs.declared.account.Account.{Account}
 use Rattle.account_rule.specs.declared.reason.Reason.{Reason}
 use Rattle.account_rule.specs.declared.reason.Reason.TheVariants.{Unknown, Stale, Transfer, Ride}
 use Rattle.account_rule.specs.declared.tap.TapIn.{TapIn}
+use Rattle.account_rule.proofs.NoTransferLemmas.{even-giver}
 use Rattle.account_rule.proofs.ReasonLemmas.{giver-live, giver-ride}
 use Rattle.reason_texts.specs.ReasonWords.{HasModeOf}
-
--- a chain with no giver is of even length
-even-none : (chain : List LiveTap) → giver_of chain ≡ None → is_even (length chain) ≡ true
-unfolding giver_of is_even
-even-none [] none = refl
-even-none (tap ∷ []) none = cc
-even-none (_ ∷ _ ∷ chain) none = ap (λ v. not (not v)) (even-none chain none)
 
 same-mode : (giver : LiveTap) (moment : ℕ) (mode : Mode) → Some giver ≡ Some (live_at moment mode)
     → giver.mode ≡ mode
@@ -39,7 +33,7 @@ within rules kept taps tap moment mode stands is =
     let given = giver-ride rules taps tap moment mode is in
     elim (kept_giver kept) as (λ giver. kept_giver kept ≡ giver → mode.place < rules.modes) [
       | None ↦ λ none.
-          let no : true ≡ false = sym (even-none (last_block (chains rules taps)) (sym stands.giver
+          let no : true ≡ false = sym (even-giver (last_block (chains rules taps)) (sym stands.giver
           ∙ none)) ∙ given.1 in cc
       | Some giver ↦ λ some.
           let same = same-mode giver moment mode

@@ -12,9 +12,9 @@ use Rattle.account_rule.specs.declared.reason.Charge.TheVariants.{RideLimitReach
 use Rattle.account_rule.specs.declared.reason.Reason.{Reason}
 use Rattle.account_rule.specs.declared.reason.Reason.TheVariants.{Unknown, Stale, Transfer, Ride}
 use Rattle.shard_book.specs.Entry.{tap_of}
-use Rattle.fare_table.specs.Token.{bytes_of}
+use Rattle.tap_views.specs.Token.{bytes_of}
 use Rattle.shard_book.specs.declared.entry.Entry.{Entry}
-use Rattle.fare_table.specs.declared.token.Token.{Token}
+use Rattle.tap_views.specs.declared.token.Token.{Token}
 use Rattle.fare_texts.specs.Moments.{IsMomentText}
 use Rattle.fare_texts.specs.StatementText.{answer_text}
 

@@ -1,3 +1,4 @@
 pub mod Ledger
+pub mod NoTransferWords
 pub mod Tellers
 pub mod ReasonWords

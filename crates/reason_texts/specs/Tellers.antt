@@ -6,9 +6,9 @@ use Rattle.account_rule.specs.declared.reply.Answer.TheVariants.{Unknown}
 use Rattle.account_rule.specs.TokenRules.{rules_of}
 use Rattle.account_rule.specs.Stands.{Stands}
 use Rattle.shard_book.specs.Entry.{tap_of}
-use Rattle.fare_table.specs.Token.{bytes_of}
+use Rattle.tap_views.specs.Token.{bytes_of}
 use Rattle.shard_book.specs.declared.entry.Entry.{Entry}
-use Rattle.fare_table.specs.declared.token.Token.{Token}
+use Rattle.tap_views.specs.declared.token.Token.{Token}
 use Rattle.reason_texts.specs.declared.teller.Teller.{Teller}
 
 -- the entry of a token's tap at a validator and a moment, which follows the token's earlier

@@ -4,8 +4,9 @@ ghost use Rattle.std.specs.Prelude.{◌≡◌, ◌++◌, OnOk, List, ℕ, codes,
 ghost use Rattle.reason_texts.specs.Ledger.{AreLedgerLines, head_text};
 
 use crate::teller::Teller;
-use fare_table::{Clock, FareTable, NoMemory};
-use shard_book::{Entry, Token};
+use fare_table::{Clock, FareTable};
+use shard_book::Entry;
+use tap_views::{NoMemory, Token};
 
 /// The first line of a ledger, which names the fields.
 pub fn head_line() -> &'static str

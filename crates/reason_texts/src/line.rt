@@ -8,8 +8,9 @@ use crate::reason_fields::write_reason_fields;
 use account_rule::Reason;
 use fare_table::FareTable;
 use fare_texts::{Digits, answer_name, write_moment};
-use shard_book::{Entry, Token};
+use shard_book::Entry;
 use std::alloc::AllocError;
+use tap_views::Token;
 
 /// Appends the line of a token's entry, whose number among the token's lines counts from 1.
 pub fn write_line(

@@ -6,19 +6,21 @@ ghost use Rattle.std.specs.Option.{ForSome};
 ghost use Rattle.account_rule.specs.TokenRules.{rules_of};
 ghost use Rattle.account_rule.specs.Windows.{last_window};
 ghost use Rattle.fare_table.specs.Fares.{Fares};
-ghost use Rattle.fare_table.specs.Token.{bytes_of};
+ghost use Rattle.tap_views.specs.Token.{bytes_of};
 ghost use Rattle.shard_book.specs.Entry.{tap_of};
 ghost use Rattle.shard_book.specs.declared.entry.Entry.{Entry};
 ghost use Rattle.reason_texts.specs.Ledger.{IsLedgerLineAfter, reason_after};
 ghost use Rattle.reason_texts.specs.Tellers.{HasTold, next_entry};
+ghost use Rattle.account_rule.specs.NoTransfers.{HasModesBelow};
+ghost use Rattle.reason_texts.specs.NoTransferWords.{no_transfer_after};
 ghost use Rattle.reason_texts.specs.ReasonWords.{HasModeOf};
 
 use crate::line::write_line;
-use account_rule::{Account, Reason, TapIn, WindowView};
-use fare_table::{Clock, FareTable, NoMemory};
-use shard_book::{Entry, Token};
+use account_rule::{Account, NoTransfer, Reason, TapIn, WindowView};
+use fare_table::{Clock, FareTable};
+use shard_book::Entry;
 use std::alloc::AllocError;
-use tap_views::MOMENT_LIMIT_MS;
+use tap_views::{MOMENT_LIMIT_MS, NoMemory, Token};
 
 /// The tap of an entry, as the account rule sees it. It takes no memory, and refuses an entry alone
 /// that no upload has: one from 2100-01-01T00:00Z on.
@@ -70,6 +72,20 @@ impl Teller {
             (map (tap_of fares) told) }
     {
         self.account.window()
+    }
+
+    /// Why the token's next entry, if it is a ride, is no transfer. `None` if the table does not
+    /// know its validator.
+    pub fn no_transfer(&self, table: &FareTable, entry: &Entry) -> Option<NoTransfer>
+        requires told { (earlier : List Entry) × HasTold table.now self.now earlier }
+
+        // After all entries that it has told.
+        ensures lacks { (earlier : List Entry) → HasTold table.now self.now earlier
+            → result ≡ no_transfer_after table.now self.now.token earlier entry.now }
+        ensures modes { ForSome result (HasModesBelow (length table.now.meaning.modes)) }
+    {
+        let mode = table.mode_of(entry.validator)?;
+        Some(self.account.no_transfer(entry.moment, mode))
     }
 
     /// Takes the token's next entry, and returns the account rule's reason for it after those told

@@ -8,9 +8,9 @@ use Rattle.hex.specs.Hex.{IsBytes, decode_of, decode_sized, encode_lower, lower_
 use Rattle.hex.specs.declared.error.FromHexError.{FromHexError}
 use Rattle.hex.proofs.HexLemmas.{decode_of-encode_lower, decode_sized-encode_lower}
 use Rattle.hex.proofs.HexLemmas.{length-encode_with}
-use Rattle.fare_table.specs.Token.{Fits, bytes_of}
-use Rattle.fare_table.specs.declared.token.Token.{Token}
-use Rattle.shard_book.proofs.TokenLemmas.{bytes_of-injective}
+use Rattle.tap_views.specs.Token.{Fits, bytes_of}
+use Rattle.tap_views.specs.declared.token.Token.{Token}
+use Rattle.tap_views.proofs.TokenLemmas.{bytes_of-injective}
 
 -- the bytes of a token are bytes, sixteen of them
 abbrev AreBytes : List ℕ → Type 0

@@ -5,7 +5,7 @@ use Rattle.std.specs.Fmt.{decimal}
 use Rattle.std.specs.List.{flat_map}
 use Rattle.tap_views.specs.Names.{fault_name}
 use Rattle.shard_book.specs.Sums.{Sums}
-use Rattle.fare_table.specs.declared.token.Token.{Token}
+use Rattle.tap_views.specs.declared.token.Token.{Token}
 use Rattle.fare_texts.specs.ReportLines.{number_line, token_line, validator_line}
 use Rattle.fare_texts.specs.Counts.{totals_line}
 use Rattle.report_texts.specs.declared.upload_end.UploadEnd.{UploadEnd}

@@ -13,11 +13,11 @@ ghost use Rattle.report_texts.specs.Report.{report};
 use crate::front::report_front;
 use crate::token_lines::write_lines;
 use crate::upload_end::UploadEnd;
-use fare_table::NoMemory;
 use fare_texts::PrintFault;
 use shard_book::{TokenSums, Totals, ValidatorSum};
 use std::alloc::Global;
 use std::io::Write;
+use tap_views::NoMemory;
 
 /// How much room there is at least for lines of a report that wait to be written: so many that a
 /// write is little beside them.

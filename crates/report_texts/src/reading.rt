@@ -9,8 +9,8 @@ ghost use Rattle.fare_texts.specs.Counts.{counts_text, totals_line};
 ghost use Rattle.shard_book.specs.Shown.{token_sum, validator_sum};
 ghost use Rattle.shard_book.specs.Sums.{Sums, sums_of};
 ghost use Rattle.hex.specs.Hex.{encode_lower};
-ghost use Rattle.fare_table.specs.Token.{Fits, bytes_of};
-ghost use Rattle.fare_table.specs.declared.token.Token.{Token as AToken};
+ghost use Rattle.tap_views.specs.Token.{Fits, bytes_of};
+ghost use Rattle.tap_views.specs.declared.token.Token.{Token as AToken};
 ghost use Rattle.tap_views.specs.declared.fault.LayoutFault.{LayoutFault as AFault};
 ghost use Rattle.report_texts.specs.Numbers.{AreCounts, IsNameAlone, IsTokenSum, IsUploadEnd};
 ghost use Rattle.report_texts.specs.Numbers.{IsValidatorSum};
@@ -23,8 +23,8 @@ ghost use Rattle.report_texts.specs.declared.upload_end.UploadEnd.TheVariants.{R
 
 use crate::upload_end::UploadEnd;
 use itoa::Buffer;
-use shard_book::{Token, TokenSum, Totals, ValidatorSum};
-use tap_views::LayoutFault;
+use shard_book::{TokenSum, Totals, ValidatorSum};
+use tap_views::{LayoutFault, Token};
 
 /// The end of a line.
 const END: &[u8] = b"\n";

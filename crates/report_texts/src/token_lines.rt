@@ -7,15 +7,16 @@ ghost use Rattle.std.specs.List.{flat_map};
 ghost use Rattle.hex.specs.Hex.{encode_lower};
 ghost use Rattle.shard_book.specs.Shown.{token_sum};
 ghost use Rattle.shard_book.specs.Sums.{sums_of};
-ghost use Rattle.fare_table.specs.Token.{bytes_of};
+ghost use Rattle.tap_views.specs.Token.{bytes_of};
 ghost use Rattle.fare_texts.specs.Counts.{first_counts, last_counts};
 ghost use Rattle.fare_texts.specs.ReportLines.{token_line};
 ghost use Rattle.fare_texts.specs.declared.print_fault.PrintFault.TheVariants.{Write as ForWrite};
 
 use crate::line::Line;
 use fare_texts::{PrintFault, write_out};
-use shard_book::{Token, TokenSum, TokenSums, Totals};
+use shard_book::{TokenSum, TokenSums, Totals};
 use std::io::Write;
+use tap_views::Token;
 
 /// Writes out what waits in the text where it leaves too little room.
 fn make_room<W: Write>(text: &mut Vec<u8>, needed: usize, out: &mut W) -> Result<(), PrintFault>

@@ -3,8 +3,8 @@
 use crate::sample::{REPORT, STATEMENT, bytes_of, run, two_uploads};
 use fare_service::{OpenGate, PrintFault};
 use sample_table::Narrow;
-use shard_book::Token;
 use std::test::Fail;
+use tap_views::Token;
 
 /// Would catch a text that is said to be written where its end was not.
 #[test]

@@ -9,11 +9,11 @@ use Rattle.std.specs.Io.KnownBytes.{Appends, Keeps, append_known}
 use Rattle.std.proofs.lemmas.List.{take-append-drop}
 use Rattle.std.proofs.lemmas.List.Concat.{flat_map-append}
 use Rattle.std.proofs.lemmas.List.Elements.{All-cons, All-head, All-nil, All-tail}
-use Rattle.fare_table.specs.declared.token.Token.{Token}
+use Rattle.tap_views.specs.declared.token.Token.{Token}
 use Rattle.tap_views.specs.Layout.{moment_limit}
 use Rattle.tap_views.specs.declared.encoder.TapFields.{TapFields}
 use Rattle.settled_texts.specs.inside.Seats.{IsSoundList}
-use Rattle.settled_texts.specs.inside.Telling.{NoTapFallsFrom, last_token}
+use Rattle.settled_texts.specs.Telling.{NoTapFallsFrom, last_token}
 use Rattle.settled_texts.proofs.Tellings.{fall_within, taken}
 
 -- the taps of lists, one list behind the other

@@ -1,6 +1,6 @@
 -- The own entries of a token, of which all are its own.
 use Rattle.std.proofs.Common.{◌≡◌, Bool, true, false, cond, List, [], ◌∷◌, filter, refl, ap, ◌∙◌}
-use Rattle.fare_table.specs.declared.token.Token.{Token}
+use Rattle.tap_views.specs.declared.token.Token.{Token}
 use Rattle.shard_book.specs.Entry.{is_of, own}
 use Rattle.shard_book.specs.declared.entry.Entry.{Entry}
 

@@ -8,9 +8,9 @@ use Rattle.std.specs.declared.cmp.Ordering.{Ordering}
 use Rattle.std.specs.declared.cmp.Ordering.TheVariants.{Less, Equal, Greater}
 use Rattle.std.proofs.lemmas.List.Elements.{All-head, All-tail}
 use Rattle.fare_table.specs.Fares.{Fares}
-use Rattle.fare_table.specs.Token.{token_cmp}
-use Rattle.fare_table.specs.declared.token.Token.{Token}
-use Rattle.fare_table.proofs.TokenBytes.{token-order}
+use Rattle.tap_views.specs.Token.{token_cmp}
+use Rattle.tap_views.specs.declared.token.Token.{Token}
+use Rattle.tap_views.proofs.TokenBytes.{token-order}
 use Rattle.tap_views.specs.declared.encoder.TapFields.{TapFields}
 use Rattle.shard_book.specs.declared.entry.Entry.{Entry}
 use Rattle.shard_book.specs.Plain.{answered}
@@ -18,7 +18,7 @@ use Rattle.ledger_texts.specs.Lines.{IsUpTo, NoFall, NoFallFrom}
 use Rattle.tap_parts.specs.Canonical.{tap_cmp}
 use Rattle.settlement.specs.Posted.{HasName, posted_after, token_of_tap, unposted}
 use Rattle.settlement.proofs.Placed.{NotLess, Pairs, sorted_pairs}
-use Rattle.settled_texts.specs.inside.Telling.{NoTapFallsFrom}
+use Rattle.settled_texts.specs.Telling.{NoTapFallsFrom}
 
 first_decides : (one other : Ordering) → is_lt (ordering_then one other) ≡ false → is_lt one ≡ false
 first_decides Less other not = not

@@ -6,7 +6,7 @@ use Rattle.std.proofs.Common.{drop-cons}
 use Rattle.std.proofs.lemmas.List.{take-append-drop}
 use Rattle.std.proofs.Math.Seq.{take-suc}
 use Rattle.fare_table.specs.Fares.{Fares}
-use Rattle.fare_table.specs.declared.token.Token.{Token}
+use Rattle.tap_views.specs.declared.token.Token.{Token}
 use Rattle.tap_views.specs.declared.encoder.TapFields.{TapFields}
 use Rattle.shard_book.specs.Entry.{own, taps_of}
 use Rattle.shard_book.specs.declared.entry.Entry.{Entry}
@@ -19,7 +19,7 @@ use Rattle.ledger_texts.proofs.Rising.{up_itself}
 use Rattle.ledger_texts.proofs.Writing.{along_append, come_next}
 use Rattle.settlement.specs.Posted.{posted_after, token_of_tap, unposted}
 use Rattle.settlement.proofs.Concats.{posted_append}
-use Rattle.settled_texts.specs.inside.Telling.{AreTold, NoTapFallsFrom, last_token}
+use Rattle.settled_texts.specs.Telling.{AreTold, NoTapFallsFrom, last_token}
 
 -- ---- the tokens
 

@@ -13,16 +13,15 @@ ghost use Rattle.settlement.specs.Posted.{HasName, posted};
 use crate::lines::STRIDE_ROOM_BYTES;
 use crate::rounds::write_lists;
 use crate::seat::Seat;
-use fare_table::{FareTable, NoMemory};
+use fare_table::FareTable;
 use fare_texts::PrintFault;
 use ledger_texts::{head_with_room, pass_on};
 use reason_texts::Teller;
-use shard_book::Token;
 use std::alloc::Global;
 use std::io::Write;
 use std::marker::Sync;
 use std::thread::Threads;
-use tap_views::TapFields;
+use tap_views::{NoMemory, TapFields, Token};
 
 /// Counts the taps of the lists. As many as no memory can hold are told as want of memory.
 fn count(lists: &[Vec<TapFields>]) -> Result<u64, NoMemory>
@@ -35,12 +34,12 @@ fn count(lists: &[Vec<TapFields>]) -> Result<u64, NoMemory>
     Ok(count)
 }
 
-/// The least token.
-fn least_token() -> Token
+/// The least token: that of 16 zero bytes.
+pub fn least_token() -> Token
     ensures { result ≡ record { high = 0; low = 0 } }
 {
     // proof: the token of 16 zero bytes is that of two zero numbers
-    shard_book::laws::same_bytes_same_token();
+    tap_views::laws::same_bytes_same_token();
     Token::of(&[0; 16])
 }
 

@@ -9,5 +9,6 @@ mod one_token;
 mod rounds;
 mod seat;
 
-pub use ledger::write_settled_ledger;
+pub use ledger::{least_token, write_settled_ledger};
+pub use lines::{STRIDE_ROOM_BYTES, token_of, write_taps};
 pub use one_token::{write_token_explained, write_token_ledger, write_token_statement};

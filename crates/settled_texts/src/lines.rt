@@ -8,26 +8,25 @@ ghost use Rattle.shard_book.specs.declared.entry.Entry.{Entry};
 ghost use Rattle.fare_texts.specs.declared.print_fault.PrintFault.TheVariants.{Write as ForWrite};
 ghost use Rattle.ledger_texts.specs.Lines.{HasCome, IsUpTo};
 ghost use Rattle.settlement.specs.Posted.{token_of_tap};
-ghost use Rattle.settled_texts.specs.inside.Telling.{AreTold, NoTapFallsFrom, last_token};
+ghost use Rattle.settled_texts.specs.Telling.{AreTold, NoTapFallsFrom, last_token};
 
 use fare_table::{Clock, FareTable};
 use fare_texts::PrintFault;
 use ledger_texts::{LINE_ROOM_BYTES, go_on_to, pass_piece};
 use reason_texts::Teller;
-use shard_book::Token;
 use std::alloc::AllocError;
 use std::io::Write;
-use tap_views::TapFields;
+use tap_views::{TapFields, Token};
 
 /// How many taps are told before their lines may go out.
 const STRIDE_TAPS: usize = 64;
 
 /// More bytes than the lines of a stride have.
-pub(crate) const STRIDE_ROOM_BYTES: usize = STRIDE_TAPS * LINE_ROOM_BYTES;
+pub const STRIDE_ROOM_BYTES: usize = STRIDE_TAPS * LINE_ROOM_BYTES;
 
 /// The token of a tap.
 #[inline(always)]
-pub(crate) fn token_of(tap: &TapFields) -> Token
+pub fn token_of(tap: &TapFields) -> Token
     ensures { result ≡ token_of_tap tap.now }
 {
     Token::of(&tap.token)
@@ -89,9 +88,10 @@ pub(crate) fn tell_taps(
     Ok(())
 }
 
-/// Posts the taps as `tell_taps` does, in strides, between which what waits in the text goes out
-/// where it is a piece. The text has room for a piece and a stride.
-pub(crate) fn write_taps<W: Write>(
+/// Posts the taps, whose tokens do not fall from the teller's on, and appends their lines, in
+/// strides. Between these what waits in the text goes out if it is a piece. The text has room for a
+/// piece and a stride, so that no memory is taken.
+pub fn write_taps<W: Write>(
     text: &mut String,
     table: &FareTable,
     clock: &Clock,

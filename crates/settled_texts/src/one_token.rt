@@ -13,14 +13,14 @@ ghost use Rattle.ledger_texts.specs.Ledger.{IsLedgerOver};
 ghost use Rattle.settlement.specs.Posted.{posted, token_of_tap};
 ghost use Rattle.settlement.specs.Replays.{HasPosted};
 
-use fare_table::{FareTable, NoMemory, Token};
+use fare_table::FareTable;
 use fare_texts::{PrintFault, statement_text, write_out};
 use ledger_texts::{write_explained_of, write_ledger_of};
 use settlement::Replay;
 use shard_book::{Entry, Lines, Statement, totals_of_entries};
 use std::alloc::Global;
 use std::io::Write;
-use tap_views::TapFields;
+use tap_views::{NoMemory, TapFields, Token};
 
 /// The taps of a token, posted.
 #[derive(Drop)]

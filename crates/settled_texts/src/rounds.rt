@@ -10,7 +10,7 @@ ghost use Rattle.fare_texts.specs.declared.print_fault.PrintFault.TheVariants.{W
 ghost use Rattle.ledger_texts.specs.Lines.{HasCome};
 ghost use Rattle.settled_texts.specs.declared.seat.Seat.{Seat};
 ghost use Rattle.settled_texts.specs.inside.Seats.{HasSat, IsSoundList};
-ghost use Rattle.settled_texts.specs.inside.Telling.{AreTold, NoTapFallsFrom, last_token};
+ghost use Rattle.settled_texts.specs.Telling.{AreTold, NoTapFallsFrom, last_token};
 
 use crate::lines::write_taps;
 use crate::seat::Seat;

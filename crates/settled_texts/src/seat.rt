@@ -8,9 +8,8 @@ ghost use Rattle.settled_texts.specs.inside.Seats.{HasSat, IsSoundList};
 use crate::lines::{tell_taps, token_of};
 use fare_table::{Clock, FareTable};
 use reason_texts::Teller;
-use shard_book::Token;
 use std::alloc::Global;
-use tap_views::TapFields;
+use tap_views::{TapFields, Token};
 
 /// The most taps of a list that a seat takes, so that its text stays small.
 const SEAT_TAPS: usize = 65_536;

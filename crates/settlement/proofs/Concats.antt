@@ -12,8 +12,8 @@ use Rattle.std.proofs.lemmas.List.{map-append}
 use Rattle.std.proofs.lemmas.List.Elements.{All-head, All-tail, All-nil, All-cons, filter-append}
 use Rattle.std.proofs.lemmas.Map.Views.{All-insert_key}
 use Rattle.fare_table.specs.Fares.{Fares}
-use Rattle.fare_table.specs.Token.{bytes_of, token_cmp, token_eq}
-use Rattle.fare_table.specs.declared.token.Token.{Token}
+use Rattle.tap_views.specs.Token.{bytes_of, token_cmp, token_eq}
+use Rattle.tap_views.specs.declared.token.Token.{Token}
 use Rattle.tap_views.specs.declared.encoder.TapFields.{TapFields}
 use Rattle.account_rule.specs.Replies.{reply}
 use Rattle.account_rule.specs.TokenRules.{rules_of}
@@ -22,9 +22,8 @@ use Rattle.shard_book.specs.Rising.{rising}
 use Rattle.shard_book.specs.Sums.{Sums, sums}
 use Rattle.shard_book.specs.SumsByKey.{sums_by_token, token_of, tokens}
 use Rattle.shard_book.specs.declared.entry.Entry.{Entry}
-use Rattle.shard_book.proofs.Histories.{same_token, token_eq-sym}
+use Rattle.tap_views.proofs.TokenLemmas.{same_token, token_eq-sym, token_cmp-total, token_cmp-ties}
 use Rattle.shard_book.proofs.RisingLemmas.{rising-is, rising-only}
-use Rattle.shard_book.proofs.TokenLemmas.{token_cmp-total, token_cmp-ties}
 use Rattle.shard_book.specs.Plain.{answered, with_reply}
 use Rattle.settlement.specs.Posted.{posted, posted_after, unposted}
 use Rattle.settlement.specs.inside.Apart.{AreBelow, AreOthers}

@@ -10,11 +10,11 @@ use Rattle.std.proofs.lemmas.List.Elements.{All-head, All-tail, All-nil, All-con
 use Rattle.tap_views.specs.Encoding.{fields_of}
 use Rattle.tap_views.specs.Layout.{Tap}
 use Rattle.tap_views.specs.declared.encoder.TapFields.{TapFields}
-use Rattle.fare_table.specs.declared.token.Token.{Token}
+use Rattle.tap_views.specs.declared.token.Token.{Token}
 use Rattle.shard_book.specs.Entry.{is_of, own}
 use Rattle.shard_book.specs.declared.entry.Entry.{Entry}
 use Rattle.shard_book.specs.Keys.{same_token}
-use Rattle.fare_table.specs.Token.{bytes_of, token_eq}
+use Rattle.tap_views.specs.Token.{bytes_of, token_eq}
 use Rattle.shard_book.specs.Plain.{token_of_bytes, unanswered}
 use Rattle.tap_parts.specs.Canonical.{tap_cmp}
 use Rattle.settlement.proofs.Histories.{entry_of}

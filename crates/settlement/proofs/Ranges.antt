@@ -13,10 +13,10 @@ use Rattle.std.proofs.lemmas.Cmp.{nat_list_cmp_total}
 use Rattle.std.proofs.lemmas.List.{map-append}
 use Rattle.std.proofs.lemmas.List.Elements.{All-append, All-cons, All-head, All-map, All-nil, All-tail}
 use Rattle.std.proofs.lemmas.List.Sorted.{All-permutation}
-use Rattle.fare_table.proofs.TokenBytes.{back_byte, front_byte, token-order, two_numbers}
+use Rattle.tap_views.proofs.TokenBytes.{back_byte, front_byte, token-order, two_numbers}
 use Rattle.fare_table.specs.Fares.{Fares}
-use Rattle.fare_table.specs.Token.{bytes_of, token_cmp, token_eq}
-use Rattle.fare_table.specs.declared.token.Token.{Token}
+use Rattle.tap_views.specs.Token.{bytes_of, token_cmp, token_eq}
+use Rattle.tap_views.specs.declared.token.Token.{Token}
 use Rattle.tap_views.specs.Layout.{num}
 use Rattle.tap_views.specs.declared.encoder.TapFields.{TapFields}
 use Rattle.tap_parts.specs.Canonical.{HasTokenBytes, IsCanonical}
@@ -25,7 +25,7 @@ use Rattle.tap_parts.proofs.RangeLemmas.{counts_rise}
 use Rattle.tap_parts.proofs.TokenOrder.{number_order}
 use Rattle.shard_book.specs.SumsByKey.{token_of}
 use Rattle.shard_book.specs.declared.entry.Entry.{Entry}
-use Rattle.shard_book.proofs.Histories.{token_eq-sym}
+use Rattle.tap_views.proofs.TokenLemmas.{token_eq-sym}
 use Rattle.shard_book.specs.Plain.{token_of_bytes}
 use Rattle.settlement.specs.inside.Apart.{AreBelow, AreOthers}
 use Rattle.settlement.specs.Posted.{HasName, posted, posted_after, token_of_tap}

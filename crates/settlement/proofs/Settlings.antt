@@ -11,7 +11,7 @@ use Rattle.account_rule.specs.declared.reply.Answer.TheVariants.{Stale}
 use Rattle.shard_book.specs.SumsByKey.{sums_by_validator, sums_by_token}
 use Rattle.shard_book.specs.History.{IsLegal}
 use Rattle.shard_book.specs.Sums.{sums}
-use Rattle.fare_table.specs.Token.{bytes_of}
+use Rattle.tap_views.specs.Token.{bytes_of}
 use Rattle.shard_book.specs.Visits.{AreEntriesOf}
 use Rattle.shard_book.specs.declared.entry.Entry.{Entry}
 use Rattle.tap_views.specs.Files.{AreGoodTapsOfEach, HasOneReading}

@@ -13,10 +13,10 @@ use Rattle.std.proofs.lemmas.Bool.{cases_lt, false≢true}
 use Rattle.std.proofs.lemmas.List.{length-take, take_more}
 use Rattle.std.proofs.lemmas.List.Elements.{All-head, All-tail, All-nil, All-cons}
 use Rattle.std.proofs.lemmas.List.Sorted.{ranks_by, sorted_far}
-use Rattle.fare_table.proofs.TokenBytes.{token-order}
+use Rattle.tap_views.proofs.TokenBytes.{token-order}
 use Rattle.fare_table.specs.Fares.{Fares}
-use Rattle.fare_table.specs.Token.{Fits, bytes_of, token_cmp, token_eq}
-use Rattle.fare_table.specs.declared.token.Token.{Token}
+use Rattle.tap_views.specs.Token.{Fits, bytes_of, token_cmp, token_eq}
+use Rattle.tap_views.specs.declared.token.Token.{Token}
 use Rattle.tap_views.specs.declared.encoder.TapFields.{TapFields}
 use Rattle.tap_parts.specs.Canonical.{tap_cmp}
 use Rattle.shard_book.specs.Entry.{is_of, own}
@@ -24,9 +24,8 @@ use Rattle.shard_book.specs.Rising.{rising}
 use Rattle.shard_book.specs.Sums.{Sums, sums}
 use Rattle.shard_book.specs.SumsByKey.{sums_by_token, token_of, tokens}
 use Rattle.shard_book.specs.declared.entry.Entry.{Entry}
-use Rattle.shard_book.proofs.Histories.{token_eq-refl}
+use Rattle.tap_views.proofs.TokenLemmas.{token_eq-refl, high_back, low_back, token_cmp-total, token_cmp-ties}
 use Rattle.shard_book.proofs.RisingLemmas.{rising-only}
-use Rattle.shard_book.proofs.TokenLemmas.{high_back, low_back, token_cmp-total, token_cmp-ties}
 use Rattle.shard_book.specs.Plain.{answered, token_of_bytes}
 use Rattle.settlement.specs.inside.Apart.{AreBelow}
 use Rattle.settlement.specs.Posted.{HasName, posted, posted_after, token_of_tap, unposted}

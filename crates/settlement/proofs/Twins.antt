@@ -5,8 +5,8 @@ use Rattle.std.specs.List.{Contains}
 use Rattle.std.specs.Prelude.{is_some, option_map}
 use Rattle.std.proofs.lemmas.Bool.{le-ltb}
 use Rattle.fare_table.specs.Fares.{Fares, mode_at}
-use Rattle.fare_table.specs.Token.{bytes_of}
-use Rattle.fare_table.specs.declared.token.Token.{Token}
+use Rattle.tap_views.specs.Token.{bytes_of}
+use Rattle.tap_views.specs.declared.token.Token.{Token}
 use Rattle.account_rule.specs.Replies.{reply, reply_with}
 use Rattle.account_rule.specs.TokenRules.{rules_of}
 use Rattle.account_rule.specs.Taps.{is_later}

@@ -4,7 +4,7 @@ use Rattle.tap_views.specs.Encoding.{AreEarly, fields_of}
 use Rattle.tap_views.specs.Files.{AreGoodTapsOfEach}
 use Rattle.tap_views.specs.Layout.{Tap}
 use Rattle.tap_views.specs.declared.encoder.TapFields.{TapFields}
-use Rattle.fare_table.specs.declared.token.Token.{Token}
+use Rattle.tap_views.specs.declared.token.Token.{Token}
 use Rattle.tap_parts.specs.Canonical.{IsCanonical}
 use Rattle.tap_parts.specs.Parts.{taps_of_uploads}
 use Rattle.settlement.specs.Posted.{HasName, only}

@@ -3,7 +3,7 @@
 ghost use Rattle.std.specs.Prelude.{◌≡◌, ◌≢◌, ◌<◌, ◌≤◌, ◌++◌, ◌∷◌, ℕ, List, All, length, map, []};
 ghost use Rattle.std.specs.Prelude.{slice_index_or, take, IfOk, OnOk};
 ghost use Rattle.std.specs.List.Sorted.{IsSorted};
-ghost use Rattle.fare_table.specs.declared.token.Token.{Token};
+ghost use Rattle.tap_views.specs.declared.token.Token.{Token};
 ghost use Rattle.tap_views.specs.Encoding.{AreEarly};
 ghost use Rattle.tap_views.specs.declared.encoder.TapFields.{TapFields};
 ghost use Rattle.tap_parts.specs.Canonical.{HasTokenBytes, tap_cmp};
@@ -15,10 +15,10 @@ ghost use Rattle.settlement.specs.Posted.{posted, token_of_tap};
 ghost use Rattle.settlement.specs.inside.Billing.{HasBillRoom, HaveBillRoom, IsRun};
 
 use crate::replay::Replay;
-use fare_table::{Clock, FareTable, NoMemory};
-use shard_book::{HashSeed, Tally, Token, TokenSums, ValidatorTallies};
+use fare_table::{Clock, FareTable};
+use shard_book::{HashSeed, Tally, TokenSums, ValidatorTallies};
 use std::alloc::Global;
-use tap_views::TapFields;
+use tap_views::{NoMemory, TapFields, Token};
 
 /// What settled taps come to.
 #[derive(Drop)]

@@ -5,23 +5,22 @@ ghost use Rattle.settlement.specs.inside.Billing.{ArePartsInOrder, HasBillRoom, 
 ghost use Rattle.settlement.specs.inside.Billing.{IsPartBilled, IsSoundPart};
 
 use crate::bill::Bill;
-use crate::part_lists::append_pieces;
 use crate::pieces::Pieces;
-use fare_table::{Clock, FareTable, NoMemory};
+use fare_table::{Clock, FareTable};
 use shard_book::HashSeed;
 use std::alloc::Global;
 use std::marker::Sync;
 use std::thread;
 use std::thread::Threads;
-use tap_parts::{arrange_into, number_of};
-use tap_views::TapFields;
+use tap_parts::{are_in_order, arrange_into, number_of};
+use tap_views::{NoMemory, TapFields};
 
-/// Adds the taps of a part to the bill, in canonical order. `taps` and `list` are room to work in.
+/// Adds the taps of a part to the bill, in canonical order: as they lie, if that is their order.
+/// `list` is room to work in.
 fn add_part(
     alloc: Global,
     table: &FareTable,
     clock: &Clock,
-    taps: &mut Vec<TapFields>,
     list: &mut Vec<TapFields>,
     pieces: &Pieces,
     bill: &mut Bill,
@@ -31,8 +30,16 @@ fn add_part(
     requires room { HasBillRoom bill.old (2 ^ 58) }
     ensures { OnOk result (IsPartBilled table.now pieces.now bill.old bill.new) }
 {
-    append_pieces(pieces.as_slice(), taps)?;
-    arrange_into(alloc, taps, list)?;
+    let pieces = pieces.as_slice();
+    if let [piece] = pieces {
+        if are_in_order(piece) {
+            // proof: a list has fewer than 2^58 taps
+            let _ = number_of(piece);
+            bill.add(alloc, table, clock, piece)?;
+            return Ok(());
+        }
+    }
+    arrange_into(alloc, pieces, list)?;
     // proof: a list has fewer than 2^58 taps
     let _ = number_of(list);
     bill.add(alloc, table, clock, list)?;
@@ -52,13 +59,10 @@ fn bill_of(
     ensures { IfOk result (IsBillOfParts table.now parts.now) }
 {
     let clock = table.clock(alloc)?;
-    let mut taps = Vec::new(alloc);
     let mut list = Vec::new(alloc);
     let mut bill = Bill::new(alloc, seed);
     for pieces in parts {
-        add_part(
-            alloc, table, &clock, &mut taps, &mut list, pieces, &mut bill,
-        )?;
+        add_part(alloc, table, &clock, &mut list, pieces, &mut bill)?;
     }
     Ok(bill)
 }

@@ -1,20 +1,20 @@
-//! The taps of one token, collected from uploads by several threads.
+//! The taps of one token, collected from uploads by several threads while they are read.
 
-ghost use Rattle.std.specs.Prelude.{◌≡◌, ◌++◌, IfOk, OnOk, map};
+ghost use Rattle.std.specs.Prelude.{◌≡◌, ◌≤◌, ◌++◌, IfOk, OnOk, map};
 ghost use denote.Param.Send.{IsSync};
 ghost use Rattle.tap_views.specs.Encoding.{fields_of};
 ghost use Rattle.settlement.specs.Posted.{only};
-ghost use Rattle.settlement.specs.inside.OwnTaps.{AreOwnAdded, AreOwnTaps};
+ghost use Rattle.settlement.specs.inside.OwnTaps.{AreOwnAdded, IsRunOwn};
 
 use crate::memory::release;
-use crate::splitting::halves;
+use crate::splitting::{good_tokens, middle_of};
+use crate::uploads::Uploads;
 use fare_service::UploadEnd;
-use shard_book::Token;
 use std::alloc::{AllocError, Global};
 use std::marker::Sync;
 use std::thread;
 use std::thread::Threads;
-use tap_views::{Batch, TapFields, batches};
+use tap_views::{Batch, TapFields, Token, good_batches};
 
 /// The taps of one token, and how each upload ends.
 #[derive(Drop)]
@@ -48,64 +48,76 @@ fn add_upload(
         AreOwnAdded token upload.now taps.old.items taps.new.items end) }
 {
     let mut number = 0;
-    for item in batches(upload) {
-        match item {
-            Ok(batch) => {
-                add_batch(token, &batch, taps)?;
-                number += u64::from(batch.len());
-            }
-            Err((offset, fault)) => {
-                return Ok(UploadEnd::by_fault(number, Some((offset, fault))));
-            }
-        }
+    let mut good = good_batches(upload);
+    while let Some(batch) = good.next() {
+        add_batch(token, &batch, taps)?;
+        number += u64::from(batch.len());
     }
-    Ok(UploadEnd::by_fault(number, None))
+    Ok(UploadEnd::by_fault(number, good.fault()))
 }
 
-/// Collects the token's taps. An upload's memory is given back as soon as it is read.
-fn own_taps(alloc: Global, token: Token, uploads: Vec<Vec<u8>>) -> Result<OwnTaps, AllocError>
-    ensures { IfOk result (λ own. AreOwnTaps token (map (λ upload. upload.items) uploads.items)
+/// Collects the token's taps from the uploads from one number on and below another. All are read
+/// into one room, one after the other.
+fn own_taps<U: Uploads>(
+    alloc: Global,
+    token: Token,
+    uploads: &U,
+    start: usize,
+    end: usize,
+) -> Result<OwnTaps, AllocError>
+    requires order { start ≤ end }
+    requires within { end ≤ U.number uploads.now }
+    ensures { IfOk result (λ own. IsRunOwn (U.may_be uploads.now) start end token
         own.taps.items own.ends.items) }
 {
     let mut taps = Vec::new(alloc);
     let mut ends = Vec::new(alloc);
-    for upload in uploads {
-        let end = add_upload(token, upload.as_slice(), &mut taps)?;
-        ends.push(end)?;
-        release(upload);
+    let mut room = Vec::new(alloc);
+    for number in start..end {
+        let upload = uploads.read(number, room)?;
+        // proof: its tokens have 16 bytes
+        good_tokens(&upload);
+        let end_of_upload = add_upload(token, upload.as_slice(), &mut taps)?;
+        ends.push(end_of_upload)?;
+        room = upload;
     }
+    release(room);
     Ok(OwnTaps { taps, ends })
 }
 
-/// Collects the token's taps: no other tap is kept. The uploads are halved so many times, and a
-/// thread of its own reads each piece. Where one is refused, both halves are read one after the
-/// other.
+/// Collects the token's taps from the uploads from one number on and below another: no other tap is
+/// kept. The uploads are halved so many times, and a thread of its own reads each piece. Where one
+/// is refused, both halves are read one after the other.
 #[cycle(owns)]
-pub(crate) fn own_by_threads<R: Threads + Sync>(
+pub(crate) fn own_by_threads<R: Threads + Sync, U: Uploads + Sync>(
     rt: &R,
     alloc: Global,
     token: Token,
-    uploads: Vec<Vec<u8>>,
+    uploads: &U,
+    start: usize,
+    end: usize,
     halvings: u32,
 ) -> Result<OwnTaps, AllocError>
-    ensures { IfOk result (λ own. AreOwnTaps token (map (λ upload. upload.items) uploads.items)
+    requires order { start ≤ end }
+    requires within { end ≤ U.number uploads.now }
+    ensures { IfOk result (λ own. IsRunOwn (U.may_be uploads.now) start end token
         own.taps.items own.ends.items) }
 {
     if halvings == 0 {
-        return own_taps(alloc, token, uploads);
+        return own_taps(alloc, token, uploads, start, end);
     }
     let fewer = halvings - 1;
-    let (front, back) = halves(uploads)?;
+    let middle = middle_of(uploads, start, end);
     let first = move || -> Result<OwnTaps, AllocError>
-        requires { IsSync R.row }
-        ensures { IfOk result (λ own. AreOwnTaps token (map (λ upload. upload.items) front.items)
-            own.taps.items own.ends.items) }
-    { own_by_threads(rt, alloc, token, front, fewer) };
+        requires { IsSync R.row × IsSync U.row × (start ≤ middle) × (middle ≤ U.number uploads.now) }
+        ensures { IfOk result (λ own. IsRunOwn (U.may_be uploads.entry.now) start middle
+            token own.taps.items own.ends.items) }
+    { own_by_threads(rt, alloc, token, uploads, start, middle, fewer) };
     let second = move || -> Result<OwnTaps, AllocError>
-        requires { IsSync R.row }
-        ensures { IfOk result (λ own. AreOwnTaps token (map (λ upload. upload.items) back.items)
-            own.taps.items own.ends.items) }
-    { own_by_threads(rt, alloc, token, back, fewer) };
+        requires { IsSync R.row × IsSync U.row × (middle ≤ end) × (end ≤ U.number uploads.now) }
+        ensures { IfOk result (λ own. IsRunOwn (U.may_be uploads.entry.now) middle end
+            token own.taps.items own.ends.items) }
+    { own_by_threads(rt, alloc, token, uploads, middle, end, fewer) };
     let (own, more) = thread::join(rt, first, second);
     let mut own = own?;
     let mut more = more?;

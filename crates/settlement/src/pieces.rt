@@ -1,18 +1,19 @@
 //! The taps of each part, in the pieces that several threads made of it.
 
 ghost use Rattle.std.specs.Prelude.{◌≡◌, ◌<◌, ◌++◌, ℕ, All, flat_map, length, IfOk, OnOk, []};
-ghost use Rattle.std.specs.Prelude.{slice_index_or};
+ghost use Rattle.std.specs.Prelude.{map, slice_index_or};
 ghost use Rattle.settlement.specs.inside.SplitTaps.{ArePiecesAdded, in_part};
 
 use std::alloc::{AllocError, Global};
 use std::marker::Model;
-use tap_parts::{PartTaps, Parts};
+use tap_parts::Parts;
+use tap_views::TapFields;
 
 /// The taps of one part. Its memory goes when it is dropped, while other parts stay.
 #[derive(Drop)]
 pub(crate) struct Pieces {
     /// A piece from each thread, in their order.
-    list: Vec<PartTaps>,
+    list: Vec<Vec<TapFields>>,
 }
 
 impl Model for Pieces {
@@ -21,7 +22,7 @@ impl Model for Pieces {
 
     ghost Value = { List TapFields };
 
-    ghost view = { λ pieces. flat_map (λ piece. piece) pieces.list.items };
+    ghost view = { λ pieces. flat_map (λ piece. piece.items) pieces.list.items };
 }
 
 impl Pieces {
@@ -35,16 +36,16 @@ impl Pieces {
     }
 
     /// Adds a piece behind the others.
-    fn push(&mut self, piece: PartTaps) -> Result<(), AllocError>
-        ensures { OnOk result (self.new ≡ self.old ++ piece) }
+    fn push(&mut self, piece: Vec<TapFields>) -> Result<(), AllocError>
+        ensures { OnOk result (self.new ≡ self.old ++ piece.items) }
     {
         self.list.push(piece)?;
         Ok(())
     }
 
     /// The pieces, in their order.
-    pub(crate) fn as_slice(&self) -> &[PartTaps]
-        ensures { flat_map (λ piece. piece) result.now ≡ self.now }
+    pub(crate) fn as_slice(&self) -> &[Vec<TapFields>]
+        ensures { flat_map (λ piece. piece.items) result.now ≡ self.now }
     {
         &self.list
     }
@@ -64,9 +65,10 @@ fn no_pieces(alloc: Global, parts: u32) -> Result<Vec<Pieces>, AllocError>
 }
 
 /// Adds to each part the piece that a thread made of it.
-fn join(parts: &mut [Pieces], lists: Vec<PartTaps>) -> Result<(), AllocError>
+fn join(parts: &mut [Pieces], lists: Vec<Vec<TapFields>>) -> Result<(), AllocError>
     requires { length lists.items ≡ length parts.old }
-    ensures { OnOk result (ArePiecesAdded lists.items parts.old parts.new) }
+    ensures { OnOk result (ArePiecesAdded (map (λ list. list.items) lists.items) parts.old
+        parts.new) }
 {
     let mut place = 0usize;
     for piece in lists {
@@ -89,7 +91,7 @@ pub(crate) fn pieces_of(
 {
     let mut made = no_pieces(alloc, parts)?;
     for list in lists {
-        join(&mut made, list.into_lists())?;
+        join(&mut made, list.into_lists(alloc)?)?;
     }
     Ok(made)
 }

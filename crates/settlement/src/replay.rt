@@ -3,7 +3,7 @@
 ghost use Rattle.std.specs.Prelude.{◌≡◌, ◌<◌, List, ◌∷◌, ◌++◌, length, []};
 ghost use Rattle.std.specs.Option.{ForSome};
 ghost use Rattle.fare_table.specs.Fares.{Fares};
-ghost use Rattle.fare_table.specs.Token.{bytes_of};
+ghost use Rattle.tap_views.specs.Token.{bytes_of};
 ghost use Rattle.account_rule.specs.TokenRules.{rules_of};
 ghost use Rattle.account_rule.specs.Windows.{last_window};
 ghost use Rattle.shard_book.specs.Entry.{own, tap_of, taps_of};
@@ -14,8 +14,8 @@ ghost use Rattle.settlement.specs.Replays.{HasPosted};
 
 use account_rule::{Account, TapIn, WindowView};
 use fare_table::{Clock, FareTable};
-use shard_book::{Entry, Token};
-use tap_views::TapFields;
+use shard_book::Entry;
+use tap_views::{TapFields, Token};
 
 /// The tap, as the account rule sees it.
 #[inline(always)]

@@ -1,32 +1,32 @@
 //! Uploads, settled.
 
-ghost use Rattle.std.specs.Prelude.{◌≡◌, ◌<◌, ◌≤◌, ◌^◌, All, IfOk, List, flat_map, length, map};
+ghost use Rattle.std.specs.Prelude.{◌≡◌, ◌<◌, ◌≤◌, ◌^◌, All, IfOk, List, ℕ, flat_map, length};
 ghost use Rattle.report_texts.specs.UploadEnds.{ArePlainEnds};
 ghost use Rattle.tap_views.specs.Encoding.{AreEarly};
 ghost use Rattle.shard_book.specs.declared.entry.Entry.{Entry};
 ghost use Rattle.settlement.specs.Bills.{IsBillOf};
 ghost use Rattle.settlement.specs.Posted.{token_of_tap};
+ghost use Rattle.settlement.specs.Reading.{AreRead};
 ghost use Rattle.settlement.specs.Settled.{IsSettledHistory};
 ghost use Rattle.settlement.specs.SettledTaps.{AreSettledTaps, AreSettledTapsOf};
 ghost use Rattle.settlement.specs.inside.SplitUploads.{AreSplit};
+ghost use Rattle.tap_parts.specs.Canonical.{IsCanonical};
 
 use crate::arranging::lists_by_threads;
 use crate::bill::Bill;
 use crate::billing::bill_by_threads;
-use crate::memory::release;
 use crate::own_taps::{OwnTaps, own_by_threads};
 use crate::pieces::{Pieces, pieces_of};
 use crate::splitting::{SplitTaps, bytes_of, split_by_threads};
+use crate::uploads::Uploads;
 use fare_service::UploadEnd;
-use fare_service::laws::plain_history;
-use fare_table::{FareTable, NoMemory};
-use shard_book::{HashSeed, Token};
+use fare_table::FareTable;
+use shard_book::HashSeed;
 use std::alloc::{AllocError, Global};
 use std::marker::Sync;
 use std::thread::Threads;
-use tap_parts::{TokenRanges, arranged};
-use tap_views::laws::one_reading_each;
-use tap_views::{TapFields, push_sample};
+use tap_parts::{TokenRanges, sort};
+use tap_views::{NoMemory, TapFields, Token};
 
 /// How many bytes of uploads go to one part: some 40,000 taps. More parts make the split slower,
 /// larger ones the order.
@@ -35,6 +35,9 @@ const BYTES_OF_PART: usize = 1_120_000;
 /// The most parts.
 const MAX_PARTS: usize = 65_535;
 
+/// Of how many uploads tokens are sampled, at most.
+const MAX_SAMPLED: usize = 1_024;
+
 /// How many times the uploads are halved: four threads share the work.
 const HALVINGS: u32 = 2;
 
@@ -42,11 +45,11 @@ const HALVINGS: u32 = 2;
 const MAX_WORKERS: u32 = 64;
 
 /// How many parts there are to be. They are counted by the uploads' bytes, whatever these are.
-fn parts_for(uploads: &[Vec<u8>]) -> u32
+fn parts_for<U: Uploads>(uploads: &U) -> u32
     ensures least { 1 ≤ result }
     ensures most { result ≤ 65535 }
 {
-    (bytes_of(uploads) / BYTES_OF_PART).clamp(1, MAX_PARTS) as u32
+    (bytes_of(uploads, 0, uploads.len()) / BYTES_OF_PART).clamp(1, MAX_PARTS) as u32
 }
 
 /// Uploads whose taps are split into parts.
@@ -59,33 +62,50 @@ struct SplitUploads {
     parts: Vec<Pieces>,
 }
 
+/// Some tokens of the uploads, or of some at equal distances where there are many.
+fn sample_of<U: Uploads>(alloc: Global, uploads: &U) -> Result<Vec<u128>, AllocError> {
+    let mut sample = Vec::new(alloc);
+    let step = uploads.len() / MAX_SAMPLED + 1;
+    for turn in 0..MAX_SAMPLED {
+        let upload = turn.saturating_mul(step);
+        if upload >= uploads.len() {
+            break;
+        }
+        uploads.push_sample(upload, &mut sample)?;
+    }
+    Ok(sample)
+}
+
 /// The ranges of tokens into which the uploads are split: as many as there are to be parts.
-fn ranges_for(alloc: Global, uploads: &[Vec<u8>]) -> Result<TokenRanges, AllocError>
+fn ranges_for<U: Uploads>(alloc: Global, uploads: &U) -> Result<TokenRanges, AllocError>
     ensures { IfOk result (λ ranges. length ranges < 65535) }
 {
-    let mut sample = Vec::new(alloc);
-    for upload in uploads {
-        push_sample(upload.as_slice(), &mut sample)?;
-    }
+    let sample = sample_of(alloc, uploads)?;
     TokenRanges::of_sample(alloc, sample, parts_for(uploads))
 }
 
-/// Splits uploads into parts by their tokens. Four threads split the taps; where one is refused,
-/// another does its work. Its one error is want of memory. The bytes of an upload are given back as
-/// soon as its taps are split.
-fn split<R: Threads + Sync>(
+/// Splits uploads into parts by their tokens, while they are read. Four threads read and split;
+/// where one is refused, another does its work. An error is want of memory, or that an upload
+/// cannot be read.
+fn split<R: Threads + Sync, U: Uploads + Sync>(
     rt: &R,
     alloc: Global,
-    uploads: Vec<Vec<u8>>,
+    uploads: &U,
 ) -> Result<SplitUploads, NoMemory>
-    ensures { IfOk result (λ made. AreSplit (map (λ upload. upload.items) uploads.items)
-        made.ends.items made.parts.items) }
+    ensures { IfOk result (λ made. (files : List (List ℕ))
+        × AreRead (U.may_be uploads.now) 0 (U.number uploads.now) files
+        × AreSplit files made.ends.items made.parts.items) }
 {
-    // proof: uploads have one reading, and its tokens have 16 bytes
-    one_reading_each(&uploads);
-    plain_history(&uploads);
-    let ranges = ranges_for(alloc, &uploads)?;
-    let SplitTaps { lists, ends } = split_by_threads(rt, alloc, &ranges, uploads, HALVINGS)?;
+    let ranges = ranges_for(alloc, uploads)?;
+    let SplitTaps { lists, ends } = split_by_threads(
+        rt,
+        alloc,
+        &ranges,
+        uploads,
+        0,
+        uploads.len(),
+        HALVINGS,
+    )?;
     let parts = pieces_of(alloc, lists, ranges.len())?;
     Ok(SplitUploads { ends, parts })
 }
@@ -100,20 +120,21 @@ pub struct Billed {
 }
 
 /// The bill of the settled history of uploads, by so many workers: account by account, with no book
-/// and no entry kept. It does not depend on the number of workers. Its one error is want of memory.
-pub fn settled_bill<R: Threads + Sync>(
+/// and no entry kept. It does not depend on the number of workers. An error is want of memory, or
+/// that an upload cannot be read.
+pub fn settled_bill<R: Threads + Sync, U: Uploads + Sync>(
     rt: &R,
     alloc: Global,
     table: &FareTable,
     seed: HashSeed,
-    uploads: Vec<Vec<u8>>,
+    uploads: &U,
     workers: u32,
 ) -> Result<Billed, NoMemory>
-    ensures ended { IfOk result (λ made.
-        ArePlainEnds (map (λ upload. upload.items) uploads.items) made.ends.items) }
-    ensures billed { IfOk result (λ made. (history : List Entry)
-        × IsSettledHistory table.now (map (λ upload. upload.items) uploads.items) history
-        × IsBillOf history made.bill × (length history ≤ 2 ^ 95)) }
+    ensures { IfOk result (λ made. (files : List (List ℕ))
+        × AreRead (U.may_be uploads.now) 0 (U.number uploads.now) files
+        × ArePlainEnds files made.ends.items × ((history : List Entry)
+        × IsSettledHistory table.now files history
+        × IsBillOf history made.bill × (length history ≤ 2 ^ 95))) }
 {
     let SplitUploads { ends, parts } = split(rt, alloc, uploads)?;
     let bill = bill_by_threads(rt, alloc, table, seed, &parts, workers)?;
@@ -135,21 +156,20 @@ fn halvings_for(workers: u32) -> u32 {
     (workers.clamp(1, MAX_WORKERS) * 2 - 1).ilog2()
 }
 
-/// The good taps of uploads in canonical order. Four threads split the taps by part, and so many
-/// workers, 64 at most, put the parts' taps into order; where one is refused, another does its
-/// work. Its one error is want of memory. The bytes of an upload are given back as soon as its taps
-/// are split, and those of a part as soon as its list is made.
-pub fn settled_taps<R: Threads + Sync>(
+/// The good taps of uploads in canonical order. Four threads read the uploads and split the taps by
+/// part, and so many workers, 64 at most, put the parts' taps into order; where one is refused,
+/// another does its work. An error is want of memory, or that an upload cannot be read. The bytes of
+/// a part are given back as soon as its list is made.
+pub fn settled_taps<R: Threads + Sync, U: Uploads + Sync>(
     rt: &R,
     alloc: Global,
-    uploads: Vec<Vec<u8>>,
+    uploads: &U,
     workers: u32,
 ) -> Result<SettledTaps, NoMemory>
-    ensures ended { IfOk result (λ made.
-        ArePlainEnds (map (λ upload. upload.items) uploads.items) made.ends.items) }
-    ensures order { IfOk result (λ made.
-        AreSettledTaps (map (λ upload. upload.items) uploads.items)
-        (flat_map (λ list. list.items) made.lists.items)) }
+    ensures { IfOk result (λ made. (files : List (List ℕ))
+        × AreRead (U.may_be uploads.now) 0 (U.number uploads.now) files
+        × ArePlainEnds files made.ends.items
+        × AreSettledTaps files (flat_map (λ list. list.items) made.lists.items)) }
 {
     let SplitUploads { ends, parts } = split(rt, alloc, uploads)?;
     let lists = lists_by_threads(rt, alloc, parts, halvings_for(workers))?;
@@ -165,27 +185,40 @@ pub struct TokenTaps {
     pub taps: Vec<TapFields>,
 }
 
+/// The taps in canonical order, in the same memory.
+fn sorted(taps: Vec<TapFields>) -> Vec<TapFields>
+    ensures { IsCanonical taps.items result.items }
+{
+    let mut list = taps;
+    sort(&mut list);
+    list
+}
+
 /// The good taps of one token in canonical order: no other tap is kept. Four threads read the
-/// uploads; where one is refused, another does its work. Its one error is want of memory. The bytes
-/// of an upload are given back as soon as it is read.
-pub fn settled_taps_of<R: Threads + Sync>(
+/// uploads; where one is refused, another does its work. An error is want of memory, or that an
+/// upload cannot be read.
+pub fn settled_taps_of<R: Threads + Sync, U: Uploads + Sync>(
     rt: &R,
     alloc: Global,
-    uploads: Vec<Vec<u8>>,
+    uploads: &U,
     token: Token,
 ) -> Result<TokenTaps, NoMemory>
-    ensures ended { IfOk result (λ made.
-        ArePlainEnds (map (λ upload. upload.items) uploads.items) made.ends.items) }
-    ensures order { IfOk result (λ made.
-        AreSettledTapsOf (map (λ upload. upload.items) uploads.items) token made.taps.items) }
+    ensures order { IfOk result (λ made. (files : List (List ℕ))
+        × AreRead (U.may_be uploads.now) 0 (U.number uploads.now) files
+        × ArePlainEnds files made.ends.items
+        × AreSettledTapsOf files token made.taps.items) }
     ensures early { IfOk result (λ made. AreEarly (λ tap. tap.moment) made.taps.items) }
     ensures its { IfOk result (λ made. All (λ tap. token_of_tap tap ≡ token) made.taps.items) }
 {
-    // proof: uploads have one reading, and its tokens have 16 bytes
-    one_reading_each(&uploads);
-    plain_history(&uploads);
-    let OwnTaps { taps, ends } = own_by_threads(rt, alloc, token, uploads, HALVINGS)?;
-    let list = arranged(alloc, &taps)?;
-    release(taps);
-    Ok(TokenTaps { ends, taps: list })
+    let OwnTaps { taps, ends } = own_by_threads(
+        rt,
+        alloc,
+        token,
+        uploads,
+        0,
+        uploads.len(),
+        HALVINGS,
+    )?;
+    let taps = sorted(taps);
+    Ok(TokenTaps { ends, taps })
 }

@@ -13,11 +13,10 @@ use Rattle.shard_book.specs.inside.Accounts.{IsKept, IsKeptOrFresh, HasPlaceFor,
 use Rattle.shard_book.specs.Counts.{sums_of_counts}
 use Rattle.shard_book.specs.inside.Packed.{KeepPlaces, tokens_of}
 use Rattle.shard_book.specs.Sums.{sums_of_replies}
-use Rattle.fare_table.specs.Token.{token_eq}
-use Rattle.fare_table.specs.declared.token.Token.{Token}
-use Rattle.shard_book.proofs.Histories.{same_token}
+use Rattle.tap_views.specs.Token.{token_eq}
+use Rattle.tap_views.specs.declared.token.Token.{Token}
+use Rattle.tap_views.proofs.TokenLemmas.{same_token, token_eq-laws}
 use Rattle.shard_book.proofs.PackedLemmas.{keep_entries, keep_same}
-use Rattle.shard_book.proofs.TokenLemmas.{token_eq-laws}
 use Rattle.std.proofs.lemmas.Bool.{cases_Bool, false≢true}
 use Rattle.std.proofs.lemmas.Option.{slice_get_within}
 

@@ -30,7 +30,7 @@ use Rattle.shard_book.specs.inside.SumsBy.{sums_by}
 use Rattle.shard_book.specs.Shown.{token_sum, validator_sum}
 use Rattle.shard_book.specs.declared.sums.TokenSum.{TokenSum}
 use Rattle.shard_book.specs.declared.sums.ValidatorSum.{ValidatorSum}
-use Rattle.fare_table.specs.declared.token.Token.{Token}
+use Rattle.tap_views.specs.declared.token.Token.{Token}
 use Rattle.shard_book.specs.Book.{Book}
 use Rattle.shard_book.specs.TalliesByKey.{AreByKey, HasRoom, kept_sums}
 use Rattle.shard_book.specs.Sums.{Sums, sums, sums_of_replies, add_sums}

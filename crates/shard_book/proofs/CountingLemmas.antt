@@ -7,15 +7,15 @@ use Rattle.std.proofs.lemmas.List.{append-nil}
 use Rattle.std.proofs.lemmas.List.Elements.{filter-append}
 use Rattle.shard_book.specs.declared.accounts.Accounts.{Accounts}
 use Rattle.shard_book.specs.declared.entry.Entry.{Entry}
-use Rattle.fare_table.specs.declared.token.Token.{Token}
+use Rattle.tap_views.specs.declared.token.Token.{Token}
 use Rattle.shard_book.specs.inside.Accounts.{kept_at, counted}
 use Rattle.shard_book.specs.inside.Counting.{AreCounted}
 use Rattle.shard_book.specs.Entry.{is_of, own, reply_of}
 use Rattle.shard_book.specs.SumsByKey.{token_of}
 use Rattle.shard_book.specs.Sums.{Sums, sums, sums_of_replies, add_sums}
 use Rattle.shard_book.specs.inside.Sums.{has_taps}
-use Rattle.fare_table.specs.Token.{token_eq}
-use Rattle.shard_book.proofs.Histories.{same_token, token_eq-sym}
+use Rattle.tap_views.specs.Token.{token_eq}
+use Rattle.tap_views.proofs.TokenLemmas.{same_token, token_eq-sym}
 use Rattle.shard_book.proofs.SumsLemmas.{sums-append}
 
 -- the token's own entries after one more

@@ -13,12 +13,13 @@ use Rattle.account_rule.specs.TokenRules.{rules_of}
 use Rattle.shard_book.specs.declared.accounts.Accounts.{Accounts}
 use Rattle.shard_book.specs.declared.accounts.KeptAccount.{KeptAccount}
 use Rattle.shard_book.specs.declared.entry.Entry.{Entry}
-use Rattle.fare_table.specs.declared.token.Token.{Token}
+use Rattle.tap_views.specs.declared.token.Token.{Token}
 use Rattle.shard_book.specs.inside.Accounts.{kept_at, IsKept}
 use Rattle.shard_book.specs.Entry.{is_of, own, tap_of, taps_of, mode_of_place}
 use Rattle.shard_book.specs.History.{IsReplied, IsLegal}
 use Rattle.shard_book.specs.inside.Sound.{AreKept}
-use Rattle.fare_table.specs.Token.{bytes_of, token_eq}
+use Rattle.tap_views.proofs.TokenLemmas.{same_token}
+use Rattle.tap_views.specs.Token.{bytes_of, token_eq}
 
 -- a list with one element at its end, cut before some element: it is the last one, or it stands before the end
 snoc_cases : {X : Type 0} (xs : List X) (x : X) (before : List X) (y : X) (after : List X) → xs ++ x ∷ [] ≡ before ++ y ∷ after → ((xs ≡ before) × (x ≡ y)) ⊎ ((rest : List X) × (xs ≡ before ++ y ∷ rest))
@@ -53,17 +54,6 @@ taps-push table token entries entry =
       | true ↦ refl
       | false ↦ append-nil (map (tap_of table) (filter (is_of token) entries))
     ]
-
--- tokens that are equal by `==` are the same
-pub same_token : (a b : Token) → token_eq a b ≡ true → a ≡ b
-same_token a b h = grind arith
-
--- a token is equal to itself, and equality is the same both ways
-pub token_eq-sym : (a b : Token) → token_eq a b ≡ token_eq b a
-token_eq-sym a b = grind (arith, nat_tests)
-
-pub token_eq-refl : (a : Token) → token_eq a a ≡ true
-token_eq-refl a = grind (arith, nat_tests)
 
 -- the mode that the table has for a validator, as the account rule takes it
 pub mode_at_place : (mode : Option Mode) (place : Option ℕ) → option_map (λ m. m.place) mode ≡ place → mode ≡ option_map mode_of_place place

@@ -13,5 +13,4 @@ pub mod SoundLemmas
 pub mod SummedLemmas
 pub mod TallyLemmas
 pub mod SumsLemmas
-pub mod TokenLemmas
 pub mod WindowsLemmas

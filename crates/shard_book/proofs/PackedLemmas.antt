@@ -12,7 +12,7 @@ use Rattle.account_rule.specs.declared.reply.Answer.TheVariants.{Paid, Transfer,
 use Rattle.shard_book.specs.declared.accounts.KeptAccount.{KeptAccount}
 use Rattle.shard_book.specs.declared.entry.Entry.{Entry}
 use Rattle.shard_book.specs.declared.packed.PackedEntry.{PackedEntry}
-use Rattle.fare_table.specs.declared.token.Token.{Token}
+use Rattle.tap_views.specs.declared.token.Token.{Token}
 use Rattle.shard_book.specs.inside.Packed.{ArePlaced, HasToken, KeepPlaces, answer_at, entry_of, entry_with, history_of, no_token, bits_answer, bits_cents, bits_moment}
 use Rattle.shard_book.specs.inside.Places.{count_place}
 

@@ -12,12 +12,12 @@ use Rattle.account_rule.specs.TokenRules.{rules_of}
 use Rattle.shard_book.specs.declared.accounts.Accounts.{Accounts}
 use Rattle.shard_book.specs.declared.accounts.KeptAccount.{KeptAccount}
 use Rattle.shard_book.specs.declared.entry.Entry.{Entry}
-use Rattle.fare_table.specs.declared.token.Token.{Token}
+use Rattle.tap_views.specs.declared.token.Token.{Token}
 use Rattle.shard_book.specs.inside.Accounts.{kept_at, counted, IsCounting, IsKept, StandsOn}
 use Rattle.shard_book.specs.Entry.{own, tap_of, taps_of, reply_of}
 use Rattle.shard_book.specs.History.{IsReplied}
 use Rattle.shard_book.specs.inside.Sound.{IsBook, IsSound, AreKept}
-use Rattle.fare_table.specs.Token.{Fits, bytes_of, token_eq}
+use Rattle.tap_views.specs.Token.{Fits, bytes_of, token_eq}
 use Rattle.shard_book.specs.Sums.{sums_of_replies, add_sums}
 use Rattle.shard_book.specs.declared.packed.PackedEntry.{PackedEntry}
 use Rattle.shard_book.specs.inside.Packed.{KeepPlaces, history_of, tokens_of}

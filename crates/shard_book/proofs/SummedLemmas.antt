@@ -18,7 +18,7 @@ use Rattle.std.proofs.lemmas.Map.Made.{All-is_member, IsDistinct-keys_filter, ke
 use Rattle.shard_book.specs.declared.accounts.Accounts.{Accounts}
 use Rattle.shard_book.specs.declared.accounts.KeptAccount.{KeptAccount}
 use Rattle.shard_book.specs.declared.entry.Entry.{Entry}
-use Rattle.fare_table.specs.declared.token.Token.{Token}
+use Rattle.tap_views.specs.declared.token.Token.{Token}
 use Rattle.shard_book.specs.inside.Accounts.{kept_at, counted, is_used, pair_of, pairs_of}
 use Rattle.shard_book.specs.declared.sums.counts.TokenCounts.{TokenCounts}
 use Rattle.tap_views.specs.Shards.{shard_of_token}
@@ -29,13 +29,11 @@ use Rattle.shard_book.specs.Entry.{is_of, own}
 use Rattle.shard_book.specs.SumsByKey.{token_of, tokens, sums_by_token, all_entries}
 use Rattle.shard_book.specs.Sums.{Sums, sums, sums_of_replies}
 use Rattle.shard_book.specs.inside.Sums.{has_taps}
-use Rattle.fare_table.specs.Token.{bytes_of, token_eq, token_cmp}
+use Rattle.tap_views.specs.Token.{bytes_of, token_eq, token_cmp}
 use Rattle.shard_book.proofs.CountingLemmas.{own-member}
-use Rattle.shard_book.proofs.Histories.{same_token, token_eq-sym}
-use Rattle.shard_book.proofs.TokenLemmas.{token_eq-laws}
+use Rattle.tap_views.proofs.TokenLemmas.{same_token, token_eq-sym, token_eq-laws, token_cmp-total, token_cmp-ties}
 use Rattle.shard_book.proofs.RisingLemmas.{rising-only, sorted-rises}
 use Rattle.shard_book.proofs.SumsLemmas.{all-more}
-use Rattle.shard_book.proofs.TokenLemmas.{token_cmp-total, token_cmp-ties}
 
 -- a token that is apart from all keys is apart from those that a test leaves
 member-apart : (test : Token × KeptAccount → Bool) (token : Token) (es : List (Token × KeptAccount)) → AllByRecursion (λ there. token_eq token there ≡ false) (keys_of es) → is_member token_eq (keys_of (filter test es)) token ≡ false

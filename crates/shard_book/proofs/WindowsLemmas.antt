@@ -10,11 +10,11 @@ use Rattle.shard_book.specs.Sums.{sums_of_replies, is_paid}
 use Rattle.account_rule.specs.Replies.{reply, replies, replies_after}
 use Rattle.account_rule.specs.TokenRules.{rules_of}
 use Rattle.shard_book.specs.declared.entry.Entry.{Entry}
-use Rattle.fare_table.specs.declared.token.Token.{Token}
+use Rattle.tap_views.specs.declared.token.Token.{Token}
 use Rattle.shard_book.specs.Entry.{is_of, own, tap_of, taps_of, reply_of}
 use Rattle.shard_book.specs.History.{IsReplied, IsLegal}
 use Rattle.shard_book.specs.Keys.{same_token}
-use Rattle.fare_table.specs.Token.{bytes_of}
+use Rattle.tap_views.specs.Token.{bytes_of}
 use Rattle.shard_book.proofs.Histories.{taps-push}
 
 -- the replies of the token's entries after some others

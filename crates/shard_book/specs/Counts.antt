@@ -2,7 +2,7 @@
 use Rattle.std.specs.Prelude.{◌+◌}
 use Rattle.shard_book.specs.declared.sums.counts.Counts.{Counts}
 use Rattle.shard_book.specs.declared.sums.counts.TokenCounts.{TokenCounts}
-use Rattle.fare_table.specs.declared.token.Token.{Token}
+use Rattle.tap_views.specs.declared.token.Token.{Token}
 use Rattle.shard_book.specs.Sums.{Sums}
 
 -- the sums that the counts hold

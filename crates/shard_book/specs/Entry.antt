@@ -6,8 +6,8 @@ use Rattle.fare_table.specs.declared.mode.Mode.{Mode}
 use Rattle.account_rule.specs.declared.reply.Reply.{Reply}
 use Rattle.account_rule.specs.declared.tap.TapIn.{TapIn}
 use Rattle.shard_book.specs.declared.entry.Entry.{Entry}
-use Rattle.fare_table.specs.declared.token.Token.{Token}
-use Rattle.fare_table.specs.Token.{Fits, bytes_of, token_eq}
+use Rattle.tap_views.specs.declared.token.Token.{Token}
+use Rattle.tap_views.specs.Token.{Fits, bytes_of, token_eq}
 
 -- the entry has the fields of the tap's bytes
 pub record IsEntryOf (tap : Tap) (entry : Entry) : Type 0 where

@@ -5,7 +5,7 @@ use Rattle.account_rule.specs.Replies.{reply}
 use Rattle.account_rule.specs.TokenRules.{rules_of}
 use Rattle.shard_book.specs.declared.entry.Entry.{Entry}
 use Rattle.shard_book.specs.Entry.{reply_of, tap_of, taps_of}
-use Rattle.fare_table.specs.Token.{bytes_of}
+use Rattle.tap_views.specs.Token.{bytes_of}
 
 -- after these entries, the entry's reply is the account rule's for its token's earlier taps
 unfoldable pub IsReplied : Fares → List Entry → Entry → Type 0

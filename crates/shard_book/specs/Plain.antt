@@ -4,8 +4,8 @@ use Rattle.std.specs.Int.{from_be_bytes, w64}
 use Rattle.std.specs.Prelude.{◌≡◌, ℕ, List, [], ◌∷◌, ◌++◌, take, drop}
 use Rattle.tap_views.specs.Layout.{Tap, num}
 use Rattle.fare_table.specs.Fares.{Fares}
-use Rattle.fare_table.specs.Token.{bytes_of}
-use Rattle.fare_table.specs.declared.token.Token.{Token}
+use Rattle.tap_views.specs.Token.{bytes_of}
+use Rattle.tap_views.specs.declared.token.Token.{Token}
 use Rattle.account_rule.specs.Replies.{reply}
 use Rattle.account_rule.specs.TokenRules.{rules_of}
 use Rattle.account_rule.specs.declared.reply.Answer.TheVariants.{Unknown}

@@ -5,10 +5,10 @@ use Rattle.account_rule.specs.TokenRules.{rules_of}
 use Rattle.account_rule.specs.Windows.{last_window}
 use Rattle.shard_book.specs.declared.entry.Entry.{Entry}
 use Rattle.shard_book.specs.declared.statement.Statement.{Statement}
-use Rattle.fare_table.specs.declared.token.Token.{Token}
+use Rattle.tap_views.specs.declared.token.Token.{Token}
 use Rattle.shard_book.specs.Entry.{own, taps_of}
 use Rattle.shard_book.specs.Sums.{sums, sums_of}
-use Rattle.fare_table.specs.Token.{bytes_of}
+use Rattle.tap_views.specs.Token.{bytes_of}
 
 -- the token's own entries, their sums, and the last window of its taps
 pub record IsStatement (table : Fares) (entries : List Entry) (name : Token) (statement : Statement)

@@ -2,12 +2,12 @@
 use Rattle.std.specs.Prelude.{ℕ, List, map, filter, flat_map}
 use Rattle.std.specs.Ordering.{nat_cmp}
 use Rattle.shard_book.specs.declared.entry.Entry.{Entry}
-use Rattle.fare_table.specs.declared.token.Token.{Token}
+use Rattle.tap_views.specs.declared.token.Token.{Token}
 use Rattle.shard_book.specs.Book.{Book}
 use Rattle.shard_book.specs.Entry.{is_at, own}
 use Rattle.shard_book.specs.Rising.{rising}
 use Rattle.shard_book.specs.Sums.{Sums, sums}
-use Rattle.fare_table.specs.Token.{token_cmp}
+use Rattle.tap_views.specs.Token.{token_cmp}
 
 -- the validator of an entry
 abbrev pub validator_of : Entry → ℕ

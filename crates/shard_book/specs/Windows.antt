@@ -8,10 +8,10 @@ use Rattle.account_rule.specs.TokenRules.{rules_of}
 use Rattle.account_rule.specs.Taps.{LiveTap}
 use Rattle.account_rule.specs.Windows.{windows, paid_rides, ride_cents}
 use Rattle.shard_book.specs.declared.entry.Entry.{Entry}
-use Rattle.fare_table.specs.declared.token.Token.{Token}
+use Rattle.tap_views.specs.declared.token.Token.{Token}
 use Rattle.shard_book.specs.Entry.{own, taps_of, reply_of}
 use Rattle.shard_book.specs.Sums.{sums_of_replies}
-use Rattle.fare_table.specs.Token.{bytes_of}
+use Rattle.tap_views.specs.Token.{bytes_of}
 
 -- No window has more paid rides than the ride limit or costs more than the ceiling. The replies to
 -- rides are, window by window, those of their places, so that the windows' paid rides and cents add

@@ -15,16 +15,17 @@ ghost use Rattle.shard_book.specs.inside.Packed.{HasToken, KeepPlaces, tokens_of
 ghost use Rattle.shard_book.specs.Counts.{token_counts};
 ghost use Rattle.shard_book.specs.declared.entry.Entry.{Entry};
 ghost use Rattle.shard_book.specs.Sums.{sums_of_replies, add_sums};
-ghost use Rattle.fare_table.specs.Token.{bytes_of, token_eq};
-ghost use Rattle.fare_table.specs.declared.token.Token.{Token};
+ghost use Rattle.tap_views.specs.Token.{bytes_of, token_eq};
+ghost use Rattle.tap_views.specs.declared.token.Token.{Token};
 
 use crate::sums::counts::{Counts, TokenCounts};
 use crate::token_hash::HashSeed;
 use account_rule::{Account, Reply, TapIn};
-use fare_table::{Clock, FareTable, NoMemory, Token};
+use fare_table::{Clock, FareTable};
 use indexmap::IndexMap;
 use indexmap::map::Entry as MapEntry;
 use std::alloc::Global;
+use tap_views::{NoMemory, Token};
 
 /// The most accounts that a book keeps, below 2^32: an entry of the history has 32 bits for the
 /// place of its token's account.

@@ -8,7 +8,7 @@ ghost use Rattle.account_rule.specs.Stands.{Stands};
 ghost use Rattle.shard_book.specs.inside.Counting.{AddsSums};
 ghost use Rattle.shard_book.specs.Counts.{token_counts};
 ghost use Rattle.shard_book.specs.Entry.{TokensFit, taps_of};
-ghost use Rattle.fare_table.specs.Token.{bytes_of};
+ghost use Rattle.tap_views.specs.Token.{bytes_of};
 ghost use Rattle.shard_book.specs.Book.{AreOfShard, PostsTap};
 ghost use Rattle.shard_book.specs.History.{IsLegal};
 
@@ -19,10 +19,10 @@ use crate::prefetch::NO_PLACE;
 use crate::sums::counts::TokenCounts;
 use crate::token_hash::HashSeed;
 use account_rule::{Account, Reply, TapIn};
-use fare_table::{Clock, FareTable, NoMemory, Token};
+use fare_table::{Clock, FareTable};
 use std::alloc::Global;
 use std::marker::Model;
-use tap_views::TapView;
+use tap_views::{NoMemory, TapView, Token};
 
 /// The accounts and the history of one shard.
 ///

@@ -4,7 +4,7 @@ ghost use Rattle.std.specs.Prelude.{◌≡◌};
 ghost use Rattle.shard_book.specs.Entry.{reply_of};
 
 use account_rule::{Answer, Reply};
-use fare_table::Token;
+use tap_views::Token;
 
 /// One posted tap and the account rule's reply to it. A book keeps it in 16 bytes, and gives it by
 /// value.

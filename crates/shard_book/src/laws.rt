@@ -2,31 +2,16 @@
 
 ghost use Rattle.std.specs.Prelude.{◌≡◌, ◌↔◌, ◌++◌, ℕ, List};
 ghost use Rattle.std.specs.Ordering.{nat_cmp};
-ghost use Rattle.std.specs.Cmp.Lexicographic.{slice_cmp};
 ghost use Rattle.fare_table.specs.Fares.{Fares};
 ghost use Rattle.shard_book.specs.declared.entry.Entry.{Entry};
-ghost use Rattle.fare_table.specs.declared.token.Token.{Token};
+ghost use Rattle.tap_views.specs.declared.token.Token.{Token};
 ghost use Rattle.shard_book.specs.History.{IsLegal};
 ghost use Rattle.shard_book.specs.Rising.{rising, IsRising};
 ghost use Rattle.shard_book.specs.Sums.{sums, add_sums};
-ghost use Rattle.fare_table.specs.Token.{Fits, bytes_of, token_cmp};
+ghost use Rattle.tap_views.specs.Token.{token_cmp};
 ghost use Rattle.shard_book.specs.Windows.{WindowsKeepLimits};
 
 use crate::book::ShardBook;
-use fare_table::Token;
-use std::cmp::Ordering;
-
-/// Tokens are ordered by their bytes.
-pub fn token_order(a: Token, b: Token) -> Ordering
-    ensures { result ≡ slice_cmp nat_cmp (bytes_of a) (bytes_of b) }
-{
-    a.cmp(&b)
-}
-
-/// Tokens of 16 bytes that have the same bytes are the same token.
-pub fn same_bytes_same_token()
-    ensures { (a b : Token) → Fits a → Fits b → bytes_of a ≡ bytes_of b → a ≡ b }
-{}
 
 /// The rising list of the keys is the one strictly rising list that has the same members.
 pub fn one_rising_list()

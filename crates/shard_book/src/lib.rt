@@ -22,7 +22,6 @@ mod token_hash;
 pub use book::ShardBook;
 pub use difference::first_difference;
 pub use entry::Entry;
-pub use fare_table::Token;
 pub use lines::Lines;
 pub use replies::Replies;
 pub use run_end::RunEnd;

@@ -10,8 +10,7 @@ ghost use Rattle.shard_book.specs.inside.Packed.{KeepPlaces, tokens_of};
 use crate::accounts::{Accounts, KeptAccount};
 use crate::book::ShardBook;
 use crate::sums::counts::Counts;
-use fare_table::{NoMemory, Token};
-use tap_views::RunTaps;
+use tap_views::{NoMemory, RunTaps, Token};
 
 /// How many accounts are looked up at once.
 pub(crate) const AT_ONCE: usize = 16;

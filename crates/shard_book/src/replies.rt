@@ -4,9 +4,9 @@ ghost use Rattle.std.specs.Prelude.{◌≡◌, ◌+◌, ◌-◌, ◌<◌, ◌≤
 ghost use Rattle.std.specs.Prelude.{Some, OnOk, OnErr, IsTrue, ◌↔◌};
 
 use account_rule::Reply;
-use fare_table::NoMemory;
 use std::alloc::Global;
 use std::marker::Model;
+use tap_views::NoMemory;
 
 /// A list of replies and the number of those that it has room for besides. Contracts see both.
 #[derive(Drop)]

@@ -10,8 +10,8 @@ use crate::lines::Lines;
 use crate::sums::totals::Totals;
 use crate::sums::totals_of_entries;
 use account_rule::WindowView;
-use fare_table::{NoMemory, Token};
 use std::alloc::Global;
+use tap_views::{NoMemory, Token};
 
 /// What a book tells of one token.
 #[derive(Drop)]

@@ -14,10 +14,10 @@ use crate::sums::by_token::rising_counts;
 use crate::sums::counts::TokenCounts;
 use crate::sums::tally::Tally;
 use crate::sums::totals::Totals;
-use fare_table::{NoMemory, Token};
 use std::alloc::Global;
 use std::marker::Sync;
 use std::thread::Threads;
+use tap_views::{NoMemory, Token};
 
 pub(crate) mod by_key;
 pub(crate) mod by_threads;

@@ -6,9 +6,9 @@
 ghost use Rattle.std.specs.Prelude.{◌≡◌};
 ghost use Rattle.shard_book.specs.Folding.{leading_number, folded_multiply};
 
-use fare_table::NoMemory;
 use std::hash::{BuildHasher, Hasher, RandomState};
 use std::random::RandomSource;
+use tap_views::NoMemory;
 
 /// The seed under which a book hashes tokens. One value serves any number of books.
 ///

@@ -1,9 +1,9 @@
 //! Drawing: each upload's number is drawn once, by whoever comes first, and nobody waits.
 use crate::drawing::rule::{ClaimSplit, DrawRule, DrawerState, Draws, Looks, Meets};
 use atomic_table::{Seat, Table};
-use fare_table::NoMemory;
 use std::alloc::Global;
 use std::marker::Model;
+use tap_views::NoMemory;
 use thiserror::Error;
 
 mod rule;

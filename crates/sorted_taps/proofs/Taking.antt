@@ -1,5 +1,6 @@
 -- Taps that are taken from the begin of some files to their ends.
-use Rattle.std.proofs.Common.{◌≡◌, ◌≢◌, ◌⊎◌, ℕ, suc, zero, ◌<◌, List, [], ◌∷◌, ◌++◌, length, take, drop}
+use Rattle.std.proofs.Common.{◌≡◌, ◌≢◌, ◌⊎◌, ℕ, suc, zero, ◌+◌, ◌<◌, List, [], ◌∷◌, ◌++◌, length, map}
+use Rattle.std.proofs.Common.{take, drop}
 use Rattle.std.proofs.Common.{refl, sym, ap, subst, ◌∙◌, arith, append_assoc, get_or, set, All, inl, inr}
 use Rattle.std.specs.Prelude.{flat_map}
 use Rattle.std.specs.List.Sorted.{IsSorted}
@@ -104,16 +105,19 @@ Ends files readers =
     (k : ℕ) (d : TapReader) → k < length readers → ahead (get_or readers k d) ≡ []
     → drop (get_or readers k d).offset (get_or files k []) ≡ []
 
--- what each reader has left
-record AreLeft (files : List (List ℕ)) (readers : List TapReader) (taps : List TapFields) : Type 0
-  where
-    lists : List (List TapFields)
-    number : length lists ≡ length readers
-    each : (k : ℕ) (d : TapReader) → k < length readers
-        → IsLeft (get_or files k []) (get_or readers k d) (get_or lists k [])
-    merged : IsMerged lists taps
+-- what each reader has left, and has passed at the end
+record AreLeft (files : List (List ℕ)) (readers end : List TapReader) (taps : List TapFields)
+    : Type 0 where
+  lists : List (List TapFields)
+  number : length lists ≡ length readers
+  each : (k : ℕ) (d : TapReader) → k < length readers
+      → IsLeft (get_or files k []) (get_or readers k d) (get_or lists k [])
+  merged : IsMerged lists taps
+  as_many : length end ≡ length readers
+  passed : (k : ℕ) (d : TapReader) → k < length readers
+      → (get_or end k d).passed ≡ (get_or readers k d).passed + length (get_or lists k [])
 
-same_head : (was : List TapFields) (one other : TapFields) (rest more : List TapFields)
+pub same_head : (was : List TapFields) (one other : TapFields) (rest more : List TapFields)
     → was ≡ one ∷ rest → was ≡ other ∷ more → one ≡ other
 same_head was one other rest more e f = let h : one ∷ rest ≡ other ∷ more = sym e ∙ f in cc
 
@@ -160,6 +164,42 @@ module _ (files : List (List ℕ)) (old mid : List TapReader) (tap : TapFields)
           let many = as_many in
           subst (λ r. drop r.offset (get_or files k []) ≡ []) (sym same)
           (ends k d (omega (arith, inside, many)) (ap ahead (sym same) ∙ none))
+
+  -- what is passed at the end, with the tap that was taken
+  passed_before : (lists : List (List TapFields)) (end : List TapReader)
+      → length lists ≡ length mid
+      → ((k : ℕ) (d : TapReader) → k < length mid
+      → (get_or end k d).passed ≡ (get_or mid k d).passed + length (get_or lists k []))
+      → (k : ℕ) (d : TapReader) → k < length old
+      → (get_or end k d).passed ≡ (get_or old k d).passed
+      + length (get_or (set lists taken.at (tap ∷ get_or lists taken.at [])) k [])
+  passed_before lists end number passed k d inside = by_place (cases_eq k taken.at)
+    where
+      by_place : (k ≡ taken.at) ⊎ (k ≢ taken.at)
+          → (get_or end k d).passed ≡ (get_or old k d).passed + length (get_or (set lists taken.at (tap ∷ get_or lists taken.at [])) k [])
+      by_place (inl same) =
+          let m = as_many in
+          let w = within in
+          let after = passed taken.at d (omega (arith, m, w)) in
+          let stood : (get_or old taken.at d).passed ≡ taken.was.passed =
+          ap (λ (r : TapReader). r.passed) (there d) in
+          let stands : (get_or mid taken.at d).passed ≡ taken.is.passed =
+          ap (λ (r : TapReader). r.passed) (now d) in
+          let one = taken.step.number in
+          let more : length (get_or (set lists taken.at (tap ∷ get_or lists taken.at [])) taken.at []) ≡ length (get_or lists taken.at []) + 1 =
+          ap length (get_or-set_same lists taken.at (tap ∷ get_or lists taken.at []) []
+          (omega (arith, m, w, number))) ∙ omega arith in
+          subst (λ n. (get_or end n d).passed
+          ≡ (get_or old n d).passed + length (get_or (set lists taken.at (tap ∷ get_or lists taken.at [])) n [])) (sym same)
+          (omega (arith, after, stood, stands, one, more))
+      by_place (inr apart) =
+          let m = as_many in
+          let after = passed k d (omega (arith, m, inside)) in
+          let stood : (get_or mid k d).passed ≡ (get_or old k d).passed =
+          ap (λ (r : TapReader). r.passed) (other k d apart) in
+          let more : length (get_or (set lists taken.at (tap ∷ get_or lists taken.at [])) k []) ≡ length (get_or lists k []) =
+          ap length (get_or-set_other lists taken.at k (tap ∷ get_or lists taken.at []) [] apart) in
+          omega (arith, after, stood, more)
 
   module _ (lists : List (List TapFields)) (number : length lists ≡ length mid)
       (each : (k : ℕ) (d : TapReader) → k < length mid
@@ -227,7 +267,7 @@ module _ (files : List (List ℕ)) (old mid : List TapReader) (tap : TapFields)
 
 -- the taps that are taken are what was left, merged
 taken_left : (files : List (List ℕ)) (taps : List TapFields) (old end : List TapReader)
-    → Ends files old → AreTaken files old taps end → AreAtEnd end → AreLeft files old taps
+    → Ends files old → AreTaken files old taps end → AreAtEnd end → AreLeft files old end taps
 taken_left files [] old end ends taken at_end =
     record {
       lists = nils old;
@@ -239,6 +279,12 @@ taken_left files [] old end ends taken at_end =
           subst (λ l. IsLeft (get_or files k []) (get_or old k d) l) (sym (nils_at old k))
           (end_left (get_or files k []) (get_or old k d) none (ends k d inside none));
       merged = nils_all old;
+      as_many = sym (ap length taken);
+      passed = λ k d inside.
+          let same : (get_or old k d).passed ≡ (get_or end k d).passed =
+          ap (λ l. (get_or l k d).passed) taken in
+          let none : length (get_or (nils old) k []) ≡ 0 = ap length (nils_at old k) in
+          omega (arith, same, none);
     }
 taken_left files (tap ∷ taps) old end ends (mid, taken, more) at_end =
     let left = taken_left files taps mid end (ends_on files old mid tap taken ends) more at_end in
@@ -251,6 +297,8 @@ taken_left files (tap ∷ taps) old end ends (mid, taken, more) at_end =
         least_taken files old mid tap taken left.lists left.number left.each,
         left.merged,
       );
+      as_many = left.as_many ∙ as_many files old mid tap taken;
+      passed = passed_before files old mid tap taken left.lists end left.number left.passed;
     }
 
 -- an element of a list that has one
@@ -258,25 +306,71 @@ some_of : (readers : List TapReader) (k : ℕ) → k < length readers → TapRea
 some_of [] k inside = absurd (omega (arith, inside))
 some_of (reader ∷ readers) k inside = reader
 
+passed_lengths : (end : List TapReader) (lists : List (List TapFields))
+    → length lists ≡ length end
+    → ((k : ℕ) (d : TapReader) → k < length end
+    → (get_or end k d).passed ≡ length (get_or lists k []))
+    → map (λ (reader : TapReader). reader.passed) end ≡ map length lists
+passed_lengths [] [] number each = refl
+passed_lengths [] (list ∷ lists) number each = absurd (omega (arith, number))
+passed_lengths (reader ∷ end) [] number each = absurd (omega (arith, number))
+passed_lengths (reader ∷ end) (list ∷ lists) number each =
+    let first : reader.passed ≡ length list = each 0 reader (omega arith) in
+    let rest = passed_lengths end lists (omega (arith, number))
+    (λ k d inside. each (suc k) d (omega (arith, inside))) in
+    ap (λ n. n ∷ map (λ (reader : TapReader). reader.passed) end) first
+    ∙ ap (λ l. length list ∷ l) rest
+
+-- sorted files, their taps in canonical order, and readers that have passed them
+pub record AreMerged (files : List (List ℕ)) (end : List TapReader) (taps : List TapFields)
+    : Type 0 where
+  pub lists : List (List TapFields)
+  pub sorted : AreSortedFiles files lists
+  pub counted : map (λ (reader : TapReader). reader.passed) end ≡ map length lists
+  pub canonical : IsCanonical (flat_map (λ list. list) lists) taps
+
 -- from the begin to the end they are the canonical list of sorted files
+pub taken_merged : (files : List (List ℕ)) (begun end : List TapReader) (taps : List TapFields)
+    → AreBegun files begun → AreTaken files begun taps end → AreAtEnd end
+    → AreMerged files end taps
+taken_merged files begun end taps is taken at_end =
+    let left = taken_left files taps begun end (λ k d inside. (is.each k d inside).end) taken at_end in
+    let number = is.number in
+    let lists = left.lists in
+    let many = left.number in
+    let end_many = left.as_many in
+    let each : (k : ℕ) → k < length begun → IsSortedFile (get_or files k []) (get_or lists k []) =
+    λ k inside. let d = some_of begun k inside in begin_left (get_or files k []) (get_or begun k d)
+    (get_or lists k []) (is.each k d inside) (left.each k d inside) in
+    record {
+      lists = lists;
+      sorted = record {
+        number = omega (arith, number, many);
+        each = λ k inside. each k (omega (arith, inside, number));
+      };
+      counted = passed_lengths end lists (omega (arith, many, end_many)) (λ k d inside.
+          let in_begun : k < length begun = omega (arith, inside, end_many) in
+          let all = left.passed k d in_begun in
+          let none : (get_or begun k d).passed ≡ 0 = (is.each k d in_begun).number in
+          omega (arith, all, none));
+      canonical = merged_canonical lists taps (all_by (IsSorted tap_cmp) lists (λ j d inside.
+          subst (λ l. IsSorted tap_cmp l) (get_or_default lists j [] d inside)
+          (each j (omega (arith, inside, many))).sorted)) left.merged;
+    }
+
 pub taken_canonical : (files : List (List ℕ)) (begun end : List TapReader) (taps : List TapFields)
     → AreBegun files begun → AreTaken files begun taps end → AreAtEnd end
     → (lists : List (List TapFields)) × AreSortedFiles files lists
     × IsCanonical (flat_map (λ list. list) lists) taps
 taken_canonical files begun end taps is taken at_end =
-    let left = taken_left files taps begun end (λ k d inside. (is.each k d inside).end) taken at_end in
-    let number = is.number in
-    let lists = left.lists in
-    let many = left.number in
-    let each : (k : ℕ) → k < length begun → IsSortedFile (get_or files k []) (get_or lists k []) =
-    λ k inside. let d = some_of begun k inside in begin_left (get_or files k []) (get_or begun k d)
-    (get_or lists k []) (is.each k d inside) (left.each k d inside) in (
-      lists,
-      record {
-        number = omega (arith, number, many);
-        each = λ k inside. each k (omega (arith, inside, number));
-      },
-      merged_canonical lists taps (all_by (IsSorted tap_cmp) lists (λ j d inside.
-          subst (λ l. IsSorted tap_cmp l) (get_or_default lists j [] d inside)
-          (each j (omega (arith, inside, many))).sorted)) left.merged,
-    )
+    let merged = taken_merged files begun end taps is taken at_end in
+    (merged.lists, merged.sorted, merged.canonical)
+
+-- one more tap is taken
+pub taken_more : (files : List (List ℕ)) (taps : List TapFields) (old mid new : List TapReader)
+    (tap : TapFields) → AreTaken files old taps mid → IsTapTaken files mid tap new
+    → AreTaken files old (taps ++ tap ∷ []) new
+taken_more files [] old mid new tap taken last =
+    (new, subst (λ readers. IsTapTaken files readers tap new) (sym taken) last, refl)
+taken_more files (first ∷ taps) old mid new tap (next, step, taken) last =
+    (next, step, taken_more files taps next mid new tap taken last)

@@ -1,4 +1,5 @@
 -- What only private functions cite. Who reads the contracts of public calls need not read it.
+pub mod Choosing
 pub mod Decoding
-pub mod Least
 pub mod Steps
+pub mod Waiting

@@ -1,11 +1,13 @@
-//! The check of a file's order.
+//! The check of the order of files.
 
-ghost use Rattle.std.specs.Prelude.{◌≡◌, ◌≤◌, List, length, IfOk, IfErr, IfSome};
+ghost use Rattle.std.specs.Prelude.{◌≡◌, ◌≤◌, ◌++◌, ◌∷◌, [], ℕ, List, Some, length, map, IfOk};
+ghost use Rattle.std.specs.Prelude.{IfErr, IfSome, OnOk};
 ghost use Rattle.tap_views.specs.declared.encoder.TapFields.{TapFields};
+ghost use Rattle.sorted_taps.specs.Checked.{AreCountedFiles, IsFirstFault};
 ghost use Rattle.sorted_taps.specs.Reading.{window_bytes};
 ghost use Rattle.sorted_taps.specs.Sorted.{IsSortedFile, IsSortedFault};
 
-use crate::fault::SortedFault;
+use crate::fault::{FileFault, SortedFault};
 use crate::reader::TapReader;
 use placed_files::Placed;
 use std::alloc::Global;
@@ -28,4 +30,47 @@ pub fn check_file<F: Placed>(alloc: Global, file: &F, window: &mut [u8]) -> Resu
         reader.advance(file, window)?;
     }
     Err(SortedFault::Unread)
+}
+
+/// Checks the file, and adds the number of its taps to the list.
+fn check_next<F: Placed>(
+    alloc: Global,
+    file: &F,
+    window: &mut [u8],
+    numbers: &mut Vec<u64>,
+) -> Result<(), SortedFault>
+    requires { window_bytes ≤ length window.old }
+    ensures sorted { OnOk result (IfSome (F.bytes file.now)
+        (λ all. (taps : List TapFields) × IsSortedFile all taps
+        × (numbers.new.items ≡ numbers.old.items ++ length taps ∷ []))) }
+    ensures fault { IfErr result (λ fault. IfSome (F.bytes file.now)
+        (λ all. IsSortedFault all fault)) }
+{
+    let number = check_file(alloc, file, window)?;
+    numbers.push(number)?;
+    Ok(())
+}
+
+/// Reads each file whole, one after the other, as `check_file` does, and returns the numbers of
+/// their taps if all are sorted; else the first fault of the first file that is not.
+pub fn check_files<F: Placed>(
+    alloc: Global,
+    files: &[F],
+    window: &mut [u8],
+) -> Result<Vec<u64>, FileFault>
+    requires { window_bytes ≤ length window.old }
+    ensures sorted { IfOk result (λ numbers. (all : List (List ℕ))
+        → map F.bytes files.now ≡ map Some all → AreCountedFiles all numbers.items) }
+    ensures fault { IfErr result (λ fault. (all : List (List ℕ))
+        → map F.bytes files.now ≡ map Some all → IsFirstFault all fault) }
+{
+    let mut numbers = Vec::new(alloc);
+    for index in 0..files.len() {
+        let file = &files[index];
+        match check_next(alloc, file, window, &mut numbers) {
+            Ok(()) => {}
+            Err(fault) => return Err(FileFault { index, fault }),
+        }
+    }
+    Ok(numbers)
 }

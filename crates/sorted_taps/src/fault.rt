@@ -1,4 +1,4 @@
-//! Why a file is not read as taps in canonical order.
+//! Why files are not read as taps in canonical order, not merged and not written.
 
 use placed_files::Unread;
 use std::alloc::{AllocError, AllocFailed};
@@ -60,5 +60,76 @@ impl From<Unread> for SortedFault {
 
     fn from(_failed: Unread) -> SortedFault {
         SortedFault::Unread
+    }
+}
+
+/// The first of several files that is not read as taps in canonical order.
+#[derive(Clone, Copy, Debug, PartialEq, Eq, Error)]
+#[error("file {index}: {fault}")]
+pub struct FileFault {
+    /// The index of the file, from 0.
+    pub index: usize,
+    /// Why it is refused.
+    pub fault: SortedFault,
+}
+
+/// Why taps are not written.
+#[derive(Clone, Copy, Debug, PartialEq, Eq, Error)]
+pub enum WriteFault {
+    /// A write failed.
+    #[error("the taps cannot be written")]
+    Write,
+    /// Memory was refused.
+    #[error("out of memory")]
+    NoMemory,
+}
+
+impl From<AllocError> for WriteFault {
+    ghost use Rattle.std.specs.Prelude.{◌≡◌};
+    ghost use Rattle.sorted_taps.specs.declared.fault.WriteFault.TheVariants.{NoMemory};
+
+    ghost from_gives = { λ _ fault. fault ≡ NoMemory };
+
+    fn from(_refused: AllocError) -> WriteFault {
+        WriteFault::NoMemory
+    }
+}
+
+impl<T: Drop> From<AllocFailed<T>> for WriteFault {
+    ghost use Rattle.std.specs.Prelude.{◌≡◌};
+    ghost use Rattle.sorted_taps.specs.declared.fault.WriteFault.TheVariants.{NoMemory};
+
+    ghost from_gives = { λ _ fault. fault ≡ NoMemory };
+
+    fn from(_refused: AllocFailed<T>) -> WriteFault {
+        WriteFault::NoMemory
+    }
+}
+
+/// Why files are not merged.
+#[derive(Clone, Copy, Debug, PartialEq, Eq, Error)]
+pub enum MergeFault {
+    /// A file is refused, and no file before it.
+    #[error("{0}")]
+    File(FileFault),
+    /// A file was refused, and none is when all are checked behind it: one has changed.
+    #[error("a file changed while it was read")]
+    Changed,
+    /// A write failed.
+    #[error("the taps cannot be written")]
+    Write,
+    /// Memory was refused.
+    #[error("out of memory")]
+    NoMemory,
+}
+
+impl From<AllocError> for MergeFault {
+    ghost use Rattle.std.specs.Prelude.{◌≡◌};
+    ghost use Rattle.sorted_taps.specs.declared.fault.MergeFault.TheVariants.{NoMemory};
+
+    ghost from_gives = { λ _ fault. fault ≡ NoMemory };
+
+    fn from(_refused: AllocError) -> MergeFault {
+        MergeFault::NoMemory
     }
 }

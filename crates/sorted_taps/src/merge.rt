@@ -2,61 +2,28 @@
 
 ghost use Rattle.std.specs.Prelude.{◌≡◌, ◌≤◌, ℕ, List, length, map, IfOk, IfSome, MatchOption};
 ghost use Rattle.std.specs.Prelude.{None, Some, OnOk};
+ghost use Rattle.sorted_taps.specs.Heads.{IsRanked};
 ghost use Rattle.sorted_taps.specs.Merges.{AreAtEnd, AreBegun, IsLeastHead, IsTapTaken};
 ghost use Rattle.sorted_taps.specs.Reading.{window_bytes};
-ghost use Rattle.sorted_taps.specs.inside.Least.{IsLesser};
 
 use crate::fault::SortedFault;
+use crate::heads::{Head, least_of, put_head, tree_of};
+use crate::ranges::reader_near;
 use crate::reader::TapReader;
+use crate::span::{begun, numbers_of};
 use placed_files::Placed;
-use std::alloc::Global;
-use std::cmp::Ordering;
-use tap_parts::compare;
-use tap_views::TapFields;
-
-/// The head at the index if there is one, and none was chosen or it is before the chosen one.
-fn lesser(
-    least: Option<(usize, TapFields)>,
-    index: usize,
-    head: Option<&TapFields>,
-) -> Option<(usize, TapFields)>
-    ensures { IsLesser least index head.entry result }
-{
-    let Some(tap) = head else {
-        return least;
-    };
-    match least {
-        Some((at, best)) => {
-            if compare(tap, &best) == Ordering::Less {
-                Some((index, *tap))
-            } else {
-                Some((at, best))
-            }
-        }
-        None => Some((index, *tap)),
-    }
-}
-
-/// A least head of the readers, and the index of its reader; none if all are at the end.
-fn least_head(readers: &[TapReader]) -> Option<(usize, TapFields)>
-    ensures { MatchOption result (AreAtEnd readers.now)
-        (λ least. IsLeastHead readers.now least.0 least.1) }
-{
-    let mut least = None;
-    for i in 0..readers.len() {
-        let reader = &readers[i];
-        least = lesser(least, i, reader.head());
-    }
-    least
-}
+use std::alloc::{AllocError, Global};
+use tap_views::{TapFields, Token};
 
 /// Readers of several sorted files, one each, from which the taps of all are taken in canonical
-/// order. Of equal heads the first file's is taken. Each call gets the files, always the same ones
-/// in the same order.
+/// order. A tap takes as many compares as the number of files has binary digits, at most. Each call
+/// gets the files, always the same ones in the same order.
 #[derive(Drop)]
 pub struct Merge {
     /// The reader of each file.
     readers: Vec<TapReader>,
+    /// The tree of their heads.
+    heads: Vec<Head>,
 }
 
 impl Merge {
@@ -68,14 +35,58 @@ impl Merge {
     ) -> Result<Merge, SortedFault>
         requires { window_bytes ≤ length window.old }
         ensures number { IfOk result (λ merge. length merge.readers.items ≡ length files.now) }
+        ensures ranked { IfOk result (λ merge. IsRanked merge.readers.items merge.heads.items) }
         ensures begun { IfOk result (λ merge. (all : List (List ℕ))
             → map F.bytes files.now ≡ map Some all → AreBegun all merge.readers.items) }
     {
+        let readers = begun(alloc, files, window)?;
+        let heads = tree_of(alloc, &readers)?;
+        Ok(Merge { readers, heads })
+    }
+
+    /// At the first tap of each file whose token is not below this one, if the files are in order and
+    /// in batches of 512 taps: else at other taps, or there is a fault. How many taps are taken is
+    /// counted from there. The window has `WINDOW_BYTES` at least.
+    pub fn near<F: Placed>(
+        alloc: Global,
+        files: &[F],
+        token: Token,
+        window: &mut [u8],
+    ) -> Result<Merge, SortedFault>
+        requires { window_bytes ≤ length window.old }
+        ensures number { IfOk result (λ merge. length merge.readers.items ≡ length files.now) }
+        ensures ranked { IfOk result (λ merge. IsRanked merge.readers.items merge.heads.items) }
+    {
         let mut readers = Vec::new(alloc);
         for file in files {
-            readers.push(TapReader::at(alloc, file, 0, window)?)?;
+            readers.push(reader_near(alloc, file, token, window)?)?;
         }
-        Ok(Merge { readers })
+        let heads = tree_of(alloc, &readers)?;
+        Ok(Merge { readers, heads })
+    }
+
+    /// The tap that is taken next, or none if all files are at their ends.
+    pub fn least(&self) -> Option<TapFields>
+        requires { IsRanked self.now.readers.items self.now.heads.items }
+        ensures { MatchOption result (AreAtEnd self.now.readers.items)
+            (λ tap. (at : ℕ) × IsLeastHead self.now.readers.items at tap) }
+    {
+        let (_at, tap) = least_of(&self.heads)?;
+        Some(tap)
+    }
+
+    /// The readers of the files.
+    pub fn readers(&self) -> &[TapReader]
+        ensures { result.now ≡ self.now.readers.items }
+    {
+        &self.readers
+    }
+
+    /// The readers of the files, as they stand.
+    pub fn into_readers(self) -> Vec<TapReader>
+        ensures { result ≡ self.readers }
+    {
+        self.readers
     }
 
     /// Takes a tap at which a reader stands and before which no reader stands; its reader goes on.
@@ -88,6 +99,8 @@ impl Merge {
     ) -> Result<Option<TapFields>, SortedFault>
         requires window { window_bytes ≤ length window.old }
         requires files { length self.old.readers.items ≡ length files.now }
+        requires ranked { IsRanked self.old.readers.items self.old.heads.items }
+        ensures ranked { OnOk result (IsRanked self.new.readers.items self.new.heads.items) }
         ensures number { OnOk result
             (length self.new.readers.items ≡ length files.now) }
         ensures taken { IfOk result (λ taken. IfSome taken (λ tap. (all : List (List ℕ))
@@ -96,11 +109,20 @@ impl Merge {
         ensures end { IfOk result (λ taken. taken ≡ None
             → AreAtEnd self.old.readers.items × (self.new ≡ self.old)) }
     {
-        let Some((at, tap)) = least_head(&self.readers) else {
+        let Some((at, tap)) = least_of(&self.heads) else {
             return Ok(None);
         };
         let reader = &mut self.readers[at];
         reader.advance(&files[at], window)?;
+        put_head(&mut self.heads, &self.readers, at);
         Ok(Some(tap))
+    }
+
+    /// How many taps were taken of each file.
+    pub fn numbers(&self, alloc: Global) -> Result<Vec<u64>, AllocError>
+        ensures { IfOk result (λ numbers.
+            numbers.items ≡ map (λ reader. reader.passed) self.now.readers.items) }
+    {
+        numbers_of(alloc, &self.readers)
     }
 }

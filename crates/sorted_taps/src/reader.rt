@@ -1,17 +1,18 @@
 //! A reader of a file's taps.
 
 ghost use Rattle.std.specs.Prelude.{◌≡◌, ◌<◌, ◌≤◌, ◌∷◌, [], List, length, IfOk, IfErr, OnOk};
-ghost use Rattle.std.specs.Prelude.{IfSome, MatchOption, true, false};
+ghost use Rattle.std.specs.Prelude.{IfSome, IsTrue, MatchOption, true, false};
 ghost use Rattle.tap_views.specs.declared.encoder.TapFields.{TapFields};
 ghost use Rattle.sorted_taps.specs.Reading.{window_bytes};
 ghost use Rattle.sorted_taps.specs.Merged.{BeginsNotBefore};
 ghost use Rattle.sorted_taps.specs.Readers.{ahead, StandsIn, IsAdvanced, IsBehindFault, IsStepFault};
+ghost use Rattle.sorted_taps.specs.Stands.{StandsAs};
 ghost use Rattle.sorted_taps.specs.inside.Steps.{BeginsBefore, IsMovedOn, IsRefilled};
 
 use crate::fault::SortedFault;
 use crate::reading::read_batches;
 use placed_files::Placed;
-use std::alloc::Global;
+use std::alloc::{AllocError, Global};
 use std::cmp::Ordering;
 use tap_parts::compare;
 use tap_views::TapFields;
@@ -29,6 +30,24 @@ pub struct TapReader {
     next: usize,
     /// How many taps it has passed since it began.
     passed: u64,
+}
+
+/// Whether both lists have the same taps.
+fn are_same(one: &[TapFields], other: &[TapFields]) -> bool
+    ensures { IsTrue result → one.now ≡ other.now }
+{
+    if one.len() != other.len() {
+        return false;
+    }
+    for at in 0..one.len() {
+        let tap = &one[at];
+        let next = &other[at];
+        match compare(tap, next) {
+            Ordering::Equal => {}
+            Ordering::Less | Ordering::Greater => return false,
+        }
+    }
+    true
 }
 
 impl TapReader {
@@ -69,6 +88,57 @@ impl TapReader {
         ensures { result ≡ self.now.passed }
     {
         self.passed
+    }
+
+    /// A reader at the same tap, which keeps none of those in front of it.
+    pub(crate) fn copy(&self, alloc: Global) -> Result<TapReader, AllocError>
+        ensures { IfOk result (λ copy. StandsAs 0 self.now copy) }
+    {
+        let mut taps = Vec::new(alloc);
+        taps.extend_from_slice(self.ahead())?;
+        Ok(TapReader {
+            offset: self.offset,
+            taps,
+            next: 0,
+            passed: self.passed,
+        })
+    }
+
+    /// The taps in memory from the one on at which it stands.
+    fn ahead(&self) -> &[TapFields]
+        ensures { result.now ≡ ahead self.now }
+    {
+        self.taps.get(self.next..).unwrap_or(&[])
+    }
+
+    /// Counts the taps that it passes from 0 on.
+    pub(crate) fn count_anew(&mut self) {
+        self.passed = 0;
+    }
+
+    /// Counts the taps that another has passed as well. No if they are too many.
+    pub(crate) fn count_on(&mut self, other: &TapReader) -> bool
+        ensures { IsTrue result → StandsAs other.now.passed self.new self.old }
+    {
+        match self.passed.checked_add(other.passed) {
+            Some(passed) => {
+                self.passed = passed;
+                true
+            }
+            None => false,
+        }
+    }
+
+    /// Whether it stands where the other one stands, which has passed no tap.
+    pub(crate) fn is_at(&self, other: &TapReader) -> bool
+        ensures { IsTrue result → StandsAs self.now.passed self.now other.now }
+    {
+        if self.offset != other.offset || other.passed != 0 {
+            return false;
+        }
+        let here = self.ahead();
+        let there = other.ahead();
+        are_same(here, there)
     }
 
     /// Goes on to the next tap, or to the file's end. If that tap is before the one at which it

@@ -11,7 +11,7 @@ use placed_files::{Placed, Unread, fill_from};
 use tap_views::{MAX_TAPS, TAP1_HEADER_BYTES, TAP1_TAP_BYTES, TapFields};
 
 /// The bytes of a batch of 512 taps. A read that gives no batch is made again with more room.
-const FIRST_READ_BYTES: usize = TAP1_HEADER_BYTES + 512 * TAP1_TAP_BYTES;
+pub(crate) const FIRST_READ_BYTES: usize = TAP1_HEADER_BYTES + 512 * TAP1_TAP_BYTES;
 
 /// The room that a reader of taps needs while it reads: the bytes of the longest batch.
 pub const WINDOW_BYTES: usize = TAP1_HEADER_BYTES + MAX_TAPS * TAP1_TAP_BYTES;

@@ -8,8 +8,8 @@ ghost use Rattle.table_facts.specs.Ignored as spec;
 
 use crate::holder::{KeyHolder, has_meaning};
 use crate::toml_values::{elements_at, keys_at};
-use fare_table::NoMemory;
 use std::alloc::Global;
+use tap_views::NoMemory;
 use toml::{Table, Value};
 
 /// Appends the keys of a table of the text that have no meaning there.

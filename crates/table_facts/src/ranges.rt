@@ -6,8 +6,8 @@ ghost use Rattle.table_facts.specs.Ranges as spec;
 
 use crate::seen::SeenValidators;
 use crate::toml_values::{elements_at, validator_at};
-use fare_table::NoMemory;
 use std::alloc::Global;
+use tap_views::NoMemory;
 use toml::value::Array;
 use toml::{Table, Value};
 

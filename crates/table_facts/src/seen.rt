@@ -5,11 +5,11 @@ ghost use Rattle.std.specs.List.{filter, list_any};
 ghost use Rattle.table_facts.specs.Ranges.{is_from_to, is_in_no_range};
 ghost use Rattle.table_facts.specs.SeenValidators.{AddsValidators, has_tap_at, is_among};
 
-use fare_table::{FareTable, NoMemory};
+use fare_table::FareTable;
 use std::alloc::Global;
 use std::collections::BTreeSet;
 use std::marker::Model;
-use tap_views::{Batch, batches};
+use tap_views::{Batch, NoMemory, good_batches};
 
 /// The validators of some uploads, each once, rising.
 #[derive(Drop)]
@@ -73,11 +73,8 @@ impl SeenValidators {
 fn add_upload(numbers: &mut BTreeSet<u32>, upload: &[u8]) -> Result<(), NoMemory>
     ensures { OnOk result (AddsValidators numbers.old.keys upload.now numbers.new.keys) }
 {
-    for item in batches(upload) {
-        match item {
-            Ok(batch) => add_batch(numbers, &batch)?,
-            Err(_) => return Ok(()),
-        }
+    for batch in good_batches(upload) {
+        add_batch(numbers, &batch)?;
     }
     Ok(())
 }

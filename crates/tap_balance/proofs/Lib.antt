@@ -1,4 +1,6 @@
-mod Keys
+mod SameTaps
 mod Firsts
 mod Times
 mod Balanced
+mod Spread
+mod FullyBalanced

@@ -8,7 +8,7 @@ use Rattle.std.proofs.lemmas.List.Sorted.{IsPermutation-trans, sum_by-IsPermutat
 use Rattle.std.proofs.lemmas.List.Sums.{sum_by-append, sum_by-cons, sum_by_push}
 use Rattle.tap_views.specs.declared.encoder.TapFields.{TapFields}
 use Rattle.tap_balance.specs.Balances.{is_same, copies_among}
-use Rattle.tap_balance.proofs.Keys.{same_exact, same_self}
+use Rattle.tap_balance.proofs.SameTaps.{same_exact, same_self}
 
 -- 1 for the tap
 abbrev pub one : TapFields → TapFields → ℕ

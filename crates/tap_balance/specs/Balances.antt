@@ -3,47 +3,35 @@ use Rattle.std.specs.Prelude.{◌≡◌, ℕ, ◌+◌, ◌<◌, ◌≤◌, Bool,
 use Rattle.std.specs.Prelude.{Option, None, Some, MatchOption}
 use Rattle.std.specs.BTreeMap as tree
 use Rattle.std.specs.BTreeMap.{BTreeMap}
-use Rattle.std.specs.Cmp.Lexicographic.{slice_cmp}
 use Rattle.std.specs.List.{count_by}
 use Rattle.std.specs.List.Sorted.{IsPermutation}
 use Rattle.std.specs.Option.{unwrap_or}
-use Rattle.std.specs.Ordering.{is_eq, is_lt, nat_cmp, ordering_then}
-use Rattle.std.specs.declared.cmp.Ordering.{Ordering}
+use Rattle.std.specs.Ordering.{is_eq, is_lt}
 use Rattle.tap_views.specs.Encoding.{fields_of}
 use Rattle.tap_views.specs.Files.{AreGoodTaps}
 use Rattle.tap_views.specs.Layout.{Tap}
+use Rattle.tap_views.specs.TapOrder.{tap_cmp}
 use Rattle.tap_views.specs.declared.encoder.TapFields.{TapFields}
 use Rattle.tap_balance.specs.declared.balance.Balance.{Balance}
 use Rattle.tap_balance.specs.declared.balance.Difference.{Difference}
 use Rattle.tap_balance.specs.declared.balance.Difference.TheVariants.{Missing, Surplus}
-use Rattle.tap_balance.specs.declared.balance.TapKey.{TapKey}
 
 -- the fields of the good taps of an upload, in their order
 abbrev pub AreGoodFields : List ℕ → List TapFields → Type 0
 AreGoodFields upload fields =
     (taps : List Tap) × AreGoodTaps upload taps × (fields ≡ map fields_of taps)
 
--- what a balance keeps a tap by
-abbrev pub key_of : TapFields → TapKey
-key_of tap = record { token = tap.token; moment = tap.moment; validator = tap.validator }
-
--- keys rise by the bytes of the token, then by moment, then by validator
-abbrev pub key_cmp : TapKey → TapKey → Ordering
-key_cmp a b =
-    ordering_then (slice_cmp nat_cmp a.token b.token)
-    (ordering_then (nat_cmp a.moment b.moment) (nat_cmp a.validator b.validator))
-
 -- whether both are taps of one token, at one moment and one validator
 abbrev pub is_same : TapFields → TapFields → Bool
-is_same tap other = is_eq (key_cmp (key_of tap) (key_of other))
+is_same tap other = is_eq (tap_cmp tap other)
 
 -- how often the tap is among these
 abbrev pub copies_among : TapFields → List TapFields → ℕ
 copies_among tap taps = count_by (λ other. is_same other tap) taps
 
--- how many are left of the tap of this key
-abbrev pub left_at : BTreeMap TapKey ℕ → TapKey → ℕ
-left_at left key = unwrap_or (tree.get key_cmp left key) 0
+-- how many are left of the tap
+abbrev pub left_at : BTreeMap TapFields ℕ → TapFields → ℕ
+left_at left tap = unwrap_or (tree.get tap_cmp left tap) 0
 
 -- The tap stands among the others where, for the first time, a tap is there more often than among
 -- the good taps: up to this place this one is, and before it none.
@@ -59,7 +47,7 @@ pub record IsFirstSurplus (good others : List TapFields) (tap : TapFields) : Typ
 pub record IsFirstMissing (good others : List TapFields) (tap : TapFields) : Type 0 where
   pub fewer : copies_among tap others < copies_among tap good
   pub first : (other : TapFields) → copies_among other others < copies_among other good
-      → is_lt (key_cmp (key_of other) (key_of tap)) ≡ false
+      → is_lt (tap_cmp other tap) ≡ false
   pub no_surplus : (other : TapFields) → copies_among other others ≤ copies_among other good
 
 -- of each good tap some were struck out, and so many are left; or the first tap is known that was
@@ -68,7 +56,7 @@ abbrev pub IsBalance : Balance → List TapFields → List TapFields → Type 0
 IsBalance balance good struck =
     MatchOption balance.surplus
     ((tap : TapFields) → copies_among tap good
-    ≡ left_at balance.left (key_of tap) + copies_among tap struck)
+    ≡ left_at balance.left tap + copies_among tap struck)
     (IsFirstSurplus good struck)
 
 -- the others are the good taps in some order; or the told tap is the first that they lack, where

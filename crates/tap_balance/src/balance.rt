@@ -6,24 +6,12 @@ ghost use Rattle.std.specs.Prelude.{if◌then◌else◌, false, map, true};
 ghost use Rattle.std.specs.Ordering.{is_eq, is_lt};
 ghost use Rattle.tap_views.specs.Encoding.{fields_of};
 ghost use Rattle.tap_views.specs.declared.encoder.TapFields.{TapFields};
-ghost use Rattle.tap_balance.specs.Balances.{AreGoodFields, IsBalance, IsDifference, key_cmp};
-ghost use Rattle.tap_balance.specs.Balances.{key_of, left_at};
-ghost use Rattle.tap_balance.specs.declared.balance.TapKey.{TapKey};
+ghost use Rattle.tap_views.specs.TapOrder.{tap_cmp};
+ghost use Rattle.tap_balance.specs.Balances.{AreGoodFields, IsBalance, IsDifference, left_at};
 
 use std::alloc::{AllocError, Global};
 use std::collections::BTreeMap;
-use tap_views::{Batch, TapFields, batches};
-
-/// A tap, in the order in which a balance keeps taps: by token, then by moment, then by validator.
-#[derive(Clone, Copy, PartialEq, Eq, PartialOrd, Ord)]
-struct TapKey {
-    /// The 16 bytes of the token.
-    token: [u8; 16],
-    /// The moment in milliseconds since 1970-01-01T00:00Z.
-    moment: u64,
-    /// The validator's number.
-    validator: u32,
-}
+use tap_views::{Batch, TapFields, good_batches};
 
 /// A tap that one side has more often than the other. If there are several, it is the first that is
 /// surplus, else the first that is missing.
@@ -45,45 +33,34 @@ impl Difference {
     }
 }
 
-/// What a balance keeps the tap by.
-fn key_for(tap: &TapFields) -> TapKey
-    ensures { result ≡ key_of tap.now }
+/// How many are left of the tap.
+pub(crate) fn count_at(left: &BTreeMap<TapFields, u64>, tap: TapFields) -> u64
+    ensures { result ≡ left_at left.now tap }
 {
-    TapKey {
-        token: tap.token,
-        moment: tap.moment,
-        validator: tap.validator,
-    }
+    left.get(&tap).copied().unwrap_or(0)
 }
 
-/// How many are left of the tap of this key.
-fn count_at(left: &BTreeMap<TapKey, u64>, key: TapKey) -> u64
-    ensures { result ≡ left_at left.now key }
-{
-    left.get(&key).copied().unwrap_or(0)
-}
-
-/// One more is left of the tap of this key. Its one error is want of memory; 2^64 of one tap are
+/// One more is left of the tap. Its one error is want of memory; 2^64 of one tap are
 /// taken for that.
-fn put_one(left: &mut BTreeMap<TapKey, u64>, key: TapKey) -> Result<(), AllocError>
-    ensures { OnOk result ((other : TapKey) → left_at left.new other
-        ≡ left_at left.old other + (if is_eq (key_cmp key other) then 1 else 0)) }
+pub(crate) fn put_one(left: &mut BTreeMap<TapFields, u64>, tap: TapFields) -> Result<(), AllocError>
+    ensures { OnOk result ((other : TapFields) → left_at left.new other
+        ≡ left_at left.old other + (if is_eq (tap_cmp tap other) then 1 else 0)) }
 {
-    let count = count_at(left, key);
+    let count = count_at(left, tap);
     let Some(more) = count.checked_add(1) else {
         return Err(AllocError);
     };
-    left.insert(key, more)?;
+    left.insert(tap, more)?;
     Ok(())
 }
 
-/// One fewer is left of the tap of this key. False where none was left.
-fn take_one(left: &mut BTreeMap<TapKey, u64>, key: TapKey) -> bool
-    ensures taken { result ≡ true → (other : TapKey) → left_at left.old other
-        ≡ left_at left.new other + (if is_eq (key_cmp key other) then 1 else 0) }
-    ensures none { result ≡ false → left_at left.old key ≡ 0 }
+/// One fewer is left of the tap. False where none was left.
+pub(crate) fn take_one(left: &mut BTreeMap<TapFields, u64>, tap: TapFields) -> bool
+    ensures taken { result ≡ true → (other : TapFields) → left_at left.old other
+        ≡ left_at left.new other + (if is_eq (tap_cmp tap other) then 1 else 0) }
+    ensures none { result ≡ false → left_at left.old tap ≡ 0 }
 {
-    match left.get_mut(&key) {
+    match left.get_mut(&tap) {
         Some(count) if *count > 0 => {
             *count -= 1;
             true
@@ -92,39 +69,28 @@ fn take_one(left: &mut BTreeMap<TapKey, u64>, key: TapKey) -> bool
     }
 }
 
-/// The first key of whose tap some are left.
-fn first_left(left: &BTreeMap<TapKey, u64>) -> Option<TapKey>
-    ensures found { IfSome result (λ key. 0 < left_at left.now key) }
-    ensures first { IfSome result (λ key. (other : TapKey) → 0 < left_at left.now other
-        → is_lt (key_cmp other key) ≡ false) }
-    ensures none { IfNone result ((key : TapKey) → left_at left.now key ≡ 0) }
+/// The first tap of which some are left.
+fn first_left(left: &BTreeMap<TapFields, u64>) -> Option<TapFields>
+    ensures found { IfSome result (λ tap. 0 < left_at left.now tap) }
+    ensures first { IfSome result (λ tap. (other : TapFields) → 0 < left_at left.now other
+        → is_lt (tap_cmp other tap) ≡ false) }
+    ensures none { IfNone result ((tap : TapFields) → left_at left.now tap ≡ 0) }
 {
-    for (key, count) in left {
+    for (tap, count) in left {
         if *count > 0 {
-            return Some(*key);
+            return Some(*tap);
         }
     }
     None
-}
-
-/// The tap of the key.
-fn tap_for(key: &TapKey) -> TapFields
-    ensures { key_of result ≡ key.now }
-{
-    TapFields {
-        token: key.token,
-        validator: key.validator,
-        moment: key.moment,
-    }
 }
 
 /// The taps of uploads, of which those of the other side are struck out.
 #[derive(Drop)]
 pub struct Balance {
     /// How many of each tap are left.
-    left: BTreeMap<TapKey, u64>,
+    pub(crate) left: BTreeMap<TapFields, u64>,
     /// The first tap that was struck out more often than the uploads have it.
-    surplus: Option<TapFields>,
+    pub(crate) surplus: Option<TapFields>,
 }
 
 impl Balance {
@@ -143,7 +109,7 @@ impl Balance {
         ensures { OnOk result ((good : List TapFields) → IsBalance self.old good []
             → IsBalance self.new (good ++ tap.now ∷ []) []) }
     {
-        put_one(&mut self.left, key_for(tap))
+        put_one(&mut self.left, *tap)
     }
 
     /// Adds the taps of a batch.
@@ -165,11 +131,8 @@ impl Balance {
             × ((good : List TapFields) → IsBalance self.old good []
             → IsBalance self.new (good ++ taps) [])) }
     {
-        for item in batches(upload) {
-            match item {
-                Ok(batch) => self.add_batch(&batch)?,
-                Err(_) => return Ok(()),
-            }
+        for batch in good_batches(upload) {
+            self.add_batch(&batch)?;
         }
         Ok(())
     }
@@ -182,7 +145,7 @@ impl Balance {
         if self.surplus.is_some() {
             return;
         }
-        if !take_one(&mut self.left, key_for(tap)) {
+        if !take_one(&mut self.left, *tap) {
             self.surplus = Some(*tap);
         }
     }
@@ -197,9 +160,9 @@ impl Balance {
         if let Some(tap) = self.surplus {
             return Some(Difference::Surplus(tap));
         }
-        let Some(key) = first_left(&self.left) else {
+        let Some(tap) = first_left(&self.left) else {
             return None;
         };
-        Some(Difference::Missing(tap_for(&key)))
+        Some(Difference::Missing(tap))
     }
 }

@@ -6,6 +6,8 @@
 #![tactic(auto)]
 
 mod balance;
+mod full_balance;
 pub mod laws;
 
 pub use balance::{Balance, Difference};
+pub use full_balance::FullBalance;

@@ -29,7 +29,8 @@ no_batches left = record {
   full = λ some. tt;
 }
 
-zip_more : (texts : List (List ℕ)) (batches : List (List TapFields)) (text : List ℕ)
+-- texts of batches, and one more
+pub zip_more : (texts : List (List ℕ)) (batches : List (List TapFields)) (text : List ℕ)
     (batch : List TapFields) → AllZip Encodes texts batches → Encodes text batch
     → AllZip Encodes (texts ++ text ∷ []) (batches ++ batch ∷ [])
 zip_more [] [] text batch each encoded = (encoded, tt)

@@ -2,6 +2,7 @@ pub mod Adding
 pub mod Buckets
 pub mod Early
 pub mod FullBatches
+pub mod Pieces
 pub mod Places
 pub mod RangeLemmas
 mod SplitLemmas

@@ -73,7 +73,7 @@ impl Split {
             → AreSplit parts uploads self.now → IsSplitFile uploads parts part file.items) }
     {
         let taps = self.parts.part(alloc, part)?;
-        let list = arranged(alloc, &taps)?;
+        let list = arranged(alloc, std::slice::from_ref(&taps))?;
         let file = part_file(alloc, &list)?;
         Ok(file)
     }

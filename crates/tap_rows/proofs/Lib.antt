@@ -1,5 +1,10 @@
+mod AgencyLemmas
+mod AgencyMomentLemmas
+mod AgencyRowLemmas
 mod FieldLemmas
+mod GoingLemmas
 pub mod MomentLemmas
+mod OneReading
 mod RowLemmas
 mod TableLemmas
 pub mod UtcLemmas

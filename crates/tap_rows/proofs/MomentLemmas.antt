@@ -7,7 +7,7 @@ use Rattle.std.proofs.lemmas.Str.Parse.{digit_from_value}
 use Rattle.tap_rows.specs.Moments.{IsDecimal, IsUtc, IsTime, HasUtcPunctuation}
 
 -- no digit stands in the place of the `T`
-digit_there : (text : List ℕ) (k : ℕ) → AllDigits 10 text → k < length text → slice_index text k < 58
+pub digit_there : (text : List ℕ) (k : ℕ) → AllDigits 10 text → k < length text → slice_index text k < 58
 digit_there [] k digits within = absurd (omega (arith, within))
 digit_there (x ∷ text) zero digits within = let range = digit_from_value x digits.0 in omega (arith, range)
 digit_there (x ∷ text) (suc k) digits within = digit_there text k digits.1 (omega (arith, within))

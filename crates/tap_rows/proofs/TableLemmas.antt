@@ -184,7 +184,7 @@ joined file [] more others is also = subst (λ bytes. IsFile bytes others []) (s
 joined file (batch ∷ batches) more others (front, back, is_batch, whole, is) also =
     (front, back ++ more, is_batch, ap (λ bytes. bytes ++ more) whole ∙ append_assoc front back more, joined back batches more others is also)
 
-two_files : (file more : List ℕ) (done taps : List TapFields) → IsFileOf file done → IsFileOf more taps → IsFileOf (file ++ more) (done ++ taps)
+pub two_files : (file more : List ℕ) (done taps : List TapFields) → IsFileOf file done → IsFileOf more taps → IsFileOf (file ++ more) (done ++ taps)
 two_files file more done taps is also =
     let id : List Tap → List Tap = λ batch. batch in
     record {

@@ -1,3 +1,7 @@
+pub mod Agencies
+pub mod AgencyMoments
+pub mod AgencyRows
+pub mod AgencyTexts
 pub mod Decoded
 pub mod Fields
 pub mod Moments

@@ -1,2 +1,6 @@
 -- What only private functions cite. Who reads the contracts of public calls need not read it.
+pub mod Goings
+pub mod Places
+pub mod RecordReaders
 pub mod TapTables
+pub mod WaitingTaps

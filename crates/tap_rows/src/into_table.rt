@@ -12,7 +12,7 @@ use crate::fault::RowsFault;
 use itoa::Buffer;
 use std::alloc::Global;
 use std::io::Write;
-use tap_views::{Batch, LayoutFault, TapView, batches};
+use tap_views::{Batch, LayoutFault, TapView, good_batches};
 
 /// Writes bytes whole.
 fn put<W: Write>(out: &mut W, bytes: &[u8]) -> Result<(), RowsFault>
@@ -73,14 +73,10 @@ pub fn decode<W: Write>(
         × Appends (W.contents out.old) (W.contents out.new) text) }
 {
     let mut text = Vec::new(alloc);
-    for item in batches(file) {
-        match item {
-            Ok(batch) => {
-                fill(&mut text, &batch)?;
-                put(out, &text)?;
-            }
-            Err((offset, fault)) => return Ok(Some((offset, fault))),
-        }
+    let mut good = good_batches(file);
+    while let Some(batch) = good.next() {
+        fill(&mut text, &batch)?;
+        put(out, &text)?;
     }
-    Ok(None)
+    Ok(good.fault())
 }

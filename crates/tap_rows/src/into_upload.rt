@@ -27,7 +27,11 @@ fn why(fault: EncodeFault) -> RowsFault
 }
 
 /// Writes these taps as one batch; nothing where there are none.
-fn write_batch<W: Write>(alloc: Global, taps: &[TapFields], out: &mut W) -> Result<(), RowsFault>
+pub(crate) fn write_batch<W: Write>(
+    alloc: Global,
+    taps: &[TapFields],
+    out: &mut W,
+) -> Result<(), RowsFault>
     requires { AreEncodable (λ tap. tap.moment) taps.now }
     ensures upload { OnOk result (IsEncodedAs taps.now (W.contents out.old) (W.contents out.new)) }
     ensures fault { IfErr result IsBatchFault }

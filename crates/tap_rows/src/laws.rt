@@ -5,10 +5,13 @@ ghost use Rattle.std.specs.Prelude.{◌≡◌, ◌<◌, ℕ, List, None, Option}
 ghost use Rattle.std.specs.List.{AllByRecursion};
 ghost use Rattle.fare_texts.specs.Moments.{IsCivilText};
 ghost use Rattle.tap_views.specs.Files.{IsFileOf, IsReadAs};
+ghost use Rattle.tap_rows.specs.Agencies.{IsRead};
 ghost use Rattle.tap_rows.specs.Decoded.{fields_in};
 ghost use Rattle.tap_rows.specs.Moments.{IsMoment, IsSecondText};
 ghost use Rattle.tap_rows.specs.Rows.{IsNoTapRow, IsTapRow, IsTapFields};
 ghost use Rattle.tap_rows.specs.TapTables.{IsBadRow, IsTapTable, tap_table_text};
+ghost use Rattle.tap_rows.specs.declared.agency.choice.Choice.{Choice};
+ghost use Rattle.tap_rows.specs.declared.agency.reading.Reading.{Reading};
 ghost use Rattle.tap_rows.specs.declared.column.Column.{Column};
 ghost use Rattle.tap_views.specs.Layout.{Tap, moment_limit};
 ghost use Rattle.tap_views.specs.declared.encoder.TapFields.{TapFields};
@@ -43,6 +46,15 @@ pub fn reads_utc()
         → IsMoment text moment }
     ensures seconds { (moment : ℕ) (text : List ℕ) → moment < moment_limit
         → IsSecondText moment text → IsMoment text moment }
+{}
+
+/// An agency's CSV is read in one way at most: it has one head and one list of rows, and each row has
+/// one reading.
+pub fn one_reading_of_rows()
+    ensures { (choice : Choice) (text : List ℕ) (head other : List (List ℕ))
+        (rows others : List (List (List ℕ))) (readings again : List Reading)
+        → IsRead choice text head rows readings → IsRead choice text other others again
+        → (head ≡ other) × (rows ≡ others) × (readings ≡ again) }
 {}
 
 /// What an upload of some taps is read as, when it is decoded: these taps, in their order, and no

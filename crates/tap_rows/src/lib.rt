@@ -2,6 +2,7 @@
 //! them.
 #![tactic(auto)]
 
+mod agency;
 mod column;
 mod fault;
 mod field;
@@ -12,6 +13,10 @@ mod moment;
 mod read;
 mod row;
 
+pub use agency::{
+    AgencyFault, Choice, Condition, Reading, Reason, Separator, Summary, Wanted, encode_rows,
+    encode_some_rows,
+};
 pub use column::Column;
 pub use fault::RowsFault;
 pub use into_table::{decode, write_head};

@@ -51,7 +51,7 @@ fn whole_milliseconds(nanoseconds: i128) -> Option<u64>
 }
 
 /// The milliseconds of the instant that a text tells, where they are a whole number.
-fn instant_of(text: &[u8]) -> Option<u64>
+pub(crate) fn instant_of(text: &[u8]) -> Option<u64>
     ensures { MatchOption result ((number : ℕ) → number < 2 ^ 64
         → ¬ (parse_timestamp text.now ≡ Ok (pos (number * 1_000_000))))
         (λ number. parse_timestamp text.now ≡ Ok (pos (number * 1_000_000))) }

@@ -21,7 +21,7 @@ fn token_in(value: &[u8]) -> Option<[u8; 16]>
 }
 
 /// The validator's number that a value writes.
-fn validator_in(value: &[u8]) -> Option<u32>
+pub(crate) fn validator_in(value: &[u8]) -> Option<u32>
     ensures { MatchOption result ((number : ℕ)
         → ¬ (IsValidator value.now number)) (λ number. IsValidator value.now number) }
 {

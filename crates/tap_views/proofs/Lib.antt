@@ -11,3 +11,6 @@ mod RunLemmas
 mod Sorted
 mod Spans
 pub mod Texts
+pub mod TokenBytes
+pub mod TokenLemmas
+pub mod TapOrders

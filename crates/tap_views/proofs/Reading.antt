@@ -1,18 +1,21 @@
 -- What a reader of bytes is given: there is one list of items for all bytes, and it is the file's
 -- batches and its end.
 use Rattle.std.proofs.Common.{◌≡◌, ℕ, zero, suc, ◌+◌, ◌-◌, ◌*◌, ◌<◌, ◌≤◌, List, [], ◌∷◌, ◌++◌}
-use Rattle.std.proofs.Common.{length, map, drop, Ok, Err, None, refl, sym, ap, subst, ◌∙◌, inl, inr}
-use Rattle.std.proofs.Common.{arith}
+use Rattle.std.proofs.Common.{length, map, drop, Ok, Err, None, Some, refl, sym, ap, subst, ◌∙◌, inl, inr}
+use Rattle.std.proofs.Common.{append-nil, arith}
 use Rattle.std.proofs.lemmas.List.{length-append, length-drop, drop-drop, append_cancel_right}
 use Rattle.std.proofs.lemmas.List.{nil_from_length}
 use Rattle.tap_views.specs.Layout.{Tap, Layout, Tap1, Tap2, magic, IsBatch}
 use Rattle.tap_views.specs.Faults.{header, width, layout_in, count_in, size_in, IsFault}
 use Rattle.tap_views.specs.inside.Faults.{AllEarly}
 use Rattle.tap_views.specs.declared.fault.LayoutFault.{LayoutFault}
-use Rattle.tap_views.specs.Files.{HasNoBatch, IsFile, Item, IsEnd, IsReading}
+use Rattle.tap_views.specs.Files.{HasNoBatch, IsFile, Item, IsEnd, IsReading, IsReadAs}
+use Rattle.tap_views.specs.Files.{IsEndAfterBatches}
 use Rattle.tap_views.proofs.ReadingLemmas.{no_bytes, rest_short}
 use Rattle.tap_views.proofs.Grammar.{begins, no_row}
 use Rattle.tap_views.specs.inside.Readings.{found_fault, first_taps, items_within, items_from}
+use Rattle.tap_views.specs.inside.Readings.{batches_among, fault_among, good_among}
+use Rattle.tap_views.specs.inside.Readings.{good_from}
 use Rattle.tap_views.proofs.Finding.{first_fault-none, first_fault-some}
 use Rattle.tap_views.proofs.Deciding.{same_fault, decided, Found}
 
@@ -263,3 +266,61 @@ one_list_of_batches file (x ∷ xs) (y ∷ ys) r s is is' =
     let P : List ℕ → Type 0 = λ back. IsFile back ys s in
     let more = one_list_of_batches is.1 xs ys r s is.4 (subst P (sym same.1) is'.4) in
     (rw (same.0, more.0) refl, more.1)
+
+-- ---- the good batches, and the fault behind them
+among : (batches : List (List Tap)) (last : List Item)
+    → (batches_among (map Ok batches ++ last) ≡ batches ++ batches_among last)
+    × (fault_among (map Ok batches ++ last) ≡ fault_among last)
+among [] last = (refl, refl)
+among (batch ∷ batches) last =
+    (ap (λ bs. batch ∷ bs) (among batches last).0, (among batches last).1)
+
+end_among : (file rest : List ℕ) (last : List Item) → length rest ≤ length file
+    → IsEnd (length file - length rest) rest last
+    → (batches_among last ≡ []) × IsEndAfterBatches file rest (fault_among last)
+end_among file [] last short is = rw is (refl, refl)
+end_among file (byte ∷ bytes) last short (fault, is, given) = rw given (
+  refl,
+  record {
+    some_byte = omega arith;
+    is_fault = is;
+    stands_at = omega (arith, short);
+  },
+)
+
+pub is_read_as : (file : List ℕ)
+    → IsReadAs file (good_from 0 file).batches (good_from 0 file).fault
+is_read_as file =
+    let r = is_reading file in
+    let all = among r.batches r.last in
+    let end = end_among file r.rest r.last (rest_short file r.batches r.rest r.is_file) r.is_end in
+    let batches : (good_from 0 file).batches ≡ r.batches =
+    ap batches_among r.given ∙ (all.0
+    ∙ (ap (λ bs. r.batches ++ bs) end.0 ∙ append-nil r.batches)) in
+    let fault : (good_from 0 file).fault ≡ fault_among r.last =
+    ap fault_among r.given ∙ all.1 in
+    record {
+      rest = r.rest;
+      is_file = subst (λ bs. IsFile file bs r.rest) (sym batches) r.is_file;
+      is_end = subst (IsEndAfterBatches file r.rest) (sym fault) end.1;
+    }
+
+-- a batch that the bytes begin with is the first of those that are left
+pub good-batch : (offset : ℕ) (bytes front rest : List ℕ) (taps : List Tap) → IsBatch front taps
+    → bytes ≡ front ++ rest → good_from offset bytes
+    ≡ (let now = good_from (offset + (length bytes - length rest)) rest in
+    record now { batches = taps ∷ now.batches })
+good-batch offset bytes front rest taps batch is =
+    ap good_among (step-batch offset bytes front rest taps batch is)
+
+-- bytes with a fault have no batch left, and that fault if there are any bytes
+pub good-fault : (offset : ℕ) (bytes : List ℕ) (fault : LayoutFault) → ¬ (bytes ≡ [])
+    → IsFault bytes fault → (good_from offset bytes).fault ≡ Some (offset, fault)
+good-fault offset bytes fault some is =
+    ap fault_among (step-fault offset bytes fault some is)
+
+pub good-none : (offset : ℕ) (bytes : List ℕ) (fault : LayoutFault) → IsFault bytes fault
+    → (good_from offset bytes).batches ≡ []
+good-none offset [] fault is = ap batches_among (step-none offset)
+good-none offset (byte ∷ bytes) fault is =
+    ap batches_among (step-fault offset (byte ∷ bytes) fault (λ none. cc) is)

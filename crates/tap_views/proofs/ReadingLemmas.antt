@@ -1,6 +1,6 @@
 -- A file, read batch by batch.
 use Rattle.std.proofs.Common.{◌≡◌, ℕ, ◌+◌, ◌-◌, ◌*◌, ◌≤◌, List, [], ◌∷◌, ◌++◌, length, map}
-use Rattle.std.proofs.Common.{flat_map, Ok, Err, refl, sym, ◌∙◌, ap, subst, append_assoc}
+use Rattle.std.proofs.Common.{flat_map, None, Option, Some, Ok, Err, refl, sym, ◌∙◌, ap, subst, append_assoc}
 use Rattle.std.proofs.Common.{append-nil, arith, length-append}
 use Rattle.std.proofs.lemmas.Grind.{flat_map-append}
 use Rattle.std.proofs.lemmas.List.{map-append}
@@ -11,6 +11,7 @@ use Rattle.std.specs.List.{AllByRecursion}
 use Rattle.tap_views.specs.Faults.{IsFault}
 use Rattle.tap_views.specs.Files.{IsFile, IsReading, IsEnd, Item, IsFaultAt, taps_of_batches}
 use Rattle.tap_views.specs.Files.{AreGoodTaps, AreGoodTapsOfEach, HasNoBatch, HasOneReading}
+use Rattle.tap_views.specs.Files.{GivesBatch, GoodBatchesView, IsReadAs}
 use Rattle.tap_views.specs.declared.fault.LayoutFault.{LayoutFault}
 
 -- what a reader is given last is no batch
@@ -165,7 +166,7 @@ no_bytes front rest taps batch whole =
     omega (arith, batch_room front taps batch, ap length whole, length-append front rest)
 
 -- a file has fewer taps than bytes, and fewer batches
-few : (file : List ℕ) (batches : List (List Tap)) (rest : List ℕ) → IsFile file batches rest
+pub few : (file : List ℕ) (batches : List (List Tap)) (rest : List ℕ) → IsFile file batches rest
     → length (taps_of_batches batches) + 2 * length batches ≤ length file
 few file [] rest is = omega arith
 few file (batch ∷ batches) rest (front, back, is_batch, whole, is) =
@@ -201,6 +202,45 @@ read_room file done more rest batch is =
       omega (arith, fits, taps, first, all, both),
       omega (arith, fits, number, one),
     )
+
+-- the first batch of those that were left was read
+pub read_on : (file : List ℕ) (done : List (List Tap)) (batch : List Tap)
+    (left now : GoodBatchesView) → IsReadAs file (done ++ left.batches) left.fault
+    → GivesBatch left (Some batch) now
+    → IsReadAs file ((done ++ batch ∷ []) ++ now.batches) now.fault
+read_on file done batch left now read step =
+    let P : GoodBatchesView → Type 0 = λ g. IsReadAs file (done ++ g.batches) g.fault in
+    let Q : List (List Tap) → Type 0 = λ bs. IsReadAs file bs now.fault in
+    subst Q (sym (append_assoc done (batch ∷ []) now.batches)) (subst P step read)
+
+-- no batch was left: all were read, and the fault is the one behind them
+pub read_end : (file : List ℕ) (done : List (List Tap)) (left now : GoodBatchesView)
+    (fault : Option (ℕ × LayoutFault)) → IsReadAs file (done ++ left.batches) left.fault
+    → GivesBatch left None now → fault ≡ now.fault → IsReadAs file done fault
+read_end file done left now fault read (none, same) is =
+    let P : List (List Tap) → Type 0 = λ bs. IsReadAs file bs left.fault in
+    let Q : Option (ℕ × LayoutFault) → Type 0 = IsReadAs file done in
+    subst Q (sym (is ∙ ap (λ g. g.fault) same))
+    (subst P (ap (λ bs. done ++ bs) none ∙ append-nil done) read)
+
+-- the taps of the batches that an upload is read as are its good taps
+pub good_taps : (file : List ℕ) (batches : List (List Tap)) (fault : Option (ℕ × LayoutFault))
+    → IsReadAs file batches fault → AreGoodTaps file (taps_of_batches batches)
+good_taps file batches fault read = record {
+  batches = batches;
+  rest = read.rest;
+  is_file = read.is_file;
+  all = refl;
+}
+
+-- an upload has room for the batch that was read and for its taps, behind those before
+pub room_on : (file : List ℕ) (done : List (List Tap)) (batch : List Tap)
+    (left now : GoodBatchesView) → IsReadAs file (done ++ left.batches) left.fault
+    → GivesBatch left (Some batch) now
+    → (length (taps_of_batches done) + length batch ≤ length file) × (length done + 1 ≤ length file)
+room_on file done batch left now read step =
+    let more = read_on file done batch left now read step in
+    read_room file done now.batches more.rest batch more.is_file
 
 -- the list of what was read, one batch longer
 pub yielded_more : (yielded : List Item) (done : List (List Tap)) (item : Item) (batch : List Tap)

@@ -84,3 +84,13 @@ pub record IsReading (file : List ℕ) (items : List Item) : Type 0 where
   pub is_file : IsFile file batches rest
   pub is_end : IsEnd (length file - length rest) rest last
   pub given : items ≡ map Ok batches ++ last
+
+-- what is left to read of a file: good batches, and how it ends behind them
+pub record GoodBatchesView : Type 0 where
+  pub batches : List (List Tap)
+  pub fault : Option (ℕ × LayoutFault)
+
+-- a reader was given the first of the batches that were left, or nothing if none was
+abbrev pub GivesBatch : GoodBatchesView → Option (List Tap) → GoodBatchesView → Type 0
+GivesBatch left None now = (left.batches ≡ []) × (now ≡ left)
+GivesBatch left (Some batch) now = left ≡ record now { batches = batch ∷ now.batches }

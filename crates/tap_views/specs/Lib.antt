@@ -6,4 +6,6 @@ pub mod Layout
 pub mod Names
 pub mod Runs
 pub mod Shards
+pub mod TapOrder
+pub mod Token
 pub mod inside

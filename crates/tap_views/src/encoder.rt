@@ -16,15 +16,16 @@ use crate::view::TapView;
 use std::alloc::{AllocError, Global};
 use thiserror::Error;
 
-/// What a tap is encoded from in a `TAP1` batch.
-#[derive(Clone, Copy, Debug, PartialEq, Eq)]
+/// What a tap is encoded from in a `TAP1` batch. Its order is the canonical one: by token, then by
+/// moment, then by validator.
+#[derive(Clone, Copy, Debug, PartialEq, Eq, PartialOrd, Ord)]
 pub struct TapFields {
     /// The 16 bytes of the token.
     pub token: [u8; 16],
-    /// The validator's number.
-    pub validator: u32,
     /// The moment in milliseconds since 1970-01-01T00:00Z, below 2100-01-01T00:00Z.
     pub moment: u64,
+    /// The validator's number.
+    pub validator: u32,
 }
 
 impl TapFields {

@@ -3,8 +3,8 @@
 ghost use Rattle.tap_views.specs.Facts.{AreFacts};
 
 use crate::fault::LayoutFault;
-use crate::file::batches;
 use crate::span::{MomentSpan, over_batch};
+use crate::upload::good_batches;
 
 /// What an upload has before its first layout fault, and the fault.
 #[derive(Clone, Copy, Debug, PartialEq, Eq)]
@@ -26,27 +26,16 @@ pub fn facts_of(upload: &[u8]) -> Facts
     let mut count = 0;
     let mut taps = 0;
     let mut span = None;
-    for item in batches(upload) {
-        match item {
-            Ok(batch) => {
-                span = over_batch(span, &batch);
-                taps += u64::from(batch.len());
-                count += 1;
-            }
-            Err((offset, fault)) => {
-                return Facts {
-                    batches: count,
-                    taps,
-                    span,
-                    fault: Some((offset, fault)),
-                };
-            }
-        }
+    let mut good = good_batches(upload);
+    while let Some(batch) = good.next() {
+        span = over_batch(span, &batch);
+        taps += u64::from(batch.len());
+        count += 1;
     }
     Facts {
         batches: count,
         taps,
         span,
-        fault: None,
+        fault: good.fault(),
     }
 }

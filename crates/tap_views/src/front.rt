@@ -2,18 +2,17 @@
 
 ghost use Rattle.tap_views.specs.Facts.{IsGoodPart};
 
-use crate::file::batches;
+use crate::upload::good_batches;
 
 /// The bytes before the upload's first layout fault: an upload without a fault. All bytes where
 /// there is none.
 pub fn good_part(upload: &[u8]) -> &[u8]
     ensures { IsGoodPart upload.now result.now }
 {
-    for item in batches(upload) {
-        match item {
-            Ok(_) => {}
-            Err((offset, _)) => return &upload[..offset as usize],
-        }
+    let mut good = good_batches(upload);
+    while let Some(_batch) = good.next() {}
+    match good.fault() {
+        Some((offset, _)) => &upload[..offset as usize],
+        None => upload,
     }
-    upload
 }

@@ -1,7 +1,9 @@
-//! What the grammar promises whoever reads bytes by it. Each law is the contract of a function,
+//! What the grammar promises whoever reads bytes by it, and of tokens. Each law is the contract of a function,
 //! which changes and gives nothing, `round_trip` apart; call it where a proof needs its law.
 
 ghost use Rattle.std.specs.Prelude.{◌≡◌, ◌++◌, ℕ, List, map, All, MatchResult};
+ghost use Rattle.std.specs.Cmp.Lexicographic.{slice_cmp};
+ghost use Rattle.std.specs.Ordering.{nat_cmp};
 ghost use Rattle.tap_views.specs.Layout.{Tap, IsBatch};
 ghost use Rattle.tap_views.specs.Faults.{IsFault};
 ghost use Rattle.tap_views.specs.declared.fault.LayoutFault.{LayoutFault};
@@ -9,9 +11,13 @@ ghost use Rattle.tap_views.specs.Files.{HasOneReading, IsFile};
 ghost use Rattle.tap_views.specs.Encoding.{Encodes, Encodes2, fields_of, with_validator};
 ghost use Rattle.tap_views.specs.declared.encoder.TapFields.{TapFields};
 ghost use Rattle.tap_views.specs.declared.encoder.Tap2Fields.{Tap2Fields};
+ghost use Rattle.tap_views.specs.Token.{Fits, bytes_of};
+ghost use Rattle.tap_views.specs.declared.token.Token.{Token};
 
 use crate::batch::Batch;
 use crate::fault::LayoutFault;
+use crate::token::Token;
+use std::cmp::Ordering;
 
 /// Bytes begin with at most one batch, so that no batch is the beginning of another.
 pub fn one_batch(bytes: &[u8])
@@ -58,3 +64,15 @@ pub fn round_trip<'a>(bytes: &'a [u8]) -> Result<(Batch<'a>, &'a [u8]), LayoutFa
 {
     Batch::first(bytes)
 }
+
+/// Tokens are ordered by their bytes.
+pub fn token_order(a: Token, b: Token) -> Ordering
+    ensures { result ≡ slice_cmp nat_cmp (bytes_of a) (bytes_of b) }
+{
+    a.cmp(&b)
+}
+
+/// Tokens of 16 bytes that have the same bytes are the same token.
+pub fn same_bytes_same_token()
+    ensures { (a b : Token) → Fits a → Fits b → bytes_of a ≡ bytes_of b → a ≡ b }
+{}

@@ -1,5 +1,5 @@
 //! Batches of taps, read where they lie: lent views over the bytes of an upload, the taps of one
-//! shard, files of many batches and what they have, and the encoders.
+//! shard, files of many batches and what they have, and the encoders. Tokens, which name accounts.
 //!
 //! A batch begins with a header of 8 bytes (`TAP1`, count, flags) or of 12 (`TAP2`, count, flags,
 //! validator), then come its taps, of 28 or 24 bytes. All numbers are big-endian. The layouts are
@@ -14,12 +14,15 @@ mod file;
 mod front;
 pub mod laws;
 mod layout;
+mod memory;
 mod run;
 mod runs;
 mod sample;
 mod shard;
 mod span;
 mod taps;
+mod token;
+mod upload;
 mod view;
 
 pub use batch::Batch;
@@ -29,10 +32,13 @@ pub use fault::LayoutFault;
 pub use file::{FileBatches as Batches, batches};
 pub use front::good_part;
 pub use layout::{MAX_TAPS, MOMENT_LIMIT_MS, TAP1_HEADER_BYTES, TAP1_TAP_BYTES, TAP2_TAP_BYTES};
+pub use memory::NoMemory;
 pub use run::{Run, RunTaps};
 pub use runs::Runs;
 pub use sample::push_sample;
 pub use shard::shard_of;
 pub use span::MomentSpan;
 pub use taps::Taps;
+pub use token::Token;
+pub use upload::{GoodBatches, good_batches};
 pub use view::TapView;

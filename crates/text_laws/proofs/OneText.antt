@@ -14,9 +14,9 @@ use Rattle.jiff_fmt.specs.Text.{fraction_part, offset_text, pad2, sign_byte, yea
 use Rattle.std.specs.Prelude.{◌/◌, ◌%◌, ◌+ℤ◌, if◌then◌else◌, nat_lt}
 use Rattle.jiff_tz.specs.declared.posix.TimeZone.{TimeZone as PosixRule}
 use Rattle.fare_table.specs.Fares.{Fares, terms_at}
-use Rattle.fare_table.specs.Token.{bytes_of}
+use Rattle.tap_views.specs.Token.{bytes_of}
 use Rattle.fare_table.specs.Until.{moment_nanos}
-use Rattle.fare_table.specs.declared.token.Token.{Token}
+use Rattle.tap_views.specs.declared.token.Token.{Token}
 use Rattle.account_rule.specs.TokenRules.{TokenRules, rules_of}
 use Rattle.account_rule.specs.Windows.{last_window}
 use Rattle.account_rule.specs.declared.reason.Charge.{Charge}
@@ -33,6 +33,13 @@ use Rattle.fare_texts.specs.Local.{IsClockText, IsLocal}
 use Rattle.fare_texts.specs.StatementText.{AreEntryLines, IsEntryLine, IsLineOf, IsStatementText}
 use Rattle.fare_texts.specs.StatementText.{IsWindowLine, entry_words, statement_head, window_words}
 use Rattle.reason_texts.specs.Ledger.{AreLedgerLinesAfter, head_text, reason_after}
+use Rattle.account_rule.specs.declared.no_transfer.NoTransfer.{NoTransfer}
+use Rattle.account_rule.specs.declared.no_transfer.NoTransfer.TheVariants.{FirstTap, TooLate}
+use Rattle.account_rule.specs.declared.no_transfer.NoTransfer.TheVariants.{AfterTransfer}
+use Rattle.account_rule.specs.declared.no_transfer.NoTransfer.TheVariants.{NotPermitted}
+use Rattle.reason_texts.specs.NoTransferWords.{IsAfterTransferText, IsNoTransferEnd}
+use Rattle.reason_texts.specs.NoTransferWords.{IsNoTransferText, IsTooLateText, gap_words}
+use Rattle.reason_texts.specs.NoTransferWords.{no_transfer_after}
 use Rattle.reason_texts.specs.ReasonWords.{IsReasonWords, IsRideText, IsStaleText, IsTransferText}
 use Rattle.reason_texts.specs.ReasonWords.{IsWindowText, charge_end, charge_start, giver_start}
 use Rattle.ledger_texts.specs.Explained.{AreEarlierLines, AreExplainedAfter, AreWindowLines}
@@ -244,16 +251,48 @@ words_same fares (Stale latest) a b is also = stale_same latest a b is also
 words_same fares (Transfer moment mode) a b is also = transfer_same _ moment a b is also
 words_same fares (Ride start until charge) a b is also = ride_same start until charge a b is also
 
-explained_line_same : (fares : Fares) (entry : Entry) (why : Reason) (a b : List ℕ)
-    → IsExplainedLine fares entry why a → IsExplainedLine fares entry why b → a ≡ b
-explained_line_same fares entry why a b is also =
+too_late_same : (last gap : ℕ) (a b : List ℕ) → IsTooLateText last gap a → IsTooLateText last gap b
+    → a ≡ b
+too_late_same last gap a b is also =
+    is.shown ∙ ap (λ m. codes ", no transfer since the tap of " ++ (m ++ gap_words gap))
+    (moment_same last is.moment also.moment is.is also.is) ∙ sym also.shown
+
+after_transfer_same : (last : ℕ) (a b : List ℕ) → IsAfterTransferText last a
+    → IsAfterTransferText last b → a ≡ b
+after_transfer_same last a b is also =
+    is.shown ∙ ap (λ m. codes ", no transfer since the tap of " ++ (m ++ codes " is one"))
+    (moment_same last is.moment also.moment is.is also.is) ∙ sym also.shown
+
+lack_same : (fares : Fares) (moment : ℕ) (none : NoTransfer) (a b : List ℕ)
+    → IsNoTransferText fares moment none a → IsNoTransferText fares moment none b → a ≡ b
+lack_same fares moment FirstTap a b is also = is ∙ sym also
+lack_same fares moment (TooLate last) a b is also = too_late_same last _ a b is also
+lack_same fares moment (AfterTransfer last) a b is also = after_transfer_same last a b is also
+lack_same fares moment (NotPermitted from to) a b is also = is ∙ sym also
+
+lack_end_same : (fares : Fares) (moment : ℕ) (why : Reason) (none : Option NoTransfer)
+    (a b : List ℕ) → IsNoTransferEnd fares moment why none a
+    → IsNoTransferEnd fares moment why none b → a ≡ b
+lack_end_same fares moment Unknown lack a b is also = is ∙ sym also
+lack_end_same fares moment (Stale latest) lack a b is also = is ∙ sym also
+lack_end_same fares moment (Transfer last mode) lack a b is also = is ∙ sym also
+lack_end_same fares moment (Ride start until charge) None a b is also = is ∙ sym also
+lack_end_same fares moment (Ride start until charge) (Some lack) a b is also =
+    lack_same fares moment lack a b is also
+
+explained_line_same : (fares : Fares) (entry : Entry) (why : Reason) (none : Option NoTransfer)
+    (a b : List ℕ)
+    → IsExplainedLine fares entry why none a → IsExplainedLine fares entry why none b → a ≡ b
+explained_line_same fares entry why none a b is also =
     let words = entry_words fares entry in
     is.shown
-    ∙ ap (λ m. m ++ (words ++ (is.reason_words ++ (is.local ++ codes "\n"))))
+    ∙ ap (λ m. m ++ (words ++ (is.reason_words ++ (is.lack ++ (is.local ++ codes "\n")))))
     (moment_same entry.moment is.moment also.moment is.is also.is)
-    ∙ ap (λ r. also.moment ++ (words ++ (r ++ (is.local ++ codes "\n"))))
+    ∙ ap (λ r. also.moment ++ (words ++ (r ++ (is.lack ++ (is.local ++ codes "\n")))))
     (words_same fares why is.reason_words also.reason_words is.told also.told)
-    ∙ ap (λ l. also.moment ++ (words ++ (also.reason_words ++ (l ++ codes "\n"))))
+    ∙ ap (λ l. also.moment ++ (words ++ (also.reason_words ++ (l ++ (is.local ++ codes "\n")))))
+    (lack_end_same fares entry.moment why none is.lack also.lack is.lacks also.lacks)
+    ∙ ap (λ l. also.moment ++ (words ++ (also.reason_words ++ (also.lack ++ (l ++ codes "\n")))))
     (local_same fares.zone (codes ", local ") entry.moment is.local also.local is.at also.at)
     ∙ sym also.shown
 
@@ -265,7 +304,8 @@ explained_after_same fares token earlier (entry ∷ entries) a b is also =
     let (line, rest, one, more, whole) = is in
     let (line', rest', one', more', whole') = also in
     whole ∙ both line line' rest rest'
-    (explained_line_same fares entry (reason_after fares token earlier entry) line line' one one')
+    (explained_line_same fares entry (reason_after fares token earlier entry)
+    (no_transfer_after fares token earlier entry) line line' one one')
     (explained_after_same fares token (earlier ++ entry ∷ []) entries rest rest' more more')
     ∙ sym whole'
 

@@ -1,6 +1,6 @@
 -- What two settled runs print of the same taps.
 use Rattle.std.specs.Prelude.{◌≡◌, ℕ, Bool, true, false, List, Option, Some, None}
-use Rattle.fare_table.specs.declared.token.Token.{Token}
+use Rattle.tap_views.specs.declared.token.Token.{Token}
 use Rattle.settlement.specs.Alike.{DifferInUploads}
 
 -- The two texts are the same: ledgers, if they are asked for, else statements of this token.

@@ -3,7 +3,7 @@
 
 ghost use Rattle.std.specs.Prelude.{◌≡◌, ℕ, Bool, List, Option, map};
 ghost use Rattle.fare_table.specs.Fares.{Fares};
-ghost use Rattle.fare_table.specs.declared.token.Token.{Token};
+ghost use Rattle.tap_views.specs.declared.token.Token.{Token};
 ghost use Rattle.fare_program.specs.Options.{Asked};
 ghost use Rattle.fare_program.specs.Settling.{ShowsSettled};
 ghost use Rattle.settlement.specs.Alike.{HaveSameTaps};

@@ -6,12 +6,14 @@ ghost use Rattle.fare_table.specs.Terms.{AreBoundedTerms};
 ghost use Rattle.fare_table.specs.Until.{window_end_in};
 ghost use Rattle.account_rule.specs.declared.tap.TapIn.{TapIn};
 ghost use Rattle.account_rule.specs.inside.Kept.{IsRoomy, next_reason, window_at, with_ride};
+ghost use Rattle.account_rule.specs.NoTransfers.{HasModesBelow, no_transfer};
 ghost use Rattle.account_rule.specs.Reasons.{given_by, reason, replied_by};
-ghost use Rattle.account_rule.specs.TokenRules.{rules_of};
+ghost use Rattle.account_rule.specs.TokenRules.{TokenRules, rules_of};
 ghost use Rattle.account_rule.specs.Stands.{Stands, StandsForSome};
 ghost use Rattle.account_rule.specs.Taps.{live_at};
 
-use super::Account;
+use super::{Account, TRANSFER_TIME_MS};
+use crate::no_transfer::NoTransfer;
 use crate::reason::Reason;
 use crate::tap::TapIn;
 use crate::window::Window;
@@ -61,6 +63,29 @@ impl Account {
             return given;
         }
         self.explain_ride(clock, mode, tap.moment)
+    }
+
+    /// Why a ride at the moment, on the mode, would be no transfer after the taps that the account
+    /// has seen.
+    ///
+    /// It says so of rides alone: of a tap that is a transfer, its answer has no meaning.
+    pub fn no_transfer(&self, moment: u64, mode: Mode) -> NoTransfer
+        // Of every list for which the account stands.
+        ensures lacks { (rules : TokenRules) (taps : List TapIn) → Stands rules self.now taps
+            → result ≡ no_transfer rules taps moment mode }
+        ensures modes { (rules : TokenRules) (taps : List TapIn) → Stands rules self.now taps
+            → mode.place < rules.modes → HasModesBelow rules.modes result }
+    {
+        if !self.has_window {
+            return NoTransfer::FirstTap;
+        }
+        if moment.saturating_sub(self.last) > TRANSFER_TIME_MS {
+            return NoTransfer::TooLate { last: self.last };
+        }
+        match self.giver {
+            Some(from) => NoTransfer::NotPermitted { from, to: mode },
+            None => NoTransfer::AfterTransfer { last: self.last },
+        }
     }
 
     /// Why a tap is a transfer: the last live tap gives it.

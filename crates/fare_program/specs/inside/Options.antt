@@ -15,6 +15,7 @@ asked_of options = record {
   shards = options.shards;
   token = option_map (λ t. t.now) options.token;
   settle = options.settle;
+  sorted = options.sorted;
   ledger = options.ledger;
   explain = options.explain;
   files = map (λ f. f.now) options.files.items;

@@ -1,12 +1,11 @@
 -- Uploads: what private functions alone cite.
-use Rattle.std.specs.Prelude.{◌≡◌, ℕ, Bool, List, [], ◌++◌, flat_map, Option, is_ok}
-use Rattle.std.specs.List.{list_all}
-use Rattle.tap_views.specs.Files.{IsReading, Item}
+use Rattle.std.specs.Prelude.{◌≡◌, ℕ, Bool, List, [], ◌++◌, flat_map, Option}
+use Rattle.tap_views.specs.Files.{GoodBatchesView, IsReadAs}
 use Rattle.fare_table.specs.Fares.{Fares}
 use Rattle.fare_program.specs.Listing.{Listed}
 use Rattle.fare_program.specs.inside.Listing.{KeptListing, StandsFor}
-use Rattle.fare_program.specs.Uploads.{AreReadings, have_no_fault, lines_from, tap_lines, listed_in}
-use Rattle.fare_program.specs.Uploads.{listing_lines}
+use Rattle.fare_program.specs.Uploads.{AreReadings, has_no_fault, have_no_fault, lines_from}
+use Rattle.fare_program.specs.Uploads.{listed_in, listing_lines, tap_lines}
 
 -- A listing went on with these taps: whatever list it stood for, their lines were appended, and it
 -- now stands for that list followed by them.
@@ -17,17 +16,17 @@ Lists kept kept' text text' upload number taps = (before : List Listed) → Stan
 -- A listing went on with an upload, by a reading of its file.
 pub record ListsUpload (fares : Option Fares) (kept kept' : KeptListing) (text text' : List ℕ)
     (upload : ℕ) (file : List ℕ) (whole : Bool) : Type 0 where
-  pub items : List Item
-  pub reading : IsReading file items
+  pub reading : GoodBatchesView
+  pub read : IsReadAs file reading.batches reading.fault
   pub lines : (before : List Listed) → StandsFor kept before
-      → (text' ≡ text ++ listing_lines fares upload 0 before items)
-      × StandsFor kept' (before ++ listed_in fares items)
-  pub is_whole : whole ≡ list_all is_ok items
+      → (text' ≡ text ++ listing_lines fares upload before reading)
+      × StandsFor kept' (before ++ listed_in fares reading)
+  pub is_whole : whole ≡ has_no_fault reading
 
 -- A new listing went over these files.
 pub record ListsUploads (fares : Option Fares) (kept : KeptListing) (text text' : List ℕ)
     (files : List (List ℕ)) (clean : Bool) : Type 0 where
-  pub readings : List (List Item)
+  pub readings : List GoodBatchesView
   pub read : AreReadings files readings
   pub lines : text' ≡ text ++ lines_from fares 0 [] readings
   pub stands : StandsFor kept (flat_map (listed_in fares) readings)

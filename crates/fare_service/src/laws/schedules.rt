@@ -6,11 +6,11 @@ ghost use Rattle.fare_table.specs.Fares.{Fares};
 ghost use Rattle.tap_views.specs.Layout.{Tap};
 ghost use Rattle.tap_views.specs.Shards.{shard_of_token};
 ghost use Rattle.shard_book.specs.declared.entry.Entry.{Entry};
-ghost use Rattle.fare_table.specs.declared.token.Token.{Token};
+ghost use Rattle.tap_views.specs.declared.token.Token.{Token};
 ghost use Rattle.shard_book.specs.Book.{AreOfShard, Book};
 ghost use Rattle.shard_book.specs.Entry.{own};
 ghost use Rattle.shard_book.specs.History.{IsLegal};
-ghost use Rattle.fare_table.specs.Token.{bytes_of};
+ghost use Rattle.tap_views.specs.Token.{bytes_of};
 ghost use Rattle.shard_book.specs.Visits.{AreEntriesOf};
 ghost use Rattle.fare_service.specs.Headline.{Headline};
 ghost use Rattle.tap_views.specs.Files.{AreGoodTaps};
@@ -46,7 +46,7 @@ fn taps_of(file: &[u8])
     ensures taps { (taps : List Tap) × AreGoodTaps file.now taps }
     ensures bytes { All (λ byte. byte < 256) file.now }
 {
-    let _ = tap_views::batches(file);
+    let _ = tap_views::good_batches(file);
 }
 
 /// Uploads have exactly one plain history under a table. It is legal, and its entries have the

@@ -21,11 +21,11 @@ use crate::outcome::Outcome;
 use crate::service::Service;
 use crate::service::share::{Done, Posting, Share};
 use crate::service::worker_totals::{added, entries_in};
-use fare_table::NoMemory;
 use report_texts::UploadEnd;
 use shard_book::{ShardBook, Totals, laws};
 use shared_books::{Draw, Drawer, Missing, Pass, SharedBook};
 use std::alloc::Global;
+use tap_views::NoMemory;
 
 /// Writes down how the uploads ended.
 fn set_ends(ends: &mut Vec<UploadEnd>, done: &[Done])

@@ -16,13 +16,13 @@ use crate::outcome::Outcome;
 use crate::service::Service;
 use crate::service::share::Share;
 use crate::service::working::Gate;
-use fare_table::NoMemory;
 use std::alloc::{AllocError, Global};
 use std::marker::Sync;
 use std::snapshot::Snapshot;
 use std::sync::Wait;
 use std::thread;
 use std::thread::{Promise, Scope, Threads};
+use tap_views::NoMemory;
 
 /// The most workers of a run.
 const MAX_WORKERS: u32 = 16;

@@ -7,13 +7,13 @@ ghost use Rattle.shard_book.specs.Sums.{sums_of, sums_of_replies, add_sums};
 
 use crate::service::Service;
 use crate::service::share::{Done, Posting, Share};
-use fare_table::{Clock, NoMemory};
+use fare_table::Clock;
 use report_texts::UploadEnd;
 use shard_book::{Replies, RunEnd, Tally, Totals};
 use shared_books::{Drawer, Full};
 use std::alloc::Global;
 use std::sync::Wait;
-use tap_views::{Batch, LayoutFault, Runs, batches};
+use tap_views::{Batch, LayoutFault, NoMemory, Runs, good_batches};
 
 /// What a worker calls before it posts an upload and after it. A test can make workers wait there.
 pub trait Gate {
@@ -238,13 +238,11 @@ impl<'a> Service<'a> {
     {
         // proof: a file has fewer than 2^64 bytes, so that the counts of its taps fit
         let _bytes = bytes_in(file);
-        for item in batches(file) {
-            match item {
-                Ok(batch) => self.post_batch(rt, posting, buffers, &batch)?,
-                Err(fault) => return Ok(Some(fault)),
-            }
+        let mut good = good_batches(file);
+        while let Some(batch) = good.next() {
+            self.post_batch(rt, posting, buffers, &batch)?;
         }
-        Ok(None)
+        Ok(good.fault())
     }
 
     /// Posts an upload that was begun at the gate. Tells how it ended, and whether the worker may

@@ -1,9 +1,9 @@
 -- Marks: what private functions alone cite.
 use Rattle.std.specs.Prelude.{◌≡◌, Bool, true, All, List}
 use Rattle.std.specs.Map.{keys_of}
-use Rattle.fare_table.specs.Token.{Fits}
+use Rattle.tap_views.specs.Token.{Fits}
 use Rattle.fare_table.specs.declared.terms.Terms.{Terms}
-use Rattle.fare_table.specs.declared.token.Token.{Token}
+use Rattle.tap_views.specs.declared.token.Token.{Token}
 use Rattle.fare_table.specs.RiderMarks.{is_marked}
 
 -- tokens of two numbers of eight bytes each, all of them marked

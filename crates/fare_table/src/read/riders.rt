@@ -5,17 +5,18 @@ ghost use Rattle.toml.specs.View.{view, table_view};
 ghost use Rattle.fare_table.specs.inside.OrFault.{Answers};
 ghost use Rattle.fare_table.specs.Riders as spec;
 ghost use Rattle.fare_table.specs.Terms.{AreBoundedTerms};
-ghost use Rattle.fare_table.specs.Token.{Fits, by_bytes};
+ghost use Rattle.tap_views.specs.Token.{Fits};
+ghost use Rattle.fare_table.specs.Riders.{by_bytes};
 
 use super::classes::class_named;
 use super::members::{hold_strings, of_kind, optional};
 use crate::fault::{Key, TableFault};
 use crate::riders::Riders;
 use crate::terms::Terms;
-use crate::token::Token;
 use hex::FromHex;
 use std::alloc::Global;
 use std::collections::BTreeMap;
+use tap_views::Token;
 use toml::{Table, Value};
 
 /// The terms of the riders that the text names, by their tokens; none where it has no such key.

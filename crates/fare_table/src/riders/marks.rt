@@ -3,14 +3,13 @@
 
 ghost use Rattle.std.specs.Prelude.{◌≡◌, ◌<◌, ◌≤◌, ◌*◌, true, All, IfOk, length};
 ghost use Rattle.std.specs.Map.{keys_of};
-ghost use Rattle.fare_table.specs.RiderMarks.{is_marked};
+ghost use Rattle.fare_table.specs.RiderMarks.{is_marked, mark_place};
 
-use crate::fault::NoMemory;
 use crate::terms::Terms;
-use crate::token::Token;
 use std::alloc::Global;
 use std::collections::BTreeMap;
 use std::marker::Model;
+use tap_views::{NoMemory, Token};
 
 /// The least number of marks for each token. With so many, most other tokens have none at their
 /// place.
@@ -44,7 +43,7 @@ impl RiderMarks {
     {
         let mut marks = vec![in alloc; false; marks_for(terms.len())?]?;
         for token in terms.keys() {
-            let place = token.mark_place(marks.len());
+            let place = mark_place(*token, marks.len());
             marks[place] = true;
         }
         Ok(RiderMarks { marks })
@@ -54,8 +53,18 @@ impl RiderMarks {
     pub(crate) fn has(&self, token: Token) -> bool
         ensures { result ≡ is_marked self.now token }
     {
-        !self.marks.is_empty() && self.marks[token.mark_place(self.marks.len())]
+        !self.marks.is_empty() && self.marks[mark_place(token, self.marks.len())]
     }
+}
+
+/// The place of the token's mark among so many, a power of two: its last bits, which spread well,
+/// since most tokens are random.
+fn mark_place(token: Token, marks: usize) -> usize
+    requires { 0 < marks }
+    ensures place { result ≡ mark_place token marks }
+    ensures inside { result < marks }
+{
+    token.low() as usize & (marks - 1)
 }
 
 /// How many marks so many tokens have. A number that `usize` does not hold is also more than memory

@@ -2,9 +2,9 @@
 
 ghost use Rattle.std.specs.Prelude.{◌+◌, ◌*◌, ◌≤◌, IfOk, length, vec_len};
 
-use crate::fault::NoMemory;
 use crate::validators::RangeRest;
 use std::alloc::Global;
+use tap_views::NoMemory;
 
 /// The steps for each range. With so many, mostly no two ranges end in one step.
 const STEPS_FOR_EACH: u64 = 4;

@@ -3,16 +3,17 @@
 ghost use Rattle.std.specs.Prelude.{◌≡◌, ◌++◌, List, ℕ, OnOk, codes, map, string_bytes};
 ghost use Rattle.account_rule.specs.TokenRules.{rules_of};
 ghost use Rattle.shard_book.specs.Entry.{tap_of};
-ghost use Rattle.fare_table.specs.Token.{bytes_of};
+ghost use Rattle.tap_views.specs.Token.{bytes_of};
 ghost use Rattle.ledger_texts.specs.Explained.{AreEarlierLines, AreWindowLines, IsLastLine};
 ghost use Rattle.ledger_texts.specs.Explained.{IsExplainedWindow};
 
 use super::windows::windows_of;
 use account_rule::WindowView;
-use fare_table::{Clock, FareTable, NoMemory};
+use fare_table::{Clock, FareTable};
 use fare_texts::{write_local, write_moment, write_window_words};
-use shard_book::{Entry, Token};
+use shard_book::Entry;
 use std::alloc::{AllocError, Global};
+use tap_views::{NoMemory, Token};
 
 /// Appends the line of a window behind its first word.
 fn write_line(

@@ -5,15 +5,16 @@ ghost use Rattle.account_rule.specs.Laws.{is_ride};
 ghost use Rattle.account_rule.specs.TokenRules.{rules_of};
 ghost use Rattle.account_rule.specs.Windows.{last_window};
 ghost use Rattle.shard_book.specs.Entry.{tap_of};
-ghost use Rattle.fare_table.specs.Token.{bytes_of};
+ghost use Rattle.tap_views.specs.Token.{bytes_of};
 ghost use Rattle.ledger_texts.specs.Explained.{earlier_windows};
 ghost use Rattle.ledger_texts.specs.inside.Windows.{window_ended};
 
 use account_rule::{Answer, Reply, WindowView};
-use fare_table::{Clock, FareTable, NoMemory};
+use fare_table::{Clock, FareTable};
 use reason_texts::Teller;
-use shard_book::{Entry, Token};
+use shard_book::Entry;
 use std::alloc::Global;
+use tap_views::{NoMemory, Token};
 
 /// Whether the reply is to a ride, charged or free.
 fn is_ride(reply: Reply) -> bool

@@ -1,13 +1,17 @@
 -- Findings: what private functions alone cite.
-use Rattle.std.specs.Prelude.{ℕ, List, [], map, IsTrue}
+use Rattle.std.specs.Prelude.{◌≡◌, ℕ, Bool, List, [], map, nat_eq, Option, IsTrue, true}
+use Rattle.std.specs.Io.KnownBytes.{Appends}
 use Rattle.fare_table.specs.Fares.{Fares}
 use Rattle.shard_book.specs.declared.entry.Entry.{Entry}
 use Rattle.ledger_check.specs.Ledger.{IsLedgerOf}
+use Rattle.ledger_check.specs.Recounts.{IsRecount, TakenLine, recount_text, taps_from, wrong_count}
 use Rattle.ledger_check.specs.Struck.{tap_of_entry}
 use Rattle.ledger_check.specs.Verdicts.{is_legal}
 use Rattle.ledger_check.specs.declared.checker.Verdict.{Verdict}
 use Rattle.tap_balance.specs.Balances.{IsBalance}
 use Rattle.tap_balance.specs.declared.balance.Balance.{Balance}
+use Rattle.tap_balance.specs.FullBalances.{IsFullBalance}
+use Rattle.tap_balance.specs.declared.full_balance.FullBalance.{FullBalance}
 use Rattle.tap_views.specs.declared.encoder.TapFields.{TapFields}
 
 -- where the verdict is legal, the taps of the ledger were struck out of the balance
@@ -16,3 +20,13 @@ StrikesOut fares text before after verdict =
     (good : List TapFields) → IsBalance before good [] → IsTrue (is_legal verdict)
     → (entries : List Entry) → IsLedgerOf fares entries text
     → IsBalance after good (map tap_of_entry entries)
+
+-- all lines of the text were recounted and told, and their taps struck out, if there are uploads
+pub record HasRecountedAll (fares : Fares) (has_uploads : Bool) (full : FullBalance)
+    (text : List ℕ) (good : List TapFields) (legal : Bool) (out out' : Option (List ℕ))
+    : Type 0 where
+  pub taken : List TakenLine
+  pub recount : IsRecount fares text taken
+  pub is_legal : legal ≡ nat_eq (wrong_count taken) 0
+  pub struck : has_uploads ≡ true → IsFullBalance full good (taps_from taken)
+  pub written : Appends out out' (recount_text taken)

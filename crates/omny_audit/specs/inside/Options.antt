@@ -8,6 +8,7 @@ use Rattle.omny_audit.specs.Options.{AuditAsked}
 abbrev pub audit_asked_of : Options → AuditAsked
 audit_asked_of options = record {
   table = options.table.now;
+  all = options.all;
   uploads = map (λ f. f.now) options.uploads.items;
   ledger = option_map (λ f. f.now) options.ledger;
 }

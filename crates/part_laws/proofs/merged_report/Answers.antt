@@ -1,5 +1,5 @@
 use Rattle.std.proofs.Common.{ℕ, List, ap, ◌∙◌}
-use Rattle.fare_table.specs.declared.token.Token.{Token}
+use Rattle.tap_views.specs.declared.token.Token.{Token}
 use Rattle.shard_book.specs.SumsByKey.{sums_by_validator}
 use Rattle.shard_book.specs.Sums.{Sums, sums}
 use Rattle.report_texts.specs.Report.{report}

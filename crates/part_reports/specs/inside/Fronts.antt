@@ -13,6 +13,7 @@ use Rattle.fare_texts.specs.ReportLines.{number_line}
 use Rattle.report_texts.specs.Report.{uploads_section, validators_section}
 use Rattle.report_texts.specs.UploadEnds.{is_posted}
 use Rattle.report_texts.specs.declared.upload_end.UploadEnd.{UploadEnd}
+use Rattle.part_reports.specs.Reports.{added}
 use Rattle.part_reports.specs.declared.front.Front.{Front}
 
 -- so many uploads ended so, and each was posted
@@ -68,11 +69,19 @@ pub record ToldFront : Type 0 where
   pub validators : List (ℕ × Sums)
   pub tokens : ℕ
 
--- it may be that of a part
+-- each section may be that of a part
+pub record MayBeSections (told : ToldFront) : Type 0 where
+  pub ends : AreEnds told.ends
+  pub totals : AreCounts told.totals
+  pub validators : AreValidators told.validators
+  pub tokens : told.tokens < 2 ^ 64
+
+-- it may be that of a part: the validators add up to the totals, too
 pub record MayBePart (told : ToldFront) : Type 0 where
   pub ends : AreEnds told.ends
   pub totals : AreCounts told.totals
   pub validators : AreValidators told.validators
+  pub add : told.totals ≡ added told.validators
   pub tokens : told.tokens < 2 ^ 64
 
 -- its text

@@ -1,8 +1,8 @@
 -- The least of the tokens at which several texts stand.
 use Rattle.std.specs.Prelude.{◌≡◌, ◌≢◌, ◌<◌, ℕ, List, Option, Some, None, slice_get}
 use Rattle.std.specs.declared.cmp.Ordering.TheVariants.{Less}
-use Rattle.fare_table.specs.Token.{token_cmp}
-use Rattle.fare_table.specs.declared.token.Token.{Token}
+use Rattle.tap_views.specs.Token.{token_cmp}
+use Rattle.tap_views.specs.declared.token.Token.{Token}
 
 -- this token stands at the place
 abbrev pub StandsAt : List (Option Token) → ℕ → Token → Type 0

@@ -8,6 +8,7 @@ use Rattle.part_reports.specs.TokenLines.{TokenLine}
 use Rattle.part_reports.specs.inside.Fronts.{MayBePart, ToldFront, told_text}
 use Rattle.part_reports.specs.inside.Kinds.{IsTextOf}
 use Rattle.part_reports.specs.inside.Standings.{StandsInText, Standing}
+use Rattle.part_reports.specs.inside.SumsLeft.{left_of}
 use Rattle.part_reports.specs.inside.Sums.{AreFew, AreFrontsCounted}
 
 -- what was read of a report, and what is left of it: the lines of its tokens
@@ -18,9 +19,9 @@ BegunReport = ToldFront × List ℕ
 abbrev pub begun_text : BegunReport → List ℕ
 begun_text begun = told_text begun.0 ++ begun.1
 
--- the text of its tokens
+-- the text of its tokens, which add up to the totals
 abbrev pub left_text : BegunReport → LineKind × List ℕ
-left_text begun = (Tokens begun.0.tokens, begun.1)
+left_text begun = (Tokens begun.0.tokens (left_of begun.0.totals), begun.1)
 
 -- the report was read up to its tokens, and what it tells was added
 pub record IsPart (before after : WholeSums) (file : List ℕ) (at : Standing) : Type 0 where

@@ -4,11 +4,13 @@ use Rattle.std.specs.Prelude.{None, IfSome, false, slice_get, slice_set}
 use Rattle.std.specs.Io.KnownBytes.{Appends}
 use Rattle.std.specs.Ordering.{is_lt}
 use Rattle.std.specs.declared.cmp.Ordering.TheVariants.{Less}
-use Rattle.fare_table.specs.Token.{token_cmp}
-use Rattle.fare_table.specs.declared.token.Token.{Token}
+use Rattle.tap_views.specs.Token.{token_cmp}
+use Rattle.shard_book.specs.Sums.{Sums, add_sums, sums}
+use Rattle.tap_views.specs.declared.token.Token.{Token}
 use Rattle.part_reports.specs.Ledgers.{IsLedgerEntryLine}
 use Rattle.part_reports.specs.TokenLines.{TokenLine}
-use Rattle.part_reports.specs.inside.Kinds.{IsSumLine, IsTextOf}
+use Rattle.part_reports.specs.inside.Kinds.{HasTokenSums, IsSumLine, IsTextOf}
+use Rattle.part_reports.specs.inside.SumsLeft.{sums_left}
 use Rattle.part_reports.specs.declared.merging.LineKind.{LineKind}
 use Rattle.part_reports.specs.declared.merging.LineKind.TheVariants.{Tokens, Entries}
 use Rattle.part_reports.specs.declared.merging.OrderedText.{OrderedText}
@@ -32,41 +34,48 @@ standing remaining text = record {
 
 -- it is a line of this kind: a report's of a token, or a ledger's
 abbrev pub IsLineOfKind : LineKind → TokenLine → Type 0
-IsLineOfKind (Tokens left) line = IsSumLine line
+IsLineOfKind (Tokens left rest) line = IsSumLine line
 IsLineOfKind Entries line = IsLedgerEntryLine line
 
 -- a line of this token may stand behind one of the other: a report's tokens rise, and a ledger's do
 -- not fall
 abbrev pub MayFollow : LineKind → Token → Token → Type 0
-MayFollow (Tokens left) before token = token_cmp before token ≡ Less
+MayFollow (Tokens left rest) before token = token_cmp before token ≡ Less
 MayFollow Entries before token = is_lt (token_cmp token before) ≡ false
 
--- no line is left to read, or it is not known how many are
+-- no line is left to read, and nothing of the totals; or it is not known how many lines are
 abbrev pub MayEnd : LineKind → Type 0
-MayEnd (Tokens left) = left ≡ 0
+MayEnd (Tokens left rest) = (left ≡ 0) × (sums_left rest ≡ sums [])
 MayEnd Entries = Unit {0}
 
--- the second is the kind of the lines behind the first of the first kind
-abbrev pub IsBehindOne : LineKind → LineKind → Type 0
-IsBehindOne (Tokens left) (Tokens behind) = left ≡ behind + 1
-IsBehindOne (Tokens left) Entries = ⊥
-IsBehindOne Entries (Tokens behind) = ⊥
-IsBehindOne Entries Entries = Unit {0}
+-- the second is the kind of the lines behind this first one of the first kind
+abbrev pub IsBehindOne : LineKind → TokenLine → LineKind → Type 0
+IsBehindOne (Tokens left rest) line (Tokens behind after) =
+    (left ≡ behind + 1)
+    × ((its : Sums) × HasTokenSums line its
+    × (sums_left rest ≡ add_sums its (sums_left after)))
+IsBehindOne (Tokens left rest) line Entries = ⊥
+IsBehindOne Entries line (Tokens behind after) = ⊥
+IsBehindOne Entries line Entries = Unit {0}
+
+-- a line of this text and token
+abbrev pub line_with : Token → List ℕ → TokenLine
+line_with token text = record { token = token; text = text }
 
 -- the line may stand first in a text of this kind, or be empty where the text is: of which kind the
 -- lines behind it are, and its token
 abbrev pub IsFirstLine : LineKind → List ℕ → LineKind → Option Token → Type 0
 IsFirstLine kind line behind None = (line ≡ []) × MayEnd kind
 IsFirstLine kind line behind (Some token) =
-    IsLineOfKind kind (record { token = token; text = line }) × IsBehindOne kind behind
+    IsLineOfKind kind (line_with token line) × IsBehindOne kind (line_with token line) behind
 
 -- the text's first line is the one that was read, with this token, and the rest is left
 pub record IsAtLine (text : LineKind × List ℕ) (at : Standing) (token : Token) : Type 0 where
   pub rest : List ℕ
   pub left : at.left ≡ Some rest
   pub shown : text.1 ≡ at.line ++ rest
-  pub line : IsLineOfKind text.0 (record { token = token; text = at.line })
-  pub behind : IsBehindOne text.0 at.behind
+  pub line : IsLineOfKind text.0 (line_with token at.line)
+  pub behind : IsBehindOne text.0 (line_with token at.line) at.behind
 
 -- the text is empty, and may be
 pub record IsAtEnd (text : LineKind × List ℕ) : Type 0 where

@@ -1,14 +1,14 @@
 -- What a thread makes of a list of taps. Private functions alone cite this.
 use Rattle.std.specs.Prelude.{◌≡◌, ◌≤◌, true, List, [], length, string_bytes}
 use Rattle.fare_table.specs.Fares.{Fares}
-use Rattle.fare_table.specs.declared.token.Token.{Token}
+use Rattle.tap_views.specs.declared.token.Token.{Token}
 use Rattle.tap_views.specs.Encoding.{AreEarly}
 use Rattle.tap_views.specs.declared.encoder.TapFields.{TapFields}
 use Rattle.shard_book.specs.Entry.{own}
 use Rattle.shard_book.specs.declared.entry.Entry.{Entry}
 use Rattle.ledger_texts.specs.Lines.{AreUpTo, IsUpTo}
 use Rattle.settled_texts.specs.declared.seat.Seat.{Seat}
-use Rattle.settled_texts.specs.inside.Telling.{AreTold, NoTapFallsFrom, last_token}
+use Rattle.settled_texts.specs.Telling.{AreTold, NoTapFallsFrom, last_token}
 
 -- the taps' moments are before 2100, and their tokens never fall
 pub record IsSoundList (taps : List TapFields) : Type 0 where

@@ -1,14 +1,16 @@
 -- The taps of one token, collected from uploads: what private functions alone cite.
-use Rattle.std.specs.Prelude.{◌≡◌, ℕ, List, ◌++◌, map}
+use Rattle.std.specs.Prelude.{◌≡◌, ℕ, List, ◌++◌, All, map}
 use Rattle.tap_views.specs.Encoding.{fields_of}
 use Rattle.tap_views.specs.Files.{AreGoodTaps, AreGoodTapsOfEach}
 use Rattle.tap_views.specs.Layout.{Tap}
 use Rattle.tap_views.specs.declared.encoder.TapFields.{TapFields}
-use Rattle.fare_table.specs.declared.token.Token.{Token}
+use Rattle.tap_views.specs.declared.token.Token.{Token}
 use Rattle.tap_parts.specs.Parts.{taps_of_uploads}
 use Rattle.report_texts.specs.UploadEnds.{ArePlainEnds, IsPlainEnd}
 use Rattle.report_texts.specs.declared.upload_end.UploadEnd.{UploadEnd}
 use Rattle.settlement.specs.Posted.{only}
+use Rattle.settlement.specs.Reading.{AreRead}
+use Rattle.settlement.specs.inside.SplitTaps.{HasGoodTokens}
 
 -- the token's taps among the good taps of the upload were added, in their order, and the upload ends
 -- so
@@ -27,3 +29,11 @@ pub record AreOwnTaps (token : Token) (uploads : List (List ℕ)) (own : List Ta
   pub of_uploads : AreGoodTapsOfEach uploads taps
   pub are : own ≡ only token (map fields_of (taps_of_uploads taps))
   pub ended : ArePlainEnds uploads ends
+
+-- of the uploads from one number on and below another, the list has the token's good taps
+pub record IsRunOwn (may_be : ℕ → List ℕ → Type 0) (start end : ℕ) (token : Token)
+    (own : List TapFields) (ends : List UploadEnd) : Type 0 where
+  pub files : List (List ℕ)
+  pub read : AreRead may_be start end files
+  pub tokens : All HasGoodTokens files
+  pub are : AreOwnTaps token files own ends

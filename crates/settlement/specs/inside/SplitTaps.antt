@@ -5,10 +5,12 @@ use Rattle.tap_views.specs.Encoding.{fields_of}
 use Rattle.tap_views.specs.Layout.{Tap}
 use Rattle.tap_views.specs.declared.encoder.TapFields.{TapFields}
 use Rattle.tap_parts.specs.Parts.{AreAddedBy, taps_at}
-use Rattle.tap_views.specs.Files.{AreGoodTapsOfEach}
+use Rattle.tap_views.specs.Files.{AreGoodTaps, AreGoodTapsOfEach}
 use Rattle.report_texts.specs.UploadEnds.{ArePlainEnds}
 use Rattle.report_texts.specs.declared.upload_end.UploadEnd.{UploadEnd}
 use Rattle.tap_parts.specs.Parts.{taps_of_uploads}
+use Rattle.tap_parts.specs.Canonical.{HasTokenBytes}
+use Rattle.settlement.specs.Reading.{AreRead}
 
 -- the taps that a part has in several lists of parts, list after list
 abbrev pub in_part : ℕ → List (List (List TapFields)) → List TapFields
@@ -38,3 +40,24 @@ pub record AreInParts (part_of : List ℕ → ℕ) (parts : ℕ) (uploads : List
   pub each : (part : ℕ) → part < parts
       → in_part part lists ≡ map fields_of (taps_at part_of part (taps_of_uploads taps))
   pub ended : ArePlainEnds uploads ends
+
+-- the upload's good taps have tokens of 16 bytes
+abbrev pub HasGoodTokens : List ℕ → Type 0
+HasGoodTokens upload =
+    (taps : List Tap) → AreGoodTaps upload taps → All HasTokenBytes (map fields_of taps)
+
+-- of the uploads from one number on and below another, all that were read were added
+pub record IsRunAdded (may_be : ℕ → List ℕ → Type 0) (start end : ℕ) (part_of : List ℕ → ℕ)
+    (old new : List (List TapFields)) (ends : List UploadEnd) : Type 0 where
+  pub files : List (List ℕ)
+  pub read : AreRead may_be start end files
+  pub tokens : All HasGoodTokens files
+  pub added : AreAllAdded part_of files old new ends
+
+-- of the uploads from one number on and below another, the good taps lie in parts
+pub record IsRunInParts (may_be : ℕ → List ℕ → Type 0) (start end : ℕ) (part_of : List ℕ → ℕ)
+    (parts : ℕ) (lists : List (List (List TapFields))) (ends : List UploadEnd) : Type 0 where
+  pub files : List (List ℕ)
+  pub read : AreRead may_be start end files
+  pub tokens : All HasGoodTokens files
+  pub inside : AreInParts part_of parts files lists ends

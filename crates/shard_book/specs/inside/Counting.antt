@@ -6,12 +6,12 @@ use Rattle.std.specs.Set.{is_member}
 use Rattle.tap_views.specs.Shards.{shard_of_token}
 use Rattle.shard_book.specs.declared.accounts.Accounts.{Accounts}
 use Rattle.shard_book.specs.declared.entry.Entry.{Entry}
-use Rattle.fare_table.specs.declared.token.Token.{Token}
+use Rattle.tap_views.specs.declared.token.Token.{Token}
 use Rattle.shard_book.specs.inside.Accounts.{kept_at, counted}
 use Rattle.shard_book.specs.Entry.{own}
 use Rattle.shard_book.specs.SumsByKey.{token_of}
 use Rattle.shard_book.specs.Sums.{Sums, sums}
-use Rattle.fare_table.specs.Token.{bytes_of, token_eq}
+use Rattle.tap_views.specs.Token.{bytes_of, token_eq}
 
 -- for each token the sums of its own entries are kept, those of nothing where it has none
 pub record AreCounted (accounts : Accounts) (entries : List Entry) : Type 0 where

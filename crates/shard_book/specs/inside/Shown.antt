@@ -1,6 +1,6 @@
 -- Shown: what private functions alone cite.
 use Rattle.std.specs.Prelude.{List, map}
-use Rattle.fare_table.specs.declared.token.Token.{Token}
+use Rattle.tap_views.specs.declared.token.Token.{Token}
 use Rattle.shard_book.specs.declared.sums.token_sums.SumList.{SumList}
 use Rattle.shard_book.specs.declared.sums.token_sums.SumList.TheVariants.{Counted, Added}
 use Rattle.shard_book.specs.Counts.{token_counts}

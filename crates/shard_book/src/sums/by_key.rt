@@ -16,10 +16,10 @@ use crate::entry::Entry;
 use crate::sums::tally::Tally;
 use crate::sums::totals::Totals;
 use crate::token_hash::HashSeed;
-use fare_table::NoMemory;
 use indexmap::IndexMap;
 use std::alloc::Global;
 use std::hash::Hash;
+use tap_views::NoMemory;
 
 /// What entries are summed by.
 pub(crate) trait SumKey: Copy + Ord + Hash + Drop {

@@ -14,12 +14,12 @@ use crate::book::ShardBook;
 use crate::sums::by_key::{SumKey, tallies_of};
 use crate::sums::tally::Tally;
 use crate::token_hash::HashSeed;
-use fare_table::NoMemory;
 use indexmap::IndexMap;
 use std::alloc::Global;
 use std::marker::Sync;
 use std::thread;
 use std::thread::Threads;
+use tap_views::NoMemory;
 
 /// From how many entries on threads share the work: with fewer, to start them takes longer than
 /// they spare.

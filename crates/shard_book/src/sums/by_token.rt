@@ -6,12 +6,12 @@ ghost use Rattle.std.specs.Map.{keys_of};
 ghost use Rattle.shard_book.specs.inside.Counting.{AreSummed};
 ghost use Rattle.shard_book.specs.Counts.{token_counts};
 ghost use Rattle.shard_book.specs.SumsByKey.{all_entries, sums_by_token};
-ghost use Rattle.fare_table.specs.Token.{token_cmp};
+ghost use Rattle.tap_views.specs.Token.{token_cmp};
 
 use crate::book::ShardBook;
 use crate::sums::counts::TokenCounts;
-use fare_table::NoMemory;
 use std::alloc::Global;
+use tap_views::NoMemory;
 
 /// The tokens of the books, in no order, each with its counts. `None` where a book does not keep
 /// them, and where two books may share a token: those of rising shards, of one number of shards,

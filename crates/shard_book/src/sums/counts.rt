@@ -5,7 +5,7 @@ ghost use Rattle.std.specs.Prelude.{◌≡◌, ◌+◌, ◌*◌, ◌<◌, ◌≤
 use crate::sums::TokenSum;
 use crate::sums::totals::Totals;
 use account_rule::{Answer, Reply};
-use fare_table::Token;
+use tap_views::Token;
 
 /// What `Totals` counts, while the cents fit 32 bits and each other number 16. Of 16 bytes, where
 /// `Totals` has 112, so that an account and its counts take 64.

@@ -12,9 +12,9 @@ use crate::sums::by_token::rising_counts;
 use crate::sums::counts::TokenCounts;
 use crate::sums::tally::Tally;
 use crate::sums::{TokenSum, added_by_token, widened_sums};
-use fare_table::{NoMemory, Token};
 use std::alloc::Global;
 use std::marker::Model;
+use tap_views::{NoMemory, Token};
 
 /// Counts of 32 bytes a token where the books tell them, else sums of 128.
 #[derive(Drop)]
@@ -68,7 +68,7 @@ pub struct TokenSums {
 
 impl Model for TokenSums {
     ghost use Rattle.std.specs.Prelude.{List};
-    ghost use Rattle.fare_table.specs.declared.token.Token.{Token};
+    ghost use Rattle.tap_views.specs.declared.token.Token.{Token};
     ghost use Rattle.shard_book.specs.Sums.{Sums};
     ghost use Rattle.shard_book.specs.inside.Shown.{sums_in};
 

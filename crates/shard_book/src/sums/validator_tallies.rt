@@ -12,10 +12,10 @@ use crate::sums::by_key::{add_at, add_entry, listed};
 use crate::sums::by_threads::add_tallies;
 use crate::sums::tally::Tally;
 use crate::token_hash::HashSeed;
-use fare_table::NoMemory;
 use indexmap::IndexMap;
 use std::alloc::Global;
 use std::marker::Model;
+use tap_views::NoMemory;
 
 /// How many hints there are, a power of two.
 const HINTS: usize = 16_384;

@@ -2,7 +2,7 @@
 
 use super::rule::{ClaimSplit, EndsJoin, Meets};
 use super::{Pass, SharedBook};
-use fare_table::NoMemory;
+use tap_views::NoMemory;
 
 impl SharedBook {
     ghost use Rattle.std.specs.Prelude.{◌≡◌, IsOkAnd};

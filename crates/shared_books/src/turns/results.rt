@@ -1,6 +1,6 @@
 //! What the calls of a shared book return.
-use fare_table::NoMemory;
 use shard_book::{RunEnd, Statement};
+use tap_views::NoMemory;
 use thiserror::Error;
 
 /// A visit that was made: its number, and how its run was posted.

@@ -6,7 +6,7 @@ use Rattle.std.specs.List.{range_with_len}
 use Rattle.std.specs.Str.{bytes_eq}
 use Rattle.tap_views.specs.Layout.{moment_limit, Tap}
 use Rattle.tap_views.specs.Faults.{header, layout_in, count_in, flags_in, size_in, moment_in}
-use Rattle.tap_views.specs.Files.{Item}
+use Rattle.tap_views.specs.Files.{GoodBatchesView, Item}
 use Rattle.tap_views.specs.inside.Records.{taps_in}
 use Rattle.tap_views.specs.declared.fault.LayoutFault.{LayoutFault}
 use Rattle.tap_views.specs.declared.fault.LayoutFault.TheVariants.{Short, Magic, Flags, TooMany}
@@ -55,3 +55,23 @@ items_within (suc fuel) offset (byte ∷ more) =
 -- a byte at least
 abbrev pub items_from : ℕ → List ℕ → List Item
 items_from offset bytes = items_within (length bytes) offset bytes
+
+-- the batches that are given before a fault
+abbrev pub batches_among : List Item → List (List Tap)
+batches_among [] = []
+batches_among (Ok batch ∷ items) = batch ∷ batches_among items
+batches_among (Err stop ∷ items) = []
+
+-- the first fault that is given
+abbrev pub fault_among : List Item → Option (ℕ × LayoutFault)
+fault_among [] = None
+fault_among (Ok batch ∷ items) = fault_among items
+fault_among (Err stop ∷ items) = Some stop
+
+-- what is left to read, by what is given
+abbrev pub good_among : List Item → GoodBatchesView
+good_among items = record { batches = batches_among items; fault = fault_among items }
+
+-- what is left to read of bytes which stand at an offset of their file
+abbrev pub good_from : ℕ → List ℕ → GoodBatchesView
+good_from offset bytes = good_among (items_from offset bytes)

@@ -13,6 +13,7 @@ returns c =
     let four = c.in_ok-arg-4.ensures.shape c.number_arg-shards.ensures.local ∙ ap₂ with_rule three c.number_arg-shards.ensures.rule in
     let five = c.in_ok-arg-5.ensures.shape c.option_arg-token.ensures.local ∙ ap₂ with_rule four c.option_arg-token.ensures.rule in
     let six = c.in_ok-arg-6.ensures.shape c.flag_arg-settle.ensures.local ∙ ap₂ with_rule five c.flag_arg-settle.ensures.rule in
-    let seven = c.in_ok-arg-7.ensures.shape c.flag_arg-ledger.ensures.local ∙ ap₂ with_rule six c.flag_arg-ledger.ensures.rule in
-    let eight = c.in_ok-arg-8.ensures.shape c.flag_arg-explain.ensures.local ∙ ap₂ with_rule seven c.flag_arg-explain.ensures.rule in
-    IfOk-weaker c.arg-9.result _ _ (λ command adds. adds.shape c.positional_arg-file.ensures.local ∙ ap₂ with_rule eight c.positional_arg-file.ensures.rule) c.arg-9.ensures
+    let seven = c.in_ok-arg-7.ensures.shape c.flag_arg-sorted.ensures.local ∙ ap₂ with_rule six c.flag_arg-sorted.ensures.rule in
+    let eight = c.in_ok-arg-8.ensures.shape c.flag_arg-ledger.ensures.local ∙ ap₂ with_rule seven c.flag_arg-ledger.ensures.rule in
+    let nine = c.in_ok-arg-9.ensures.shape c.flag_arg-explain.ensures.local ∙ ap₂ with_rule eight c.flag_arg-explain.ensures.rule in
+    IfOk-weaker c.arg-10.result _ _ (λ command adds. adds.shape c.positional_arg-file.ensures.local ∙ ap₂ with_rule nine c.positional_arg-file.ensures.rule) c.arg-10.ensures

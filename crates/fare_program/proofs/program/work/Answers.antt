@@ -1,46 +1,54 @@
-use Rattle.std.proofs.Common.{◌≡◌, ℕ, List, Bool, true, false, not, Option, Some, None, refl, sym, subst}
-use Rattle.std.specs.Prelude.{MatchBool, is_some, ◌||◌}
-use Rattle.std.specs.Io.KnownBytes.{Appends}
-use Rattle.std.proofs.lemmas.Result.{IfOk-weaker}
-use Rattle.fare_table.specs.Fares.{Fares}
-use Rattle.fare_table.specs.declared.token.Token.{Token}
-use Rattle.fare_program.specs.Options.{Asked}
-use Rattle.fare_program.specs.Program.{Does, IsTokenIn, Loads, LoadsTable, RunsListing, RunsService, ShowsAsked}
-use Rattle.program_manners.specs.Loads.{Loaded}
+use Rattle.std.proofs.Common.{ap, subst, ◌∙◌}
+use Rattle.std.specs.Prelude.{IfSome, is_some}
+use Rattle.std.proofs.KnownBytes.{Keeps-refl, Keeps-trans}
+use Rattle.std.proofs.lemmas.Result.{IfErr-weaker, IfOk-weaker}
+use Rattle.fare_program.specs.inside.ChargedAhead.{IsChargedAhead}
+use Rattle.fare_program.specs.inside.Options.{asked_of}
+use Rattle.fare_program.proofs.SortedRuns.{does_sorted, has_table}
+use Rattle.fare_program.proofs.Works.{does_ahead}
 use Rattle.fare_program.proofs.program.work.Goals as goal
 
--- with fares, and without the flag, the service is asked for
-serves : (list : Bool) (table : Option (List ℕ)) (told told' : Option (List Loaded)) (fares : Option Fares) (f : Fares)
-    → list ≡ false → LoadsTable table told told' fares → fares ≡ Some f → (list || not (is_some table)) ≡ false
-serves true table told told' fares f flag loads is = cc
-serves false None told told' fares f flag loads is = let none = loads.0 in cc
-serves false (Some name) told told' fares f flag loads is = refl
-
--- what is done of the fares and files that were loaded
-module _ (asked : Asked) (told told' : Option (List Loaded)) (out out' : Option (List ℕ)) (well : Bool) (fares : Option Fares) (f : Fares)
-    (files : List (List ℕ)) (token : Option Token) (loads : Loads asked.table asked.files told told' fares files) (is : fares ≡ Some f)
-    (is_token : IsTokenIn asked.token token) where
-  runs : (text : List ℕ) × ShowsAsked asked f files token text well × Appends out out' text → RunsService asked told told' out out' well
-  runs done = record {
-    fares = f;
-    files = files;
-    loads = let L : Option Fares → Type 0 = λ o. Loads asked.table asked.files told told' o files in subst L is loads;
-    token = token;
-    is_token = is_token;
-    text = done.0;
-    shows = done.1;
-    written = done.2;
-  }
-
-  pub does_charge : asked.list ≡ false → (text : List ℕ) × ShowsAsked asked f files token text well × Appends out out' text → Does asked told told' out out' well
-  does_charge flag done =
-      let P : Bool → Type 0 = λ b. MatchBool b (RunsListing asked.table asked.files told told' out out' well) (RunsService asked told told' out out' well) in
-      subst P (sym (serves asked.list asked.table told loads.between fares f flag loads.loads_table is)) (runs done)
-
--- the service was run by the fares that were loaded, over the files that were loaded
 pub returns-in-Some-clause-ok : goal.returns-in-Some-clause-ok
 returns-in-Some-clause-ok g c =
-    let flag : c.args.options.now.list ≡ false = assumption in
-    IfOk-weaker c.charge.result _ _
-    (λ well done. does_charge _ _ _ _ _ well _ _ _ _ c.in_ok-table.ensures.loads c.in-Some.is c.in_ok-token.ensures.token flag done)
-    c.charge.ensures.ok
+    let asked = asked_of c.args.options.now in
+    let out = g.W.Write.contents c.args.out.now in
+    let new = g.W.Write.contents c.charge_ahead.new.out in
+    let done = subst (λ d. IfSome d (IsChargedAhead asked c.keeps_loads-keeps_loads.result c.in_ok-table.table
+    c.in_ok-token.token out new)) c.in-Some.is c.in_ok-well.ensures.done in
+    does_ahead asked (g.D.Disk.bytes_under c.args.disk.now) c.keeps_loads-keeps_loads.result _ _ c.in_ok-table.table c.in_ok-token.token out new
+    c.in-Some.well c.in_ok-table.ensures.ok c.keeps_loads-keeps_loads.ensures c.in_ok-token.ensures.token done
+    (Keeps-refl out) c.if-options.false
+
+pub returns-clause-ok : goal.returns-clause-ok
+returns-clause-ok g c =
+    IfOk-weaker c.work_by_table.result _ _
+    (λ well done. done _ _ c.in_ok-table.ensures.ok c.in_ok-token.ensures.token
+    (c.in_ok-well.ensures.none c.in-None.is) c.if-options.false)
+    c.work_by_table.ensures.ok
+
+pub returns-clause-fault : goal.returns-clause-fault
+returns-clause-fault g c =
+    IfErr-weaker c.work_by_table.result _ _
+    (λ fault kept other late. Keeps-trans _ _ _ (c.in_ok-well.ensures.none c.in-None.is) (kept other))
+    c.work_by_table.ensures.fault
+
+pub work_sorted-requires-clause-table : goal.work_sorted-requires-clause-table
+work_sorted-requires-clause-table g c κs within =
+    let (f, is) = has_table (asked_of c.args.options.now) _ _ c.in_ok-table.table c.in_ok-token.ensures.right
+    c.if-options.true c.in_ok-table.ensures.ok in
+    ap is_some is
+
+pub returns-then-options-clause-ok : goal.returns-then-options-clause-ok
+returns-then-options-clause-ok g c =
+    let asked = asked_of c.args.options.now in
+    IfOk-weaker c.work_sorted.result _ _
+    (λ well done. does_sorted asked (g.D.Disk.bytes_under c.args.disk.now) _ _ c.in_ok-table.table
+    c.in_ok-token.token _ _ well c.in_ok-token.ensures.right c.if-options.true c.in_ok-table.ensures.ok
+    c.in_ok-token.ensures.token done)
+    c.work_sorted.ensures.ok
+
+pub returns-then-options-clause-fault : goal.returns-then-options-clause-fault
+returns-then-options-clause-fault g c =
+    IfErr-weaker c.work_sorted.result _ _
+    (λ fault kept write late. kept write (late c.if-options.true))
+    c.work_sorted.ensures.fault

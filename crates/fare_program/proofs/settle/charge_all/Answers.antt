@@ -1,6 +1,7 @@
-use Rattle.std.proofs.Common.{◌≡◌, ℕ, List, None, map, refl, true}
+use Rattle.std.proofs.Common.{◌≡◌, ℕ, List, None, refl, true}
 use Rattle.std.specs.Io.KnownBytes.{Appends}
 use Rattle.std.proofs.lemmas.Result.{IfOk-weaker}
+use Rattle.settlement.specs.Reading.{AreRead}
 use Rattle.fare_program.specs.Options.{Asked}
 use Rattle.fare_program.specs.Settling.{ShowsSettled}
 use Rattle.fare_program.specs.inside.Options.{asked_of}
@@ -12,28 +13,34 @@ pub returns-then-options-clause-ok : goal.returns-then-options-clause-ok
 returns-then-options-clause-ok g c =
     let asked = asked_of c.args.options.now in
     let fares = c.args.table.now in
-    let files = map (λ f. f.items) c.args.files.items in
+    let Read : List (List ℕ) → Type 0 =
+    λ files. AreRead (g.U.Uploads.may_be c.args.uploads.now) 0 (g.U.Uploads.number c.args.uploads.now) files in
     let Written : List ℕ → Type 0 =
     λ text. Appends (g.W.Write.contents c.args.out.now) (g.W.Write.contents c.write_ledger.new.out) text in
     IfOk-weaker c.write_ledger.result
-    (λ well. (text : List ℕ) × ((any : Asked) → any.ledger ≡ true
+    (λ well. (files : List (List ℕ)) × (text : List ℕ) × Read files × ((any : Asked) → any.ledger ≡ true
     → ShowsSettled any fares files None text well) × Written text)
-    (λ well. (text : List ℕ) × ShowsSettled asked fares files None text well × Written text)
-    (λ well is. (is.0, is.1 asked c.if-options.true, is.2)) c.write_ledger.ensures.ok
+    (λ well. (files : List (List ℕ)) × (text : List ℕ) × Read files
+    × ShowsSettled asked fares files None text well × Written text)
+    (λ well is. (is.0, is.1, is.2, is.3 asked c.if-options.true, is.4)) c.write_ledger.ensures.ok
 
 pub returns-clause-ok : goal.returns-clause-ok
 returns-clause-ok g c =
     let asked = asked_of c.args.options.now in
     let fares = c.args.table.now in
-    let files = map (λ f. f.items) c.args.files.items in
+    let Read : List (List ℕ) → Type 0 =
+    λ files. AreRead (g.U.Uploads.may_be c.args.uploads.now) 0 (g.U.Uploads.number c.args.uploads.now) files in
     let Written : List ℕ → Type 0 =
     λ text. Appends (g.W.Write.contents c.args.out.now) (g.W.Write.contents c.write_bill.new.out) text in
     IfOk-weaker c.write_bill.result
-    (λ well. (text : List ℕ) × ShowsBill fares files text well × Written text)
-    (λ well. (text : List ℕ) × ShowsSettled asked fares files None text well × Written text)
+    (λ well. (files : List (List ℕ)) × (text : List ℕ) × Read files × ShowsBill fares files text well × Written text)
+    (λ well. (files : List (List ℕ)) × (text : List ℕ) × Read files
+    × ShowsSettled asked fares files None text well × Written text)
     (λ well is. (
       is.0,
-      shows_bill asked fares files None is.0 well c.if-options.false refl is.1,
+      is.1,
       is.2,
+      shows_bill asked fares is.0 None is.1 well c.if-options.false refl is.3,
+      is.4,
     ))
     c.write_bill.ensures.ok

@@ -1,4 +1,4 @@
-use Rattle.std.proofs.Common.{◌≡◌, ℕ, Bool, List, None, All, Vec, Global, ap, flat_map, map, subst, sym, ◌∙◌}
+use Rattle.std.proofs.Common.{Bool, List, None, All, Vec, Global, ap, flat_map, subst, sym, ◌∙◌}
 use Rattle.std.specs.Prelude.{MatchBool}
 use Rattle.std.specs.List.Sorted.{IsSorted}
 use Rattle.std.proofs.KnownBytes.{Appends-kept}
@@ -19,26 +19,26 @@ joined lists = flat_map taps_in lists
 
 pub write_settled_ledger-requires-clause-sorted : goal.write_settled_ledger-requires-clause-sorted
 write_settled_ledger-requires-clause-sorted g c κs within =
-    let made = c.in_ok-ends.ensures.order in
+    let made = c.in_ok-ends.ensures.3 in
     subst (λ (ls : List (Vec TapFields Global)). IsSorted tap_cmp (joined ls)) (sym c.deref.ensures.value)
     made.canonical.sorted
 
 pub write_settled_ledger-requires-clause-early : goal.write_settled_ledger-requires-clause-early
 write_settled_ledger-requires-clause-early g c κs within =
-    let made = c.in_ok-ends.ensures.order in
+    let made = c.in_ok-ends.ensures.3 in
     subst (λ (ls : List (Vec TapFields Global)). AreEarly (λ (tap : TapFields). tap.moment) (joined ls))
     (sym c.deref.ensures.value) made.early
 
 pub write_settled_ledger-requires-clause-named : goal.write_settled_ledger-requires-clause-named
 write_settled_ledger-requires-clause-named g c κs within =
-    let made = c.in_ok-ends.ensures.order in
+    let made = c.in_ok-ends.ensures.3 in
     subst (λ (ls : List (Vec TapFields Global)). All HasName (joined ls)) (sym c.deref.ensures.value)
     made.named
 
 pub returns-clause-ok : goal.returns-clause-ok
 returns-clause-ok g c =
     let fares = c.args.table.now in
-    let files = map (λ (f : Vec ℕ Global). f.items) c.args.files.items in
+    let (files, read, ended, made) = c.in_ok-ends.ensures in
     let order = joined c.in_ok-ends.field-0.lists.items in
     let history = posted fares order in
     let written = c.in_ok-write_settled_ledger.ensures.ok in
@@ -46,14 +46,16 @@ returns-clause-ok g c =
     let is : IsLedgerOver fares history None text =
     subst (λ (ls : List (Vec TapFields Global)). IsLedgerOver fares (posted fares (joined ls)) None text)
     c.deref.ensures.value written.1 in (
+      files,
       text,
+      read,
       λ asked ledger. record {
         history = history;
-        is_settled = c.posted_taps.ensures.history fares files order c.in_ok-ends.ensures.order;
+        is_settled = c.posted_taps.ensures.history fares files order made;
         shows = subst (λ (b : Bool). MatchBool b (IsLedgerOver fares history None text)
             (IsTextOver asked.explain None fares files history text)) (sym ledger) is;
         ends = c.in_ok-ends.field-0.ends.items;
-        ended = c.in_ok-ends.ensures.ended;
+        ended = ended;
         is_well = c.are_posted.ensures ∙ ap are_posted c.deref-2.ensures.value;
       },
       Appends-kept _ _ _ text written.2 c.flush.ensures.kept,

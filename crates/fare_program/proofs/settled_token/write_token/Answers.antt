@@ -1,7 +1,5 @@
-use Rattle.std.proofs.Common.{◌∙◌, Vec, Global, ℕ, List, ap, map, subst, sym}
+use Rattle.std.proofs.Common.{◌∙◌, ap, sym}
 use Rattle.std.proofs.KnownBytes.{Appends-kept}
-use Rattle.report_texts.specs.declared.upload_end.UploadEnd.{UploadEnd}
-use Rattle.report_texts.specs.UploadEnds.{ArePlainEnds}
 use Rattle.report_texts.specs.UploadEnds.{are_posted}
 use Rattle.settlement.specs.Posted.{posted}
 use Rattle.fare_program.proofs.settled_token.write_token.Goals as goal
@@ -9,20 +7,21 @@ use Rattle.fare_program.proofs.settled_token.write_token.Goals as goal
 pub returns-clause-ok : goal.returns-clause-ok
 returns-clause-ok g c =
     let fares = c.args.table.now in
-    let files = map (λ (f : Vec ℕ Global). f.items) c.args.files.items in
     let token = c.args.token in
-    let made = c.in_ok-ends.ensures.order in
+    let (files, read, ended, made) = c.in_ok-ends.ensures.order in
     let written = c.in_ok-write_text.ensures.ok in
     let history = posted fares made.order in
     let own_is = c.posted_taps.ensures.own fares token made.order
     ∙ ap (posted fares) (sym made.own) in (
+      files,
       written.0,
+      read,
       record {
         history = history;
         is_settled = c.posted_taps.ensures.history fares files made.order made.settled;
         shows = written.1 files history (own_is ∙ ap (posted fares) (sym c.deref.ensures.value));
         ends = c.in_ok-ends.field-0.ends.items;
-        ended = c.in_ok-ends.ensures.ended;
+        ended = ended;
         is_well = c.are_posted.ensures ∙ ap are_posted c.deref-2.ensures.value;
       },
       Appends-kept _ _ _ written.0 written.2 c.flush.ensures.kept,

@@ -1,15 +1,27 @@
-use Rattle.std.proofs.Common.{◌≡◌, ◌∷◌, ap, arith, length}
-use Rattle.fare_program.proofs.Going.{goes_on}
+use Rattle.std.proofs.Common.{[], ◌∷◌, ◌+◌, ◌++◌, ◌∙◌, ap, sym, arith, append_assoc}
+use Rattle.std.proofs.Common.{length-append}
+use Rattle.std.proofs.lemmas.List.{length-map, map-append}
+use Rattle.std.specs.Option.{option_copied}
+use Rattle.fare_program.specs.Uploads.{listed}
+use Rattle.fare_program.proofs.Going.{lists_on}
 use Rattle.fare_program.proofs.uploads.list_batch.Goals as goal
 
 pub loop-tap-preserved : goal.loop-tap-preserved
 loop-tap-preserved c =
-    let steps : c.loop-tap.tap-iterator ≡ c.in-Some.tap ∷ c.next.new.self = c.in-Some.ensures.steps in
+    let before = c.loop-tap.invariant in
+    let done = c.loop-tap.yielded in
+    let tap = c.in-Some.tap in
+    let as_listed = listed (option_copied c.args.table) in
+    let one = length-append done (tap ∷ []) in
     record {
       may = tt;
       ends = tt;
-      numbers = omega (arith, c.loop-tap.invariant.numbers, ap length steps);
-      taps = omega (arith, c.loop-tap.invariant.taps, c.in_ok-list_tap.ensures.taps, ap length steps);
-      lines = λ before stands.
-          goes_on _ _ _ _ _ _ _ _ _ _ c.in_ok-list_tap.ensures.lines (rw steps at (c.loop-tap.invariant.lines before stands));
+      all = append_assoc done (tap ∷ []) c.next.new.self
+          ∙ (ap (λ taps. done ++ taps) (sym c.in-Some.ensures.steps) ∙ before.all);
+      number = omega (arith, before.number, one);
+      taps = omega (arith, before.taps, c.in_ok-list_tap.ensures.taps, one);
+      lines = rw (map-append as_listed done (tap ∷ []))
+          (lists_on _ _ _ _ _ _ _ _ _ _ _ before.lines
+          (before.number ∙ ap (λ n. c.args.number + n) (sym (length-map done as_listed)))
+          c.in_ok-list_tap.ensures.lines);
     }

@@ -1,49 +1,104 @@
-use Rattle.std.proofs.Common.{[], arith}
+use Rattle.std.proofs.Common.{◌++◌, ◌∙◌, ap, sym, refl, arith, length, map, None, Some}
+use Rattle.std.proofs.Common.{append_assoc, append-nil, length-append, string_bytes}
+use Rattle.std.proofs.lemmas.List.{length-map, map-append}
 use Rattle.std.specs.Option.{option_copied}
-use Rattle.fare_program.proofs.Going.{given_one, over_batch, over_end, over_fault, over_item, over_none, over_room}
-use Rattle.fare_program.proofs.Sizes.{taps_within}
+use Rattle.tap_views.specs.Files.{IsReadAs, taps_of_batches}
+use Rattle.tap_views.proofs.ReadingLemmas.{few, read_end, read_on, room_on, taps_more}
+use Rattle.fare_program.specs.Lines.{refused_line}
+use Rattle.fare_program.specs.Uploads.{listed, tap_lines}
+use Rattle.fare_program.proofs.Going.{lists_nothing, lists_on}
 use Rattle.fare_program.proofs.uploads.list_upload.Goals as goal
 
 pub list_batch-requires-clause-numbers : goal.list_batch-requires-clause-numbers
 list_batch-requires-clause-numbers c =
-    let over = over_item _ _ _ _ _ _ _ _ _ _ _ _ _ c.in-Some.ensures.steps c.in-Ok.is c.loop-item.invariant.over in
-    let room = over_room _ _ _ _ _ _ _ _ _ _ c.args.file.now c.in-Ok.batch c.loop-item.invariant.reading over in
-    omega (arith, room.0)
+    let before = c.loop-batch.invariant in
+    let room = room_on c.args.file.now c.loop-batch.yielded c.in-Some.batch c.loop-batch.good
+    c.next.new.self before.read c.in-Some.ensures.steps in
+    omega (arith, room.0, before.number)
 
 pub list_batch-requires-clause-taps : goal.list_batch-requires-clause-taps
 list_batch-requires-clause-taps c =
-    let over = over_item _ _ _ _ _ _ _ _ _ _ _ _ _ c.in-Some.ensures.steps c.in-Ok.is c.loop-item.invariant.over in
-    let room = over_room _ _ _ _ _ _ _ _ _ _ c.args.file.now c.in-Ok.batch c.loop-item.invariant.reading over in
-    omega (arith, room.1, c.requires)
+    let before = c.loop-batch.invariant in
+    let room = room_on c.args.file.now c.loop-batch.yielded c.in-Some.batch c.loop-batch.good
+    c.next.new.self before.read c.in-Some.ensures.steps in
+    omega (arith, room.0, before.taps, c.requires)
 
-pub loop-item-preserved-in-Ok : goal.loop-item-preserved-in-Ok
-loop-item-preserved-in-Ok c =
-    let same = given_one c.loop-item.yielded c.loop-item.item-iterator c.next.new.self c.in-Some.item c.in-Some.ensures.steps in
-    let over = over_item _ _ _ _ _ _ _ _ _ _ _ _ _ c.in-Some.ensures.steps c.in-Ok.is c.loop-item.invariant.over in
+pub loop-batch-init : goal.loop-batch-init
+loop-batch-init c = record {
+  may = tt;
+  ends = tt;
+  read = c.good_batches-good.ensures;
+  number = refl;
+  taps = omega arith;
+  lines = lists_nothing c.args.listing.now (string_bytes c.args.text.now) c.args.upload 0;
+}
+
+pub loop-batch-preserved : goal.loop-batch-preserved
+loop-batch-preserved c =
+    let before = c.loop-batch.invariant in
+    let done = c.loop-batch.yielded in
+    let batch = c.in-Some.batch in
+    let as_listed = listed (option_copied c.args.table) in
+    let more = taps_more done batch in
+    let size = length-append (taps_of_batches done) batch in
     record {
       may = tt;
       ends = tt;
-      reading = rw same c.loop-item.invariant.reading;
-      over = rw same (over_batch _ _ _ _ _ _ _ _ _ _ _ _ _ c.in-Ok.batch
-          c.in_ok-number-in-Ok.ensures.lines c.in_ok-number-in-Ok.ensures.next c.in_ok-number-in-Ok.ensures.taps over);
+      read = read_on _ _ _ _ _ before.read c.in-Some.ensures.steps;
+      number = omega (arith, before.number, c.in_ok-number.ensures.next, ap length more, size);
+      taps = omega (arith, before.taps, c.in_ok-number.ensures.taps, ap length more, size);
+      lines = rw (more, map-append as_listed (taps_of_batches done) batch)
+          (lists_on _ _ _ _ _ _ _ _ _ _ _ before.lines
+          (omega (arith, before.number, length-map (taps_of_batches done) as_listed))
+          c.in_ok-number.ensures.lines);
     }
 
-pub loop-item-preserved : goal.loop-item-preserved
-loop-item-preserved c =
-    let same = given_one c.loop-item.yielded c.loop-item.item-iterator c.next.new.self c.in-Some.item c.in-Some.ensures.steps in
-    let over = over_item _ _ _ _ _ _ _ _ _ _ _ _ _ c.in-Some.ensures.steps c.in-Err.is c.loop-item.invariant.over in
+pub returns-in_default-fault-clause-lines : goal.returns-in_default-fault-clause-lines
+returns-in_default-fault-clause-lines c =
+    let end = c.loop-batch.invariant in
     record {
-      may = tt;
-      ends = tt;
-      reading = rw same c.loop-item.invariant.reading;
-      over = rw same (over_fault _ _ _ _ _ _ _ _ _ _ _ (c.in-Err.offset, c.in-Err.fault) c.in_ok-write_refused-in-Err.ensures over);
+      reading = record { batches = c.loop-batch.yielded; fault = None };
+      read = read_end _ _ _ _ _ end.read c.in_default.ensures.steps c.in_default-fault.ensures;
+      lines = λ before stands.
+          let (text, here) = end.lines before stands in
+          (text ∙ ap (λ lines. string_bytes c.args.text.now ++ lines) (sym (append-nil _)), here);
+      is_whole = refl;
     }
+
+pub returns-in_default-fault-clause-taps : goal.returns-in_default-fault-clause-taps
+returns-in_default-fault-clause-taps c =
+    let end = c.loop-batch.invariant in
+    let read : IsReadAs c.args.file.now c.loop-batch.yielded None =
+    read_end _ _ _ _ _ end.read c.in_default.ensures.steps c.in_default-fault.ensures in
+    let most = few c.args.file.now c.loop-batch.yielded read.rest read.is_file in
+    omega (arith, end.taps, most)
 
 pub returns-clause-lines : goal.returns-clause-lines
 returns-clause-lines c =
-    let over = over_none _ _ _ _ _ _ _ _ _ _ c.in-None.ensures.steps.0 c.loop-item.invariant.over in
-    over_end _ _ _ _ _ _ _ _ [] _ _ c.loop-item.invariant.reading over
+    let end = c.loop-batch.invariant in
+    record {
+      reading = record {
+        batches = c.loop-batch.yielded;
+        fault = Some (c.in-Some-fault.offset, c.in-Some-fault.fault);
+      };
+      read = read_end _ _ _ _ _ end.read c.in_default.ensures.steps c.in-Some-fault.ensures;
+      lines = λ before stands.
+          let (text, here) = end.lines before stands in
+          let all = map (listed (option_copied c.args.table)) (taps_of_batches c.loop-batch.yielded)
+          in (
+            c.in_ok-write_refused.ensures ∙ rw text (
+                append_assoc (string_bytes c.args.text.now) (tap_lines c.args.upload 0 before all)
+                (refused_line c.args.upload c.in-Some-fault.offset c.in-Some-fault.fault)),
+            here,
+          );
+      is_whole = refl;
+    }
 
 pub returns-clause-taps : goal.returns-clause-taps
 returns-clause-taps c =
-    omega (arith, c.loop-item.invariant.over.taps, taps_within (option_copied c.args.table) c.args.file.now _ c.loop-item.invariant.reading)
+    let end = c.loop-batch.invariant in
+    let read : IsReadAs c.args.file.now c.loop-batch.yielded
+    (Some (c.in-Some-fault.offset, c.in-Some-fault.fault)) =
+    read_end _ _ _ _ _ end.read c.in_default.ensures.steps c.in-Some-fault.ensures in
+    let most = few c.args.file.now c.loop-batch.yielded read.rest read.is_file in
+    omega (arith, end.taps, most)

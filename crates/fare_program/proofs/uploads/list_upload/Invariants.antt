@@ -1,14 +1,18 @@
-use Rattle.std.proofs.Common.{◌++◌, string_bytes}
+use Rattle.std.proofs.Common.{◌≡◌, ◌+◌, ◌++◌, length, map, string_bytes}
 use Rattle.std.specs.Option.{option_copied}
-use Rattle.tap_views.specs.Files.{IsReading}
-use Rattle.fare_program.proofs.Going.{Over}
+use Rattle.tap_views.specs.Files.{IsReadAs, taps_of_batches}
+use Rattle.fare_program.specs.Uploads.{listed}
+use Rattle.fare_program.specs.inside.Uploads.{Lists}
 use Rattle.fare_program.proofs.uploads.list_upload.Given as goal
 
-abbrev pub invariant-loop-item : goal.invariant-loop-item
-invariant-loop-item l = record {
-  may : (goal.iterator-loop-item).can_next l.item-iterator;
-  ends : (goal.iterator-loop-item).is_finite l.item-iterator;
-  reading : IsReading l.fn.file (l.yielded ++ l.item-iterator);
-  over : Over (option_copied l.table) l.fn.listing l.listing (string_bytes l.fn.text) (string_bytes l.text) l.upload l.number l.whole
-      l.item-iterator (l.yielded ++ l.item-iterator);
+abbrev pub invariant-loop-batch : goal.invariant-loop-batch
+invariant-loop-batch l = record {
+  may : (goal.iterator-loop-batch).can_next l.good;
+  ends : (goal.iterator-loop-batch).is_finite l.good;
+  read : IsReadAs l.file (l.yielded ++ l.good.batches) l.good.fault;
+  number : l.number ≡ length (taps_of_batches l.yielded);
+  taps : l.listing.counts.taps
+      ≡ l.fn.listing.counts.taps + length (taps_of_batches l.yielded);
+  lines : Lists l.fn.listing l.listing (string_bytes l.fn.text) (string_bytes l.text) l.upload 0
+      (map (listed (option_copied l.table)) (taps_of_batches l.yielded));
 }

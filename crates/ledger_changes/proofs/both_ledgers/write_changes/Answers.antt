@@ -1,13 +1,13 @@
-use Rattle.std.proofs.Common.{◌≡◌, ◌∙◌, refl, sym, ap, Bool, true, false, Option, None}
-use Rattle.std.specs.Prelude.{if◌then◌else◌}
+use Rattle.std.proofs.Common.{◌≡◌, ◌∙◌, sym, ap, Option}
 use Rattle.std.proofs.lemmas.Option.{MatchOption-at_none}
 use Rattle.std.proofs.lemmas.Result.{err_from_is_err_and}
 use Rattle.ledger_changes.specs.Rows.{Row}
 use Rattle.ledger_changes.specs.declared.fault.Bill.TheVariants.{New, Old}
 use Rattle.ledger_changes.specs.declared.row.LedgerRow.{LedgerRow}
-use Rattle.ledger_changes.specs.inside.Written.{changes_of, next_sides, row_in, taken_if}
+use Rattle.ledger_changes.specs.inside.Written.{changes_of, next_sides, row_in}
 use Rattle.ledger_changes.proofs.Merging.{going_end, going_next, going_start, refused_new}
-use Rattle.ledger_changes.proofs.Merging.{refused_old, written_more, written_none}
+use Rattle.ledger_changes.proofs.Merging.{refused_old, taken_row, written_more}
+use Rattle.ledger_changes.proofs.Merging.{written_none}
 use Rattle.ledger_changes.proofs.both_ledgers.write_changes.Goals as goal
 
 pub returns-in_default-clause-written : goal.returns-in_default-clause-written
@@ -58,11 +58,6 @@ returns-in_err-write_change-clause-refused_new g c =
     let p = err_from_is_err_and c.from_residual-in_err-write_change.result
     c.from_residual-in_err-write_change.ensures.1 in
     rw (p.1, p.2) (λ of. absurd (c.in_err-write_change.ensures.fault New of))
-
-taken_row : (is_taken : Bool) (row : Option LedgerRow)
-    → row_in (if is_taken then row else None) ≡ taken_if is_taken (row_in row)
-taken_row true row = refl
-taken_row false row = refl
 
 pub loop-preserved : goal.loop-preserved
 loop-preserved g c =

@@ -1,9 +1,9 @@
 use Rattle.std.proofs.Common.{◌≡◌, ◌∙◌, ap, sym, subst, List, ℕ, Some, Ok}
 use Rattle.hex.specs.Hex.{decode_sized, encode_lower}
 use Rattle.hex.proofs.HexLemmas.{decode_sized-encode_lower}
-use Rattle.fare_table.specs.Token.{bytes_of}
-use Rattle.fare_table.specs.declared.token.Token.{Token}
-use Rattle.shard_book.proofs.TokenLemmas.{bytes_of-injective}
+use Rattle.tap_views.specs.Token.{bytes_of}
+use Rattle.tap_views.specs.declared.token.Token.{Token}
+use Rattle.tap_views.proofs.TokenLemmas.{bytes_of-injective}
 use Rattle.ledger_check.proofs.FieldLemmas.{token_bytes, token_length}
 use Rattle.ledger_check.proofs.tap.read_token.Goals as goal
 

@@ -1,7 +1,7 @@
 use Rattle.std.proofs.Common.{◌≡◌, Bool, true, false, not, refl, sym, subst, ◌∙◌}
 use Rattle.std.proofs.lemmas.Bool.{false≢true}
-use Rattle.fare_table.specs.Token.{token_eq}
-use Rattle.fare_table.specs.declared.token.Token.{Token}
+use Rattle.tap_views.specs.Token.{token_eq}
+use Rattle.tap_views.specs.declared.token.Token.{Token}
 use Rattle.ledger_texts.specs.Lines.{IsUpTo}
 use Rattle.ledger_texts.proofs.Writing.{come_on}
 use Rattle.ledger_texts.proofs.lines.go_on_to.Goals as goal

@@ -1,84 +1,34 @@
-use Rattle.std.proofs.Common.{◌≡◌, ℕ, List, Global}
-use Rattle.std.specs.declared.vec.Vec.{Vec}
+use Rattle.std.proofs.Common.{◌≡◌, subst, sym}
+use Rattle.std.specs.Prelude.{map}
 use Rattle.std.proofs.lemmas.Result.{err_from_is_err_and}
-use Rattle.shard_book.specs.Sums.{Sums, sums_of}
-use Rattle.shard_book.specs.declared.sums.ValidatorSum.{ValidatorSum}
-use Rattle.shard_book.specs.declared.sums.totals.Totals.{Totals}
-use Rattle.part_reports.specs.inside.Fronts.{AreSums, IsFront}
-use Rattle.part_reports.proofs.WholeFronts.{no_ends, no_totals, no_validators, no_tokens}
-use Rattle.part_reports.proofs.WholeFronts.{whole_front}
+use Rattle.shard_book.specs.Shown.{validator_sum}
+use Rattle.shard_book.specs.Sums.{sums_of}
+use Rattle.part_reports.specs.Reports.{added}
+use Rattle.part_reports.proofs.PartsBegun.{front_adds, no_adding, no_sections}
 use Rattle.part_reports.proofs.front.read_front.Goals as goal
 
-abbrev AreTotals : Totals → Sums → Type 0
-AreTotals totals told = sums_of totals ≡ told
-
-abbrev AreThese : Vec ValidatorSum Global → List (ℕ × Sums) → Type 0
-AreThese sums told = AreSums sums.items told
-
-pub returns-in_err-read_uploads-clause-read : goal.returns-in_err-read_uploads-clause-read
-returns-in_err-read_uploads-clause-read g c =
+pub returns-in_err-front-clause-read : goal.returns-in_err-front-clause-read
+returns-in_err-front-clause-read g c =
     let old = g.R.Read.remaining c.args.reader.now.from in
-    let now = g.R.Read.remaining c.read_uploads.new.reader.from in
+    let now = g.R.Read.remaining c.read_sections.new.reader.from in
     let p = err_from_is_err_and c.from_residual.result c.from_residual.ensures.1 in
-    rw (p.1, p.2) (no_ends IsFront old now now c.in_err-read_uploads.field-0.0
-    c.in_err-read_uploads.ensures.read)
+    rw (p.1, p.2) (no_sections old now now c.in_err-front.field-0.0 c.in_err-front.ensures.read)
 
-pub returns-in_err-totals-clause-read : goal.returns-in_err-totals-clause-read
-returns-in_err-totals-clause-read g c =
+pub returns-then-not-add_up-clause-read : goal.returns-then-not-add_up-clause-read
+returns-then-not-add_up-clause-read g c =
     let old = g.R.Read.remaining c.args.reader.now.from in
-    let now = g.R.Read.remaining c.read_uploads.new.reader.from in
-    let second = g.R.Read.remaining c.next_totals.new.reader.from in
-    let p = err_from_is_err_and c.from_residual-in_err-totals.result
-    c.from_residual-in_err-totals.ensures.1 in
-    rw (p.1, p.2) (no_totals IsFront AreTotals old now second second c.in_err-totals.field-0.0
-    c.in_ok-read_uploads.ensures.read c.in_err-totals.ensures.read)
-
-pub returns-in_err-validators-clause-read : goal.returns-in_err-validators-clause-read
-returns-in_err-validators-clause-read g c =
-    let old = g.R.Read.remaining c.args.reader.now.from in
-    let now = g.R.Read.remaining c.read_uploads.new.reader.from in
-    let second = g.R.Read.remaining c.next_totals.new.reader.from in
-    let third = g.R.Read.remaining c.read_validators.new.reader.from in
-    let p = err_from_is_err_and c.from_residual-in_err-validators.result
-    c.from_residual-in_err-validators.ensures.1 in
-    rw (p.1, p.2) (no_validators IsFront AreTotals AreThese c.in_ok-totals.totals old now second
-    third third c.in_err-validators.field-0.0
-    c.in_ok-read_uploads.ensures.read c.in_ok-totals.ensures.read c.in_err-validators.ensures.read)
-
-pub returns-in_err-tokens-clause-read : goal.returns-in_err-tokens-clause-read
-returns-in_err-tokens-clause-read g c =
-    let old = g.R.Read.remaining c.args.reader.now.from in
-    let now = g.R.Read.remaining c.read_uploads.new.reader.from in
-    let second = g.R.Read.remaining c.next_totals.new.reader.from in
-    let third = g.R.Read.remaining c.read_validators.new.reader.from in
-    let last = g.R.Read.remaining c.next_head.new.reader.from in
-    let p = err_from_is_err_and c.from_residual-in_err-tokens.result
-    c.from_residual-in_err-tokens.ensures.1 in
-    rw (p.1, p.2) (no_tokens IsFront AreTotals AreThese c.in_ok-totals.totals
-    c.in_ok-validators.validators old now second third last last c.in_err-tokens.field-0.0
-    c.in_ok-read_uploads.ensures.read c.in_ok-totals.ensures.read c.in_ok-validators.ensures.read
-    c.in_err-tokens.ensures.read)
+    let now = g.R.Read.remaining c.read_sections.new.reader.from in
+    let front = c.in_ok-front.front in
+    no_adding old now now front c.fault.result c.in_ok-front.ensures.read (λ add.
+    let yes = c.add_up.ensures.1 (subst (λ sums. sums_of front.totals ≡ added (map validator_sum sums))
+    (sym c.deref.ensures.value) add) in
+    absurd (cc (yes, c.if-not-add_up.true)))
 
 pub returns-clause-read : goal.returns-clause-read
 returns-clause-read g c =
     let old = g.R.Read.remaining c.args.reader.now.from in
-    let now = g.R.Read.remaining c.read_uploads.new.reader.from in
-    let second = g.R.Read.remaining c.next_totals.new.reader.from in
-    let third = g.R.Read.remaining c.read_validators.new.reader.from in
-    let last = g.R.Read.remaining c.next_head.new.reader.from in
-    whole_front IsFront AreTotals AreThese c.in_ok-totals.totals c.in_ok-validators.validators
-    c.in_ok-tokens.tokens
-    (record {
-      totals = c.in_ok-totals.totals;
-      validators = c.in_ok-validators.validators;
-      tokens =
-          c.in_ok-tokens.tokens;
-    }) old now second third last
-    c.in_ok-read_uploads.ensures.read c.in_ok-totals.ensures.read c.in_ok-validators.ensures.read
-    c.in_ok-tokens.ensures.read
-    (λ told totals validators tokens. record {
-      totals = totals;
-      validators = validators;
-      tokens =
-          tokens;
-    })
+    let now = g.R.Read.remaining c.read_sections.new.reader.from in
+    let front = c.in_ok-front.front in
+    front_adds old now front c.in_ok-front.ensures.read
+    (subst (λ sums. sums_of front.totals ≡ added (map validator_sum sums)) c.deref.ensures.value
+    (c.add_up.ensures.0 c.if-not-add_up.false))

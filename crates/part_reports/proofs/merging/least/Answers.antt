@@ -3,8 +3,8 @@ use Rattle.std.proofs.Common.{arith}
 use Rattle.std.proofs.lemmas.Option.{slice_get-get_or}
 use Rattle.std.specs.Prelude.{slice_get}
 use Rattle.std.specs.declared.cmp.Ordering.TheVariants.{Less, Greater}
-use Rattle.fare_table.specs.Token.{token_cmp}
-use Rattle.fare_table.specs.declared.token.Token.{Token}
+use Rattle.tap_views.specs.Token.{token_cmp}
+use Rattle.tap_views.specs.declared.token.Token.{Token}
 use Rattle.part_reports.proofs.Leasts.{IsLeastBelow, above_there, below_there, first_there}
 use Rattle.part_reports.proofs.Leasts.{least_of_all, none_at_all, none_there, nothing_there}
 use Rattle.part_reports.proofs.merging.least.Goals.{in-Some+in-None, in-Some+in-Some-found+in-Less}

@@ -1,8 +1,12 @@
-use Rattle.std.proofs.Common.{Err, Ok, subst}
+use Rattle.std.proofs.Common.{Err, List, Ok, subst}
+use Rattle.std.specs.Prelude.{IfSome}
 use Rattle.std.proofs.lemmas.Result.{IfErr-weaker, IfOk-weaker, err_from_is_err_and}
 use Rattle.part_reports.specs.inside.Fronts.{IsFront, MayBePart, told_text}
 use Rattle.part_reports.specs.inside.LinesRead.{IsRead}
-use Rattle.part_reports.specs.inside.Standings.{standing}
+use Rattle.part_reports.specs.TokenLines.{TokenLine}
+use Rattle.part_reports.specs.declared.merging.LineKind.TheVariants.{Tokens}
+use Rattle.part_reports.specs.inside.Kinds.{IsTextOf}
+use Rattle.part_reports.specs.inside.Standings.{StandsInText, standing}
 use Rattle.part_reports.specs.inside.Sums.{WithFront}
 use Rattle.part_reports.proofs.PartsBegun.{is_part, no_front, no_lines, no_sums}
 use Rattle.part_reports.proofs.reports.read_part.Goals as goal
@@ -36,7 +40,9 @@ returns-clause-read g c =
     (subst (λ from. IsRead IsFront MayBePart told_text (g.R.Read.remaining from) now (Ok front))
     c.new-reader.ensures.from c.in_ok-front.ensures.read)
     (subst (λ well. WithFront c.args.sums.now c.add_front.new.sums front well) c.if-not-branch.false
-    c.in_ok-add_front.ensures) stands) c.begin.ensures.begun
+    c.in_ok-add_front.ensures)
+    (subst (λ rest. IfSome now (λ left. StandsInText (Tokens front.tokens rest, left)
+    (standing g.R.Read.remaining source))) c.of-rest.ensures stands)) c.begin.ensures.begun
 
 pub returns-clause-refused : goal.returns-clause-refused
 returns-clause-refused g c =
@@ -46,4 +52,6 @@ returns-clause-refused g c =
     (g.R.Read.remaining c.args.from) now front fault
     (subst (λ from. IsRead IsFront MayBePart told_text (g.R.Read.remaining from) now (Ok front))
     c.new-reader.ensures.from c.in_ok-front.ensures.read)
-    (none_there of_texts)) c.begin.ensures.refused
+    (subst (λ rest. IfSome now (λ left. (lines : List TokenLine)
+    → ¬ (IsTextOf (Tokens front.tokens rest, left) lines))) c.of-rest.ensures (none_there of_texts)))
+    c.begin.ensures.refused

@@ -1,7 +1,7 @@
 use Rattle.std.proofs.Common.{◌≡◌, ◌++◌, ◌∙◌, ℕ, List, length, take, sym, ap, arith}
 use Rattle.std.proofs.lemmas.List.{length-append, take-append-drop, take_at}
 use Rattle.hex.specs.Hex.{encode_lower}
-use Rattle.fare_table.specs.Token.{bytes_of}
+use Rattle.tap_views.specs.Token.{bytes_of}
 use Rattle.report_texts.proofs.Nones.{is_none}
 use Rattle.report_texts.proofs.Tokens.{token_digits}
 use Rattle.report_texts.proofs.reading.token_before.Goals as goal

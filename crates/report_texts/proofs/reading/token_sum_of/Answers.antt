@@ -1,7 +1,7 @@
 use Rattle.std.proofs.Common.{◌++◌, ◌∙◌, codes, sym}
 use Rattle.std.proofs.lemmas.List.{append_cancel_left}
 use Rattle.hex.specs.Hex.{encode_lower}
-use Rattle.fare_table.specs.Token.{bytes_of}
+use Rattle.tap_views.specs.Token.{bytes_of}
 use Rattle.fare_texts.specs.Counts.{counts_text}
 use Rattle.report_texts.proofs.Nones.{is_none}
 use Rattle.report_texts.proofs.Tokens.{token_text_unique}

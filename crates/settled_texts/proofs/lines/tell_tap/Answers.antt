@@ -1,6 +1,6 @@
 -- The teller goes on to the tap's token, and posts the tap.
 use Rattle.std.proofs.Common.{sym, subst, ◌∙◌}
-use Rattle.fare_table.specs.declared.token.Token.{Token}
+use Rattle.tap_views.specs.declared.token.Token.{Token}
 use Rattle.shard_book.specs.Entry.{own}
 use Rattle.ledger_texts.specs.Lines.{IsUpTo}
 use Rattle.settled_texts.proofs.Tellings.{one_told}

@@ -3,7 +3,7 @@ use Rattle.std.proofs.Common.{List, [], ◌∷◌, ◌++◌, take, string_bytes}
 use Rattle.std.proofs.Common.{refl, sym, ap, subst, ◌∙◌, append_assoc, append-nil, arith}
 use Rattle.tap_views.specs.declared.encoder.TapFields.{TapFields}
 use Rattle.settlement.specs.Posted.{posted_after}
-use Rattle.settled_texts.specs.inside.Telling.{AreTold, last_token}
+use Rattle.settled_texts.specs.Telling.{AreTold, last_token}
 use Rattle.settled_texts.proofs.Tellings.{fall_here, last_append, none_told, taken, told_append}
 use Rattle.settled_texts.proofs.lines.tell_taps.Goals as goal
 

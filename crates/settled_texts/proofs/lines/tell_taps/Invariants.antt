@@ -1,7 +1,7 @@
 use Rattle.std.proofs.Common.{◌≡◌, ℕ, ◌+◌, ◌≤◌, List, ◌++◌, take, string_bytes}
 use Rattle.shard_book.specs.declared.entry.Entry.{Entry}
 use Rattle.ledger_texts.specs.Lines.{HasCome}
-use Rattle.settled_texts.specs.inside.Telling.{AreTold, last_token}
+use Rattle.settled_texts.specs.Telling.{AreTold, last_token}
 use Rattle.settled_texts.proofs.lines.tell_taps.Given as goal
 
 -- the taps so far were told, after whatever entries the teller had come past

@@ -8,12 +8,12 @@ use Rattle.std.proofs.lemmas.Bool.{eqb-true}
 use Rattle.std.proofs.lemmas.Bool.Decides.{nat_tests}
 use Rattle.std.proofs.lemmas.List.{nil_from_length}
 use Rattle.std.proofs.lemmas.List.Elements.{All-drop, All-same, All-take}
-use Rattle.fare_table.specs.declared.token.Token.{Token}
+use Rattle.tap_views.specs.declared.token.Token.{Token}
 use Rattle.tap_views.specs.Layout.{moment_limit}
 use Rattle.tap_views.specs.declared.encoder.TapFields.{TapFields}
 use Rattle.ledger_texts.proofs.Writing.{grown}
 use Rattle.settlement.specs.Posted.{posted_after}
-use Rattle.settled_texts.specs.inside.Telling.{AreTold, last_token}
+use Rattle.settled_texts.specs.Telling.{AreTold, last_token}
 use Rattle.settled_texts.proofs.Tellings.{fall_within, halves_of, last_append, none_told}
 use Rattle.settled_texts.proofs.Tellings.{told_append}
 use Rattle.settled_texts.proofs.lines.write_taps.Goals as goal

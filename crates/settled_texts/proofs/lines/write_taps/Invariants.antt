@@ -4,7 +4,7 @@ use Rattle.tap_views.specs.Encoding.{AreEarly}
 use Rattle.tap_views.specs.declared.encoder.TapFields.{TapFields}
 use Rattle.shard_book.specs.declared.entry.Entry.{Entry}
 use Rattle.ledger_texts.specs.Lines.{HasCome}
-use Rattle.settled_texts.specs.inside.Telling.{AreTold, last_token}
+use Rattle.settled_texts.specs.Telling.{AreTold, last_token}
 use Rattle.settled_texts.proofs.lines.write_taps.Given as goal
 
 -- the taps before the rest were told, after whatever entries the teller had come past

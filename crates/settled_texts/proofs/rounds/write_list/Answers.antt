@@ -1,7 +1,7 @@
 -- The seat's lines are those of the list, since no earlier tap has its first token.
 use Rattle.std.proofs.Common.{◌≡◌, ℕ, Bool, true, false, not, List, string_bytes, refl, sym, subst, ◌∙◌}
 use Rattle.std.specs.Io.KnownBytes.{Appends}
-use Rattle.fare_table.specs.Token.{token_eq}
+use Rattle.tap_views.specs.Token.{token_eq}
 use Rattle.ledger_texts.proofs.Rising.{none_below, up_weaker}
 use Rattle.settled_texts.proofs.Joined.{passed_on}
 use Rattle.settled_texts.proofs.rounds.write_list.Goals as goal

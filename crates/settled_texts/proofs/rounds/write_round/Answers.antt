@@ -7,11 +7,11 @@ use Rattle.std.proofs.KnownBytes.{Appends-nil, Appends-trans}
 use Rattle.std.proofs.lemmas.List.{take_all}
 use Rattle.std.proofs.lemmas.List.Elements.{All-same}
 use Rattle.std.proofs.lemmas.Option.{slice_get-get_or, slice_get-map}
-use Rattle.fare_table.specs.declared.token.Token.{Token}
+use Rattle.tap_views.specs.declared.token.Token.{Token}
 use Rattle.tap_views.specs.declared.encoder.TapFields.{TapFields}
 use Rattle.settlement.specs.Posted.{posted_after}
 use Rattle.settled_texts.specs.inside.Seats.{HasSat}
-use Rattle.settled_texts.specs.inside.Telling.{AreTold, NoTapFallsFrom, last_token}
+use Rattle.settled_texts.specs.Telling.{AreTold, NoTapFallsFrom, last_token}
 use Rattle.settled_texts.proofs.Joined.{Early, at_lent, joined, joined_at, joined_more, sound_at}
 use Rattle.settled_texts.proofs.Tellings.{fall_within, last_append, none_told, told_append}
 use Rattle.settled_texts.proofs.rounds.write_round.Goals as goal

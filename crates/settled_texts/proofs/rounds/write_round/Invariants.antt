@@ -2,7 +2,7 @@ use Rattle.std.proofs.Common.{◌≡◌, ℕ, ◌+◌, ◌≤◌, List, length, 
 use Rattle.std.specs.Io.KnownBytes.{Appends, append_known}
 use Rattle.shard_book.specs.declared.entry.Entry.{Entry}
 use Rattle.ledger_texts.specs.Lines.{HasCome}
-use Rattle.settled_texts.specs.inside.Telling.{AreTold, last_token}
+use Rattle.settled_texts.specs.Telling.{AreTold, last_token}
 use Rattle.settled_texts.proofs.Joined.{joined}
 use Rattle.settled_texts.proofs.rounds.write_round.Given as goal
 

@@ -3,9 +3,9 @@ use Rattle.std.specs.Prelude.{◌⊎◌}
 use Rattle.std.proofs.lemmas.Bool.{cases_lt, false≢true}
 use Rattle.std.proofs.lemmas.List.{get_or_default}
 use Rattle.tap_views.specs.declared.encoder.TapFields.{TapFields}
-use Rattle.fare_table.specs.Token.{token_eq}
-use Rattle.fare_table.specs.declared.token.Token.{Token}
-use Rattle.shard_book.proofs.Histories.{same_token, token_eq-refl}
+use Rattle.tap_views.specs.Token.{token_eq}
+use Rattle.tap_views.specs.declared.token.Token.{Token}
+use Rattle.tap_views.proofs.TokenLemmas.{same_token, token_eq-refl}
 use Rattle.settlement.specs.Posted.{token_of_tap}
 use Rattle.settlement.proofs.TokenRuns.{no_tap}
 use Rattle.settlement.proofs.bill.run_length.Goals as goal

@@ -1,27 +1,26 @@
-use Rattle.std.proofs.Common.{◌≡◌, ◌++◌, IfOk, map, sym, ap, ◌∙◌, subst}
-use Rattle.std.proofs.lemmas.List.{map-append}
-use Rattle.settlement.specs.inside.OwnTaps.{AreOwnTaps}
-use Rattle.settlement.proofs.Files.{bytes_in}
-use Rattle.settlement.proofs.OnlyTaps.{both_own}
+use Rattle.std.proofs.Common.{List, ◌++◌, IfOk, sym, subst}
+use Rattle.tap_views.specs.declared.encoder.TapFields.{TapFields}
+use Rattle.report_texts.specs.declared.upload_end.UploadEnd.{UploadEnd}
+use Rattle.settlement.specs.inside.OwnTaps.{IsRunOwn}
+use Rattle.settlement.proofs.ReadUploads.{both_runs_own}
 use Rattle.settlement.proofs.own_taps.+owns.Goals as goal
 
 pub returns : goal.returns
 returns g t c =
+    let may_be = g.U.Uploads.may_be c.args.uploads.now in
     let token = c.args.token in
-    let front = map bytes_in c.in_ok-front.front.items in
-    let back = map bytes_in c.in_ok-front.back.items in
+    let start = c.args.start in
+    let middle = c.middle_of-middle.result in
+    let end = c.args.end in
     let own = c.in_ok-own.own in
     let more = c.in_ok-more.more in
-    let all : map bytes_in c.args.uploads.items ≡ front ++ back =
-    ap (map bytes_in) c.in_ok-front.ensures
-    ∙ map-append bytes_in c.in_ok-front.front.items c.in_ok-front.back.items in
-    subst (λ us. AreOwnTaps token us c.append.new.self.items c.append-2.new.self.items) (sym all)
-    (subst (λ ts. AreOwnTaps token (front ++ back) ts c.append-2.new.self.items)
+    subst (λ (ts : List TapFields). IsRunOwn may_be start end token ts c.append-2.new.self.items)
     (sym c.in_ok-append.ensures.items)
-    (subst (λ es. AreOwnTaps token (front ++ back) (own.taps.items ++ more.taps.items) es)
+    (subst (λ (es : List UploadEnd). IsRunOwn may_be start end token (own.taps.items ++ more.taps.items) es)
     (sym c.in_ok-append-2.ensures.items)
-    (both_own token front back own.taps.items more.taps.items own.ends.items more.ends.items
-    (subst (λ r. IfOk r (λ o. AreOwnTaps token front o.taps.items o.ends.items)) c.in_ok-own.was
+    (both_runs_own may_be start middle end token own.taps.items more.taps.items own.ends.items
+    more.ends.items
+    (subst (λ r. IfOk r (λ o. IsRunOwn may_be start middle token o.taps.items o.ends.items)) c.in_ok-own.was
     c.join-own.ensures.first)
-    (subst (λ r. IfOk r (λ o. AreOwnTaps token back o.taps.items o.ends.items)) c.in_ok-more.was
-    c.join-own.ensures.second))))
+    (subst (λ r. IfOk r (λ o. IsRunOwn may_be middle end token o.taps.items o.ends.items)) c.in_ok-more.was
+    c.join-own.ensures.second)))

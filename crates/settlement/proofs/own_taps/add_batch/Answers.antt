@@ -1,7 +1,7 @@
 use Rattle.std.proofs.Common.{◌≡◌, List, ◌∷◌, ◌++◌, append-nil, append_assoc, sym, ap, ◌∙◌, []}
 use Rattle.std.proofs.Common.{true, false}
-use Rattle.fare_table.specs.Token.{token_eq}
-use Rattle.fare_table.specs.declared.token.Token.{Token}
+use Rattle.tap_views.specs.Token.{token_eq}
+use Rattle.tap_views.specs.declared.token.Token.{Token}
 use Rattle.tap_views.specs.Encoding.{fields_of}
 use Rattle.tap_views.specs.declared.encoder.TapFields.{TapFields}
 use Rattle.settlement.proofs.OnlyTaps.{is_its, only_here, only_more, only_not}

@@ -1,17 +1,15 @@
-use Rattle.std.proofs.Common.{◌≡◌, List, ◌++◌, length, map, Ok}
+use Rattle.std.proofs.Common.{◌≡◌, ◌++◌, length, map}
 use Rattle.tap_views.specs.Encoding.{fields_of}
-use Rattle.tap_views.specs.Layout.{Tap}
-use Rattle.tap_views.specs.Files.{IsReading}
-use Rattle.tap_views.specs.Files.{taps_of_batches}
+use Rattle.tap_views.specs.Files.{IsReadAs, taps_of_batches}
 use Rattle.settlement.specs.Posted.{only}
 use Rattle.settlement.proofs.own_taps.add_upload.Given as goal
 
-abbrev pub invariant-loop-item : goal.invariant-loop-item
-invariant-loop-item l = record {
-  may : (goal.iterator-loop-item).can_next l.item-iterator;
-  ends : (goal.iterator-loop-item).is_finite l.item-iterator;
-  reading : IsReading l.upload (l.yielded ++ l.item-iterator);
-  made : (done : List (List Tap)) × (l.yielded ≡ map Ok done)
-      × (l.taps.items ≡ l.fn.taps.items ++ only l.token (map fields_of (taps_of_batches done)))
-      × (l.number ≡ length (taps_of_batches done));
+abbrev pub invariant-loop-batch : goal.invariant-loop-batch
+invariant-loop-batch l = record {
+  may : (goal.iterator-loop-batch).can_next l.good;
+  ends : (goal.iterator-loop-batch).is_finite l.good;
+  read : IsReadAs l.upload (l.yielded ++ l.good.batches) l.good.fault;
+  added : l.taps.items
+      ≡ l.fn.taps.items ++ only l.token (map fields_of (taps_of_batches l.yielded));
+  count : l.number ≡ length (taps_of_batches l.yielded);
 }

@@ -1,10 +1,13 @@
-use Rattle.std.proofs.Common.{◌≡◌, ℕ, ◌<◌, ◌≤◌, ◌+◌, ◌∷◌, ◌++◌, length, get_or, set, sym, []}
+use Rattle.std.proofs.Common.{◌≡◌, ℕ, ◌<◌, ◌≤◌, ◌+◌, List, ◌∷◌, ◌++◌, length, get_or, map, set, sym, []}
 use Rattle.std.proofs.Common.{ap, ◌∙◌, arith, append_assoc, inl, inr, length-append}
 use Rattle.std.specs.Prelude.{◌⊎◌}
 use Rattle.std.specs.Vec.Iter.{into_iter_items}
 use Rattle.std.proofs.lemmas.Bool.{cases_lt}
 use Rattle.std.proofs.lemmas.List.{get_or_default, get_or-set_same, get_or-set_other, length-set}
 use Rattle.std.proofs.lemmas.List.{get_or_append_left, get_or-append-add}
+use Rattle.std.proofs.lemmas.List.{length-map, map-append}
+use Rattle.tap_views.specs.declared.encoder.TapFields.{TapFields}
+use Rattle.settlement.proofs.Files.{taps_in}
 use Rattle.settlement.proofs.pieces.join.Goals as goal
 
 pub loop-piece-preserved : goal.loop-piece-preserved
@@ -31,10 +34,13 @@ loop-piece-preserved c =
     ) in
     let was : get_or now at target ≡ get_or old at [] =
     get_or_default now at target [] within ∙ inv.rest at (omega arith) in
-    let of_piece : get_or (yielded ++ piece ∷ []) at [] ≡ piece =
-    ap (λ n. get_or (yielded ++ piece ∷ []) n []) (let e : at
-    ≡ length yielded + 0 = omega (arith, inv.place) in
-    e) ∙ get_or-append-add yielded (piece ∷ []) 0 [] in
+    let ys = map taps_in yielded in
+    let more : map taps_in (yielded ++ piece ∷ []) ≡ ys ++ piece.items ∷ [] =
+    map-append taps_in yielded (piece ∷ []) in
+    let of_piece : get_or (ys ++ piece.items ∷ []) at [] ≡ piece.items =
+    ap (λ n. get_or (ys ++ piece.items ∷ []) n []) (let e : at
+    ≡ length ys + 0 = omega (arith, inv.place, length-map yielded taps_in) in
+    e) ∙ get_or-append-add ys (piece.items ∷ []) 0 [] in
     record {
       may = tt;
       ends = tt;
@@ -45,7 +51,8 @@ loop-piece-preserved c =
       number = length-set now at pushed ∙ inv.number;
       joined = λ part below.
           by_place part (cases_lt part at) below (get_or-set_same now at pushed [] within)
-          (c.in_ok-push.ensures ∙ ap (λ ts. ts ++ piece) was) of_piece;
+          (c.in_ok-push.ensures ∙ ap (λ ts. ts ++ piece.items) was) of_piece
+          ∙ ap (λ (ts : List (List TapFields)). get_or old part [] ++ get_or ts part []) (sym more);
       rest = λ part above. get_or-set_other now at part pushed [] (λ e. omega (arith, e, above))
           ∙ inv.rest part (omega (arith, above));
     }
@@ -54,23 +61,23 @@ loop-piece-preserved c =
         → part < c.loop-piece.place + 1
         → get_or (set c.loop-piece.parts c.loop-piece.place c.push.new.self) c.loop-piece.place []
         ≡ c.push.new.self
-        → c.push.new.self ≡ get_or c.args.parts.now c.loop-piece.place [] ++ c.in-Some.piece
-        → get_or (c.loop-piece.yielded ++ c.in-Some.piece ∷ []) c.loop-piece.place []
-        ≡ c.in-Some.piece
+        → c.push.new.self ≡ get_or c.args.parts.now c.loop-piece.place [] ++ c.in-Some.piece.items
+        → get_or (map taps_in c.loop-piece.yielded ++ c.in-Some.piece.items ∷ []) c.loop-piece.place []
+        ≡ c.in-Some.piece.items
         → get_or (set c.loop-piece.parts c.loop-piece.place c.push.new.self) part []
         ≡ get_or c.args.parts.now part []
-        ++ get_or (c.loop-piece.yielded ++ c.in-Some.piece ∷ []) part []
+        ++ get_or (map taps_in c.loop-piece.yielded ++ c.in-Some.piece.items ∷ []) part []
     by_place part (inl less) below there pushed of_piece =
         get_or-set_other c.loop-piece.parts c.loop-piece.place part c.push.new.self [] (λ e.
         omega (arith, e, less))
         ∙ c.loop-piece.invariant.joined part less
         ∙ ap (λ ts. get_or c.args.parts.now part [] ++ ts)
-        (sym (get_or_append_left c.loop-piece.yielded (c.in-Some.piece ∷ []) [] part
-        (omega (arith, less, c.loop-piece.invariant.place))))
+        (sym (get_or_append_left (map taps_in c.loop-piece.yielded) (c.in-Some.piece.items ∷ []) [] part
+        (omega (arith, less, c.loop-piece.invariant.place, length-map c.loop-piece.yielded taps_in))))
     by_place part (inr above) below there pushed of_piece =
         let e : part ≡ c.loop-piece.place = omega (arith, above, below) in
         ap (λ n. get_or (set c.loop-piece.parts c.loop-piece.place c.push.new.self) n []) e
         ∙ there ∙ pushed
         ∙ ap (λ ts. get_or c.args.parts.now c.loop-piece.place [] ++ ts) (sym of_piece)
         ∙ ap (λ n. get_or c.args.parts.now n []
-        ++ get_or (c.loop-piece.yielded ++ c.in-Some.piece ∷ []) n []) (sym e)
+        ++ get_or (map taps_in c.loop-piece.yielded ++ c.in-Some.piece.items ∷ []) n []) (sym e)

@@ -1,4 +1,4 @@
-use Rattle.std.proofs.Common.{◌≡◌, ℕ, ◌<◌, ◌≤◌, ◌++◌, length, get_or, []}
+use Rattle.std.proofs.Common.{◌≡◌, ℕ, ◌<◌, ◌≤◌, ◌++◌, length, get_or, map, []}
 use Rattle.std.specs.Vec.Iter.{into_iter_items, into_iter_len}
 use Rattle.settlement.proofs.pieces.join.Given as goal
 
@@ -11,6 +11,6 @@ invariant-loop-piece l = record {
   place : l.place ≡ length l.yielded;
   number : length l.parts ≡ length l.fn.parts;
   joined : (part : ℕ) → part < l.place
-      → get_or l.parts part [] ≡ get_or l.fn.parts part [] ++ get_or l.yielded part [];
+      → get_or l.parts part [] ≡ get_or l.fn.parts part [] ++ get_or (map (λ list. list.items) l.yielded) part [];
   rest : (part : ℕ) → l.place ≤ part → get_or l.parts part [] ≡ get_or l.fn.parts part [];
 }

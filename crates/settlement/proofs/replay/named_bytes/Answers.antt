@@ -1,5 +1,5 @@
 use Rattle.std.proofs.Common.{ap, refl, sym, ◌∙◌}
-use Rattle.fare_table.specs.Token.{bytes_of}
+use Rattle.tap_views.specs.Token.{bytes_of}
 use Rattle.settlement.proofs.TokenRuns.{named_token}
 use Rattle.settlement.proofs.replay.named_bytes.Goals as goal
 

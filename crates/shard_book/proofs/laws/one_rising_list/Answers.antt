@@ -3,10 +3,10 @@ use Rattle.std.specs.Ordering.{nat_cmp}
 use Rattle.std.specs.FinMap.{nat_cmp-IsAntisymmetric}
 use Rattle.std.proofs.lemmas.Cmp.{nat_cmp_total}
 use Rattle.shard_book.specs.Rising.{IsRising}
-use Rattle.fare_table.specs.Token.{token_cmp}
-use Rattle.fare_table.specs.declared.token.Token.{Token}
+use Rattle.tap_views.specs.Token.{token_cmp}
+use Rattle.tap_views.specs.declared.token.Token.{Token}
 use Rattle.shard_book.proofs.RisingLemmas.{rising-is, rising-only}
-use Rattle.shard_book.proofs.TokenLemmas.{token_cmp-total, token_cmp-ties}
+use Rattle.tap_views.proofs.TokenLemmas.{token_cmp-total, token_cmp-ties}
 use Rattle.shard_book.proofs.laws.one_rising_list.Goals as goal
 
 pub returns-clause-numbers : goal.returns-clause-numbers

@@ -1,4 +1,4 @@
-use Rattle.std.proofs.Common.{◌≡◌, sym, arith, rules}
+use Rattle.std.proofs.Common.{sym, arith, rules}
 use Rattle.table_facts.proofs.SeenLemmas.{none_backward, none_found, some_found}
 use Rattle.table_facts.proofs.seen.is_any_between.Goals as goal
 

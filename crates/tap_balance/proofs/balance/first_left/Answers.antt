@@ -6,30 +6,30 @@ use Rattle.std.specs.Option.{unwrap_or}
 use Rattle.std.proofs.lemmas.List.Elements.{All-nil, All-push}
 use Rattle.std.proofs.lemmas.Map.Entries.{All-lookup}
 use Rattle.std.proofs.lemmas.Map.Iter.{btree_map_turn}
-use Rattle.tap_balance.specs.Balances.{key_cmp}
-use Rattle.tap_balance.specs.declared.balance.TapKey.{TapKey}
+use Rattle.tap_views.specs.TapOrder.{tap_cmp}
+use Rattle.tap_views.specs.declared.encoder.TapFields.{TapFields}
 use Rattle.tap_balance.proofs.Balanced.{zero_or_none}
 use Rattle.tap_balance.proofs.Firsts.{Zero, none_before}
-use Rattle.tap_balance.proofs.Keys.{key_cmp_total}
+use Rattle.tap_views.proofs.TapOrders.{tap_cmp_total}
 use Rattle.tap_balance.proofs.balance.first_left.Goals as goal
 
-pub loop-key-init : goal.loop-key-init
-loop-key-init c = record {
+pub loop-tap-init : goal.loop-tap-init
+loop-tap-init c = record {
   may = tt;
   ends = tt;
   zero = ([], search rules, All-nil Zero);
 }
 
-pub loop-key-preserved : goal.loop-key-preserved
-loop-key-preserved c =
-    let zero = c.loop-key.invariant.zero in
-    let entry : TapKey × ℕ = (c.in-Some.key.now, c.in-Some.count.now) in
+pub loop-tap-preserved : goal.loop-tap-preserved
+loop-tap-preserved c =
+    let zero = c.loop-tap.invariant.zero in
+    let entry : TapFields × ℕ = (c.in-Some.tap.now, c.in-Some.count.now) in
     record {
       may = tt;
       ends = tt;
       zero = (
         zero.0 ++ entry ∷ [],
-        zero.1 ∙ ap (λ (left : List (TapKey × ℕ)). zero.0 ++ left) c.in-Some.ensures.steps
+        zero.1 ∙ ap (λ (left : List (TapFields × ℕ)). zero.0 ++ left) c.in-Some.ensures.steps
             ∙ sym (append_assoc zero.0 (entry ∷ []) c.next.new.self),
         All-push Zero zero.0 entry zero.2 (omega (arith, c.if-count-gt0.false)),
       );
@@ -37,24 +37,24 @@ loop-key-preserved c =
 
 pub returns-then-count-gt0-clause-found : goal.returns-then-count-gt0-clause-found
 returns-then-count-gt0-clause-found c =
-    let turn = btree_map_turn deref_pair c.loop-key.yielded c.into_iter-key-iterator.result
-    c.loop-key.key-iterator c.next.new.self c.next.result
-    (c.in-Some.key, c.in-Some.count) c.loop-key.yielded_by c.in-Some.is c.next.ensures.steps
-    key_cmp_total c.args.left.now (search rules) (search rules) in
+    let turn = btree_map_turn deref_pair c.loop-tap.yielded c.into_iter-tap-iterator.result
+    c.loop-tap.tap-iterator c.next.new.self c.next.result
+    (c.in-Some.tap, c.in-Some.count) c.loop-tap.yielded_by c.in-Some.is c.next.ensures.steps
+    tap_cmp_total c.args.left.now (search rules) (search rules) in
     subst (λ (o : Option ℕ). 0 < unwrap_or o 0) (sym turn.1) c.if-count-gt0.true
 
 pub returns-then-count-gt0-clause-first : goal.returns-then-count-gt0-clause-first
 returns-then-count-gt0-clause-first c = λ other some.
-    let zero = c.loop-key.invariant.zero in
-    let entry : TapKey × ℕ = (c.in-Some.key.now, c.in-Some.count.now) in
+    let zero = c.loop-tap.invariant.zero in
+    let entry : TapFields × ℕ = (c.in-Some.tap.now, c.in-Some.count.now) in
     none_before c.args.left.now zero.0 entry c.next.new.self
-    (zero.1 ∙ ap (λ (left : List (TapKey × ℕ)). zero.0 ++ left) c.in-Some.ensures.steps)
+    (zero.1 ∙ ap (λ (left : List (TapFields × ℕ)). zero.0 ++ left) c.in-Some.ensures.steps)
     (search rules) zero.2 other some
 
 pub returns-clause-none : goal.returns-clause-none
-returns-clause-none c = λ key.
-    let zero = c.loop-key.invariant.zero in
+returns-clause-none c = λ tap.
+    let zero = c.loop-tap.invariant.zero in
     let all : All Zero c.args.left.now.entries = subst (All Zero)
-    (sym (append-nil zero.0) ∙ sym (zero.1 ∙ ap (λ (left : List (TapKey × ℕ)). zero.0 ++ left) c.in-None.ensures.steps.0))
+    (sym (append-nil zero.0) ∙ sym (zero.1 ∙ ap (λ (left : List (TapFields × ℕ)). zero.0 ++ left) c.in-None.ensures.steps.0))
     zero.2 in
-    zero_or_none _ (All-lookup (λ (n : ℕ). n ≡ 0) (is_at (key_cmp key)) c.args.left.now.entries all)
+    zero_or_none _ (All-lookup (λ (n : ℕ). n ≡ 0) (is_at (tap_cmp tap)) c.args.left.now.entries all)

@@ -6,5 +6,5 @@ pub returns : goal.returns
 returns c =
     let more : c.in-Some.more ≡ c.count_at-count.result + 1 =
     first_of (search rules, grind arith) in
-    one_more _ _ c.args.key c.count_at-count.result c.in-Some.more c.in_ok-insert.ensures.updates.0
+    one_more _ _ c.args.tap c.count_at-count.result c.in-Some.more c.in_ok-insert.ensures.updates.0
     (sym c.count_at-count.ensures) more

@@ -5,7 +5,7 @@ use Rattle.tap_balance.specs.Balances.{IsDifference}
 use Rattle.tap_balance.specs.declared.balance.Difference.{Difference}
 use Rattle.tap_balance.specs.declared.balance.Difference.TheVariants.{Missing, Surplus}
 use Rattle.tap_balance.proofs.Balanced.{surplus_is_more}
-use Rattle.tap_balance.proofs.Keys.{same_exact, same_of}
+use Rattle.tap_balance.proofs.SameTaps.{same_exact, same_of}
 use Rattle.tap_balance.proofs.Times.{times_permutation}
 use Rattle.tap_balance.proofs.laws.differences_are_real.Goals as goal
 

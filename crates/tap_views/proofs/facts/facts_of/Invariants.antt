@@ -1,14 +1,14 @@
-use Rattle.std.proofs.Common.{◌≡◌, List, ◌++◌, length, map, Ok}
-use Rattle.tap_views.specs.Layout.{Tap}
-use Rattle.tap_views.specs.Files.{IsReading, taps_of_batches}
+use Rattle.std.proofs.Common.{◌≡◌, ◌++◌, length, map}
+use Rattle.tap_views.specs.Files.{IsReadAs, taps_of_batches}
 use Rattle.tap_views.specs.Facts.{IsSpan, moment_of}
 use Rattle.tap_views.proofs.facts.facts_of.Given as goal
 
-abbrev pub invariant-loop-item : goal.invariant-loop-item
-invariant-loop-item l = record {
-  may : (goal.iterator-loop-item).can_next l.item-iterator;
-  ends : (goal.iterator-loop-item).is_finite l.item-iterator;
-  reading : IsReading l.upload (l.yielded ++ l.item-iterator);
-  made : (done : List (List Tap)) × (l.yielded ≡ map Ok done) × (l.count ≡ length done)
-      × (l.taps ≡ length (taps_of_batches done)) × IsSpan (map moment_of (taps_of_batches done)) l.span;
+abbrev pub invariant-loop-batch : goal.invariant-loop-batch
+invariant-loop-batch l = record {
+  may : (goal.iterator-loop-batch).can_next l.good;
+  ends : (goal.iterator-loop-batch).is_finite l.good;
+  read : IsReadAs l.upload (l.yielded ++ l.good.batches) l.good.fault;
+  number : l.count ≡ length l.yielded;
+  taps : l.taps ≡ length (taps_of_batches l.yielded);
+  span : IsSpan (map moment_of (taps_of_batches l.yielded)) l.span;
 }

@@ -15,7 +15,8 @@ returns-clause-asked c =
     let shards = c.number_in-2.ensures.number ∙ ap (number_of (codes "shards")) rows in
     let token = c.get_str-2.ensures ∙ first_value-rows found (codes "token") ∙ ap (first_of (codes "token")) rows in
     let settle = c.flag_in-2.ensures ∙ ap (is_given (codes "settle")) rows in
-    let ledger = c.flag_in-3.ensures ∙ ap (is_given (codes "ledger")) rows in
-    let explain = c.flag_in-4.ensures ∙ ap (is_given (codes "explain")) rows in
+    let sorted = c.flag_in-3.ensures ∙ ap (is_given (codes "sorted")) rows in
+    let ledger = c.flag_in-4.ensures ∙ ap (is_given (codes "ledger")) rows in
+    let explain = c.flag_in-5.ensures ∙ ap (is_given (codes "explain")) rows in
     let files = c.in_ok-names_in.ensures ∙ ap (λ r. unwrap_or (all_of (codes "FILE") r) []) rows in
-    λ i. record { table = table i; list = list i; workers = workers i; shards = shards i; token = token i; settle = settle i; ledger = ledger i; explain = explain i; files = files i }
+    λ i. record { table = table i; list = list i; workers = workers i; shards = shards i; token = token i; settle = settle i; sorted = sorted i; ledger = ledger i; explain = explain i; files = files i }

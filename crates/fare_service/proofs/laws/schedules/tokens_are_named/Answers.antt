@@ -7,9 +7,9 @@ use Rattle.std.proofs.lemmas.Option.{slice_get_within}
 use borrow.Author.Count.{below_more}
 use Rattle.shard_book.specs.Book.{AreOfShard, Book}
 use Rattle.shard_book.specs.Entry.{TokensFit}
-use Rattle.fare_table.specs.Token.{Fits, bytes_of}
+use Rattle.tap_views.specs.Token.{Fits, bytes_of}
 use Rattle.shard_book.specs.declared.entry.Entry.{Entry}
-use Rattle.fare_table.specs.declared.token.Token.{Token}
+use Rattle.tap_views.specs.declared.token.Token.{Token}
 use Rattle.shard_book.specs.Plain.{IsNamed, token_of_bytes}
 use Rattle.fare_service.proofs.laws.schedules.tokens_are_named.Goals as goal
 

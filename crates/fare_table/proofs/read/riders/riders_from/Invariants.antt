@@ -3,7 +3,8 @@ use Rattle.std.specs.Map.{keys_of, values_of}
 use Rattle.toml.specs.View.{members_view}
 use Rattle.fare_table.specs.Riders.{riders_from}
 use Rattle.fare_table.specs.Terms.{AreBoundedTerms}
-use Rattle.fare_table.specs.Token.{Fits, by_bytes}
+use Rattle.tap_views.specs.Token.{Fits}
+use Rattle.fare_table.specs.Riders.{by_bytes}
 use Rattle.fare_table.proofs.read.riders.riders_from.Given as goal
 
 abbrev pub invariant-loop-key : goal.invariant-loop-key

@@ -1,6 +1,6 @@
 use Rattle.std.proofs.Common.{◌∙◌, rules, sym}
 use Rattle.fare_table.proofs.TokenMarks.{lookup-unmarked}
-use Rattle.fare_table.proofs.TokenBytes.{found-by_bytes}
+use Rattle.fare_table.proofs.RiderBytes.{found-by_bytes}
 use Rattle.fare_table.proofs.riders.Riders.terms_of.Goals as goal
 
 pub returns-then-not-has : goal.returns-then-not-has

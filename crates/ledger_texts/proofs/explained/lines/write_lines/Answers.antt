@@ -17,6 +17,11 @@ loop-entry-init c = record {
   whole = sym (append-nil (string_bytes c.args.text.now));
 }
 
+pub no_transfer-none-requires : goal.no_transfer-none-requires
+no_transfer-none-requires c = record {
+  told = (take c.loop-entry.entry-index c.args.entries.now, c.loop-entry.invariant.told);
+}
+
 pub explain_next-requires-clause-told : goal.explain_next-requires-clause-told
 explain_next-requires-clause-told c =
     (take c.loop-entry.entry-index c.args.entries.now, c.loop-entry.invariant.told)
@@ -38,14 +43,15 @@ loop-entry-preserved c =
     let so_far = c.loop-entry.invariant in
     let done = take place entries in
     let line = c.in_ok-write_line.ensures in
+    let lack = rw so_far.of at (c.no_transfer-none.ensures.lacks done so_far.told) in
     let why = rw so_far.of at (c.in_ok-reason.ensures.reason done so_far.told) in
     record {
       told = subst (λ (es : List Entry). HasTold fares c.explain_next.new.self es)
           (sym (taken entries place _ within)) (c.in_ok-reason.ensures.told done so_far.told);
       of = c.in_ok-reason.ensures.token ∙ so_far.of;
       written = so_far.written ++ line.0;
-      are = next_explained fares c.args.token entries place _ within so_far.written line.0 _ why
-          so_far.are line.1;
+      are = next_explained fares c.args.token entries place _ within so_far.written line.0 _ _ why
+          lack so_far.are line.1;
       whole = line.2 ∙ ap (λ t. t ++ line.0) so_far.whole
           ∙ append_assoc (string_bytes c.args.text.now) so_far.written line.0;
     }

@@ -6,7 +6,7 @@ use Rattle.account_rule.specs.TokenRules.{rules_of}
 use Rattle.account_rule.proofs.ReasonLemmas.{reply-follows}
 use Rattle.shard_book.specs.Entry.{tap_of}
 use Rattle.shard_book.specs.declared.entry.Entry.{Entry}
-use Rattle.fare_table.specs.Token.{bytes_of}
+use Rattle.tap_views.specs.Token.{bytes_of}
 use Rattle.reason_texts.specs.Tellers.{HasTold}
 use Rattle.reason_texts.proofs.LineLists.{more, taken}
 use Rattle.ledger_texts.proofs.Closing.{earlier-none, next_earlier}

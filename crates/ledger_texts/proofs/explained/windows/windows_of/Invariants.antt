@@ -1,7 +1,7 @@
 use Rattle.std.proofs.Common.{◌≡◌, map, take}
 use Rattle.account_rule.specs.TokenRules.{rules_of}
 use Rattle.shard_book.specs.Entry.{tap_of}
-use Rattle.fare_table.specs.Token.{bytes_of}
+use Rattle.tap_views.specs.Token.{bytes_of}
 use Rattle.reason_texts.specs.Tellers.{HasTold}
 use Rattle.ledger_texts.specs.Explained.{earlier_windows}
 use Rattle.ledger_texts.proofs.explained.windows.windows_of.Given as goal

@@ -1,14 +1,14 @@
 use Rattle.std.proofs.Common.{sym, ◌∙◌, subst}
-use Rattle.std.proofs.lemmas.Option.{MatchOption-at_none, MatchOption-at_some}
-use Rattle.std.proofs.lemmas.Result.{err_from_is_err_and}
+use Rattle.std.proofs.lemmas.Result.{MatchResult-at_err, MatchResult-at_ok, err_from_is_err_and}
 use Rattle.part_reports.specs.inside.Standings.{IsFirstLine}
 use Rattle.part_reports.proofs.Firsts.{first_is_source, no_text, weaker}
+use Rattle.part_reports.proofs.Wrongs.{wrong_of}
 use Rattle.part_reports.proofs.merging.OrderedText.read.Goals as goal
 
 pub returns-in_err-lines-clause-refused : goal.returns-in_err-lines-clause-refused
 returns-in_err-lines-clause-refused g c =
     let lines = c.args.self.now.lines in
-    let none = MatchOption-at_none _ _ c.in_err-lines.ensures.none.0 c.first_of.ensures in
+    let none = wrong_of _ _ _ c.in_err-lines.ensures.wrong.0 c.first_of.ensures in
     let p = err_from_is_err_and c.from_residual-in_err-lines.result
     c.from_residual-in_err-lines.ensures.1 in
     rw (p.1) (λ of_texts.
@@ -22,7 +22,7 @@ returns-in_err-lines-clause-refused g c =
 pub returns-clause-read : goal.returns-clause-read
 returns-clause-read g c =
     let lines = c.args.self.now.lines in
-    let first = MatchOption-at_some _ _ _ c.in_ok-lines.ensures.value c.first_of.ensures in
+    let first = MatchResult-at_ok _ _ _ c.in_ok-lines.ensures.value c.first_of.ensures in
     weaker (g.R.Read.remaining c.args.self.now.reader.from) _ _
     (λ text read.
     first_is_source lines text (record {

@@ -1,7 +1,7 @@
 -- The line has the number and the reason of the next entry.
 use Rattle.std.proofs.Common.{ℕ, ◌+◌, ap, subst, ◌∙◌}
 use Rattle.account_rule.specs.declared.reason.Reason.{Reason}
-use Rattle.fare_table.specs.declared.token.Token.{Token}
+use Rattle.tap_views.specs.declared.token.Token.{Token}
 use Rattle.reason_texts.specs.Ledger.{IsLedgerLine, reason_after}
 use Rattle.reason_texts.proofs.teller.Teller.write_next.Goals as goal
 

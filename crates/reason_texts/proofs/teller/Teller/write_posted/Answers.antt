@@ -1,7 +1,7 @@
 -- The line has the number and the reason of the tap's entry.
-use Rattle.std.proofs.Common.{ℕ, ◌+◌, List, [], ◌∷◌, ◌++◌, ap, subst, sym, ◌∙◌}
+use Rattle.std.proofs.Common.{ℕ, ◌+◌, [], ◌∷◌, ◌++◌, ap, subst, ◌∙◌}
 use Rattle.account_rule.specs.declared.reason.Reason.{Reason}
-use Rattle.fare_table.specs.declared.token.Token.{Token}
+use Rattle.tap_views.specs.declared.token.Token.{Token}
 use Rattle.shard_book.specs.declared.entry.Entry.{Entry}
 use Rattle.reason_texts.specs.Ledger.{IsLedgerLine, IsLedgerLineAfter, reason_after}
 use Rattle.reason_texts.specs.Tellers.{HasTold}

@@ -1,5 +1,5 @@
 use Rattle.std.proofs.Common.{List, ◌++◌, ap, sym, ◌∙◌, arith}
-use Rattle.fare_table.specs.declared.token.Token.{Token}
+use Rattle.tap_views.specs.declared.token.Token.{Token}
 use Rattle.shard_book.specs.Sums.{Sums, add_sums, sums}
 use Rattle.shard_book.specs.SumsByKey.{sums_by_token}
 use Rattle.shard_book.specs.TalliesByKey.{HaveRoom}

@@ -4,11 +4,12 @@ use Rattle.account_rule.specs.Stands.{Stands, StandsForSome}
 use Rattle.account_rule.specs.TokenRules.{rules_of}
 use Rattle.account_rule.specs.declared.reply.Reply.{Reply}
 use Rattle.account_rule.specs.declared.tap.TapIn.{TapIn}
-use Rattle.fare_table.specs.Token.{bytes_of}
-use Rattle.fare_table.specs.declared.token.Token.{Token}
+use Rattle.tap_views.specs.Token.{bytes_of}
+use Rattle.tap_views.specs.declared.token.Token.{Token}
 use Rattle.shard_book.specs.Entry.{tap_of, taps_of}
 use Rattle.shard_book.specs.declared.entry.Entry.{Entry}
-use Rattle.shard_book.proofs.Histories.{taps-push, token_eq-refl}
+use Rattle.shard_book.proofs.Histories.{taps-push}
+use Rattle.tap_views.proofs.TokenLemmas.{token_eq-refl}
 use Rattle.shard_book.specs.Plain.{answered, with_reply}
 use Rattle.settlement.specs.Posted.{unposted}
 use Rattle.settlement.specs.Replays.{HasPosted}

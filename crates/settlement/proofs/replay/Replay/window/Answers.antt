@@ -1,4 +1,4 @@
-use Rattle.fare_table.specs.Token.{bytes_of}
+use Rattle.tap_views.specs.Token.{bytes_of}
 use Rattle.account_rule.specs.TokenRules.{rules_of}
 use Rattle.shard_book.specs.Entry.{taps_of}
 use Rattle.settlement.specs.Replays.{HasPosted}

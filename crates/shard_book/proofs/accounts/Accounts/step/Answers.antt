@@ -4,10 +4,10 @@ use Rattle.indexmap.proofs.CallerLemmas.{keys-with_value_at}
 use Rattle.account_rule.specs.TokenRules.{rules_of}
 use Rattle.account_rule.specs.Stands.{Stands, StandsForSome}
 use Rattle.shard_book.specs.declared.accounts.KeptAccount.{KeptAccount}
-use Rattle.fare_table.specs.declared.token.Token.{Token}
+use Rattle.tap_views.specs.declared.token.Token.{Token}
 use Rattle.shard_book.specs.inside.Accounts.{kept_at, counted, IsKept}
 use Rattle.shard_book.specs.Sums.{Sums, add_sums, sums_of_replies}
-use Rattle.fare_table.specs.Token.{bytes_of}
+use Rattle.tap_views.specs.Token.{bytes_of}
 use Rattle.shard_book.proofs.AccountsLemmas.{stands_or, counted_or, found, written}
 use Rattle.shard_book.proofs.PackedLemmas.{keep_same, keep_then, token-at}
 use Rattle.shard_book.proofs.accounts.Accounts.step.Goals as goal

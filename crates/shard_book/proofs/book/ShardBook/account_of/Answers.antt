@@ -4,7 +4,7 @@ use Rattle.account_rule.specs.Stands.{Stands}
 use Rattle.shard_book.specs.Book.{Book}
 use Rattle.shard_book.specs.Entry.{taps_of}
 use Rattle.shard_book.specs.inside.Sound.{AreKept}
-use Rattle.fare_table.specs.Token.{bytes_of}
+use Rattle.tap_views.specs.Token.{bytes_of}
 use Rattle.shard_book.proofs.book.ShardBook.account_of.Goals as goal
 
 pub returns : goal.returns

@@ -6,7 +6,7 @@ use Rattle.shard_book.specs.declared.entry.Entry.{Entry}
 use Rattle.shard_book.specs.declared.packed.PackedEntry.{PackedEntry}
 use Rattle.shard_book.specs.inside.Packed.{history_of, tokens_of}
 use Rattle.shard_book.specs.inside.Sound.{AreKept, IsSound}
-use Rattle.fare_table.specs.Token.{bytes_of}
+use Rattle.tap_views.specs.Token.{bytes_of}
 use Rattle.shard_book.proofs.PackedLemmas.{history-push, history-same, placed-push}
 use Rattle.shard_book.proofs.SoundLemmas.{book-same, sound-post}
 use Rattle.shard_book.proofs.book.ShardBook.post_at.Goals as goal

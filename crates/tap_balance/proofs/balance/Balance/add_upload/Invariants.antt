@@ -1,17 +1,15 @@
-use Rattle.std.proofs.Common.{◌≡◌, List, [], ◌++◌, map, Ok}
+use Rattle.std.proofs.Common.{List, [], ◌++◌, map}
 use Rattle.tap_views.specs.Encoding.{fields_of}
-use Rattle.tap_views.specs.Files.{IsReading, taps_of_batches}
-use Rattle.tap_views.specs.Layout.{Tap}
+use Rattle.tap_views.specs.Files.{IsReadAs, taps_of_batches}
 use Rattle.tap_views.specs.declared.encoder.TapFields.{TapFields}
 use Rattle.tap_balance.specs.Balances.{IsBalance}
 use Rattle.tap_balance.proofs.balance.Balance.add_upload.Given as goal
 
-abbrev pub invariant-loop-item : goal.invariant-loop-item
-invariant-loop-item l = record {
-  may : (goal.iterator-loop-item).can_next l.item-iterator;
-  ends : (goal.iterator-loop-item).is_finite l.item-iterator;
-  reading : IsReading l.upload (l.yielded ++ l.item-iterator);
-  made : (done : List (List Tap)) × (l.yielded ≡ map Ok done)
-      × ((good : List TapFields) → IsBalance l.fn.self good []
-      → IsBalance l.self (good ++ map fields_of (taps_of_batches done)) []);
+abbrev pub invariant-loop-batch : goal.invariant-loop-batch
+invariant-loop-batch l = record {
+  may : (goal.iterator-loop-batch).can_next l.batch-iterator;
+  ends : (goal.iterator-loop-batch).is_finite l.batch-iterator;
+  read : IsReadAs l.upload (l.yielded ++ l.batch-iterator.batches) l.batch-iterator.fault;
+  added : (good : List TapFields) → IsBalance l.fn.self good []
+      → IsBalance l.self (good ++ map fields_of (taps_of_batches l.yielded)) [];
 }

@@ -12,5 +12,5 @@ pub returns : goal.returns
 returns c = λ good struck is.
     let one : Balances c.args.self.now.left c.args.self.now.surplus good struck = is in
     let none : Balances c.args.self.now.left None good struck = rw c.in_default.is at one in
-    some_left c.args.self.now.left good struck c.tap_for.result c.in-Some-first_left.key
-    c.tap_for.ensures c.in-Some-first_left.ensures.found c.in-Some-first_left.ensures.first none
+    some_left c.args.self.now.left good struck c.in-Some-first_left.tap
+    c.in-Some-first_left.ensures.found c.in-Some-first_left.ensures.first none

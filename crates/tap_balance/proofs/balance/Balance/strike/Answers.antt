@@ -1,6 +1,4 @@
-use Rattle.std.proofs.Common.{◌≡◌, false, sym, subst, ◌∙◌, rules, tests}
-use Rattle.tap_balance.specs.Balances.{left_at}
-use Rattle.tap_balance.specs.declared.balance.TapKey.{TapKey}
+use Rattle.std.proofs.Common.{◌≡◌, false, sym, ◌∙◌, rules, tests}
 use Rattle.tap_balance.proofs.Balanced.{none_left, unfound}
 use Rattle.tap_balance.proofs.balance.Balance.strike.Goals as goal
 
@@ -9,7 +7,6 @@ returns-then-not-take_one c = λ good struck is.
     let balance = c.args.self.now in
     let none : c.take_one.result ≡ false = first_of (cc, search (rules, tests)) in
     none_left balance.left good struck c.args.tap.now
-    (subst (λ (k : TapKey). left_at balance.left k ≡ 0) c.key_for.ensures
-    (c.take_one.ensures.none none))
+    (c.take_one.ensures.none none)
     (unfound balance.left balance.surplus good struck (sym c.is_some.ensures
     ∙ c.if-is_some.false) is)

@@ -1,82 +1,51 @@
-use Rattle.std.proofs.Common.{List, [], ◌++◌, ◌∷◌, length, Ok, Err}
-use Rattle.std.proofs.Common.{ap, ◌∙◌, sym, refl, subst, append_assoc, append-nil, arith}
-use Rattle.std.proofs.Common.{length-append}
-use Rattle.tap_views.specs.Files.{Item, IsReading, taps_of_batches}
+use Rattle.std.proofs.Common.{length, ap, refl, arith, length-append}
+use Rattle.tap_views.specs.Files.{taps_of_batches}
 use Rattle.tap_parts.proofs.Adding.{none_added, batch_added}
-use Rattle.tap_views.proofs.ReadingLemmas.{same_items, read_all, read_fault, read_batch, read_room}
-use Rattle.tap_views.proofs.ReadingLemmas.{taps_more, yielded_more}
+use Rattle.tap_views.proofs.ReadingLemmas.{read_end, read_on, room_on, taps_more}
 use Rattle.tap_parts.proofs.parts.Parts.add_upload.Goals as goal
 
-pub loop-item-init : goal.loop-item-init
-loop-item-init g c =
-    let P : List Item → Type 0 = IsReading c.args.upload.now in
-    record {
-      may = tt;
-      ends = tt;
-      reading = subst P (sym c.into_iter-item-iterator.ensures.into_iter_gives)
-          c.batches-item-items.ensures;
-      made = ([], refl, none_added (g.P.PartRule.part_of c.args.rule.now) c.args.self.now, refl);
-    }
+pub loop-batch-init : goal.loop-batch-init
+loop-batch-init g c = record {
+  may = tt;
+  ends = tt;
+  read = c.good_batches-good.ensures;
+  added = none_added (g.P.PartRule.part_of c.args.rule.now) c.args.self.now;
+  number = refl;
+}
 
-pub loop-item-preserved : goal.loop-item-preserved
-loop-item-preserved g c =
-    let made = c.loop-item.invariant.made in
-    let P : List Item → Type 0 = IsReading c.args.upload.now in
+pub loop-batch-preserved : goal.loop-batch-preserved
+loop-batch-preserved g c =
+    let before = c.loop-batch.invariant in
+    let done = c.loop-batch.yielded in
+    let batch = c.in-Some.batch in
     record {
       may = tt;
       ends = tt;
-      reading = subst P (ap (λ left. c.loop-item.yielded ++ left) c.in-Some.ensures.steps
-          ∙ sym (append_assoc c.loop-item.yielded (c.in-Some.item ∷ []) c.next.new.self))
-          c.loop-item.invariant.reading;
-      made = (
-        made.0 ++ c.in-Ok.batch ∷ [],
-        yielded_more c.loop-item.yielded made.0 c.in-Some.item c.in-Ok.batch made.1 c.in-Ok.is,
-        batch_added (g.P.PartRule.part_of c.args.rule.now) made.0 c.in-Ok.batch c.args.self.now c.loop-item.self c.add.new.self made.2
-            c.in_ok-add-in-Ok.ensures,
-        omega (
-          arith,
-          made.3,
-          ap length (taps_more made.0 c.in-Ok.batch),
-          length-append (taps_of_batches made.0) c.in-Ok.batch,
-          c.len.ensures.number,
-        ),
+      read = read_on _ _ _ _ _ before.read c.in-Some.ensures.steps;
+      added = batch_added (g.P.PartRule.part_of c.args.rule.now) done batch c.args.self.now
+          c.loop-batch.self c.add.new.self before.added c.in_ok-add.ensures;
+      number = omega (
+        arith,
+        before.number,
+        ap length (taps_more done batch),
+        length-append (taps_of_batches done) batch,
+        c.len.ensures.number,
       );
     }
 
 pub overflow_add-taps : goal.overflow_add-taps
 overflow_add-taps g c =
-    let made = c.loop-item.invariant.made in
-    let step = c.in-Some.ensures.steps ∙ ap (λ i. i ∷ c.next.new.self) c.in-Ok.is in
-    let read = read_batch c.args.upload.now made.0 c.in-Ok.batch c.next.new.self
-    (same_items c.args.upload.now c.loop-item.yielded c.next.new.self made.0 (Ok c.in-Ok.batch)
-    c.loop-item.item-iterator c.loop-item.invariant.reading made.1 step) in
-    let left = read_room c.args.upload.now made.0 read.1 read.0 c.in-Ok.batch read.2 in
-    omega (arith, left.0, made.3, c.len.ensures.number)
-
-pub returns-in-Err : goal.returns-in-Err
-returns-in-Err g c =
-    let made = c.loop-item.invariant.made in
-    let step = c.in-Some.ensures.steps ∙ ap (λ i. i ∷ c.next.new.self) c.in-Err.is in
-    let read = read_fault c.args.upload.now made.0 c.in-Err.offset c.in-Err.fault c.next.new.self
-    (same_items c.args.upload.now c.loop-item.yielded c.next.new.self made.0 (Err (c.in-Err.offset, c.in-Err.fault))
-    c.loop-item.item-iterator c.loop-item.invariant.reading made.1 step) in
-    record {
-      batches = made.0;
-      read = record { rest = read.0; is_file = read.1; is_end = read.2 };
-      number = made.3;
-      added = made.2;
-    }
+    let before = c.loop-batch.invariant in
+    let room = room_on c.args.upload.now c.loop-batch.yielded c.in-Some.batch c.loop-batch.good
+    c.next.new.self before.read c.in-Some.ensures.steps in
+    omega (arith, room.0, before.number, c.len.ensures.number)
 
 pub returns : goal.returns
 returns g c =
-    let made = c.loop-item.invariant.made in
-    let P : List Item → Type 0 = IsReading c.args.upload.now in
-    let read = read_all c.args.upload.now made.0
-    (subst P (ap (λ left. c.loop-item.yielded ++ left) c.in-None.ensures.steps.0
-    ∙ (append-nil c.loop-item.yielded ∙ made.1)) c.loop-item.invariant.reading) in
+    let end = c.loop-batch.invariant in
     record {
-      batches = made.0;
-      read = record { rest = read.0; is_file = read.1; is_end = read.2 };
-      number = made.3;
-      added = made.2;
+      batches = c.loop-batch.yielded;
+      read = read_end _ _ _ _ _ end.read c.in_default.ensures.steps c.fault.ensures;
+      number = end.number;
+      added = end.added;
     }

@@ -1,14 +1,13 @@
-use Rattle.std.proofs.Common.{◌≡◌, List, ◌++◌, length, map, Ok}
-use Rattle.tap_views.specs.Layout.{Tap}
-use Rattle.tap_views.specs.Files.{IsReading, taps_of_batches}
+use Rattle.std.proofs.Common.{◌≡◌, ◌++◌, length}
+use Rattle.tap_views.specs.Files.{IsReadAs, taps_of_batches}
 use Rattle.tap_parts.specs.Parts.{AreAddedBy}
 use Rattle.tap_parts.proofs.parts.Parts.add_upload.Given as goal
 
-abbrev pub invariant-loop-item : goal.invariant-loop-item
-invariant-loop-item g l = record {
-  may : (goal.iterator-loop-item g).can_next l.item-iterator;
-  ends : (goal.iterator-loop-item g).is_finite l.item-iterator;
-  reading : IsReading l.upload (l.yielded ++ l.item-iterator);
-  made : (done : List (List Tap)) × (l.yielded ≡ map Ok done)
-      × AreAddedBy (g.P.PartRule.part_of l.rule) (taps_of_batches done) l.fn.self l.self × (l.taps ≡ length (taps_of_batches done));
+abbrev pub invariant-loop-batch : goal.invariant-loop-batch
+invariant-loop-batch g l = record {
+  may : (goal.iterator-loop-batch g).can_next l.good;
+  ends : (goal.iterator-loop-batch g).is_finite l.good;
+  read : IsReadAs l.upload (l.yielded ++ l.good.batches) l.good.fault;
+  added : AreAddedBy (g.P.PartRule.part_of l.rule) (taps_of_batches l.yielded) l.fn.self l.self;
+  number : l.taps ≡ length (taps_of_batches l.yielded);
 }

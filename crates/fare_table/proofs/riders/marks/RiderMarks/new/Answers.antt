@@ -6,7 +6,7 @@ use Rattle.std.specs.Map.{keys_of}
 use Rattle.std.specs.Map.Iter.{deref}
 use Rattle.fare_table.proofs.TokenMarks.{marked-more, marked-new}
 use Rattle.fare_table.specs.RiderMarks.{is_marked, mark_place}
-use Rattle.fare_table.specs.declared.token.Token.{Token}
+use Rattle.tap_views.specs.declared.token.Token.{Token}
 use Rattle.fare_table.proofs.riders.marks.RiderMarks.new.Goals as goal
 
 pub mark_place-place-requires : goal.mark_place-place-requires

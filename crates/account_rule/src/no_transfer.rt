@@ -1,0 +1,27 @@
+//! Why a ride is no transfer.
+
+use fare_table::Mode;
+
+/// Why a ride is no transfer (MTA, free transfers): the first condition of a transfer that fails.
+#[derive(Clone, Copy, Debug, PartialEq, Eq)]
+pub enum NoTransfer {
+    /// The token has no known tap before it.
+    FirstTap,
+    /// More than two hours passed since the last live tap.
+    TooLate {
+        /// The moment of that tap, in milliseconds since 1970-01-01T00:00Z.
+        last: u64,
+    },
+    /// The last live tap was a transfer itself, and a ride includes one transfer.
+    AfterTransfer {
+        /// The moment of that tap, in milliseconds since 1970-01-01T00:00Z.
+        last: u64,
+    },
+    /// The table permits no transfer between the modes of the last live tap and of the ride.
+    NotPermitted {
+        /// The mode of the last live tap.
+        from: Mode,
+        /// The mode of the ride.
+        to: Mode,
+    },
+}

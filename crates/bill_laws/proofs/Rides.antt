@@ -1,0 +1,316 @@
+-- One more tap of a token and its number of rides.
+use Rattle.std.proofs.Common.{◌≡◌, ℕ, suc, ◌+◌, ◌≤◌, ◌<◌, Bool, true, false, not, ◌&&◌, ◌||◌, cond}
+use Rattle.std.proofs.Common.{List, [], ◌∷◌, ◌++◌, Option, Some, None, refl, sym, ap, subst, ◌∙◌}
+use Rattle.std.proofs.Common.{arith, is_some, nat_lt, option_map, All, inl, inr, count_by}
+use Rattle.std.specs.Prelude.{◌⊎◌}
+use Rattle.std.proofs.lemmas.Bool.{lt-ltb}
+use Rattle.std.proofs.lemmas.List.Elements.{All-head, All-tail}
+use Rattle.std.proofs.lemmas.List.Sums.{sum_by-cons}
+use Rattle.fare_table.specs.declared.mode.Mode.{Mode}
+use Rattle.account_rule.specs.declared.reply.Answer.TheVariants.{Paid, Capped}
+use Rattle.account_rule.specs.declared.reply.Reply.{Reply}
+use Rattle.account_rule.specs.declared.tap.TapIn.{TapIn}
+use Rattle.account_rule.specs.Blocks.{last_block}
+use Rattle.account_rule.specs.Chains.{chains, ends_in_transfer}
+use Rattle.account_rule.specs.Laws.{is_ride}
+use Rattle.account_rule.specs.Replies.{live_reply, replies, replies_after, reply, reply_with}
+use Rattle.account_rule.specs.Replies.{ride_reply}
+use Rattle.account_rule.specs.Stands.{giver_of}
+use Rattle.account_rule.specs.Taps.{LiveTap, is_later, live_at, live_tap}
+use Rattle.account_rule.specs.TokenRules.{TokenRules}
+use Rattle.account_rule.specs.inside.Kept.{gives}
+use Rattle.account_rule.proofs.StepLemmas.{is_live, not_known, not_later, reply_live, reply_ride}
+use Rattle.account_rule.proofs.StepLemmas.{reply_stale, reply_transfer, reply_unknown}
+use Rattle.account_rule.proofs.TapLemmas.{chains-same, ends_in_transfer-push, giver-push}
+use Rattle.account_rule.proofs.TapLemmas.{is_later-push}
+
+-- ---- how far the second of two walks over taps is ahead of the first, by who can give a transfer in
+-- each, and how many rides each has had: it never falls behind again
+pub data Ahead (giver other : Option LiveTap) (rides others : ℕ) : Type 0 where
+  by_one : suc rides ≤ others → Ahead giver other rides others
+  free : other ≡ None → rides ≤ others → Ahead giver other rides others
+  same : giver ≡ other → rides ≤ others → Ahead giver other rides others
+
+not_behind : (giver other : Option LiveTap) (n m : ℕ) → Ahead giver other n m → n ≤ m
+not_behind giver other n m (by_one more) = omega (arith, more)
+not_behind giver other n m (free none more) = more
+not_behind giver other n m (same alike more) = more
+
+-- who can give a transfer behind a live tap, and the ride that it is, by whether it got a transfer
+abbrev giver_by : Bool → LiveTap → Option LiveTap
+giver_by given shown = cond given None (Some shown)
+
+abbrev ride_by : Bool → ℕ
+ride_by given = cond (not given) 1 0
+
+none_gives : (permits : Mode → Mode → Bool) (giver : Option LiveTap) (shown : LiveTap)
+    → giver ≡ None → gives permits giver shown ≡ false
+unfolding gives
+none_gives permits giver shown none = ap (λ g. gives permits g shown) none
+
+-- a live tap that both walks take
+step_both : (permits : Mode → Mode → Bool) (giver other : Option LiveTap) (shown : LiveTap) (n m : ℕ)
+    → Ahead giver other n m
+    → Ahead (giver_by (gives permits giver shown) shown) (giver_by (gives permits other shown) shown)
+    (n + ride_by (gives permits giver shown)) (m + ride_by (gives permits other shown))
+step_both permits giver other shown n m (by_one more) =
+    at (gives permits giver shown) (gives permits other shown)
+  where
+    at : (x y : Bool)
+        → Ahead (giver_by x shown) (giver_by y shown) (n + ride_by x) (m + ride_by y)
+    at true true = by_one (omega (arith, more))
+    at true false = by_one (omega (arith, more))
+    at false true = free refl (omega (arith, more))
+    at false false = by_one (omega (arith, more))
+step_both permits giver other shown n m (free none more) =
+    at (gives permits giver shown) (gives permits other shown)
+    (none_gives permits other shown none)
+  where
+    at : (x y : Bool) → y ≡ false
+        → Ahead (giver_by x shown) (giver_by y shown) (n + ride_by x) (m + ride_by y)
+    at x true e = absurd (let t : true ≡ false = e in cc)
+    at true false e = by_one (omega (arith, more))
+    at false false e = same refl (omega (arith, more))
+step_both permits giver other shown n m (same alike more) =
+    at (gives permits giver shown) (gives permits other shown)
+    (ap (λ g. gives permits g shown) alike)
+  where
+    at : (x y : Bool) → x ≡ y
+        → Ahead (giver_by x shown) (giver_by y shown) (n + ride_by x) (m + ride_by y)
+    at true true e = free refl (omega (arith, more))
+    at false false e = same refl (omega (arith, more))
+    at true false e = absurd (let t : true ≡ false = e in cc)
+    at false true e = absurd (let t : true ≡ false = sym e in cc)
+
+-- a live tap that the second walk alone takes
+step_more : (permits : Mode → Mode → Bool) (giver other : Option LiveTap) (shown : LiveTap) (n m : ℕ)
+    → Ahead giver other n m
+    → Ahead giver (giver_by (gives permits other shown) shown) n
+    (m + ride_by (gives permits other shown))
+step_more permits giver other shown n m (by_one more) = at (gives permits other shown)
+  where
+    at : (y : Bool) → Ahead giver (giver_by y shown) n (m + ride_by y)
+    at true = by_one (omega (arith, more))
+    at false = by_one (omega (arith, more))
+step_more permits giver other shown n m (free none more) =
+    at (gives permits other shown) (none_gives permits other shown none)
+  where
+    at : (y : Bool) → y ≡ false → Ahead giver (giver_by y shown) n (m + ride_by y)
+    at true e = absurd (let t : true ≡ false = e in cc)
+    at false e = by_one (omega (arith, more))
+step_more permits giver other shown n m (same alike more) = at (gives permits other shown)
+  where
+    at : (y : Bool) → Ahead giver (giver_by y shown) n (m + ride_by y)
+    at true = free refl (omega (arith, more))
+    at false = by_one (omega (arith, more))
+
+-- ---- what is later behind a tap that the second walk alone takes
+-- the moment is behind the tap, unless the tap is unknown
+abbrev Behind : TapIn → ℕ → Type 0
+Behind added moment = (is_some added.mode ≡ false) ⊎ (added.moment < moment)
+
+-- each known tap is behind it
+abbrev pub IsBehind : TapIn → TapIn → Type 0
+IsBehind added tap = is_some tap.mode ≡ true
+    → (is_some added.mode ≡ false) ⊎ (added.moment < tap.moment)
+
+-- behind it the same moments are later
+Follows : TapIn → List TapIn → List TapIn → Type 0
+Follows added one other =
+    (moment : ℕ) → Behind added moment → is_later other moment ≡ is_later one moment
+
+follows-push : (added : TapIn) (one other : List TapIn) (tap : TapIn) → Follows added one other
+    → Follows added (one ++ tap ∷ []) (other ++ tap ∷ [])
+unfolding Follows
+follows-push added one other tap follows = λ moment behind.
+    is_later-push other tap moment
+    ∙ ap (λ b. b && (not (is_some tap.mode) || nat_lt tap.moment moment)) (follows moment behind)
+    ∙ sym (is_later-push one tap moment)
+
+follows-added : (added : TapIn) (one : List TapIn) → Follows added one (one ++ added ∷ [])
+unfolding Follows
+follows-added added one = λ moment behind.
+    is_later-push one added moment ∙ by_case (is_later one moment) moment behind
+  where
+    by_case : (b : Bool) (moment : ℕ) → Behind added moment
+        → (b && (not (is_some added.mode) || nat_lt added.moment moment)) ≡ b
+    by_case false moment behind = refl
+    by_case true moment (inl unknown) =
+        ap (λ k. not k || nat_lt added.moment moment) unknown
+    by_case true moment (inr below) = by_known (is_some added.mode)
+      where
+        by_known : (k : Bool) → (not k || nat_lt added.moment moment) ≡ true
+        by_known true = lt-ltb added.moment moment below
+        by_known false = refl
+
+same_live : (added : TapIn) (one other : List TapIn) (tap : TapIn) → Follows added one other
+    → IsBehind added tap → live_tap one tap ≡ live_tap other tap
+unfolding Follows live_tap
+same_live added one other tap follows behind = by_mode tap.mode refl
+  where
+    by_mode : (mode : Option Mode) → tap.mode ≡ mode → live_tap one tap ≡ live_tap other tap
+    by_mode None none = not_known one tap none ∙ sym (not_known other tap none)
+    by_mode (Some mode) known =
+        ap (λ b. cond b (option_map (live_at tap.moment) tap.mode) None)
+        (sym (follows tap.moment (behind (ap (λ (m : Option Mode). is_some m) known))))
+
+-- ---- what a tap does to the number of rides and to who can give a transfer
+abbrev ride_of : Reply → ℕ
+ride_of replied = cond (is_ride replied) 1 0
+
+is_ride_reply : (cents : ℕ) → is_ride (ride_reply cents) ≡ true
+unfolding ride_reply reply_with
+is_ride_reply cents = by_test (nat_lt 0 cents)
+  where
+    by_test : (b : Bool) → is_ride (cond b (reply_with Paid cents) (reply_with Capped 0)) ≡ true
+    by_test true = refl
+    by_test false = refl
+
+module _ (rules : TokenRules) where
+  -- who can give a transfer behind these taps
+  giver : List TapIn → Option LiveTap
+  giver taps = giver_of (last_block (chains rules taps))
+
+  -- it is not live, and no ride; or it is live, and a ride unless it gets a transfer
+  data View (taps : List TapIn) (tap : TapIn) : Type 0 where
+    is_dead : live_tap taps tap ≡ None → is_ride (reply rules taps tap) ≡ false → View taps tap
+    is_shown : (shown : LiveTap) → live_tap taps tap ≡ Some shown
+        → is_ride (reply rules taps tap) ≡ not (gives rules.permits (giver taps) shown)
+        → View taps tap
+
+  view_live : (taps : List TapIn) (tap : TapIn) (shown : LiveTap) → live_tap taps tap ≡ Some shown
+      → reply rules taps tap ≡ live_reply rules (taps ++ tap ∷ []) → View taps tap
+  unfolding giver reply_with
+  view_live taps tap shown some replied =
+      by_test (ends_in_transfer rules (taps ++ tap ∷ [])) refl
+    where
+      ends : ends_in_transfer rules (taps ++ tap ∷ []) ≡ gives rules.permits (giver taps) shown
+      ends = ends_in_transfer-push rules taps tap shown some
+
+      by_test : (b : Bool) → ends_in_transfer rules (taps ++ tap ∷ []) ≡ b → View taps tap
+      by_test true e =
+          is_shown shown some (ap is_ride (replied ∙ reply_transfer rules (taps ++ tap ∷ []) e)
+          ∙ ap not (sym e ∙ ends))
+      by_test false e =
+          is_shown shown some (ap is_ride (replied ∙ reply_ride rules (taps ++ tap ∷ []) e)
+          ∙ is_ride_reply _ ∙ ap not (sym e ∙ ends))
+
+  view : (taps : List TapIn) (tap : TapIn) → View taps tap
+  unfolding reply_with
+  view taps tap = by_mode tap.mode refl
+    where
+      by_mode : (mode : Option Mode) → tap.mode ≡ mode → View taps tap
+      by_mode None none =
+          is_dead (not_known taps tap none) (ap is_ride (reply_unknown rules taps tap none))
+      by_mode (Some mode) known = by_moment (is_later taps tap.moment) refl
+        where
+          by_moment : (b : Bool) → is_later taps tap.moment ≡ b → View taps tap
+          by_moment true e =
+              view_live taps tap (live_at tap.moment mode) (is_live taps tap mode known e)
+              (reply_live rules taps tap mode known e)
+          by_moment false e =
+              is_dead (not_later taps tap e) (ap is_ride (reply_stale rules taps tap mode known e))
+
+  giver_dead : (taps : List TapIn) (tap : TapIn) → live_tap taps tap ≡ None
+      → giver (taps ++ tap ∷ []) ≡ giver taps
+  unfolding giver
+  giver_dead taps tap none =
+      ap (λ blocks. giver_of (last_block blocks)) (chains-same rules taps tap none)
+
+  giver_shown : (taps : List TapIn) (tap : TapIn) (shown : LiveTap) → live_tap taps tap ≡ Some shown
+      → giver (taps ++ tap ∷ []) ≡ giver_by (gives rules.permits (giver taps) shown) shown
+  unfolding giver
+  giver_shown taps tap shown some = giver-push rules taps tap shown some
+
+  -- a tap that both take, live in both or in none
+  both : (one other : List TapIn) (tap : TapIn) (n m : ℕ) → Ahead (giver one) (giver other) n m
+      → live_tap one tap ≡ live_tap other tap
+      → Ahead (giver (one ++ tap ∷ [])) (giver (other ++ tap ∷ []))
+      (n + ride_of (reply rules one tap)) (m + ride_of (reply rules other tap))
+  both one other tap n m ahead alike = by_views (view one tap) (view other tap)
+    where
+      by_views : View one tap → View other tap
+          → Ahead (giver (one ++ tap ∷ [])) (giver (other ++ tap ∷ []))
+          (n + ride_of (reply rules one tap)) (m + ride_of (reply rules other tap))
+      by_views (is_dead none dead) (is_dead none_too dead_too) =
+          rw (giver_dead one tap none, giver_dead other tap none_too, dead, dead_too)
+          (subst (λ k. Ahead (giver one) (giver other) k (m + 0)) (omega arith)
+          (subst (λ l. Ahead (giver one) (giver other) n l) (omega arith) ahead))
+      by_views (is_dead none dead) (is_shown shown some ride) =
+          absurd (let e : None ≡ Some shown = sym none ∙ alike ∙ some in cc)
+      by_views (is_shown shown some ride) (is_dead none dead) =
+          absurd (let e : Some shown ≡ None = sym some ∙ alike ∙ none in cc)
+      by_views (is_shown shown some ride) (is_shown seen some_too ride_too) =
+          let e : Some shown ≡ Some seen = sym some ∙ alike ∙ some_too in
+          let is : shown ≡ seen = cc in
+          rw (
+            giver_shown one tap shown some,
+            giver_shown other tap shown (some_too ∙ ap Some (sym is)),
+            ride,
+            ride_too,
+            ← is,
+          )
+          (step_both rules.permits (giver one) (giver other) shown n m ahead)
+
+  -- a tap that the second alone takes
+  more : (one other : List TapIn) (tap : TapIn) (n m : ℕ) → Ahead (giver one) (giver other) n m
+      → Ahead (giver one) (giver (other ++ tap ∷ [])) n (m + ride_of (reply rules other tap))
+  more one other tap n m ahead = by_view (view other tap)
+    where
+      by_view : View other tap
+          → Ahead (giver one) (giver (other ++ tap ∷ [])) n (m + ride_of (reply rules other tap))
+      by_view (is_dead none dead) =
+          rw (giver_dead other tap none, dead)
+          (subst (λ l. Ahead (giver one) (giver other) n l) (omega arith) ahead)
+      by_view (is_shown shown some ride) =
+          rw (giver_shown other tap shown some, ride)
+          (step_more rules.permits (giver one) (giver other) shown n m ahead)
+
+  -- ---- the walk
+  -- the rides among the taps that follow earlier ones
+  abbrev rides_after : List TapIn → List TapIn → ℕ
+  rides_after earlier taps = count_by is_ride (replies_after rules earlier taps)
+
+  rides-cons : (earlier : List TapIn) (tap : TapIn) (taps : List TapIn)
+      → rides_after earlier (tap ∷ taps)
+      ≡ ride_of (reply rules earlier tap) + rides_after (earlier ++ tap ∷ []) taps
+  unfolding replies_after
+  rides-cons earlier tap taps =
+      sum_by-cons ride_of (reply rules earlier tap) (replies_after rules (earlier ++ tap ∷ []) taps)
+
+  walk : (added : TapIn) (taps one other : List TapIn) (n m : ℕ)
+      → Ahead (giver one) (giver other) n m → Follows added one other → All (IsBehind added) taps
+      → n + rides_after one taps ≤ m + rides_after other taps
+  unfolding replies_after
+  walk added [] one other n m ahead follows all =
+      let least = not_behind (giver one) (giver other) n m ahead in omega (arith, least)
+  walk added (tap ∷ taps) one other n m ahead follows all =
+      let rest = walk added taps (one ++ tap ∷ []) (other ++ tap ∷ [])
+      (n + ride_of (reply rules one tap)) (m + ride_of (reply rules other tap))
+      (both one other tap n m ahead
+      (same_live added one other tap follows (All-head (IsBehind added) tap taps all)))
+      (follows-push added one other tap follows) (All-tail (IsBehind added) tap taps all) in
+      let here = rides-cons one tap taps in
+      let there = rides-cons other tap taps in
+      omega (arith, rest, here, there)
+
+  added_after : (added : TapIn) (front taps earlier : List TapIn) → All (IsBehind added) taps
+      → rides_after earlier (front ++ taps) ≤ rides_after earlier (front ++ added ∷ taps)
+  added_after added [] taps earlier all =
+      let first = walk added taps earlier (earlier ++ added ∷ []) 0
+      (0 + ride_of (reply rules earlier added))
+      (more earlier earlier added 0 0 (same refl (omega arith))) (follows-added added earlier) all in
+      let there = rides-cons earlier added taps in
+      omega (arith, first, there)
+  added_after added (tap ∷ front) taps earlier all =
+      let rest = added_after added front taps (earlier ++ tap ∷ []) all in
+      let here = rides-cons earlier tap (front ++ taps) in
+      let there = rides-cons earlier tap (front ++ added ∷ taps) in
+      omega (arith, rest, here, there)
+
+  -- one more tap, before which no known tap of those behind it is, makes no fewer rides
+  pub no_fewer_rides : (added : TapIn) (front taps : List TapIn) → All (IsBehind added) taps
+      → count_by is_ride (replies rules (front ++ taps))
+      ≤ count_by is_ride (replies rules (front ++ added ∷ taps))
+  unfolding replies
+  no_fewer_rides added front taps all = added_after added front taps [] all

@@ -1,0 +1,99 @@
+-- What was asked for was done, of sorted files.
+use Rattle.std.proofs.Common.{◌≡◌, ◌∷◌, ℕ, List, [], Bool, true, false, not, Option, Some, None, map, refl, subst, sym}
+use Rattle.std.specs.Prelude.{MatchBool, is_some, ◌||◌}
+use Rattle.std.specs.Io.KnownBytes.{Appends}
+use Rattle.fare_table.specs.Fares.{Fares}
+use Rattle.tap_views.specs.declared.token.Token.{Token}
+use Rattle.program_manners.specs.Loads.{Loaded}
+use Rattle.fare_program.specs.Fault.{charge_mistake_of, explain_mistake, first_of_two, ledger_mistake, mistake}
+use Rattle.fare_program.specs.Fault.{settle_mistake, sorted_mistake, sorted_mistake_of, token_mistake}
+use Rattle.fare_program.specs.Options.{Asked}
+use Rattle.fare_program.specs.Program.{Does, GaveUp, GaveUpOn, IsTokenIn, LoadsTable, RunsListing, RunsService, RunsSorted}
+use Rattle.fare_program.specs.Settling.{ShowsSettled}
+use Rattle.fare_program.specs.declared.fault.Fault.{Fault}
+use Rattle.fare_program.specs.declared.fault.Fault.TheVariants.{SettleNoTable, SettleList}
+use Rattle.fare_program.specs.inside.ChargedSorted.{IsChargedSorted}
+
+-- where the first of two is none, neither is one
+neither : (a b : Option Fault) → first_of_two a b ≡ None → (a ≡ None) × (b ≡ None)
+neither None b is = (refl, is)
+neither (Some fault) b is = cc
+
+-- sorted files are settled
+settles : (sorted settle : Bool) (files : List (List ℕ)) → sorted ≡ true
+    → sorted_mistake_of sorted settle files ≡ None → settle ≡ true
+settles false settle files is right = cc
+settles true false files is right = cc
+settles true true files is right = refl
+
+-- what is settled is not listed, and there is a table
+has_table_named : (settle list : Bool) (table : Option (List ℕ)) → settle ≡ true
+    → charge_mistake_of SettleNoTable SettleList settle list table ≡ None
+    → (list ≡ false) × (is_some table ≡ true)
+has_table_named false list table is right = cc
+has_table_named true list None is right = cc
+has_table_named true true (Some name) is right = cc
+has_table_named true false (Some name) is right = (refl, refl)
+
+charges : (asked : Asked) → mistake asked ≡ None → asked.sorted ≡ true
+    → (asked.list ≡ false) × (is_some asked.table ≡ true)
+charges asked right sorted =
+    let (token, one) = neither (token_mistake asked) _ right in
+    let (settle, two) = neither (settle_mistake asked) _ one in
+    let (ledger, three) = neither (ledger_mistake asked) _ two in
+    let (explain, four) = neither (explain_mistake asked) (sorted_mistake asked) three in
+    has_table_named asked.settle asked.list asked.table (settles asked.sorted asked.settle asked.files sorted four)
+    settle
+
+loaded_table : (table : Option (List ℕ)) (told told' : Option (List Loaded)) (fares : Option Fares)
+    → is_some table ≡ true → LoadsTable table told told' fares → (f : Fares) × (fares ≡ Some f)
+loaded_table None told told' fares some loads = cc
+loaded_table (Some name) told told' fares some loads = (loads.1, loads.4)
+
+-- the table that is named was loaded
+pub has_table : (asked : Asked) (told told' : Option (List Loaded)) (fares : Option Fares)
+    → mistake asked ≡ None → asked.sorted ≡ true → LoadsTable asked.table told told' fares
+    → (f : Fares) × (fares ≡ Some f)
+has_table asked told told' fares right sorted loads =
+    loaded_table asked.table told told' fares (charges asked right sorted).1 loads
+
+no_list : (list : Bool) (table : Option (List ℕ)) → list ≡ false → is_some table ≡ true
+    → (list || not (is_some table)) ≡ false
+no_list true table none some = cc
+no_list false None none some = cc
+no_list false (Some name) none some = refl
+
+pub does_sorted : (asked : Asked) (known : List ℕ → Option (List ℕ)) (told between : Option (List Loaded))
+    (fares : Option Fares) (token : Option Token) (out out' : Option (List ℕ)) (well : Bool)
+    → mistake asked ≡ None → asked.sorted ≡ true → LoadsTable asked.table told between fares
+    → IsTokenIn asked.token token
+    → (well ≡ true) × ((f : Fares) → fares ≡ Some f
+    → IsChargedSorted asked (map known asked.files) f token out out')
+    → Does asked known told between out out' well
+does_sorted asked known told between fares token out out' well right sorted loads is_token made =
+    let (list, some) = charges asked right sorted in
+    let (f, is) = has_table asked told between fares right sorted loads in
+    let done = made.1 f is in
+    subst (λ (b : Bool). MatchBool b (RunsListing asked.table asked.files told between out out' well)
+    (MatchBool asked.sorted (RunsSorted asked known told between out out' well)
+    (RunsService asked told between out out' well)))
+    (sym (no_list asked.list asked.table list some))
+    (subst (λ (b : Bool). MatchBool b (RunsSorted asked known told between out out' well)
+    (RunsService asked told between out out' well)) (sym sorted) (record {
+      fares = f;
+      loads = subst (LoadsTable asked.table told between) is loads;
+      token = token;
+      is_token = is_token;
+      text = done.text;
+      shows = λ files are. subst (λ (b : Bool). ShowsSettled asked f files token done.text b) (sym made.0)
+          (done.shows files are);
+      written = done.written;
+      is_well = made.0;
+    }))
+
+-- nothing is written of what was given up at once
+pub gave_up_on : (asked : Asked) (fault : Fault) (said said' : Option (List ℕ)) (failed : Bool)
+    (out out' : Option (List ℕ)) → GaveUp fault said said' failed out out'
+    → GaveUpOn asked fault said said' failed out out'
+gave_up_on asked fault said said' failed out out' is =
+    record { line_told = is.line_told; kept = λ write late. is.kept write }

@@ -1,0 +1,52 @@
+use Rattle.std.proofs.Common.{ℕ, List, Vec, Global, Bor, None, ap, map, inl, inr, refl, subst, sym}
+use Rattle.std.proofs.lemmas.Result.{IfOk-weaker}
+use Rattle.fare_program.specs.Program.{LoadsFiles, LoadsTable, names_to_load}
+use Rattle.fare_program.specs.inside.Options.{asked_of}
+use Rattle.fare_program.proofs.Works.{does_charge, does_list}
+use Rattle.fare_program.proofs.program.work_by_table.Goals as goal
+
+abbrev bytes_in : Vec ℕ Global → List ℕ
+bytes_in file = file.items
+
+abbrev name_in : Bor (List ℕ) → List ℕ
+name_in name = name.now
+
+pub returns-then-options-clause-ok : goal.returns-then-options-clause-ok
+returns-then-options-clause-ok g c =
+    let loaded = subst (λ (ns : List (Bor (List ℕ))). LoadsFiles (names_to_load (map name_in ns))
+    (g.S.Source.loaded c.args.source.now) (g.S.Source.loaded c.load_files.new.source)
+    (map bytes_in c.in_ok-files.files.items)) c.deref.ensures.value c.in_ok-files.ensures.ok in
+    IfOk-weaker c.list.result _ _
+    (λ well done told before loads is_token kept live. does_list (asked_of c.args.options.now) (g.D.Disk.bytes_under c.args.disk.now) told _ _ before _ _ well
+    c.args.table loads kept (map bytes_in c.deref-then-options.result.now)
+    (subst (λ (fs : List (List ℕ)). LoadsFiles (names_to_load (asked_of c.args.options.now).files)
+    (g.S.Source.loaded c.args.source.now) (g.S.Source.loaded c.load_files.new.source) fs)
+    (ap (map bytes_in) (sym c.deref-then-options.ensures.value)) loaded)
+    (inl c.if-options.true) done)
+    c.list.ensures.ok
+
+pub returns-in-Some-clause-ok : goal.returns-in-Some-clause-ok
+returns-in-Some-clause-ok g c =
+    let loaded = subst (λ (ns : List (Bor (List ℕ))). LoadsFiles (names_to_load (map name_in ns))
+    (g.S.Source.loaded c.args.source.now) (g.S.Source.loaded c.load_files.new.source)
+    (map bytes_in c.in_ok-files.files.items)) c.deref.ensures.value c.in_ok-files.ensures.ok in
+    IfOk-weaker c.charge.result _ _
+    (λ well done told before loads is_token kept live. does_charge (asked_of c.args.options.now) (g.D.Disk.bytes_under c.args.disk.now) told _ _ before _ _ well
+    c.args.table loads kept c.in-Some.table (map bytes_in c.in_ok-files.files.items) c.args.token c.in-Some.is
+    loaded is_token c.if-options.false live done)
+    c.charge.ensures.ok
+
+pub returns-clause-ok : goal.returns-clause-ok
+returns-clause-ok g c =
+    let loaded = subst (λ (ns : List (Bor (List ℕ))). LoadsFiles (names_to_load (map name_in ns))
+    (g.S.Source.loaded c.args.source.now) (g.S.Source.loaded c.load_files.new.source)
+    (map bytes_in c.in_ok-files.files.items)) c.deref.ensures.value c.in_ok-files.ensures.ok in
+    IfOk-weaker c.list-in-None.result _ _
+    (λ well done told before loads is_token kept live. does_list (asked_of c.args.options.now) (g.D.Disk.bytes_under c.args.disk.now) told _ _ before _ _ well
+    None (subst (LoadsTable (asked_of c.args.options.now).table told (g.S.Source.loaded c.args.source.now)) c.in-None.is loads)
+    kept (map bytes_in c.deref-in-None.result.now)
+    (subst (λ (fs : List (List ℕ)). LoadsFiles (names_to_load (asked_of c.args.options.now).files)
+    (g.S.Source.loaded c.args.source.now) (g.S.Source.loaded c.load_files.new.source) fs)
+    (ap (map bytes_in) (sym c.deref-in-None.ensures.value)) loaded)
+    (inr refl) done)
+    c.list-in-None.ensures.ok

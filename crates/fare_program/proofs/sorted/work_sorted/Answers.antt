@@ -1,0 +1,29 @@
+use Rattle.std.proofs.Common.{◌≡◌, ◌∙◌, ℕ, List, Bor, Option, Some, ap, map, refl, subst, sym, true}
+use Rattle.fare_table.specs.Fares.{Fares}
+use Rattle.fare_program.specs.Settling.{ShowsSettled}
+use Rattle.fare_program.specs.inside.Options.{asked_of}
+use Rattle.fare_program.proofs.sorted.work_sorted.Goals as goal
+
+abbrev name_in : Bor (List ℕ) → List ℕ
+name_in name = name.now
+
+same : (a b : Fares) → Some a ≡ Some b → a ≡ b
+same a b is = cc
+
+pub returns-clause-ok : goal.returns-clause-ok
+returns-clause-ok g c =
+    let asked = asked_of c.args.options.now in
+    let done = c.in_ok-charge_sorted.ensures.ok in (
+      refl,
+      λ fares is.
+          let one : c.in-Some.table ≡ fares = same c.in-Some.table fares (sym c.in-Some.is ∙ is) in
+          record {
+            text = done.text;
+            shows = λ files are. subst (λ (f : Fares). ShowsSettled asked f files c.args.token done.text true) one
+                (done.shows files (ap (map g.D.File.Placed.bytes) c.deref-2.ensures.value
+                ∙ c.in_ok-files.ensures.opened
+                ∙ ap (λ (ns : List (Bor (List ℕ))). map (g.D.Disk.bytes_under c.args.disk.now) (map name_in ns)) c.deref.ensures.value
+                ∙ are));
+            written = done.written;
+          },
+    )

@@ -1,0 +1,33 @@
+use Rattle.std.proofs.Common.{◌≡◌, Bool, None, subst, sym, true}
+use Rattle.std.specs.Prelude.{MatchBool}
+use Rattle.std.proofs.KnownBytes.{Appends-kept, Keeps-refl}
+use Rattle.ledger_texts.specs.Ledger.{IsLedgerOver}
+use Rattle.fare_program.specs.Settling.{IsTextOver}
+use Rattle.fare_program.specs.inside.Options.{asked_of}
+use Rattle.fare_program.proofs.sorted.write_ledger.Goals as goal
+
+pub returns-in_ok-flush-in-Ok-clause-ok : goal.returns-in_ok-flush-in-Ok-clause-ok
+returns-in_ok-flush-in-Ok-clause-ok g c = λ ledger.
+    let asked = asked_of c.args.options.now in
+    let fares = c.args.table.now in
+    let (text, is, written) = c.in-Ok.ensures.ok in
+    record {
+      text = text;
+      shows = λ all are.
+          let made = is all are in
+          record {
+            history = made.history;
+            is_settled = made.is_settled;
+            shows = subst (λ (b : Bool). MatchBool b (IsLedgerOver fares made.history None text)
+                (IsTextOver asked.explain None fares all made.history text)) (sym ledger) made.over;
+            ends = c.in-Ok._ends.items;
+            ended = c.in-Ok.ensures.ended all are;
+            is_well = sym c.in-Ok.ensures.posted;
+          };
+      written = Appends-kept _ _ _ text written c.flush.ensures.kept;
+    }
+
+pub returns-in-Err-clause-fault : goal.returns-in-Err-clause-fault
+returns-in-Err-clause-fault g c = λ write late.
+    let same = c.in-Err.ensures.kept (c.of_bill.ensures.before write late) in
+    rw same (Keeps-refl _)

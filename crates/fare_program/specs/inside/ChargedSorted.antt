@@ -1,0 +1,16 @@
+-- Sorted files that were charged: what private functions alone cite.
+use Rattle.std.specs.Prelude.{◌≡◌, ℕ, Bool, List, Option, Some, map, true}
+use Rattle.std.specs.Io.KnownBytes.{Appends}
+use Rattle.fare_table.specs.Fares.{Fares}
+use Rattle.tap_views.specs.declared.token.Token.{Token}
+use Rattle.fare_program.specs.Options.{Asked}
+use Rattle.fare_program.specs.Settling.{ShowsSettled}
+
+-- What is asked for of settled files was appended to the writer: of the files under these names, if
+-- what they have is known.
+pub record IsChargedSorted (asked : Asked) (known : List (Option (List ℕ))) (fares : Fares)
+    (token : Option Token) (out out' : Option (List ℕ)) : Type 0 where
+  pub text : List ℕ
+  pub shows : (files : List (List ℕ)) → known ≡ map Some files
+      → ShowsSettled asked fares files token text true
+  pub written : Appends out out' text

@@ -1,0 +1,124 @@
+//! Named files that are read while their taps are settled.
+ghost use Rattle.std.specs.Prelude.{◌≡◌, None, IfErr, IfOk, IfSome, length};
+ghost use Rattle.std.specs.Io.KnownBytes.{Keeps};
+ghost use Rattle.fare_program.specs.inside.Options.{asked_of};
+ghost use Rattle.fare_program.specs.inside.ChargedAhead.{IsChargedAhead};
+
+use crate::fault::Fault;
+use crate::files_ahead::Disk;
+use crate::options::Options;
+use crate::settle::charge_settled;
+use fare_table::FareTable;
+use settlement::Uploads;
+use std::alloc::{AllocError, Global};
+use std::io::Write;
+use std::marker::Sync;
+use std::random::RandomSource;
+use std::thread::Threads;
+use tap_views::Token;
+
+/// Files of a disk, each of which is read when its turn comes.
+#[derive(Clone, Copy)]
+pub(crate) struct NamedFiles<'a, D> {
+    /// Where the memory comes from.
+    pub(crate) alloc: Global,
+    /// Where the files lie.
+    pub(crate) disk: &'a D,
+    /// Their names.
+    pub(crate) names: &'a [&'a str],
+    /// The size of each in bytes, as it was seen before.
+    pub(crate) sizes: &'a [u64],
+}
+
+impl<D: Disk> Uploads for NamedFiles<'_, D> {
+    ghost use Rattle.std.specs.Prelude.{length};
+
+    ghost number = { λ files. length files.names.now };
+
+    // No contract says what a file of a disk has.
+    ghost may_be = { λ files upload bytes. Unit {0} };
+
+    fn len(&self) -> usize {
+        self.names.len()
+    }
+
+    fn size(&self, upload: usize) -> usize {
+        match self.sizes.get(upload) {
+            Some(size) => *size as usize,
+            None => 0,
+        }
+    }
+
+    fn push_sample(&self, upload: usize, sample: &mut Vec<u128>) -> Result<(), AllocError> {
+        match self.names.get(upload) {
+            Some(name) => self.disk.push_sample(self.alloc, name, sample),
+            None => Ok(()),
+        }
+    }
+
+    fn read(&self, upload: usize, room: Vec<u8>) -> Result<Vec<u8>, AllocError> {
+        let mut room = room;
+        // one byte more shows that the file has ended
+        room.resize(self.size(upload).saturating_add(1), 0)?;
+        match self.disk.read_into(self.names[upload], room) {
+            Ok(bytes) => Ok(bytes),
+            Err(_) => Err(AllocError),
+        }
+    }
+}
+
+/// The sizes of the files of these names, if all may be read before they are due.
+pub(crate) fn sizes_of<D: Disk>(alloc: Global, disk: &D, names: &[&str]) -> Option<Vec<u64>> {
+    let mut sizes = Vec::new(alloc);
+    for name in names {
+        if sizes.push(disk.size_ahead(name)?).is_err() {
+            return None;
+        }
+    }
+    Some(sizes)
+}
+
+/// Settles the named files while they are read, and writes what is asked for, where that can be
+/// done: the source keeps no loads, and all files may be read before they are due. Says whether each
+/// file was posted whole.
+///
+/// Where it says nothing, nothing was written. Then the files are to be loaded in their turns: so the
+/// fault that is told is that of the first file in the order of the words.
+pub(crate) fn charge_ahead<'a, R: Threads + RandomSource + Sync, D: Disk + Sync, W: Write>(
+    rt: &R,
+    alloc: Global,
+    disk: &D,
+    options: &Options<'a>,
+    keeps_loads: bool,
+    table: &Option<FareTable>,
+    token: Option<Token>,
+    out: &mut W,
+) -> Result<Option<bool>, Fault<'a>>
+    ensures done { IfOk result (λ done. IfSome done (IsChargedAhead (asked_of options.now)
+        keeps_loads table.now token (W.contents out.old) (W.contents out.new))) }
+    ensures none { IfOk result (λ done. done ≡ None
+        → Keeps (W.contents out.old) (W.contents out.new)) }
+    ensures fault { IfErr result (λ fault. fault ≡ Fault.Write) }
+{
+    if !options.settle || options.list || keeps_loads || options.files.is_empty() {
+        return Ok(None);
+    }
+    let Some(table) = table else {
+        return Ok(None);
+    };
+    let names = options.files.as_slice();
+    let Some(sizes) = sizes_of(alloc, disk, names) else {
+        return Ok(None);
+    };
+    let uploads = NamedFiles {
+        alloc,
+        disk,
+        names,
+        sizes: &sizes,
+    };
+    match charge_settled(rt, alloc, options, table, token, &uploads, out) {
+        Ok(well) => Ok(Some(well)),
+        Err(Fault::Write) => Err(Fault::Write),
+        Err(_) => Ok(None),
+    }
+}

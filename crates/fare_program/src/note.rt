@@ -1,0 +1,73 @@
+//! What a person should know of a run before it begins.
+ghost use Rattle.std.specs.Prelude.{◌≡◌, ◌⊎◌, Some, None, IfOk, is_some, map, string_bytes, true};
+ghost use Rattle.fare_program.specs.Fault.{mistake};
+ghost use Rattle.fare_program.specs.Notes.{note_of, note_text};
+ghost use Rattle.fare_program.specs.Options.{Parses, asked_by};
+ghost use Rattle.fare_program.specs.inside.Options.{asked_of};
+
+use crate::options::Options;
+use crate::program::checked;
+use clap::error::ErrorKind;
+use std::alloc::Global;
+use std::fmt;
+use tap_views::NoMemory;
+
+/// What a person should know of a run before it begins. Its `Display` is the line without its line
+/// feed. No run tells it itself.
+#[derive(Clone, Copy, Debug, PartialEq, Eq)]
+pub enum Note {
+    /// No FILE is named, so that the standard input is read.
+    ReadsInput,
+    /// Several files are charged as they are drawn, so that their order can change the bill.
+    FollowsFileOrder,
+}
+
+impl Note {
+    /// The note on what the words ask for, if there is one. There is none on words that are no
+    /// command line, or that have a mistake.
+    pub fn of(alloc: Global, words: &[String]) -> Result<Option<Note>, NoMemory>
+        ensures right { Parses (map string_bytes words.now)
+            → mistake (asked_by (map string_bytes words.now)) ≡ None
+            → IfOk result (λ note. note ≡ note_of (asked_by (map string_bytes words.now))) }
+        ensures wrong { (¬ Parses (map string_bytes words.now))
+            ⊎ (is_some (mistake (asked_by (map string_bytes words.now))) ≡ true)
+            → IfOk result (λ note. note ≡ None) }
+    {
+        let options = match Options::read(alloc, words) {
+            Ok(options) => options,
+            Err(error) if error.kind() == ErrorKind::OutOfMemory => return Err(NoMemory),
+            Err(_) => return Ok(None),
+        };
+        match checked(&options) {
+            Ok(_) => Ok(note_on(&options)),
+            Err(_) => Ok(None),
+        }
+    }
+}
+
+/// The note on these options, if there is one.
+fn note_on(options: &Options<'_>) -> Option<Note>
+    ensures { result ≡ note_of (asked_of options.now) }
+{
+    match options.files.len() {
+        0 => Some(Note::ReadsInput),
+        1 => None,
+        _ if options.list || options.settle || options.table.is_none() => None,
+        _ => Some(Note::FollowsFileOrder),
+    }
+}
+
+impl fmt::Display for Note {
+    ghost output = { λ note. Some (note_text note) };
+
+    fn fmt<W: fmt::Write>(&self, f: &mut fmt::Formatter<W>) -> fmt::Result {
+        match self {
+            Note::ReadsInput => {
+                f.write_str("note: no FILE is named, so the standard input is read")
+            }
+            Note::FollowsFileOrder => f.write_str(
+                "note: the order of the files can change this bill. With --settle it cannot",
+            ),
+        }
+    }
+}

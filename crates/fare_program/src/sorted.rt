@@ -1,0 +1,203 @@
+//! What is asked for of sorted files, which are read in pieces and merged.
+ghost use Rattle.std.specs.Prelude.{◌≡◌, ◌≢◌, ℕ, true, false, List, Some, None, IfErr, IfOk, OnOk};
+ghost use Rattle.std.specs.Prelude.{◌++◌, ◌∷◌, [], is_some, map};
+ghost use Rattle.std.specs.Io.KnownBytes.{Keeps};
+ghost use Rattle.fare_table.specs.Fares.{Fares};
+ghost use Rattle.fare_program.specs.Fault.{IsLate, status_of};
+ghost use Rattle.fare_program.specs.inside.ChargedSorted.{IsChargedSorted};
+ghost use Rattle.fare_program.specs.inside.Options.{asked_of};
+
+use crate::bill::write_billed;
+use crate::fault::Fault;
+use crate::files_ahead::Disk;
+use crate::options::Options;
+use crate::output::flush;
+use crate::settled_token::write_text;
+use fare_table::FareTable;
+use placed_files::Placed;
+use settlement::laws;
+use shard_book::HashSeed;
+use sorted_bills::{sorted_bill, sorted_taps_of, write_sorted_ledger};
+use std::alloc::Global;
+use std::io::Write;
+use std::marker::Sync;
+use std::random::RandomSource;
+use std::thread::Threads;
+use tap_views::{NoMemory, Token};
+
+/// Adds an opened file.
+fn push<F: Drop>(files: &mut Vec<F>, file: F) -> Result<(), NoMemory>
+    ensures { OnOk result (files.new.items ≡ files.old.items ++ file ∷ []) }
+{
+    files.push(file)?;
+    Ok(())
+}
+
+/// The files of these names, opened in their order.
+fn open_files<'a, D: Disk>(
+    alloc: Global,
+    disk: &D,
+    names: &[&'a str],
+) -> Result<Vec<D::File>, Fault<'a>>
+    ensures opened { IfOk result (λ files. map D.File.bytes files.items
+        ≡ map (D.bytes_under disk.now) (map (λ n. n.now) names.now)) }
+    ensures status { IfErr result (λ fault. status_of fault ≡ 1) }
+{
+    let mut files = Vec::new(alloc);
+    for name in names {
+        match disk.open_placed(name) {
+            Ok(file) => push(&mut files, file)?,
+            Err(fault) => return Err(Fault::of_unopened(name, fault)),
+        }
+    }
+    Ok(files)
+}
+
+/// Writes the report of the files, which so many workers make.
+fn write_report<'a, R: Threads + RandomSource + Sync, F: Placed + Sync, W: Write>(
+    rt: &R,
+    alloc: Global,
+    options: &Options<'a>,
+    table: &FareTable,
+    files: &[F],
+    out: &mut W,
+) -> Result<(), Fault<'a>>
+    ensures ok { OnOk result ((asked_of options.now).ledger ≡ false
+        → IsChargedSorted (asked_of options.now) (map F.bytes files.now) table.now None
+        (W.contents out.old) (W.contents out.new)) }
+    ensures status { IfErr result (λ fault. status_of fault ≡ 1) }
+    ensures fault { IfErr result (λ fault. fault ≢ Fault.Write → (IsLate fault → ⊥)
+        → Keeps (W.contents out.old) (W.contents out.new)) }
+{
+    let seed = HashSeed::new(rt)?;
+    match sorted_bill(rt, alloc, table, seed, files, options.workers) {
+        Ok(made) => {
+            write_billed(alloc, made, out)?;
+            Ok(())
+        }
+        Err(fault) => Err(Fault::of_bill(&options.files, fault)),
+    }
+}
+
+/// Writes the ledger of the files, which so many workers make.
+fn write_ledger<'a, R: Threads + Sync, F: Placed + Sync, W: Write>(
+    rt: &R,
+    alloc: Global,
+    options: &Options<'a>,
+    table: &FareTable,
+    files: &[F],
+    out: &mut W,
+) -> Result<(), Fault<'a>>
+    ensures ok { OnOk result ((asked_of options.now).ledger ≡ true
+        → IsChargedSorted (asked_of options.now) (map F.bytes files.now) table.now None
+        (W.contents out.old) (W.contents out.new)) }
+    ensures status { IfErr result (λ fault. status_of fault ≡ 1) }
+    ensures fault { IfErr result (λ fault. fault ≢ Fault.Write → (IsLate fault → ⊥)
+        → Keeps (W.contents out.old) (W.contents out.new)) }
+{
+    match write_sorted_ledger(rt, alloc, table, files, out, options.workers) {
+        Ok(_ends) => {
+            flush(out)?;
+            Ok(())
+        }
+        Err(fault) => Err(Fault::of_bill(&options.files, fault)),
+    }
+}
+
+/// Writes what is asked for of the token: of the taps of the files no others are kept.
+fn write_token<'a, R: Threads + Sync, F: Placed + Sync, W: Write>(
+    rt: &R,
+    alloc: Global,
+    options: &Options<'a>,
+    table: &FareTable,
+    token: Token,
+    files: &[F],
+    out: &mut W,
+) -> Result<(), Fault<'a>>
+    ensures ok { OnOk result (IsChargedSorted (asked_of options.now) (map F.bytes files.now)
+        table.now (Some token) (W.contents out.old) (W.contents out.new)) }
+    ensures status { IfErr result (λ fault. status_of fault ≡ 1) }
+    ensures fault { IfErr result (λ fault. fault ≢ Fault.Write → (IsLate fault → ⊥)
+        → Keeps (W.contents out.old) (W.contents out.new)) }
+{
+    match sorted_taps_of(rt, alloc, files, token, options.workers) {
+        Ok(made) => {
+            // proof: the taps, posted alone, are the token's entries in the settled history
+            laws::posted_taps();
+            write_text(alloc, options, table, token, &made.taps, out)?;
+            flush(out)?;
+            Ok(())
+        }
+        Err(fault) => Err(Fault::of_bill(&options.files, fault)),
+    }
+}
+
+/// Writes what is asked for of all tokens: the ledger, or the report.
+fn charge_all<'a, R: Threads + RandomSource + Sync, F: Placed + Sync, W: Write>(
+    rt: &R,
+    alloc: Global,
+    options: &Options<'a>,
+    table: &FareTable,
+    files: &[F],
+    out: &mut W,
+) -> Result<(), Fault<'a>>
+    ensures ok { OnOk result (IsChargedSorted (asked_of options.now) (map F.bytes files.now)
+        table.now None (W.contents out.old) (W.contents out.new)) }
+    ensures status { IfErr result (λ fault. status_of fault ≡ 1) }
+    ensures fault { IfErr result (λ fault. fault ≢ Fault.Write → (IsLate fault → ⊥)
+        → Keeps (W.contents out.old) (W.contents out.new)) }
+{
+    if options.ledger {
+        return write_ledger(rt, alloc, options, table, files, out);
+    }
+    write_report(rt, alloc, options, table, files, out)
+}
+
+/// Charges the files and writes what is asked for.
+fn charge_sorted<'a, R: Threads + RandomSource + Sync, F: Placed + Sync, W: Write>(
+    rt: &R,
+    alloc: Global,
+    options: &Options<'a>,
+    table: &FareTable,
+    token: Option<Token>,
+    files: &[F],
+    out: &mut W,
+) -> Result<(), Fault<'a>>
+    ensures ok { OnOk result (IsChargedSorted (asked_of options.now) (map F.bytes files.now)
+        table.now token (W.contents out.old) (W.contents out.new)) }
+    ensures status { IfErr result (λ fault. status_of fault ≡ 1) }
+    ensures fault { IfErr result (λ fault. fault ≢ Fault.Write → (IsLate fault → ⊥)
+        → Keeps (W.contents out.old) (W.contents out.new)) }
+{
+    match token {
+        Some(token) => write_token(rt, alloc, options, table, token, files, out),
+        None => charge_all(rt, alloc, options, table, files, out),
+    }
+}
+
+/// Opens the named files, each of which has its taps in canonical order, charges them by the table,
+/// of which there is one, and writes what is asked for. It ends well, or with a fault: a file that is
+/// out of order or damaged is refused whole.
+pub(crate) fn work_sorted<'a, R: Threads + RandomSource + Sync, D: Disk, W: Write>(
+    rt: &R,
+    alloc: Global,
+    disk: &D,
+    options: &Options<'a>,
+    table: Option<FareTable>,
+    token: Option<Token>,
+    out: &mut W,
+) -> Result<bool, Fault<'a>>
+    requires table { is_some table ≡ true }
+    ensures ok { IfOk result (λ well. (well ≡ true) × ((fares : Fares) → table ≡ Some fares
+        → IsChargedSorted (asked_of options.now)
+        (map (D.bytes_under disk.now) (asked_of options.now).files) fares token
+        (W.contents out.old) (W.contents out.new))) }
+    ensures status { IfErr result (λ fault. status_of fault ≡ 1) }
+    ensures fault { IfErr result (λ fault. fault ≢ Fault.Write → (IsLate fault → ⊥)
+        → Keeps (W.contents out.old) (W.contents out.new)) }
+{
+    let Some(table) = table else { unreachable!() };
+    let files = open_files(alloc, disk, &options.files)?;
+    charge_sorted(rt, alloc, options, &table, token, &files, out)?;
+    Ok(true)
+}

@@ -1,0 +1,98 @@
+//! Why sorted files are not charged, as it is told.
+ghost use Rattle.std.specs.Prelude.{◌≡◌, Some};
+ghost use Rattle.fare_program.specs.SortedFaults.{late_text, sorted_text, unopened_text};
+
+use placed_files::Unopened;
+use sorted_taps::SortedFault;
+use std::fmt;
+
+/// A sorted file that was not opened. Its `Display` is the fault line without its line feed.
+#[derive(Clone, Copy, Debug)]
+pub(crate) struct UnopenedFile<'a> {
+    /// The name of the file.
+    pub(crate) name: &'a str,
+    /// Why it was not opened.
+    pub(crate) fault: Unopened,
+}
+
+impl fmt::Display for UnopenedFile<'_> {
+    ghost output = { λ file. Some (unopened_text file.name.now file.fault) };
+
+    fn fmt<W: fmt::Write>(&self, f: &mut fmt::Formatter<W>) -> fmt::Result {
+        match self.fault {
+            Unopened::Unread => write!(f, "fault: cannot read {}", self.name),
+            Unopened::NotRegular => write!(f, "fault: {} is no regular file", self.name),
+            Unopened::TooManyOpen => {
+                write!(
+                    f,
+                    "fault: cannot open {}: too many files are open",
+                    self.name
+                )
+            }
+            Unopened::NoMemory => f.write_str("fault: out of memory"),
+        }
+    }
+}
+
+/// A file that is not read as taps in canonical order. Its `Display` is the fault line without its
+/// line feed.
+#[derive(Clone, Copy, Debug)]
+pub(crate) struct UnsortedFile<'a> {
+    /// The name of the file.
+    pub(crate) name: &'a str,
+    /// Why it is refused.
+    pub(crate) fault: SortedFault,
+}
+
+impl fmt::Display for UnsortedFile<'_> {
+    ghost output = { λ file. Some (sorted_text file.name.now file.fault) };
+
+    fn fmt<W: fmt::Write>(&self, f: &mut fmt::Formatter<W>) -> fmt::Result {
+        match self.fault {
+            SortedFault::OutOfOrder { tap } => {
+                write!(f, "fault: {}: tap {} is out of order", self.name, tap)
+            }
+            SortedFault::Layout { offset, fault } => {
+                let why = fault.name();
+                write!(f, "fault: {} at {} {}", self.name, offset, why)
+            }
+            SortedFault::Unread => write!(f, "fault: cannot read {}", self.name),
+            SortedFault::NoMemory => f.write_str("fault: out of memory"),
+        }
+    }
+}
+
+/// Why the text of sorted files was broken off: each file was checked before its first byte was
+/// written.
+#[derive(Clone, Copy, Debug)]
+pub(crate) enum LateFault {
+    /// A file has not the taps that it had when it was checked.
+    Changed,
+    /// A file that was checked cannot be read again.
+    Unread,
+    /// A growth of memory was refused.
+    NoMemory,
+}
+
+impl LateFault {
+    /// Why a file that was checked is refused.
+    pub(crate) fn of(fault: SortedFault) -> LateFault {
+        match fault {
+            SortedFault::OutOfOrder { .. } | SortedFault::Layout { .. } => LateFault::Changed,
+            SortedFault::Unread => LateFault::Unread,
+            SortedFault::NoMemory => LateFault::NoMemory,
+        }
+    }
+}
+
+impl fmt::Display for LateFault {
+    ghost output = { λ fault. Some (late_text fault) };
+
+    fn fmt<W: fmt::Write>(&self, f: &mut fmt::Formatter<W>) -> fmt::Result {
+        f.write_str(match self {
+            LateFault::Changed => "fault: a file changed while it was read",
+            LateFault::Unread => "fault: a file cannot be read again",
+            LateFault::NoMemory => "fault: out of memory",
+        })
+    }
+}

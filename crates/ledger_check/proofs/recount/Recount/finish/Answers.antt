@@ -1,0 +1,18 @@
+use Rattle.std.proofs.Common.{◌≡◌, ◌++◌, ◌∙◌, ℕ, List, sym, ap, append_assoc, string_bytes}
+use Rattle.std.specs.Prelude.{nat_eq}
+use Rattle.ledger_check.specs.Recounts.{end_text}
+use Rattle.ledger_check.proofs.recount.Recount.finish.Goals as goal
+
+pub returns : goal.returns
+returns c = λ fares strikes full text written good is.
+    let ended = c.in_ok-sums.ensures fares strikes full text written good is in
+    let end = end_text ended.taken in (
+      ended.taken,
+      ended.recount,
+      ap (λ (n : ℕ). nat_eq n 0) ended.sums_are.wrong,
+      ended.struck,
+      ended.more ++ end,
+      c.in_ok-write_end.ensures ended.taken ended.sums_are ∙ ap (λ (t : List ℕ). t ++ end) ended.grown
+          ∙ append_assoc (string_bytes c.args.told.now) ended.more end,
+      sym (append_assoc written ended.more end) ∙ ap (λ (t : List ℕ). t ++ end) ended.all,
+    )

@@ -1,0 +1,46 @@
+use Rattle.std.proofs.Common.{◌≡◌, ℕ, ◌+◌, ◌^◌, ◌<◌, ◌++◌, ◌∷◌, [], List, length, refl, sym, ap, subst, ◌∙◌, arith, string_bytes}
+use Rattle.account_rule.specs.declared.reason.Reason.{Reason}
+use Rattle.shard_book.specs.Entry.{own}
+use Rattle.shard_book.specs.declared.entry.Entry.{Entry}
+use Rattle.tap_views.specs.declared.token.Token.{Token}
+use Rattle.reason_texts.specs.Ledger.{IsLedgerLine, reason_after}
+use Rattle.reason_texts.specs.Tellers.{HasTold, next_entry}
+use Rattle.ledger_check.proofs.TokenOrder.{own-few}
+use Rattle.ledger_check.proofs.WalkLemmas.{stands_more}
+use Rattle.ledger_check.proofs.walk.Walk.take_tap.Goals as goal
+
+pub post_next-reason-requires-clause-told : goal.post_next-reason-requires-clause-told
+post_next-reason-requires-clause-told c =
+    let run = c.requires.run in
+    (own c.args.tap.token run.0, c.teller_after-falls.ensures.told c.args.table.now run.0 run.1)
+
+pub post_next-reason-requires-clause-room : goal.post_next-reason-requires-clause-room
+post_next-reason-requires-clause-room c =
+    let run = c.requires.run in
+    let told = c.teller_after-falls.ensures.told c.args.table.now run.0 run.1 in
+    omega (arith, told.counted, own-few c.args.tap.token run.0, run.2)
+
+pub returns : goal.returns
+returns c = λ run stands.
+    let fares = c.args.table.now in
+    let tap = c.args.tap in
+    let before = own tap.token run in
+    let told = c.teller_after-falls.ensures.told fares run stands in
+    let posted = c.post_next-reason.ensures in
+    let entry = c.post_next-reason.result.0 in
+    let after = c.post_next-reason.new.self in
+    let why = reason_after fares tap.token before entry in
+    let line = c.in_ok-write_line.ensures in
+    let written = line.2 ∙ ap (λ (t : List ℕ). t ++ line.0) c.clear.ensures.bytes in
+    let token = c.teller_after-falls.ensures.token in
+    let is = subst (λ (t : Token). entry ≡ next_entry fares t before tap.validator tap.moment) token (posted.entry before told) in
+    record {
+      ruled = is;
+      shown = subst (λ (t : List ℕ). IsLedgerLine fares tap.token (length before + 1) entry why t) (sym written)
+          (subst (λ (n : ℕ). IsLedgerLine fares tap.token n entry why line.0) (posted.number ∙ ap (λ n. n + 1) told.counted)
+          (subst (λ (w : Reason). IsLedgerLine fares tap.token after.number entry w line.0)
+          (posted.reason before told ∙ ap (λ (t : Token). reason_after fares t before entry) token) line.1));
+      falling = c.teller_after-falls.ensures.falls fares run stands;
+      teller = stands_more fares after run tap.token entry c.requires.fits (posted.token ∙ token) (ap (λ (e : Entry). e.token) is)
+          (posted.told before told);
+    }

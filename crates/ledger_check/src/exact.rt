@@ -1,0 +1,151 @@
+//! The tap that a line tells, whatever it says of the tap's reply.
+
+ghost use Rattle.std.specs.Prelude.{◌≡◌, ◌<◌, ◌≤◌, ◌^◌, ◌∷◌, ◌++◌, ℕ, List, IfNone, IfOk, IfSome};
+ghost use Rattle.std.specs.Prelude.{IsTrue, ◌↔◌, MatchOption, length};
+ghost use Rattle.std.specs.Fmt.{decimal};
+ghost use Rattle.hex.specs.Hex.{encode_lower};
+ghost use Rattle.fare_texts.specs.Moments.{IsMomentText};
+ghost use Rattle.tap_views.specs.Token.{Fits, bytes_of};
+ghost use Rattle.tap_views.specs.declared.token.Token.{Token as AToken};
+ghost use Rattle.ledger_check.specs.Lines.{Lacks};
+ghost use Rattle.ledger_check.specs.Recounts.{IsCentsField, IsLineOfTap};
+ghost use Rattle.ledger_check.specs.inside.Lines.{IsLine};
+ghost use Rattle.ledger_check.specs.inside.Fronts.{HasFront, IsFrontOf};
+
+use crate::bytes::{field, same_bytes};
+use crate::moment::read_moment;
+use crate::tap::{Tap, read_small_number, read_token};
+use fare_texts::write_moment;
+use itoa::Buffer;
+use std::alloc::AllocError;
+use tap_views::Token;
+
+/// The first four fields of a line, and what stands behind them.
+#[derive(Clone, Copy)]
+pub(crate) struct Front<'a> {
+    /// The first field.
+    token: &'a [u8],
+    /// The third field.
+    moment: &'a [u8],
+    /// The fourth field.
+    validator: &'a [u8],
+    /// What stands behind the fourth field.
+    rest: &'a [u8],
+}
+
+/// The first four fields of the line.
+fn front_of(line: &[u8]) -> Option<Front<'_>>
+    ensures some { IfSome result (IsFrontOf line.now) }
+    ensures none { IfNone result ((token number moment validator rest : List ℕ)
+        → ¬ (HasFront line.now token number moment validator rest)) }
+{
+    let (token, behind) = field(line)?;
+    let (_number, behind) = field(behind)?;
+    let (moment, behind) = field(behind)?;
+    let (validator, rest) = field(behind)?;
+    Some(Front {
+        token,
+        moment,
+        validator,
+        rest,
+    })
+}
+
+/// Whether the digits are those of the bytes, in lower case.
+fn are_digits_of(digits: &[u8], bytes: &[u8; 16]) -> bool
+    ensures { IsTrue result ↔ (digits.now ≡ encode_lower bytes.now) }
+{
+    let mut again = [0; 32];
+    match hex::encode_to_slice(bytes, &mut again) {
+        Ok(()) => digits == again.as_slice(),
+        Err(_) => false,
+    }
+}
+
+/// The token that 32 hexadecimal digits in lower case spell.
+fn exact_token(digits: &[u8]) -> Option<Token>
+    ensures { MatchOption result
+        ((token : AToken) → Fits token → ¬ (digits.now ≡ encode_lower (bytes_of token)))
+        (λ token. Fits token × (digits.now ≡ encode_lower (bytes_of token))) }
+{
+    let token = read_token(digits)?;
+    if are_digits_of(digits, &token.bytes()) {
+        Some(token)
+    } else {
+        None
+    }
+}
+
+/// The number of at most 32 bits that the digits write, if they are written as the number is.
+fn exact_number(digits: &[u8]) -> Option<u32>
+    ensures { MatchOption result
+        ((number : ℕ) → number < 2 ^ 32 → ¬ (digits.now ≡ decimal number))
+        (λ number. (number < 2 ^ 32) × (digits.now ≡ decimal number)) }
+{
+    let number = read_small_number(digits)?;
+    let mut buffer = Buffer::new();
+    if buffer.format(number).as_bytes() == digits {
+        Some(number)
+    } else {
+        None
+    }
+}
+
+/// Whether the text is that of the moment. The text in `again` is replaced.
+fn is_moment_text(text: &[u8], moment: u64, again: &mut String) -> Result<bool, AllocError>
+    ensures { IfOk result (λ same. IsTrue same ↔ IsMomentText moment text.now) }
+{
+    again.clear();
+    write_moment(again, moment)?;
+    Ok(same_bytes(again.as_bytes(), text))
+}
+
+/// The tap that the line tells, and what stands behind its validator. The text in `again` is
+/// replaced.
+pub(crate) fn exact_tap<'a>(
+    line: &'a [u8],
+    again: &mut String,
+) -> Result<Option<(Tap, &'a [u8])>, AllocError>
+    requires line { IsLine line.now }
+    requires short { length line.now ≤ 255 }
+    ensures { IfOk result (λ read. MatchOption read
+        ((token : AToken) (validator moment : ℕ) (rest : List ℕ)
+        → ¬ (IsLineOfTap line.now token validator moment rest))
+        (λ parts. IsLineOfTap line.now parts.0.token parts.0.validator parts.0.moment
+        parts.1.now)) }
+{
+    let Some(front) = front_of(line) else {
+        return Ok(None);
+    };
+    let Some(token) = exact_token(front.token) else {
+        return Ok(None);
+    };
+    let Some(moment) = read_moment(front.moment) else {
+        return Ok(None);
+    };
+    let Some(validator) = exact_number(front.validator) else {
+        return Ok(None);
+    };
+    let is_exact = is_moment_text(front.moment, moment, again)?;
+    if !is_exact {
+        return Ok(None);
+    }
+    let tap = Tap {
+        token,
+        validator,
+        moment,
+    };
+    Ok(Some((tap, front.rest)))
+}
+
+/// The cents that a line asks for, from what stands behind its validator.
+pub(crate) fn exact_cents(rest: &[u8]) -> Option<u32>
+    ensures { MatchOption result ((cents : ℕ) → ¬ (IsCentsField rest.now cents))
+        (λ cents. IsCentsField rest.now cents) }
+{
+    let (_mode, behind) = field(rest)?;
+    let (_answer, behind) = field(behind)?;
+    let (digits, _behind) = field(behind)?;
+    let cents = exact_number(digits)?;
+    Some(cents)
+}

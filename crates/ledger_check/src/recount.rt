@@ -1,0 +1,279 @@
+//! A check of a text that comes in pieces, which goes on after a wrong line.
+
+ghost use Rattle.std.specs.Prelude.{◌≡◌, ◌++◌, ◌∷◌, [], ℕ, List, IfOk, OnOk, Bool, nat_eq, true};
+ghost use Rattle.std.specs.Prelude.{string_bytes, ◌<◌, ◌↔◌, IsTrue};
+ghost use Rattle.fare_table.specs.Fares.{Fares};
+ghost use Rattle.tap_balance.specs.FullBalances.{IsFullBalance};
+ghost use Rattle.tap_balance.specs.declared.full_balance.FullBalance.{FullBalance as AFullBalance};
+ghost use Rattle.tap_views.specs.declared.encoder.TapFields.{TapFields};
+ghost use Rattle.ledger_check.specs.Recounts.{IsRecount, TakenLine, recount_text, taps_from};
+ghost use Rattle.ledger_check.specs.Recounts.{taps_with, wrong_count};
+ghost use Rattle.ledger_check.specs.RecountStates.{HasRecounted, HasTakenLines, IsKept};
+ghost use Rattle.ledger_check.specs.inside.Lines.{IsLine};
+ghost use Rattle.ledger_check.specs.inside.Recounts.{HasEnded, HasFound, IsFirstFinding};
+ghost use Rattle.ledger_check.specs.inside.Recounts.{TookLine};
+
+use crate::bytes::{same_bytes, split_line};
+use crate::recount_sums::RecountSums;
+use crate::replay::MAX_LINE_BYTES;
+use crate::walk::{LineFinding, Told, Walk, write_told};
+use fare_table::{Clock, FareTable};
+use reason_texts::head_line;
+use std::alloc::{AllocError, Global};
+use tap_balance::FullBalance;
+use tap_views::{NoMemory, TapFields};
+
+/// A line that tells no tap.
+const NO_LINE: LineFinding = LineFinding {
+    tap: None,
+    told: Told::NoLine,
+};
+
+/// What is found of the first line.
+fn first_finding(line: &[u8]) -> LineFinding
+    ensures { IsFirstFinding line.now result }
+{
+    if same_bytes(line, head_line().as_bytes()) {
+        LineFinding {
+            tap: None,
+            told: Told::Nothing,
+        }
+    } else {
+        NO_LINE
+    }
+}
+
+/// Strikes out the tap of a line, if taps are struck out and it tells one.
+fn strike_tap(strikes: bool, full: &mut FullBalance, finding: LineFinding) -> Result<(), AllocError>
+    ensures { OnOk result ((good taps : List TapFields) → strikes ≡ true
+        → IsFullBalance full.old good taps
+        → IsFullBalance full.new good (taps_with taps finding.tap)) }
+{
+    if !strikes {
+        return Ok(());
+    }
+    match finding.tap {
+        None => Ok(()),
+        Some(tap) => full.strike(&TapFields {
+            token: tap.entry.token.bytes(),
+            validator: tap.entry.validator,
+            moment: tap.entry.moment,
+        }),
+    }
+}
+
+/// The lines that were taken: the walk behind them, and their sums.
+#[derive(Drop)]
+pub(crate) struct LinesTaken {
+    /// The walk behind them.
+    walk: Walk,
+    /// Their sums.
+    sums: RecountSums,
+}
+
+impl LinesTaken {
+    /// What is found of the next line. The sums are those of the lines before it.
+    fn find(
+        &mut self,
+        table: &FareTable,
+        clock: &Clock,
+        line: &[u8],
+    ) -> Result<LineFinding, AllocError>
+        requires clock { clock.now ≡ table.now.zone }
+        requires taken { (taken : List TakenLine) × HasTakenLines table.now self.old taken }
+        requires line { (whole : List ℕ) × IsLine whole × IsKept line.now whole }
+        ensures found { IfOk result (λ finding. (taken : List TakenLine) (whole : List ℕ)
+            → HasTakenLines table.now self.old taken → IsLine whole → IsKept line.now whole
+            → HasFound table.now taken whole self.new.walk finding) }
+        ensures sums { OnOk result (self.new.sums ≡ self.old.sums) }
+    {
+        if self.sums.lines == 0 {
+            return Ok(first_finding(line));
+        }
+        if line.len() > MAX_LINE_BYTES {
+            return Ok(NO_LINE);
+        }
+        let finding = self.walk.judge(table, clock, line)?;
+        Ok(finding)
+    }
+
+    /// Takes the next line, appends what is told of it, and strikes its tap out, if it is to strike
+    /// taps out.
+    fn take(
+        &mut self,
+        table: &FareTable,
+        clock: &Clock,
+        line: &[u8],
+        strikes: bool,
+        full: &mut FullBalance,
+        told: &mut String,
+    ) -> Result<(), AllocError>
+        requires clock { clock.now ≡ table.now.zone }
+        requires taken { (taken : List TakenLine) × HasTakenLines table.now self.old taken }
+        requires line { (whole : List ℕ) × IsLine whole × IsKept line.now whole }
+        ensures { OnOk result ((taken : List TakenLine) (whole : List ℕ)
+            → HasTakenLines table.now self.old taken → IsLine whole → IsKept line.now whole
+            → TookLine table.now taken whole self.new strikes full.old full.new
+            (string_bytes told.old) (string_bytes told.new)) }
+    {
+        let finding = self.find(table, clock, line)?;
+        let sums = self.sums.with(finding)?;
+        self.sums = sums;
+        strike_tap(strikes, full, finding)?;
+        write_told(told, sums.lines, finding.told, self.walk.wanted.as_str())?;
+        Ok(())
+    }
+}
+
+/// Appends the text to what is kept of a line, but no more than tells that the line is too long.
+fn keep(kept: &mut Vec<u8>, text: &[u8]) -> Result<(), AllocError>
+    ensures { OnOk result ((before : List ℕ) → IsKept kept.old.items before
+        → IsKept kept.new.items (before ++ text.now)) }
+{
+    if kept.len() > MAX_LINE_BYTES {
+        return Ok(());
+    }
+    let room = MAX_LINE_BYTES + 1 - kept.len();
+    if text.len() <= room {
+        kept.extend_from_slice(text)
+    } else {
+        kept.extend_from_slice(&text[..room])
+    }
+}
+
+/// A check under one fare table of a text that comes in pieces. It goes on after a wrong line, and
+/// keeps no more of the text than the beginning of a line.
+#[derive(Drop)]
+pub struct Recount {
+    /// The whole lines.
+    so_far: LinesTaken,
+    /// The beginning of the line whose end has not come yet.
+    begun: Vec<u8>,
+}
+
+impl Recount {
+    /// Nothing was read.
+    pub fn new(alloc: Global) -> Recount
+        ensures { (fares : Fares) (strikes : Bool) (full : AFullBalance) (good : List TapFields)
+            → (strikes ≡ true → IsFullBalance full good [])
+            → HasRecounted fares result strikes full [] [] good }
+    {
+        Recount {
+            so_far: LinesTaken {
+                walk: Walk::new(alloc),
+                sums: RecountSums::new(),
+            },
+            begun: Vec::new(alloc),
+        }
+    }
+
+    /// Reads the next piece of the text, appends what is told of its lines, and strikes the taps
+    /// that they tell out of the balance, if it is to strike taps out. Its one error is want of
+    /// memory, and after it the recount is of no use. The clock is the table's, and the table, the
+    /// balance and whether taps are struck out are the same in all calls.
+    pub fn feed(
+        &mut self,
+        table: &FareTable,
+        clock: &Clock,
+        piece: &[u8],
+        strikes: bool,
+        full: &mut FullBalance,
+        told: &mut String,
+    ) -> Result<(), AllocError>
+        requires clock { clock.now ≡ table.now.zone }
+        requires fed { (text : List ℕ) × (written : List ℕ) × (good : List TapFields)
+            × HasRecounted table.now self.old strikes full.old text written good }
+
+        // After every text that was read so far.
+        ensures { OnOk result ((text written : List ℕ) (good : List TapFields)
+            → HasRecounted table.now self.old strikes full.old text written good
+            → (more : List ℕ) × (string_bytes told.new ≡ string_bytes told.old ++ more)
+            × HasRecounted table.now self.new strikes full.new (text ++ piece.now)
+            (written ++ more) good) }
+    {
+        let mut rest = piece;
+        while !rest.is_empty() {
+            let Some((line, behind)) = split_line(rest) else {
+                keep(&mut self.begun, rest)?;
+                return Ok(());
+            };
+            self.end_line(table, clock, line, strikes, full, told)?;
+            rest = behind;
+        }
+        Ok(())
+    }
+
+    /// Reads the rest of a line, with its newline.
+    fn end_line(
+        &mut self,
+        table: &FareTable,
+        clock: &Clock,
+        line: &[u8],
+        strikes: bool,
+        full: &mut FullBalance,
+        told: &mut String,
+    ) -> Result<(), AllocError>
+        requires clock { clock.now ≡ table.now.zone }
+        requires fed { (text : List ℕ) × (written : List ℕ) × (good : List TapFields)
+            × HasRecounted table.now self.old strikes full.old text written good }
+        requires line { IsLine line.now }
+        ensures { OnOk result ((text written : List ℕ) (good : List TapFields)
+            → HasRecounted table.now self.old strikes full.old text written good
+            → (more : List ℕ) × (string_bytes told.new ≡ string_bytes told.old ++ more)
+            × HasRecounted table.now self.new strikes full.new (text ++ line.now)
+            (written ++ more) good) }
+    {
+        if self.begun.is_empty() {
+            self.so_far.take(table, clock, line, strikes, full, told)?;
+            return Ok(());
+        }
+        keep(&mut self.begun, line)?;
+        self.so_far
+            .take(table, clock, self.begun.as_slice(), strikes, full, told)?;
+        self.begun.clear();
+        Ok(())
+    }
+
+    /// Whether the text ends behind a line.
+    fn is_whole(&self) -> bool
+        ensures { IsTrue result
+            ↔ ((0 < self.now.so_far.sums.lines) × (self.now.begun.items ≡ [])) }
+    {
+        self.so_far.sums.lines > 0 && self.begun.is_empty()
+    }
+
+    /// Takes the line that the text's end cuts, or the first line of a text that has none, and
+    /// gives the sums of all lines.
+    fn end_text(&self, told: &mut String) -> Result<RecountSums, AllocError>
+        ensures { IfOk result (λ sums. (fares : Fares) (strikes : Bool) (full : AFullBalance)
+            (text written : List ℕ) (good : List TapFields)
+            → HasRecounted fares self.now strikes full text written good
+            → HasEnded fares strikes full text written good sums
+            (string_bytes told.old) (string_bytes told.new)) }
+    {
+        let sums = self.so_far.sums;
+        if self.is_whole() {
+            return Ok(sums);
+        }
+        let ended = sums.with(NO_LINE)?;
+        write_told(told, ended.lines, Told::NoLine, "")?;
+        Ok(ended)
+    }
+
+    /// Ends the text that was read, and appends the rest of what is told of it. Says whether no
+    /// line is wrong.
+    pub fn finish(&self, told: &mut String) -> Result<bool, AllocError>
+        ensures { IfOk result (λ legal. (fares : Fares) (strikes : Bool) (full : AFullBalance)
+            (text written : List ℕ) (good : List TapFields)
+            → HasRecounted fares self.now strikes full text written good
+            → (taken : List TakenLine) × IsRecount fares text taken
+            × (legal ≡ nat_eq (wrong_count taken) 0)
+            × (strikes ≡ true → IsFullBalance full good (taps_from taken))
+            × (more : List ℕ) × (string_bytes told.new ≡ string_bytes told.old ++ more)
+            × (written ++ more ≡ recount_text taken)) }
+    {
+        let sums = self.end_text(told)?;
+        sums.write_end(told)?;
+        Ok(sums.wrong == 0)
+    }
+}

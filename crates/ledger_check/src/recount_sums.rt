@@ -1,0 +1,171 @@
+//! The sums of a recount.
+
+ghost use Rattle.std.specs.Prelude.{◌≡◌, ◌+◌, ◌-◌, ◌++◌, ◌∷◌, [], ℕ, List, IfOk, OnOk};
+ghost use Rattle.std.specs.Prelude.{if◌then◌else◌, nat_eq, string_bytes};
+ghost use Rattle.ledger_check.specs.Recounts.{TakenLine, asked_cents, end_text, legal_text};
+ghost use Rattle.ledger_check.specs.Recounts.{one_other, one_wrong, ruled_cents, wrong_text};
+ghost use Rattle.ledger_check.specs.Recounts.{wrong_token_of};
+ghost use Rattle.ledger_check.specs.RecountStates.{AreSums};
+
+use crate::walk::{CountedTap, LineFinding, Told};
+use std::alloc::AllocError;
+use tap_views::Token;
+
+/// The most lines of a ledger, the head line aside: 2 to the power of 62.
+const MAX_LINES: u64 = 4_611_686_018_427_387_904;
+
+/// The sums of the lines that a recount has taken.
+#[derive(Clone, Copy)]
+pub(crate) struct RecountSums {
+    /// How many lines were taken, the first one included.
+    pub(crate) lines: u64,
+    /// How many of them are wrong.
+    pub(crate) wrong: u64,
+    /// The token of the last wrong line that tells a tap.
+    last_wrong: Option<Token>,
+    /// How many tokens have wrong lines.
+    tokens: u64,
+    /// The cents that the lines ask for.
+    cents: u64,
+    /// The cents that the rules give their taps.
+    wanted: u64,
+}
+
+/// The sum. What does not fit 64 bits is taken for want of memory.
+fn sum(a: u64, b: u64) -> Result<u64, AllocError>
+    ensures { IfOk result (λ both. both ≡ a + b) }
+{
+    match a.checked_add(b) {
+        Some(both) => Ok(both),
+        None => Err(AllocError),
+    }
+}
+
+/// 1 for a line of which something is told.
+fn one_wrong(told: Told) -> u64
+    ensures { result ≡ one_wrong told }
+{
+    match told {
+        Told::Nothing => 0,
+        Told::Wants | Told::NoLine => 1,
+    }
+}
+
+/// The token of a wrong line, if it tells a tap; else the last one.
+fn wrong_token_of(last: Option<Token>, told: Told, tap: Option<CountedTap>) -> Option<Token>
+    ensures { result ≡ wrong_token_of last told tap }
+{
+    match (told, tap) {
+        (_, None) => last,
+        (Told::Nothing, Some(_)) => last,
+        (Told::Wants, Some(tap)) => Some(tap.entry.token),
+        (Told::NoLine, Some(tap)) => Some(tap.entry.token),
+    }
+}
+
+/// 1 for another token.
+fn one_other(last: Option<Token>, token: Option<Token>) -> u64
+    ensures { result ≡ one_other last token }
+{
+    match (last, token) {
+        (_, None) => 0,
+        (None, Some(_)) => 1,
+        (Some(last), Some(token)) => { if last == token { 0 } else { 1 } }
+    }
+}
+
+/// The cents that a line asks for.
+fn asked_cents(tap: Option<CountedTap>) -> u64
+    ensures { result ≡ asked_cents tap }
+{
+    match tap {
+        None => 0,
+        Some(tap) => u64::from(tap.cents),
+    }
+}
+
+/// The cents that the rules give a line's tap.
+fn ruled_cents(tap: Option<CountedTap>) -> u64
+    ensures { result ≡ ruled_cents tap }
+{
+    match tap {
+        None => 0,
+        Some(tap) => u64::from(tap.entry.cents),
+    }
+}
+
+/// Appends `legal 6 lines`.
+#[tactic(auto, unfolding(crate::specs::Recounts::legal_text))]
+fn write_legal(text: &mut String, entries: u64) -> Result<(), AllocError>
+    ensures { OnOk result (string_bytes text.new ≡ string_bytes text.old ++ legal_text entries) }
+{
+    write!(text, "legal {entries} lines\n")
+}
+
+impl RecountSums {
+    /// The sums of no line.
+    pub(crate) fn new() -> RecountSums
+        ensures { AreSums result [] }
+    {
+        RecountSums {
+            lines: 0,
+            wrong: 0,
+            last_wrong: None,
+            tokens: 0,
+            cents: 0,
+            wanted: 0,
+        }
+    }
+
+    /// The sums with one line more. More than 2^62 lines are taken for want of memory.
+    pub(crate) fn with(self, finding: LineFinding) -> Result<RecountSums, AllocError>
+        ensures { IfOk result (λ sums. (taken : List TakenLine) (next : TakenLine)
+            → next.finding ≡ finding → AreSums self taken → AreSums sums (next ∷ taken)) }
+    {
+        if self.lines >= MAX_LINES {
+            return Err(AllocError);
+        }
+        let last_wrong = wrong_token_of(self.last_wrong, finding.told, finding.tap);
+        let wrong = sum(self.wrong, one_wrong(finding.told))?;
+        let tokens = sum(self.tokens, one_other(self.last_wrong, last_wrong))?;
+        let cents = sum(self.cents, asked_cents(finding.tap))?;
+        let wanted = sum(self.wanted, ruled_cents(finding.tap))?;
+        Ok(RecountSums {
+            lines: self.lines + 1,
+            wrong,
+            last_wrong,
+            tokens,
+            cents,
+            wanted,
+        })
+    }
+
+    /// Appends `wrong 7 of 175098 lines, of 6 tokens; cents 34876671, wanted 34876380`.
+    #[tactic(auto, unfolding(crate::specs::Recounts::wrong_text))]
+    fn write_wrong(self, text: &mut String, entries: u64) -> Result<(), AllocError>
+        ensures { OnOk result (string_bytes text.new ≡ string_bytes text.old
+            ++ wrong_text self.wrong entries self.tokens self.cents self.wanted) }
+    {
+        let wrong = self.wrong;
+        let tokens = self.tokens;
+        let cents = self.cents;
+        let wanted = self.wanted;
+        write!(
+            text,
+            "wrong {wrong} of {entries} lines, of {tokens} tokens; cents {cents}, wanted {wanted}\n"
+        )
+    }
+
+    /// Appends the line behind what is told of the lines.
+    pub(crate) fn write_end(self, text: &mut String) -> Result<(), AllocError>
+        ensures { OnOk result ((taken : List TakenLine) → AreSums self taken
+            → string_bytes text.new ≡ string_bytes text.old ++ end_text taken) }
+    {
+        let entries = self.lines.saturating_sub(1);
+        if self.wrong == 0 {
+            write_legal(text, entries)
+        } else {
+            self.write_wrong(text, entries)
+        }
+    }
+}

@@ -1,0 +1,16 @@
+use Rattle.std.proofs.Common.{◌≡◌, List, ℕ, [], true}
+use Rattle.std.specs.Io.KnownBytes.{Appends, Consumes}
+use Rattle.tap_balance.specs.FullBalances.{IsFullBalance}
+use Rattle.tap_views.specs.declared.encoder.TapFields.{TapFields}
+use Rattle.ledger_check.specs.RecountStates.{HasRecounted}
+use Rattle.omny_audit.proofs.full_audit.recount_all.Given as goal
+
+-- the recount has read what the reader has lost, and what it told was written
+abbrev pub invariant-loop-piece : goal.invariant-loop-piece
+invariant-loop-piece g l = record {
+  text : List ℕ;
+  read : Consumes (g.R.Read.remaining l.fn.reader) (g.R.Read.remaining l.reader) text;
+  known : (good : List TapFields) → (l.has_uploads ≡ true → IsFullBalance l.fn.full good [])
+      → (written : List ℕ) × HasRecounted l.table l.recount l.has_uploads l.full text written good
+      × Appends (g.W.Write.contents l.fn.out) (g.W.Write.contents l.out) written;
+}

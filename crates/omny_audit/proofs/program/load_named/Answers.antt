@@ -1,0 +1,8 @@
+use Rattle.std.proofs.Common.{Some}
+use Rattle.omny_audit.proofs.ProgramLemmas.{refusal_told}
+use Rattle.omny_audit.proofs.program.load_named.Goals as goal
+
+pub returns-in-Err-clause-right : goal.returns-in-Err-clause-right
+returns-in-Err-clause-right g c = λ table told after.
+    c.of_load.ensures.right table told after (g.S.Source.refused c.load.new.self)
+    (refusal_told (g.S.Source.refused c.load.new.self) (Some c.args.name.now) c.in-Err.fault c.in-Err.ensures.fault)

@@ -1,0 +1,127 @@
+//! The finding on all lines that a reader gives.
+
+ghost use Rattle.std.specs.Prelude.{◌≡◌, ◌++◌, ℕ, List, [], Bool, IfErr, IfOk, None, Some, nat_eq};
+ghost use Rattle.std.specs.Prelude.{OnOk, false, if◌then◌else◌, string_bytes, true};
+ghost use Rattle.std.specs.Io.KnownBytes.{Appends};
+ghost use Rattle.fare_table.specs.Fares.{Fares};
+ghost use Rattle.tap_balance.specs.Balances.{IsBalance};
+ghost use Rattle.tap_balance.specs.FullBalances.{IsFullBalance};
+ghost use Rattle.tap_views.specs.declared.encoder.TapFields.{TapFields};
+ghost use Rattle.omny_audit.specs.Fault.{named_by};
+ghost use Rattle.omny_audit.specs.inside.Fault.{is_of_loading};
+ghost use Rattle.omny_audit.specs.Findings.{IsDifferencesEnd, IsFullFinding};
+ghost use Rattle.omny_audit.specs.inside.Findings.{HasRecountedAll};
+ghost use Rattle.omny_audit.specs.inside.Source.{IsAllOf};
+
+use crate::fault::Fault;
+use crate::output::{write_piece, write_text};
+use crate::text::{are_none, write_differences};
+use fare_table::{Clock, FareTable};
+use ledger_check::Recount;
+use std::alloc::{AllocError, Global};
+use std::io::{Read, Write};
+use tap_balance::{Balance, FullBalance};
+use tap_views::TapFields;
+
+/// How many bytes one read asks for.
+const PIECE_BYTES: usize = 65_536;
+
+/// Recounts all that the reader has left, and writes what is told of its lines as they come. The
+/// taps that they tell are struck out, if there are uploads. It keeps no more of the text than one
+/// read gives. Says whether no line is wrong.
+fn recount_all<R: Read, W: Write>(
+    alloc: Global,
+    table: &FareTable,
+    clock: &Clock,
+    reader: &mut R,
+    has_uploads: bool,
+    full: &mut FullBalance,
+    out: &mut W,
+) -> Result<bool, Fault<'static>>
+    requires clock { clock.now ≡ table.now.zone }
+    requires good { (good : List TapFields)
+        × (has_uploads ≡ true → IsFullBalance full.old good []) }
+
+    // Of all good taps that the balance can have.
+    ensures told { IfOk result (λ legal. (text : List ℕ) × IsAllOf (R.remaining reader.old) text
+        × ((good : List TapFields) → (has_uploads ≡ true → IsFullBalance full.old good [])
+        → HasRecountedAll table.now has_uploads full.new text good legal (W.contents out.old)
+        (W.contents out.new))) }
+    ensures named { IfErr result (λ fault. named_by fault ≡ None) }
+    ensures later { IfErr result (λ fault. is_of_loading fault ≡ false) }
+{
+    let mut recount = Recount::new(alloc);
+    let mut told = String::new(alloc);
+    let mut step = [0u8; PIECE_BYTES];
+    for _piece in 0..u64::MAX {
+        let Ok(count) = reader.read(&mut step) else {
+            return Err(Fault::Ledger);
+        };
+        told.clear();
+        if count == 0 {
+            let legal = recount.finish(&mut told)?;
+            write_piece(out, told.as_str())?;
+            return Ok(legal);
+        }
+        recount.feed(table, clock, &step[..count], has_uploads, full, &mut told)?;
+        write_piece(out, told.as_str())?;
+    }
+    Err(Fault::Ledger)
+}
+
+/// What is told of the taps behind a recount, if there are uploads; and whether all is well.
+fn differences_text(
+    alloc: Global,
+    full: &FullBalance,
+    has_uploads: bool,
+    legal: bool,
+) -> Result<(String, bool), AllocError>
+    ensures { IfOk result (λ told. (good taps : List TapFields)
+        → (has_uploads ≡ true → IsFullBalance full.now good taps)
+        → IsDifferencesEnd (if has_uploads then Some good else None) taps legal
+        (string_bytes told.0) told.1) }
+{
+    let mut text = String::new(alloc);
+    if !has_uploads {
+        return Ok((text, legal));
+    }
+    let missing = full.missing(alloc)?;
+    let surplus = full.surplus(alloc)?;
+    let missing_taps = missing.as_slice();
+    let surplus_taps = surplus.as_slice();
+    write_differences(&mut text, missing_taps, surplus_taps)?;
+    let is_even = are_none(missing_taps, surplus_taps);
+    if !legal {
+        return Ok((text, false));
+    }
+    Ok((text, is_even))
+}
+
+/// Checks all lines of the ledger that the reader has left, beside the taps of uploads that the
+/// balance has, and writes the finding. Says whether all is well.
+pub(crate) fn full_audit_over<R: Read, W: Write>(
+    alloc: Global,
+    table: &FareTable,
+    clock: &Clock,
+    reader: &mut R,
+    balance: Balance,
+    has_uploads: bool,
+    out: &mut W,
+) -> Result<bool, Fault<'static>>
+    requires clock { clock.now ≡ table.now.zone }
+    requires good { (good : List TapFields) × IsBalance balance good [] }
+
+    // Of all good taps that the balance can have.
+    ensures told { IfOk result (λ well. (text : List ℕ) × IsAllOf (R.remaining reader.old) text
+        × ((good : List TapFields) → IsBalance balance good [] → (told : List ℕ)
+        × IsFullFinding table.now text (if has_uploads then Some good else None) told well
+        × Appends (W.contents out.old) (W.contents out.new) told)) }
+    ensures named { IfErr result (λ fault. named_by fault ≡ None) }
+    ensures later { IfErr result (λ fault. is_of_loading fault ≡ false) }
+{
+    let mut full = FullBalance::of(alloc, balance);
+    let legal = recount_all(alloc, table, clock, reader, has_uploads, &mut full, out)?;
+    let told = differences_text(alloc, &full, has_uploads, legal)?;
+    write_text(out, told.0.as_str())?;
+    Ok(told.1)
+}

@@ -1,0 +1,193 @@
+-- The taps of one token, collected from sorted files.
+use Rattle.std.proofs.Common.{◌≡◌, ℕ, ◌+◌, Bool, true, false, List, [], ◌∷◌, ◌++◌, All, length, map}
+use Rattle.std.proofs.Common.{get_or, flat_map, cond, refl, sym, ap, subst, ◌∙◌, append-nil}
+use Rattle.std.proofs.Common.{append_assoc, arith}
+use Rattle.std.proofs.lemmas.List.Concat.{flat_map-append}
+use Rattle.std.proofs.lemmas.List.Elements.{All-append, All-cons, All-nil, filter-append}
+use Rattle.std.proofs.lemmas.List.Sorted.{All-permutation}
+use Rattle.tap_views.specs.Token.{token_eq}
+use Rattle.tap_views.specs.declared.encoder.TapFields.{TapFields}
+use Rattle.tap_views.specs.declared.token.Token.{Token}
+use Rattle.tap_parts.specs.Canonical.{HasTokenBytes, IsCanonical}
+use Rattle.report_texts.specs.UploadEnds.{ArePlainEnds}
+use Rattle.report_texts.specs.declared.upload_end.UploadEnd.TheVariants.{Posted}
+use Rattle.tap_views.proofs.TokenLemmas.{same_token}
+use Rattle.settlement.specs.Posted.{HasName, only, token_of_tap}
+use Rattle.settlement.specs.SettledTaps.{AreSettledTapsOf}
+use Rattle.settlement.proofs.Placed.{all_map}
+use Rattle.settlement.proofs.Ranges.{has_token_bytes}
+use Rattle.settlement.proofs.SettledOrders.{own_settled}
+use Rattle.sorted_taps.specs.Readers.{ahead, IsAdvanced, StandsIn}
+use Rattle.sorted_taps.specs.declared.reader.TapReader.{TapReader}
+use Rattle.sorted_taps.proofs.Checking.{AreCounted, counted_more, counted_none}
+use Rattle.sorted_taps.proofs.Standing.{sorted_at_end, stands_on}
+use Rattle.sorted_bills.specs.inside.OwnTaps.{AreOwnAdded, AreOwnOf, AreSound, IsOwnPushed}
+use Rattle.sorted_bills.proofs.Counted.{counted_ends}
+use Rattle.sorted_bills.proofs.Settled.{file_taps}
+use Rattle.sorted_bills.proofs.Takings.{Early}
+
+only_both : (token : Token) (xs ys : List TapFields)
+    → only token (xs ++ ys) ≡ only token xs ++ only token ys
+only_both token xs ys = filter-append (λ (tap : TapFields). token_eq (token_of_tap tap) token) xs ys
+
+only_one : (token : Token) (tap : TapFields) (b : Bool) → token_eq (token_of_tap tap) token ≡ b
+    → only token (tap ∷ []) ≡ cond b (tap ∷ []) []
+only_one token tap b is = ap (λ (x : Bool). cond x (tap ∷ []) []) is
+
+pub not_own : (token : Token) (tap : TapFields) (taps : List TapFields)
+    → token_eq (token_of_tap tap) token ≡ false → HasName tap → IsOwnPushed token tap taps taps
+not_own token tap taps apart named = record {
+  named = named;
+  pushed = sym (append-nil taps) ∙ ap (λ (ts : List TapFields). taps ++ ts)
+      (sym (only_one token tap false apart));
+  sound = λ sound. sound;
+}
+
+pub is_own : (token : Token) (tap : TapFields) (old new : List TapFields)
+    → token_eq (token_of_tap tap) token ≡ true → HasName tap → Early tap → new ≡ old ++ tap ∷ []
+    → IsOwnPushed token tap old new
+is_own token tap old new same named early more =
+    let its : TapFields → Type 0 = λ (t : TapFields). token_of_tap t ≡ token in
+    record {
+      named = named;
+      pushed = more ∙ ap (λ (ts : List TapFields). old ++ ts) (sym (only_one token tap true same));
+      sound = λ sound. record {
+        early = subst (λ (ts : List TapFields). All Early ts) (sym more)
+            (All-append Early old (tap ∷ []) sound.early (All-cons Early tap [] early (All-nil Early)));
+        its = subst (λ (ts : List TapFields). All its ts) (sym more)
+            (All-append its old (tap ∷ []) sound.its
+            (All-cons its tap [] (same_token (token_of_tap tap) token same) (All-nil its)));
+      };
+    }
+
+-- the token's taps among those that the reader has passed were added
+pub record IsOwnRead (token : Token) (all : List ℕ) (old now : List TapFields) (reader : TapReader)
+    : Type 0 where
+  pub passed : List TapFields
+  pub stands : StandsIn all 0 passed reader
+  pub named : All HasName passed
+  pub added : now ≡ old ++ only token passed
+
+pub none_read : (token : Token) (all : List ℕ) (taps : List TapFields) (reader : TapReader)
+    → StandsIn all 0 [] reader → IsOwnRead token all taps taps reader
+none_read token all taps reader stands = record {
+  passed = [];
+  stands = stands;
+  named = All-nil HasName;
+  added = sym (append-nil taps);
+}
+
+pub one_read : (token : Token) (all : List ℕ) (old now more : List TapFields) (was is : TapReader)
+    → IsOwnRead token all old now was
+    → ((tap : TapFields) (rest : List TapFields) → ahead was ≡ tap ∷ rest
+    → IsOwnPushed token tap now more)
+    → IsAdvanced all was is → IsOwnRead token all old more is
+one_read token all old now more was is read pushed step =
+    let one = pushed step.tap step.behind step.stood in record {
+      passed = read.passed ++ step.tap ∷ [];
+      stands = stands_on all 0 read.passed was is read.stands step;
+      named = All-append HasName read.passed (step.tap ∷ []) read.named
+          (All-cons HasName step.tap [] one.named (All-nil HasName));
+      added = one.pushed
+          ∙ ap (λ (ts : List TapFields). ts ++ only token (step.tap ∷ [])) read.added
+          ∙ append_assoc old (only token read.passed) (only token (step.tap ∷ []))
+          ∙ ap (λ (ts : List TapFields). old ++ ts) (sym (only_both token read.passed (step.tap ∷ [])));
+    }
+
+pub whole_read : (token : Token) (all : List ℕ) (old now : List TapFields) (reader : TapReader)
+    (numbers more : List ℕ) → IsOwnRead token all old now reader → ahead reader ≡ []
+    → more ≡ numbers ++ reader.passed ∷ [] → AreOwnAdded token all old now numbers more
+whole_read token all old now reader numbers more read none counted = record {
+  list = read.passed;
+  of_file = sorted_at_end all read.passed reader read.stands none;
+  named = read.named;
+  added = read.added;
+  counted = counted ∙ ap (λ n. numbers ++ n ∷ []) read.stands.number;
+}
+
+-- the token's taps of the first files
+pub record AreOwnSoFar (token : Token) (files : List (List ℕ)) (count : ℕ) (own : List TapFields)
+    (numbers : List ℕ) : Type 0 where
+  pub counted : AreCounted files count numbers
+  pub named : All HasName (flat_map (λ list. list) counted.lists)
+  pub are : own ≡ only token (flat_map (λ list. list) counted.lists)
+
+pub none_so_far : (token : Token) (files : List (List ℕ)) → AreOwnSoFar token files 0 [] []
+unfolding counted_none
+none_so_far token files =
+    record { counted = counted_none files; named = All-nil HasName; are = refl }
+
+pub none_sound : (token : Token) → AreSound token []
+none_sound token = record {
+  early = All-nil Early;
+  its = All-nil (λ (t : TapFields). token_of_tap t ≡ token);
+}
+
+pub one_file_more : (token : Token) (files : List (List ℕ)) (count : ℕ) (own next : List TapFields)
+    (numbers more : List ℕ) → AreOwnSoFar token files count own numbers
+    → AreOwnAdded token (get_or files count []) own next numbers more
+    → AreOwnSoFar token files (count + 1) next more
+unfolding counted_more
+one_file_more token files count own next numbers more so_far added =
+    let lists = so_far.counted.lists in
+    let joined : flat_map (λ list. list) (lists ++ added.list ∷ [])
+    ≡ flat_map (λ list. list) lists ++ added.list =
+    flat_map-append (λ (list : List TapFields). list) lists (added.list ∷ [])
+    ∙ ap (λ (ts : List TapFields). flat_map (λ list. list) lists ++ ts) (append-nil added.list) in
+    record {
+      counted = counted_more files count numbers more added.list so_far.counted added.of_file
+          added.counted;
+      named = subst (λ (ts : List TapFields). All HasName ts) (sym joined)
+          (All-append HasName (flat_map (λ list. list) lists) added.list so_far.named added.named);
+      are = added.added
+          ∙ ap (λ (ts : List TapFields). ts ++ only token added.list) so_far.are
+          ∙ sym (ap (only token) joined
+          ∙ only_both token (flat_map (λ list. list) lists) added.list);
+    }
+
+pub own_of_all : (token : Token) (files : List (List ℕ)) (count : ℕ) (own : List TapFields)
+    (numbers : List ℕ) → AreOwnSoFar token files count own numbers → count ≡ length files
+    → AreOwnOf token files own numbers
+own_of_all token files count own numbers so_far whole =
+    let number = so_far.counted.number in
+    record {
+      lists = so_far.counted.lists;
+      sorted = record {
+        number = omega (arith, number, whole);
+        each = λ k inside. so_far.counted.each k (omega (arith, inside, whole));
+      };
+      named = so_far.named;
+      are = so_far.are;
+      counted = so_far.counted.counted;
+    }
+
+pub own_ends : (token : Token) (files : List (List ℕ)) (own : List TapFields) (numbers : List ℕ)
+    → AreOwnOf token files own numbers → ArePlainEnds files (map Posted numbers)
+own_ends token files own numbers are =
+    counted_ends files numbers
+    (record { lists = are.lists; sorted = are.sorted; counted = are.counted })
+
+-- in canonical order they are the token's settled taps
+pub own_in_order : (token : Token) (files : List (List ℕ)) (own list : List TapFields)
+    (numbers : List ℕ) → AreOwnOf token files own numbers → IsCanonical own list
+    → AreSettledTapsOf files token list
+own_in_order token files own list numbers are canonical =
+    let of = file_taps files are.lists are.sorted in
+    own_settled files token own list (map Posted numbers)
+    (record {
+      taps = of.taps;
+      of_uploads = of.each;
+      are = are.are ∙ ap (only token) (sym of.fields);
+      ended = own_ends token files own numbers are;
+    })
+    (subst (λ (ts : List TapFields). All HasTokenBytes ts) (sym of.fields)
+    (all_map HasName HasTokenBytes (flat_map (λ list. list) are.lists)
+    (λ tap name. has_token_bytes tap name.named) are.named)) canonical
+
+-- they stay the token's, with moments before 2100
+pub sound_list : (token : Token) (taps list : List TapFields) → AreSound token taps
+    → IsCanonical taps list → AreSound token list
+sound_list token taps list sound canonical = record {
+  early = All-permutation Early taps list canonical.moved sound.early;
+  its = All-permutation (λ (t : TapFields). token_of_tap t ≡ token) taps list canonical.moved sound.its;
+}

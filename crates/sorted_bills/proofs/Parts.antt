@@ -1,0 +1,129 @@
+-- Taps of parts, one behind the other.
+use Rattle.std.proofs.Common.{◌≡◌, ℕ, ◌+◌, ◌^◌, ◌≤◌, List, [], ◌∷◌, ◌++◌, All, map, Option}
+use Rattle.std.proofs.Common.{sym, ap, subst, ◌∙◌, arith}
+use Rattle.std.specs.Ordering.{is_lt, ordering_reverse}
+use Rattle.std.specs.declared.cmp.Ordering.TheVariants.{Less}
+use Rattle.std.proofs.lemmas.List.Elements.{All-append, All-cons, All-map, All-nil}
+use Rattle.fare_table.specs.Fares.{Fares}
+use Rattle.tap_views.specs.Token.{token_cmp}
+use Rattle.tap_views.specs.declared.encoder.TapFields.{TapFields}
+use Rattle.tap_views.specs.declared.token.Token.{Token}
+use Rattle.tap_views.proofs.TokenLemmas.{token_cmp-total}
+use Rattle.shard_book.specs.SumsByKey.{token_of}
+use Rattle.shard_book.specs.declared.entry.Entry.{Entry}
+use Rattle.ledger_texts.specs.Lines.{IsUpTo}
+use Rattle.ledger_texts.proofs.Rising.{up_chain, up_itself}
+use Rattle.settlement.specs.Bills.{IsBillOf}
+use Rattle.settlement.specs.Posted.{posted, token_of_tap}
+use Rattle.settlement.specs.declared.bill.Bill.{Bill}
+use Rattle.settlement.specs.inside.Apart.{AreBelow}
+use Rattle.settlement.specs.inside.Billing.{HaveBillRoom}
+use Rattle.settlement.proofs.Placed.{all_map}
+use Rattle.settlement.proofs.Ranges.{posted_below}
+use Rattle.settlement.proofs.TokenRuns.{less_up, posted_length, tokens_posted, up_less}
+use Rattle.settled_texts.specs.Telling.{NoTapFallsFrom, last_token}
+use Rattle.sorted_bills.specs.inside.Charged.{IsPart}
+use Rattle.sorted_bills.specs.declared.part.Part.{Part}
+
+abbrev pub From : Token → TapFields → Type 0
+From first tap = IsUpTo first (token_of_tap tap)
+
+abbrev pub UpTo : Token → TapFields → Type 0
+UpTo last tap = IsUpTo (token_of_tap tap) last
+
+-- taps that do not fall from a token lie between it and the last one
+pub fall_between : (from : Token) (taps : List TapFields) → NoTapFallsFrom from taps
+    → All (From from) taps × All (UpTo (last_token from taps)) taps
+    × IsUpTo from (last_token from taps)
+fall_between from [] no_fall = (All-nil (From from), All-nil (UpTo from), up_itself from)
+fall_between from (tap ∷ taps) (up, no_fall) =
+    let token = token_of_tap tap in
+    let last = last_token token taps in
+    let (least, most, end) = fall_between token taps no_fall in (
+      All-cons (From from) tap taps up
+          (all_map (From token) (From from) taps
+          (λ (t : TapFields) above. up_chain from token (token_of_tap t) up above) least),
+      All-cons (UpTo last) tap taps end most,
+      up_chain from token last up end,
+    )
+
+pub less_is_up : (a b : Token) → token_cmp a b ≡ Less → IsUpTo a b
+less_is_up a b less = ap is_lt (token_cmp-total.antisymm b a ∙ ap ordering_reverse less)
+
+-- taps up to a token are below those from a higher one on
+pub below_bound : (taps others : List TapFields) (last first : Token) → All (UpTo last) taps
+    → token_cmp last first ≡ Less → All (From first) others
+    → AreBelow (map token_of_tap taps) (map token_of_tap others)
+below_bound taps others last first up less from =
+    let P : Token → Type 0 = λ t. All (λ o. token_cmp t o ≡ Less) (map token_of_tap others) in
+    All-map P token_of_tap taps
+    (all_map (UpTo last) (λ (tap : TapFields). P (token_of_tap tap)) taps
+    (λ (tap : TapFields) below.
+    All-map (λ o. token_cmp (token_of_tap tap) o ≡ Less) token_of_tap others
+    (all_map (From first) (λ (other : TapFields). token_cmp (token_of_tap tap) (token_of_tap other) ≡ Less)
+    others
+    (λ (other : TapFields) above. less_up (token_of_tap tap) first (token_of_tap other)
+    (up_less (token_of_tap tap) last first below less) above) from)) up)
+
+-- no tap of both is above the last token
+pub up_to_next : (taps others : List TapFields) (last first next : Token) → All (UpTo last) taps
+    → token_cmp last first ≡ Less → IsUpTo first next → All (UpTo next) others
+    → All (UpTo next) (taps ++ others)
+up_to_next taps others last first next before above up most =
+    All-append (UpTo next) taps others
+    (all_map (UpTo last) (UpTo next) taps
+    (λ (tap : TapFields) below. up_chain (token_of_tap tap) last next below
+    (up_chain last first next (less_is_up last first above) up)) before) most
+
+-- taps from a token on that is above another are from that on
+pub from_lower : (others : List TapFields) (lower last first : Token) → IsUpTo lower last
+    → token_cmp last first ≡ Less → All (From first) others → All (From lower) others
+from_lower others lower last first up above from =
+    all_map (From first) (From lower) others
+    (λ (tap : TapFields) is. up_chain lower first (token_of_tap tap)
+    (up_chain lower last first up (less_is_up last first above)) is) from
+
+-- the bill of the taps of two parts
+pub billed_both : (fares : Fares) (taps others : List TapFields) (old more new : Bill)
+    → AreBelow (map token_of_tap taps) (map token_of_tap others)
+    → IsBillOf (posted fares taps) old → IsBillOf (posted fares others) more
+    → ((entries last : List Entry) → IsBillOf entries old → IsBillOf last more
+    → AreBelow (map token_of entries) (map token_of last) → IsBillOf (entries ++ last) new)
+    → IsBillOf (posted fares (taps ++ others)) new
+billed_both fares taps others old more new below one other added =
+    subst (λ (es : List Entry). IsBillOf es new) (sym (posted_below fares taps others below))
+    (added (posted fares taps) (posted fares others) one other
+    (subst (λ (ts : List Token). AreBelow ts (map token_of (posted fares others)))
+    (sym (tokens_posted fares [] taps))
+    (subst (λ (ts : List Token). AreBelow (map token_of_tap taps) ts)
+    (sym (tokens_posted fares [] others)) below)))
+
+-- a part of so many taps at most is one of more
+pub part_within : (fares : Fares) (known : List (Option (List ℕ))) (few most : ℕ) (part : Part)
+    → IsPart fares known few part → few ≤ most → IsPart fares known most part
+part_within fares known few most part is up = record {
+  taps = is.taps;
+  spanned = is.spanned;
+  named = is.named;
+  bill_is = is.bill_is;
+  range = is.range;
+  from = is.from;
+  up = is.up;
+  few = let less = is.few in omega (arith, less, up);
+}
+
+-- there is room for the taps of two parts
+pub parts_room : (fares : Fares) (known : List (Option (List ℕ))) (few others : ℕ) (part more : Part)
+    → IsPart fares known few part → IsPart fares known others more → few + others ≤ 2 ^ 95
+    → HaveBillRoom part.bill more.bill
+parts_room fares known few others part more one other room =
+    let long = posted_length fares [] one.taps in
+    let wide = posted_length fares [] other.taps in
+    let less = one.few in
+    let least = other.few in (
+      posted fares one.taps,
+      posted fares other.taps,
+      one.bill_is.counts,
+      other.bill_is.counts,
+      omega (arith, long, wide, less, least, room),
+    )

@@ -1,0 +1,88 @@
+-- Taps that are taken one after the other, and more behind them.
+use Rattle.std.proofs.Common.{◌≡◌, ℕ, ◌<◌, List, [], ◌∷◌, ◌++◌, Option, Some, map}
+use Rattle.std.proofs.Common.{refl, sym, ap, subst, ◌∙◌, Bool, true, ◌==◌, Vec, Global, vec_len}
+use Rattle.std.proofs.Common.{append-nil, arith}
+use Rattle.std.proofs.lemmas.Bool.{eqb-true}
+use Rattle.std.proofs.lemmas.List.{nil_from_length}
+use Rattle.std.proofs.lemmas.List.Elements.{All-append, All-cons, All-nil}
+use Rattle.tap_views.specs.Layout.{moment_limit}
+use Rattle.tap_views.specs.Token.{Fits, bytes_of}
+use Rattle.tap_views.specs.declared.encoder.TapFields.{TapFields}
+use Rattle.tap_views.specs.declared.token.Token.{Token}
+use Rattle.ledger_texts.specs.Lines.{IsUpTo}
+use Rattle.settlement.specs.Posted.{HasName, token_of_tap}
+use Rattle.settlement.proofs.TokenRuns.{named_token}
+use Rattle.settled_texts.specs.Telling.{NoTapFallsFrom, last_token}
+use Rattle.sorted_taps.specs.Merges.{IsTapTaken}
+use Rattle.sorted_taps.specs.declared.reader.TapReader.{TapReader}
+use Rattle.sorted_taps.proofs.Spans.{taken_append}
+use Rattle.sorted_bills.specs.inside.Taken.{AreTapsTaken}
+
+abbrev pub Early : TapFields → Type 0
+Early tap = tap.moment < moment_limit
+
+pub none_taken : (known : List (Option (List ℕ))) (readers : List TapReader)
+    → AreTapsTaken known readers [] readers
+none_taken known readers = record {
+  taken = λ files are. refl;
+  early = All-nil Early;
+  named = All-nil HasName;
+}
+
+pub both_taken : (known : List (Option (List ℕ))) (old mid new : List TapReader)
+    (xs ys : List TapFields) → AreTapsTaken known old xs mid → AreTapsTaken known mid ys new
+    → AreTapsTaken known old (xs ++ ys) new
+both_taken known old mid new xs ys first rest = record {
+  taken = λ files are. taken_append files old mid new xs ys (first.taken files are)
+      (rest.taken files are);
+  early = All-append Early xs ys first.early rest.early;
+  named = All-append HasName xs ys first.named rest.named;
+}
+
+pub one_taken : (known : List (Option (List ℕ))) (old new : List TapReader) (tap : TapFields)
+    → ((files : List (List ℕ)) → known ≡ map Some files → IsTapTaken files old tap new)
+    → Early tap → HasName tap → AreTapsTaken known old (tap ∷ []) new
+one_taken known old new tap taken early named = record {
+  taken = λ files are. (new, taken files are, refl);
+  early = All-cons Early tap [] early (All-nil Early);
+  named = All-cons HasName tap [] named (All-nil HasName);
+}
+
+-- one tap more, which is not below the last token
+pub fall_more : (from : Token) (xs : List TapFields) (tap : TapFields) → NoTapFallsFrom from xs
+    → IsUpTo (last_token from xs) (token_of_tap tap) → NoTapFallsFrom from (xs ++ tap ∷ [])
+fall_more from [] tap no_fall up = (up, tt)
+fall_more from (x ∷ xs) tap (first, no_fall) up =
+    (first, fall_more (token_of_tap x) xs tap no_fall up)
+
+-- more taps, which do not fall from the last token
+pub fall_both : (from : Token) (xs ys : List TapFields) → NoTapFallsFrom from xs
+    → NoTapFallsFrom (last_token from xs) ys → NoTapFallsFrom from (xs ++ ys)
+fall_both from [] ys first rest = rest
+fall_both from (x ∷ xs) ys (up, first) rest = (up, fall_both (token_of_tap x) xs ys first rest)
+
+-- 16 bytes that a token is made of name it
+pub has_name : (tap : TapFields) (token : Token) → bytes_of token ≡ tap.token → Fits token
+    → HasName tap
+has_name tap token named fits =
+    let same = named_token tap tap.token token refl named fits in
+    record {
+      named = ap bytes_of same ∙ named;
+      fits = subst (λ (t : Token). Fits t) (sym same) fits;
+    }
+
+-- a list that was found empty
+pub none_there : (taps : Vec TapFields Global) (is_empty : Bool) → is_empty ≡ (vec_len taps == 0)
+    → is_empty ≡ true → taps.items ≡ []
+none_there taps is_empty test empty =
+    let zero : vec_len taps ≡ 0 = eqb-true (vec_len taps) 0 (sym test ∙ empty) in
+    nil_from_length taps.items (grind arith)
+
+-- the last turn takes no tap
+pub last_taken : (known : List (Option (List ℕ))) (old mid new : List TapReader)
+    (done taps : List TapFields) → taps ≡ [] → AreTapsTaken known old done mid
+    → AreTapsTaken known mid taps new → AreTapsTaken known old done new
+last_taken known old mid new done taps none first rest =
+    subst (λ (ts : List TapFields). AreTapsTaken known old ts new)
+    (ap (λ (ts : List TapFields). done ++ ts) none ∙ append-nil done)
+    (both_taken known old mid new done taps first rest)

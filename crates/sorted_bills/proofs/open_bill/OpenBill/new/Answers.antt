@@ -1,0 +1,29 @@
+use Rattle.std.proofs.Common.{◌≡◌, [], refl, true, false}
+use Rattle.std.proofs.lemmas.List.Elements.{All-nil}
+use Rattle.std.specs.declared.cmp.Ordering.TheVariants.{Less}
+use Rattle.tap_views.specs.Token.{token_cmp}
+use Rattle.tap_views.specs.declared.encoder.TapFields.{TapFields}
+use Rattle.tap_views.specs.declared.token.Token.{Token}
+use Rattle.std.proofs.Common.{All, ◌∷◌}
+use Rattle.shard_book.specs.Entry.{own}
+use Rattle.settlement.specs.Posted.{posted_after, token_of_tap}
+use Rattle.settlement.proofs.TokenRuns.{nothing_billed}
+use Rattle.sorted_bills.proofs.open_bill.OpenBill.new.Goals as goal
+
+pub returns-clause-bill : goal.returns-clause-bill
+unfolding posted_after own
+returns-clause-bill c = λ fares. record {
+  lower = [];
+  last = [];
+  both = refl;
+  below = All-nil (λ (t : Token). All (λ (o : Token). token_cmp t o ≡ Less)
+      (c.of.result.token ∷ []));
+  its = All-nil (λ (tap : TapFields). token_of_tap tap ≡ c.of.result.token);
+  stands = c.of.ensures.none fares [] refl;
+  tally = c.new-4.ensures;
+  some = λ e. absurd (let wrong : false ≡ true = e in cc);
+  none = λ e. refl;
+  tokens = nothing_billed _ c.new.ensures;
+  totals = c.new-3.ensures;
+  validators = c.new-2.ensures;
+}

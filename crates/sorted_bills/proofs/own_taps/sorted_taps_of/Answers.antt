@@ -1,0 +1,28 @@
+use Rattle.std.proofs.Common.{◌∙◌, List, map, sym, ap, subst}
+use Rattle.report_texts.specs.UploadEnds.{ArePlainEnds}
+use Rattle.report_texts.specs.declared.upload_end.UploadEnd.{UploadEnd}
+use Rattle.report_texts.specs.declared.upload_end.UploadEnd.TheVariants.{Posted}
+use Rattle.sorted_bills.proofs.OwnTaps.{own_ends, own_in_order, sound_list}
+use Rattle.sorted_bills.proofs.own_taps.sorted_taps_of.Goals as goal
+
+pub returns-clause-ended : goal.returns-clause-ended
+returns-clause-ended g c = λ all are.
+    subst (λ (ends : List UploadEnd). ArePlainEnds all ends)
+    (sym (c.in_ok-ends.ensures.ends ∙ ap (map Posted) c.deref.ensures.value))
+    (own_ends c.args.token all c.in_ok-taps.taps.items c.own_taps.new.numbers.items
+    (c.in_ok-taps.ensures.own all are))
+
+pub returns-clause-order : goal.returns-clause-order
+returns-clause-order g c = λ all are.
+    own_in_order c.args.token all c.in_ok-taps.taps.items c.in_order-list.result.items
+    c.own_taps.new.numbers.items (c.in_ok-taps.ensures.own all are) c.in_order-list.ensures
+
+pub returns-clause-early : goal.returns-clause-early
+returns-clause-early g c =
+    (sound_list c.args.token c.in_ok-taps.taps.items c.in_order-list.result.items
+    c.in_ok-taps.ensures.sound c.in_order-list.ensures).early
+
+pub returns-clause-its : goal.returns-clause-its
+returns-clause-its g c =
+    (sound_list c.args.token c.in_ok-taps.taps.items c.in_order-list.result.items
+    c.in_ok-taps.ensures.sound c.in_order-list.ensures).its

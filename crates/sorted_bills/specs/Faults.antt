@@ -1,0 +1,38 @@
+-- Why sorted files are not charged.
+use Rattle.std.specs.Prelude.{◌^◌, ◌<◌, ℕ, List, flat_map, length}
+use Rattle.tap_views.specs.declared.encoder.TapFields.{TapFields}
+use Rattle.sorted_taps.specs.Checked.{IsFirstFault}
+use Rattle.sorted_taps.specs.Merges.{AreSortedFiles}
+use Rattle.sorted_taps.specs.declared.fault.SortedFault.{SortedFault}
+use Rattle.sorted_taps.specs.declared.fault.SortedFault.TheVariants.{Layout, OutOfOrder}
+use Rattle.sorted_taps.specs.declared.fault.SortedFault.TheVariants as sorted
+use Rattle.sorted_bills.specs.declared.fault.BillFault.{BillFault}
+use Rattle.sorted_bills.specs.declared.fault.BillFault.TheVariants.{Changed, File, Late}
+use Rattle.sorted_bills.specs.declared.fault.BillFault.TheVariants.{TooManyTaps, Write}
+
+-- the files are sorted, and have more than 2^46 taps
+pub record HaveTooManyTaps (files : List (List ℕ)) : Type 0 where
+  pub lists : List (List TapFields)
+  pub sorted : AreSortedFiles files lists
+  pub many : 2 ^ 46 < length (flat_map (λ list. list) lists)
+
+-- why files are not charged: the first of them that is not sorted, or that all have too many taps;
+-- that a read, a write or a growth of memory failed says nothing of them
+abbrev pub IsBillFault : List (List ℕ) → BillFault → Type 0
+IsBillFault files (File fault) = IsFirstFault files fault
+IsBillFault files TooManyTaps = HaveTooManyTaps files
+IsBillFault files fault = Unit {0}
+
+-- the fault comes before the first byte is written
+abbrev pub IsBeforeText : BillFault → Type 0
+IsBeforeText Changed = ⊥
+IsBeforeText (Late fault) = ⊥
+IsBeforeText Write = ⊥
+IsBeforeText fault = Unit {0}
+
+-- a fault of a file that was checked before
+abbrev pub late_fault : SortedFault → BillFault
+late_fault (OutOfOrder tap) = Changed
+late_fault (Layout offset fault) = Changed
+late_fault sorted.Unread = Late sorted.Unread
+late_fault sorted.NoMemory = Late sorted.NoMemory

@@ -1,0 +1,12 @@
+-- The ledger of sorted files.
+use Rattle.std.specs.Prelude.{ℕ, List, None}
+use Rattle.fare_table.specs.Fares.{Fares}
+use Rattle.ledger_texts.specs.Ledger.{IsLedgerOver}
+use Rattle.settlement.specs.Settled.{IsSettledHistory}
+use Rattle.shard_book.specs.declared.entry.Entry.{Entry}
+
+-- the text is the ledger of all tokens over the settled history of the files
+pub record IsLedgerOfFiles (fares : Fares) (files : List (List ℕ)) (text : List ℕ) : Type 0 where
+  pub history : List Entry
+  pub is_settled : IsSettledHistory fares files history
+  pub over : IsLedgerOver fares history None text

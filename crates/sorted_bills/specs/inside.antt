@@ -1,0 +1,8 @@
+-- What only private functions cite. Who reads the contracts of public calls need not read it.
+pub mod Billed
+pub mod Charged
+pub mod OpenBills
+pub mod OwnTaps
+pub mod Printed
+pub mod Taken
+pub mod Told

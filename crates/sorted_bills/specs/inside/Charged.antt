@@ -1,0 +1,42 @@
+-- Bills of ranges of the taps: what private functions alone cite.
+use Rattle.std.specs.Prelude.{◌≡◌, ℕ, ◌^◌, ◌≤◌, All, List, Option, Some, IfSome, length, map}
+use Rattle.fare_table.specs.Fares.{Fares}
+use Rattle.tap_views.specs.declared.encoder.TapFields.{TapFields}
+use Rattle.tap_views.specs.declared.token.Token.{Token}
+use Rattle.ledger_texts.specs.Lines.{IsUpTo}
+use Rattle.settlement.specs.Bills.{IsBillOf}
+use Rattle.settlement.specs.Posted.{HasName, posted, token_of_tap}
+use Rattle.settled_texts.specs.Telling.{NoTapFallsFrom, last_token}
+use Rattle.sorted_taps.specs.Spans.{IsSpanOf}
+use Rattle.sorted_taps.specs.declared.reader.TapReader.{TapReader}
+use Rattle.sorted_bills.specs.inside.OpenBills.{IsOpenBill}
+use Rattle.sorted_bills.specs.inside.Taken.{AreTapsTaken}
+use Rattle.sorted_bills.specs.declared.open_bill.OpenBill.{OpenBill}
+use Rattle.sorted_bills.specs.declared.part.Part.{Part}
+
+-- taps whose tokens do not fall from this one on were taken, and the bill is theirs
+pub record IsCharged (fares : Fares) (known : List (Option (List ℕ))) (old : List TapReader)
+    (from : Token) (new : List TapReader) (bill : OpenBill) : Type 0 where
+  pub taps : List TapFields
+  pub taken : AreTapsTaken known old taps new
+  pub bill_is : IsOpenBill fares taps bill
+  pub no_fall : NoTapFallsFrom from taps
+  pub last : bill.replay.token ≡ last_token from taps
+  pub few : length taps ≤ 2 ^ 73
+
+-- the part has the taps of its span, so many at most, and the bill is theirs; no token is below its
+-- first one or above its last one
+pub record IsPart (fares : Fares) (known : List (Option (List ℕ))) (most : ℕ) (part : Part)
+    : Type 0 where
+  pub taps : List TapFields
+  pub spanned : (files : List (List ℕ)) → known ≡ map Some files → IsSpanOf files taps part.span
+  pub named : All HasName taps
+  pub bill_is : IsBillOf (posted fares taps) part.bill
+  pub range : IsUpTo part.first part.last
+  pub from : All (λ tap. IsUpTo part.first (token_of_tap tap)) taps
+  pub up : All (λ tap. IsUpTo (token_of_tap tap) part.last) taps
+  pub few : length taps ≤ most
+
+-- each of the parts that were made is a part of the files
+abbrev pub AreParts : Fares → List (Option (List ℕ)) → List (Option Part) → Type 0
+AreParts fares known parts = All (λ part. IfSome part (IsPart fares known (2 ^ 73))) parts

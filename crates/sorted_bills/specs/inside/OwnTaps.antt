@@ -1,0 +1,38 @@
+-- The taps of one token, collected from sorted files: what private functions alone cite.
+use Rattle.std.specs.Prelude.{◌≡◌, ℕ, All, List, [], ◌∷◌, ◌++◌, flat_map, length, map}
+use Rattle.tap_views.specs.Encoding.{AreEarly}
+use Rattle.tap_views.specs.declared.encoder.TapFields.{TapFields}
+use Rattle.tap_views.specs.declared.token.Token.{Token}
+use Rattle.settlement.specs.Posted.{HasName, only, token_of_tap}
+use Rattle.sorted_taps.specs.Merges.{AreSortedFiles}
+use Rattle.sorted_taps.specs.Sorted.{IsSortedFile}
+
+-- the taps are of the token, with moments before 2100
+pub record AreSound (token : Token) (taps : List TapFields) : Type 0 where
+  pub early : AreEarly (λ (tap : TapFields). tap.moment) taps
+  pub its : All (λ tap. token_of_tap tap ≡ token) taps
+
+-- the tap was added if it is of the token; the 16 bytes of its own token name it
+pub record IsOwnPushed (token : Token) (tap : TapFields) (old new : List TapFields) : Type 0 where
+  pub named : HasName tap
+  pub pushed : new ≡ old ++ only token (tap ∷ [])
+  pub sound : AreSound token old → AreSound token new
+
+-- the file is sorted; the token's taps of it were added, and the number of all its taps
+pub record AreOwnAdded (token : Token) (file : List ℕ) (old new : List TapFields)
+    (numbers more : List ℕ) : Type 0 where
+  pub list : List TapFields
+  pub of_file : IsSortedFile file list
+  pub named : All HasName list
+  pub added : new ≡ old ++ only token list
+  pub counted : more ≡ numbers ++ length list ∷ []
+
+-- the files are sorted; these are the token's taps of them, one file after the other, and the
+-- numbers of the taps of each
+pub record AreOwnOf (token : Token) (files : List (List ℕ)) (own : List TapFields)
+    (numbers : List ℕ) : Type 0 where
+  pub lists : List (List TapFields)
+  pub sorted : AreSortedFiles files lists
+  pub named : All HasName (flat_map (λ list. list) lists)
+  pub are : own ≡ only token (flat_map (λ list. list) lists)
+  pub counted : numbers ≡ map length lists

@@ -1,0 +1,24 @@
+-- Taps that are taken of merged files: what private functions alone cite.
+use Rattle.std.specs.Prelude.{◌≡◌, ◌≤◌, ℕ, All, List, Option, Some, length, map}
+use Rattle.tap_views.specs.Encoding.{AreEarly}
+use Rattle.tap_views.specs.declared.encoder.TapFields.{TapFields}
+use Rattle.settlement.specs.Posted.{HasName}
+use Rattle.sorted_taps.specs.Heads.{IsRanked}
+use Rattle.sorted_taps.specs.Merges.{AreTaken}
+use Rattle.sorted_taps.specs.Reading.{window_bytes}
+use Rattle.sorted_taps.specs.declared.reader.TapReader.{TapReader}
+use Rattle.sorted_bills.specs.declared.taking.Taker.{Taker}
+
+-- these taps were taken, one after the other, of files whose bytes are these where they are known;
+-- their moments are before 2100, and the 16 bytes of each token name it
+pub record AreTapsTaken (known : List (Option (List ℕ))) (old : List TapReader)
+    (taps : List TapFields) (new : List TapReader) : Type 0 where
+  pub taken : (files : List (List ℕ)) → known ≡ map Some files → AreTaken files old taps new
+  pub early : AreEarly (λ (tap : TapFields). tap.moment) taps
+  pub named : All HasName taps
+
+-- there is a reader of each of so many files, their heads are ranked, and there is room to read
+pub record IsReady (files : ℕ) (taker : Taker) : Type 0 where
+  pub readers : length taker.merge.readers.items ≡ files
+  pub ranked : IsRanked taker.merge.readers.items taker.merge.heads.items
+  pub window : window_bytes ≤ length taker.window.items

@@ -1,0 +1,111 @@
+//! The bill of sorted files.
+
+ghost use Rattle.std.specs.Prelude.{◌≡◌, ◌≤◌, ◌^◌, true, ℕ, List, IfErr, IfOk, Some, length, map};
+ghost use Rattle.report_texts.specs.UploadEnds.{ArePlainEnds, are_posted};
+ghost use Rattle.shard_book.specs.declared.entry.Entry.{Entry};
+ghost use Rattle.settlement.specs.Bills.{IsBillOf};
+ghost use Rattle.settlement.specs.Settled.{IsSettledHistory};
+ghost use Rattle.sorted_taps.specs.Reading.{window_bytes};
+ghost use Rattle.sorted_bills.specs.Faults.{IsBillFault};
+ghost use Rattle.sorted_bills.specs.inside.Billed.{IsBilled};
+
+use crate::by_threads::bill_by_threads;
+use crate::charging::charge;
+use crate::counting::{count, ends_of};
+use crate::fault::BillFault;
+use crate::open_bill::OpenBill;
+use crate::taking::Taker;
+use fare_table::FareTable;
+use placed_files::Placed;
+use settled_texts::least_token;
+use settlement::Billed;
+use shard_book::HashSeed;
+use sorted_taps::{WINDOW_BYTES, check_files};
+use std::alloc::Global;
+use std::marker::Sync;
+use std::thread::Threads;
+
+/// The bill of the files, in one pass. Its fault need not be the first one of the files.
+fn bill_of<F: Placed>(
+    alloc: Global,
+    table: &FareTable,
+    seed: HashSeed,
+    files: &[F],
+) -> Result<Billed, BillFault>
+    ensures billed { IfOk result (IsBilled table.now (map F.bytes files.now)) }
+    ensures posted { IfOk result (λ made. are_posted made.ends.items ≡ true) }
+    ensures fault { IfErr result (λ fault. (all : List (List ℕ))
+        → map F.bytes files.now ≡ map Some all → IsBillFault all fault) }
+{
+    // proof: taps that are taken to the ends of the files are their settled taps
+    crate::laws::taken_taps_are_settled();
+    settlement::laws::posted_taps();
+    sorted_taps::laws::taken_taps_are_canonical();
+    let window = vec![in alloc; 0u8; WINDOW_BYTES]?;
+    let mut taker = Taker::begin(alloc, files, window)?;
+    let mut so_far = OpenBill::new(alloc, seed, least_token());
+    charge(alloc, table, files, None, &mut taker, &mut so_far)?;
+    let numbers = taker.merge.numbers(alloc)?;
+    let _counted = count(&numbers)?;
+    let ends = ends_of(alloc, &numbers)?;
+    let bill = so_far.into_bill(alloc)?;
+    Ok(Billed { ends, bill })
+}
+
+/// Why the files are not charged, if one of them was refused on the way: the first fault in the
+/// order of the files.
+fn first_fault<F: Placed>(alloc: Global, files: &[F], met: BillFault) -> BillFault
+    requires { (all : List (List ℕ)) → map F.bytes files.now ≡ map Some all
+        → IsBillFault all met }
+    ensures { (all : List (List ℕ)) → map F.bytes files.now ≡ map Some all
+        → IsBillFault all result }
+{
+    if !matches!(met, BillFault::Changed | BillFault::Late(_)) {
+        return met;
+    }
+    let Ok(mut window) = vec![in alloc; 0u8; WINDOW_BYTES] else {
+        return BillFault::NoMemory;
+    };
+    match check_files(alloc, files, &mut window) {
+        Ok(_) => met,
+        Err(fault) => BillFault::File(fault),
+    }
+}
+
+/// The bill of the settled history of sorted files, in one pass: the files are merged, each tap is
+/// posted by its token's account, and the sums are kept. Of each file some batches are in memory,
+/// and of each token its sums: 32 bytes while each count fits 16 bits and the cents 32.
+///
+/// So many workers, 64 at most, charge a range of the tokens each, with readers of their own and
+/// copies of these as they began: at most some 32 KiB a worker for each file of `sort`. Where the
+/// ranges begin is a guess that suits long files in batches of 512 taps. Each range must end
+/// where the next one begins, to the tap: if not, or if a worker is refused, all is charged anew by
+/// one. If a file is refused then, all are checked in their order, and the fault is the first one.
+/// So neither the bill nor the fault depends on the workers.
+pub fn sorted_bill<R: Threads + Sync, F: Placed + Sync>(
+    rt: &R,
+    alloc: Global,
+    table: &FareTable,
+    seed: HashSeed,
+    files: &[F],
+    workers: u32,
+) -> Result<Billed, BillFault>
+    ensures ended { IfOk result (λ made. (all : List (List ℕ))
+        → map F.bytes files.now ≡ map Some all → ArePlainEnds all made.ends.items) }
+    ensures posted { IfOk result (λ made. are_posted made.ends.items ≡ true) }
+    ensures billed { IfOk result (λ made. (history : List Entry) × IsBillOf history made.bill
+        × (length history ≤ 2 ^ 95) × ((all : List (List ℕ))
+        → map F.bytes files.now ≡ map Some all → IsSettledHistory table.now all history)) }
+    ensures fault { IfErr result (λ fault. (all : List (List ℕ))
+        → map F.bytes files.now ≡ map Some all → IsBillFault all fault) }
+{
+    if workers > 1 {
+        if let Ok(made) = bill_by_threads(rt, alloc, table, seed, files, workers) {
+            return Ok(made);
+        }
+    }
+    match bill_of(alloc, table, seed, files) {
+        Ok(made) => Ok(made),
+        Err(met) => Err(first_fault(alloc, files, met)),
+    }
+}

@@ -1,0 +1,94 @@
+//! Why sorted files are not charged.
+
+use fare_texts::PrintFault;
+use sorted_taps::{FileFault, SortedFault};
+use std::alloc::AllocError;
+use tap_views::NoMemory;
+use thiserror::Error;
+
+/// Why sorted files are not charged.
+#[derive(Clone, Copy, Debug, PartialEq, Eq, Error)]
+pub enum BillFault {
+    /// A file is not read as taps in canonical order, and each file before it is. Nothing was
+    /// written.
+    #[error("{0}")]
+    File(FileFault),
+    /// The files have more than 2^46 taps. Nothing was written.
+    #[error("more than 2^46 taps")]
+    TooManyTaps,
+    /// Memory was refused. Nothing was written.
+    #[error("out of memory")]
+    NoMemory,
+    /// A file has not the taps that it had when it was checked. A beginning of a text may have been
+    /// written.
+    #[error("a file changed while it was read")]
+    Changed,
+    /// A file that was checked cannot be read again: a read failed, or memory was refused. A
+    /// beginning of the text may have been written.
+    #[error("{0}")]
+    Late(SortedFault),
+    /// A write failed. Nothing is known of how much of the text was written.
+    #[error("cannot write")]
+    Write,
+}
+
+impl From<FileFault> for BillFault {
+    ghost use Rattle.std.specs.Prelude.{◌≡◌};
+    ghost use Rattle.sorted_bills.specs.declared.fault.BillFault.TheVariants.{File};
+
+    ghost from_gives = { λ refused fault. fault ≡ File refused };
+
+    fn from(refused: FileFault) -> BillFault {
+        BillFault::File(refused)
+    }
+}
+
+impl From<SortedFault> for BillFault {
+    ghost use Rattle.std.specs.Prelude.{◌≡◌};
+    ghost use Rattle.sorted_bills.specs.Faults.{late_fault};
+
+    ghost from_gives = { λ refused fault. fault ≡ late_fault refused };
+
+    fn from(refused: SortedFault) -> BillFault {
+        match refused {
+            SortedFault::OutOfOrder { .. } | SortedFault::Layout { .. } => BillFault::Changed,
+            SortedFault::Unread | SortedFault::NoMemory => BillFault::Late(refused),
+        }
+    }
+}
+
+impl From<PrintFault> for BillFault {
+    ghost use Rattle.std.specs.Prelude.{◌≡◌};
+    ghost use Rattle.sorted_bills.specs.inside.Printed.{printed_fault};
+
+    ghost from_gives = { λ refused fault. fault ≡ printed_fault refused };
+
+    fn from(refused: PrintFault) -> BillFault {
+        match refused {
+            PrintFault::Write => BillFault::Write,
+            PrintFault::NoMemory => BillFault::NoMemory,
+        }
+    }
+}
+
+impl From<NoMemory> for BillFault {
+    ghost use Rattle.std.specs.Prelude.{◌≡◌};
+    ghost use Rattle.sorted_bills.specs.declared.fault.BillFault.TheVariants.{NoMemory as ForMemory};
+
+    ghost from_gives = { λ _ fault. fault ≡ ForMemory };
+
+    fn from(_refused: NoMemory) -> BillFault {
+        BillFault::NoMemory
+    }
+}
+
+impl From<AllocError> for BillFault {
+    ghost use Rattle.std.specs.Prelude.{◌≡◌};
+    ghost use Rattle.sorted_bills.specs.declared.fault.BillFault.TheVariants.{NoMemory as ForMemory};
+
+    ghost from_gives = { λ _ fault. fault ≡ ForMemory };
+
+    fn from(_refused: AllocError) -> BillFault {
+        BillFault::NoMemory
+    }
+}

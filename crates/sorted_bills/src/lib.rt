@@ -1,0 +1,22 @@
+//! Files whose taps are in canonical order, charged as a settled run charges them: read in pieces,
+//! merged, and posted tap by tap. No list of the taps is kept, however many there are. Several
+//! workers make a bill, each of a range of the tokens. A ledger is written by one.
+#![tactic(auto)]
+
+mod bill;
+mod by_threads;
+mod charging;
+mod counting;
+mod fault;
+pub mod laws;
+mod ledger;
+mod open_bill;
+mod own_taps;
+mod part;
+mod stamps;
+mod taking;
+
+pub use bill::sorted_bill;
+pub use fault::BillFault;
+pub use ledger::write_sorted_ledger;
+pub use own_taps::sorted_taps_of;

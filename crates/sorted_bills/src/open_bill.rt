@@ -1,0 +1,174 @@
+//! A bill to which taps are added one by one.
+
+ghost use Rattle.std.specs.Prelude.{◌≡◌, ◌+◌, ◌<◌, ◌≤◌, ◌^◌, ◌++◌, ◌∷◌, [], List, IfOk, OnOk};
+ghost use Rattle.std.specs.Prelude.{length};
+ghost use Rattle.fare_table.specs.Fares.{Fares};
+ghost use Rattle.tap_views.specs.Encoding.{AreEarly};
+ghost use Rattle.tap_views.specs.declared.encoder.TapFields.{TapFields};
+ghost use Rattle.ledger_texts.specs.Lines.{IsUpTo};
+ghost use Rattle.settlement.specs.Bills.{IsBillOf};
+ghost use Rattle.settlement.specs.Posted.{posted, token_of_tap};
+ghost use Rattle.settled_texts.specs.Telling.{NoTapFallsFrom, last_token};
+ghost use Rattle.sorted_bills.specs.inside.OpenBills.{HasRoomFor, IsOpenBill};
+
+use fare_table::{Clock, FareTable};
+use settled_texts::token_of;
+use settlement::{Bill, Replay};
+use shard_book::{HashSeed, Tally, TokenSums, ValidatorTallies};
+use std::alloc::Global;
+use tap_views::{NoMemory, TapFields, Token};
+
+/// The bill of the taps that were added, which come token by token. Of the last token its account
+/// is kept, and what its taps come to.
+#[derive(Drop)]
+pub(crate) struct OpenBill {
+    /// The sums of the tokens before the last one, those of all taps by validator, and the totals
+    /// of the tokens before the last one.
+    bill: Bill,
+    /// The last token, with its account.
+    replay: Replay,
+    /// What its taps come to.
+    tally: Tally,
+    /// Whether it has any taps.
+    has_taps: bool,
+}
+
+impl OpenBill {
+    /// The bill of no taps, whose tokens do not fall from this one on. The seed serves to hash the
+    /// validators' numbers.
+    pub(crate) fn new(alloc: Global, seed: HashSeed, from: Token) -> Self
+        ensures bill { (fares : Fares) → IsOpenBill fares [] result }
+        ensures token { result.replay.token ≡ from }
+    {
+        OpenBill {
+            bill: Bill {
+                tokens: TokenSums::new(alloc),
+                validators: ValidatorTallies::new(alloc, seed),
+                totals: Tally::new(),
+            },
+            replay: Replay::of(from),
+            tally: Tally::new(),
+            has_taps: false,
+        }
+    }
+
+    /// The last token.
+    pub(crate) fn token(&self) -> Token
+        ensures { result ≡ self.now.replay.token }
+    {
+        self.replay.token
+    }
+
+    /// Adds the last token to the sums of the tokens, and to the totals. After want of memory the
+    /// bill is of no use.
+    fn close(&mut self, alloc: Global) -> Result<(), NoMemory>
+        requires { HasRoomFor self.old 0 }
+        ensures { OnOk result ((fares : Fares) (taps : List TapFields)
+            → IsOpenBill fares taps self.old → IsBillOf (posted fares taps) self.new.bill) }
+    {
+        if !self.has_taps {
+            return Ok(());
+        }
+        self.bill.totals.add_all(&self.tally);
+        self.bill
+            .tokens
+            .push(alloc, self.replay.token, &self.tally)?;
+        Ok(())
+    }
+
+    /// Goes on to the token of the next tap, which is not below the last one.
+    fn go_on_to(&mut self, alloc: Global, token: Token) -> Result<(), NoMemory>
+        requires up { IsUpTo self.old.replay.token token }
+        requires room { HasRoomFor self.old 0 }
+        ensures bill { OnOk result ((fares : Fares) (taps : List TapFields)
+            → IsOpenBill fares taps self.old → IsOpenBill fares taps self.new) }
+        ensures token { OnOk result (self.new.replay.token ≡ token) }
+    {
+        if self.replay.token == token {
+            return Ok(());
+        }
+        self.close(alloc)?;
+        self.replay = Replay::of(token);
+        self.tally = Tally::new();
+        self.has_taps = false;
+        Ok(())
+    }
+
+    /// Posts a tap of the last token.
+    fn post(&mut self, table: &FareTable, clock: &Clock, tap: &TapFields) -> Result<(), NoMemory>
+        requires clock { clock.now ≡ table.now.zone }
+        requires early { tap.now.moment < 4_102_444_800_000 }
+        requires its { token_of_tap tap.now ≡ self.old.replay.token }
+        requires bill { (taps : List TapFields) × IsOpenBill table.now taps self.old
+            × (length taps + 1 ≤ 2 ^ 94) }
+        ensures bill { OnOk result ((taps : List TapFields) → IsOpenBill table.now taps self.old
+            → IsOpenBill table.now (taps ++ tap.now ∷ []) self.new) }
+        ensures token { OnOk result (self.new.replay.token ≡ self.old.replay.token) }
+    {
+        let entry = self.replay.next(table, clock, tap);
+        self.tally.add(entry.reply());
+        self.has_taps = true;
+        self.bill.validators.add(&entry)?;
+        Ok(())
+    }
+
+    /// Adds a tap, whose token is not below the last one. After want of memory the bill is of no
+    /// use.
+    fn add_tap(
+        &mut self,
+        alloc: Global,
+        table: &FareTable,
+        clock: &Clock,
+        tap: &TapFields,
+    ) -> Result<(), NoMemory>
+        requires clock { clock.now ≡ table.now.zone }
+        requires early { tap.now.moment < 4_102_444_800_000 }
+        requires up { IsUpTo self.old.replay.token (token_of_tap tap.now) }
+        requires bill { (taps : List TapFields) × IsOpenBill table.now taps self.old
+            × (length taps + 1 ≤ 2 ^ 94) }
+        ensures bill { OnOk result ((taps : List TapFields) → IsOpenBill table.now taps self.old
+            → IsOpenBill table.now (taps ++ tap.now ∷ []) self.new) }
+        ensures token { OnOk result (self.new.replay.token ≡ token_of_tap tap.now) }
+    {
+        self.go_on_to(alloc, token_of(tap))?;
+        self.post(table, clock, tap)?;
+        Ok(())
+    }
+
+    /// Adds taps, whose tokens do not fall from the last one on. After want of memory the bill is
+    /// of no use.
+    pub(crate) fn add(
+        &mut self,
+        alloc: Global,
+        table: &FareTable,
+        clock: &Clock,
+        taps: &[TapFields],
+    ) -> Result<(), NoMemory>
+        requires clock { clock.now ≡ table.now.zone }
+        requires early { AreEarly (λ tap. tap.moment) taps.now }
+        requires no_fall { NoTapFallsFrom self.old.replay.token taps.now }
+        requires bill { (before : List TapFields) × IsOpenBill table.now before self.old
+            × (length before + length taps.now ≤ 2 ^ 94) }
+        ensures bill { OnOk result ((before : List TapFields)
+            → IsOpenBill table.now before self.old
+            → IsOpenBill table.now (before ++ taps.now) self.new) }
+        ensures token { OnOk result
+            (self.new.replay.token ≡ last_token self.old.replay.token taps.now) }
+    {
+        for tap in taps {
+            self.add_tap(alloc, table, clock, tap)?;
+        }
+        Ok(())
+    }
+
+    /// The bill of the taps that were added.
+    pub(crate) fn into_bill(self, alloc: Global) -> Result<Bill, NoMemory>
+        requires { HasRoomFor self 0 }
+        ensures { IfOk result (λ bill. (fares : Fares) (taps : List TapFields)
+            → IsOpenBill fares taps self → IsBillOf (posted fares taps) bill) }
+    {
+        let mut bill = self;
+        bill.close(alloc)?;
+        Ok(bill.bill)
+    }
+}

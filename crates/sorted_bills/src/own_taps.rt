@@ -1,0 +1,157 @@
+//! The taps of one token of sorted files.
+
+ghost use Rattle.std.specs.Prelude.{◌≡◌, ◌≤◌, [], ◌∷◌, true, ℕ, List, All, IfErr, IfOk, IfSome, OnOk};
+ghost use Rattle.std.specs.Prelude.{Some, length, map};
+ghost use Rattle.tap_views.specs.Encoding.{AreEarly};
+ghost use Rattle.tap_views.specs.declared.encoder.TapFields.{TapFields};
+ghost use Rattle.tap_parts.specs.Canonical.{IsCanonical};
+ghost use Rattle.report_texts.specs.UploadEnds.{ArePlainEnds, are_posted};
+ghost use Rattle.settlement.specs.Posted.{token_of_tap};
+ghost use Rattle.settlement.specs.SettledTaps.{AreSettledTapsOf};
+ghost use Rattle.sorted_taps.specs.Checked.{IsFirstFault};
+ghost use Rattle.sorted_taps.specs.Readers.{ahead};
+ghost use Rattle.sorted_taps.specs.Reading.{window_bytes};
+ghost use Rattle.sorted_taps.specs.Sorted.{IsSortedFault};
+ghost use Rattle.sorted_bills.specs.Faults.{IsBillFault};
+ghost use Rattle.sorted_bills.specs.inside.OwnTaps.{AreOwnAdded, AreOwnOf, AreSound, IsOwnPushed};
+
+use crate::counting::ends_of;
+use crate::fault::BillFault;
+use crate::taking::{is_early, name_of};
+use placed_files::Placed;
+use settlement::TokenTaps;
+use sorted_taps::{FileFault, SortedFault, TapReader, WINDOW_BYTES};
+use std::alloc::Global;
+use std::marker::Sync;
+use std::thread::Threads;
+use tap_parts::sort;
+use tap_views::{TapFields, Token};
+
+/// Adds the tap to the list if it is of the token.
+fn push_own(token: Token, tap: &TapFields, taps: &mut Vec<TapFields>) -> Result<(), SortedFault>
+    ensures pushed { OnOk result (IsOwnPushed token tap.now taps.old.items taps.new.items) }
+    ensures fault { IfErr result (λ fault. (all : List ℕ) → IsSortedFault all fault) }
+{
+    if name_of(tap) != token {
+        return Ok(());
+    }
+    // proof: no batch has a later moment
+    if !is_early(tap) {
+        return Err(SortedFault::Unread);
+    }
+    taps.push(*tap)?;
+    Ok(())
+}
+
+/// Adds the tap at which the reader stands to the list if it is of the token.
+fn push_head(token: Token, reader: &TapReader, taps: &mut Vec<TapFields>) -> Result<(), SortedFault>
+    ensures sound { OnOk result (AreSound token taps.old.items → AreSound token taps.new.items) }
+    ensures pushed { OnOk result ((tap : TapFields) (rest : List TapFields)
+        → ahead reader.now ≡ tap ∷ rest
+        → IsOwnPushed token tap taps.old.items taps.new.items) }
+    ensures fault { IfErr result (λ fault. (all : List ℕ) → IsSortedFault all fault) }
+{
+    match reader.head() {
+        Some(tap) => {
+            push_own(token, tap, taps)?;
+            Ok(())
+        }
+        None => Ok(()),
+    }
+}
+
+/// Adds the token's taps of the file to the list, and the number of its taps to the numbers. The
+/// file is checked as `check_file` does it.
+fn add_file<F: Placed>(
+    alloc: Global,
+    token: Token,
+    file: &F,
+    window: &mut [u8],
+    taps: &mut Vec<TapFields>,
+    numbers: &mut Vec<u64>,
+) -> Result<(), SortedFault>
+    requires window { window_bytes ≤ length window.old }
+    requires sound { AreSound token taps.old.items }
+    ensures sound { OnOk result (AreSound token taps.new.items) }
+    ensures own { OnOk result (IfSome (F.bytes file.now) (λ all.
+        AreOwnAdded token all taps.old.items taps.new.items numbers.old.items numbers.new.items)) }
+    ensures fault { IfErr result (λ fault. IfSome (F.bytes file.now)
+        (λ all. IsSortedFault all fault)) }
+{
+    let mut reader = TapReader::at(alloc, file, 0, window)?;
+    for _ in 0..u64::MAX {
+        if reader.head().is_none() {
+            numbers.push(reader.passed())?;
+            return Ok(());
+        }
+        push_head(token, &reader, taps)?;
+        reader.advance(file, window)?;
+    }
+    Err(SortedFault::Unread)
+}
+
+/// The token's taps of all files, one file after the other, and the numbers of the files' taps; or
+/// the first fault of the first file that is not sorted.
+fn own_taps<F: Placed>(
+    alloc: Global,
+    token: Token,
+    files: &[F],
+    window: &mut [u8],
+    numbers: &mut Vec<u64>,
+) -> Result<Vec<TapFields>, FileFault>
+    requires window { window_bytes ≤ length window.old }
+    requires none { numbers.old.items ≡ [] }
+    ensures sound { IfOk result (λ taps. AreSound token taps.items) }
+    ensures own { IfOk result (λ taps. (all : List (List ℕ))
+        → map F.bytes files.now ≡ map Some all
+        → AreOwnOf token all taps.items numbers.new.items) }
+    ensures fault { IfErr result (λ fault. (all : List (List ℕ))
+        → map F.bytes files.now ≡ map Some all → IsFirstFault all fault) }
+{
+    let mut taps = Vec::new(alloc);
+    for index in 0..files.len() {
+        let file = &files[index];
+        match add_file(alloc, token, file, window, &mut taps, numbers) {
+            Ok(()) => {}
+            Err(fault) => return Err(FileFault { index, fault }),
+        }
+    }
+    Ok(taps)
+}
+
+/// The taps in canonical order, in the same memory.
+fn in_order(taps: Vec<TapFields>) -> Vec<TapFields>
+    ensures { IsCanonical taps.items result.items }
+{
+    let mut list = taps;
+    sort(&mut list);
+    list
+}
+
+/// The taps of one token of sorted files, in canonical order: no other tap is kept. One pass checks
+/// each file whole, in their order: its fault is the first one. This thread does all, whatever the
+/// number of workers.
+pub fn sorted_taps_of<R: Threads + Sync, F: Placed + Sync>(
+    _rt: &R,
+    alloc: Global,
+    files: &[F],
+    token: Token,
+    _workers: u32,
+) -> Result<TokenTaps, BillFault>
+    ensures ended { IfOk result (λ made. (all : List (List ℕ))
+        → map F.bytes files.now ≡ map Some all → ArePlainEnds all made.ends.items) }
+    ensures posted { IfOk result (λ made. are_posted made.ends.items ≡ true) }
+    ensures order { IfOk result (λ made. (all : List (List ℕ))
+        → map F.bytes files.now ≡ map Some all → AreSettledTapsOf all token made.taps.items) }
+    ensures early { IfOk result (λ made. AreEarly (λ tap. tap.moment) made.taps.items) }
+    ensures its { IfOk result (λ made. All (λ tap. token_of_tap tap ≡ token) made.taps.items) }
+    ensures fault { IfErr result (λ fault. (all : List (List ℕ))
+        → map F.bytes files.now ≡ map Some all → IsBillFault all fault) }
+{
+    let mut window = vec![in alloc; 0u8; WINDOW_BYTES]?;
+    let mut numbers = Vec::new(alloc);
+    let taps = own_taps(alloc, token, files, &mut window, &mut numbers)?;
+    let ends = ends_of(alloc, &numbers)?;
+    let list = in_order(taps);
+    Ok(TokenTaps { ends, taps: list })
+}

@@ -1,0 +1,123 @@
+//! The bill of a range of the taps.
+
+ghost use Rattle.std.specs.Prelude.{◌≡◌, ◌≤◌, ◌^◌, ◌+◌, ◌++◌, ℕ, List, Option, IfOk, IsTrue, OnOk};
+ghost use Rattle.std.specs.Prelude.{length, map};
+ghost use Rattle.std.specs.declared.cmp.Ordering.TheVariants.{Less};
+ghost use Rattle.fare_table.specs.Fares.{Fares};
+ghost use Rattle.tap_views.specs.Token.{token_cmp};
+ghost use Rattle.shard_book.specs.SumsByKey.{token_of};
+ghost use Rattle.shard_book.specs.declared.entry.Entry.{Entry};
+ghost use Rattle.settlement.specs.Bills.{IsBillOf};
+ghost use Rattle.settlement.specs.inside.Apart.{AreBelow};
+ghost use Rattle.settlement.specs.inside.Billing.{HaveBillRoom};
+ghost use Rattle.sorted_bills.specs.inside.Charged.{IsPart};
+
+use crate::charging::charge;
+use crate::fault::BillFault;
+use crate::open_bill::OpenBill;
+use crate::taking::Taker;
+use fare_table::FareTable;
+use placed_files::Placed;
+use settled_texts::least_token;
+use settlement::Bill;
+use shard_book::HashSeed;
+use sorted_taps::{Span, WINDOW_BYTES, copies_of, joined};
+use std::alloc::Global;
+use tap_views::{NoMemory, Token};
+
+/// What a range of the taps comes to.
+#[derive(Drop)]
+pub(crate) struct Part {
+    /// Where the readers of the files stood before the taps, and where they stood behind them.
+    pub(crate) span: Span,
+    /// The bill of the taps.
+    pub(crate) bill: Bill,
+    /// A token below which the taps have none.
+    first: Token,
+    /// A token above which the taps have none.
+    last: Token,
+}
+
+/// The bill of the taps from one token on and below another, or without a bound where there is
+/// none. Where the files are not in order, or have other batches than those of 512 taps, it may be
+/// that of other taps: the part's span tells of which.
+pub(crate) fn part_of<F: Placed>(
+    alloc: Global,
+    table: &FareTable,
+    seed: HashSeed,
+    files: &[F],
+    from: Option<Token>,
+    below: Option<Token>,
+) -> Result<Part, BillFault>
+    ensures { IfOk result (IsPart table.now (map F.bytes files.now) (2 ^ 73)) }
+{
+    let window = vec![in alloc; 0u8; WINDOW_BYTES]?;
+    let mut taker = Taker::near(alloc, files, from, window)?;
+    let begin = copies_of(alloc, taker.merge.readers())?;
+    let first = from.unwrap_or(least_token());
+    let mut so_far = OpenBill::new(alloc, seed, first);
+    charge(alloc, table, files, below, &mut taker, &mut so_far)?;
+    let last = so_far.token();
+    let bill = so_far.into_bill(alloc)?;
+    let end = taker.into_readers();
+    Ok(Part {
+        span: Span { begin, end },
+        bill,
+        first,
+        last,
+    })
+}
+
+/// Adds the bill of other taps, whose tokens are all above those of this one. After want of memory
+/// the bill is of no use.
+fn add_bill(alloc: Global, bill: &mut Bill, more: Bill) -> Result<(), NoMemory>
+    requires { HaveBillRoom bill.old more }
+    ensures { OnOk result ((entries others : List Entry) → IsBillOf entries bill.old
+        → IsBillOf others more → AreBelow (map token_of entries) (map token_of others)
+        → IsBillOf (entries ++ others) bill.new) }
+{
+    let Bill {
+        tokens,
+        validators,
+        totals,
+    } = more;
+    bill.tokens.append(alloc, tokens)?;
+    bill.validators.add_all(&validators)?;
+    bill.totals.add_all(&totals);
+    Ok(())
+}
+
+/// Whether the token is below the other one.
+fn is_below(token: Token, other: Token) -> bool
+    ensures { IsTrue result → token_cmp token other ≡ Less }
+{
+    token < other
+}
+
+impl Part {
+    /// Adds a part if it begins where this one ends, and its tokens are all above those of this
+    /// one. If not, this part is of no use.
+    pub(crate) fn append(&mut self, alloc: Global, more: Part) -> Result<(), BillFault>
+        requires { HaveBillRoom self.old.bill more.bill }
+        ensures { OnOk result ((fares : Fares) (known : List (Option (List ℕ))) (few others : ℕ)
+            → IsPart fares known few self.old → IsPart fares known others more
+            → IsPart fares known (few + others) self.new) }
+    {
+        let Part {
+            span,
+            bill,
+            first,
+            last,
+        } = more;
+        if !is_below(self.last, first) {
+            return Err(BillFault::Changed);
+        }
+        let Some(end) = joined(&self.span.end, span) else {
+            return Err(BillFault::Changed);
+        };
+        self.span.end = end;
+        self.last = last;
+        add_bill(alloc, &mut self.bill, bill)?;
+        Ok(())
+    }
+}

@@ -1,0 +1,78 @@
+-- Several files that are checked, one after the other.
+use Rattle.std.proofs.Common.{◌≡◌, ◌⊎◌, ℕ, ◌+◌, ◌<◌, ◌≤◌, List, [], ◌∷◌, ◌++◌, length, map, get_or}
+use Rattle.std.proofs.Common.{refl, sym, ap, subst, ◌∙◌, arith, length-append, inl, inr}
+use Rattle.std.proofs.lemmas.List.{map-append}
+use Rattle.std.proofs.Math.ListN.{get_or-append}
+use Rattle.std.proofs.Math.Seq.{get_or-append_seam}
+use Rattle.std.proofs.lemmas.Bool.{cases_lt}
+use Rattle.tap_views.specs.declared.encoder.TapFields.{TapFields}
+use Rattle.sorted_taps.specs.Checked.{AreCountedFiles, IsFirstFault}
+use Rattle.sorted_taps.specs.Sorted.{IsSortedFile, IsSortedFault}
+use Rattle.sorted_taps.specs.declared.fault.FileFault.{FileFault}
+
+-- the first files are sorted, and the numbers are those of their taps
+pub record AreCounted (files : List (List ℕ)) (count : ℕ) (numbers : List ℕ) : Type 0 where
+  pub lists : List (List TapFields)
+  pub number : length lists ≡ count
+  pub each : (k : ℕ) → k < count → IsSortedFile (get_or files k []) (get_or lists k [])
+  pub counted : numbers ≡ map length lists
+
+unfoldable pub counted_none : (files : List (List ℕ)) → AreCounted files 0 []
+counted_none files = record {
+  lists = [];
+  number = refl;
+  each = λ k inside. absurd (omega (arith, inside));
+  counted = refl;
+}
+
+unfoldable pub counted_more : (files : List (List ℕ)) (count : ℕ) (numbers more : List ℕ)
+    (taps : List TapFields) → AreCounted files count numbers
+    → IsSortedFile (get_or files count []) taps → more ≡ numbers ++ length taps ∷ []
+    → AreCounted files (count + 1) more
+counted_more files count numbers more taps are sorted is =
+    let many = are.number in
+    let long = length-append are.lists (taps ∷ []) in
+    record {
+      lists = are.lists ++ taps ∷ [];
+      number = omega (arith, many, long);
+      each = λ k inside. by_case k inside (cases_lt k count);
+      counted = is ∙ ap (λ l. l ++ length taps ∷ []) are.counted
+          ∙ sym (map-append length are.lists (taps ∷ []));
+    }
+  where
+    by_case : (k : ℕ) → k < count + 1 → (k < count) ⊎ (count ≤ k)
+        → IsSortedFile (get_or files k []) (get_or (are.lists ++ taps ∷ []) k [])
+    by_case k inside (inl less) =
+        let many = are.number in
+        subst (IsSortedFile (get_or files k []))
+        (sym (get_or-append are.lists (taps ∷ []) [] k (omega (arith, less, many)))) (are.each k less)
+    by_case k inside (inr last) =
+        let many = are.number in
+        let same : length are.lists ≡ k = omega (arith, many, inside, last) in
+        let here : count ≡ k = omega (arith, inside, last) in
+        subst (λ n. IsSortedFile (get_or files n []) (get_or (are.lists ++ taps ∷ []) k [])) here
+        (subst (λ n. IsSortedFile (get_or files count []) (get_or (are.lists ++ taps ∷ []) n [])) same
+        (subst (IsSortedFile (get_or files count []))
+        (sym (get_or-append_seam are.lists taps [] [])) sorted))
+
+pub counted_all : (files : List (List ℕ)) (count : ℕ) (numbers : List ℕ)
+    → AreCounted files count numbers → count ≡ length files → AreCountedFiles files numbers
+counted_all files count numbers are whole =
+    let many = are.number in
+    record {
+      lists = are.lists;
+      sorted = record {
+        number = omega (arith, many, whole);
+        each = λ k inside. are.each k (omega (arith, inside, whole));
+      };
+      counted = are.counted;
+    }
+
+pub first_fault : (files : List (List ℕ)) (fault : FileFault) (numbers : List ℕ)
+    → AreCounted files fault.index numbers → fault.index < length files
+    → IsSortedFault (get_or files fault.index []) fault.fault → IsFirstFault files fault
+first_fault files fault numbers are inside is = record {
+  within = inside;
+  earlier = λ k less. (get_or are.lists k [], are.each k less);
+  is_fault = is;
+}

@@ -1,0 +1,207 @@
+-- Taps that are written in batches of 512.
+use Rattle.std.proofs.Common.{◌≡◌, ℕ, zero, suc, ◌+◌, ◌<◌, ◌≤◌, List, [], ◌∷◌, ◌++◌, flat_map, length}
+use Rattle.std.proofs.Common.{refl, sym, ap, subst, ◌∙◌, arith, append-nil, append_assoc, take, get_or}
+use Rattle.std.proofs.Common.{length-append, Ok, Err}
+use Rattle.std.specs.Prelude.{IfErr, Option, Result}
+use Rattle.std.proofs.Math.ListN.{get_or-append}
+use Rattle.std.proofs.lemmas.List.{flat_map_more, get_or-append-add, take_more}
+use Rattle.std.specs.List.{AllByRecursion}
+use Rattle.std.proofs.KnownBytes.{Appends-nil, Appends-trans}
+use Rattle.std.proofs.lemmas.List.Concat.{flat_map-append}
+use Rattle.tap_views.specs.Encoding.{AreEarly, Encodes}
+use Rattle.tap_views.specs.Files.{IsFileOf}
+use Rattle.tap_views.specs.Layout.{moment_limit}
+use Rattle.tap_views.specs.declared.encoder.TapFields.{TapFields}
+use Rattle.tap_views.proofs.Texts.{more_text, no_text}
+use Rattle.tap_parts.proofs.FullBatches.{zip_more}
+use Rattle.sorted_taps.specs.Written.{AreBatchesOf, AreFilled, IsBegun, IsWritten}
+use Rattle.sorted_taps.specs.inside.Waiting.{HasPut, IsBatchWritten, MayWait}
+
+abbrev IsFull : List TapFields → Type 0
+IsFull batch = length batch ≡ 512
+
+abbrev joined : List (List TapFields) → List TapFields
+joined batches = flat_map (λ batch. batch) batches
+
+-- one full batch more
+full_more : (batches : List (List TapFields)) (batch : List TapFields)
+    → AllByRecursion (λ (one : List TapFields). length one ≡ 512) batches → length batch ≡ 512
+    → AllByRecursion (λ (one : List TapFields). length one ≡ 512) (batches ++ batch ∷ [])
+full_more [] batch full last = (last, tt)
+full_more (first ∷ batches) batch full last = (full.0, full_more batches batch full.1 last)
+
+filled_whole : (batches : List (List TapFields)) → AllByRecursion IsFull batches → AreFilled batches
+filled_whole [] full = tt
+filled_whole (first ∷ batches) full =
+    let size : length first ≡ 512 = full.0 in
+    (omega (arith, size), omega (arith, size), λ more. size, filled_whole batches full.1)
+
+filled_more : (batches : List (List TapFields)) (batch : List TapFields)
+    → AllByRecursion IsFull batches → 0 < length batch → length batch ≤ 512
+    → AreFilled (batches ++ batch ∷ [])
+filled_more [] batch full some most = (some, most, λ more. absurd (omega (arith, more)), tt)
+filled_more (first ∷ batches) batch full some most =
+    let size : length first ≡ 512 = full.0 in (
+      omega (arith, size),
+      omega (arith, size),
+      λ more. size,
+      filled_more batches batch full.1 some most,
+    )
+
+joined_more : (batches : List (List TapFields)) (batch : List TapFields)
+    → joined (batches ++ batch ∷ []) ≡ joined batches ++ batch
+joined_more batches batch =
+    flat_map-append (λ (one : List TapFields). one) batches (batch ∷ [])
+    ∙ ap (λ end. joined batches ++ end) (append-nil batch)
+
+-- a batch more
+batches_more : (bytes text : List ℕ) (batches : List (List TapFields)) (batch : List TapFields)
+    → AreBatchesOf bytes batches → Encodes text batch
+    → AreBatchesOf (bytes ++ text) (batches ++ batch ∷ [])
+batches_more bytes text batches batch are encoded = record {
+  texts = are.texts ++ text ∷ [];
+  each = zip_more are.texts batches text batch are.each encoded;
+  all_bytes = ap (λ b. b ++ text) are.all_bytes
+      ∙ sym (flat_map-append (λ (one : List ℕ). one) are.texts (text ∷ [])
+      ∙ ap (λ end. flat_map (λ one. one) are.texts ++ end) (append-nil text));
+}
+
+pub may_wait_none : (waiting : List TapFields) → waiting ≡ [] → MayWait waiting
+may_wait_none waiting none =
+    let size = ap length none in
+    record {
+      most = omega (arith, size);
+      early = λ k d inside. absurd (omega (arith, inside, size));
+    }
+
+-- the moments of one of the lists
+pub early_at : {X : Type 0} (items : X → List TapFields) (lists : List X) (i : ℕ) (d : X)
+    → AreEarly (λ (tap : TapFields). tap.moment) (flat_map items lists) → i < length lists
+    → AreEarly (λ (tap : TapFields). tap.moment) (items (get_or lists i d))
+early_at items [] i d early inside = absurd (omega (arith, inside))
+early_at items (x ∷ lists) zero d early inside = λ k e within.
+    let long = length-append (items x) (flat_map items lists) in
+    subst (λ (tap : TapFields). tap.moment < moment_limit)
+    (get_or-append (items x) (flat_map items lists) e k within)
+    (early k e (omega (arith, within, long)))
+early_at items (x ∷ lists) (suc i) d early inside =
+    early_at items lists i d (λ k e within.
+    let long = length-append (items x) (flat_map items lists) in
+    subst (λ (tap : TapFields). tap.moment < moment_limit)
+    (get_or-append-add (items x) (flat_map items lists) k e)
+    (early (length (items x) + k) e (omega (arith, within, long)))) (omega (arith, inside))
+
+-- the taps of one list more
+pub list_more : {X : Type 0} (items : X → List TapFields) (lists : List X) (i : ℕ) (d : X)
+    → i < length lists
+    → flat_map items (take i lists) ++ items (get_or lists i d) ≡ flat_map items (take (i + 1) lists)
+list_more items lists i d inside =
+    flat_map_more items [] (take i lists) (get_or lists i d)
+    ∙ ap (λ front. flat_map items front) (sym (take_more lists i d inside))
+
+-- what holds after any fault
+pub if_any : {T E : Type 0} (Q : E → Type 0) (result : Result T E) → ((fault : E) → Q fault)
+    → IfErr result Q
+if_any Q (Ok value) holds = tt
+if_any Q (Err fault) holds = holds fault
+
+-- at the begin nothing is written, and no tap waits
+pub put_none : (old : Option (List ℕ)) → HasPut old old [] []
+put_none old = record {
+  text = [];
+  batches = [];
+  are = record { texts = []; each = tt; all_bytes = refl };
+  full = tt;
+  reads = no_text;
+  appended = Appends-nil old;
+  all_taps = refl;
+}
+
+-- the taps that waited were written as a full batch
+pub put_batch : (old here there : Option (List ℕ)) (taps waiting : List TapFields)
+    → HasPut old here taps waiting → length waiting ≡ 512 → IsBatchWritten here there waiting
+    → HasPut old there taps []
+put_batch old here there taps waiting put full (text, encoded, appended) = record {
+  text = put.text ++ text;
+  batches = put.batches ++ waiting ∷ [];
+  are = batches_more put.text text put.batches waiting put.are encoded;
+  full = full_more put.batches waiting put.full full;
+  reads = subst (λ taps. IsFileOf (put.text ++ text) taps)
+      (sym (joined_more put.batches waiting))
+      (more_text put.text text (joined put.batches) waiting put.reads encoded);
+  appended = Appends-trans old here there put.text text put.appended appended;
+  all_taps = put.all_taps ∙ sym (joined_more put.batches waiting)
+      ∙ sym (append-nil (joined (put.batches ++ waiting ∷ [])));
+}
+
+-- one tap more waits
+pub put_tap : (old new : Option (List ℕ)) (taps waiting more : List TapFields) (tap : TapFields)
+    → HasPut old new taps waiting → more ≡ waiting ++ tap ∷ []
+    → HasPut old new (taps ++ tap ∷ []) more
+put_tap old new taps waiting more tap put is = record {
+  text = put.text;
+  batches = put.batches;
+  are = put.are;
+  full = put.full;
+  reads = put.reads;
+  appended = put.appended;
+  all_taps = ap (λ l. l ++ tap ∷ []) put.all_taps
+      ∙ append_assoc (joined put.batches) waiting (tap ∷ [])
+      ∙ ap (λ l. joined put.batches ++ l) (sym is);
+}
+
+-- the same under other names
+pub put_same : (old here out : Option (List ℕ)) (taps waiting pending : List TapFields)
+    → out ≡ here → pending ≡ waiting → HasPut old here taps waiting → HasPut old out taps pending
+put_same old here out taps waiting pending same is put =
+    subst (λ o. HasPut old o taps pending) (sym same)
+    (subst (λ l. HasPut old here taps l) (sym is) put)
+
+-- what stands there are whole batches
+pub put_begun : (old new : Option (List ℕ)) (taps waiting : List TapFields)
+    → HasPut old new taps waiting → IsBegun old new
+put_begun old new taps waiting put = record {
+  text = put.text;
+  batches = put.batches;
+  are = put.are;
+  full = put.full;
+  appended = put.appended;
+}
+
+-- no tap waits
+pub written_whole : (old new : Option (List ℕ)) (taps waiting : List TapFields)
+    → HasPut old new taps waiting → waiting ≡ [] → IsWritten old new taps
+written_whole old new taps waiting put none =
+    let all : taps ≡ joined put.batches =
+    put.all_taps ∙ ap (λ l. joined put.batches ++ l) none ∙ append-nil (joined put.batches) in
+    record {
+      file = put.text;
+      is_file = record {
+        reads = subst (λ taps. IsFileOf put.text taps) (sym all) put.reads;
+        batches = put.batches;
+        are = put.are;
+        all_taps = all;
+        filled = filled_whole put.batches put.full;
+      };
+      appended = put.appended;
+    }
+
+-- the taps that waited were written as the last batch
+pub written_more : (old here there : Option (List ℕ)) (taps waiting : List TapFields)
+    → HasPut old here taps waiting → 0 < length waiting → length waiting ≤ 512
+    → IsBatchWritten here there waiting → IsWritten old there taps
+written_more old here there taps waiting put some most (text, encoded, appended) =
+    let all : taps ≡ joined (put.batches ++ waiting ∷ []) =
+    put.all_taps ∙ sym (joined_more put.batches waiting) in
+    record {
+      file = put.text ++ text;
+      is_file = record {
+        reads = subst (λ taps. IsFileOf (put.text ++ text) taps) (sym put.all_taps)
+            (more_text put.text text (joined put.batches) waiting put.reads encoded);
+        batches = put.batches ++ waiting ∷ [];
+        are = batches_more put.text text put.batches waiting put.are encoded;
+        all_taps = all;
+        filled = filled_more put.batches waiting put.full some most;
+      };
+      appended = Appends-trans old here there put.text text put.appended appended;
+    }

@@ -1,0 +1,355 @@
+-- Trees of heads: their root, and a place that is chosen anew.
+use Rattle.std.proofs.Common.{◌≡◌, ◌≢◌, ◌⊎◌, ℕ, zero, suc, ◌+◌, ◌-◌, ◌*◌, ◌/◌, ◌<◌, ◌≤◌, List, [], ◌∷◌, length}
+use Rattle.std.proofs.Common.{true, false, Bool, refl, sym, ap, subst, ◌∙◌, arith, inl, inr, None, Some}
+use Rattle.std.proofs.Common.{get_or, set}
+use Rattle.std.specs.Prelude.{Option}
+use Rattle.std.specs.Ordering.{is_lt}
+use Rattle.std.proofs.lemmas.Bool.{cases_eq, cases_lt}
+use Rattle.std.proofs.lemmas.List.{get_or_default, get_or-set_other, get_or-set_same, length-set, same_lists}
+use Rattle.tap_views.specs.declared.encoder.TapFields.{TapFields}
+use Rattle.tap_parts.specs.Canonical.{tap_cmp}
+use Rattle.sorted_taps.specs.Heads.{HasLeaves, IsChosen, IsChosenAt, IsNotAfter, IsRanked}
+use Rattle.sorted_taps.specs.Merged.{BeginsNotBefore}
+use Rattle.sorted_taps.specs.Merges.{AreAtEnd, IsLeastHead}
+use Rattle.sorted_taps.specs.Readers.{ahead, first_of, head_of}
+use Rattle.sorted_taps.specs.declared.heads.Head.{Head}
+use Rattle.sorted_taps.specs.declared.reader.TapReader.{TapReader}
+use Rattle.sorted_taps.proofs.Merging.{ranked}
+
+-- no tap is before itself
+not_self : (tap : TapFields) → is_lt (tap_cmp tap tap) ≡ false
+not_self tap = by_test (is_lt (tap_cmp tap tap)) refl
+  where
+    by_test : (b : Bool) → is_lt (tap_cmp tap tap) ≡ b → is_lt (tap_cmp tap tap) ≡ false
+    by_test true e = ranked.one_way tap tap e
+    by_test false e = e
+
+pub not_after_self : (tap : Option TapFields) → IsNotAfter tap tap
+not_after_self None = tt
+not_after_self (Some tap) = not_self tap
+
+not_after_far : (one mid far : Option TapFields) → IsNotAfter one mid → IsNotAfter mid far
+    → IsNotAfter one far
+not_after_far one mid None near then = tt
+not_after_far one None (Some far) near then = absurd then
+not_after_far None (Some mid) (Some far) near then = absurd near
+not_after_far (Some one) (Some mid) (Some far) near then = ranked.chain far mid one then near
+
+is_first : (list : List TapFields) (tap : TapFields) → first_of list ≡ Some tap
+    → (rest : List TapFields) × (list ≡ tap ∷ rest)
+is_first [] tap is = absurd cc
+is_first (head ∷ rest) tap is = (rest, cc)
+
+is_none : (list : List TapFields) → IsNotAfter None (first_of list) → list ≡ []
+is_none [] is = refl
+is_none (head ∷ rest) is = absurd is
+
+begins : (tap : TapFields) (list : List TapFields) → IsNotAfter (Some tap) (first_of list)
+    → BeginsNotBefore tap list
+begins tap [] is = tt
+begins tap (head ∷ rest) is = is
+
+module _ (readers : List TapReader) (tree : List Head) (is : IsRanked readers tree) where
+  -- the root is not after a place, if it is not after the place above
+  from_above : (place : ℕ) (d : Head) → 1 < place → place < 2 * length readers
+      → IsNotAfter (get_or tree 1 d).tap (get_or tree (place / 2) d).tap
+      → IsNotAfter (get_or tree 1 d).tap (get_or tree place d).tap
+  from_above place d more within above =
+      by_child (is.inner (place / 2) (omega (arith, more)) (omega (arith, within)) d)
+      (cases_eq place (2 * (place / 2)))
+    where
+      by_child : IsChosen (get_or tree (2 * (place / 2)) d) (get_or tree (2 * (place / 2) + 1) d)
+          (get_or tree (place / 2) d)
+          → (place ≡ 2 * (place / 2)) ⊎ (place ≢ 2 * (place / 2))
+          → IsNotAfter (get_or tree 1 d).tap (get_or tree place d).tap
+      by_child chosen (inl left) =
+          subst (λ p. IsNotAfter (get_or tree 1 d).tap (get_or tree p d).tap) (sym left)
+          (not_after_far _ _ _ above chosen.left_not_before)
+      by_child chosen (inr other) =
+          let right : place ≡ 2 * (place / 2) + 1 = omega (arith, other) in
+          subst (λ p. IsNotAfter (get_or tree 1 d).tap (get_or tree p d).tap) (sym right)
+          (not_after_far _ _ _ above chosen.right_not_before)
+
+  -- the root is not after any other
+  below_root : (fuel place : ℕ) (d : Head) → place ≤ fuel → 0 < place
+      → place < 2 * length readers → IsNotAfter (get_or tree 1 d).tap (get_or tree place d).tap
+  below_root zero place d most some within = absurd (omega (arith, most, some))
+  below_root (suc fuel) place d most some within =
+      by_case (cases_lt 1 place) (λ low up in_tree. below_root fuel (place / 2) d low up in_tree)
+    where
+      by_case : (1 < place) ⊎ (place ≤ 1)
+          → (place / 2 ≤ fuel → 0 < place / 2 → place / 2 < 2 * length readers
+          → IsNotAfter (get_or tree 1 d).tap (get_or tree (place / 2) d).tap)
+          → IsNotAfter (get_or tree 1 d).tap (get_or tree place d).tap
+      by_case (inr one) above =
+          let same : 1 ≡ place = omega (arith, one, some) in
+          subst (λ p. IsNotAfter (get_or tree 1 d).tap (get_or tree p d).tap) same
+          (not_after_self (get_or tree 1 d).tap)
+      by_case (inl more) above =
+          from_above place d more within
+          (above (omega (arith, most, more)) (omega (arith, more)) (omega (arith, within, more)))
+
+  -- a place has the head of a reader
+  abbrev IsOfReader : ℕ → Head → Type 0
+  IsOfReader place d =
+      (k : ℕ) × (k < length readers) × (get_or tree place d ≡ get_or tree (length readers + k) d)
+
+  of_reader : (fuel place : ℕ) (d : Head) → 2 * length readers ≤ place + fuel → 0 < place
+      → place < 2 * length readers → IsOfReader place d
+  of_reader zero place d enough some within = absurd (omega (arith, enough, within))
+  of_reader (suc fuel) place d enough some within =
+      by_case (cases_lt place (length readers))
+      (λ e. of_reader fuel (2 * place) d (omega (arith, enough, some)) (omega (arith, some)) e)
+      (λ e. of_reader fuel (2 * place + 1) d (omega (arith, enough, some)) (omega (arith, some)) e)
+    where
+      by_case : (place < length readers) ⊎ (length readers ≤ place)
+          → (2 * place < 2 * length readers → IsOfReader (2 * place) d)
+          → (2 * place + 1 < 2 * length readers → IsOfReader (2 * place + 1) d)
+          → IsOfReader place d
+      by_case (inr leaf) left right =
+          let at : length readers + (place - length readers) ≡ place = omega (arith, leaf) in (
+            place - length readers,
+            omega (arith, leaf, within),
+            ap (λ p. get_or tree p d) (sym at),
+          )
+      by_case (inl inner) left right =
+          by_child (is.inner place some inner d).one (left (omega (arith, inner)))
+          (right (omega (arith, inner)))
+        where
+          by_child : (get_or tree place d ≡ get_or tree (2 * place) d)
+              ⊎ (get_or tree place d ≡ get_or tree (2 * place + 1) d)
+              → IsOfReader (2 * place) d → IsOfReader (2 * place + 1) d → IsOfReader place d
+          by_child (inl same) (k, low, leaf) other = (k, low, same ∙ leaf)
+          by_child (inr same) other (k, low, leaf) = (k, low, same ∙ leaf)
+
+  -- none of the readers stands at a tap before the root's
+  none_before : (root : Head) → root ≡ get_or tree 1 root → (k : ℕ) (e : TapReader)
+      → k < length readers → IsNotAfter root.tap (head_of (get_or readers k e))
+  none_before root here k e low =
+      subst (λ t. IsNotAfter root.tap t) (is.leaves.tap k root e low)
+      (subst (λ (h : Head). IsNotAfter h.tap (get_or tree (length readers + k) root).tap) (sym here)
+      (below_root (length readers + k) (length readers + k) root (omega arith) (omega (arith, low))
+      (omega (arith, low))))
+
+  -- at the root is a least head
+  pub root_is_least : (root : Head) (tap : TapFields) → 0 < length readers
+      → root ≡ get_or tree 1 root → root.tap ≡ Some tap → IsLeastHead readers root.at tap
+  root_is_least root tap some here stands =
+      let (k, low, leaf) = of_reader (2 * length readers) 1 root (omega arith) (omega arith)
+      (omega (arith, some)) in
+      let same : root ≡ get_or tree (length readers + k) root = here ∙ leaf in
+      let at : root.at ≡ k = ap (λ (h : Head). h.at) same ∙ is.leaves.at k root low in
+      record {
+        within = omega (arith, at, low);
+        head = λ e. is_first (ahead (get_or readers root.at e)) tap
+            (subst (λ p. head_of (get_or readers p e) ≡ Some tap) (sym at)
+            (sym (is.leaves.tap k root e low) ∙ sym (ap (λ (h : Head). h.tap) same) ∙ stands));
+        least = λ j e within. begins tap (ahead (get_or readers j e))
+            (subst (λ t. IsNotAfter t (head_of (get_or readers j e))) stands
+            (none_before root here j e within));
+      }
+
+  -- if the root has no tap, no reader has
+  pub root_is_end : (root : Head) → root ≡ get_or tree 1 root → root.tap ≡ None → AreAtEnd readers
+  root_is_end root here none k e within = is_none (ahead (get_or readers k e))
+      (subst (λ t. IsNotAfter t (head_of (get_or readers k e))) none
+      (none_before root here k e within))
+
+-- the second half of the tree has the heads of so many readers
+pub record HasLeavesBelow (readers : List TapReader) (tree : List Head) (below : ℕ) : Type 0 where
+  pub size : length tree ≡ 2 * length readers
+  pub tap : (k : ℕ) (d : Head) (e : TapReader) → k < below
+      → (get_or tree (length readers + k) d).tap ≡ head_of (get_or readers k e)
+  pub at : (k : ℕ) (d : Head) → k < below → (get_or tree (length readers + k) d).at ≡ k
+
+-- one head more
+pub one_leaf_more : (readers : List TapReader) (tree : List Head) (below : ℕ) (reader : TapReader)
+    (head : Head) → HasLeavesBelow readers tree below → below < length readers
+    → reader ≡ get_or readers below reader → head.tap ≡ head_of reader → head.at ≡ below
+    → HasLeavesBelow readers (set tree (length readers + below) head) (below + 1)
+one_leaf_more readers tree below reader head has low there tap number = record {
+  size = length-set tree (length readers + below) head ∙ has.size;
+  tap = λ k d e within. by_tap k d e (cases_lt k below) within;
+  at = λ k d within. by_at k d (cases_lt k below) within;
+}
+  where
+    room : length readers + below < length tree
+    room = let size = has.size in omega (arith, size, low)
+
+    by_tap : (k : ℕ) (d : Head) (e : TapReader) → (k < below) ⊎ (below ≤ k) → k < below + 1
+        → (get_or (set tree (length readers + below) head) (length readers + k) d).tap ≡ head_of (get_or readers k e)
+    by_tap k d e (inl less) within =
+        ap (λ (h : Head). h.tap) (get_or-set_other tree (length readers + below) (length readers + k)
+        head d (λ e. absurd (omega (arith, e, less)))) ∙ has.tap k d e less
+    by_tap k d e (inr last) within =
+        let same : below ≡ k = omega (arith, last, within) in
+        subst (λ j. (get_or (set tree (length readers + below) head) (length readers + j) d).tap ≡ head_of (get_or readers j e)) same
+        (ap (λ (h : Head). h.tap) (get_or-set_same tree (length readers + below) head d room) ∙ tap
+        ∙ ap head_of (there ∙ get_or_default readers below reader e low))
+
+    by_at : (k : ℕ) (d : Head) → (k < below) ⊎ (below ≤ k) → k < below + 1
+        → (get_or (set tree (length readers + below) head) (length readers + k) d).at ≡ k
+    by_at k d (inl less) within =
+        ap (λ (h : Head). h.at) (get_or-set_other tree (length readers + below) (length readers + k)
+        head d (λ e. absurd (omega (arith, e, less)))) ∙ has.at k d less
+    by_at k d (inr last) within =
+        let same : below ≡ k = omega (arith, last, within) in
+        subst (λ j. (get_or (set tree (length readers + below) head) (length readers + j) d).at ≡ j) same
+        (ap (λ (h : Head). h.at) (get_or-set_same tree (length readers + below) head d room) ∙ number)
+
+-- each place of the first half, from 1 on, has the one chosen of two, but for the place above this
+abbrev pub AreChosenBut : ℕ → List Head → ℕ → Type 0
+AreChosenBut n tree last =
+    (place : ℕ) → 0 < place → place < n → 2 * place ≢ last → 2 * place + 1 ≢ last
+    → IsChosenAt tree place
+
+-- the places from this one on have the one chosen of two
+abbrev pub AreChosenFrom : ℕ → List Head → ℕ → Type 0
+AreChosenFrom n tree from =
+    (place : ℕ) → 0 < place → from ≤ place → place < n → IsChosenAt tree place
+
+-- a place has what it had, where another is set
+kept_at : (tree : List Head) (at : ℕ) (head : Head) (place : ℕ) → place ≢ at
+    → 2 * place ≢ at → 2 * place + 1 ≢ at → IsChosenAt tree place
+    → IsChosenAt (set tree at head) place
+kept_at tree at head place not left right chosen d =
+    rw (
+      get_or-set_other tree at place head d not,
+      get_or-set_other tree at (2 * place) head d left,
+      get_or-set_other tree at (2 * place + 1) head d right,
+    ) (chosen d)
+
+-- a place that is set to the one chosen of two
+set_at : (tree : List Head) (at : ℕ) (head : Head) → 0 < at → at < length tree
+    → ((d : Head) → IsChosen (get_or tree (2 * at) d) (get_or tree (2 * at + 1) d) head)
+    → IsChosenAt (set tree at head) at
+set_at tree at head some within chosen d =
+    rw (
+      get_or-set_same tree at head d within,
+      get_or-set_other tree at (2 * at) head d (λ e. absurd (omega (arith, e, some))),
+      get_or-set_other tree at (2 * at + 1) head d (λ e. absurd (omega (arith, e, some))),
+    ) (chosen d)
+
+-- a place of the first half that is set keeps the heads of the readers
+pub leaves_kept : (readers : List TapReader) (tree : List Head) (at : ℕ) (head : Head)
+    → at < length readers → HasLeaves readers tree → HasLeaves readers (set tree at head)
+leaves_kept readers tree at head low has = record {
+  size = length-set tree at head ∙ has.size;
+  tap = λ k d e within.
+      rw (get_or-set_other tree at (length readers + k) head d (λ e. absurd (omega (arith, e, low))))
+      (has.tap k d e within);
+  at = λ k d within.
+      rw (get_or-set_other tree at (length readers + k) head d (λ e. absurd (omega (arith, e, low))))
+      (has.at k d within);
+}
+
+-- the place above the last is chosen anew: now only the one above that may not be
+pub chosen_above : (n : ℕ) (tree : List Head) (last above : ℕ) (head : Head) → above ≡ last / 2
+    → 1 < last → above < length tree → AreChosenBut n tree last
+    → ((d : Head) → IsChosen (get_or tree (2 * above) d) (get_or tree (2 * above + 1) d) head)
+    → AreChosenBut n (set tree above head) above
+chosen_above n tree last above head half more within but chosen place some low left right =
+    by_case (cases_eq place above)
+  where
+    by_case : (place ≡ above) ⊎ (place ≢ above) → IsChosenAt (set tree above head) place
+    by_case (inl same) =
+        subst (λ p. IsChosenAt (set tree above head) p) (sym same)
+        (set_at tree above head (omega (arith, half, more)) within chosen)
+    by_case (inr other) = kept_at tree above head place other left right
+        (but place some low (λ e. other (omega (arith, e, half)))
+        (λ e. other (omega (arith, e, half))))
+
+-- the place in front of the others is chosen
+pub chosen_before : (n : ℕ) (tree : List Head) (last at : ℕ) (head : Head) → last ≡ at + 1
+    → 0 < at → at < length tree → AreChosenFrom n tree last
+    → ((d : Head) → IsChosen (get_or tree (2 * at) d) (get_or tree (2 * at + 1) d) head)
+    → AreChosenFrom n (set tree at head) at
+chosen_before n tree last at head before first within from chosen place some high low =
+    by_case (cases_eq place at)
+  where
+    by_case : (place ≡ at) ⊎ (place ≢ at) → IsChosenAt (set tree at head) place
+    by_case (inl same) =
+        subst (λ p. IsChosenAt (set tree at head) p) (sym same)
+        (set_at tree at head first within chosen)
+    by_case (inr other) = kept_at tree at head place other
+        (λ e. absurd (omega (arith, e, high, some))) (λ e. absurd (omega (arith, e, high, some)))
+        (from place some (by_less (cases_lt place last)) low)
+      where
+        by_less : (place < last) ⊎ (last ≤ place) → last ≤ place
+        by_less (inr high) = high
+        by_less (inl less) = absurd (other (omega (arith, less, before, high)))
+
+-- the head of one reader is put anew
+module _ (readers : List TapReader) (tree : List Head) (at : ℕ) (was reader : TapReader) (head : Head)
+    (low : at < length readers) (is : IsRanked (set readers at was) tree)
+    (there : reader ≡ get_or readers at reader) (tap : head.tap ≡ head_of reader)
+    (number : head.at ≡ at) where
+  long : length (set readers at was) ≡ length readers
+  long = length-set readers at was
+
+  pub put_leaf : HasLeaves readers (set tree (length readers + at) head)
+  put_leaf = record {
+    size = length-set tree (length readers + at) head ∙ is.leaves.size ∙ ap (λ n. 2 * n) long;
+    tap = λ k d e within. by_tap k d e within (cases_eq k at);
+    at = λ k d within. by_at k d within (cases_eq k at);
+  }
+    where
+      room : length readers + at < length tree
+      room = let size = is.leaves.size in let l = long in omega (arith, size, l, low)
+
+      by_tap : (k : ℕ) (d : Head) (e : TapReader) → k < length readers → (k ≡ at) ⊎ (k ≢ at)
+          → (get_or (set tree (length readers + at) head) (length readers + k) d).tap ≡ head_of (get_or readers k e)
+      by_tap k d e within (inl same) =
+          subst (λ j. (get_or (set tree (length readers + at) head) (length readers + j) d).tap ≡ head_of (get_or readers j e))
+          (sym same)
+          (ap (λ (h : Head). h.tap) (get_or-set_same tree (length readers + at) head d room) ∙ tap
+          ∙ ap head_of (there ∙ get_or_default readers at reader e low))
+      by_tap k d e within (inr other) =
+          ap (λ (h : Head). h.tap) (get_or-set_other tree (length readers + at) (length readers + k)
+          head d (λ e. other (omega (arith, e))))
+          ∙ subst (λ n. (get_or tree (n + k) d).tap ≡ head_of (get_or (set readers at was) k e)) long
+          (is.leaves.tap k d e (let l = long in omega (arith, l, within)))
+          ∙ ap head_of (get_or-set_other readers at k was e other)
+
+      by_at : (k : ℕ) (d : Head) → k < length readers → (k ≡ at) ⊎ (k ≢ at)
+          → (get_or (set tree (length readers + at) head) (length readers + k) d).at ≡ k
+      by_at k d within (inl same) =
+          subst (λ j. (get_or (set tree (length readers + at) head) (length readers + j) d).at ≡ j) (sym same)
+          (ap (λ (h : Head). h.at) (get_or-set_same tree (length readers + at) head d room) ∙ number)
+      by_at k d within (inr other) =
+          ap (λ (h : Head). h.at) (get_or-set_other tree (length readers + at) (length readers + k)
+          head d (λ e. other (omega (arith, e))))
+          ∙ subst (λ n. (get_or tree (n + k) d).at ≡ k) long
+          (is.leaves.at k d (let l = long in omega (arith, l, within)))
+
+  pub put_chosen : AreChosenBut (length readers) (set tree (length readers + at) head)
+      (length readers + at)
+  put_chosen place some within left right =
+      kept_at tree (length readers + at) head place (λ e. absurd (omega (arith, e, within))) left right
+      (is.inner place some (let l = long in omega (arith, l, within)))
+
+-- a reader that is set and then set back
+pub set_back : (readers : List TapReader) (at : ℕ) (is was : TapReader)
+    → was ≡ get_or readers at was → set (set readers at is) at was ≡ readers
+set_back readers at is was there =
+    same_lists (set (set readers at is) at was) readers long
+    (λ k d within. at_place k d (let l = long in omega (arith, l, within)) (cases_eq k at))
+  where
+    long : length (set (set readers at is) at was) ≡ length readers
+    long = length-set (set readers at is) at was ∙ length-set readers at is
+
+    at_place : (k : ℕ) (d : TapReader) → k < length readers → (k ≡ at) ⊎ (k ≢ at)
+        → get_or (set (set readers at is) at was) k d ≡ get_or readers k d
+    at_place k d within (inl same) =
+        let low : at < length readers = omega (arith, same, within) in
+        let more = length-set readers at is in
+        subst (λ j. get_or (set (set readers at is) at was) j d ≡ get_or readers j d) (sym same)
+        (get_or-set_same (set readers at is) at was d (omega (arith, low, more)) ∙ there
+        ∙ sym (get_or_default readers at d was low))
+    at_place k d within (inr other) =
+        get_or-set_other (set readers at is) at k was d other
+        ∙ get_or-set_other readers at k is d other
+
+-- a head that is read where there is none
+abbrev pub no_head : Head
+no_head = record { tap = None; at = 0 }

@@ -1,0 +1,273 @@
+-- Readers that stand for others take the same taps.
+use Rattle.std.proofs.Common.{◌≡◌, ◌≢◌, ◌⊎◌, ℕ, suc, ◌+◌, ◌<◌, ◌≤◌, List, [], ◌∷◌, ◌++◌, length, map}
+use Rattle.std.proofs.Common.{refl, sym, ap, subst, ◌∙◌, arith, inl, inr, get_or, set}
+use Rattle.std.proofs.lemmas.Bool.{cases_eq, cases_lt}
+use Rattle.std.proofs.lemmas.List.{get_or_default, get_or-map, get_or-set_other, get_or-set_same}
+use Rattle.std.proofs.lemmas.List.{length-set}
+use Rattle.tap_views.specs.declared.encoder.TapFields.{TapFields}
+use Rattle.sorted_taps.specs.Merged.{BeginsNotBefore}
+use Rattle.sorted_taps.specs.Merges.{AreAtEnd, AreTaken, IsTapTaken}
+use Rattle.sorted_taps.specs.Reading.{AreTapsBetween}
+use Rattle.sorted_taps.specs.Readers.{IsAdvanced}
+use Rattle.sorted_taps.specs.Spans.{HaveCome, IsSpanOf}
+use Rattle.sorted_taps.specs.Stands.{StandAs, StandsAs}
+use Rattle.sorted_taps.specs.declared.reader.TapReader.{TapReader}
+use Rattle.sorted_taps.specs.declared.span.Span.{Span}
+
+-- taps that were taken, and then more
+pub taken_append : (files : List (List ℕ)) (old mid new : List TapReader) (xs ys : List TapFields)
+    → AreTaken files old xs mid → AreTaken files mid ys new → AreTaken files old (xs ++ ys) new
+taken_append files old mid new [] ys first rest =
+    subst (λ (readers : List TapReader). AreTaken files readers ys new) (sym first) rest
+taken_append files old mid new (x ∷ xs) ys (next, one, first) rest =
+    (next, one, taken_append files next mid new xs ys first rest)
+
+pub stands_alone : (reader : TapReader) → StandsAs 0 reader reader
+stands_alone reader = record { offset = refl; ahead = refl; number = omega arith }
+
+pub stand_alone : (readers : List TapReader) → StandAs readers readers
+stand_alone readers = record { number = refl; each = λ k d within. stands_alone (get_or readers k d) }
+
+-- pair by pair, the first have passed so many taps more
+record AreShifted (more : ℕ → ℕ) (ones others : List TapReader) : Type 0 where
+  number : length ones ≡ length others
+  each : (k : ℕ) (d : TapReader) → k < length ones
+      → StandsAs (more k) (get_or ones k d) (get_or others k d)
+
+-- a reader that stands for one that goes on
+abbrev gone_on : ℕ → TapReader → TapReader
+gone_on more is = record {
+  offset = is.offset;
+  taps = is.taps;
+  next = is.next;
+  passed = more + is.passed;
+}
+
+advanced : (all : List ℕ) (more : ℕ) (one other is : TapReader) → StandsAs more one other
+    → IsAdvanced all other is → IsAdvanced all one (gone_on more is)
+advanced all more one other is stands step = record {
+  tap = step.tap;
+  behind = step.behind;
+  read = step.read;
+  stood = stands.ahead ∙ step.stood;
+  between = subst (λ from. AreTapsBetween all from is.offset step.read) (sym stands.offset)
+      step.between;
+  goes_on = step.goes_on;
+  order = step.order;
+  end = step.end;
+  number = let here = stands.number in let there = step.number in omega (arith, here, there);
+}
+
+module _ (files : List (List ℕ)) (more : ℕ → ℕ) where
+  -- the readers that stand for those of which a tap was taken
+  one_shifted : (ones others : List TapReader) (tap : TapFields) (next : List TapReader)
+      → AreShifted more ones others → IsTapTaken files others tap next
+      → (last : List TapReader) × IsTapTaken files ones tap last × AreShifted more last next
+  one_shifted ones others tap next shifted step =
+      let at = step.at in
+      let number = shifted.number in
+      let within = step.least.within in
+      let here : at < length ones = omega (arith, number, within) in
+      let was = get_or ones at step.was in
+      let is = gone_on (more at) step.is in
+      let stands : StandsAs (more at) was step.was =
+      subst (StandsAs (more at) was) (sym step.there) (shifted.each at step.was here) in
+      let long = length-set ones at is in
+      let wide = length-set others at step.is in (
+        set ones at is,
+        record {
+          at = at;
+          was = was;
+          is = is;
+          least = record {
+            within = here;
+            head = λ d. (
+              (step.least.head d).0,
+              (shifted.each at d here).ahead ∙ (step.least.head d).1,
+            );
+            least = λ k d inside. subst (λ l. BeginsNotBefore tap l)
+                (sym (shifted.each k d inside).ahead)
+                (step.least.least k d (omega (arith, number, inside)));
+          };
+          there = get_or_default ones at step.was was here;
+          step = advanced (get_or files at []) (more at) was step.was step.is stands step.step;
+          moved = refl;
+        },
+        record {
+          number = long ∙ number ∙ sym wide ∙ ap length (sym step.moved);
+          each = λ k d inside. subst (λ l. StandsAs (more k) (get_or (set ones at is) k d) (get_or l k d))
+              (sym step.moved)
+              (by_case k d (omega (arith, inside, long)) (cases_eq k at));
+        },
+      )
+    where
+      by_case : (k : ℕ) (d : TapReader) → k < length ones → (k ≡ step.at) ⊎ (k ≢ step.at)
+          → StandsAs (more k) (get_or (set ones step.at (gone_on (more step.at) step.is)) k d)
+          (get_or (set others step.at step.is) k d)
+      by_case k d inside (inl same) =
+          let number = shifted.number in
+          let within = step.least.within in
+          subst (λ j. StandsAs (more j)
+          (get_or (set ones step.at (gone_on (more step.at) step.is)) j d)
+          (get_or (set others step.at step.is) j d)) (sym same)
+          (rw (
+            get_or-set_same ones step.at (gone_on (more step.at) step.is) d
+                (omega (arith, number, within)),
+            get_or-set_same others step.at step.is d within,
+          )
+          (record { offset = refl; ahead = refl; number = refl }))
+      by_case k d inside (inr other) =
+          rw (
+            get_or-set_other ones step.at k (gone_on (more step.at) step.is) d other,
+            get_or-set_other others step.at k step.is d other,
+          ) (shifted.each k d inside)
+
+  all_shifted : (ones others : List TapReader) (taps : List TapFields) (next : List TapReader)
+      → AreShifted more ones others → AreTaken files others taps next
+      → (last : List TapReader) × AreTaken files ones taps last × AreShifted more last next
+  all_shifted ones others [] next shifted taken =
+      (ones, refl, subst (AreShifted more ones) taken shifted)
+  all_shifted ones others (tap ∷ taps) next shifted (mid, step, taken) =
+      let (first, one, then) = one_shifted ones others tap mid shifted step in
+      let (last, rest, end) = all_shifted first mid taps next then taken in
+      (last, (first, one, rest), end)
+
+-- a span that begins where readers stand
+pub come_on : (files : List (List ℕ)) (from readers end : List TapReader)
+    (before taps : List TapFields) (span : Span) → HaveCome files from before readers
+    → IsSpanOf files taps span → length span.begin.items ≡ length readers
+    → ((k : ℕ) (d : TapReader) → k < length readers
+    → StandsAs (get_or readers k d).passed (get_or readers k d) (get_or span.begin.items k d))
+    → length span.end.items ≡ length readers → length end ≡ length span.end.items
+    → ((k : ℕ) (d : TapReader) → k < length readers
+    → StandsAs (get_or readers k d).passed (get_or end k d) (get_or span.end.items k d))
+    → HaveCome files from (before ++ taps) end
+come_on files from readers end before taps span come is begun at_begin sized ended at_end =
+    let more : ℕ → ℕ = λ k. get_or (map (λ (r : TapReader). r.passed) readers) k 0 in
+    let number = come.stand.number in
+    let begins = is.begins.number in
+    let ends = is.come.stand.number in
+    let shifted : AreShifted more come.to is.from = record {
+      number = number ∙ sym begun ∙ sym begins;
+      each = λ k d inside.
+          let within : k < length readers = omega (arith, number, inside) in
+          let one = come.stand.each k d inside in
+          let two = at_begin k d within in
+          let three = is.begins.each k d (omega (arith, number, begins, begun, inside)) in
+          let base = get_or-map (λ (r : TapReader). r.passed) readers k d 0 within in
+          let a = one.number in
+          let b = two.number in
+          let e = three.number in
+          record {
+            offset = one.offset ∙ two.offset ∙ sym three.offset;
+            ahead = one.ahead ∙ two.ahead ∙ sym three.ahead;
+            number = omega (arith, a, b, e, base);
+          };
+    } in
+    let (last, taken, stands) = all_shifted files more come.to is.from taps is.come.to shifted
+    is.come.taken in
+    let as_long = stands.number in
+    record {
+      to = last;
+      taken = taken_append files from come.to last before taps come.taken taken;
+      stand = record {
+        number = as_long ∙ ends ∙ sym ended;
+        each = λ k d inside.
+            let within : k < length readers = omega (arith, as_long, ends, sized, inside) in
+            let one = stands.each k d inside in
+            let two = is.come.stand.each k d (omega (arith, as_long, inside)) in
+            let three = at_end k d within in
+            let base = get_or-map (λ (r : TapReader). r.passed) readers k d 0 within in
+            let a = one.number in
+            let b = two.number in
+            let e = three.number in
+            record {
+              offset = one.offset ∙ two.offset ∙ sym three.offset;
+              ahead = one.ahead ∙ two.ahead ∙ sym three.ahead;
+              number = omega (arith, a, b, e, base);
+            };
+      };
+    }
+
+-- readers that stand for others at the ends of their files
+pub at_end_too : (ones others : List TapReader) → StandAs ones others → AreAtEnd others
+    → AreAtEnd ones
+at_end_too ones others stand at_end k d inside =
+    let number = stand.number in
+    (stand.each k d inside).ahead ∙ at_end k d (omega (arith, number, inside))
+
+-- and they have passed as many taps
+pub as_many : (ones others : List TapReader) → StandAs ones others
+    → map (λ (r : TapReader). r.passed) ones ≡ map (λ (r : TapReader). r.passed) others
+as_many [] [] stand = refl
+as_many [] (other ∷ others) stand = absurd (let number = stand.number in omega (arith, number))
+as_many (one ∷ ones) [] stand = absurd (let number = stand.number in omega (arith, number))
+as_many (one ∷ ones) (other ∷ others) stand =
+    let number = stand.number in
+    let is : one.passed ≡ 0 + other.passed = (stand.each 0 one (omega arith)).number in
+    let first : one.passed ≡ other.passed = omega (arith, is) in
+    let rest = as_many ones others (record {
+      number = omega (arith, number);
+      each = λ k d inside. stand.each (suc k) d (omega (arith, inside));
+    }) in
+    ap (λ n. n ∷ map (λ (r : TapReader). r.passed) ones) first
+    ∙ ap (λ ns. other.passed ∷ ns) rest
+
+-- so many of the readers stand where the span begins, and its ends count their taps as well
+pub record AreJoinedTo (readers begin ends now : List TapReader) (at : ℕ) : Type 0 where
+  pub number : length now ≡ length ends
+  pub begins : (k : ℕ) (d : TapReader) → k < at
+      → StandsAs (get_or readers k d).passed (get_or readers k d) (get_or begin k d)
+  pub counted : (k : ℕ) (d : TapReader) → k < at
+      → StandsAs (get_or readers k d).passed (get_or now k d) (get_or ends k d)
+  pub rest : (k : ℕ) (d : TapReader) → at ≤ k → get_or now k d ≡ get_or ends k d
+
+pub joined_none : (readers begin ends : List TapReader) → AreJoinedTo readers begin ends ends 0
+joined_none readers begin ends = record {
+  number = refl;
+  begins = λ k d none. absurd (omega (arith, none));
+  counted = λ k d none. absurd (omega (arith, none));
+  rest = λ k d from. refl;
+}
+
+-- one reader more
+pub joined_more : (readers begin ends now : List TapReader) (at : ℕ) (reader one was is : TapReader)
+    → AreJoinedTo readers begin ends now at → at < length readers → at < length begin
+    → at < length now → reader ≡ get_or readers at reader → one ≡ get_or begin at one
+    → was ≡ get_or now at was → StandsAs reader.passed reader one
+    → StandsAs reader.passed is was → AreJoinedTo readers begin ends (set now at is) (at + 1)
+joined_more readers begin ends now at reader one was is joined low first within there here then
+    stands counts = record {
+      number = length-set now at is ∙ joined.number;
+      begins = λ k d inside. begins_at k d inside (cases_lt k at);
+      counted = λ k d inside. counted_at k d inside (cases_lt k at);
+      rest = λ k d from.
+          get_or-set_other now at k is d (λ e. absurd (omega (arith, e, from)))
+          ∙ joined.rest k d (omega (arith, from));
+    }
+  where
+    the_reader : (d : TapReader) → get_or readers at d ≡ reader
+    the_reader d = get_or_default readers at d reader low ∙ sym there
+
+    begins_at : (k : ℕ) (d : TapReader) → k < at + 1 → (k < at) ⊎ (at ≤ k)
+        → StandsAs (get_or readers k d).passed (get_or readers k d) (get_or begin k d)
+    begins_at k d inside (inl less) = joined.begins k d less
+    begins_at k d inside (inr last) =
+        let same : at ≡ k = omega (arith, last, inside) in
+        subst (λ j. StandsAs (get_or readers j d).passed (get_or readers j d) (get_or begin j d)) same
+        (rw (the_reader d, get_or_default begin at d one first ∙ sym here) stands)
+
+    counted_at : (k : ℕ) (d : TapReader) → k < at + 1 → (k < at) ⊎ (at ≤ k)
+        → StandsAs (get_or readers k d).passed (get_or (set now at is) k d) (get_or ends k d)
+    counted_at k d inside (inl less) =
+        rw (get_or-set_other now at k is d (λ e. absurd (omega (arith, e, less))))
+        (joined.counted k d less)
+    counted_at k d inside (inr last) =
+        let same : at ≡ k = omega (arith, last, inside) in
+        subst (λ j. StandsAs (get_or readers j d).passed (get_or (set now at is) j d) (get_or ends j d))
+        same
+        (rw (
+          the_reader d,
+          get_or-set_same now at is d within,
+          sym (joined.rest at d (omega arith)) ∙ get_or_default now at d was within ∙ sym then,
+        ) counts)

@@ -1,0 +1,20 @@
+use Rattle.std.proofs.Common.{arith}
+use Rattle.sorted_taps.proofs.Ranking.{root_is_end, root_is_least}
+use Rattle.sorted_taps.proofs.heads.least_of.Goals as goal
+
+pub returns-then-tree-lt2 : goal.returns-then-tree-lt2
+returns-then-tree-lt2 c = λ readers is k d low.
+    let size = is.leaves.size in
+    let short = c.if-tree-lt2.true in
+    absurd (omega (arith, size, short, low))
+
+pub returns-in-Some : goal.returns-in-Some
+returns-in-Some c = λ readers is.
+    let size = is.leaves.size in
+    let long = c.if-tree-lt2.false in
+    root_is_least readers c.args.tree.now is c.head_at-root.result c.in-Some.tap
+    (omega (arith, size, long)) c.head_at-root.ensures c.in-Some.is
+
+pub returns-in-None : goal.returns-in-None
+returns-in-None c = λ readers is.
+    root_is_end readers c.args.tree.now is c.head_at-root.result c.head_at-root.ensures c.in-None.is

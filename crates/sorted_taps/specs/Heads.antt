@@ -1,0 +1,37 @@
+-- The heads of readers, in a tree whose root is a least one.
+use Rattle.std.specs.Prelude.{◌≡◌, ◌⊎◌, ℕ, ◌+◌, ◌*◌, ◌<◌, List, length, get_or, Option, None, Some}
+use Rattle.tap_views.specs.declared.encoder.TapFields.{TapFields}
+use Rattle.sorted_taps.specs.Merged.{IsNotBefore}
+use Rattle.sorted_taps.specs.Readers.{head_of}
+use Rattle.sorted_taps.specs.declared.heads.Head.{Head}
+use Rattle.sorted_taps.specs.declared.reader.TapReader.{TapReader}
+
+-- the other tap is not before this one; an end is behind all taps
+abbrev pub IsNotAfter : Option TapFields → Option TapFields → Type 0
+IsNotAfter tap None = Unit {0}
+IsNotAfter None (Some other) = ⊥
+IsNotAfter (Some tap) (Some other) = IsNotBefore tap other
+
+-- one of the two was chosen, and neither is before it
+pub record IsChosen (left right chosen : Head) : Type 0 where
+  pub one : (chosen ≡ left) ⊎ (chosen ≡ right)
+  pub left_not_before : IsNotAfter chosen.tap left.tap
+  pub right_not_before : IsNotAfter chosen.tap right.tap
+
+-- at this place of the tree is the one chosen of those at twice the place and behind that
+abbrev pub IsChosenAt : List Head → ℕ → Type 0
+IsChosenAt tree place =
+    (d : Head) → IsChosen (get_or tree (2 * place) d) (get_or tree (2 * place + 1) d) (get_or tree place d)
+
+-- the second half of the tree has the heads of the readers
+pub record HasLeaves (readers : List TapReader) (tree : List Head) : Type 0 where
+  pub size : length tree ≡ 2 * length readers
+  pub tap : (k : ℕ) (d : Head) (e : TapReader) → k < length readers
+      → (get_or tree (length readers + k) d).tap ≡ head_of (get_or readers k e)
+  pub at : (k : ℕ) (d : Head) → k < length readers → (get_or tree (length readers + k) d).at ≡ k
+
+-- the tree has the heads of the readers, and at each place of its first half, from 1 on, the one
+-- chosen of two: so that at 1 is one before which there is none
+pub record IsRanked (readers : List TapReader) (tree : List Head) : Type 0 where
+  pub leaves : HasLeaves readers tree
+  pub inner : (place : ℕ) → 0 < place → place < length readers → IsChosenAt tree place

@@ -1,0 +1,142 @@
+//! The heads of readers, as a tree whose root is a least one.
+
+ghost use Rattle.std.specs.Prelude.{◌≡◌, ◌+◌, ◌*◌, ◌<◌, ℕ, List, get_or, length, set, IfOk, MatchOption, true, false};
+ghost use Rattle.sorted_taps.specs.Heads.{HasLeaves, IsChosen, IsNotAfter, IsRanked};
+ghost use Rattle.sorted_taps.specs.Merges.{AreAtEnd, IsLeastHead};
+ghost use Rattle.sorted_taps.specs.Readers.{head_of};
+ghost use Rattle.sorted_taps.specs.declared.heads.Head.{Head};
+ghost use Rattle.sorted_taps.specs.declared.reader.TapReader.{TapReader};
+ghost use Rattle.sorted_taps.specs.inside.Choosing.{IsChosenAnew};
+
+use crate::reader::TapReader;
+use std::alloc::{AllocError, Global};
+use tap_parts::compare;
+use tap_views::TapFields;
+
+/// Where a reader stands.
+#[derive(Clone, Copy)]
+pub(crate) struct Head {
+    /// The tap, or none at the file's end.
+    tap: Option<TapFields>,
+    /// The index of the reader.
+    at: usize,
+}
+
+impl Head {
+    /// The head of the reader at the index.
+    #[inline(always)]
+    fn of(reader: &TapReader, at: usize) -> Head
+        ensures at { result.at ≡ at }
+        ensures tap { result.tap ≡ head_of reader.now }
+    {
+        Head {
+            tap: reader.head().copied(),
+            at,
+        }
+    }
+}
+
+/// Whether the first head is before the second. One at its file's end is before none.
+#[inline(always)]
+fn is_before(head: &Head, other: &Head) -> bool
+    ensures yes { result ≡ true → IsNotAfter head.now.tap other.now.tap }
+    ensures no { result ≡ false → IsNotAfter other.now.tap head.now.tap }
+{
+    match (&head.tap, &other.tap) {
+        (Some(tap), Some(next)) => compare(tap, next).is_lt(),
+        (Some(_), None) => true,
+        (None, _) => false,
+    }
+}
+
+/// The lesser of the heads at two places of the tree, and the first if they are equal.
+#[inline(always)]
+fn lesser(tree: &[Head], left: usize, right: usize) -> Head
+    requires left { left < length tree.now }
+    requires right { right < length tree.now }
+    ensures { (d : Head) → IsChosen (get_or tree.now left d) (get_or tree.now right d) result }
+{
+    let one = &tree[left];
+    let other = &tree[right];
+    if is_before(other, one) { *other } else { *one }
+}
+
+/// The head at a place of the tree.
+#[inline(always)]
+fn head_at(tree: &[Head], place: usize) -> Head
+    requires { place < length tree.now }
+    ensures { result ≡ get_or tree.now place result }
+{
+    let head = &tree[place];
+    *head
+}
+
+/// Lets a place of the tree have the lesser of the two heads below it.
+#[inline(always)]
+fn choose(tree: &mut [Head], place: usize)
+    requires { 2 * place + 1 < length tree.old }
+    ensures { IsChosenAnew tree.old place tree.new }
+{
+    let chosen = lesser(tree, 2 * place, 2 * place + 1);
+    tree[place] = chosen;
+}
+
+/// Lets each place of the first half, from 1 on, have the lesser of the two heads below it. The
+/// second half has the heads of the readers.
+fn choose_all(tree: &mut [Head], readers: &[TapReader])
+    requires { HasLeaves readers.now tree.old }
+    ensures { IsRanked readers.now tree.new }
+{
+    let mut place = readers.len();
+    while place > 1 {
+        place -= 1;
+        choose(tree, place);
+    }
+}
+
+/// The tree of the readers' heads.
+pub(crate) fn tree_of(alloc: Global, readers: &[TapReader]) -> Result<Vec<Head>, AllocError>
+    ensures { IfOk result (λ tree. IsRanked readers.now tree.items) }
+{
+    let none = Head { tap: None, at: 0 };
+    let mut tree = vec![in alloc; none; 2 * readers.len()]?;
+    for at in 0..readers.len() {
+        let reader = &readers[at];
+        let head = Head::of(reader, at);
+        tree[readers.len() + at] = head;
+    }
+    choose_all(&mut tree, readers);
+    Ok(tree)
+}
+
+/// Puts the head of the reader at the index into the tree, which has those of the others.
+pub(crate) fn put_head(tree: &mut [Head], readers: &[TapReader], at: usize)
+    requires within { at < length readers.now }
+    requires ranked { (was : TapReader) × IsRanked (set readers.now at was) tree.old }
+    ensures { IsRanked readers.now tree.new }
+{
+    let reader = &readers[at];
+    let head = Head::of(reader, at);
+    let mut place = readers.len() + at;
+    tree[place] = head;
+    while place > 1 {
+        place /= 2;
+        choose(tree, place);
+    }
+}
+
+/// A least head of the readers of the tree, and the index of its reader; none if all are at the
+/// end.
+pub(crate) fn least_of(tree: &[Head]) -> Option<(usize, TapFields)>
+    ensures { (readers : List TapReader) → IsRanked readers tree.now
+        → MatchOption result (AreAtEnd readers) (λ least. IsLeastHead readers least.0 least.1) }
+{
+    if tree.len() < 2 {
+        return None;
+    }
+    let root = head_at(tree, 1);
+    match root.tap {
+        Some(tap) => Some((root.at, tap)),
+        None => None,
+    }
+}

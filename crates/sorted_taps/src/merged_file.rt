@@ -1,0 +1,126 @@
+//! Sorted files, merged to one.
+
+ghost use Rattle.std.specs.Prelude.{◌≡◌, ◌≢◌, ◌≤◌, List, ℕ, IfErr, IfOk, Some, length, map};
+ghost use Rattle.sorted_taps.specs.Checked.{IsMergeFault};
+ghost use Rattle.sorted_taps.specs.Reading.{window_bytes};
+ghost use Rattle.sorted_taps.specs.Written.{IsBegun, IsMergedFile};
+
+use crate::check::check_files;
+use crate::fault::{MergeFault, SortedFault, WriteFault};
+use crate::merge::Merge;
+use crate::reading::WINDOW_BYTES;
+use crate::writing::{BATCH_TAPS, put, put_rest};
+use placed_files::Placed;
+use std::alloc::{AllocError, Global};
+use std::io::Write;
+use tap_views::MOMENT_LIMIT_MS;
+
+/// Why a merge was given up.
+#[derive(Clone, Copy, Debug, PartialEq, Eq)]
+enum MergeStop {
+    /// A reader was refused. Which fault is to be returned is for `check_files`.
+    Refused,
+    /// A write failed.
+    Write,
+    /// Memory was refused.
+    NoMemory,
+}
+
+impl From<AllocError> for MergeStop {
+    fn from(_refused: AllocError) -> MergeStop {
+        MergeStop::NoMemory
+    }
+}
+
+impl From<SortedFault> for MergeStop {
+    fn from(fault: SortedFault) -> MergeStop {
+        match fault {
+            SortedFault::NoMemory => MergeStop::NoMemory,
+            SortedFault::OutOfOrder { .. } | SortedFault::Layout { .. } | SortedFault::Unread => {
+                MergeStop::Refused
+            }
+        }
+    }
+}
+
+impl From<WriteFault> for MergeStop {
+    ghost use Rattle.std.specs.Prelude.{◌≡◌, ◌≢◌};
+    ghost use Rattle.sorted_taps.specs.declared.fault.WriteFault.TheVariants.{NoMemory};
+    ghost use Rattle.sorted_taps.specs.declared.merged_file.MergeStop.TheVariants.{Write};
+
+    ghost from_gives = { λ fault stop. stop ≢ Write → fault ≡ NoMemory };
+
+    fn from(fault: WriteFault) -> MergeStop {
+        match fault {
+            WriteFault::Write => MergeStop::Write,
+            WriteFault::NoMemory => MergeStop::NoMemory,
+        }
+    }
+}
+
+/// Merges the files as `merge_sorted` does.
+fn write_merged<F: Placed, W: Write>(
+    alloc: Global,
+    files: &[F],
+    window: &mut [u8],
+    out: &mut W,
+) -> Result<Vec<u64>, MergeStop>
+    requires { window_bytes ≤ length window.old }
+    ensures merged { IfOk result (λ numbers. (all : List (List ℕ))
+        → map F.bytes files.now ≡ map Some all
+        → IsMergedFile all numbers.items (W.contents out.old) (W.contents out.new)) }
+    ensures begun { IfErr result (λ stop. stop ≢ MergeStop.Write
+        → IsBegun (W.contents out.old) (W.contents out.new)) }
+{
+    let mut waiting = Vec::with_capacity(alloc, BATCH_TAPS)?;
+    let mut merge = Merge::begin(alloc, files, window)?;
+    for _ in 0..u64::MAX {
+        match merge.next(files, window)? {
+            Some(tap) => {
+                // no batch has such a tap
+                if tap.moment >= MOMENT_LIMIT_MS {
+                    return Err(MergeStop::Refused);
+                }
+                put(alloc, &tap, &mut waiting, out)?;
+            }
+            None => {
+                let numbers = merge.numbers(alloc)?;
+                put_rest(alloc, &waiting, out)?;
+                return Ok(numbers);
+            }
+        }
+    }
+    Err(MergeStop::Refused)
+}
+
+/// Writes all taps of sorted files as one file: in canonical order, in `TAP1` batches of 512, the
+/// last of fewer if need be. Returns how many taps each file has. Of each file some batches are in
+/// memory.
+///
+/// If a file is refused, all are checked in their order, and the fault is that of the first one
+/// that is not sorted: so it is a function of the files. After a fault whole batches may stand in
+/// the output, and after a write that failed anything.
+pub fn merge_sorted<F: Placed, W: Write>(
+    alloc: Global,
+    files: &[F],
+    out: &mut W,
+) -> Result<Vec<u64>, MergeFault>
+    ensures merged { IfOk result (λ numbers. (all : List (List ℕ))
+        → map F.bytes files.now ≡ map Some all
+        → IsMergedFile all numbers.items (W.contents out.old) (W.contents out.new)) }
+    ensures refused { IfErr result (λ fault. (all : List (List ℕ))
+        → map F.bytes files.now ≡ map Some all → IsMergeFault all fault) }
+    ensures begun { IfErr result (λ fault. fault ≢ MergeFault.Write
+        → IsBegun (W.contents out.old) (W.contents out.new)) }
+{
+    let mut window = vec![in alloc; 0u8; WINDOW_BYTES]?;
+    match write_merged(alloc, files, &mut window, out) {
+        Ok(numbers) => Ok(numbers),
+        Err(MergeStop::Write) => Err(MergeFault::Write),
+        Err(MergeStop::NoMemory) => Err(MergeFault::NoMemory),
+        Err(MergeStop::Refused) => match check_files(alloc, files, &mut window) {
+            Ok(_) => Err(MergeFault::Changed),
+            Err(fault) => Err(MergeFault::File(fault)),
+        },
+    }
+}

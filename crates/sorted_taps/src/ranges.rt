@@ -1,0 +1,147 @@
+//! Where ranges of tokens begin in files, guessed.
+//!
+//! The guesses suit files of batches of 512 taps that are in order. Nothing rests on them: whether
+//! ranges lie one behind the other is seen where they are joined.
+
+ghost use Rattle.std.specs.Prelude.{◌≤◌, IfOk, length};
+ghost use Rattle.sorted_taps.specs.Reading.{window_bytes};
+
+use crate::fault::SortedFault;
+use crate::reader::TapReader;
+use crate::reading::FIRST_READ_BYTES;
+use placed_files::Placed;
+use std::alloc::Global;
+use tap_views::Token;
+
+/// The bytes of a batch of 512 taps.
+const BATCH_BYTES: u64 = FIRST_READ_BYTES as u64;
+
+/// Files of fewer batches together are not worth ranges.
+const SHORT_BATCHES: u64 = 64;
+
+/// How many taps in front of a range are passed at most.
+const PASSED_TAPS: usize = 1024;
+
+/// The number of batches of the file, if all have 512 taps but for the last.
+fn batches_in<F: Placed>(file: &F) -> Result<u64, SortedFault> {
+    match file.stamp() {
+        Ok(stamp) => Ok(stamp.bytes / BATCH_BYTES + 1),
+        Err(_) => Err(SortedFault::Unread),
+    }
+}
+
+/// The token of the first tap of the batch with this number, or none if there is no such batch.
+fn token_at<F: Placed>(
+    alloc: Global,
+    file: &F,
+    batch: u64,
+    window: &mut [u8],
+) -> Result<Option<Token>, SortedFault>
+    requires { window_bytes ≤ length window.old }
+{
+    let Some(offset) = batch.checked_mul(BATCH_BYTES) else {
+        return Ok(None);
+    };
+    let reader = TapReader::at(alloc, file, offset, window)?;
+    Ok(reader.head().map(|tap| Token::of(&tap.token)))
+}
+
+/// The offset of a batch that begins with a token below this one, and is followed by none that
+/// does; 0 if there is none.
+fn offset_below<F: Placed>(
+    alloc: Global,
+    file: &F,
+    token: Token,
+    window: &mut [u8],
+) -> Result<u64, SortedFault>
+    requires { window_bytes ≤ length window.old }
+{
+    let mut low = 0u64;
+    let mut high = batches_in(file)?;
+    while high - low > 1 {
+        let middle = low + (high - low) / 2;
+        match token_at(alloc, file, middle, window)? {
+            Some(first) if first < token => low = middle,
+            _ => high = middle,
+        }
+    }
+    Ok(low.saturating_mul(BATCH_BYTES))
+}
+
+/// A reader at the first tap of the file that has this token or a higher one.
+pub(crate) fn reader_near<F: Placed>(
+    alloc: Global,
+    file: &F,
+    token: Token,
+    window: &mut [u8],
+) -> Result<TapReader, SortedFault>
+    requires { window_bytes ≤ length window.old }
+{
+    let offset = offset_below(alloc, file, token, window)?;
+    let mut reader = TapReader::at(alloc, file, offset, window)?;
+    for _ in 0..PASSED_TAPS {
+        match reader.head() {
+            Some(tap) if Token::of(&tap.token) < token => {}
+            _ => {
+                reader.count_anew();
+                return Ok(reader);
+            }
+        }
+        reader.advance(file, window)?;
+    }
+    Err(SortedFault::Unread)
+}
+
+/// The longest of the files, if there is one.
+fn longest<F: Placed>(files: &[F]) -> Result<Option<&F>, SortedFault> {
+    let mut most = 0u64;
+    let mut longest = None;
+    for file in files {
+        let batches = batches_in(file)?;
+        if batches > most {
+            most = batches;
+            longest = Some(file);
+        }
+    }
+    Ok(longest)
+}
+
+/// The number of batches of all files, about.
+fn all_batches<F: Placed>(files: &[F]) -> Result<u64, SortedFault> {
+    let mut batches = 0u64;
+    for file in files {
+        batches = batches.saturating_add(batches_in(file)?);
+    }
+    Ok(batches)
+}
+
+/// So many tokens, between which the taps of the files lie in ranges of about the same number:
+/// rising. They are fewer if batches begin with the same token, and none if the files are short.
+/// The window has `WINDOW_BYTES` at least.
+pub fn bounds_of<F: Placed>(
+    alloc: Global,
+    files: &[F],
+    most: u32,
+    window: &mut [u8],
+) -> Result<Vec<Token>, SortedFault>
+    requires { window_bytes ≤ length window.old }
+    ensures { IfOk result (λ bounds. length bounds.items ≤ most) }
+{
+    let mut bounds = Vec::new(alloc);
+    let Some(file) = longest(files)? else {
+        return Ok(bounds);
+    };
+    let batches = batches_in(file)?;
+    if batches <= most as u64 || all_batches(files)? < SHORT_BATCHES {
+        return Ok(bounds);
+    }
+    for bound in 0..most {
+        let batch = batches.saturating_mul(bound as u64 + 1) / (most as u64 + 1);
+        if let Some(token) = token_at(alloc, file, batch, window)? {
+            if bounds.last().is_none_or(|last| *last < token) {
+                bounds.push(token)?;
+            }
+        }
+    }
+    Ok(bounds)
+}

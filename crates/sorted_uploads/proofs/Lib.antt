@@ -1,0 +1,2 @@
+mod Unwritten
+mod Loaded

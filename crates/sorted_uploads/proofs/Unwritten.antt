@@ -1,0 +1,14 @@
+-- Nothing written yet.
+use Rattle.std.proofs.Common.{ℕ, List, [], refl}
+use Rattle.std.specs.Prelude.{Option}
+use Rattle.std.proofs.KnownBytes.{Appends-nil}
+use Rattle.sorted_taps.specs.Written.{IsBegun}
+
+pub nothing_begun : (old : Option (List ℕ)) → IsBegun old old
+nothing_begun old = record {
+  text = [];
+  batches = [];
+  are = record { texts = []; each = tt; all_bytes = refl };
+  full = tt;
+  appended = Appends-nil old;
+}

@@ -1,0 +1,66 @@
+//! The good taps of uploads, written as one sorted file.
+#![tactic(auto)]
+
+ghost use Rattle.std.specs.Prelude.{◌≡◌, IfErr, IfOk, flat_map, map};
+ghost use Rattle.report_texts.specs.UploadEnds.{ArePlainEnds};
+ghost use Rattle.settlement.specs.SettledTaps.{AreSettledTaps};
+ghost use Rattle.sorted_taps.specs.Written.{IsBegun};
+ghost use Rattle.sorted_uploads.specs.SortedUploads.{IsSortedFileOf};
+
+use report_texts::UploadEnd;
+use settlement::{LoadedUploads, SettledTaps, settled_taps};
+use sorted_taps::{WriteFault, write_taps};
+use std::alloc::Global;
+use std::io::Write;
+use std::marker::Sync;
+use std::thread::Threads;
+use tap_views::NoMemory;
+
+/// Writes the good taps of the uploads as one file: in canonical order, in `TAP1` batches of 512,
+/// the last of fewer if need be. Returns how each upload ends. All taps are in memory. So many
+/// workers order them, 64 at most: what is written does not depend on their number.
+///
+/// After refused memory whole batches may stand in the output, and after a write that failed
+/// anything.
+#[tactic(auto, using(crate::proofs::Unwritten::nothing_begun))]
+pub fn sort_uploads<R: Threads + Sync, W: Write>(
+    rt: &R,
+    alloc: Global,
+    uploads: Vec<Vec<u8>>,
+    workers: u32,
+    out: &mut W,
+) -> Result<Vec<UploadEnd>, WriteFault>
+    ensures ended { IfOk result (λ ends.
+        ArePlainEnds (map (λ upload. upload.items) uploads.items) ends.items) }
+    ensures sorted { IfOk result (λ ends.
+        IsSortedFileOf (map (λ upload. upload.items) uploads.items)
+        (W.contents out.old) (W.contents out.new)) }
+    ensures begun { IfErr result (λ fault. fault ≡ WriteFault.NoMemory
+        → IsBegun (W.contents out.old) (W.contents out.new)) }
+{
+    let SettledTaps { ends, lists } = match settled_loaded(rt, alloc, &uploads, workers) {
+        Ok(settled) => settled,
+        Err(NoMemory) => return Err(WriteFault::NoMemory),
+    };
+    match write_taps(alloc, &lists, out) {
+        Ok(()) => Ok(ends),
+        Err(fault) => Err(fault),
+    }
+}
+
+/// The good taps of the uploads, which are loaded, in canonical order.
+fn settled_loaded<R: Threads + Sync>(
+    rt: &R,
+    alloc: Global,
+    uploads: &[Vec<u8>],
+    workers: u32,
+) -> Result<SettledTaps, NoMemory>
+    ensures ended { IfOk result (λ settled.
+        ArePlainEnds (map (λ upload. upload.items) uploads.now) settled.ends.items) }
+    ensures order { IfOk result (λ settled.
+        AreSettledTaps (map (λ upload. upload.items) uploads.now)
+        (flat_map (λ list. list.items) settled.lists.items)) }
+{
+    let loaded = LoadedUploads { all: uploads };
+    settled_taps(rt, alloc, &loaded, workers)
+}

@@ -1,0 +1,12 @@
+use Rattle.std.proofs.Common.{List, subst}
+use Rattle.tap_views.specs.declared.encoder.TapFields.{TapFields}
+use Rattle.tap_rows.specs.inside.TapTables.{IsEncodedAs}
+use Rattle.tap_rows.proofs.GoingLemmas.{all_written}
+use Rattle.tap_rows.proofs.agency.waiting.write_waiting.Goals as goal
+
+pub returns-in-Ok-clause-written : goal.returns-in-Ok-clause-written
+returns-in-Ok-clause-written g c = λ old taps is.
+    let here = g.W.Write.contents c.args.out.now in
+    let there = g.W.Write.contents c.write_batch.new.out in
+    let P : List TapFields → Type 0 = λ ts. IsEncodedAs ts here there in
+    all_written old here there c.args.waiting.now.items taps is (subst P c.deref.ensures.value c.in-Ok.ensures.upload)

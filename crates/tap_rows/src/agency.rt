@@ -1,0 +1,19 @@
+//! The rows of an agency's own CSV, written as an upload: the columns are found by their names, the
+//! rows that are to be kept by their values.
+
+mod choice;
+mod fault;
+mod instant;
+mod places;
+mod reading;
+mod records;
+mod refusals;
+mod summary;
+mod waiting;
+mod writing;
+
+pub use choice::{Choice, Condition, Separator};
+pub use fault::{AgencyFault, Wanted};
+pub use reading::{Reading, Reason};
+pub use summary::Summary;
+pub use writing::{encode_rows, encode_some_rows};

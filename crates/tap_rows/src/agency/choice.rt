@@ -1,0 +1,52 @@
+//! What of an agency's CSV is encoded.
+
+ghost use Rattle.std.specs.Prelude.{◌≡◌};
+ghost use Rattle.tap_rows.specs.AgencyTexts.{separator_byte};
+
+/// What stands between two fields.
+#[derive(Clone, Copy, Debug, PartialEq, Eq)]
+pub enum Separator {
+    /// A comma.
+    Comma,
+    /// A semicolon.
+    Semicolon,
+    /// A tab.
+    Tab,
+}
+
+impl Separator {
+    /// Its byte.
+    pub(crate) fn byte(self) -> u8
+        ensures { result ≡ separator_byte self }
+    {
+        match self {
+            Separator::Comma => b',',
+            Separator::Semicolon => b';',
+            Separator::Tab => b'\t',
+        }
+    }
+}
+
+/// What a row's field must be, so that the row is kept.
+#[derive(Clone, Copy, Debug)]
+pub struct Condition<'a> {
+    /// The name of the column.
+    pub column: &'a [u8],
+    /// The value that the field must have.
+    pub value: &'a [u8],
+}
+
+/// How an agency's CSV is read.
+#[derive(Clone, Copy, Debug)]
+pub struct Choice<'a> {
+    /// What stands between two fields.
+    pub separator: Separator,
+    /// The name of the column of tokens.
+    pub token: &'a [u8],
+    /// The name of the column of validators.
+    pub validator: &'a [u8],
+    /// The name of the column of moments.
+    pub moment: &'a [u8],
+    /// What a row must meet, so that it is kept: all of them.
+    pub only: &'a [Condition<'a>],
+}

@@ -1,0 +1,63 @@
+//! Why an agency's CSV is not turned into an upload.
+
+use crate::agency::reading::Reason;
+use std::alloc::{AllocError, AllocFailed};
+
+/// A column that a choice names.
+#[derive(Clone, Copy, Debug, PartialEq, Eq)]
+pub enum Wanted {
+    /// That of the tokens.
+    Token,
+    /// That of the validators.
+    Validator,
+    /// That of the moments.
+    Moment,
+    /// That of the condition at this place.
+    Only(usize),
+}
+
+/// Why an agency's CSV is not turned into an upload.
+#[derive(Clone, Copy, Debug, PartialEq, Eq)]
+pub enum AgencyFault {
+    /// The head has not this column, or more than one of its name.
+    Column(Wanted),
+    /// A row that is kept is no tap.
+    Row {
+        /// The number of the row; the head is row 1.
+        number: u64,
+        /// Why it is no tap.
+        reason: Reason,
+    },
+    /// A read failed.
+    Unread,
+    /// The text was another one when it was read again.
+    Changed,
+    /// A write of the upload failed.
+    Write,
+    /// A write of the refused rows failed.
+    RefusedWrite,
+    /// A growth of memory was refused.
+    NoMemory,
+}
+
+impl From<AllocError> for AgencyFault {
+    ghost use Rattle.std.specs.Prelude.{◌≡◌};
+    ghost use Rattle.tap_rows.specs.declared.agency.fault.AgencyFault.TheVariants.{NoMemory};
+
+    ghost from_gives = { λ _ fault. fault ≡ NoMemory };
+
+    fn from(_refused: AllocError) -> AgencyFault {
+        AgencyFault::NoMemory
+    }
+}
+
+impl<T: Drop> From<AllocFailed<T>> for AgencyFault {
+    ghost use Rattle.std.specs.Prelude.{◌≡◌};
+    ghost use Rattle.tap_rows.specs.declared.agency.fault.AgencyFault.TheVariants.{NoMemory};
+
+    ghost from_gives = { λ _ fault. fault ≡ NoMemory };
+
+    fn from(_refused: AllocFailed<T>) -> AgencyFault {
+        AgencyFault::NoMemory
+    }
+}

@@ -1,0 +1,140 @@
+//! What a row of an agency's CSV is read as.
+
+ghost use Rattle.std.specs.Prelude.{◌≡◌, ◌<◌, ◌↔◌, ℕ, List, Some, All, IfErr, IfOk, IsTrue};
+ghost use Rattle.std.specs.Prelude.{MatchOption, length};
+ghost use Rattle.std.specs.List.{AllZip};
+ghost use Rattle.csv.specs.Records.{field_at, fields_of};
+ghost use Rattle.tap_rows.specs.Agencies as Spec;
+ghost use Rattle.tap_rows.specs.AgencyMoments.{IsLocalTime};
+ghost use Rattle.tap_rows.specs.AgencyRows.{IsAsLong, IsMet, IsNoTap, IsReadingOf, IsTapOf};
+ghost use Rattle.tap_rows.specs.AgencyRows.{IsTokenText};
+ghost use Rattle.tap_rows.specs.inside.Places.{ArePlaces, IsPlaceOf};
+ghost use Rattle.tap_views.specs.Layout.{moment_limit};
+
+use crate::agency::choice::{Choice, Condition};
+use crate::agency::instant::{agency_moment_in, is_local_time};
+use crate::agency::places::{Places, has_at};
+use crate::row::validator_in;
+use csv::ByteRecord;
+use tap_views::TapFields;
+use uuid::Uuid;
+
+/// Why a row that is kept is no tap: its first field that tells nothing.
+#[derive(Clone, Copy, Debug, PartialEq, Eq)]
+pub enum Reason {
+    /// The row has not as many fields as the head.
+    Fields,
+    /// The token's field is neither 32 hexadecimal digits nor a UUID.
+    Token,
+    /// The validator's field is no decimal number below 2^32.
+    Validator,
+    /// The moment's field is a time without an offset.
+    LocalTime,
+    /// The moment's field tells no moment below 2100-01-01T00:00Z.
+    Moment,
+}
+
+/// What a row is read as.
+#[derive(Clone, Copy, Debug, PartialEq, Eq)]
+pub enum Reading {
+    /// It is kept, and is this tap.
+    Tap(TapFields),
+    /// It is not kept.
+    LeftOut,
+    /// It is no tap, for this reason.
+    Refused(Reason),
+}
+
+/// The 16 bytes that 32 hexadecimal digits or a UUID spell.
+fn token_text_in(value: &[u8]) -> Option<[u8; 16]>
+    ensures { MatchOption result ((token : List ℕ)
+        → ¬ (IsTokenText value.now token)) (λ token. IsTokenText value.now token) }
+{
+    match Uuid::try_parse_ascii(value) {
+        Ok(token) => Some(token.into_bytes()),
+        Err(_) => None,
+    }
+}
+
+/// Whether a row meets each condition of a choice.
+fn is_kept(only: &[Condition<'_>], places: &[usize], row: &ByteRecord) -> bool
+    ensures { (head : List (List ℕ)) → AllZip (IsPlaceOf head) only.now places.now
+        → (IsTrue result ↔ All (IsMet head (fields_of row.now)) only.now) }
+{
+    for index in 0..only.len().min(places.len()) {
+        let condition = &only[index];
+        if !has_at(row, places[index], condition.value) {
+            return false;
+        }
+    }
+    true
+}
+
+/// The field at a place; empty where there is none.
+fn field_in(row: &ByteRecord, place: usize) -> &[u8]
+    ensures { place < length (fields_of row.now)
+        → field_at (fields_of row.now) place ≡ Some result.now }
+{
+    match row.get(place) {
+        Some(field) => field,
+        None => b"",
+    }
+}
+
+/// What the moment's field of a row is, where it tells none.
+fn moment_reason(field: &[u8]) -> Reason
+    ensures local { result ≡ Reason.LocalTime → IsLocalTime field.now }
+    ensures other { ¬ (result ≡ Reason.LocalTime) → (result ≡ Reason.Moment)
+        × ¬ (IsLocalTime field.now) }
+{
+    if is_local_time(field) {
+        Reason::LocalTime
+    } else {
+        Reason::Moment
+    }
+}
+
+/// The tap of a row that is kept and has as many fields as the head, or why it is none.
+fn tap_of(places: &Places, row: &ByteRecord) -> Result<TapFields, Reason>
+    ensures tap { (choice : Choice) (head : List (List ℕ)) → ArePlaces choice head places.now
+        → IsAsLong head (fields_of row.now)
+        → IfOk result (IsTapOf choice head (fields_of row.now)) }
+    ensures wrong { (choice : Choice) (head : List (List ℕ)) → ArePlaces choice head places.now
+        → IsAsLong head (fields_of row.now)
+        → IfErr result (IsNoTap choice head (fields_of row.now)) }
+    ensures early { IfOk result (λ tap. tap.moment < moment_limit) }
+{
+    let Some(token) = token_text_in(field_in(row, places.token)) else {
+        return Err(Reason::Token);
+    };
+    let Some(validator) = validator_in(field_in(row, places.validator)) else {
+        return Err(Reason::Validator);
+    };
+    let field = field_in(row, places.moment);
+    let Some(moment) = agency_moment_in(field) else {
+        return Err(moment_reason(field));
+    };
+    Ok(TapFields {
+        token,
+        validator,
+        moment,
+    })
+}
+
+/// What a row is read as, under a head whose columns have these places.
+pub(crate) fn reading_of(choice: &Choice<'_>, places: &Places, row: &ByteRecord) -> Reading
+    ensures reading { (head : List (List ℕ)) → ArePlaces choice.now head places.now
+        → IsReadingOf choice.now head (fields_of row.now) result }
+    ensures early { All (λ tap. tap.moment < moment_limit) (Spec.tap_of result) }
+{
+    if row.len() != places.width {
+        return Reading::Refused(Reason::Fields);
+    }
+    if !is_kept(choice.only, &places.only, row) {
+        return Reading::LeftOut;
+    }
+    match tap_of(places, row) {
+        Ok(tap) => Reading::Tap(tap),
+        Err(reason) => Reading::Refused(reason),
+    }
+}

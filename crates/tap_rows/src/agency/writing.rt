@@ -1,0 +1,152 @@
+//! The rows of an agency's CSV, written as an upload.
+
+ghost use Rattle.std.specs.Prelude.{◌≡◌, ◌<◌, ◌++◌, ℕ, List, None, Option, All, IfErr, IfOk, IfSome, OnOk};
+ghost use Rattle.std.specs.Prelude.{flat_map};
+ghost use Rattle.std.specs.Io.KnownBytes.{Appends};
+ghost use Rattle.csv.specs.Records.{fields_of};
+ghost use Rattle.tap_rows.specs.Agencies.{IsAgencyFault, IsOfRows, IsRowsEncoded, refusal_of};
+ghost use Rattle.tap_rows.specs.Agencies.{refusal_text, tap_of};
+ghost use Rattle.tap_rows.specs.inside.Goings.{IsOfSystem};
+ghost use Rattle.tap_rows.specs.inside.WaitingTaps.{AreWritten};
+ghost use Rattle.tap_views.specs.Encoding.{AreEncodable};
+ghost use Rattle.tap_views.specs.Layout.{moment_limit};
+ghost use Rattle.tap_views.specs.declared.encoder.TapFields.{TapFields};
+
+use crate::agency::choice::{Choice, Separator};
+use crate::agency::fault::{AgencyFault, Wanted};
+use crate::agency::places::places_of;
+use crate::agency::reading::{Reading, reading_of};
+use crate::agency::records::{next_record, records_of};
+use crate::agency::refusals::{write_refusal, write_refusals_head};
+use crate::agency::summary::{Summary, with_row};
+use crate::agency::waiting::{add_tap, write_waiting};
+use csv::ByteRecord;
+use std::alloc::Global;
+use std::io::{Read, Write, sink};
+use tap_views::{MAX_TAPS, TapFields};
+
+/// Writes a row where it belongs: a tap to the taps that wait, a row that is refused to `refused`.
+fn put_row<W: Write, X: Write>(
+    alloc: Global,
+    separator: Separator,
+    number: u64,
+    row: &ByteRecord,
+    reading: &Reading,
+    waiting: &mut Vec<TapFields>,
+    out: &mut W,
+    refused: &mut X,
+) -> Result<(), AgencyFault>
+    requires waiting { AreEncodable (λ tap. tap.moment) waiting.old.items }
+    requires early { All (λ tap. tap.moment < moment_limit) (tap_of reading.now) }
+    ensures waiting { OnOk result (AreEncodable (λ tap. tap.moment) waiting.new.items) }
+    ensures taps { OnOk result ((old : Option (List ℕ)) (taps : List TapFields)
+        → AreWritten old (W.contents out.old) waiting.old.items taps
+        → AreWritten old (W.contents out.new) waiting.new.items (taps ++ tap_of reading.now)) }
+    ensures refused { OnOk result ((old : Option (List ℕ)) (text : List ℕ)
+        → Appends old (X.contents refused.old) text
+        → Appends old (X.contents refused.new) (text ++ flat_map (refusal_text separator)
+        (refusal_of number (fields_of row.now) reading.now))) }
+    ensures fault { IfErr result IsOfSystem }
+{
+    match reading {
+        Reading::Tap(tap) => add_tap(alloc, waiting, *tap, out),
+        Reading::LeftOut => Ok(()),
+        Reading::Refused(reason) => {
+            write_refusal(alloc, separator, number, *reason, row, refused)
+        }
+    }
+}
+
+/// Writes the upload of the rows that a choice keeps, `TAP1` batches of 4,096 taps, the last of
+/// fewer, and the rows that are no taps to `refused`. If the head lacks a column of the choice,
+/// nothing is written.
+pub fn encode_some_rows<R: Read + Drop, W: Write, X: Write>(
+    alloc: Global,
+    choice: &Choice<'_>,
+    text: R,
+    out: &mut W,
+    refused: &mut X,
+) -> Result<Summary, AgencyFault>
+    ensures upload { IfOk result (λ summary. IfSome (R.remaining text)
+        (λ bytes. IsRowsEncoded choice.now bytes (W.contents out.old) (W.contents out.new)
+        (X.contents refused.old) (X.contents refused.new) summary)) }
+    ensures fault { IfErr result
+        (λ fault. IfSome (R.remaining text) (λ bytes. IsAgencyFault choice.now bytes fault)) }
+    ensures nothing { IfErr result
+        (λ fault. IsOfRows fault → (out.new ≡ out.old) × (refused.new ≡ refused.old)) }
+{
+    let mut reader = records_of(alloc, choice.separator, text);
+    let mut row = ByteRecord::new(alloc);
+    let has_head = next_record(&mut reader, &mut row)?;
+    if !has_head {
+        return Err(AgencyFault::Column(Wanted::Token));
+    }
+    let places = places_of(alloc, choice, &row)?;
+    write_refusals_head(alloc, choice.separator, &row, refused)?;
+    let mut waiting = Vec::with_capacity(alloc, MAX_TAPS)?;
+    let mut summary = Summary::new();
+    for count in 0..u64::MAX - 2 {
+        let has_row = next_record(&mut reader, &mut row)?;
+        if !has_row {
+            write_waiting(alloc, &mut waiting, out)?;
+            return Ok(summary);
+        }
+        let reading = reading_of(choice, &places, &row);
+        let number = count + 2;
+        put_row(
+            alloc,
+            choice.separator,
+            number,
+            &row,
+            &reading,
+            &mut waiting,
+            out,
+            refused,
+        )?;
+        summary = with_row(summary, number, &reading);
+    }
+    Err(AgencyFault::Unread)
+}
+
+/// The fault of a text that had none when it was read first: then its rows have changed.
+fn when_read_again(fault: AgencyFault) -> AgencyFault
+    ensures changed { IsOfRows fault → result ≡ AgencyFault.Changed }
+    ensures other { (¬ (IsOfRows fault)) → result ≡ fault }
+    ensures none { ¬ (IsOfRows result) }
+{
+    match fault {
+        AgencyFault::Column(_) | AgencyFault::Row { .. } => AgencyFault::Changed,
+        fault => fault,
+    }
+}
+
+/// Writes the upload of the rows that a choice keeps, if each of them is a tap. The text is read
+/// twice, from two readers of it, so that nothing is written where a row is refused.
+pub fn encode_rows<R: Read + Drop, S: Read + Drop, W: Write>(
+    alloc: Global,
+    choice: &Choice<'_>,
+    text: R,
+    again: S,
+    out: &mut W,
+) -> Result<Summary, AgencyFault>
+    ensures upload { IfOk result (λ summary. IfSome (S.remaining again)
+        (λ bytes. IsRowsEncoded choice.now bytes (W.contents out.old) (W.contents out.new)
+        None None summary)) }
+    ensures whole { IfOk result (λ summary. summary.first_refused ≡ None) }
+    ensures refused { IfErr result (λ fault. IsOfRows fault
+        → IfSome (R.remaining text) (λ bytes. IsAgencyFault choice.now bytes fault)) }
+    ensures nothing { IfErr result (λ fault. IsOfRows fault → out.new ≡ out.old) }
+{
+    let found = encode_some_rows(alloc, choice, text, &mut sink(), &mut sink())?;
+    if let Some((number, reason)) = found.first_refused {
+        return Err(AgencyFault::Row { number, reason });
+    }
+    match encode_some_rows(alloc, choice, again, out, &mut sink()) {
+        Ok(summary) => if summary == found {
+            Ok(summary)
+        } else {
+            Err(AgencyFault::Changed)
+        },
+        Err(fault) => Err(when_read_again(fault)),
+    }
+}

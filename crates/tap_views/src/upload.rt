@@ -1,0 +1,77 @@
+//! The good batches of an upload, and the layout fault behind them.
+
+ghost use Rattle.std.specs.Iterator.{item_count};
+ghost use Rattle.tap_views.specs.Files.{GivesBatch, IsReadAs};
+
+use crate::batch::Batch;
+use crate::fault::LayoutFault;
+use std::marker::Model;
+
+/// The good batches of an upload, those before its first layout fault, in their order. `fault` has
+/// that fault once all of them are read.
+pub fn good_batches(upload: &[u8]) -> GoodBatches<'_>
+    ensures { IsReadAs upload.now result.batches result.fault }
+{
+    GoodBatches {
+        rest: upload,
+        at: 0,
+    }
+}
+
+/// What is left to read of an upload: good batches, and behind them its layout fault, if it has
+/// one. It takes no memory.
+#[derive(Drop)]
+pub struct GoodBatches<'a> {
+    /// The bytes that are left.
+    rest: &'a [u8],
+    /// The offset of these bytes in the upload.
+    at: u64,
+}
+
+impl<'a> Model for GoodBatches<'a> {
+    ghost use Rattle.std.specs.Prelude.{◌+◌, ◌^◌, ◌<◌, length};
+    ghost use Rattle.tap_views.specs.Files.{GoodBatchesView};
+    ghost use Rattle.tap_views.specs.inside.Readings.{good_from};
+
+    ghost Value = { GoodBatchesView };
+
+    ghost view = { λ left. good_from left.at left.rest.now };
+
+    ghost invariant = { λ left. left.at + length left.rest.now < 2 ^ 64 };
+}
+
+impl<'a> GoodBatches<'a> {
+    ghost use Rattle.std.specs.Prelude.{◌≡◌, []};
+
+    /// The layout fault behind the batches, and the offset of its batch in bytes. It is asked for
+    /// when no batch is left. An upload with no fault has none.
+    pub fn fault(&self) -> Option<(u64, LayoutFault)>
+        requires { self.now.batches ≡ [] }
+        ensures { result ≡ self.now.fault }
+    {
+        if self.rest.is_empty() {
+            return None;
+        }
+        match Batch::first(self.rest) {
+            Ok(_) => None,
+            Err(fault) => Some((self.at, fault)),
+        }
+    }
+}
+
+impl<'a> Iterator for GoodBatches<'a> {
+    type Item = Batch<'a>;
+
+    ghost next_gives = { GivesBatch };
+
+    ghost remaining = { item_count (λ left. left.batches) };
+
+    fn next(&mut self) -> Option<Batch<'a>> {
+        let Ok((batch, rest)) = Batch::first(self.rest) else {
+            return None;
+        };
+        self.at += (self.rest.len() - rest.len()) as u64;
+        self.rest = rest;
+        Some(batch)
+    }
+}

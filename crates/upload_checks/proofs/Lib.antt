@@ -1,0 +1,5 @@
+mod DayLemmas
+mod LastLemmas
+mod ListLemmas
+mod NearLemmas
+mod RepeatLemmas

@@ -1,0 +1,6 @@
+pub mod Findings
+pub mod NearDoubles
+pub mod Outside
+pub mod Repeats
+pub mod SilentDays
+pub mod inside

@@ -1,0 +1,16 @@
+//! Laws of what is found. Each function's contract is the law; it has nothing to do.
+
+ghost use Rattle.std.specs.Prelude.{◌≡◌, ◌↔◌, ◌++◌, ◌∷◌, [], ℕ, List};
+ghost use Rattle.std.specs.List.Sorted.{IsSorted};
+ghost use Rattle.tap_views.specs.TapOrder.{tap_cmp};
+ghost use Rattle.tap_views.specs.declared.encoder.TapFields.{TapFields};
+ghost use Rattle.upload_checks.specs.NearDoubles.{HasNearTap, double_of, last_moment};
+
+/// Of taps in canonical order, a tap is told as a near double exactly if one before it, of its token
+/// at its validator, is at most so many milliseconds earlier. So it is enough to look at the last.
+pub fn near_doubles_have_a_near_tap()
+    ensures { (within : ℕ) (before : List TapFields) (tap : TapFields)
+        → IsSorted tap_cmp (before ++ tap ∷ [])
+        → ¬ (double_of within tap (last_moment tap.token tap.validator before) ≡ [])
+        ↔ HasNearTap within before tap }
+{}

@@ -1,0 +1,15 @@
+//! What an auditor looks for in uploads: near doubles, taps outside a span of moments, uploads that
+//! are there twice, and days on which validators have no tap. Nothing is changed or left out.
+#![tactic(auto)]
+
+mod findings;
+pub mod laws;
+mod near_doubles;
+mod outside;
+mod repeats;
+mod silent_days;
+
+pub use findings::{Findings, look};
+pub use near_doubles::NearDouble;
+pub use repeats::Repeat;
+pub use silent_days::{SilentDay, find_silent_days};

@@ -1,0 +1,52 @@
+-- Questions that know the fare table, in words that SQLite and PostgreSQL share: each row is a
+-- fault of the ledger under that table. They read the tables that sql/table writes. The days of the
+-- books are to be those of the table's zone (sql/load LEDGER BOOKS ZONE).
+
+SELECT 'must be empty: a validator with another mode than the table''s' AS question;
+SELECT v.validator, v.mode FROM (SELECT DISTINCT validator, mode FROM line) AS v
+  LEFT JOIN ranges ON v.validator BETWEEN first_validator AND last_validator
+  WHERE coalesce(v.mode, '') <> coalesce(ranges.mode, '') ORDER BY v.validator LIMIT 10;
+
+SELECT 'must be empty: a ride with other cents or another reason than its place gives' AS question;
+SELECT token, line, cents, reason FROM (
+    SELECT l.token, l.line, l.cents, l.reason, l.ride, c.fare, c.rides,
+           c.ceiling - (l.ride - 1) * c.fare AS rest
+      FROM line AS l LEFT JOIN riders AS r ON r.token = l.token
+      JOIN classes AS c
+           ON c.name = coalesce(r.class, (SELECT name FROM classes WHERE is_default = 1))
+      WHERE l.answer IN ('paid', 'capped') AND l.reason <> 'ride-limit') AS charged
+  WHERE ride IS NULL OR ride > rides
+     OR cents <> CASE WHEN rest <= 0 THEN 0 WHEN rest < fare THEN rest ELSE fare END
+     OR reason <> CASE WHEN rest <= 0 THEN 'ceiling' WHEN rest < fare THEN 'ceiling-cut'
+                       ELSE 'full' END
+  ORDER BY token, line LIMIT 10;
+
+SELECT 'must be empty: a window with rides past the limit that has not the limit' AS question;
+SELECT w.token, w.window_start FROM (
+    SELECT token, window_start, coalesce(max(ride), 0) AS counted FROM line
+      WHERE answer IN ('paid', 'capped') GROUP BY token, window_start
+      HAVING count(CASE reason WHEN 'ride-limit' THEN 1 END) > 0) AS w
+  LEFT JOIN riders AS r ON r.token = w.token
+  JOIN classes AS c ON c.name = coalesce(r.class, (SELECT name FROM classes WHERE is_default = 1))
+  WHERE w.counted <> c.rides ORDER BY w.token, w.window_start LIMIT 10;
+
+SELECT 'must be empty: a transfer that no ride gives or a ride that should be one' AS question;
+SELECT t.token, t.line, t.answer FROM live_taps AS t
+  LEFT JOIN pairs AS p ON p.from_mode = t.last_mode AND p.to_mode = t.mode
+  WHERE (t.answer = 'transfer') <> (coalesce(t.last_answer, '') IN ('paid', 'capped')
+         AND t.ms <= 7200000 AND p.to_mode IS NOT NULL)
+  ORDER BY t.token, t.line LIMIT 10;
+
+-- Under a zone a window ends at midnight: 6 to 7 days after its start, an hour more or less if the
+-- clocks change.
+SELECT 'must be empty: a window of another length than a week' AS question;
+SELECT token, line FROM rides
+  WHERE CASE WHEN EXISTS (SELECT 1 FROM zone) THEN ms < 514800000 OR ms > 608400000
+             ELSE ms <> 604800000 END
+  ORDER BY token, line LIMIT 10;
+
+-- Under a zone, too.
+SELECT 'must be empty: a day whose windows do not end at one midnight' AS question;
+SELECT day, count(DISTINCT window_end) AS ends FROM rides
+  WHERE moment = window_start AND EXISTS (SELECT 1 FROM zone)
+  GROUP BY day HAVING count(DISTINCT window_end) > 1 ORDER BY day LIMIT 10;
