@@ -10,7 +10,7 @@ import sys
 
 # A task's kind, and the file that it names last: if that is there, the task is done.
 DONE = {"split": "ends/{}", "post": "reports/{}", "merge": "status"}
-BATCH_TAPS = 4096  # of each batch in a part's file; the last one may have fewer
+BATCH_TAPS = 512  # of each batch in a part's file; the last one may have fewer
 END = "upload ([0-9]+) (?:posted|refused) ([0-9]+)(?: at [0-9]+ L[1-6])?\n"
 FOLDERS = ("bin", "groups", "parts", "sizes", "ends", "reports", "ledgers", "logs", "work")
 

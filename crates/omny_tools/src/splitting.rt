@@ -1,15 +1,20 @@
 //! `split`.
 
+ghost use Rattle.std.specs.Prelude.{◌<◌};
+
 use crate::fault::Fault;
-use crate::input::load_upload;
-use crate::making::make_file;
+use crate::input::{load_upload, plain_bytes};
+use crate::making::NewFile;
 use crate::names::Name;
 use crate::output::Output;
 use crate::progress::Progress;
 use report_texts::{UploadEnd, write_upload};
+use sorted_taps::WriteFault;
+use sorted_uploads::{PartFiles, Split};
 use std::alloc::{AllocError, Global};
 use std::io::Write;
-use tap_parts::{Split, UploadTaps};
+use tap_parts::UploadTaps;
+use tap_views::{TAP1_TAP_BYTES, push_sample};
 
 /// The most parts.
 pub(crate) const MAX_PARTS: u32 = 65_535;
@@ -32,23 +37,51 @@ fn push_end(text: &mut String, upload: u64, end: &UploadTaps) -> Result<(), Allo
     write_upload(text, upload, &UploadEnd::by_fault(end.taps, end.fault))
 }
 
+/// About how many taps the uploads have: those of standard input and of pipes are not counted.
+fn taps_in(rt: &HostRuntime, words: &SplitWords<'_>) -> usize {
+    let mut bytes = 0u64;
+    for name in &words.uploads {
+        bytes = bytes.saturating_add(plain_bytes(rt, *name).unwrap_or(0));
+    }
+    bytes as usize / TAP1_TAP_BYTES
+}
+
+/// The parts without a tap, before the first upload is added: some of its tokens tell how tokens
+/// are spread.
+fn begun<'a>(rt: &HostRuntime, words: &SplitWords<'a>, first: &[u8]) -> Result<Split, Fault<'a>> {
+    let mut sample = Vec::new(rt.alloc());
+    push_sample(first, &mut sample)?;
+    let parts = words.parts.clamp(1, MAX_PARTS);
+    let split = Split::new(rt.alloc(), parts, sample, taps_in(rt, words))?;
+    Ok(split)
+}
+
 /// Splits the uploads, and appends a line for each to `ends`.
 fn split_all<'a>(
     rt: &HostRuntime,
     words: &SplitWords<'a>,
     ends: &mut String,
     progress: &mut Progress<'_>,
-) -> Result<Split, Fault<'a>> {
-    let mut split = Split::new(rt.alloc(), words.parts.clamp(1, MAX_PARTS))?;
+) -> Result<PartFiles, Fault<'a>> {
+    let mut split = None;
     for (number, name) in words.uploads.iter().enumerate() {
         progress.tell(number, words.uploads.len(), "uploads");
         let upload = load_upload(rt, *name)?;
-        let (more, end) = split.with(&upload)?;
-        split = more;
+        let earlier = match split {
+            Some(split) => split,
+            None => begun(rt, words, &upload)?,
+        };
+        let (more, end) = earlier.with(&upload)?;
+        split = Some(more);
         let upload = u64::from(words.first).saturating_add(number as u64);
         push_end(ends, upload, &end)?;
     }
-    Ok(split)
+    let split = match split {
+        Some(split) => split,
+        None => begun(rt, words, &[])?,
+    };
+    let files = split.into_files(rt.alloc())?;
+    Ok(files)
 }
 
 /// The name of a part's file.
@@ -61,15 +94,28 @@ fn part_name(alloc: Global, folder: Name<'_>, part: u32) -> Result<String, Alloc
 fn make_part<'a>(
     rt: &HostRuntime,
     folder: Name<'a>,
+    files: &PartFiles,
     part: u32,
-    bytes: &[u8],
-) -> Result<(), Fault<'a>> {
+) -> Result<(), Fault<'a>>
+    requires { part < files.now.places.parts }
+{
     let whole = part_name(rt.alloc(), folder, part)?;
     let begun = format!(in rt.alloc(); "{whole}.")?;
-    match make_file(rt, begun, Name(whole.as_str()), bytes) {
-        Ok(()) => Ok(()),
-        Err(Fault::NoMemory) => Err(Fault::NoMemory),
-        Err(_) => Err(Fault::UnmadePart(folder, part)),
+    let Ok(mut file) = NewFile::create(rt, begun, Name(whole.as_str())) else {
+        return Err(Fault::UnmadePart(folder, part));
+    };
+    match files.write_part(rt.alloc(), part, &mut file) {
+        Ok(()) => match file.finish(rt, Name(whole.as_str())) {
+            Ok(()) => Ok(()),
+            Err(_) => Err(Fault::UnmadePart(folder, part)),
+        },
+        Err(fault) => {
+            file.remove(rt);
+            match fault {
+                WriteFault::NoMemory => Err(Fault::NoMemory),
+                WriteFault::Write => Err(Fault::UnmadePart(folder, part)),
+            }
+        }
     }
 }
 
@@ -77,13 +123,12 @@ fn make_part<'a>(
 fn make_parts<'a>(
     rt: &HostRuntime,
     folder: Name<'a>,
-    split: &Split,
+    files: &PartFiles,
     progress: &mut Progress<'_>,
 ) -> Result<(), Fault<'a>> {
-    for part in 0..split.len() {
-        progress.tell(part as usize, split.len() as usize, "parts");
-        let bytes = split.file(rt.alloc(), part)?;
-        make_part(rt, folder, part, &bytes)?;
+    for part in 0..files.len() {
+        progress.tell(part as usize, files.len() as usize, "parts");
+        make_part(rt, folder, files, part)?;
     }
     Ok(())
 }
@@ -95,8 +140,8 @@ fn split_and_make<'a>(
     progress: &mut Progress<'_>,
 ) -> Result<String, Fault<'a>> {
     let mut ends = String::new(rt.alloc());
-    let split = split_all(rt, words, &mut ends, progress)?;
-    make_parts(rt, words.folder, &split, progress)?;
+    let files = split_all(rt, words, &mut ends, progress)?;
+    make_parts(rt, words.folder, &files, progress)?;
     Ok(ends)
 }
 

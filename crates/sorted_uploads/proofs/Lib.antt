@@ -1,2 +1,4 @@
 mod Unwritten
 mod Loaded
+mod PlaceLemmas
+mod PartOrders

@@ -1,1 +1,2 @@
 pub mod SortedUploads
+pub mod Split
