@@ -1,6 +1,7 @@
 -- What only private functions cite. Who reads the contracts of public calls need not read it.
 pub mod Billed
 pub mod Charged
+pub mod Numbered
 pub mod OpenBills
 pub mod OwnTaps
 pub mod Printed

@@ -10,6 +10,7 @@ ghost use Rattle.sorted_bills.specs.Ledgers.{IsLedgerOfFiles};
 ghost use Rattle.sorted_bills.specs.inside.Taken.{IsReady};
 ghost use Rattle.sorted_bills.specs.inside.Told.{AreAllTold};
 
+use crate::checking::check_all;
 use crate::counting::{count, ends_of};
 use crate::fault::BillFault;
 use crate::stamps::{have_stamps, stamps_of};
@@ -20,7 +21,7 @@ use placed_files::Placed;
 use reason_texts::Teller;
 use report_texts::UploadEnd;
 use settled_texts::{STRIDE_ROOM_BYTES, least_token, write_taps};
-use sorted_taps::{WINDOW_BYTES, check_files};
+use sorted_taps::WINDOW_BYTES;
 use std::alloc::Global;
 use std::io::Write;
 use std::marker::Sync;
@@ -72,18 +73,18 @@ fn write_all<F: Placed, W: Write>(
 /// line for each tap, with the reply and the reason that the account rule has for it after the
 /// earlier taps of its token. Returns how each file ends.
 ///
-/// A first pass checks each file whole, in their order: a fault of it is the first one, and nothing
-/// is written. A second pass merges the files, posts each tap and writes its line. Of each file
-/// some batches are in memory, and of the taps one account. A file that has not as many taps as
-/// before, or another stamp at the end, is reported as changed. This thread does all, whatever the
-/// number of workers.
+/// A first pass checks each file whole, and of several workers each takes a share of the files. A
+/// fault of it is the first one in their order, and nothing is written. A second pass, by this
+/// thread, merges the files, posts each tap and writes its line. Of each file some batches are in
+/// memory, and of the taps one account. A file that has not as many taps as before, or another
+/// stamp at the end, is reported as changed. So neither the text nor the fault depend on the workers.
 pub fn write_sorted_ledger<R: Threads + Sync, F: Placed + Sync, W: Write>(
-    _rt: &R,
+    rt: &R,
     alloc: Global,
     table: &FareTable,
     files: &[F],
     out: &mut W,
-    _workers: u32,
+    workers: u32,
 ) -> Result<Vec<UploadEnd>, BillFault>
     ensures ok { OnOk result ((text : List ℕ) × ((all : List (List ℕ))
         → map F.bytes files.now ≡ map Some all → IsLedgerOfFiles table.now all text)
@@ -100,7 +101,7 @@ pub fn write_sorted_ledger<R: Threads + Sync, F: Placed + Sync, W: Write>(
     settlement::laws::posted_taps();
     let stamps = stamps_of(alloc, files)?;
     let mut window = vec![in alloc; 0u8; WINDOW_BYTES]?;
-    let numbers = check_files(alloc, files, &mut window)?;
+    let numbers = check_all(rt, alloc, files, &mut window, workers)?;
     let counted = count(&numbers)?;
     let ends = ends_of(alloc, &numbers)?;
     let clock = table.clock(alloc)?;

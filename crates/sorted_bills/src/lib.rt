@@ -1,16 +1,19 @@
 //! Files whose taps are in canonical order, charged as a settled run charges them: read in pieces,
 //! merged, and posted tap by tap. No list of the taps is kept, however many there are. Several
-//! workers make a bill, each of a range of the tokens. A ledger is written by one.
+//! workers make a bill, each of a range of the tokens, or check a share of the files each. The lines
+//! of a ledger are written by one.
 #![tactic(auto)]
 
 mod bill;
 mod by_threads;
 mod charging;
+mod checking;
 mod counting;
 mod fault;
 pub mod laws;
 mod ledger;
 mod open_bill;
+mod own_by_threads;
 mod own_taps;
 mod part;
 mod stamps;
