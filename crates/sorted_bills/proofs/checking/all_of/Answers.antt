@@ -1,11 +1,8 @@
-use Rattle.std.proofs.Common.{◌≡◌, ℕ, List, [], ◌∷◌, ◌++◌, Some, arith, get_or, length, map, refl, sym}
-use Rattle.std.proofs.Common.{ap, subst, ◌∙◌, Vec, Global}
-use Rattle.std.specs.Prelude.{IfSome, Option, slice_get}
+use Rattle.std.proofs.Common.{◌≡◌, ℕ, List, [], ◌∷◌, ◌++◌, Some, arith, get_or, sym, ap, subst, ◌∙◌}
+use Rattle.std.specs.Prelude.{slice_get}
 use Rattle.std.proofs.lemmas.Option.{slice_get-get_or}
-use Rattle.sorted_taps.specs.Sorted.{IsSortedFile}
 use Rattle.sorted_taps.proofs.Checking.{AreCounted, counted_all, counted_more, counted_none}
 use Rattle.sorted_taps.proofs.Files.{known_number}
-use Rattle.sorted_bills.specs.inside.Numbered.{HasNumber}
 use Rattle.sorted_bills.proofs.OwnTaps.{known_slice}
 use Rattle.sorted_bills.proofs.checking.all_of.Goals as goal
 

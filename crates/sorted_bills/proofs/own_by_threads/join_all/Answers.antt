@@ -1,9 +1,8 @@
-use Rattle.std.proofs.Common.{◌≡◌, ℕ, List, [], ◌++◌, Some, arith, get_or, map, sym, ap, subst, ◌∙◌}
-use Rattle.std.specs.Prelude.{IfSome, Option, slice_get}
+use Rattle.std.proofs.Common.{◌≡◌, ℕ, List, [], ◌++◌, Some, arith, get_or, sym, ap, subst, ◌∙◌}
+use Rattle.std.specs.Prelude.{slice_get}
 use Rattle.std.proofs.lemmas.Option.{slice_get-get_or}
 use Rattle.tap_views.specs.declared.encoder.TapFields.{TapFields}
 use Rattle.sorted_taps.proofs.Files.{known_number}
-use Rattle.sorted_bills.specs.declared.own_by_threads.OwnTaps.{OwnTaps}
 use Rattle.sorted_bills.specs.inside.OwnTaps.{AreOwnAdded, AreSound}
 use Rattle.sorted_bills.proofs.OwnTaps.{AreOwnSoFar, known_slice, none_so_far, none_sound, one_file_more}
 use Rattle.sorted_bills.proofs.OwnTaps.{own_behind, own_of_all, sound_both}
