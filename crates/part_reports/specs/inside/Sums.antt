@@ -14,15 +14,8 @@ use Rattle.shard_book.specs.declared.sums.ValidatorSum.{ValidatorSum}
 use Rattle.shard_book.specs.declared.sums.totals.Totals.{Totals}
 use Rattle.part_reports.specs.declared.front.Front.{Front}
 use Rattle.part_reports.specs.declared.sums.WholeSums.{WholeSums}
-use Rattle.part_reports.specs.Reports.{sums_of_validator}
+use Rattle.part_reports.specs.Reports.{sums_found, sums_of_validator}
 use Rattle.part_reports.specs.inside.Fronts.{IsFront, ToldFront}
-
--- the sums that this validator has in the list; none where it is not in it
-abbrev pub sums_found : List (ℕ × Sums) → ℕ → Option Sums
-sums_found list validator =
-    if is_member (eq_by_cmp nat_cmp) (keys_of list) validator
-    then Some (sums_of_validator validator list)
-    else None
 
 -- the map has these sums
 abbrev pub AreSumsOf : BTreeMap ℕ Totals → List (ℕ × Sums) → Type 0
