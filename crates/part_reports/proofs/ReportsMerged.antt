@@ -1,5 +1,5 @@
 -- Ledgers that are merged beside what is left of their reports.
-use Rattle.std.proofs.Common.{◌≡◌, ◌≢◌, ◌∙◌, ℕ, zero, suc, List, [], ◌∷◌, ◌++◌, Option, Some, None, refl}
+use Rattle.std.proofs.Common.{◌≡◌, ◌≢◌, ◌∙◌, ◌+◌, ◌<◌, ◌≤◌, ◌⊎◌, inl, inr, ℕ, zero, suc, List, [], ◌∷◌, ◌++◌, Option, Some, None, refl}
 use Rattle.std.proofs.Common.{sym, ap, subst, arith, append-nil, append_assoc, map, length}
 use Rattle.std.specs.Prelude.{IfSome, slice_get, slice_set}
 use Rattle.std.specs.Io.KnownBytes.{Appends}
@@ -18,7 +18,7 @@ use Rattle.part_reports.specs.inside.Kinds.{AreTexts, IsTextOf}
 use Rattle.part_reports.specs.inside.Least.{IsBelowOthers, IsLeast}
 use Rattle.part_reports.specs.inside.ReportsLeft.{AreBegunReports, AreSummed, AreUnused, AreUsedUp}
 use Rattle.part_reports.specs.inside.ReportsLeft.{HasLeft, IsNotTaken, IsNotTakenAt, IsTaken}
-use Rattle.part_reports.specs.inside.ReportsLeft.{IsTakenAt, IsUsedBy, ReportAt}
+use Rattle.part_reports.specs.inside.ReportsLeft.{IsTakenAt, IsUsedBy, IsUsedUp, ReportAt}
 use Rattle.part_reports.specs.inside.Standings.{IsLineOfKind, IsMovedAt, Standing, StandsInText}
 use Rattle.part_reports.specs.inside.Standings.{line_with}
 use Rattle.part_reports.proofs.ChargeLines.{one_charge}
@@ -352,6 +352,44 @@ something_left texts files ats lefts old new so_far none (k, left, there, not_up
     at_none at here None is = is
     at_none at here (Some token) is = absurd (none k token
         (map_at (λ (at : Standing). at.token) ats k at here ∙ ap (λ head. Some head) is))
+
+-- ---- each report, one after the other
+below_or_last : (k at : ℕ) → k < at + 1 → (k < at) ⊎ (k ≡ at)
+below_or_last zero zero below = inr refl
+below_or_last zero (suc at) below = inl (omega arith)
+below_or_last (suc k) zero below = absurd (omega (arith, below))
+below_or_last (suc k) (suc at) below = elim (below_or_last k at (omega (arith, below))) [
+  | inl less ↦ inl (omega (arith, less))
+  | inr same ↦ inr (ap suc same)
+]
+
+-- the first reports are used up
+abbrev pub AreUpTo : List ReportAt → ℕ → Type 0
+AreUpTo lefts at =
+    (k : ℕ) (left : ReportAt) → k < at → slice_get lefts k ≡ Some left → IsUsedUp left
+
+pub up_more : (lefts : List ReportAt) (at : ℕ) (one : ReportAt) → AreUpTo lefts at
+    → slice_get lefts at ≡ Some one → IsUsedUp one → AreUpTo lefts (at + 1)
+up_more lefts at one up there is k left below here = elim (below_or_last k at below) [
+  | inl less ↦ up k left less here
+  | inr same ↦
+      let last : left ≡ one =
+      one_at lefts at left one (subst (λ k. slice_get lefts k ≡ Some left) same here) there in
+      subst IsUsedUp (sym last) is
+]
+
+pub all_up : (lefts : List ReportAt) (at : ℕ) → AreUpTo lefts at → length lefts ≤ at
+    → AreUsedUp lefts
+all_up lefts at up all k left here =
+    let below = within_list lefts k left here in
+    up k left (omega (arith, below, all)) here
+  where
+    within_list : (lefts : List ReportAt) (k : ℕ) (left : ReportAt)
+        → slice_get lefts k ≡ Some left → k < length lefts
+    within_list [] k left here = absurd (cc)
+    within_list (one ∷ lefts) zero left here = omega arith
+    within_list (one ∷ lefts) (suc k) left here =
+        let rest = within_list lefts k left here in omega (arith, rest)
 
 -- ---- several reports
 pub reports_push : (files : List (Option (List ℕ))) (lefts : List ReportAt)
