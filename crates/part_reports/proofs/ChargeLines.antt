@@ -1,5 +1,5 @@
 -- A ledger's line has one charge.
-use Rattle.std.proofs.Common.{◌≡◌, ℕ, List, [], ◌∷◌, codes, sym, ap, ◌∙◌}
+use Rattle.std.proofs.Common.{◌≡◌, ◌==◌, ℕ, List, [], ◌∷◌, refl, sym, ap, ◌∙◌, if◌then◌else◌}
 use Rattle.account_rule.specs.declared.reply.Answer.{Answer}
 use Rattle.account_rule.specs.declared.reply.Answer.TheVariants.{Paid, Transfer, Capped, Stale}
 use Rattle.account_rule.specs.declared.reply.Answer.TheVariants.{Unknown}
@@ -17,13 +17,12 @@ first [] = 0
 first (byte ∷ bytes) = byte
 
 answer_by : ℕ → Answer
-answer_by 112 = Paid
-answer_by 116 = Transfer
-answer_by 99 = Capped
-answer_by 115 = Stale
-answer_by other = Unknown
+answer_by byte =
+    if byte == 112 then Paid else if byte == 116 then Transfer else if byte == 99 then Capped
+    else if byte == 115 then Stale else Unknown
 
 answer_again : (answer : Answer) → answer_by (first (answer_text answer)) ≡ answer
+unfolding answer_by first
 answer_again Paid = refl
 answer_again Transfer = refl
 answer_again Capped = refl

@@ -1,7 +1,7 @@
 -- Charges that use up the sums of tokens, and their groups.
 use Rattle.std.proofs.Common.{◌≡◌, ◌≢◌, ◌∙◌, ◌<◌, ℕ, List, [], ◌∷◌, ◌++◌, Option, Some, None, inl, inr}
 use Rattle.std.proofs.Common.{refl, sym, ap, subst, arith, length, ⊎_elim}
-use Rattle.std.specs.Prelude.{All, flat_map, map}
+use Rattle.std.specs.Prelude.{◌↔◌, All, flat_map, map}
 use Rattle.std.specs.List.{AllByRecursion, AllZip}
 use Rattle.std.specs.List.Sorted.{IsStrictlySortedBy}
 use Rattle.std.specs.Map.{keys_of}
@@ -217,6 +217,12 @@ groups_use tokens groups rise of_tokens =
     grouped_used groups [] None (sums []) tokens (all_apart tokens rise) tt refl of_tokens
 
 -- ---- one charge
+pub head_same : {X : Type 0} (x y : X) (xs ys : List X) → x ∷ xs ≡ y ∷ ys → x ≡ y
+head_same x y xs ys same = cc
+
+tail_same : {X : Type 0} (x y : X) (xs ys : List X) → x ∷ xs ≡ y ∷ ys → xs ≡ ys
+tail_same x y xs ys same = cc
+
 pub stays_on : (current : Option Token) (rest more : Sums) (tokens : List Sum)
     (charge : LineCharge) (charges : List LineCharge) → current ≡ Some charge.token
     → rest ≡ add_sums charge.sums more
@@ -245,8 +251,10 @@ turns_on current rest before more behind charge charges other none add =
     to (found, rest_of, left, inl stays, left_is, spent) = absurd (other stays.0)
     to (found, rest_of, left, inr turns, left_is, spent) =
         let whole : (charge.token, before) ∷ behind ≡ (charge.token, found) ∷ rest_of = turns.2 in
-        let sum : before ≡ found = cc in
-        let rest_is : rest_of ≡ behind = cc in
+        let sum = ap (λ (sum : Sum). sum.1)
+        (head_same (charge.token, before) (charge.token, found) behind rest_of whole) in
+        let rest_is = sym
+        (tail_same (charge.token, before) (charge.token, found) behind rest_of whole) in
         let same : left ≡ more = left_unique charge.sums left more
         (sym left_is ∙ sym sum ∙ add) in
         subst (λ more. UseUp (Some charge.token) more behind charges) same
@@ -292,6 +300,7 @@ no_turn current rest before behind charge charges other none (found, rest_of, mo
       | inr turns ↦
           let whole : (charge.token, before) ∷ behind ≡ (charge.token, found) ∷ rest_of = turns.2
           in
-          let sum : before ≡ found = cc in
+          let sum = ap (λ (sum : Sum). sum.1)
+          (head_same (charge.token, before) (charge.token, found) behind rest_of whole) in
           none more (sum ∙ add)
     ]

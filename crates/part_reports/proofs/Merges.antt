@@ -558,6 +558,7 @@ merging_next texts ats after old now new k merging least moved =
 pub first_nothing : (texts : List (LineKind × List ℕ)) (ats : List Standing)
     (old : Option (List ℕ)) → (are : AllZip StandsInText texts ats)
     → AllByRecursion (λ part. part.done ≡ []) (merging_first texts ats old are).parts
+unfolding merging_first begun
 first_nothing texts ats old are = (begun texts ats are).nothing
 
 -- the part at which the merge goes on
@@ -576,6 +577,7 @@ pub next_moved : (texts : List (LineKind × List ℕ)) (ats after : List Standin
     → IsPartMoved merging.parts
     (merging_next texts ats after old now new k merging least moved).parts k least.token moved.was
     moved.is
+unfolding merging_next
 next_moved texts ats after old now new k merging least moved =
     let found = part_at texts ats old now merging k moved.was moved.there in
     record {
@@ -642,6 +644,15 @@ merging_end texts ats old new merging none =
       },
       merging.written,
     )
+
+-- the lines at the end are those that were written
+pub end_lists : (texts : List (LineKind × List ℕ)) (ats : List Standing)
+    (old new : Option (List ℕ)) → (merging : IsMerging texts ats old new)
+    → (none : IsLeast (map (λ at. at.token) ats) None)
+    → (merging_end texts ats old new merging none).0
+    ≡ map (λ (part : Part). part.done) merging.parts
+unfolding merging_end
+end_lists texts ats old new merging none = refl
 
 -- ---- faults
 -- the lines of the text at the place

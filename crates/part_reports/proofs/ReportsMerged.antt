@@ -24,7 +24,7 @@ use Rattle.part_reports.specs.inside.Standings.{line_with}
 use Rattle.part_reports.proofs.ChargeLines.{one_charge}
 use Rattle.part_reports.proofs.Firsts.{line_is_some}
 use Rattle.part_reports.proofs.LedgerTexts.{known, lefts_of, texts_from, texts_to}
-use Rattle.part_reports.proofs.Merges.{IsMerging, appends_more, first_nothing, list_at, merging_end}
+use Rattle.part_reports.proofs.Merges.{IsMerging, appends_more, end_lists, first_nothing, list_at, merging_end}
 use Rattle.part_reports.proofs.Merges.{merging_first, merging_next, next_moved, part_at}
 use Rattle.part_reports.proofs.Parts.{going_end, going_line, line_at, next_part}
 use Rattle.part_reports.proofs.Places.{each_at, map_at, one_at}
@@ -300,7 +300,9 @@ at_end texts files ats lefts old new so_far none up =
       end.1,
       end.2,
       end.3,
-      beside_end merging.parts files lefts so_far.beside up,
+      subst (λ lists. AreSummed lists files)
+          (sym (end_lists texts ats old new merging none))
+          (beside_end merging.parts files lefts so_far.beside up),
       end.4,
     )
 
@@ -353,6 +355,21 @@ something_left texts files ats lefts old new so_far none (k, left, there, not_up
     at_none at here (Some token) is = absurd (none k token
         (map_at (λ (at : Standing). at.token) ats k at here ∙ ap (λ head. Some head) is))
 
+-- ---- sizes
+pub within_at : {X : Type 0} (xs : List X) (k : ℕ) (x : X) → slice_get xs k ≡ Some x
+    → k < length xs
+within_at [] k x here = absurd (cc)
+within_at (first ∷ xs) zero x here = omega arith
+within_at (first ∷ xs) (suc k) x here = let rest = within_at xs k x here in omega (arith, rest)
+
+pub zip_sizes : {A B : Type 0} (R : A → B → Type 0) (xs : List A) (ys : List B) → AllZip R xs ys
+    → length xs ≡ length ys
+zip_sizes R [] [] each = refl
+zip_sizes R [] (y ∷ ys) each = elim each [ ]
+zip_sizes R (x ∷ xs) [] each = elim each [ ]
+zip_sizes R (x ∷ xs) (y ∷ ys) each =
+    let rest = zip_sizes R xs ys each.1 in omega (arith, rest)
+
 -- ---- each report, one after the other
 below_or_last : (k at : ℕ) → k < at + 1 → (k < at) ⊎ (k ≡ at)
 below_or_last zero zero below = inr refl
@@ -381,15 +398,7 @@ up_more lefts at one up there is k left below here = elim (below_or_last k at be
 pub all_up : (lefts : List ReportAt) (at : ℕ) → AreUpTo lefts at → length lefts ≤ at
     → AreUsedUp lefts
 all_up lefts at up all k left here =
-    let below = within_list lefts k left here in
-    up k left (omega (arith, below, all)) here
-  where
-    within_list : (lefts : List ReportAt) (k : ℕ) (left : ReportAt)
-        → slice_get lefts k ≡ Some left → k < length lefts
-    within_list [] k left here = absurd (cc)
-    within_list (one ∷ lefts) zero left here = omega arith
-    within_list (one ∷ lefts) (suc k) left here =
-        let rest = within_list lefts k left here in omega (arith, rest)
+    let below = within_at lefts k left here in up k left (omega (arith, below, all)) here
 
 -- ---- several reports
 pub reports_push : (files : List (Option (List ℕ))) (lefts : List ReportAt)

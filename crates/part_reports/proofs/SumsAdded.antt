@@ -63,10 +63,10 @@ add_all_more (first ∷ list) more = ap (add_sums first) (add_all_more list more
     ∙ add_assoc first (add_all list) more
 
 -- ---- the tests of keys
-same_key : (k : ℕ) → is_eq (nat_cmp k k) ≡ true
+pub same_key : (k : ℕ) → is_eq (nat_cmp k k) ≡ true
 same_key k = grind (arith, nat_tests)
 
-other_key : (k q : ℕ) → k ≢ q → is_eq (nat_cmp k q) ≡ false
+pub other_key : (k q : ℕ) → k ≢ q → is_eq (nat_cmp k q) ≡ false
 other_key k q other = grind (arith, nat_tests)
 
 same_number : (k : ℕ) → (k == k) ≡ true

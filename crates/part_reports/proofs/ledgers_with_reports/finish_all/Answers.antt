@@ -1,4 +1,4 @@
-use Rattle.std.proofs.Common.{◌≡◌, Some, arith, length, map}
+use Rattle.std.proofs.Common.{◌∙◌, Some, ap, arith, length, map, sym}
 use Rattle.std.proofs.lemmas.List.{length-map}
 use Rattle.std.proofs.lemmas.Option.{slice_get-get_or}
 use Rattle.std.proofs.lemmas.Result.{err_from_is_err_and}
@@ -15,10 +15,11 @@ loop-at-preserved g c =
     let remaining = g.R.Read.remaining in
     let lefts = c.args.lefts.now in
     let at = c.loop-at.at in
-    let left = c.index-lefts-at.result.now in
+    let left = c.index-lefts-at.result in
     up_more (map (report_at remaining) lefts) at (report_at remaining left) c.loop-at.invariant
     (map_at (report_at remaining) lefts at left
-    (slice_get-get_or lefts at left c.loop-at-test.true))
+    (slice_get-get_or lefts at left c.loop-at-test.true
+    ∙ ap (λ left. Some left) (sym c.index-lefts-at.is)))
     c.in_ok-finish-in-Some.ensures.all
 
 pub returns-in_err-finish-in-Some-clause-refused :
@@ -27,14 +28,15 @@ returns-in_err-finish-in-Some-clause-refused g c =
     let remaining = g.R.Read.remaining in
     let lefts = c.args.lefts.now in
     let at = c.loop-at.at in
-    let left = c.index-lefts-at.result.now in
-    let p = err_from_is_err_and c.from_residual-in_err-finish-in-Some.result
-    c.from_residual-in_err-finish-in-Some.ensures.1 in
+    let left = c.index-lefts-at.result in
+    let p = err_from_is_err_and c.from_residual.result
+    c.from_residual.ensures.1 in
     rw (p.1, p.2) (λ of_texts. (
       at,
       report_at remaining left,
       map_at (report_at remaining) lefts at left
-          (slice_get-get_or lefts at left c.loop-at-test.true),
+          (slice_get-get_or lefts at left c.loop-at-test.true
+          ∙ ap (λ left. Some left) (sym c.index-lefts-at.is)),
       c.in_err-finish-in-Some.ensures.refused of_texts,
     ))
 

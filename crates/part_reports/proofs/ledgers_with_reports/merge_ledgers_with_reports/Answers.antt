@@ -1,11 +1,12 @@
-use Rattle.std.proofs.Common.{◌∙◌, map, sym, subst}
+use Rattle.std.proofs.Common.{◌∙◌, ap, arith, length, map, sym, subst}
+use Rattle.std.proofs.lemmas.List.{length-map}
 use Rattle.std.specs.Io.KnownBytes.{Appends}
 use Rattle.std.proofs.lemmas.Result.{IfErr-weaker, err_from_is_err_and, on_ok_weaker}
 use Rattle.reason_texts.specs.Ledger.{head_text}
 use Rattle.part_reports.specs.inside.BegunLedgers.{AreBegunLedgers}
 use Rattle.part_reports.specs.inside.ReportsLeft.{AreBegunReports, report_at}
 use Rattle.part_reports.specs.inside.Standings.{standing}
-use Rattle.part_reports.proofs.ReportsMerged.{no_charges, no_whole, whole}
+use Rattle.part_reports.proofs.ReportsMerged.{no_charges, no_whole, whole, zip_sizes}
 use Rattle.part_reports.proofs.ledgers_with_reports.merge_ledgers_with_reports.Goals as goal
 
 pub returns-in_err-sources-clause-refused : goal.returns-in_err-sources-clause-refused
@@ -16,7 +17,8 @@ returns-in_err-sources-clause-refused g c =
 
 pub returns-in_err-lefts-clause-refused : goal.returns-in_err-lefts-clause-refused
 returns-in_err-lefts-clause-refused g c =
-    let p = err_from_is_err_and c.from_residual.result c.from_residual.ensures.1 in
+    let p = err_from_is_err_and c.from_residual-in_err-lefts.result
+    c.from_residual-in_err-lefts.ensures.1 in
     rw (p.1, p.2) (λ of_texts files report_files same same_reports text is.
     no_charges files report_files text
     (c.in_err-lefts.ensures.refused of_texts report_files same_reports) is)
@@ -59,3 +61,27 @@ returns-clause-refused g c =
     no_whole files report_files ledgers reports (map (standing remaining) c.deref_mut.result.now)
     (map (report_at remaining) c.deref_mut-2.result.now) same same_reports are begun
     (refused of_texts)) c.write_all_taken.ensures.refused
+
+pub write_all_taken-requires : goal.write_all_taken-requires
+write_all_taken-requires g c =
+    let remaining = g.R.Read.remaining in
+    let ledgers = c.args.ledgers.items in
+    let reports = c.args.reports.items in
+    let sources = c.in_ok-sources.sources.items in
+    let lefts = c.in_ok-lefts.lefts.items in
+    let one = zip_sizes _ (map remaining ledgers) (map (standing remaining) sources)
+    c.in_ok-sources.ensures.begun in
+    let two = zip_sizes _ (map remaining reports) (map (report_at remaining) lefts)
+    c.in_ok-lefts.ensures.begun in
+    omega (
+      arith,
+      one,
+      two,
+      length-map ledgers remaining,
+      length-map reports remaining,
+      length-map sources (standing remaining),
+      length-map lefts (report_at remaining),
+      ap length c.deref_mut.ensures.value,
+      ap length c.deref_mut-2.ensures.value,
+      c.requires.number,
+    )

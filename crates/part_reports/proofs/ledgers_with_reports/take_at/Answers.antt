@@ -1,4 +1,4 @@
-use Rattle.std.proofs.Common.{get_or, map}
+use Rattle.std.proofs.Common.{◌∙◌, Some, ap, arith, get_or, map, sym}
 use Rattle.std.proofs.lemmas.Option.{slice_get-get_or}
 use Rattle.std.proofs.lemmas.Result.{IfErr-weaker, on_ok_weaker}
 use Rattle.part_reports.specs.inside.ReportsLeft.{report_at}
@@ -12,12 +12,13 @@ returns-in-Some-clause-taken g c =
     let sources = c.args.sources.now in
     let lefts = c.args.lefts.now in
     let at = c.args.at in
-    let source = c.index-sources-at.result.now in
+    let source = c.index-sources-at.result in
     let left = get_or lefts at c.index-lefts-at.result in
     on_ok_weaker c.take.result (λ taken. record {
       source = standing remaining source;
       source_there = map_at (standing remaining) sources at source
-          (slice_get-get_or sources at source (omega arith));
+          (slice_get-get_or sources at source (omega arith)
+          ∙ ap (λ source. Some source) (sym c.index-sources-at.is));
       token = c.in-Some.token;
       token_is = c.in-Some.is;
       was = report_at remaining left;
@@ -34,12 +35,13 @@ returns-in-Some-clause-refused g c =
     let sources = c.args.sources.now in
     let lefts = c.args.lefts.now in
     let at = c.args.at in
-    let source = c.index-sources-at.result.now in
+    let source = c.index-sources-at.result in
     let left = get_or lefts at c.index-lefts-at.result in
     IfErr-weaker c.take.result _ _ (λ fault refused of_texts. record {
       source = standing remaining source;
       source_there = map_at (standing remaining) sources at source
-          (slice_get-get_or sources at source (omega arith));
+          (slice_get-get_or sources at source (omega arith)
+          ∙ ap (λ source. Some source) (sym c.index-sources-at.is));
       token = c.in-Some.token;
       token_is = c.in-Some.is;
       was = report_at remaining left;

@@ -6,6 +6,7 @@ use Rattle.part_reports.specs.inside.ReportsLeft.{report_at}
 use Rattle.part_reports.specs.inside.Standings.{standing}
 use Rattle.part_reports.proofs.Merges.{least_of, merging_stuck, merging_twin, twin_of}
 use Rattle.part_reports.proofs.ReportsMerged.{at_end, beginning, going_on, not_taken, something_left}
+use Rattle.part_reports.proofs.ReportsMerged.{within_at}
 use Rattle.part_reports.proofs.ledgers_with_reports.write_all_taken.Goals as goal
 
 pub loop-init : goal.loop-init
@@ -117,3 +118,15 @@ loop-preserved g c =
       same = take_at tokens (drop (length tokens) c.loop.tokens.items) c.loop.tokens.len size
           ∙ c.in_ok-write_at-in-Ok-Some.ensures.tokens;
     }
+
+pub returns-in_err-tokens-clause-refused : goal.returns-in_err-tokens-clause-refused
+returns-in_err-tokens-clause-refused g c =
+    let p = err_from_is_err_and c.from_residual.result c.from_residual.ensures.1 in
+    rw (p.1, p.2) (λ of_texts texts files are unused lists joined told is summed. of_texts)
+
+pub write_at-requires-clause-within : goal.write_at-requires-clause-within
+write_at-requires-clause-within g c =
+    let ats = map (standing g.R.Read.remaining) c.loop.sources in
+    let taken = c.in_ok-take_at-in-Ok-Some.ensures.taken in
+    let within = within_at ats c.in-Ok-Some.at taken.source taken.source_there in
+    omega (arith, within, length-map c.loop.sources (standing g.R.Read.remaining))

@@ -1,4 +1,4 @@
-use Rattle.std.proofs.Common.{◌≡◌, ◌∙◌, None, rules, sym}
+use Rattle.std.proofs.Common.{◌≡◌, ◌∙◌, [], None, rules, sym}
 use Rattle.shard_book.specs.Sums.{sums}
 use Rattle.part_reports.specs.inside.ReportsLeft.{AreSame, report_at}
 use Rattle.part_reports.specs.inside.SumsLeft.{sums_left}

@@ -13,8 +13,8 @@ use Rattle.part_reports.proofs.report_left.ReportLeft.take.Goals as goal
 
 pub returns-in_err-charge-clause-refused : goal.returns-in_err-charge-clause-refused
 returns-in_err-charge-clause-refused g c =
-    let p = err_from_is_err_and c.from_residual-in_err-charge.result
-    c.from_residual-in_err-charge.ensures.1 in
+    let p = err_from_is_err_and c.from_residual.result
+    c.from_residual.ensures.1 in
     let none = MatchOption-at_none _ _ c.in_err-charge.ensures.none.0 c.charge_of.ensures in
     let token = c.args.token in
     rw (p.1, p.2) (λ of_texts file done used charge is more add. none token charge

@@ -1,4 +1,4 @@
-use Rattle.std.proofs.Common.{◌≡◌, ◌≢◌, ◌∙◌, Some, ap, inl, inr, refl, rules, subst, sym}
+use Rattle.std.proofs.Common.{◌≡◌, ◌≢◌, ◌∙◌, [], Some, ap, inl, inr, refl, rules, subst, sym}
 use Rattle.std.proofs.lemmas.Option.{MatchOption-at_none, MatchOption-at_some}
 use Rattle.std.proofs.lemmas.Result.{err_from_is_err_and}
 use Rattle.report_texts.specs.Numbers.{IsTokenSum}
@@ -20,8 +20,8 @@ returns-then-not-is_token-clause-refused g c = λ of_texts.
 
 pub returns-in_err-sum-clause-refused : goal.returns-in_err-sum-clause-refused
 returns-in_err-sum-clause-refused g c =
-    let p = err_from_is_err_and c.from_residual-in_err-sum.result
-    c.from_residual-in_err-sum.ensures.1 in
+    let p = err_from_is_err_and c.from_residual.result
+    c.from_residual.ensures.1 in
     let there : c.args.self.now.report.token ≡ Some c.args.token = search rules in
     let none = MatchOption-at_none _ _ c.in_err-sum.ensures.none.0 c.token_sum_of.ensures in
     rw (p.1, p.2) (λ of_texts. (
