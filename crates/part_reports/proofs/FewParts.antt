@@ -41,7 +41,7 @@ above_none q first (sum ∷ list) same all =
     ap (λ b. if b then sum ∷ filter (λ (sum : ℕ × Sums). sum.0 == q) list else filter
     (λ (sum : ℕ × Sums). sum.0 == q) list) test ∙ above_none q first list same all.1
 
-same_test : (x y : ℕ) → x ≡ y → (x == y) ≡ true
+pub same_test : (x y : ℕ) → x ≡ y → (x == y) ≡ true
 same_test x y same = grind (arith, nat_tests, same)
 
 other_test : (x y : ℕ) → x ≢ y → (x == y) ≡ false

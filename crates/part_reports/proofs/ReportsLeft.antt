@@ -3,7 +3,6 @@ use Rattle.std.proofs.Common.{◌≡◌, ◌≢◌, ◌∙◌, ◌<◌, ◌≤�
 use Rattle.std.proofs.Common.{None, inl, inr, refl, sym, ap, subst, arith, length, append-nil}
 use Rattle.std.proofs.Common.{append_assoc, true, false, length-append, Bool, ◌&&◌, ◌==◌, cond}
 use Rattle.std.proofs.lemmas.Bool.{and_parts, cases_eq, eqb-true}
-use Rattle.std.proofs.lemmas.Bool.Decides.{nat_tests}
 use Rattle.std.specs.declared.cmp.Ordering.TheVariants.{Less}
 use Rattle.std.specs.Cmp.Lexicographic.{pointwise}
 use Rattle.std.specs.Prelude.{◌↔◌, All, IfSome, flat_map, is_some, map}
@@ -44,12 +43,13 @@ use Rattle.part_reports.specs.declared.merging.LineKind.{LineKind}
 use Rattle.part_reports.specs.declared.merging.LineKind.TheVariants.{Tokens}
 use Rattle.part_reports.proofs.Added.{leave_sums, lines_stand}
 use Rattle.part_reports.proofs.EndsRead.{All-behind, All-front}
-use Rattle.part_reports.proofs.FewParts.{few, one_small, told_may, told_of}
+use Rattle.part_reports.proofs.FewParts.{few, one_small, same_test, told_may, told_of}
 use Rattle.part_reports.proofs.Groups.{groups_use, head_same, no_stay, no_turn, other_next, something_left}
 use Rattle.part_reports.proofs.Groups.{stays_on, turns_on, use_groups}
 use Rattle.part_reports.proofs.Parts.{going_end, going_first, going_line, going_next, going_stuck}
 use Rattle.part_reports.proofs.Parts.{here, like_line, line_at}
 use Rattle.part_reports.proofs.PartsBegun.{told_unique}
+use Rattle.part_reports.proofs.PermutedTokens.{both}
 use Rattle.part_reports.proofs.Rising.{is_less, less}
 use Rattle.part_reports.proofs.Risings.{begins, each_weaker, lines_each}
 use Rattle.part_reports.proofs.SumsAdded.{or_nothing_in, other_key, same_key, taps_joined}
@@ -629,12 +629,12 @@ tables_same test is [] [] same validator = refl
 tables_same test is [] (y ∷ more) same validator = absurd (cc)
 tables_same test is (x ∷ some) [] same validator = absurd (cc)
 tables_same test is (x ∷ some) (y ∷ more) same validator =
-    let both = and_parts ((x.0 == y.0) && test x.1 y.1)
+    let tests = and_parts ((x.0 == y.0) && test x.1 y.1)
     (pointwise (λ (p q : ℕ × Totals). (p.0 == q.0) && test p.1 q.1) some more) same in
-    let first = and_parts (x.0 == y.0) (test x.1 y.1) both.0 in
+    let first = and_parts (x.0 == y.0) (test x.1 y.1) tests.0 in
     let key : x.0 ≡ y.0 = eqb-true x.0 y.0 first.0 in
     let sums = is x.1 y.1 first.1 in
-    let rest = tables_same test is some more both.1 validator in
+    let rest = tables_same test is some more tests.1 validator in
     by_test (is_at (nat_cmp validator) x.0) (is_at (nat_cmp validator) y.0)
     (ap (is_at (nat_cmp validator)) key) sums rest
   where
@@ -687,13 +687,6 @@ either_below (suc a) (suc b) other = elim (either_below a b (λ same. other (ap 
   | inr below ↦ inr (omega (arith, below))
 ]
 
-both_true : (a b : Bool) → a ≡ true → b ≡ true → (a && b) ≡ true
-both_true true b is also = also
-both_true false b is also = absurd (cc)
-
-same_test : (a b : ℕ) → a ≡ b → (a == b) ≡ true
-same_test a b same = grind (arith, nat_tests, same)
-
 pub tables_equal : (test : Totals → Totals → Bool)
     → ((a b : Totals) → sums_of a ≡ sums_of b → test a b ≡ true)
     → (some more : List (ℕ × Totals)) → IsStrictlySortedBy nat_cmp (keys_of some)
@@ -711,9 +704,9 @@ tables_equal test is (x ∷ some) (y ∷ more) rise rise_too same = elim (cases_
       let found : Some (sums_of x.1) ≡ Some (sums_of y.1) =
       sym (found_head x some) ∙ same x.0 ∙ ap (found_in (y ∷ more)) key ∙ found_head y more in
       let sums : sums_of x.1 ≡ sums_of y.1 = cc in
-      both_true ((x.0 == y.0) && test x.1 y.1)
+      both ((x.0 == y.0) && test x.1 y.1)
       (pointwise (λ (p q : ℕ × Totals). (p.0 == q.0) && test p.1 q.1) some more)
-      (both_true (x.0 == y.0) (test x.1 y.1) (same_test x.0 y.0 key) (is x.1 y.1 sums))
+      (both (x.0 == y.0) (test x.1 y.1) (same_test x.0 y.0 key) (is x.1 y.1 sums))
       (tables_equal test is some more rise.1 rise_too.1 (λ validator. behind validator key))
   | inr other ↦
       elim (either_below x.0 y.0 other) [
@@ -772,13 +765,13 @@ test_sums a b test =
 
 pub sums_test : (a b : Totals) → sums_of a ≡ sums_of b → totals_test a b ≡ true
 sums_test a b same =
-    both_true (a.taps == b.taps) _ (same_test a.taps b.taps (ap (λ (s : Sums). s.taps) same))
-    (both_true (a.paid == b.paid) _ (same_test a.paid b.paid (ap (λ (s : Sums). s.paid) same))
-    (both_true (a.transfers == b.transfers) _
+    both (a.taps == b.taps) _ (same_test a.taps b.taps (ap (λ (s : Sums). s.taps) same))
+    (both (a.paid == b.paid) _ (same_test a.paid b.paid (ap (λ (s : Sums). s.paid) same))
+    (both (a.transfers == b.transfers) _
     (same_test a.transfers b.transfers (ap (λ (s : Sums). s.transfers) same))
-    (both_true (a.capped == b.capped) _
+    (both (a.capped == b.capped) _
     (same_test a.capped b.capped (ap (λ (s : Sums). s.capped) same))
-    (both_true (a.stale == b.stale) _ (same_test a.stale b.stale (ap (λ (s : Sums). s.stale) same))
-    (both_true (a.unknown == b.unknown) (a.cents == b.cents)
+    (both (a.stale == b.stale) _ (same_test a.stale b.stale (ap (λ (s : Sums). s.stale) same))
+    (both (a.unknown == b.unknown) (a.cents == b.cents)
     (same_test a.unknown b.unknown (ap (λ (s : Sums). s.unknown) same))
     (same_test a.cents b.cents (ap (λ (s : Sums). s.cents) same)))))))

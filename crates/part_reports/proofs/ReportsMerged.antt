@@ -2,6 +2,7 @@
 use Rattle.std.proofs.Common.{◌≡◌, ◌≢◌, ◌∙◌, ◌+◌, ◌<◌, ◌≤◌, ◌⊎◌, inl, inr, ℕ, zero, suc, List, [], ◌∷◌, ◌++◌, Option, Some, None, refl}
 use Rattle.std.proofs.Common.{sym, ap, subst, arith, append-nil, append_assoc, map, length}
 use Rattle.std.specs.Prelude.{IfSome, slice_get, slice_set}
+use Rattle.std.proofs.lemmas.Option.{slice_get_within}
 use Rattle.std.specs.Io.KnownBytes.{Appends}
 use Rattle.std.specs.List.{AllByRecursion, AllZip}
 use Rattle.reason_texts.specs.Ledger.{head_text}
@@ -356,19 +357,21 @@ something_left texts files ats lefts old new so_far none (k, left, there, not_up
         (map_at (λ (at : Standing). at.token) ats k at here ∙ ap (λ head. Some head) is))
 
 -- ---- sizes
-pub within_at : {X : Type 0} (xs : List X) (k : ℕ) (x : X) → slice_get xs k ≡ Some x
-    → k < length xs
-within_at [] k x here = absurd (cc)
-within_at (first ∷ xs) zero x here = omega arith
-within_at (first ∷ xs) (suc k) x here = let rest = within_at xs k x here in omega (arith, rest)
+pub ledgers_number : (files : List (Option (List ℕ))) (ats : List Standing)
+    → AreBegunLedgers files ats → length files ≡ length ats
+ledgers_number [] [] are = refl
+ledgers_number [] (at ∷ ats) are = elim are [ ]
+ledgers_number (file ∷ files) [] are = elim are [ ]
+ledgers_number (file ∷ files) (at ∷ ats) are =
+    let rest = ledgers_number files ats are.1 in omega (arith, rest)
 
-pub zip_sizes : {A B : Type 0} (R : A → B → Type 0) (xs : List A) (ys : List B) → AllZip R xs ys
-    → length xs ≡ length ys
-zip_sizes R [] [] each = refl
-zip_sizes R [] (y ∷ ys) each = elim each [ ]
-zip_sizes R (x ∷ xs) [] each = elim each [ ]
-zip_sizes R (x ∷ xs) (y ∷ ys) each =
-    let rest = zip_sizes R xs ys each.1 in omega (arith, rest)
+pub reports_number : (files : List (Option (List ℕ))) (lefts : List ReportAt)
+    → AreBegunReports files lefts → length files ≡ length lefts
+reports_number [] [] are = refl
+reports_number [] (left ∷ lefts) are = elim are [ ]
+reports_number (file ∷ files) [] are = elim are [ ]
+reports_number (file ∷ files) (left ∷ lefts) are =
+    let rest = reports_number files lefts are.1 in omega (arith, rest)
 
 -- ---- each report, one after the other
 below_or_last : (k at : ℕ) → k < at + 1 → (k < at) ⊎ (k ≡ at)
@@ -398,7 +401,7 @@ up_more lefts at one up there is k left below here = elim (below_or_last k at be
 pub all_up : (lefts : List ReportAt) (at : ℕ) → AreUpTo lefts at → length lefts ≤ at
     → AreUsedUp lefts
 all_up lefts at up all k left here =
-    let below = within_at lefts k left here in up k left (omega (arith, below, all)) here
+    let below = slice_get_within lefts k left here in up k left (omega (arith, below, all)) here
 
 -- ---- several reports
 pub reports_push : (files : List (Option (List ℕ))) (lefts : List ReportAt)

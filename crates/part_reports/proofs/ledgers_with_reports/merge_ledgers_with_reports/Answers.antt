@@ -6,7 +6,8 @@ use Rattle.reason_texts.specs.Ledger.{head_text}
 use Rattle.part_reports.specs.inside.BegunLedgers.{AreBegunLedgers}
 use Rattle.part_reports.specs.inside.ReportsLeft.{AreBegunReports, report_at}
 use Rattle.part_reports.specs.inside.Standings.{standing}
-use Rattle.part_reports.proofs.ReportsMerged.{no_charges, no_whole, whole, zip_sizes}
+use Rattle.part_reports.proofs.ReportsMerged.{ledgers_number, no_charges, no_whole, reports_number}
+use Rattle.part_reports.proofs.ReportsMerged.{whole}
 use Rattle.part_reports.proofs.ledgers_with_reports.merge_ledgers_with_reports.Goals as goal
 
 pub returns-in_err-sources-clause-refused : goal.returns-in_err-sources-clause-refused
@@ -69,9 +70,9 @@ write_all_taken-requires g c =
     let reports = c.args.reports.items in
     let sources = c.in_ok-sources.sources.items in
     let lefts = c.in_ok-lefts.lefts.items in
-    let one = zip_sizes _ (map remaining ledgers) (map (standing remaining) sources)
+    let one = ledgers_number (map remaining ledgers) (map (standing remaining) sources)
     c.in_ok-sources.ensures.begun in
-    let two = zip_sizes _ (map remaining reports) (map (report_at remaining) lefts)
+    let two = reports_number (map remaining reports) (map (report_at remaining) lefts)
     c.in_ok-lefts.ensures.begun in
     omega (
       arith,

@@ -1,12 +1,12 @@
 use Rattle.std.proofs.Common.{◌≡◌, ◌∙◌, Some, None, drop, length, arith}
 use Rattle.std.proofs.lemmas.List.{length-map, take_at}
+use Rattle.std.proofs.lemmas.Option.{slice_get_within}
 use Rattle.std.proofs.lemmas.Result.{IfErr-weaker, err_from_is_err_and, on_ok_weaker}
 use Rattle.std.specs.Prelude.{map}
 use Rattle.part_reports.specs.inside.ReportsLeft.{report_at}
 use Rattle.part_reports.specs.inside.Standings.{standing}
 use Rattle.part_reports.proofs.Merges.{least_of, merging_stuck, merging_twin, twin_of}
 use Rattle.part_reports.proofs.ReportsMerged.{at_end, beginning, going_on, not_taken, something_left}
-use Rattle.part_reports.proofs.ReportsMerged.{within_at}
 use Rattle.part_reports.proofs.ledgers_with_reports.write_all_taken.Goals as goal
 
 pub loop-init : goal.loop-init
@@ -128,5 +128,5 @@ pub write_at-requires-clause-within : goal.write_at-requires-clause-within
 write_at-requires-clause-within g c =
     let ats = map (standing g.R.Read.remaining) c.loop.sources in
     let taken = c.in_ok-take_at-in-Ok-Some.ensures.taken in
-    let within = within_at ats c.in-Ok-Some.at taken.source taken.source_there in
+    let within = slice_get_within ats c.in-Ok-Some.at taken.source taken.source_there in
     omega (arith, within, length-map c.loop.sources (standing g.R.Read.remaining))
