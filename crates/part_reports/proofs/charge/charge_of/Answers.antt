@@ -7,7 +7,7 @@ use Rattle.part_reports.proofs.charge.charge_of.Goals as goal
 
 pub returns-in_err-fields : goal.returns-in_err-fields
 returns-in_err-fields c =
-    is_none _ _ c.from_residual-in_err-fields.result c.from_residual-in_err-fields.ensures
+    is_none _ _ c.from_residual.result c.from_residual.ensures
     (λ token charge is. c.in_err-fields.ensures is.row is.is_row)
 
 pub returns-in_err-answer : goal.returns-in_err-answer
