@@ -1,7 +1,7 @@
 -- Charges that use up the sums of tokens, and their groups.
-use Rattle.std.proofs.Common.{◌≡◌, ◌≢◌, ◌∙◌, ◌<◌, ℕ, List, [], ◌∷◌, ◌++◌, Option, Some, None, inl, inr}
-use Rattle.std.proofs.Common.{refl, sym, ap, subst, arith, length, ⊎_elim}
-use Rattle.std.specs.Prelude.{◌↔◌, All, flat_map, map}
+use Rattle.std.proofs.Common.{◌≡◌, ◌≢◌, ◌∙◌, List, [], ◌∷◌, ◌++◌, Option, Some, None, inl, inr}
+use Rattle.std.proofs.Common.{refl, sym, ap, subst, arith}
+use Rattle.std.specs.Prelude.{◌↔◌, flat_map, map}
 use Rattle.std.specs.List.{AllByRecursion, AllZip}
 use Rattle.std.specs.List.Sorted.{IsStrictlySortedBy}
 use Rattle.std.specs.Map.{keys_of}
@@ -12,7 +12,7 @@ use Rattle.tap_views.specs.Token.{token_cmp}
 use Rattle.tap_views.specs.declared.token.Token.{Token}
 use Rattle.part_reports.specs.Charges.{LineCharge}
 use Rattle.part_reports.specs.LedgersWithReports.{AreOfToken}
-use Rattle.part_reports.specs.inside.ReportsLeft.{IsNext, UseUp}
+use Rattle.part_reports.specs.inside.ReportsLeft.{UseUp}
 use Rattle.part_reports.proofs.Added.{left_unique}
 use Rattle.part_reports.proofs.Orders.{below_differs}
 

@@ -1,6 +1,6 @@
 -- A text that is being merged: how far it was written.
-use Rattle.std.proofs.Common.{◌≡◌, ◌∙◌, ℕ, ◌+◌, List, [], ◌∷◌, ◌++◌, Some, None}
-use Rattle.std.proofs.Common.{Option, length, refl, sym, ap, subst, arith, append_assoc}
+use Rattle.std.proofs.Common.{◌≡◌, ◌∙◌, ℕ, List, [], ◌∷◌, ◌++◌, Some, None}
+use Rattle.std.proofs.Common.{Option, refl, sym, ap, subst, arith, append_assoc}
 use Rattle.std.proofs.Common.{append-nil, length-append}
 use Rattle.std.specs.Prelude.{IfSome}
 use Rattle.std.specs.List.{AllByRecursion}
@@ -10,7 +10,7 @@ use Rattle.tap_views.specs.declared.token.Token.{Token}
 use Rattle.part_reports.specs.TokenLines.{TokenLine, text_of}
 use Rattle.shard_book.specs.Sums.{sums}
 use Rattle.part_reports.specs.inside.Going.{IsBehindSo, IsGoing, Part, Rise}
-use Rattle.part_reports.specs.inside.Kinds.{AreLines, HasTokenSums, IsTextOf, Leave}
+use Rattle.part_reports.specs.inside.Kinds.{AreLines, HasTokenSums, IsTextOf}
 use Rattle.part_reports.specs.inside.SumsLeft.{sums_left}
 use Rattle.part_reports.specs.inside.Standings.{IsAtEnd, IsAtLine, IsBehindOne, IsLineOfKind, IsMoved}
 use Rattle.part_reports.specs.inside.Standings.{StandsInText, StandsInTextAt, IsStuck, MayEnd, MayFollow}

@@ -1,13 +1,13 @@
 -- What charges leave of a report: the next one, one that cannot be, and the end.
-use Rattle.std.proofs.Common.{◌≡◌, ◌≢◌, ◌∙◌, ◌<◌, ◌≤◌, ◌^◌, ◌+◌, ◌⊎◌, zero, suc, ℕ, List, [], ◌∷◌, ◌++◌, Option, Some}
+use Rattle.std.proofs.Common.{◌≡◌, ◌≢◌, ◌∙◌, ◌<◌, ◌^◌, ◌⊎◌, zero, suc, ℕ, List, [], ◌∷◌, ◌++◌, Option, Some}
 use Rattle.std.proofs.Common.{None, inl, inr, refl, sym, ap, subst, arith, length, append-nil}
 use Rattle.std.proofs.Common.{append_assoc, true, false, length-append, Bool, ◌&&◌, ◌==◌, cond}
 use Rattle.std.proofs.lemmas.Bool.{and_parts, cases_eq, eqb-true}
 use Rattle.std.specs.declared.cmp.Ordering.TheVariants.{Less}
 use Rattle.std.specs.Cmp.Lexicographic.{pointwise}
-use Rattle.std.specs.Prelude.{◌↔◌, All, IfSome, flat_map, is_some, map}
-use Rattle.std.specs.BTreeMap.{BTreeMap, IsOrdered, get, is_at}
-use Rattle.std.specs.List.{AllByRecursion, AllZip}
+use Rattle.std.specs.Prelude.{◌↔◌, All, flat_map, is_some, map}
+use Rattle.std.specs.BTreeMap.{BTreeMap, is_at}
+use Rattle.std.specs.List.{AllByRecursion}
 use Rattle.std.specs.List.Sorted.{IsStrictlySortedBy}
 use Rattle.std.specs.Map.{keys_of, lookup}
 use Rattle.std.specs.Option.{option_map}
@@ -15,7 +15,7 @@ use Rattle.std.specs.Ordering.{nat_cmp}
 use Rattle.std.proofs.lemmas.List.{map-append, nil_from_length}
 use Rattle.std.proofs.lemmas.List.Elements.{All-cons, All-head, All-nil, All-push}
 use Rattle.fare_texts.specs.ReportLines.{token_line}
-use Rattle.report_texts.specs.Numbers.{IsTokenSum, IsValidatorSum}
+use Rattle.report_texts.specs.Numbers.{IsTokenSum}
 use Rattle.shard_book.specs.Shown.{validator_sum}
 use Rattle.shard_book.specs.Sums.{Sums, add_sums, sums, sums_of}
 use Rattle.shard_book.specs.declared.sums.ValidatorSum.{ValidatorSum}
@@ -31,8 +31,8 @@ use Rattle.part_reports.specs.declared.sums.WholeSums.{WholeSums}
 use Rattle.part_reports.specs.declared.sums_left.SumsLeft.{SumsLeft}
 use Rattle.part_reports.specs.inside.Fronts.{MayBePart, ToldFront}
 use Rattle.part_reports.specs.inside.Going.{IsGoing, Part}
-use Rattle.part_reports.specs.inside.Kinds.{HasTokenSums, IsTextOf, Leave}
-use Rattle.part_reports.specs.inside.Parts.{BegunReport, IsNoPart, IsPart, begun_text, left_text}
+use Rattle.part_reports.specs.inside.Kinds.{HasTokenSums, IsTextOf}
+use Rattle.part_reports.specs.inside.Parts.{IsNoPart, IsPart, begun_text, left_text}
 use Rattle.part_reports.specs.inside.ReportsLeft.{AreSame, IsLineOfSums, IsNoRest, IsNotUsedUp}
 use Rattle.part_reports.specs.inside.ReportsLeft.{IsRestOf, IsTurned}
 use Rattle.part_reports.specs.inside.ReportsLeft.{IsUsedBy, ReportAt, UseUp, charge_with}

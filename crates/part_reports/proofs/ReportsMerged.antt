@@ -1,6 +1,6 @@
 -- Ledgers that are merged beside what is left of their reports.
-use Rattle.std.proofs.Common.{◌≡◌, ◌≢◌, ◌∙◌, ◌+◌, ◌<◌, ◌≤◌, ◌⊎◌, inl, inr, ℕ, zero, suc, List, [], ◌∷◌, ◌++◌, Option, Some, None, refl}
-use Rattle.std.proofs.Common.{sym, ap, subst, arith, append-nil, append_assoc, map, length}
+use Rattle.std.proofs.Common.{◌≡◌, ◌∙◌, ◌+◌, ◌<◌, ◌≤◌, ◌⊎◌, inl, inr, ℕ, zero, suc, List, [], ◌∷◌, ◌++◌, Option, Some, None, refl}
+use Rattle.std.proofs.Common.{sym, ap, subst, arith, append-nil, map, length}
 use Rattle.std.specs.Prelude.{IfSome, slice_get, slice_set}
 use Rattle.std.proofs.lemmas.Option.{slice_get_within}
 use Rattle.std.specs.Io.KnownBytes.{Appends}
@@ -8,7 +8,6 @@ use Rattle.std.specs.List.{AllByRecursion, AllZip}
 use Rattle.reason_texts.specs.Ledger.{head_text}
 use Rattle.tap_views.specs.declared.token.Token.{Token}
 use Rattle.part_reports.specs.Charges.{IsChargeOf, LineCharge}
-use Rattle.part_reports.specs.Ledgers.{IsMergedLedger}
 use Rattle.part_reports.specs.LedgersWithReports.{AddUpToText, HaveReport, IsMergedWithReports}
 use Rattle.part_reports.specs.TokenLines.{IsMergedByToken, TokenLine, text_of}
 use Rattle.part_reports.specs.declared.merging.LineKind.{LineKind}
@@ -18,7 +17,7 @@ use Rattle.part_reports.specs.inside.Going.{IsGoing, Part}
 use Rattle.part_reports.specs.inside.Kinds.{AreTexts, IsTextOf}
 use Rattle.part_reports.specs.inside.Least.{IsBelowOthers, IsLeast}
 use Rattle.part_reports.specs.inside.ReportsLeft.{AreBegunReports, AreSummed, AreUnused, AreUsedUp}
-use Rattle.part_reports.specs.inside.ReportsLeft.{HasLeft, IsNotTaken, IsNotTakenAt, IsTaken}
+use Rattle.part_reports.specs.inside.ReportsLeft.{HasLeft, IsNotTakenAt, IsTaken}
 use Rattle.part_reports.specs.inside.ReportsLeft.{IsTakenAt, IsUsedBy, IsUsedUp, ReportAt}
 use Rattle.part_reports.specs.inside.Standings.{IsLineOfKind, IsMovedAt, Standing, StandsInText}
 use Rattle.part_reports.specs.inside.Standings.{line_with}

@@ -1,4 +1,4 @@
-use Rattle.std.proofs.Common.{◌≡◌, ◌∙◌, ap, refl}
+use Rattle.std.proofs.Common.{◌∙◌, ap, refl}
 use Rattle.ledger_changes.specs.RowFields.{row_of_fields}
 use Rattle.ledger_changes.specs.Rows.{Row}
 use Rattle.ledger_changes.proofs.Nones.{is_none}

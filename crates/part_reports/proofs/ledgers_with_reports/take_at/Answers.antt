@@ -1,4 +1,4 @@
-use Rattle.std.proofs.Common.{◌∙◌, Some, ap, arith, get_or, map, sym}
+use Rattle.std.proofs.Common.{◌∙◌, Some, ap, arith, get_or, sym}
 use Rattle.std.proofs.lemmas.Option.{slice_get-get_or}
 use Rattle.std.proofs.lemmas.Result.{IfErr-weaker, on_ok_weaker}
 use Rattle.part_reports.specs.inside.ReportsLeft.{report_at}

@@ -1,7 +1,7 @@
-use Rattle.std.proofs.Common.{◌≡◌, ◌∷◌, ◌++◌, true, false, subst, sym}
+use Rattle.std.proofs.Common.{◌∷◌, ◌++◌, true, false, subst, sym}
 use Rattle.std.proofs.lemmas.Option.{MatchOption-at_none, MatchOption-at_some}
 use Rattle.std.proofs.lemmas.Result.{err_from_is_err_and}
-use Rattle.part_reports.specs.Charges.{IsChargeOf, LineCharge}
+use Rattle.part_reports.specs.Charges.{IsChargeOf}
 use Rattle.part_reports.specs.LedgersWithReports.{AddUpToText}
 use Rattle.part_reports.specs.inside.ReportsLeft.{IsNoRest, charge_with, report_at}
 use Rattle.part_reports.specs.inside.Standings.{line_with}
