@@ -65,6 +65,8 @@ set -l merge '__fish_seen_subcommand_from merge'
 complete -c omny_tools -n $merge -l ends -r -d 'How the uploads ended'
 complete -c omny_tools -n $merge -l reports -r -d 'The reports of the parts'
 complete -c omny_tools -n $merge -F
+complete -c omny_tools -n '__fish_seen_subcommand_from merge-ledgers' -l reports -r \
+    -d "The report of each ledger's part"
 complete -c omny_tools -n '__fish_seen_subcommand_from encode merge-ledgers corrections' -k \
     -a '(__omny_tools_files .csv)'
 complete -c omny_tools -n '__fish_seen_subcommand_from decode uploads sort split' -k \

@@ -128,6 +128,11 @@ impl fmt::Display for WrongLine {
             Wrong::Sums => "the sums are too large",
             Wrong::Validators => "the validators do not add up to the totals",
             Wrong::Tokens => "the tokens do not add up to the totals",
+            Wrong::MoreThanReport => "its token has more, up to it, than in the report",
+            Wrong::LessThanReport => "the token before it has less than in the report",
+            Wrong::OtherToken => "its token is not the next one of the report",
+            Wrong::MissingToken => "the ledger ends, and the report has one more token",
+            Wrong::OtherValidators => "the validators have other sums than in the report",
         })
     }
 }

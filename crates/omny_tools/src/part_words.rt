@@ -1,6 +1,6 @@
 //! The command lines of `split`, `merge` and `merge-ledgers`.
 
-use crate::merging::MergeWords;
+use crate::merging::{LedgerWords, MergeWords};
 use crate::names::Name;
 use crate::splitting::SplitWords;
 use crate::words::{names_at, subcommand};
@@ -71,10 +71,18 @@ const MERGE_LEDGERS_ABOUT: &str =
     "Merges the ledgers of all parts into that of the whole, on standard output.
 
 The lines of the tokens come in the order of the tokens. A token has lines in one ledger alone. The
-ledgers are read as they are written, so they may be larger than memory.";
+ledgers are read as they are written, so they may be larger than memory.
+
+With --reports each ledger is compared with the report of its part: the lines of each token and of
+each validator must add up to the sums that the report has of it. So a ledger is refused if a line
+is missing, or has other cents.";
 
 /// The help of the ledgers.
 const LEDGERS_HELP: &str = "The ledgers of the parts, in any order; - stands for standard input";
+
+/// The help of the reports beside which ledgers are merged.
+const LEDGER_REPORTS_HELP: &str =
+    "The report of each ledger's part, in the order of the ledgers; - stands for standard input";
 
 /// `split --parts N --part-files DIR [--first K] FILE...`
 pub(crate) fn split_command<'a>(alloc: Global) -> Result<Command<'a>, AllocError> {
@@ -117,8 +125,9 @@ pub(crate) fn merge_command<'a>(alloc: Global) -> Result<Command<'a>, AllocError
         .arg(reports)
 }
 
-/// `merge-ledgers FILE...`
+/// `merge-ledgers FILE... [--reports FILE...]`
 pub(crate) fn merge_ledgers_command<'a>(alloc: Global) -> Result<Command<'a>, AllocError> {
+    let reports = files_arg(alloc, "reports", LEDGER_REPORTS_HELP);
     let file = positional_arg(alloc, "FILE", ArgAction::Append, LEDGERS_HELP).required(true);
     subcommand(
         alloc,
@@ -126,6 +135,7 @@ pub(crate) fn merge_ledgers_command<'a>(alloc: Global) -> Result<Command<'a>, Al
         MERGE_LEDGERS_ABOUT,
         MERGE_LEDGERS_STATUS,
     )
+    .arg(reports)?
     .arg(file)
 }
 
@@ -140,10 +150,13 @@ pub(crate) fn merge_words<'a>(
     })
 }
 
-/// The ledgers that `merge-ledgers` is asked for.
+/// What `merge-ledgers` is asked for.
 pub(crate) fn merge_ledgers_words<'a>(
     alloc: Global,
     matches: &ArgMatches<'a>,
-) -> Result<Vec<Name<'a>>, AllocError> {
-    names_at(alloc, matches, "FILE")
+) -> Result<LedgerWords<'a>, AllocError> {
+    Ok(LedgerWords {
+        ledgers: names_at(alloc, matches, "FILE")?,
+        reports: names_at(alloc, matches, "reports")?,
+    })
 }

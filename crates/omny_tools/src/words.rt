@@ -3,7 +3,7 @@
 use crate::correcting::{CorrectionsWords, corrections_command, corrections_words};
 use crate::encode_words::{EncodeMistake, EncodeWords, RowsWords, encode_command, encode_words};
 use crate::look_words::{LookMistake, LookWords, add_look_args, asks_for_look, look_words};
-use crate::merging::MergeWords;
+use crate::merging::{LedgerWords, MergeWords};
 use crate::names::Name;
 use crate::part_words::{
     merge_command, merge_ledgers_command, merge_ledgers_words, merge_words, split_command,
@@ -115,7 +115,7 @@ pub(crate) enum Task<'a> {
     /// Merge the reports of parts.
     Merge(MergeWords<'a>),
     /// Merge the ledgers of parts.
-    MergeLedgers(Vec<Name<'a>>),
+    MergeLedgers(LedgerWords<'a>),
     /// Write the corrections from one ledger to another.
     Corrections(CorrectionsWords<'a>),
     /// A good part is asked for, and not one upload.
@@ -124,6 +124,8 @@ pub(crate) enum Task<'a> {
     InputTwice,
     /// Standard input is to be merged.
     InputMerged,
+    /// There are more or fewer reports than ledgers.
+    NotEachReport,
     /// What is to be a moment is none.
     NoMoment,
     /// The words of `encode` are wrong in this way.
@@ -294,11 +296,14 @@ fn merge_task<'a>(words: MergeWords<'a>) -> Task<'a> {
 }
 
 /// What `merge-ledgers` is asked for.
-fn merge_ledgers_task<'a>(names: Vec<Name<'a>>) -> Task<'a> {
-    if inputs_in(&names) > 1 {
+fn merge_ledgers_task<'a>(words: LedgerWords<'a>) -> Task<'a> {
+    if inputs_in(&words.ledgers).saturating_add(inputs_in(&words.reports)) > 1 {
         return Task::InputTwice;
     }
-    Task::MergeLedgers(names)
+    if !words.reports.is_empty() && words.reports.len() != words.ledgers.len() {
+        return Task::NotEachReport;
+    }
+    Task::MergeLedgers(words)
 }
 
 /// What `sort` is asked for. Uploads that are merged are read at any offset.
