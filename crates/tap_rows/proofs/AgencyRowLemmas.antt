@@ -9,8 +9,9 @@ use Rattle.tap_rows.specs.Agencies.{HasNoColumn, IsWanting}
 use Rattle.tap_rows.specs.declared.agency.choice.Choice.{Choice}
 use Rattle.tap_rows.specs.declared.agency.fault.Wanted.TheVariants as wanted
 use Rattle.tap_rows.specs.AgencyMoments.{IsLocalTime}
-use Rattle.tap_rows.specs.AgencyRows.{HasSome, HasValue, IsColumn, IsMet, IsNoMoment, IsNoTap, IsTokenText}
-use Rattle.tap_rows.specs.Rows.{IsValidator}
+use Rattle.tap_rows.specs.AgencyRows.{HasSome, HasValue, IsColumn, IsMet, IsNoDevice, IsNoMoment, IsNoNumber, IsNoTap, IsTokenText, StandsForValidator}
+use Rattle.tap_rows.specs.declared.devices.table.DeviceTable.{DeviceTable}
+use Rattle.tap_rows.specs.inside.Validators.{IsWrongValidator}
 use Rattle.tap_rows.specs.declared.agency.reading.Reason.{Reason}
 use Rattle.tap_rows.specs.declared.agency.reading.Reason.TheVariants as why
 use Rattle.tap_rows.specs.inside.Places.{ArePlaces, IsPlaceOf}
@@ -102,15 +103,28 @@ not_met_there head row condition place column none is = none (value_there head r
 
 -- a moment's field that tells none
 pub wrong_moment : (choice : Choice) (head row : List (List ℕ)) (bytes : List ℕ) (number : ℕ) (text : List ℕ) (reason : Reason) → HasSome head row choice.token.now (λ text. IsTokenText text bytes)
-    → HasSome head row choice.validator.now (λ text. IsValidator text number) → HasValue head row choice.moment.now text → IsNoMoment text → (reason ≡ why.LocalTime → IsLocalTime text)
+    → HasSome head row choice.validator.now (λ text. StandsForValidator choice.devices text number) → HasValue head row choice.moment.now text → IsNoMoment text → (reason ≡ why.LocalTime → IsLocalTime text)
     → (¬ (reason ≡ why.LocalTime) → (reason ≡ why.Moment) × ¬ (IsLocalTime text)) → IsNoTap choice head row reason
 wrong_moment choice head row bytes number text why.Fields token validator has none local other = absurd (cc ((other (λ e. cc e)).0))
 wrong_moment choice head row bytes number text why.Token token validator has none local other = absurd (cc ((other (λ e. cc e)).0))
 wrong_moment choice head row bytes number text why.Validator token validator has none local other = absurd (cc ((other (λ e. cc e)).0))
+wrong_moment choice head row bytes number text why.Device token validator has none local other = absurd (cc ((other (λ e. cc e)).0))
 wrong_moment choice head row bytes number text why.LocalTime token validator has none local other =
     record { bytes = bytes; number = number; token = token; validator = validator; wrong = (text, has, (none, local refl)) }
 wrong_moment choice head row bytes number text why.Moment token validator has none local other =
     record { bytes = bytes; number = number; token = token; validator = validator; wrong = (text, has, (none, (other (λ e. cc e)).1)) }
+
+-- a validator's field that stands for none
+pub wrong_validator : (choice : Choice) (head row : List (List ℕ)) (bytes : List ℕ) (devices : Option (Bor DeviceTable)) (text : List ℕ) (reason : Reason) → choice.devices ≡ devices
+    → HasSome head row choice.token.now (λ text. IsTokenText text bytes) → HasValue head row choice.validator.now text → IsWrongValidator devices text reason → IsNoTap choice head row reason
+wrong_validator choice head row bytes devices text why.Fields same token has is = absurd is
+wrong_validator choice head row bytes devices text why.Token same token has is = absurd is
+wrong_validator choice head row bytes devices text why.Validator same token has is =
+    record { bytes = bytes; token = token; wrong = (text, has, subst (λ d. IsNoNumber d text) (sym same) is) }
+wrong_validator choice head row bytes devices text why.Device same token has is =
+    record { bytes = bytes; token = token; wrong = (text, has, subst (λ d. IsNoDevice d text) (sym same) is) }
+wrong_validator choice head row bytes devices text why.LocalTime same token has is = absurd is
+wrong_validator choice head row bytes devices text why.Moment same token has is = absurd is
 
 -- ---- no column is wanting where all were found
 only_there : (head : List (List ℕ)) (only : List Condition) (places : List ℕ) (k : ℕ) → AllZip (IsPlaceOf head) only places

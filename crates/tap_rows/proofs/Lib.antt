@@ -1,6 +1,7 @@
 mod AgencyLemmas
 mod AgencyMomentLemmas
 mod AgencyRowLemmas
+mod DeviceLemmas
 mod FieldLemmas
 mod GoingLemmas
 pub mod MomentLemmas
