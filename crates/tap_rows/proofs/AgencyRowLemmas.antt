@@ -9,8 +9,7 @@ use Rattle.tap_rows.specs.Agencies.{HasNoColumn, IsWanting}
 use Rattle.tap_rows.specs.declared.agency.choice.Choice.{Choice}
 use Rattle.tap_rows.specs.declared.agency.fault.Wanted.TheVariants as wanted
 use Rattle.tap_rows.specs.AgencyMoments.{IsLocalTime}
-use Rattle.tap_rows.specs.AgencyRows.{HasSome, HasValue, IsColumn, IsMet, IsNoDevice, IsNoMoment, IsNoNumber, IsNoTap, IsTokenText, StandsForValidator}
-use Rattle.tap_rows.specs.declared.devices.table.DeviceTable.{DeviceTable}
+use Rattle.tap_rows.specs.AgencyRows.{HasSome, HasValue, IsColumn, IsMet, IsNoMoment, IsNoTap, IsTokenText, StandsForValidator}
 use Rattle.tap_rows.specs.inside.Validators.{IsWrongValidator}
 use Rattle.tap_rows.specs.declared.agency.reading.Reason.{Reason}
 use Rattle.tap_rows.specs.declared.agency.reading.Reason.TheVariants as why
@@ -115,16 +114,16 @@ wrong_moment choice head row bytes number text why.Moment token validator has no
     record { bytes = bytes; number = number; token = token; validator = validator; wrong = (text, has, (none, (other (λ e. cc e)).1)) }
 
 -- a validator's field that stands for none
-pub wrong_validator : (choice : Choice) (head row : List (List ℕ)) (bytes : List ℕ) (devices : Option (Bor DeviceTable)) (text : List ℕ) (reason : Reason) → choice.devices ≡ devices
-    → HasSome head row choice.token.now (λ text. IsTokenText text bytes) → HasValue head row choice.validator.now text → IsWrongValidator devices text reason → IsNoTap choice head row reason
-wrong_validator choice head row bytes devices text why.Fields same token has is = absurd is
-wrong_validator choice head row bytes devices text why.Token same token has is = absurd is
-wrong_validator choice head row bytes devices text why.Validator same token has is =
-    record { bytes = bytes; token = token; wrong = (text, has, subst (λ d. IsNoNumber d text) (sym same) is) }
-wrong_validator choice head row bytes devices text why.Device same token has is =
-    record { bytes = bytes; token = token; wrong = (text, has, subst (λ d. IsNoDevice d text) (sym same) is) }
-wrong_validator choice head row bytes devices text why.LocalTime same token has is = absurd is
-wrong_validator choice head row bytes devices text why.Moment same token has is = absurd is
+pub wrong_validator : (choice : Choice) (head row : List (List ℕ)) (bytes text : List ℕ) (reason : Reason) → HasSome head row choice.token.now (λ text. IsTokenText text bytes)
+    → HasValue head row choice.validator.now text → IsWrongValidator choice.devices text reason → IsNoTap choice head row reason
+wrong_validator choice head row bytes text why.Fields token has is = absurd is
+wrong_validator choice head row bytes text why.Token token has is = absurd is
+wrong_validator choice head row bytes text why.Validator token has is =
+    record { bytes = bytes; token = token; wrong = (text, has, is) }
+wrong_validator choice head row bytes text why.Device token has is =
+    record { bytes = bytes; token = token; wrong = (text, has, is) }
+wrong_validator choice head row bytes text why.LocalTime token has is = absurd is
+wrong_validator choice head row bytes text why.Moment token has is = absurd is
 
 -- ---- no column is wanting where all were found
 only_there : (head : List (List ℕ)) (only : List Condition) (places : List ℕ) (k : ℕ) → AllZip (IsPlaceOf head) only places

@@ -60,7 +60,7 @@ pub other_head : {R : Type 0} (remaining : R → Option (List ℕ)) (separator :
     → HasCome remaining separator text (head ∷ []) reader → ¬ (head ≡ device_head) → ¬ (HasDeviceHead separator text)
 other_head remaining separator text head reader come other is = other (head_is separator text head [] reader.state come.left come.reached ∙ is)
 
-has_head : (separator : Separator) (text : List ℕ) (devices : List Device) → AreDevicesBy separator text devices → HasDeviceHead separator text
+pub has_head : (separator : Separator) (text : List ℕ) (devices : List Device) → AreDevicesBy separator text devices → HasDeviceHead separator text
 has_head separator text devices are = let (s, left, reached, none) = are.records in sym (head_is separator text device_head are.rows s left reached)
 
 -- ---- from row to row

@@ -15,7 +15,6 @@ ghost use Rattle.tap_views.specs.Layout.{moment_limit};
 use crate::agency::choice::{Choice, Condition};
 use crate::agency::instant::{agency_moment_in, is_local_time};
 use crate::agency::places::{Places, has_at};
-use crate::devices::DeviceTable;
 use crate::row::validator_in;
 use csv::ByteRecord;
 use tap_views::TapFields;
@@ -87,11 +86,11 @@ pub(crate) fn field_in(row: &ByteRecord, place: usize) -> &[u8]
 
 /// The validator that a field stands for, by its number or by its device's name; or why it stands
 /// for none.
-fn validator_for(devices: Option<&DeviceTable>, field: &[u8]) -> Result<u32, Reason>
-    ensures validator { IfOk result (StandsForValidator devices field.now) }
-    ensures wrong { IfErr result (IsWrongValidator devices field.now) }
+fn validator_for(choice: &Choice<'_>, field: &[u8]) -> Result<u32, Reason>
+    ensures validator { IfOk result (StandsForValidator choice.now.devices field.now) }
+    ensures wrong { IfErr result (IsWrongValidator choice.now.devices field.now) }
 {
-    match devices {
+    match choice.devices {
         None => match validator_in(field) {
             Some(number) => Ok(number),
             None => Err(Reason::Validator),
@@ -118,22 +117,25 @@ fn moment_reason(field: &[u8]) -> Reason
 
 /// The tap of a row that is kept and has as many fields as the head, or why it is none.
 fn tap_of(
-    devices: Option<&DeviceTable>,
+    choice: &Choice<'_>,
     places: &Places,
     row: &ByteRecord,
 ) -> Result<TapFields, Reason>
-    ensures tap { (choice : Choice) (head : List (List ℕ)) → ArePlaces choice head places.now
-        → choice.devices ≡ devices → IsAsLong head (fields_of row.now)
-        → IfOk result (IsTapOf choice head (fields_of row.now)) }
-    ensures wrong { (choice : Choice) (head : List (List ℕ)) → ArePlaces choice head places.now
-        → choice.devices ≡ devices → IsAsLong head (fields_of row.now)
-        → IfErr result (IsNoTap choice head (fields_of row.now)) }
+    ensures tap { (head : List (List ℕ)) → ArePlaces choice.now head places.now
+        → IsAsLong head (fields_of row.now)
+        → IfOk result (IsTapOf choice.now head (fields_of row.now)) }
+    ensures wrong { (head : List (List ℕ)) → ArePlaces choice.now head places.now
+        → IsAsLong head (fields_of row.now)
+        → IfErr result (IsNoTap choice.now head (fields_of row.now)) }
     ensures early { IfOk result (λ tap. tap.moment < moment_limit) }
 {
     let Some(token) = token_text_in(field_in(row, places.token)) else {
         return Err(Reason::Token);
     };
-    let validator = validator_for(devices, field_in(row, places.validator))?;
+    let validator = match validator_for(choice, field_in(row, places.validator)) {
+        Ok(validator) => validator,
+        Err(reason) => return Err(reason),
+    };
     let field = field_in(row, places.moment);
     let Some(moment) = agency_moment_in(field) else {
         return Err(moment_reason(field));
@@ -157,7 +159,7 @@ pub(crate) fn reading_of(choice: &Choice<'_>, places: &Places, row: &ByteRecord)
     if !is_kept(choice.only, &places.only, row) {
         return Reading::LeftOut;
     }
-    match tap_of(choice.devices, places, row) {
+    match tap_of(choice, places, row) {
         Ok(tap) => Reading::Tap(tap),
         Err(reason) => Reading::Refused(reason),
     }
