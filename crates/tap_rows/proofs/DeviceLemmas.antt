@@ -1,6 +1,6 @@
 -- The devices of a table, and the rows that give them.
 use Rattle.std.proofs.Common.{◌≡◌, ℕ, ◌+◌, Bool, true, false, cond, List, [], ◌∷◌, ◌++◌, length, Option, None, Some, inl, inr, refl, sym, ap, subst, ◌∙◌, arith, length-append}
-use Rattle.std.specs.Prelude.{map, ◌||◌}
+use Rattle.std.specs.Prelude.{map, codes, ◌||◌}
 use Rattle.std.specs.Cmp.Lexicographic.{nat_list_eq_equiv}
 use Rattle.std.specs.List.{AllZip, IsDistinct, list_any}
 use Rattle.std.specs.Map.{keys_of, lookup}
@@ -18,7 +18,7 @@ use Rattle.tap_rows.specs.declared.agency.choice.Separator.{Separator}
 use Rattle.tap_rows.specs.declared.agency.choice.Separator.TheVariants.{Comma}
 use Rattle.tap_rows.specs.declared.devices.fault.DevicesFault.{DevicesFault}
 use Rattle.tap_rows.specs.declared.devices.fault.DevicesFault.TheVariants as fault
-use Rattle.tap_rows.specs.inside.DeviceRows.{HasDevices, IsFaultBy, IsRowFault}
+use Rattle.tap_rows.specs.inside.DeviceRows.{HasDevices, IsFaultBy, IsHeadRow, IsRowFault}
 use Rattle.tap_rows.specs.inside.RecordReaders.{HasCome}
 use Rattle.tap_rows.proofs.AgencyRowLemmas.{zip_more}
 use Rattle.tap_rows.proofs.GoingLemmas.{head_is}
@@ -31,6 +31,14 @@ two_fields [] a b long first second = absurd (omega (arith, long))
 two_fields (x ∷ []) a b long first second = absurd (omega (arith, long))
 two_fields (x ∷ y ∷ []) a b long first second = cc
 two_fields (x ∷ y ∷ z ∷ row) a b long first second = absurd (omega (arith, long))
+
+-- a row with the two names is the head, and the head has them
+pub head_row : (row : List (List ℕ)) → IsHeadRow row → row ≡ device_head
+head_row row is = two_fields row (codes "device") (codes "validator") is.0 is.1 is.2
+
+pub row_of_head : (row : List (List ℕ)) → row ≡ device_head → IsHeadRow row
+unfolding field_at
+row_of_head row same = subst IsHeadRow (sym same) (refl, refl, refl)
 
 -- ---- a look-up among the entries of a map
 pub lookup_named : {K : Type 0} (f : K → List ℕ) (name : List ℕ) (entries : List (K × ℕ)) → lookup (λ k. bytes_eq name (f k)) entries ≡ lookup (bytes_eq name) (map (λ e. (f e.0, e.1)) entries)

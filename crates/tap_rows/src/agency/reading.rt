@@ -1,6 +1,6 @@
 //! What a row of an agency's CSV is read as.
 
-ghost use Rattle.std.specs.Prelude.{◌≡◌, ◌<◌, ◌↔◌, ℕ, List, Some, All, IfErr, IfOk, IsTrue};
+ghost use Rattle.std.specs.Prelude.{◌≡◌, ◌<◌, ◌↔◌, ℕ, List, None, Some, All, IfErr, IfOk, IsTrue};
 ghost use Rattle.std.specs.Prelude.{MatchOption, length};
 ghost use Rattle.std.specs.List.{AllZip};
 ghost use Rattle.csv.specs.Records.{field_at, fields_of};
@@ -8,6 +8,8 @@ ghost use Rattle.tap_rows.specs.Agencies as Spec;
 ghost use Rattle.tap_rows.specs.AgencyMoments.{IsLocalTime};
 ghost use Rattle.tap_rows.specs.AgencyRows.{IsAsLong, IsMet, IsNoTap, IsReadingOf, IsTapOf};
 ghost use Rattle.tap_rows.specs.AgencyRows.{IsTokenText, StandsForValidator};
+ghost use Rattle.tap_rows.specs.Devices.{devices_of, validator_of};
+ghost use Rattle.tap_rows.specs.Rows.{IsNoValidator, IsValidator};
 ghost use Rattle.tap_rows.specs.inside.Validators.{IsWrongValidator};
 ghost use Rattle.tap_rows.specs.inside.Places.{ArePlaces, IsPlaceOf};
 ghost use Rattle.tap_views.specs.Layout.{moment_limit};
@@ -15,6 +17,7 @@ ghost use Rattle.tap_views.specs.Layout.{moment_limit};
 use crate::agency::choice::{Choice, Condition};
 use crate::agency::instant::{agency_moment_in, is_local_time};
 use crate::agency::places::{Places, has_at};
+use crate::devices::DeviceTable;
 use crate::row::validator_in;
 use csv::ByteRecord;
 use tap_views::TapFields;
@@ -84,6 +87,31 @@ pub(crate) fn field_in(row: &ByteRecord, place: usize) -> &[u8]
     }
 }
 
+/// The validator whose number a field writes.
+fn number_in(field: &[u8]) -> Result<u32, Reason>
+    ensures number { IfOk result (IsValidator field.now) }
+    ensures wrong { IfErr result
+        (λ reason. (reason ≡ Reason.Validator) × IsNoValidator field.now) }
+{
+    match validator_in(field) {
+        Some(number) => Ok(number),
+        None => Err(Reason::Validator),
+    }
+}
+
+/// The validator of the device whose name a field is.
+fn device_in(devices: &DeviceTable, field: &[u8]) -> Result<u32, Reason>
+    ensures number { IfOk result
+        (λ number. validator_of (devices_of devices.now) field.now ≡ Some number) }
+    ensures wrong { IfErr result (λ reason. (reason ≡ Reason.Device)
+        × (validator_of (devices_of devices.now) field.now ≡ None)) }
+{
+    match devices.validator_of(field) {
+        Some(number) => Ok(number),
+        None => Err(Reason::Device),
+    }
+}
+
 /// The validator that a field stands for, by its number or by its device's name; or why it stands
 /// for none.
 fn validator_for(choice: &Choice<'_>, field: &[u8]) -> Result<u32, Reason>
@@ -91,14 +119,8 @@ fn validator_for(choice: &Choice<'_>, field: &[u8]) -> Result<u32, Reason>
     ensures wrong { IfErr result (IsWrongValidator choice.now.devices field.now) }
 {
     match choice.devices {
-        None => match validator_in(field) {
-            Some(number) => Ok(number),
-            None => Err(Reason::Validator),
-        },
-        Some(devices) => match devices.validator_of(field) {
-            Some(number) => Ok(number),
-            None => Err(Reason::Device),
-        },
+        None => number_in(field),
+        Some(devices) => device_in(devices, field),
     }
 }
 
@@ -116,11 +138,7 @@ fn moment_reason(field: &[u8]) -> Reason
 }
 
 /// The tap of a row that is kept and has as many fields as the head, or why it is none.
-fn tap_of(
-    choice: &Choice<'_>,
-    places: &Places,
-    row: &ByteRecord,
-) -> Result<TapFields, Reason>
+fn tap_of(choice: &Choice<'_>, places: &Places, row: &ByteRecord) -> Result<TapFields, Reason>
     ensures tap { (head : List (List ℕ)) → ArePlaces choice.now head places.now
         → IsAsLong head (fields_of row.now)
         → IfOk result (IsTapOf choice.now head (fields_of row.now)) }
