@@ -86,15 +86,14 @@ apart_at name (f ∷ found) device rest all = apart_at name found device rest al
 not_found : (found : List Device) (device : Device) (rest : List Device) (number : ℕ) → IsDistinct bytes_eq (keys_of (found ++ device ∷ rest)) → ¬ (validator_of found device.0 ≡ Some number)
 unfolding IsDistinct
 not_found [] device rest number distinct is = absurd (cc is)
-not_found (f ∷ found) device rest number distinct is = by (bytes_eq device.0 f.0) refl is
+not_found (f ∷ found) device rest number distinct is = by (bytes_eq device.0 f.0) (apart_at f.0 found device rest distinct.0) (not_found found device rest number distinct.1) refl is
   where
-    by : (b : Bool) → bytes_eq device.0 f.0 ≡ b → cond b (Some f.1) (validator_of found device.0) ≡ Some number → ⊥
-    by true same at =
+    by : (b : Bool) → bytes_eq f.0 device.0 ≡ false → ¬ (validator_of found device.0 ≡ Some number) → bytes_eq device.0 f.0 ≡ b → cond b (Some f.1) (validator_of found device.0) ≡ Some number → ⊥
+    by true apart rest_not same at =
         let name : device.0 ≡ f.0 = (bytes_decides device.0 f.0).0 same in
         let back : bytes_eq f.0 device.0 ≡ true = (bytes_decides f.0 device.0).1 (sym name) in
-        let apart = apart_at f.0 found device rest distinct.0 in
         absurd (cc (back, apart))
-    by false same at = not_found found device rest number distinct.1 at
+    by false apart rest_not same at = rest_not at
 
 not_wrong : (found : List Device) (row : List (List ℕ)) (device : Device) (rest : List Device) (why : WrongDevice) → IsDeviceRow row device → IsDistinct bytes_eq (keys_of (found ++ device ∷ rest))
     → ¬ (IsWrongDevice found row why)

@@ -70,7 +70,10 @@ pub fn read_devices(
     ensures fault { IfErr result (IsDevicesFault separator text.now) }
 {
     match read_by(alloc, seed, separator, text) {
-        Err(DevicesFault::Head) => read_by(alloc, seed, Separator::Comma, text),
-        read => read,
+        Ok(table) => Ok(table),
+        Err(fault) => match fault {
+            DevicesFault::Head => read_by(alloc, seed, Separator::Comma, text),
+            _ => Err(fault),
+        },
     }
 }
