@@ -1,4 +1,4 @@
-use Rattle.std.proofs.Common.{◌≡◌, ◌∙◌, [], Some, ap, arith, length, sym}
+use Rattle.std.proofs.Common.{◌≡◌, ◌∙◌, [], Some, ap, arith, length}
 use Rattle.csv.specs.Records.{fields_of}
 use Rattle.tap_rows.proofs.AgencyRowLemmas.{field_there}
 use Rattle.tap_rows.proofs.DeviceLemmas.{empty_name, some_name, two_fields}
