@@ -18,9 +18,6 @@ enum Stage {
     Loaded,
 }
 
-/// A MiB in bytes.
-const MIB: u64 = 1_048_576;
-
 /// How far a run is. Shown, it is what the run does now.
 #[derive(Clone, Copy, Debug)]
 pub(crate) struct Steps {
@@ -38,10 +35,6 @@ pub(crate) struct Steps {
     ahead: usize,
     /// How many files were read when their turns came, or had been before.
     loaded: usize,
-    /// How many bytes the sorted files have that were opened.
-    sorted_bytes: u64,
-    /// How many bytes were read of these. Some may be read twice.
-    sorted_read: u64,
 }
 
 impl Steps {
@@ -55,8 +48,6 @@ impl Steps {
             knows_all: true,
             ahead: 0,
             loaded: 0,
-            sorted_bytes: 0,
-            sorted_read: 0,
         }
     }
 
@@ -74,15 +65,9 @@ impl Steps {
         self.stage = Stage::Files;
     }
 
-    /// Has opened a sorted file of so many bytes, which is read while it is charged.
-    pub(crate) fn open(&mut self, bytes: u64) {
+    /// Has opened a sorted file, which is read while it is charged.
+    pub(crate) fn open(&mut self) {
         self.stage = Stage::Loaded;
-        self.sorted_bytes = self.sorted_bytes.saturating_add(bytes);
-    }
-
-    /// Has read so many more bytes of a sorted file.
-    pub(crate) fn read_sorted(&mut self, bytes: u64) {
-        self.sorted_read = self.sorted_read.saturating_add(bytes);
     }
 
     /// Has read one more file before its turn.
@@ -162,11 +147,6 @@ impl Display for Steps {
             }
             Stage::Files => write!(f, "{} files read", self.read()),
             Stage::Input => f.write_str("reading the standard input"),
-            Stage::Loaded if self.sorted_bytes > 0 => {
-                let read = self.sorted_read.min(self.sorted_bytes) / MIB;
-                let all = self.sorted_bytes / MIB;
-                write!(f, "charging, {read} of {all} MiB read")
-            }
             Stage::Loaded if self.has_table && !self.asks_for_list => f.write_str("charging"),
             Stage::Loaded => f.write_str("listing"),
         }

@@ -2,10 +2,8 @@
 
 use crate::ticker::Ticker;
 use fare_program::{Disk, FileAhead, LoadFault, Source};
-use placed_files::{FileStamp, Placed, Unopened};
+use placed_files::Unopened;
 use std::alloc::{AllocError, Global};
-use std::io;
-use std::marker::Sync;
 use std::sync::Wait;
 
 /// A disk or a source whose reads are noted. It gives what the one below gives.
@@ -42,53 +40,15 @@ impl<'a, R: Wait> WatchedDisk<'a, R> {
     }
 }
 
-/// A sorted file whose reads are noted. It gives what the one below gives.
-#[derive(Drop)]
-pub(crate) struct WatchedFile<'a, R: Wait, F: Placed + Drop> {
-    /// What may wait for the steps.
-    rt: &'a R,
-    /// Where reads are noted.
-    ticker: &'a Ticker,
-    /// What is read.
-    file: F,
-}
-
-impl<R: Wait, F: Placed + Drop> Placed for WatchedFile<'_, R, F> {
-    ghost bytes = { λ w. F.bytes w.file };
-
-    // One read gives a piece of many taps, so that the lock costs none of them anything.
-    fn read_from(&self, buffer: &mut [u8], offset: u64) -> io::Result<usize> {
-        let count = self.file.read_from(buffer, offset)?;
-        self.ticker.steps.lock(self.rt).read_sorted(count as u64);
-        Ok(count)
-    }
-
-    fn stamp(&self) -> io::Result<FileStamp> {
-        self.file.stamp()
-    }
-}
-
-/// How many bytes a file has; 0 if that is not known.
-fn bytes_in<F: Placed>(file: &F) -> u64 {
-    match file.stamp() {
-        Ok(stamp) => stamp.bytes,
-        Err(_) => 0,
-    }
-}
-
-impl<'a, R: Disk + Wait + Sync> Disk for WatchedDisk<'a, R> {
-    type File = WatchedFile<'a, R, R::File>;
+impl<R: Disk + Wait> Disk for WatchedDisk<'_, R> {
+    type File = R::File;
 
     ghost bytes_under = { λ w name. R.bytes_under w.rt.now name };
 
-    fn open_placed(&self, name: &str) -> Result<WatchedFile<'a, R, R::File>, Unopened> {
+    fn open_placed(&self, name: &str) -> Result<R::File, Unopened> {
         let file = self.rt.open_placed(name)?;
-        self.ticker.steps.lock(self.rt).open(bytes_in(&file));
-        Ok(WatchedFile {
-            rt: self.rt,
-            ticker: self.ticker,
-            file,
-        })
+        self.ticker.steps.lock(self.rt).open();
+        Ok(file)
     }
 
     fn size_ahead(&self, name: &str) -> Option<u64> {
