@@ -11,7 +11,7 @@ use std::alloc::{AllocError, Global};
 /// What the exit status of `split` says.
 const SPLIT_STATUS: &str = "Exit status:
   0  the parts' files are made, and each upload's line is written
-  1  a file could not be read or made, as a line `fault: ..` on the standard error tells
+  1  a file could not be read or made, as a line `fault: ..` on the standard error says
   2  the command line is wrong";
 
 /// What `split` does.
@@ -21,7 +21,7 @@ const SPLIT_ABOUT: &str =
 The taps before each upload's first layout fault go to the part of their token: the number of the
 token's last four bytes, divided by 64, modulo the number of parts. DIR/0.tap, DIR/1.tap and so on
 have the parts' taps by rising token, moment and validator. A part's file is made as DIR/0.tap. and
-then renamed. A line for each upload tells how it ended, as in a report.";
+then renamed. A line for each upload says how it ended, as in a report.";
 
 /// The help of `--parts`.
 const PARTS_HELP: &str = "How many parts, 1 to 65535";
@@ -39,7 +39,7 @@ const UPLOADS_HELP: &str = "Uploads of at most 67108864 bytes; - stands for stan
 const MERGE_STATUS: &str = "Exit status:
   0  the report is written, and no upload was refused
   1  a text is wrong, or could not be read or written, as a line `fault: ..` on the standard error
-     tells; what was written is not the report
+     says; what was written is not the report
   2  the command line is wrong
   3  the report is written, and an upload was refused";
 
@@ -63,7 +63,7 @@ const REPORTS_HELP: &str = "The reports of the parts, in any order; - stands for
 const MERGE_LEDGERS_STATUS: &str = "Exit status:
   0  the ledger is written
   1  a text is wrong, or could not be read or written, as a line `fault: ..` on the standard error
-     tells; what was written is not the ledger
+     says; what was written is not the ledger
   2  the command line is wrong";
 
 /// What `merge-ledgers` does.

@@ -19,13 +19,13 @@ use std::alloc::{AllocError, Global};
 
 /// What the program is for, as the help says it first.
 const ABOUT: &str =
-    "Turns tables of taps into uploads and back, and tells what uploads and fare tables have.";
+    "Turns tables of taps into uploads and back, and prints what uploads and fare tables have.";
 
 /// The exit status, as the help says it last.
 const STATUS: &str = "Exit status:
   0  all is done
   1  a file has a fault, or could not be read or written, as a line `fault: ..` on the standard
-     error tells
+     error says
   2  the command line is wrong";
 
 /// What `decode` does.
@@ -33,7 +33,7 @@ const DECODE_ABOUT: &str =
     "Writes the taps of uploads as one tap table for encode, to standard output.
 
 Tokens have lower-case digits, moments are milliseconds. Of an upload with a layout fault the taps
-before it are written, and the fault is told.";
+before it are written, and the fault is reported.";
 
 /// The help of `decode`'s uploads.
 const DECODE_HELP: &str =
@@ -41,18 +41,18 @@ const DECODE_HELP: &str =
 
 /// What `uploads` does.
 const UPLOADS_ABOUT: &str =
-    "Tells what uploads have: batches, taps, first and last moment, and the layout fault, if any, with
-its batch, its tap (both from 0), the offset of its batch in bytes, and what to do.
+    "Prints what uploads have: batches, taps, first and last moment, and the layout fault, if any,
+with its batch, its tap (both from 0), the offset of its batch in bytes, and what to do.
 
-An upload with a layout fault is told up to it, and the status is 1.
+Of an upload with a layout fault the part before it is printed, and the status is 1.
 
 With --look, or an option that says what to look for, the uploads are also searched for what an
-auditor fears, and it is told how much of each kind is found, with the first of it. Nothing is
+auditor fears. How much of each kind is found is printed, with the first of it. Nothing is
 changed or left out, and the status does not depend on what is found. All taps are in memory.";
 
 /// The help of `--tokens`.
 const TOKENS_HELP: &str =
-    "Tell how many tokens each upload has, and how many of these stand in another FILE, too";
+    "Print how many tokens each upload has, and how many of these another FILE has, too";
 
 /// The help of the uploads.
 const UPLOADS_HELP: &str = "Uploads of at most 67108864 bytes; - stands for standard input";
@@ -63,14 +63,14 @@ const GOOD_PART_HELP: &str =
 
 /// What `table` does.
 const TABLE_ABOUT: &str =
-    "Tells a fare table as it is understood: the zone with its next changes of clocks, the modes, the
-transfers, the classes with the price of each ride of a window, the ranges of validators with the
-gaps between them, and how many riders each class has.
+    "Prints a fare table as it is understood: the zone with its next changes of clocks, the modes,
+the transfers, the classes with the price of each ride of a window, the ranges of validators with
+the gaps between them, and how many riders each class has.
 
-Warnings tell what the rules of the table pass over: keys that have no meaning and, where uploads
+Warnings name what the rules of the table pass over: keys that have no meaning and, where uploads
 are given, ranges that no validator of theirs is in, and validators of theirs that are in no range.
-Faults tell each wrong value: its whole path, its line and column, and what is wanted. Both are told
-on the standard error, and of a table with a fault nothing else.";
+Faults name each wrong value: its whole path, its line and column, and what is wanted. Both go to
+the standard error, and of a table with a fault nothing else is printed.";
 
 /// The help of the table.
 const TABLE_HELP: &str =
@@ -84,11 +84,11 @@ const TABLE_UPLOADS_HELP: &str =
 const STRICT_HELP: &str = "Let the status be 1 also where there is a warning";
 
 /// The help of `--riders`.
-const RIDERS_HELP: &str = "Tell each rider with its class";
+const RIDERS_HELP: &str = "Print each rider with its class";
 
 /// The help of `--from`.
 const FROM_HELP: &str =
-    "Tell the changes of clocks after this moment, as 2026-03-01T00:00:00Z [default: now]";
+    "Print the changes of clocks after this moment, as 2026-03-01T00:00:00Z [default: now]";
 
 /// What the words ask for.
 #[derive(Drop)]
