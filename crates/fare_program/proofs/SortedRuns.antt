@@ -6,9 +6,9 @@ use Rattle.fare_table.specs.Fares.{Fares}
 use Rattle.tap_views.specs.declared.token.Token.{Token}
 use Rattle.program_manners.specs.Loads.{Loaded}
 use Rattle.fare_program.specs.Fault.{charge_mistake_of, explain_mistake, first_of_two, ledger_mistake, mistake}
-use Rattle.fare_program.specs.Fault.{settle_mistake, sorted_mistake, sorted_mistake_of, token_mistake}
+use Rattle.fare_program.specs.Fault.{settle_mistake, sorted_mistake, sorted_mistake_of, token_mistake, traced_mistake, traced_mistake_of}
 use Rattle.fare_program.specs.Options.{Asked}
-use Rattle.fare_program.specs.Program.{Does, GaveUp, GaveUpOn, IsTokenIn, LoadsTable, RunsListing, RunsService, RunsSorted}
+use Rattle.fare_program.specs.Program.{DoesUntraced, GaveUp, GaveUpOn, IsTokenIn, LoadsTable, RunsListing, RunsService, RunsSorted}
 use Rattle.fare_program.specs.Settling.{ShowsSettled}
 use Rattle.fare_program.specs.declared.fault.Fault.{Fault}
 use Rattle.fare_program.specs.declared.fault.Fault.TheVariants.{SettleNoTable, SettleList}
@@ -41,8 +41,9 @@ charges asked right sorted =
     let (token, one) = neither (token_mistake asked) _ right in
     let (settle, two) = neither (settle_mistake asked) _ one in
     let (ledger, three) = neither (ledger_mistake asked) _ two in
-    let (explain, four) = neither (explain_mistake asked) (sorted_mistake asked) three in
-    has_table_named asked.settle asked.list asked.table (settles asked.sorted asked.settle asked.files sorted four)
+    let (explain, four) = neither (explain_mistake asked) _ three in
+    let (live, five) = neither (sorted_mistake asked) (traced_mistake asked) four in
+    has_table_named asked.settle asked.list asked.table (settles asked.sorted asked.settle asked.files sorted live)
     settle
 
 loaded_table : (table : Option (List ℕ)) (told told' : Option (List Loaded)) (fares : Option Fares)
@@ -69,7 +70,7 @@ pub does_sorted : (asked : Asked) (known : List ℕ → Option (List ℕ)) (told
     → IsTokenIn asked.token token
     → (well ≡ true) × ((f : Fares) → fares ≡ Some f
     → IsChargedSorted asked (map known asked.files) f token out out')
-    → Does asked known told between out out' well
+    → DoesUntraced asked known told between out out' well
 does_sorted asked known told between fares token out out' well right sorted loads is_token made =
     let (list, some) = charges asked right sorted in
     let (f, is) = has_table asked told between fares right sorted loads in

@@ -16,4 +16,5 @@ returns c =
     let seven = c.in_ok-arg-7.ensures.shape c.flag_arg-sorted.ensures.local ∙ ap₂ with_rule six c.flag_arg-sorted.ensures.rule in
     let eight = c.in_ok-arg-8.ensures.shape c.flag_arg-ledger.ensures.local ∙ ap₂ with_rule seven c.flag_arg-ledger.ensures.rule in
     let nine = c.in_ok-arg-9.ensures.shape c.flag_arg-explain.ensures.local ∙ ap₂ with_rule eight c.flag_arg-explain.ensures.rule in
-    IfOk-weaker c.arg-10.result _ _ (λ command adds. adds.shape c.positional_arg-file.ensures.local ∙ ap₂ with_rule nine c.positional_arg-file.ensures.rule) c.arg-10.ensures
+    let ten = c.in_ok-arg-10.ensures.shape c.flag_arg-traced.ensures.local ∙ ap₂ with_rule nine c.flag_arg-traced.ensures.rule in
+    IfOk-weaker c.arg-11.result _ _ (λ command adds. adds.shape c.positional_arg-file.ensures.local ∙ ap₂ with_rule ten c.positional_arg-file.ensures.rule) c.arg-11.ensures

@@ -1,0 +1,4 @@
+pub mod Classes
+pub mod Columns
+pub mod Numbering
+pub mod Settled

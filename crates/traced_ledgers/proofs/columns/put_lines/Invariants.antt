@@ -1,0 +1,12 @@
+use Rattle.std.proofs.Common.{◌≡◌, ◌++◌, drop}
+use Rattle.traced_ledgers.specs.Columns.{columns_by, feeds, with_columns}
+use Rattle.traced_ledgers.specs.Names.{class_by}
+use Rattle.traced_ledgers.proofs.columns.put_lines.Given as goal
+
+-- what was put, and what is left to put, is the whole
+abbrev pub invariant-loop : goal.invariant-loop
+invariant-loop l = record {
+  put : l.fn.text.items ++ with_columns l.lines (columns_by (class_by l.names) l.taps)
+      ≡ l.text.items ++ with_columns l.rest (columns_by (class_by l.names) l.left);
+  left : drop (feeds l.rest) l.left ≡ drop (feeds l.lines) l.taps;
+}

@@ -1,0 +1,5 @@
+pub mod Classes
+pub mod Columns
+pub mod Ledgers
+pub mod Names
+pub mod Traces
