@@ -85,13 +85,3 @@ class_is tree riders token usual own default =
     ap (λ (d : Option (List ℕ)). first_class (class_among (riders_in tree) token) d) default
     ∙ first_or (class_among (riders_in tree) token) usual
     ∙ ap (λ (o : Option (List ℕ)). Some (unwrap_or o usual)) (sym own)
-
-pub both_true : (a b : Bool) → a ≡ true → b ≡ true → (a && b) ≡ true
-both_true a b one two = rw (one, two) refl
-
-pub one_false : (a b : Bool) → b ≡ false → (a && b) ≡ false
-one_false true b none = none
-one_false false b none = refl
-
-pub first_false : (a b : Bool) → a ≡ false → (a && b) ≡ false
-first_false a b none = rw none refl

@@ -30,13 +30,6 @@ tap_in traced = traced.tap
 abbrev taps_in : GoodBatchesView → List Tap
 taps_in reading = taps_of_batches reading.batches
 
--- what is not less by the first order and another is not less by the first
-first_not_less : (order rest : Ordering) → is_lt (ordering_then order rest) ≡ false
-    → is_lt order ≡ false
-first_not_less Less rest is = cc
-first_not_less Equal rest is = refl
-first_not_less Greater rest is = refl
-
 taps_sorted : (trace : List TracedTap) → IsSorted traced_cmp trace
     → IsSorted tap_cmp (taps_of_trace trace)
 taps_sorted trace sorted = λ k d low within.
@@ -48,12 +41,18 @@ taps_sorted trace sorted = λ k d low within.
     let a = slice_index_or trace (k + 1) e in
     let b = slice_index_or trace k e in
     let first : is_lt (tap_cmp a.tap b.tap) ≡ false =
-    first_not_less (tap_cmp a.tap b.tap)
+    by_first (tap_cmp a.tap b.tap)
     (ordering_then (nat_cmp a.upload b.upload) (nat_cmp a.place b.place)) not in
     subst (λ (x : TapFields). is_lt (tap_cmp x (slice_index_or (taps_of_trace trace) k d)) ≡ false)
     (sym (get_or-map tap_in trace (k + 1) e d next))
     (subst (λ (x : TapFields). is_lt (tap_cmp a.tap x) ≡ false)
     (sym (get_or-map tap_in trace k e d here)) first)
+  where
+    by_first : (order rest : Ordering) → is_lt (ordering_then order rest) ≡ false
+        → is_lt order ≡ false
+    by_first Less rest is = is
+    by_first Equal rest is = refl
+    by_first Greater rest is = refl
 
 numbers_left : (upload place : ℕ) (taps : List TapFields)
     → taps_of_trace (numbered upload place taps) ≡ taps

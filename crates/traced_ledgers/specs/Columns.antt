@@ -15,11 +15,6 @@ with_columns (byte ∷ text) (column ∷ columns) =
     if byte == 10 then column ++ byte ∷ with_columns text columns
     else byte ∷ with_columns text (column ∷ columns)
 
--- how many line feeds the text has
-abbrev pub feeds : List ℕ → ℕ
-feeds [] = 0
-feeds (byte ∷ text) = if byte == 10 then feeds text + 1 else feeds text
-
 -- what is put behind the head line
 abbrev pub head_columns : List ℕ
 head_columns = codes ",class,upload,place"

@@ -3,3 +3,4 @@ pub mod Columns
 pub mod Ledgers
 pub mod Names
 pub mod Traces
+pub mod inside

@@ -2,7 +2,8 @@
 
 ghost use Rattle.std.specs.Prelude.{◌≡◌, ◌++◌, ◌∷◌, [], ℕ, List, IfOk, OnOk, codes, drop};
 ghost use Rattle.std.specs.Fmt.{decimal};
-ghost use Rattle.traced_ledgers.specs.Columns.{columns_by, columns_of, feeds, with_columns};
+ghost use Rattle.traced_ledgers.specs.Columns.{columns_by, columns_of, with_columns};
+ghost use Rattle.traced_ledgers.specs.inside.Feeds.{feeds};
 ghost use Rattle.traced_ledgers.specs.Names.{class_by};
 
 use crate::class_names::ClassNames;

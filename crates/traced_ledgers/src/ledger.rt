@@ -13,7 +13,8 @@ ghost use Rattle.ledger_texts.specs.Ledger.{IsLedgerOver};
 ghost use Rattle.ledger_texts.specs.Lines.{HasCome};
 ghost use Rattle.settlement.specs.Posted.{HasName, posted};
 ghost use Rattle.settled_texts.specs.Telling.{AreTold, NoTapFallsFrom, last_token};
-ghost use Rattle.traced_ledgers.specs.Columns.{columns_by, feeds, head_columns, with_columns};
+ghost use Rattle.traced_ledgers.specs.Columns.{columns_by, head_columns, with_columns};
+ghost use Rattle.traced_ledgers.specs.inside.Feeds.{feeds};
 ghost use Rattle.traced_ledgers.specs.Ledgers.{IsTracedLedger};
 ghost use Rattle.traced_ledgers.specs.Names.{class_by};
 ghost use Rattle.traced_ledgers.specs.Traces.{taps_of_trace};
@@ -164,6 +165,7 @@ fn write_lines<W: Write>(
     requires no_fall { NoTapFallsFrom teller.old.token (taps_of_trace trace.now) }
     requires come { HasCome table.now teller.old [] }
     requires none { teller.old.number ≡ 0 }
+    requires room { length trace.now < 2 ^ 64 }
     requires empty { string_bytes room.old.text ≡ [] }
     ensures told { OnOk result ((lines : List ℕ)
         × AreTold table.now [] (taps_of_trace trace.now) teller.new lines
@@ -200,6 +202,8 @@ fn write_trace<W: Write>(
         (with_columns untraced (head_columns ∷ columns_by (class_by names.now) trace.now))) }
     ensures fault { IfErr result (λ fault. KeepsUnlessWrite fault (out.new ≡ out.old)) }
 {
+    // proof: the taps can be counted
+    let _count = trace.len();
     let clock = table.clock(alloc)?;
     let mut room = Room::new(alloc)?;
     let mut teller = Teller::of(least_token());

@@ -1,5 +1,6 @@
 use Rattle.std.proofs.Common.{◌≡◌, ◌++◌, drop}
-use Rattle.traced_ledgers.specs.Columns.{columns_by, feeds, with_columns}
+use Rattle.traced_ledgers.specs.Columns.{columns_by, with_columns}
+use Rattle.traced_ledgers.specs.inside.Feeds.{feeds}
 use Rattle.traced_ledgers.specs.Names.{class_by}
 use Rattle.traced_ledgers.proofs.columns.put_lines.Given as goal
 

@@ -2,7 +2,8 @@ use Rattle.std.proofs.Common.{◌≡◌, ℕ, ◌≤◌, List, [], ◌++◌, dro
 use Rattle.std.specs.Io.KnownBytes.{Appends}
 use Rattle.tap_views.specs.Encoding.{AreEarly}
 use Rattle.settled_texts.specs.Telling.{AreTold, last_token}
-use Rattle.traced_ledgers.specs.Columns.{columns_by, feeds, with_columns}
+use Rattle.traced_ledgers.specs.Columns.{columns_by, with_columns}
+use Rattle.traced_ledgers.specs.inside.Feeds.{feeds}
 use Rattle.traced_ledgers.specs.Names.{class_by}
 use Rattle.traced_ledgers.specs.Traces.{taps_of_trace}
 use Rattle.traced_ledgers.specs.declared.trace.TracedTap.{TracedTap}
