@@ -80,14 +80,10 @@ left_on lines more trace left next is on =
     on ∙ ap (drop (feeds more)) is ∙ drop_twice (feeds lines) (feeds more) trace
     ∙ ap (λ (n : ℕ). drop n trace) (sym (feeds_append lines more))
 
--- the head line of a traced ledger
-abbrev pub traced_head : List ℕ
-traced_head =
-    codes
-    "token,line,moment,validator,mode,answer,cents,window_start,window_end,ride,reason,points_at,class,upload,place\n"
-
 -- behind the head line, which takes the columns' names, are the lines with their columns
 pub head_on : (lines : List ℕ) (columns : List (List ℕ))
     → with_columns (head_text ++ lines) (head_columns ∷ columns)
-    ≡ traced_head ++ with_columns lines columns
+    ≡ (codes
+    "token,line,moment,validator,mode,answer,cents,window_start,window_end,ride,reason,points_at"
+    ++ codes ",class,upload,place\n") ++ with_columns lines columns
 head_on lines columns = refl

@@ -36,7 +36,9 @@ pub enum ClassFault {
 }
 
 impl From<AllocError> for ClassFault {
-    ghost from_gives = { λ _ fault. fault ≡ ClassFault.NoMemory };
+    ghost use Rattle.traced_ledgers.specs.declared.class_names.ClassFault.TheVariants.{NoMemory as ForMemory};
+
+    ghost from_gives = { λ _ fault. fault ≡ ForMemory };
 
     fn from(_refused: AllocError) -> Self {
         ClassFault::NoMemory

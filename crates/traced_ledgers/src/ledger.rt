@@ -33,8 +33,12 @@ use std::io::Write;
 use tap_views::laws::one_reading_each;
 use tap_views::{NoMemory, TapFields};
 
-/// The head line.
-const HEAD: &[u8] = b"token,line,moment,validator,mode,answer,cents,window_start,window_end,ride,reason,points_at,class,upload,place\n";
+/// The head line of a ledger, without its line feed.
+const HEAD: &str =
+    "token,line,moment,validator,mode,answer,cents,window_start,window_end,ride,reason,points_at";
+
+/// What is behind it in a traced ledger.
+const HEAD_COLUMNS: &str = ",class,upload,place\n";
 
 /// How many taps are told before their lines go out.
 const STRIDE_TAPS: usize = 64;
@@ -207,7 +211,8 @@ fn write_trace<W: Write>(
     let clock = table.clock(alloc)?;
     let mut room = Room::new(alloc)?;
     let mut teller = Teller::of(least_token());
-    write_out(HEAD, out)?;
+    write_out(HEAD.as_bytes(), out)?;
+    write_out(HEAD_COLUMNS.as_bytes(), out)?;
     write_lines(
         &mut room,
         table,

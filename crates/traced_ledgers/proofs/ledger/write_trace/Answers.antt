@@ -35,5 +35,6 @@ returns-clause-ok g c =
           no_fall) told.1.are,
       subst (λ (bs : List ℕ). Appends (g.W.Write.contents c.args.out.now)
           (g.W.Write.contents c.write_lines.new.out) bs) (sym (head_on told.0 columns))
-          (Appends-trans _ _ _ _ _ c.in_ok-write_out.ensures.ok told.2),
+          (Appends-trans _ _ _ _ _ (Appends-trans _ _ _ _ _ c.in_ok-write_out.ensures.ok
+          c.in_ok-write_out-2.ensures.ok) told.2),
     )
