@@ -40,7 +40,8 @@ TAP = re.compile(f"([0-9a-f]{{32}}),[^,]*,({MOMENT}),({NUMBER}),(.*\n)")
 CENTS = re.compile(f"[^,]*,[^,]*,({NUMBER}),")
 # what stands behind the twelve fields of a line of a traced ledger: no class has more than 64 bytes,
 # no upload's number is past 32 bits, and no place past 64
-COLUMNS = re.compile(f"(.*),([A-Za-z0-9_-]{{1,64}}),({NUMBER}),({NUMBER})\n")
+CLASS = re.compile("[A-Za-z0-9_-]{1,64}")
+COLUMNS = re.compile(f"(.*),({CLASS.pattern}),({NUMBER}),({NUMBER})\n")
 LINE_BYTES, TRACED_BYTES = 255, 255 + 97
 ANSWERS = {"paid": "paid", "transfer": "transfers", "capped": "capped", "stale": "stale",
            "unknown": "unknown"}
@@ -102,6 +103,13 @@ class Fares:
         """The mode of a validator, or None if the table does not know it."""
         at = bisect_right(self.ranges, validator, key=lambda r: r[0]) - 1
         return self.ranges[at][2] if at >= 0 and validator <= self.ranges[at][1] else None
+
+    def class_of(self, token):
+        """The name of a token's class. ValueError if a ledger cannot have it."""
+        name = self.classes.get(token, self.usual_class)
+        if not CLASS.fullmatch(name):
+            raise ValueError(f"no ledger can have the class name {name!r}")
+        return name
 
     def window_end(self, start):
         """Where the window ends that starts at this moment."""
@@ -227,7 +235,7 @@ class Trace:
     def add(self, number, line, columns):
         """Compares the columns of a line that has a tap with the table and the uploads."""
         token, moment, _, validator, *_ = tap_in(line)
-        (name, upload, place), is_class = columns, self.fares.classes.get(token, self.fares.usual_class)
+        (name, upload, place), is_class = columns, self.fares.class_of(token)
         if name != is_class and not self.wrong_class:
             self.wrong_class = f"line {number} has another class than {is_class}"
         if self.uploads is None or self.wrong_place:
@@ -267,11 +275,12 @@ class Untraced:
                 b"" if line.endswith(b"\n") else self.file.readline(max(0, limit - len(line))))
         if not self.is_traced or not line.endswith(b"\n") and len(line) <= TRACED_BYTES:
             return line
-        while not line.endswith(b"\n") and (more := self.file.readline(65_536)):
-            line = more if more.endswith(b"\n") else line
-        found = COLUMNS.fullmatch(line.decode("latin-1")) if len(line) <= TRACED_BYTES else None
+        more = line
+        while not more.endswith(b"\n") and (more := self.file.readline(65_536)):
+            pass
+        found = COLUMNS.fullmatch(line.decode("latin-1"))
         if not found or int(found[3]) >= 2 ** 32 or int(found[4]) >= 2 ** 64 \
-                or len(found[1]) > LINE_BYTES:
+                or len(found[1]) >= LINE_BYTES:
             return b"\n"
         self.columns = found[2], int(found[3]), int(found[4])
         return found[1].encode("latin-1") + b"\n"
