@@ -222,7 +222,9 @@ impl fmt::Display for Fault<'_> {
             Fault::TracedSorted => f.write_str("fault: --traced cannot be used with --sorted"),
             Fault::File(fault) => fault.fmt(f),
             Fault::Table(fault) => TableLine(*fault).fmt(f),
-            Fault::ClassName => f.write_str("fault: table has a class name that no ledger can have"),
+            Fault::ClassName => f.write_str(
+                "fault: table has a class name that no ledger can have",
+            ),
             Fault::Unopened(fault) => fault.fmt(f),
             Fault::Unsorted(fault) => fault.fmt(f),
             Fault::TooManyTaps => f.write_str("fault: too many taps"),

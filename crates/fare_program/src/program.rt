@@ -24,8 +24,8 @@ use crate::options::Options;
 use crate::output::write_text;
 use crate::posting::charge;
 use crate::sorted::work_sorted;
-use crate::traced::{Riders, charge_traced, riders_of};
 use crate::source::Source;
+use crate::traced::{Riders, charge_traced, riders_of};
 use crate::uploads::listing_text;
 use clap::Error;
 use clap::error::ErrorKind;
@@ -357,14 +357,7 @@ fn work_traced<'a, R: Threads + Wait + RandomSource + Sync, D: Disk + Sync, S: S
     };
     let text = load_named(source, name)?;
     let riders = riders_of(alloc, &text)?;
-    let files = load_files(
-        rt,
-        alloc,
-        disk,
-        &options.files,
-        READERS as usize,
-        source,
-    )?;
+    let files = load_files(rt, alloc, disk, &options.files, READERS as usize, source)?;
     charge_traced(alloc, &riders, &files, out)
 }
 

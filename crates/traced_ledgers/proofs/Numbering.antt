@@ -1,6 +1,6 @@
 -- Taps that are numbered one after the other.
 use Rattle.std.proofs.Common.{◌≡◌, ◌∙◌, ℕ, ◌+◌, List, [], ◌∷◌, ◌++◌, map, length, refl, ap, sym, arith}
-use Rattle.std.proofs.Common.{append_assoc, append-nil, Bool, true, false, subst}
+use Rattle.std.proofs.Common.{append_assoc, append-nil, Bool, true, false, not}
 use Rattle.std.specs.Prelude.{◌&&◌}
 use Rattle.std.specs.List.{list_all}
 use Rattle.std.proofs.lemmas.List.{map-append}
@@ -120,3 +120,8 @@ whole_push (first ∷ readings) reading =
     by : (b some all c : Bool) → some ≡ (all && c) → (b && some) ≡ ((b && all) && c)
     by true some all c is = is
     by false some all c is = refl
+
+-- what is the opposite of another has it for its opposite
+pub not_back : (a b : Bool) → a ≡ not b → b ≡ not a
+not_back a true is = sym (ap not is)
+not_back a false is = sym (ap not is)

@@ -1,9 +1,6 @@
 -- Texts that stand behind the lines of another text, before its line feeds.
-use Rattle.std.specs.Prelude.{ℕ, ◌+◌, ◌==◌, if◌then◌else◌, List, [], ◌∷◌, ◌++◌, Some, codes, map}
-use Rattle.std.specs.Prelude.{unwrap_or}
+use Rattle.std.specs.Prelude.{ℕ, ◌==◌, if◌then◌else◌, List, [], ◌∷◌, ◌++◌, codes, map}
 use Rattle.std.specs.Fmt.{decimal}
-use Rattle.toml.specs.Data.{Members}
-use Rattle.traced_ledgers.specs.Classes.{class_of_token}
 use Rattle.traced_ledgers.specs.declared.trace.TracedTap.{TracedTap}
 
 -- The text with the first of the columns before its first line feed, the second before its second,

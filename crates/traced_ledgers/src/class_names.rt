@@ -67,10 +67,12 @@ fn is_bare(byte: u8) -> bool
 fn are_bare(bytes: &[u8]) -> bool
     ensures { result ≡ list_all is_bare bytes.now }
 {
-    for byte in bytes {
-        if !is_bare(*byte) {
+    let mut rest = bytes;
+    while let Some((first, behind)) = rest.split_first() {
+        if !is_bare(*first) {
             return false;
         }
+        rest = behind;
     }
     true
 }

@@ -1,6 +1,7 @@
 //! The three columns behind the lines of a traced ledger.
 
 ghost use Rattle.std.specs.Prelude.{◌≡◌, ◌++◌, ◌∷◌, [], ℕ, List, IfOk, OnOk, codes, drop};
+ghost use Rattle.std.specs.Prelude.{◌==◌, if◌then◌else◌};
 ghost use Rattle.std.specs.Fmt.{decimal};
 ghost use Rattle.traced_ledgers.specs.Columns.{columns_by, columns_of, with_columns};
 ghost use Rattle.traced_ledgers.specs.inside.Feeds.{feeds};
@@ -9,7 +10,6 @@ ghost use Rattle.traced_ledgers.specs.Names.{class_by};
 use crate::class_names::ClassNames;
 use crate::trace::TracedTap;
 use itoa::Buffer;
-use memchr::memchr;
 use std::alloc::AllocError;
 
 /// Appends a comma and the number.
@@ -54,6 +54,36 @@ fn put_next<'t>(
     }
 }
 
+/// Whether the byte is a line feed.
+fn is_feed(byte: u8) -> bool
+    ensures { result ≡ (byte == 10) }
+{
+    byte == b'\n'
+}
+
+/// Appends a byte of the lines, and before a line feed the columns of the next tap. Returns the taps
+/// that are left.
+fn put_byte<'t>(
+    text: &mut Vec<u8>,
+    byte: u8,
+    names: &ClassNames,
+    taps: &'t [TracedTap],
+) -> Result<&'t [TracedTap], AllocError>
+    ensures left { IfOk result (λ left. left.now
+        ≡ drop (if byte == 10 then 1 else 0) taps.now) }
+    ensures put { IfOk result (λ left. (rest : List ℕ)
+        → text.old.items ++ with_columns (byte ∷ rest) (columns_by (class_by names.now) taps.now)
+        ≡ text.new.items ++ with_columns rest (columns_by (class_by names.now) left.now)) }
+{
+    if is_feed(byte) {
+        let left = put_next(text, names, taps)?;
+        text.push(byte)?;
+        return Ok(left);
+    }
+    text.push(byte)?;
+    Ok(taps)
+}
+
 /// Appends the lines to the text, each with the columns of a tap behind it, in their order, and
 /// returns the taps that are left.
 pub(crate) fn put_lines<'t>(
@@ -68,13 +98,9 @@ pub(crate) fn put_lines<'t>(
 {
     let mut rest = lines;
     let mut left = taps;
-    while let Some(at) = memchr(b'\n', rest) {
-        let (line, behind) = rest.split_at(at);
-        text.extend_from_slice(line)?;
-        left = put_next(text, names, left)?;
-        text.push(b'\n')?;
-        rest = &behind[1..];
+    while let Some((byte, behind)) = rest.split_first() {
+        left = put_byte(text, *byte, names, left)?;
+        rest = behind;
     }
-    text.extend_from_slice(rest)?;
     Ok(left)
 }

@@ -80,7 +80,7 @@ impl Room {
     /// Takes the taps of a stride.
     fn take(&mut self, stride: &[TracedTap]) -> Result<(), AllocError>
         ensures taps { OnOk result (self.new.taps.items ≡ taps_of_trace stride.now) }
-        ensures text { self.new.text ≡ self.old.text }
+        ensures text { OnOk result (self.new.text ≡ self.old.text) }
     {
         self.taps.clear();
         for traced in stride {
@@ -213,15 +213,7 @@ fn write_trace<W: Write>(
     let mut teller = Teller::of(least_token());
     write_out(HEAD.as_bytes(), out)?;
     write_out(HEAD_COLUMNS.as_bytes(), out)?;
-    write_lines(
-        &mut room,
-        table,
-        &clock,
-        names,
-        &mut teller,
-        trace,
-        out,
-    )?;
+    write_lines(&mut room, table, &clock, names, &mut teller, trace, out)?;
     Ok(())
 }
 

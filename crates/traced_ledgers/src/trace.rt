@@ -1,6 +1,6 @@
 //! The good taps of uploads, each with its upload and its place there.
 
-ghost use Rattle.std.specs.Prelude.{◌≡◌, ◌+◌, ◌++◌, ℕ, List, IfOk, length, map};
+ghost use Rattle.std.specs.Prelude.{◌≡◌, ◌&&◌, ◌+◌, ◌++◌, ℕ, List, IfOk, length, map};
 ghost use Rattle.std.specs.List.{list_all};
 ghost use Rattle.tap_views.specs.Encoding.{fields_of};
 ghost use Rattle.tap_views.specs.Files.{GoodBatchesView, IsReadAs};
@@ -71,6 +71,13 @@ fn add_upload(taps: &mut Vec<TracedTap>, upload: u64, bytes: &[u8]) -> Result<bo
     Ok(good.fault().is_none())
 }
 
+/// Whether both are so.
+fn both(a: bool, b: bool) -> bool
+    ensures { result ≡ (a && b) }
+{
+    a && b
+}
+
 /// The good taps of the uploads, upload by upload.
 fn collected(alloc: Global, uploads: &[Vec<u8>]) -> Result<Trace, NoMemory>
     ensures { IfOk result (λ trace. (readings : List GoodBatchesView)
@@ -82,8 +89,8 @@ fn collected(alloc: Global, uploads: &[Vec<u8>]) -> Result<Trace, NoMemory>
     let mut whole = true;
     let mut number: u64 = 0;
     for upload in uploads {
-        let is_whole = add_upload(&mut taps, number, upload)?;
-        whole = whole && is_whole;
+        let posted = add_upload(&mut taps, number, upload)?;
+        whole = both(whole, posted);
         number = number.checked_add(1).ok_or(NoMemory)?;
     }
     Ok(Trace { taps, whole })

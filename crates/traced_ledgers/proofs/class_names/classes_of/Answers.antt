@@ -1,7 +1,6 @@
 -- Each key adds its class to those that are kept.
-use Rattle.std.proofs.Common.{◌≡◌, ◌∙◌, ℕ, List, Bool, Option, String, Global, ap, sym, refl, string_bytes}
+use Rattle.std.proofs.Common.{◌∙◌, ℕ, List, Bool, Option, String, Global, ap, sym, string_bytes}
 use Rattle.std.specs.Prelude.{◌&&◌}
-use Rattle.toml.specs.Data.{member}
 use Rattle.toml.specs.View.{members_view, view}
 use Rattle.toml.specs.declared.value.Value.{Value}
 use Rattle.traced_ledgers.specs.Classes.{are_plain, class_among, class_at, first_class}

@@ -1,4 +1,4 @@
-use Rattle.std.proofs.Common.{◌∙◌, sym}
+use Rattle.std.proofs.Common.{◌∙◌, sym, string_bytes}
 use Rattle.traced_ledgers.proofs.Classes.{kept_before, kept_now}
 use Rattle.traced_ledgers.proofs.class_names.keep.Goals as goal
 

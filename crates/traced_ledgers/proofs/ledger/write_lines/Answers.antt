@@ -1,24 +1,21 @@
 -- Each round tells a stride more.
-use Rattle.std.proofs.Common.{◌≡◌, ℕ, ◌<◌, ◌++◌, ◌==◌, false, true, List, [], length, map}
+use Rattle.std.proofs.Common.{◌≡◌, ℕ, ◌<◌, ◌++◌, ◌==◌, false, true, List, [], length}
 use Rattle.std.proofs.Common.{string_bytes, refl, sym, ap, subst, ◌∙◌, append_assoc, append-nil}
 use Rattle.std.proofs.Common.{arith, length-append}
 use Rattle.std.specs.Io.KnownBytes.{Appends}
 use Rattle.std.proofs.KnownBytes.{Appends-nil, Appends-trans}
 use Rattle.std.proofs.lemmas.Bool.{eqb-true}
 use Rattle.std.proofs.lemmas.Bool.Decides.{nat_tests}
-use Rattle.std.proofs.lemmas.List.{length-map, map-append, nil_from_length}
-use Rattle.std.proofs.lemmas.List.Elements.{All-same}
-use Rattle.tap_views.specs.Layout.{moment_limit}
+use Rattle.std.proofs.lemmas.List.{nil_from_length}
 use Rattle.tap_views.specs.declared.encoder.TapFields.{TapFields}
 use Rattle.tap_views.specs.declared.token.Token.{Token}
 use Rattle.settlement.specs.Posted.{posted_after}
 use Rattle.settled_texts.specs.Telling.{AreTold, last_token}
 use Rattle.settled_texts.proofs.Tellings.{fall_within, halves_of, last_append, none_told, told_append}
-use Rattle.traced_ledgers.specs.Columns.{columns_by, with_columns}
 use Rattle.traced_ledgers.specs.Names.{class_by}
 use Rattle.traced_ledgers.specs.Traces.{taps_of_trace}
 use Rattle.traced_ledgers.specs.declared.trace.TracedTap.{TracedTap}
-use Rattle.traced_ledgers.proofs.Columns.{columns_on, left_on}
+use Rattle.traced_ledgers.proofs.TracedLines.{columns_on, left_on}
 use Rattle.traced_ledgers.proofs.Strides.{early_parts, taps_append, taps_length, taps_whole}
 use Rattle.traced_ledgers.proofs.ledger.write_lines.Goals as goal
 
@@ -109,17 +106,17 @@ loop-rest-preserved g c =
           (sym (taps_append inv.done stride))
           (told_append fares [] (taps_of_trace inv.done) (taps_of_trace stride) c.loop-rest.teller
           c.tell.new.teller inv.lines made inv.told told);
-      left = left_on inv.lines made trace c.loop-rest.left.now c.in_ok-write.write.now inv.left
-          c.in_ok-write.ensures.left;
+      left = left_on inv.lines made trace c.loop-rest.left.now c.in_ok-left.left.now inv.left
+          c.in_ok-left.ensures.left;
       appended = subst (λ (bs : List ℕ). Appends (g.W.Write.contents c.args.out.now)
           (g.W.Write.contents c.write.new.out) bs)
           (sym (columns_on classes inv.lines made trace c.loop-rest.left.now inv.left))
-          (Appends-trans _ _ _ _ _ inv.appended c.in_ok-write.ensures.written);
+          (Appends-trans _ _ _ _ _ inv.appended c.in_ok-left.ensures.written);
       token = next.token ∙ ap (λ (t : Token). last_token t (taps_of_trace stride)) inv.token
           ∙ sym (ap (last_token c.args.teller.now.token) (taps_append inv.done stride)
           ∙ last_append c.args.teller.now.token (taps_of_trace inv.done) (taps_of_trace stride));
       few = omega (arith, next.few, inv.few, parts, long);
-      empty = ap string_bytes c.in_ok-write.ensures.text ∙ next.empty;
+      empty = ap string_bytes c.write.ensures.text ∙ next.empty;
     }
 
 -- all is done where nothing is left

@@ -1,5 +1,6 @@
 -- The head line has its columns, and behind it are the lines with theirs.
-use Rattle.std.proofs.Common.{◌≡◌, ℕ, List, [], ◌∷◌, ◌++◌, refl, sym, ap, subst, ◌∙◌}
+use Rattle.std.proofs.Common.{ℕ, List, ◌++◌, sym, ap, subst, ◌∙◌}
+use Rattle.std.specs.Prelude.{codes}
 use Rattle.std.specs.Io.KnownBytes.{Appends}
 use Rattle.std.proofs.KnownBytes.{Appends-trans}
 use Rattle.reason_texts.specs.Ledger.{head_text}
@@ -7,10 +8,10 @@ use Rattle.ledger_texts.proofs.Along.{ledger_along}
 use Rattle.ledger_texts.proofs.Writing.{come_first}
 use Rattle.settlement.specs.Posted.{posted}
 use Rattle.settled_texts.proofs.Rows.{canonical_falls, posted_falls}
-use Rattle.traced_ledgers.specs.Columns.{columns_by, head_columns, with_columns}
+use Rattle.traced_ledgers.specs.Columns.{columns_by, with_columns}
 use Rattle.traced_ledgers.specs.Names.{class_by}
 use Rattle.traced_ledgers.specs.Traces.{taps_of_trace}
-use Rattle.traced_ledgers.proofs.Columns.{head_on}
+use Rattle.traced_ledgers.proofs.TracedLines.{head_on}
 use Rattle.traced_ledgers.proofs.ledger.write_trace.Goals as goal
 
 pub write_lines-requires-clause-no_fall : goal.write_lines-requires-clause-no_fall
@@ -34,7 +35,12 @@ returns-clause-ok g c =
       ledger_along fares (posted fares taps) told.0 (posted_falls fares c.of-teller.result.token taps
           no_fall) told.1.are,
       subst (λ (bs : List ℕ). Appends (g.W.Write.contents c.args.out.now)
-          (g.W.Write.contents c.write_lines.new.out) bs) (sym (head_on told.0 columns))
+          (g.W.Write.contents c.write_lines.new.out) bs)
+          (ap (λ (h : List ℕ). (h ++ c.as_bytes-2.result.now) ++ with_columns told.0 columns)
+          c.as_bytes.ensures.value
+          ∙ ap (λ (h : List ℕ). (codes "token,line,moment,validator,mode,answer,cents,window_start,window_end,ride,reason,points_at" ++ h)
+          ++ with_columns told.0 columns) c.as_bytes-2.ensures.value
+          ∙ sym (head_on told.0 columns))
           (Appends-trans _ _ _ _ _ (Appends-trans _ _ _ _ _ c.in_ok-write_out.ensures.ok
           c.in_ok-write_out-2.ensures.ok) told.2),
     )

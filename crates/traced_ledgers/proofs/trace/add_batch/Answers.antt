@@ -1,5 +1,4 @@
-use Rattle.std.proofs.Common.{◌∙◌, ◌∷◌, ◌++◌, [], append_assoc, append-nil, ap, sym, arith, length-append, refl, length, List}
-use Rattle.tap_views.specs.Layout.{Tap}
+use Rattle.std.proofs.Common.{◌∙◌, ◌∷◌, ◌++◌, [], append_assoc, ap, sym, arith, length-append}
 use Rattle.traced_ledgers.proofs.Numbering.{numbered_push}
 use Rattle.traced_ledgers.proofs.trace.add_batch.Goals as goal
 
@@ -15,7 +14,7 @@ loop-tap-preserved c =
       all = append_assoc yielded (tap ∷ []) c.next.new.self
           ∙ ap (λ ts. yielded ++ ts) (sym c.in-Some.ensures.steps) ∙ inv.all;
       added = numbered_push c.args.upload c.args.place c.loop-tap.next c.args.taps.now.items
-          c.loop-tap.taps.items c.push.new.self.items yielded tap c.of.result inv.added inv.count
-          c.of.ensures c.in_ok-push.ensures.items;
+          c.loop-tap.taps.items c.push.new.self.items yielded tap c.of-tap.result inv.added inv.count
+          c.of-tap.ensures c.in_ok-push.ensures.items;
       count = grind arith;
     }

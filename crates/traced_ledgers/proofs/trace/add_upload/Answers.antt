@@ -1,7 +1,7 @@
-use Rattle.std.proofs.Common.{length, ap, ◌∙◌, sym, refl, append-nil, arith, length-append, not, is_some}
+use Rattle.std.proofs.Common.{length, ap, sym, refl, append-nil, arith, length-append, is_some}
 use Rattle.tap_views.specs.Files.{taps_of_batches}
 use Rattle.tap_views.proofs.ReadingLemmas.{read_end, read_on, taps_more}
-use Rattle.traced_ledgers.proofs.Numbering.{numbered_batch}
+use Rattle.traced_ledgers.proofs.Numbering.{not_back, numbered_batch}
 use Rattle.traced_ledgers.proofs.trace.add_upload.Goals as goal
 
 pub loop-batch-init : goal.loop-batch-init
@@ -24,13 +24,13 @@ loop-batch-preserved c =
       read = read_on _ _ _ _ _ before.read c.in-Some.ensures.steps;
       added = numbered_batch c.args.upload c.args.taps.now.items c.loop-batch.taps.items
           c.add_batch.new.taps.items done batch c.loop-batch.place before.added before.count
-          c.in_ok-add_batch.ensures.added;
+          c.in_ok-place.ensures.added;
       count = omega (
         arith,
         before.count,
         ap length (taps_more done batch),
         length-append (taps_of_batches done) batch,
-        c.in_ok-add_batch.ensures.next,
+        c.in_ok-place.ensures.next,
       );
     }
 
@@ -41,5 +41,5 @@ returns c =
       record { batches = c.loop-batch.yielded; fault = c.fault.result },
       read,
       end.added,
-      c.is_none.ensures,
+      not_back (is_some c.fault.result) c.is_none.result c.is_none.ensures,
     )

@@ -1,4 +1,4 @@
-use Rattle.std.proofs.Common.{◌≡◌, ◌++◌, List, length, map, take}
+use Rattle.std.proofs.Common.{◌≡◌, List, length, map, take}
 use Rattle.std.specs.List.{list_all}
 use Rattle.tap_views.specs.Files.{GoodBatchesView}
 use Rattle.traced_ledgers.specs.Traces.{AreReadAs, is_whole, traced_from}
