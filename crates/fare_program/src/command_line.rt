@@ -1,6 +1,8 @@
 //! The command line.
 ghost use Rattle.std.specs.Prelude.{◌≡◌, ◌≤◌, ◌^◌, ◌<◌, ℕ, IfOk, codes, map, string_bytes};
 ghost use Rattle.clap.specs.Words.{FailsBy, app_of, fault_of, found_of, matches_of, rows_of};
+ghost use Rattle.clap.specs.Words.{with_rule};
+ghost use Rattle.fare_program.specs.Options.{explain_flag, file_argument, ledger_flag, traced_flag};
 ghost use Rattle.fare_program.specs.Options.{asked_by, is_given, number_of, program};
 ghost use Rattle.fare_program.specs.inside.Options.{asked_of};
 ghost use Rattle.fare_program.specs.inside.Options.{HasNumber};
@@ -95,22 +97,27 @@ fn command<'a>(alloc: Global) -> Result<Command<'a>, AllocError>
     let token = option_arg(alloc, "token", "HEX", TOKEN_HELP);
     let settle = flag_arg(alloc, "settle", SETTLE_HELP);
     let sorted = flag_arg(alloc, "sorted", SORTED_HELP);
-    let ledger = flag_arg(alloc, "ledger", LEDGER_HELP);
-    let explain = flag_arg(alloc, "explain", EXPLAIN_HELP);
-    let traced = flag_arg(alloc, "traced", TRACED_HELP);
-    let file = positional_arg(alloc, "FILE", ArgAction::Append, FILE_HELP);
-    new_command(alloc, "omny_cli", ABOUT, NOTES)
+    let command = new_command(alloc, "omny_cli", ABOUT, NOTES)
         .arg(table)?
         .arg(list)?
         .arg(workers)?
         .arg(shards)?
         .arg(token)?
         .arg(settle)?
-        .arg(sorted)?
-        .arg(ledger)?
-        .arg(explain)?
-        .arg(traced)?
-        .arg(file)
+        .arg(sorted)?;
+    with_texts(alloc, command)
+}
+
+/// The command line with the options of the ledger and of the explained statement, and the files.
+fn with_texts<'a>(alloc: Global, command: Command<'a>) -> Result<Command<'a>, AllocError>
+    ensures { IfOk result (λ more. app_of more ≡ with_rule (with_rule (with_rule (with_rule
+        (app_of command) ledger_flag) explain_flag) traced_flag) file_argument) }
+{
+    let ledger = flag_arg(alloc, "ledger", LEDGER_HELP);
+    let explain = flag_arg(alloc, "explain", EXPLAIN_HELP);
+    let traced = flag_arg(alloc, "traced", TRACED_HELP);
+    let file = positional_arg(alloc, "FILE", ArgAction::Append, FILE_HELP);
+    command.arg(ledger)?.arg(explain)?.arg(traced)?.arg(file)
 }
 
 /// The words read by clap.

@@ -1,4 +1,7 @@
-use Rattle.std.proofs.Common.{ℕ, List, Vec, Global, Bor, ap, map, subst, sym}
+use Rattle.std.proofs.Common.{◌∙◌, ℕ, List, Vec, Global, Bor, ap, map, subst, sym}
+use Rattle.std.specs.Prelude.{option_map}
+use Rattle.toml.specs.Parse.{parse_document}
+use Rattle.fare_table.specs.Meaning.{Means}
 use Rattle.std.proofs.lemmas.Result.{IfOk-weaker}
 use Rattle.std.specs.Io.KnownBytes.{Appends}
 use Rattle.fare_program.specs.Program.{LoadsFiles, RunsTraced, names_to_load}
@@ -23,14 +26,15 @@ returns-clause-ok g c =
     IfOk-weaker c.charge_traced.result _ _
     (λ well done. record {
       name = c.in-Some.name.now;
-      is_named = ap (λ o. o) c.in-Some.is;
+      is_named = ap (option_map (λ (f : Bor (List ℕ)). f.now)) c.in-Some.is;
       table = c.in_ok-text.text.items;
       between = g.S.Source.loaded c.load_named.new.source;
       loads_table = c.in_ok-text.ensures.ok;
       fares = c.in_ok-riders.riders.table;
-      means = c.in_ok-riders.ensures.table;
+      means = subst (λ (b : List ℕ). Means b c.in_ok-riders.riders.table) c.deref.ensures.value
+          c.in_ok-riders.ensures.table;
       tree = names.0;
-      parsed = names.1;
+      parsed = ap parse_document (sym c.deref.ensures.value) ∙ names.1;
       classes = class_by c.in_ok-riders.riders.names;
       are_classes = names.2;
       files = map bytes_in c.in_ok-files.files.items;
