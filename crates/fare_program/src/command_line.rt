@@ -111,7 +111,7 @@ fn command<'a>(alloc: Global) -> Result<Command<'a>, AllocError>
 /// The command line with the options of the ledger and of the explained statement, and the files.
 fn with_texts<'a>(alloc: Global, command: Command<'a>) -> Result<Command<'a>, AllocError>
     ensures { IfOk result (λ more. app_of more ≡ with_rule (with_rule (with_rule (with_rule
-        (app_of command) ledger_flag) explain_flag) traced_flag) file_argument) }
+        (app_of command.entry) ledger_flag) explain_flag) traced_flag) file_argument) }
 {
     let ledger = flag_arg(alloc, "ledger", LEDGER_HELP);
     let explain = flag_arg(alloc, "explain", EXPLAIN_HELP);
