@@ -13,5 +13,5 @@ returns c =
     let four = c.in_ok-arg-4.ensures.shape c.number_arg-shards.ensures.local ∙ ap₂ with_rule three c.number_arg-shards.ensures.rule in
     let five = c.in_ok-arg-5.ensures.shape c.option_arg-token.ensures.local ∙ ap₂ with_rule four c.option_arg-token.ensures.rule in
     let six = c.in_ok-arg-6.ensures.shape c.flag_arg-settle.ensures.local ∙ ap₂ with_rule five c.flag_arg-settle.ensures.rule in
-    let seven = c.in_ok-arg-7.ensures.shape c.flag_arg-sorted.ensures.local ∙ ap₂ with_rule six c.flag_arg-sorted.ensures.rule in
+    let seven = c.in_ok-command.ensures.shape c.flag_arg-sorted.ensures.local ∙ ap₂ with_rule six c.flag_arg-sorted.ensures.rule in
     IfOk-weaker c.with_texts.result _ _ (λ command is. is ∙ ap (λ (a : App). with_rule (with_rule (with_rule (with_rule a ledger_flag) explain_flag) traced_flag) file_argument) seven) c.with_texts.ensures

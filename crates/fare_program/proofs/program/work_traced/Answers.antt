@@ -40,7 +40,8 @@ returns-clause-ok g c =
       files = map bytes_in c.in_ok-files.files.items;
       loads_files = loaded;
       text = done.0;
-      shows = done.1;
+      shows = subst (λ (fs : List (Vec ℕ Global)). IsTracedLedger (class_by c.in_ok-riders.riders.names)
+          c.in_ok-riders.riders.table (map bytes_in fs) done.0 well) c.deref-3.ensures.value done.1;
       written = done.2;
     })
     c.charge_traced.ensures.ok
