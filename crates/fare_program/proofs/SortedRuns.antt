@@ -1,7 +1,6 @@
 -- What was asked for was done, of sorted files.
-use Rattle.std.proofs.Common.{◌≡◌, ◌∷◌, ℕ, List, [], Bool, true, false, not, Option, Some, None, map, refl, subst, sym}
+use Rattle.std.proofs.Common.{◌≡◌, ℕ, List, Bool, true, false, not, Option, Some, None, map, refl, subst, sym}
 use Rattle.std.specs.Prelude.{MatchBool, is_some, ◌||◌}
-use Rattle.std.specs.Io.KnownBytes.{Appends}
 use Rattle.fare_table.specs.Fares.{Fares}
 use Rattle.tap_views.specs.declared.token.Token.{Token}
 use Rattle.program_manners.specs.Loads.{Loaded}

@@ -337,7 +337,7 @@ fn work_by_table<'a, R: Threads + Wait + RandomSource + Sync, D: Disk + Sync, S:
 
 /// Loads the table and then the files, and writes their traced ledger. Says whether no file has a
 /// layout fault.
-fn work_traced<'a, R: Threads + Wait + RandomSource + Sync, D: Disk + Sync, S: Source, W: Write>(
+fn work_traced<'a, R: Threads + Sync, D: Disk + Sync, S: Source, W: Write>(
     rt: &R,
     alloc: Global,
     disk: &D,

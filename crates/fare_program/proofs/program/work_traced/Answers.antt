@@ -3,8 +3,7 @@ use Rattle.std.specs.Prelude.{option_map}
 use Rattle.toml.specs.Parse.{parse_document}
 use Rattle.fare_table.specs.Meaning.{Means}
 use Rattle.std.proofs.lemmas.Result.{IfOk-weaker}
-use Rattle.std.specs.Io.KnownBytes.{Appends}
-use Rattle.fare_program.specs.Program.{LoadsFiles, RunsTraced, names_to_load}
+use Rattle.fare_program.specs.Program.{LoadsFiles, names_to_load}
 use Rattle.fare_program.specs.inside.Options.{asked_of}
 use Rattle.traced_ledgers.specs.Ledgers.{IsTracedLedger}
 use Rattle.traced_ledgers.specs.Names.{class_by}
