@@ -9,13 +9,14 @@ use Rattle.program_manners.specs.Loads.{Loaded, TellsOne}
 use Rattle.program_manners.specs.declared.loading.LoadFault.{LoadFault}
 use Rattle.omny_audit.specs.Source.{TellsRefusal}
 use Rattle.omny_audit.specs.declared.fault.Fault.{Fault}
-use Rattle.omny_audit.specs.declared.fault.Fault.TheVariants.{File, Ledger, Table}
+use Rattle.omny_audit.specs.declared.fault.Fault.TheVariants.{File, Ledger, Report, Table}
 use Rattle.omny_audit.specs.declared.fault.Fault.TheVariants.{Write, Closed, NoMemory}
 
 -- the line that the program writes of a fault
 abbrev pub audit_fault_text : Fault → List ℕ
 audit_fault_text (File file) = load_text file.name.now file.fault
 audit_fault_text Ledger = codes "fault: cannot read the ledger"
+audit_fault_text Report = codes "fault: cannot read the report"
 audit_fault_text (Table fault) = table_text fault
 audit_fault_text Write = codes "fault: cannot write"
 audit_fault_text Closed = codes "fault: cannot write"
@@ -66,6 +67,7 @@ abbrev pub IsRightFault : List ℕ → Option (List Loaded) → Option (List Loa
 IsRightFault table told told' refused (File file) =
     TellsRefusal refused file.name.now file.fault
 IsRightFault table told told' refused Ledger = Unit {0}
+IsRightFault table told told' refused Report = Unit {0}
 IsRightFault table told told' refused (Table fault) = RefusesTable table told told' fault
 IsRightFault table told told' refused Write = Unit {0}
 IsRightFault table told told' refused Closed = Unit {0}

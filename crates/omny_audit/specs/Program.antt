@@ -1,6 +1,6 @@
 -- What a run of the program does.
 use Rattle.std.specs.Prelude.{◌≡◌, ◌↔◌, ℕ, Bool, true, false, List, [], ◌∷◌, ◌++◌, map, Option, None, Some}
-use Rattle.std.specs.Prelude.{MatchBool}
+use Rattle.std.specs.Prelude.{MatchBool, ◌&&◌}
 use Rattle.std.specs.Io.KnownBytes.{Appends, Keeps}
 use Rattle.clap.specs.Words.{Text}
 use Rattle.fare_table.specs.Fares.{Fares}
@@ -8,6 +8,8 @@ use Rattle.fare_table.specs.Meaning.{Means}
 use Rattle.tap_balance.specs.Balances.{AreGoodFields}
 use Rattle.tap_views.specs.declared.encoder.TapFields.{TapFields}
 use Rattle.omny_audit.specs.Findings.{IsFindingOf, IsRightLedger}
+use Rattle.ledger_check.specs.Ledger.{IsLedger}
+use Rattle.omny_audit.specs.Reports.{IsReportLine}
 use Rattle.omny_audit.specs.Fault.{IsRightFault, audit_fault_text, is_quiet, is_unwritten}
 use Rattle.omny_audit.specs.Options.{AuditAsked}
 use Rattle.omny_audit.specs.Text.{Begins}
@@ -43,9 +45,16 @@ abbrev pub compared : List Text → List TapFields → Option (List TapFields)
 compared [] good = None
 compared (name ∷ names) good = Some good
 
--- The table was loaded, then the uploads, and then all of the ledger; the text is the finding on the
--- ledger's text beside the good taps of the uploads, if uploads are named. It says that all is well,
--- or not.
+-- a file was loaded, if it is named
+abbrev pub LoadsReport : Option Text → Option (List Loaded) → Option (List Loaded)
+    → Option (List ℕ) → Type 0
+LoadsReport None told told' report = (told' ≡ told) × (report ≡ None)
+LoadsReport (Some name) told told' report =
+    (text : List ℕ) × TellsOne told told' (Some name) text × (report ≡ Some text)
+
+-- The table was loaded, then the uploads, all of the ledger, and the report, if it is named. The
+-- text is the finding on the ledger's text beside the good taps of the uploads, if uploads are named,
+-- and behind it what is told of the report. It says that all is well, or not.
 pub record HasFound (asked : AuditAsked) (told told' : Option (List Loaded)) (text : List ℕ)
     (well : Bool) : Type 0 where
   pub after_table : Option (List Loaded)
@@ -57,10 +66,22 @@ pub record HasFound (asked : AuditAsked) (told told' : Option (List Loaded)) (te
   pub good : List TapFields
   pub are_good : AreGoodFieldsOfAll uploads good
   pub ledger : List ℕ
-  pub loads_ledger : TellsOne after_uploads told' asked.ledger ledger
-  pub finding : IsFindingOf asked.all fares ledger (compared asked.uploads good) text well
-  -- well exactly if the text is, whole, a ledger of legal histories, with the taps of the uploads
-  pub right : (well ≡ true) ↔ IsRightLedger fares ledger (compared asked.uploads good)
+  pub after_ledger : Option (List Loaded)
+  pub loads_ledger : TellsOne after_uploads after_ledger asked.ledger ledger
+  pub reported : Option (List ℕ)
+  pub loads_report : LoadsReport asked.report after_ledger told' reported
+  pub found : List ℕ
+  pub sound : Bool
+  pub finding : IsFindingOf asked.all fares ledger (compared asked.uploads good) found sound
+  -- sound exactly if the text is, whole, a ledger of legal histories, with the taps of the uploads
+  pub right : (sound ≡ true) ↔ IsRightLedger fares ledger (compared asked.uploads good)
+  pub legal : Bool
+  pub is_legal : (legal ≡ true) ↔ IsLedger fares ledger
+  pub rest : List ℕ
+  pub fits : Bool
+  pub report_line : IsReportLine fares ledger reported legal rest fits
+  pub shown : text ≡ found ++ rest
+  pub both : well ≡ (sound && fits)
 
 -- what was appended to the writer is the text of what was found
 pub record Audits (asked : AuditAsked) (told told' : Option (List Loaded))

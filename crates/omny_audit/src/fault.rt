@@ -20,6 +20,8 @@ pub(crate) enum Fault<'a> {
     File(FileFault<'a>),
     /// A read of the ledger failed.
     Ledger,
+    /// A read of the report failed.
+    Report,
     /// The fare table's text is no table.
     Table(TableFault),
     /// A write failed.
@@ -50,7 +52,7 @@ impl<'a> Fault<'a> {
     {
         match self {
             Fault::Closed => true,
-            Fault::File(_) | Fault::Ledger | Fault::Table(_) => false,
+            Fault::File(_) | Fault::Ledger | Fault::Report | Fault::Table(_) => false,
             Fault::Write | Fault::NoMemory => false,
         }
     }
@@ -93,6 +95,7 @@ impl fmt::Display for Fault<'_> {
         match self {
             Fault::File(fault) => fault.fmt(f),
             Fault::Ledger => f.write_str("fault: cannot read the ledger"),
+            Fault::Report => f.write_str("fault: cannot read the report"),
             Fault::Table(fault) => TableLine(*fault).fmt(f),
             Fault::Write | Fault::Closed => f.write_str("fault: cannot write"),
             Fault::NoMemory => f.write_str("fault: out of memory"),
