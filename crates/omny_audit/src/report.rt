@@ -51,16 +51,53 @@ fn read_report<R: Read>(alloc: Global, reader: &mut R) -> Result<Vec<u8>, Fault<
 
 /// Appends the line of the verdict on a report, with its line feed.
 #[tactic(auto, unfolding(crate::specs::Reports::report_text))]
-fn write_verdict(text: &mut String, verdict: &ReportVerdict) -> Result<(), AllocError>
-    ensures { OnOk result (string_bytes text.new ≡ string_bytes text.old ++ report_text verdict.now) }
+fn write_verdict(text: &mut Vec<u8>, verdict: &ReportVerdict) -> Result<(), AllocError>
+    ensures { OnOk result (text.new.items ≡ text.old.items ++ report_text verdict.now) }
 {
-    match verdict {
-        ReportVerdict::OfLedger => write!(text, "report of the ledger\n"),
-        ReportVerdict::Wants(line, wanted) => write!(text, "wrong report line {line}: wants {wanted}"),
-        ReportVerdict::NoLine(line) => write!(text, "wrong report line {line}: no report has it\n"),
-        ReportVerdict::Taps { line, uploads, ledger } => write!(
-            text,
-            "wrong report line {line}: the uploads have {uploads} taps, the ledger {ledger}\n"
-        ),
+    let alloc = text.allocator();
+    let line = match verdict {
+        ReportVerdict::OfLedger => format!(in alloc; "report of the ledger\n")?,
+        ReportVerdict::Wants(line, _) => format!(in alloc; "wrong report line {line}: wants ")?,
+        ReportVerdict::NoLine(line) => {
+            format!(in alloc; "wrong report line {line}: no report has it\n")?
+        }
+        ReportVerdict::Taps {
+            line,
+            uploads,
+            ledger,
+        } => format!(in alloc;
+            "wrong report line {line}: the uploads have {uploads} taps, the ledger {ledger}\n")?,
+    };
+    text.extend_from_slice(line.as_bytes())?;
+    if let ReportVerdict::Wants(_, wanted) = verdict {
+        text.extend_from_slice(wanted.as_slice())?;
     }
+    Ok(())
+}
+
+/// Appends what is told of the report behind a legal ledger, and says whether the report is the
+/// ledger's.
+pub(crate) fn write_finding<R: Read>(
+    alloc: Global,
+    text: &mut Vec<u8>,
+    sums: LedgerSums,
+    reader: &mut R,
+) -> Result<bool, Fault<'static>>
+    requires { (fares : Fares) × (ledger : List ℕ) × HasSummed fares sums ledger }
+    ensures told { IfOk result (λ fits. (report rest : List ℕ)
+        × IsAllOf (R.remaining reader.old) report × (text.new.items ≡ text.old.items ++ rest)
+        × ((fares : Fares) (ledger : List ℕ) → HasSummed fares sums ledger
+        → IsReportFinding fares ledger report rest fits)) }
+    ensures fault { IfErr result (λ fault. is_unwritten fault ≡ false) }
+    ensures named { IfErr result (λ fault. named_by fault ≡ None) }
+    ensures later { IfErr result (λ fault. is_of_loading fault ≡ false) }
+{
+    // a ledger that was found legal has sums
+    let Some(sums) = sums.finish(alloc)? else {
+        return Err(Fault::NoMemory);
+    };
+    let report = read_report(alloc, reader)?;
+    let verdict = check_report(alloc, &sums, &report)?;
+    write_verdict(text, &verdict)?;
+    Ok(matches!(verdict, ReportVerdict::OfLedger))
 }

@@ -1,0 +1,9 @@
+pub mod Differences
+pub mod EntryLines
+pub mod Feeds
+pub mod OpenSums
+pub mod SummedLines
+pub mod Through
+pub mod UploadLines
+pub mod Verdicts
+pub mod WithoutMoments

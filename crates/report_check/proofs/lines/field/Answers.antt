@@ -1,0 +1,13 @@
+use Rattle.std.proofs.Common.{◌≡◌, refl, sym, subst, List, ◌++◌, ◌∷◌, ◌∙◌}
+use Rattle.ledger_check.specs.Lines.{Lacks}
+use Rattle.ledger_check.proofs.LineLemmas.{same_cut, lacks-end}
+use Rattle.report_check.proofs.lines.field.Goals as goal
+
+pub returns-in-Some : goal.returns-in-Some
+returns-in-Some c = λ front back lacks is.
+    let parts = c.in-Some.ensures.some in
+    same_cut 44 c.in-Some.parts.0.now c.in-Some.parts.1.now front back parts.0 lacks (sym parts.1 ∙ is)
+
+pub returns-in-None : goal.returns-in-None
+returns-in-None c = λ front back lacks is.
+    absurd ((lacks-end 44 front (44 ∷ back) (subst (Lacks 44) is c.in-None.ensures.none)).0 refl)

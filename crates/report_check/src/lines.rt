@@ -1,0 +1,62 @@
+//! Lines and fields of a text.
+
+ghost use Rattle.std.specs.Prelude.{◌≡◌, ◌↔◌, ◌∷◌, ◌++◌, ℕ, List, IfNone, IfSome, IsSomeAnd, IsTrue};
+ghost use Rattle.std.specs.Io.BufRead.{drop_through, take_through};
+ghost use Rattle.ledger_check.specs.Lines.{Lacks};
+ghost use Rattle.ledger_check.specs.inside.Lines.{IsLine};
+
+use memchr::memchr;
+
+/// What stands before the first such byte of the text, and what stands behind it.
+fn split_at_byte(text: &[u8], byte: u8) -> Option<(&[u8], &[u8])>
+    ensures some { IfSome result (λ parts. Lacks byte parts.0.now
+        × (text.now ≡ parts.0.now ++ byte ∷ parts.1.now)) }
+    ensures none { IfNone result (Lacks byte text.now) }
+{
+    match memchr(byte, text) {
+        Some(at) => Some((&text[..at], &text[at + 1..])),
+        None => None,
+    }
+}
+
+/// What stands before the first comma of the text, and what stands behind it.
+pub(crate) fn field(text: &[u8]) -> Option<(&[u8], &[u8])>
+    ensures { (front back : List ℕ) → Lacks 44 front → text.now ≡ front ++ 44 ∷ back
+        → IsSomeAnd result (λ parts. (parts.0.now ≡ front) × (parts.1.now ≡ back)) }
+{
+    match split_at_byte(text, b',') {
+        Some(parts) => Some(parts),
+        None => None,
+    }
+}
+
+/// The first line of the text with its newline, and what stands behind it; `None` if the text has
+/// no newline.
+pub(crate) fn split_line(text: &[u8]) -> Option<(&[u8], &[u8])>
+    ensures some { IfSome result (λ parts. IsLine parts.0.now
+        × (text.now ≡ parts.0.now ++ parts.1.now)) }
+    ensures none { IfNone result (Lacks 10 text.now) }
+{
+    match memchr(b'\n', text) {
+        Some(at) => Some(text.split_at(at + 1)),
+        None => None,
+    }
+}
+
+/// The first line of the text, which has a newline if the text has one, and what stands behind it.
+pub(crate) fn first_line(text: &[u8]) -> (&[u8], &[u8])
+    ensures line { result.0.now ≡ take_through 10 text.now }
+    ensures behind { result.1.now ≡ drop_through 10 text.now }
+{
+    match split_line(text) {
+        Some(parts) => parts,
+        None => (text, &[]),
+    }
+}
+
+/// Whether the texts have the same bytes.
+pub(crate) fn same_bytes(a: &[u8], b: &[u8]) -> bool
+    ensures { IsTrue result ↔ (a.now ≡ b.now) }
+{
+    a == b
+}
