@@ -88,11 +88,11 @@ line_added fares old new (h ∷ rest) line read is some still found few are = re
         let last : parts.after ≡ [] = none_left fares _ parts.after parts.rest in
         let one : without_moment parts.entry ≡ read = same_in (found parts.entries parts.entry parts.is) in
         ap (map without_moment) (parts.whole
-            ∙ ap (λ (es : List Entry). parts.entries ++ parts.entry ∷ es) last)
-            ∙ map-append without_moment parts.entries (parts.entry ∷ [])
-            ∙ ap (λ (es : List Entry). es ++ without_moment parts.entry ∷ [])
-            (is.behind.1 parts.entries parts.are)
-            ∙ ap (λ (e : Entry). is.seen ++ e ∷ []) one,
+        ∙ ap (λ (es : List Entry). parts.entries ++ parts.entry ∷ es) last)
+        ∙ map-append without_moment parts.entries (parts.entry ∷ [])
+        ∙ ap (λ (es : List Entry). es ++ without_moment parts.entry ∷ [])
+        (is.behind.1 parts.entries parts.are)
+        ∙ ap (λ (e : Entry). is.seen ++ e ∷ []) one,
   );
 }
   where
@@ -298,38 +298,38 @@ all_added fares sums text made is none are entries ledger =
     (subst (λ (es : List Entry). AreSumsOf es made) (sym (behind.1 entries ledger.are)) are)
 
 -- ---- by whether a ledger may have the lines
-held_true : {A B : Type 0} (test : Bool) → test ≡ true → MatchBool test A B → A
-held_true true is held = held
-held_true false is held = absurd (cc)
+held_true : (A B : Type 0) (test : Bool) → test ≡ true → MatchBool test A B → A
+held_true A B true is held = held
+held_true A B false is held = absurd (cc)
 
-held_false : {A B : Type 0} (test : Bool) → test ≡ false → MatchBool test A B → B
-held_false true is held = absurd (cc)
-held_false false is held = held
+held_false : (A B : Type 0) (test : Bool) → test ≡ false → MatchBool test A B → B
+held_false A B true is held = absurd (cc)
+held_false A B false is held = held
 
-put_true : {A B : Type 0} (test : Bool) → test ≡ true → A → MatchBool test A B
-put_true true is held = held
-put_true false is held = absurd (cc)
+put_true : (A B : Type 0) (test : Bool) → test ≡ true → A → MatchBool test A B
+put_true A B true is held = held
+put_true A B false is held = absurd (cc)
 
-put_false : {A B : Type 0} (test : Bool) → test ≡ false → B → MatchBool test A B
-put_false true is held = absurd (cc)
-put_false false is held = held
+put_false : (A B : Type 0) (test : Bool) → test ≡ false → B → MatchBool test A B
+put_false A B true is held = absurd (cc)
+put_false A B false is held = held
 
 -- what was read of a text that a ledger may begin with
 pub summed_of : (fares : Fares) (sums : LedgerSums) (text : List ℕ) → sums.lines.may_be ≡ true
     → HasSummed fares sums text → IsSummed fares sums text
-summed_of fares sums text yes is = held_true sums.lines.may_be yes is
+summed_of fares sums text may is = held_true _ _ sums.lines.may_be may is
 
 pub none_of : (fares : Fares) (sums : LedgerSums) (text : List ℕ) → sums.lines.may_be ≡ false
     → HasSummed fares sums text → (more : List ℕ) → ¬ (IsLedger fares (text ++ more))
-none_of fares sums text no is = held_false sums.lines.may_be no is
+none_of fares sums text cannot is = held_false _ _ sums.lines.may_be cannot is
 
 pub summed_by : (fares : Fares) (sums : LedgerSums) (text : List ℕ) → sums.lines.may_be ≡ true
     → IsSummed fares sums text → HasSummed fares sums text
-summed_by fares sums text yes is = put_true sums.lines.may_be yes is
+summed_by fares sums text may is = put_true _ _ sums.lines.may_be may is
 
 pub none_by : (fares : Fares) (sums : LedgerSums) (text : List ℕ) → sums.lines.may_be ≡ false
     → ((more : List ℕ) → ¬ (IsLedger fares (text ++ more))) → HasSummed fares sums text
-none_by fares sums text no is = put_false sums.lines.may_be no is
+none_by fares sums text cannot is = put_false _ _ sums.lines.may_be cannot is
 
 pub match_map : {A B C D : Type 0} (test : Bool) → (A → C) → (B → D) → MatchBool test A B
     → MatchBool test C D
@@ -361,8 +361,8 @@ pub no_ledger : (fares : Fares) (sums : LedgerSums) (text : List ℕ) → HasSum
     → (sums.lines.may_be ≡ true → 0 < length sums.begun.items) → ¬ (IsLedger fares text)
 no_ledger fares sums text is cut ledger =
     ⊎_elim
-    (λ (yes : sums.lines.may_be ≡ true).
-    cut_none fares sums text (summed_of fares sums text yes is) (cut yes) ledger)
-    (λ (no : sums.lines.may_be ≡ false).
-    none_of fares sums text no is [] (subst (IsLedger fares) (sym (append-nil text)) ledger))
+    (λ (may : sums.lines.may_be ≡ true).
+    cut_none fares sums text (summed_of fares sums text may is) (cut may) ledger)
+    (λ (cannot : sums.lines.may_be ≡ false).
+    none_of fares sums text cannot is [] (subst (IsLedger fares) (sym (append-nil text)) ledger))
     (cases_Bool sums.lines.may_be)

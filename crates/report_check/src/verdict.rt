@@ -62,17 +62,20 @@ fn first_difference(alloc: Global, text: &[u8], wanted: &[u8]) -> Result<ReportV
 }
 
 /// The report of the uploads that ended so, and of the sums.
-fn wanted_report(
-    alloc: Global,
-    ends: &[UploadEnd],
-    sums: &EntrySums,
-) -> Result<Vec<u8>, NoMemory>
+fn wanted_report(alloc: Global, ends: &[UploadEnd], sums: &EntrySums) -> Result<Vec<u8>, NoMemory>
     ensures report { IfOk result (λ text. (entries : List Entry) → AreSumsOf entries sums.now
         → text.items ≡ report_of ends.now entries) }
     ensures ends { IfOk result (λ text. EndsWithFeed text.items) }
 {
     let mut text = Vec::new(alloc);
-    match write_report(alloc, ends, &sums.totals, &sums.validators, &sums.tokens, &mut text) {
+    match write_report(
+        alloc,
+        ends,
+        &sums.totals,
+        &sums.validators,
+        &sums.tokens,
+        &mut text,
+    ) {
         Ok(()) => Ok(text),
         Err(_) => Err(NoMemory),
     }
@@ -80,11 +83,7 @@ fn wanted_report(
 
 /// Whether the report is that of the ledger whose entries have these sums, or the first line that
 /// is not. The text of the report that it should be is held beside the report.
-pub fn check_report(
-    alloc: Global,
-    sums: &EntrySums,
-    text: &[u8],
-) -> Result<ReportVerdict, NoMemory>
+pub fn check_report(alloc: Global, sums: &EntrySums, text: &[u8]) -> Result<ReportVerdict, NoMemory>
     ensures { IfOk result (λ verdict. (entries : List Entry) → AreSumsOf entries sums.now
         → IsReportVerdict entries text.now verdict) }
 {

@@ -54,8 +54,14 @@ loop-upload-preserved c =
       each = subst (λ (es : List UploadEnd). All IsReportEnd es) (sym items)
           (All-push IsReportEnd ends end inv.each told.0);
       counted = omega (arith, size, length-append ends (end ∷ []), inv.counted);
-      taps = omega (arith, inv.taps, c.from-taps.ensures, c.taps.ensures, sum_by_push taps_told ends end,
-          ap (λ (es : List UploadEnd). sum_by taps_told es) items);
+      taps = omega (
+        arith,
+        inv.taps,
+        c.from-taps.ensures,
+        c.taps.ensures,
+        sum_by_push taps_told ends end,
+        ap (λ (es : List UploadEnd). sum_by taps_told es) items,
+      );
       few = omega (arith, inv.few, small, c.from-taps.ensures, c.taps.ensures);
     }
 

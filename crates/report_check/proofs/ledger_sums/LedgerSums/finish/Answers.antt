@@ -6,13 +6,13 @@ use Rattle.report_check.proofs.ledger_sums.LedgerSums.finish.Goals as goal
 
 pub returns-then-not-self : goal.returns-then-not-self
 returns-then-not-self c = λ fares text is.
-    no_ledger fares c.args.self text is (λ yes. let no = c.if-not-self.true in absurd (cc))
+    no_ledger fares c.args.self text is (λ may. let cannot = c.if-not-self.true in absurd (cc))
 
 pub returns-then-not-is_empty : goal.returns-then-not-is_empty
 returns-then-not-is_empty c = λ fares text is.
     let some : 0 < length c.args.self.begun.items =
     grind (arith, nat_tests, c.args.self.begun.ok.0) in
-    no_ledger fares c.args.self text is (λ yes. some)
+    no_ledger fares c.args.self text is (λ may. some)
 
 pub into_sums-requires : goal.into_sums-requires
 into_sums-requires c =

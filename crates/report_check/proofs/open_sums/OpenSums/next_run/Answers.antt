@@ -10,9 +10,11 @@ returns-in_default-clause-run c = λ entries is.
 
 pub returns-in_ok-push-in-Less-clause-run : goal.returns-in_ok-push-in-Less-clause-run
 returns-in_ok-push-in-Less-clause-run c = λ entries is.
-    let split = rw c.in-Some.is at is.split in
-    (refl, run_of_next entries _ _ c.in-Some.last _ split.0 split.1 (sym c.cmp.ensures ∙ c.in-Less.is)
-        c.requires.fits c.new.ensures c.in_ok-push-in-Less.ensures)
+    let split = rw c.in-Some.is at is.split in (
+      refl,
+      run_of_next entries _ _ c.in-Some.last _ split.0 split.1 (sym c.cmp.ensures ∙ c.in-Less.is)
+          c.requires.fits c.new.ensures c.in_ok-push-in-Less.ensures,
+    )
 
 pub returns-in-Equal-clause-run : goal.returns-in-Equal-clause-run
 returns-in-Equal-clause-run c = λ entries is.
