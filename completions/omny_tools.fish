@@ -65,6 +65,9 @@ set -l merge '__fish_seen_subcommand_from merge'
 complete -c omny_tools -n $merge -l ends -r -d 'How the uploads ended'
 complete -c omny_tools -n $merge -l reports -r -d 'The reports of the parts'
 complete -c omny_tools -n $merge -F
+set -l lists '__fish_seen_subcommand_from decode uploads sort split merge merge-ledgers'
+complete -c omny_tools -n $lists -l files-from -r -F -d 'Take the files that a list names'
+complete -c omny_tools -n $lists -s 0 -l null -d 'The names of the list end with NUL'
 complete -c omny_tools -n '__fish_seen_subcommand_from encode merge-ledgers corrections' -k \
     -a '(__omny_tools_files .csv)'
 complete -c omny_tools -n '__fish_seen_subcommand_from decode uploads sort split' -k \

@@ -7,7 +7,9 @@ ghost use Rattle.fare_program.specs.inside.Options.{HasNumber};
 
 use crate::options::Options;
 use clap::{ArgAction, ArgMatches, Command, Error};
-use program_manners::{flag_arg, names_in, new_command, number_arg, option_arg, positional_arg};
+use program_manners::{
+    flag_arg, list_arg, names_in, new_command, null_arg, number_arg, option_arg, positional_arg,
+};
 use std::alloc::{AllocError, Global};
 
 /// What the program is for, as the help says it first.
@@ -39,6 +41,7 @@ Examples:
   omny_cli --table table.toml --settle a.tap b.tap
   omny_cli --table table.toml --settle --token 000000000000000000000000000000a1 a.tap b.tap
   omny_cli --table table.toml --settle --sorted monday.tap tuesday.tap
+  find week -name '*.tap' -print0 | omny_cli --table table.toml --settle --files-from - -0
   omny_cli a.tap
 
 Exit status:
@@ -60,8 +63,7 @@ const WORKERS_HELP: &str = "How many threads post the uploads, 1 to 16";
 const SHARDS_HELP: &str = "Over how many shards the accounts are spread, 1 to 64";
 
 /// The help of `--token`.
-const TOKEN_HELP: &str =
-    "Print the statement of this token, 32 hexadecimal digits, instead of the report";
+const TOKEN_HELP: &str = "Print the statement of this token, 32 hexadecimal digits, not the report";
 
 /// The help of `--settle`.
 const SETTLE_HELP: &str = "Post all taps in order of token, moment and validator; needs --table";
@@ -92,6 +94,8 @@ fn command<'a>(alloc: Global) -> Result<Command<'a>, AllocError>
     let sorted = flag_arg(alloc, "sorted", SORTED_HELP);
     let ledger = flag_arg(alloc, "ledger", LEDGER_HELP);
     let explain = flag_arg(alloc, "explain", EXPLAIN_HELP);
+    let list_of_files = list_arg(alloc);
+    let null = null_arg(alloc);
     let file = positional_arg(alloc, "FILE", ArgAction::Append, FILE_HELP);
     new_command(alloc, "omny_cli", ABOUT, NOTES)
         .arg(table)?
@@ -103,11 +107,13 @@ fn command<'a>(alloc: Global) -> Result<Command<'a>, AllocError>
         .arg(sorted)?
         .arg(ledger)?
         .arg(explain)?
+        .arg(list_of_files)?
+        .arg(null)?
         .arg(file)
 }
 
 /// The words read by clap.
-fn matched<'a>(alloc: Global, words: &'a [String]) -> Result<ArgMatches<'a>, Error>
+pub(crate) fn matched<'a>(alloc: Global, words: &'a [String]) -> Result<ArgMatches<'a>, Error>
     ensures rows { IfOk result (λ matches. rows_of (found_of matches)
         ≡ matches_of program (map string_bytes words.entry.now)) }
     ensures workers { IfOk result

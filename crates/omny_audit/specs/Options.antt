@@ -6,8 +6,8 @@ use Rattle.clap.specs.Words.{App, IsAmong, Rule, Text, all_of, fault_of, first_o
 use Rattle.clap.specs.Words.{with_rule}
 use Rattle.clap.specs.declared.builder.action.ArgAction.TheVariants.{Set}
 use Rattle.clap.specs.declared.error.kind.ErrorKind.TheVariants.{DisplayHelp, DisplayVersion}
-use Rattle.program_manners.specs.Words.{files_rule, flag_rule, is_given, named_app, option_rule}
-use Rattle.program_manners.specs.Words.{positional_rule}
+use Rattle.program_manners.specs.Words.{files_rule, flag_rule, is_given, list_option, named_app}
+use Rattle.program_manners.specs.Words.{null_flag, option_rule, positional_rule}
 
 -- `--table F`, which has to be given
 abbrev pub required_table_option : Rule
@@ -28,8 +28,9 @@ ledger_argument = positional_rule (codes "LEDGER") Set
 -- all words that the program takes
 unfoldable pub audit_program : App
 audit_program =
-    with_rule (with_rule (with_rule (with_rule (named_app (codes "omny_audit"))
-    required_table_option) all_flag) uploads_option) ledger_argument
+    with_rule (with_rule (with_rule (with_rule (with_rule (with_rule
+    (named_app (codes "omny_audit")) required_table_option) all_flag) uploads_option) list_option)
+    null_flag) ledger_argument
 
 -- the words after the program's name are a command line of the program
 abbrev pub ParsesForAudit : List Text → Type 0

@@ -1,15 +1,18 @@
 //! The command line.
 ghost use Rattle.std.specs.Prelude.{◌≡◌, IfOk, [], codes, false, map, option_and_then, option_map};
-ghost use Rattle.std.specs.Prelude.{string_bytes, unwrap_or};
+ghost use Rattle.std.specs.Prelude.{None, string_bytes, unwrap_or};
 ghost use Rattle.clap.specs.Words.{FailsBy, all_of, app_of, fault_of, found_of, matches_of};
 ghost use Rattle.clap.specs.Words.{rows_of, rule_of};
-ghost use Rattle.omny_audit.specs.Options.{audit_asked_by, not_dash, audit_program};
+ghost use Rattle.omny_audit.specs.Options.{ParsesForAudit, audit_asked_by, not_dash, audit_program};
 ghost use Rattle.omny_audit.specs.inside.Options.{audit_asked_of};
 ghost use Rattle.omny_audit.specs.Options.{required_table_option};
+ghost use Rattle.program_manners.specs.ListWords.{list_asked, view_of};
 
+use clap::error::ErrorKind;
 use clap::{Arg, ArgAction, ArgMatches, Command, Error};
 use program_manners::{
-    files_arg, flag_arg, flag_in, names_in, new_command, option_arg, positional_arg,
+    ListFault, ListWords, files_arg, flag_arg, flag_in, list_arg, names_in, new_command, null_arg,
+    option_arg, positional_arg,
 };
 use std::alloc::{AllocError, Global};
 
@@ -41,6 +44,7 @@ With --uploads each missing and each surplus tap follows.
 Examples:
   omny_audit --table table.toml ledger.csv
   omny_audit --table table.toml ledger.csv --uploads a.tap b.tap
+  find week -name '*.tap' -print0 | omny_audit --table table.toml ledger.csv --files-from - -0
   omny_audit --all --table table.toml ledger.csv
   omny_cli --table table.toml --ledger a.tap b.tap | omny_audit --table table.toml --uploads a.tap b.tap
 
@@ -92,11 +96,15 @@ fn command<'a>(alloc: Global) -> Result<Command<'a>, AllocError>
     let table = table_arg(alloc);
     let all = flag_arg(alloc, "all", ALL_HELP);
     let uploads = files_arg(alloc, "uploads", UPLOADS_HELP);
+    let list_of_files = list_arg(alloc);
+    let null = null_arg(alloc);
     let ledger = positional_arg(alloc, "LEDGER", ArgAction::Set, LEDGER_HELP);
     new_command(alloc, "omny_audit", ABOUT, NOTES)
         .arg(table)?
         .arg(all)?
         .arg(uploads)?
+        .arg(list_of_files)?
+        .arg(null)?
         .arg(ledger)
 }
 
@@ -143,4 +151,35 @@ impl<'a> Options<'a> {
             ledger: ledger_in(matches.get_str("LEDGER")),
         })
     }
+}
+
+/// The list of uploads that the words name, if they name one. Words that are no command line name
+/// none: the program tells why, or shows its help.
+///
+/// # Errors
+///
+/// `NullAlone`, if the words say what ends the names of a list and name none; `InputTwice`, if the
+/// list and the ledger are standard input; `NoMemory`.
+pub(crate) fn list_words<'a>(
+    alloc: Global,
+    words: &'a [String],
+) -> Result<Option<ListWords<'a>>, ListFault>
+    ensures list { ParsesForAudit (map string_bytes words.entry.now)
+        → IfOk result (λ list. option_map view_of list
+        ≡ list_asked (matches_of audit_program (map string_bytes words.entry.now))) }
+    ensures unread { (¬ ParsesForAudit (map string_bytes words.entry.now))
+        → IfOk result (λ list. list ≡ None) }
+{
+    let matches = match matched(alloc, words) {
+        Ok(matches) => matches,
+        Err(error) if error.kind() == ErrorKind::OutOfMemory => return Err(ListFault::NoMemory),
+        Err(_) => return Ok(None),
+    };
+    let list = ListWords::of(&matches)?;
+    if let Some(list) = &list {
+        if list.is_input() && ledger_in(matches.get_str("LEDGER")).is_none() {
+            return Err(ListFault::InputTwice);
+        }
+    }
+    Ok(list)
 }

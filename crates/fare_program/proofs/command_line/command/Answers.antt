@@ -16,4 +16,6 @@ returns c =
     let seven = c.in_ok-arg-7.ensures.shape c.flag_arg-sorted.ensures.local ∙ ap₂ with_rule six c.flag_arg-sorted.ensures.rule in
     let eight = c.in_ok-arg-8.ensures.shape c.flag_arg-ledger.ensures.local ∙ ap₂ with_rule seven c.flag_arg-ledger.ensures.rule in
     let nine = c.in_ok-arg-9.ensures.shape c.flag_arg-explain.ensures.local ∙ ap₂ with_rule eight c.flag_arg-explain.ensures.rule in
-    IfOk-weaker c.arg-10.result _ _ (λ command adds. adds.shape c.positional_arg-file.ensures.local ∙ ap₂ with_rule nine c.positional_arg-file.ensures.rule) c.arg-10.ensures
+    let ten = c.in_ok-arg-10.ensures.shape c.list_arg-list_of_files.ensures.local ∙ ap₂ with_rule nine c.list_arg-list_of_files.ensures.rule in
+    let eleven = c.in_ok-arg-11.ensures.shape c.null_arg-null.ensures.local ∙ ap₂ with_rule ten c.null_arg-null.ensures.rule in
+    IfOk-weaker c.arg-12.result _ _ (λ command adds. adds.shape c.positional_arg-file.ensures.local ∙ ap₂ with_rule eleven c.positional_arg-file.ensures.rule) c.arg-12.ensures

@@ -1,0 +1,10 @@
+use Rattle.std.proofs.Common.{ℕ, length, map}
+use Rattle.program_manners.specs.FileLists.{end_byte}
+use Rattle.program_manners.specs.inside.FileLists.{AreReadFrom}
+use Rattle.program_manners.proofs.file_list.names_of_list.Given as goal
+
+abbrev pub invariant-loop-rest : goal.invariant-loop-rest
+invariant-loop-rest l = AreReadFrom (end_byte l.end) l.fn.text.now (map (λ n. n.now) l.names.items) l.rest.now
+
+abbrev pub measure-loop-rest : goal.measure-loop-rest
+measure-loop-rest l = length l.rest.now

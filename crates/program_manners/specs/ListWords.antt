@@ -1,0 +1,50 @@
+-- What the words say of a list of files, and the words with the names of its files.
+use Rattle.std.specs.Prelude.{◌≡◌, ℕ, Bool, ◌&&◌, not, if◌then◌else◌, List, Option, None, Some, codes}
+use Rattle.std.specs.Prelude.{is_some, option_map}
+use Rattle.clap.specs.Words.{Row, Text, first_of}
+use Rattle.program_manners.specs.FileLists.{AreNamesOf, end_byte}
+use Rattle.program_manners.specs.LineWritten.{LineWritten}
+use Rattle.program_manners.specs.Lines.{list_status, list_text}
+use Rattle.program_manners.specs.ListedWords.{with_files, with_option_files}
+use Rattle.program_manners.specs.Words.{is_given}
+use Rattle.program_manners.specs.declared.file_list.ListFault.{ListFault}
+use Rattle.program_manners.specs.declared.file_list.NameEnd.{NameEnd}
+use Rattle.program_manners.specs.declared.file_list.NameEnd.TheVariants.{LineFeed, Nul}
+use Rattle.program_manners.specs.declared.list_words.ListWords.{ListWords}
+
+-- what ends the names of a list
+abbrev pub end_asked : List Row → NameEnd
+end_asked rows = if is_given (codes "null") rows then Nul else LineFeed
+
+-- the list that is named, if any, and what ends its names
+abbrev pub list_asked : List Row → Option (Text × NameEnd)
+list_asked rows = option_map (λ name. (name, end_asked rows)) (first_of (codes "files-from") rows)
+
+-- what the words say of a list, as a pair
+abbrev pub view_of : ListWords → Text × NameEnd
+view_of words = (words.name.now, words.end)
+
+-- whether it is said that NUL ends the names of a list, and no list is named
+abbrev pub lacks_list : List Row → Bool
+lacks_list rows = is_given (codes "null") rows && not (is_some (first_of (codes "files-from") rows))
+
+-- the words with these names as values of an option, or else as positional arguments
+abbrev pub words_with : List Text → Option Text → List Text → List Text
+words_with words None names = with_files words names
+words_with words (Some option) names = with_option_files words option names
+
+-- some list has names that end so, and these are the words with all of them
+pub record HasNames (end : NameEnd) (words : List Text) (option : Option Text) (all : List Text)
+    : Type 0 where
+  pub text : List ℕ
+  pub names : List Text
+  pub are_names : AreNamesOf (end_byte end) text names
+  pub words_are : all ≡ words_with words option names
+
+-- the line of a fault of a list was told, and the status is its own
+pub record IsListTold (said said' : Option (List ℕ)) (failed : Bool) (status : ℕ) : Type 0 where
+  pub list : List ℕ
+  pub end : NameEnd
+  pub fault : ListFault
+  pub line_told : LineWritten said said' failed (list_text list end fault)
+  pub is_status : status ≡ list_status fault

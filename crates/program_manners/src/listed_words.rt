@@ -1,0 +1,83 @@
+//! The words of a command line with the names of a list of files.
+ghost use Rattle.std.specs.Prelude.{◌≡◌, ◌≤◌, ◌++◌, ◌∷◌, [], IfOk, OnOk, drop, length, map};
+ghost use Rattle.std.specs.Prelude.{string_bytes, take};
+ghost use Rattle.program_manners.specs.ListedWords.{before_dashes, from_dashes, option_word};
+ghost use Rattle.program_manners.specs.ListedWords.{with_files, with_option_files};
+
+use crate::file_list::ListFault;
+use std::alloc::Global;
+
+/// How many words stand before the first `--`.
+fn dashes_at(words: &[String]) -> usize
+    ensures range { result ≤ length words.now }
+    ensures before { take result (map string_bytes words.now)
+        ≡ before_dashes (map string_bytes words.now) }
+    ensures from { drop result (map string_bytes words.now)
+        ≡ from_dashes (map string_bytes words.now) }
+{
+    for (at, word) in words.iter().enumerate() {
+        if word.as_str() == "--" {
+            return at;
+        }
+    }
+    words.len()
+}
+
+/// Adds a word.
+fn push_word(alloc: Global, all: &mut Vec<String>, word: &str) -> Result<(), ListFault>
+    ensures { OnOk result (map string_bytes all.new.items
+        ≡ map string_bytes all.old.items ++ word.now ∷ []) }
+{
+    all.push(String::from_str(alloc, word)?)?;
+    Ok(())
+}
+
+/// Adds words.
+fn push_words(alloc: Global, all: &mut Vec<String>, words: &[String]) -> Result<(), ListFault>
+    ensures { OnOk result (map string_bytes all.new.items
+        ≡ map string_bytes all.old.items ++ map string_bytes words.now) }
+{
+    for word in words {
+        push_word(alloc, all, word)?;
+    }
+    Ok(())
+}
+
+/// The words with these names as positional arguments. They stand last and behind a `--`, so that a
+/// name may begin with `-`. The error is `NoMemory`.
+pub fn with_files(alloc: Global, words: &[String], names: &[&str]) -> Result<Vec<String>, ListFault>
+    ensures { IfOk result (λ all. map string_bytes all.items
+        ≡ with_files (map string_bytes words.now) (map (λ n. n.now) names.now)) }
+{
+    let mut all = Vec::new(alloc);
+    push_words(alloc, &mut all, words)?;
+    if dashes_at(words) == words.len() {
+        push_word(alloc, &mut all, "--")?;
+    }
+    for name in names {
+        push_word(alloc, &mut all, name)?;
+    }
+    Ok(all)
+}
+
+/// The words with each of these names as the value of an option, `--OPTION=NAME`. They stand before
+/// the first `--`. The error is `NoMemory`.
+pub fn with_option_files(
+    alloc: Global,
+    words: &[String],
+    option: &str,
+    names: &[&str],
+) -> Result<Vec<String>, ListFault>
+    ensures { IfOk result (λ all. map string_bytes all.items
+        ≡ with_option_files (map string_bytes words.now) option.now
+        (map (λ n. n.now) names.now)) }
+{
+    let mut all = Vec::new(alloc);
+    let (before, from) = words.split_at(dashes_at(words));
+    push_words(alloc, &mut all, before)?;
+    for name in names {
+        all.push(format!(in alloc; "--{option}={name}")?)?;
+    }
+    push_words(alloc, &mut all, from)?;
+    Ok(all)
+}
