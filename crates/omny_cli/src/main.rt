@@ -1,6 +1,6 @@
-//! The program: `fare_program` over the words, with the names of the list that they name, the files,
-//! the standard input and the outputs of the system. If the standard error is a terminal, a note there says what one should know of the run,
-//! and a line says what a long run does.
+//! The program: `fare_program` over the words, with the names of a list if they name one, the files,
+//! the standard input and the outputs of the system. If the standard error is a terminal, a note
+//! there says what one should know of the run, and a line says what a long run does.
 //!
 //! | module | what it does |
 //! |---|---|

@@ -1,5 +1,5 @@
 -- Texts that list names, and how one more name is read.
-use Rattle.std.proofs.Common.{◌≡◌, ◌≢◌, ◌<◌, ◌≤◌, ◌⊎◌, ◌∙◌, ◌+◌, ℕ, zero, suc, List, [], ◌∷◌, ◌++◌, length, get_or, take, drop, refl, sym, ap, subst, inl, inr, arith, append_assoc, append-nil}
+use Rattle.std.proofs.Common.{◌≡◌, ◌≢◌, ◌<◌, ◌≤◌, ◌⊎◌, ◌∙◌, ◌+◌, ◌==◌, ℕ, true, false, true≢false, zero, suc, List, [], ◌∷◌, ◌++◌, length, get_or, take, drop, refl, sym, ap, inl, inr, arith, append_assoc, append-nil}
 use Rattle.std.specs.Prelude.{IsUtf8, flat_map}
 use Rattle.std.specs.List.{All}
 use Rattle.std.proofs.lemmas.List.{get_or-take, length-take}
@@ -52,9 +52,12 @@ name_read end text names rest piece behind read some name split = record {
         ∙ ap (λ (t : List ℕ). ended_by end names ++ t) (ended ∙ sym (append_assoc piece (end ∷ []) behind))
         ∙ sym (append_assoc (ended_by end names) (piece ++ end ∷ []) behind)
         ∙ ap (λ (t : List ℕ). t ++ behind) (sym (ended_push end names piece)))
-    | inr last ↦ inr (last.1, ap (λ (t : List ℕ). t ++ end ∷ []) (read_whole end text names rest read some ∙ ap (λ (t : List ℕ). ended_by end names ++ t) last.0)
-        ∙ append_assoc (ended_by end names) piece (end ∷ [])
-        ∙ sym (ended_push end names piece))
+    | inr last ↦ inr (
+      last.1,
+      ap (λ (t : List ℕ). t ++ end ∷ []) (read_whole end text names rest read some ∙ ap (λ (t : List ℕ). ended_by end names ++ t) last.0)
+          ∙ append_assoc (ended_by end names) piece (end ∷ [])
+          ∙ sym (ended_push end names piece),
+    )
   ];
 }
 
@@ -86,3 +89,12 @@ all_read end text names read some = record {
     | inr ended ↦ inr ended.1
   ];
 }
+
+-- what the test of a text's length says of it
+pub some_left : (text : List ℕ) → (length text == 0) ≡ false → text ≢ []
+some_left [] is none = true≢false is
+some_left (byte ∷ text) is none = let bad : suc (length text) ≡ 0 = ap length none in absurd (omega arith)
+
+pub none_left : (text : List ℕ) → (length text == 0) ≡ true → text ≡ []
+none_left [] is = refl
+none_left (byte ∷ text) is = absurd (true≢false (sym is))

@@ -1,10 +1,12 @@
 -- The names of files in a text that lists them.
-use Rattle.std.specs.Prelude.{◌≡◌, ◌≢◌, ◌⊎◌, ◌+◌, ◌<◌, ℕ, List, [], ◌∷◌, ◌++◌, IsUtf8, flat_map}
-use Rattle.std.specs.Prelude.{length, slice_index}
+use Rattle.std.specs.Prelude.{◌≡◌, ◌≢◌, ◌⊎◌, ◌+◌, ◌<◌, ℕ, List, [], ◌∷◌, ◌++◌, IsUtf8}
+use Rattle.std.specs.Prelude.{flat_map, length, slice_index}
 use Rattle.std.specs.List.{All}
 use Rattle.program_manners.specs.declared.file_list.ListFault.{ListFault}
-use Rattle.program_manners.specs.declared.file_list.ListFault.TheVariants.{Name, NoMemory, NoNames}
-use Rattle.program_manners.specs.declared.file_list.ListFault.TheVariants.{InputTwice, NullAlone, TooLong, Unread}
+use Rattle.program_manners.specs.declared.file_list.ListFault.TheVariants.{InputTwice, Name}
+use Rattle.program_manners.specs.declared.file_list.ListFault.TheVariants.{NoMemory, NoNames}
+use Rattle.program_manners.specs.declared.file_list.ListFault.TheVariants.{NullAlone, TooLong}
+use Rattle.program_manners.specs.declared.file_list.ListFault.TheVariants.{Unread}
 use Rattle.program_manners.specs.declared.file_list.NameEnd.{NameEnd}
 use Rattle.program_manners.specs.declared.file_list.NameEnd.TheVariants.{LineFeed, Nul}
 use Rattle.program_manners.specs.declared.file_list.WrongName.{WrongName}
@@ -51,8 +53,8 @@ IsWrongBy Empty bytes = bytes ≡ []
 IsWrongBy HasNul bytes = ¬ Lacks 0 bytes
 IsWrongBy NotUtf8 bytes = ¬ IsUtf8 bytes
 
--- The piece of this number is the first that is no name, for this reason: names stand before it, and
--- behind it the byte that ends it and the rest, or nothing. Nothing is no piece if the text ends there.
+-- The piece of this number is the first that is no name, for this reason. Names stand before it, and
+-- behind it the byte that ends it and the rest, or nothing. An empty piece has the byte behind it.
 pub record IsFirstWrong (end : ℕ) (text : List ℕ) (number : ℕ) (wrong : WrongName) : Type 0 where
   pub before : List (List ℕ)
   pub are_names : All (IsListedName end) before

@@ -1,6 +1,7 @@
 -- What the words say of a list of files, and the words with the names of its files.
-use Rattle.std.specs.Prelude.{◌≡◌, ℕ, Bool, ◌&&◌, not, if◌then◌else◌, List, Option, None, Some, codes}
-use Rattle.std.specs.Prelude.{is_some, option_map}
+use Rattle.std.specs.Prelude.{◌≡◌, ℕ, Bool, ◌&&◌, not, if◌then◌else◌, List, [], Option, None, Some}
+use Rattle.std.specs.Prelude.{Err, Ok, Result, codes, is_some, option_map}
+use Rattle.std.specs.Str.{bytes_eq}
 use Rattle.clap.specs.Words.{Row, Text, first_of}
 use Rattle.program_manners.specs.FileLists.{AreNamesOf, end_byte}
 use Rattle.program_manners.specs.LineWritten.{LineWritten}
@@ -41,10 +42,24 @@ pub record HasNames (end : NameEnd) (words : List Text) (option : Option Text) (
   pub are_names : AreNamesOf (end_byte end) text names
   pub words_are : all ≡ words_with words option names
 
--- the line of a fault of a list was told, and the status is its own
-pub record IsListTold (said said' : Option (List ℕ)) (failed : Bool) (status : ℕ) : Type 0 where
-  pub list : List ℕ
-  pub end : NameEnd
-  pub fault : ListFault
-  pub line_told : LineWritten said said' failed (list_text list end fault)
-  pub is_status : status ≡ list_status fault
+-- no list is named and no word is added, or a list is named and these are the words with its names
+abbrev pub TakesList : Result (Option ListWords) ListFault → List Text → Option Text
+    → Option (List Text) → Type 0
+TakesList (Ok None) words option None = Unit {0}
+TakesList (Ok (Some list)) words option (Some all) = HasNames list.end words option all
+TakesList _ words option all = ⊥
+
+-- what a fault line calls a list of this name
+abbrev pub called : Text → Text
+called name = if bytes_eq name (codes "-") then codes "standard input" else name
+
+-- The line of a fault was told, and the status is its own. It is of the list that is named, or says
+-- why none is.
+abbrev pub IsListTold : Result (Option ListWords) ListFault → Option (List ℕ) → Option (List ℕ)
+    → Bool → ℕ → Type 0
+IsListTold (Err fault) said said' failed status =
+    (status ≡ list_status fault) × LineWritten said said' failed (list_text [] LineFeed fault)
+IsListTold (Ok None) said said' failed status = ⊥
+IsListTold (Ok (Some list)) said said' failed status =
+    (fault : ListFault) × (status ≡ list_status fault)
+    × LineWritten said said' failed (list_text (called list.name.now) list.end fault)

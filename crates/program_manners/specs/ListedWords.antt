@@ -30,7 +30,7 @@ with_files words names = words ++ (missing_dashes (from_dashes words) ++ names)
 abbrev pub option_word : Text → Text → Text
 option_word option name = codes "--" ++ (option ++ (codes "=" ++ name))
 
--- the words with each of these names as an option's value: they stand before the first `--`, or last
+-- the words with each of these names as an option's value, before the first `--`, or last
 abbrev pub with_option_files : List Text → Text → List Text → List Text
 with_option_files words option names =
     before_dashes words ++ (map (option_word option) names ++ from_dashes words)

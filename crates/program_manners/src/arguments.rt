@@ -76,10 +76,10 @@ fn first_wrong_word<R: Env + AllocGlobal>(rt: &R) -> Result<String, AllocError> 
     let mut room = Vec::new(rt.alloc());
     room.resize(MAX_WORD_BYTES, 0)?;
     for place in 0..usize::MAX {
-        let Ok(len) = rt.arg(place, &mut room) else {
+        let Ok(len) = rt.arg(place, room.as_mut_slice()) else {
             break;
         };
-        let word = room.get(..len).unwrap_or(&[]);
+        let word = room.as_slice().get(..len).unwrap_or(&[]);
         if str::from_utf8(word).is_err() {
             return escaped(rt.alloc(), word);
         }

@@ -12,7 +12,7 @@
 //! | `arguments` | the words of the command line, and why they could not be had |
 //! | `words` | a command and its options, as `clap` takes them |
 //! | `file_list`, `list_line` | the names of files that a text lists, and the line of a fault |
-//! | `list_words`, `listed_words` | a list of files on a command line, and the words with its names |
+//! | `list_words`, `listed_words` | a list on a command line, and the words with its names |
 #![tactic(auto)]
 
 mod answers;

@@ -1,5 +1,5 @@
 //! The line of a list of files that gives no names.
-ghost use Rattle.std.specs.Prelude.{◌≡◌, Some};
+ghost use Rattle.std.specs.Prelude.{◌≡◌, [], Some};
 ghost use Rattle.program_manners.specs.Lines.{list_status, list_text, piece_word, wrong_text};
 
 use crate::file_list::{ListFault, NameEnd, WrongName};
@@ -39,7 +39,10 @@ fn wrong_text(wrong: WrongName) -> &'static str
 
 impl ListLine<'_> {
     /// The line of a fault before a list is named.
-    pub fn unnamed(fault: ListFault) -> ListLine<'static> {
+    pub fn unnamed(fault: ListFault) -> ListLine<'static>
+        ensures { (result.list.now ≡ []) × (result.end ≡ NameEnd.LineFeed)
+            × (result.fault ≡ fault) }
+    {
         ListLine {
             list: "",
             end: NameEnd::LineFeed,

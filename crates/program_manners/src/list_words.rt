@@ -1,9 +1,12 @@
 //! What the words say of a list of files, and the words with the names of its files.
-ghost use Rattle.std.specs.Prelude.{◌≡◌, ForOk, ForSome, IfErr, IfOk, IfSome, None, Ok, false};
-ghost use Rattle.std.specs.Prelude.{map, option_map, string_bytes, true};
+ghost use Rattle.std.specs.Prelude.{◌≡◌, IfErr, IfOk, codes, false, map, option_map, string_bytes};
+ghost use Rattle.std.specs.Prelude.{true};
+ghost use Rattle.std.specs.Str.{bytes_eq};
 ghost use Rattle.clap.specs.Words.{found_of, rows_of};
-ghost use Rattle.program_manners.specs.ListWords.{HasNames, IsListTold, lacks_list, list_asked};
-ghost use Rattle.program_manners.specs.ListWords.{view_of};
+ghost use Rattle.program_manners.specs.LineWritten.{LineWritten};
+ghost use Rattle.program_manners.specs.Lines.{list_status, list_text};
+ghost use Rattle.program_manners.specs.ListWords.{HasNames, IsListTold, TakesList, called};
+ghost use Rattle.program_manners.specs.ListWords.{lacks_list, list_asked, view_of};
 
 use crate::complaints::Complaints;
 use crate::file_list::{ListFault, NameEnd, names_of_list};
@@ -54,12 +57,16 @@ impl<'a> ListWords<'a> {
     }
 
     /// Whether the list is standard input.
-    pub fn is_input(&self) -> bool {
+    pub fn is_input(&self) -> bool
+        ensures { result ≡ bytes_eq self.now.name.now (codes "-") }
+    {
         self.name == INPUT_WORD
     }
 
     /// What a fault line calls the list.
-    pub fn called(&self) -> &'a str {
+    fn called(&self) -> &'a str
+        ensures { result.now ≡ called self.now.name.now }
+    {
         if self.is_input() {
             STANDARD_INPUT
         } else {
@@ -68,7 +75,10 @@ impl<'a> ListWords<'a> {
     }
 
     /// The line of a fault of the list.
-    pub fn line_of(&self, fault: ListFault) -> ListLine<'a> {
+    pub fn line_of(&self, fault: ListFault) -> ListLine<'a>
+        ensures { (result.list.now ≡ called self.now.name.now) × (result.end ≡ self.now.end)
+            × (result.fault ≡ fault) }
+    {
         ListLine {
             list: self.called(),
             end: self.end,
@@ -115,12 +125,11 @@ pub fn take_list<'a, R: Files + Input + AllocGlobal, E: Write>(
     option: Option<&str>,
     err: &mut Complaints<E>,
 ) -> Result<Option<Vec<String>>, u8>
-    ensures none { IfOk result (λ all. all ≡ None → list.entry ≡ Ok None) }
-    ensures names { IfOk result (λ all. IfSome all (λ more. ForOk list.entry (λ listed.
-        ForSome listed (λ asked. HasNames asked.end (map string_bytes words.now)
-        (option_map (λ o. o.now) option.entry) (map string_bytes more.items))))) }
+    ensures words { IfOk result (λ all. TakesList list.entry (map string_bytes words.now)
+        (option_map (λ o. o.now) option.entry)
+        (option_map (λ more. map string_bytes more.items) all)) }
     ensures quiet { IfOk result (λ _. err.new ≡ err.old) }
-    ensures told { IfErr result (λ status. IsListTold (E.contents err.old.writer)
+    ensures told { IfErr result (λ status. IsListTold list.entry (E.contents err.old.writer)
         (E.contents err.new.writer) err.new.failed status) }
 {
     let list = match list {
@@ -136,8 +145,9 @@ pub fn take_list<'a, R: Files + Input + AllocGlobal, E: Write>(
 
 /// Says why the names of a list are not had, and gives the status.
 fn tell<E: Write>(err: &mut Complaints<E>, line: ListLine<'_>) -> u8
-    ensures { IsListTold (E.contents err.old.writer) (E.contents err.new.writer) err.new.failed
-        result }
+    ensures status { result ≡ list_status line.entry.fault }
+    ensures told { LineWritten (E.contents err.old.writer) (E.contents err.new.writer)
+        err.new.failed (list_text line.entry.list.now line.entry.end line.entry.fault) }
 {
     err.tell_line(line);
     line.status()

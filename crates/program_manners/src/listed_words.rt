@@ -1,8 +1,8 @@
 //! The words of a command line with the names of a list of files.
 ghost use Rattle.std.specs.Prelude.{◌≡◌, ◌≤◌, ◌++◌, ◌∷◌, [], IfOk, OnOk, drop, length, map};
 ghost use Rattle.std.specs.Prelude.{string_bytes, take};
-ghost use Rattle.program_manners.specs.ListedWords.{before_dashes, from_dashes, option_word};
-ghost use Rattle.program_manners.specs.ListedWords.{with_files, with_option_files};
+ghost use Rattle.program_manners.specs.ListedWords.{before_dashes, from_dashes, missing_dashes};
+ghost use Rattle.program_manners.specs.ListedWords.{option_word, with_files, with_option_files};
 
 use crate::file_list::ListFault;
 use std::alloc::Global;
@@ -43,6 +43,49 @@ fn push_words(alloc: Global, all: &mut Vec<String>, words: &[String]) -> Result<
     Ok(())
 }
 
+/// Adds a `--`, if the words have none.
+fn push_missing_dashes(
+    alloc: Global,
+    all: &mut Vec<String>,
+    words: &[String],
+) -> Result<(), ListFault>
+    ensures { OnOk result (map string_bytes all.new.items ≡ map string_bytes all.old.items
+        ++ missing_dashes (from_dashes (map string_bytes words.now))) }
+{
+    if dashes_at(words) < words.len() {
+        return Ok(());
+    }
+    push_word(alloc, all, "--")
+}
+
+/// Adds names as they are.
+fn push_names(alloc: Global, all: &mut Vec<String>, names: &[&str]) -> Result<(), ListFault>
+    ensures { OnOk result (map string_bytes all.new.items
+        ≡ map string_bytes all.old.items ++ map (λ n. n.now) names.now) }
+{
+    for name in names {
+        push_word(alloc, all, name)?;
+    }
+    Ok(())
+}
+
+/// Adds names as values of an option.
+fn push_options(
+    alloc: Global,
+    all: &mut Vec<String>,
+    option: &str,
+    names: &[&str],
+) -> Result<(), ListFault>
+    ensures { OnOk result (map string_bytes all.new.items ≡ map string_bytes all.old.items
+        ++ map (λ n. option_word option.now n.now) names.now) }
+{
+    for name in names {
+        let word = format!(in alloc; "--{option}={name}")?;
+        all.push(word)?;
+    }
+    Ok(())
+}
+
 /// The words with these names as positional arguments. They stand last and behind a `--`, so that a
 /// name may begin with `-`. The error is `NoMemory`.
 pub fn with_files(alloc: Global, words: &[String], names: &[&str]) -> Result<Vec<String>, ListFault>
@@ -51,12 +94,8 @@ pub fn with_files(alloc: Global, words: &[String], names: &[&str]) -> Result<Vec
 {
     let mut all = Vec::new(alloc);
     push_words(alloc, &mut all, words)?;
-    if dashes_at(words) == words.len() {
-        push_word(alloc, &mut all, "--")?;
-    }
-    for name in names {
-        push_word(alloc, &mut all, name)?;
-    }
+    push_missing_dashes(alloc, &mut all, words)?;
+    push_names(alloc, &mut all, names)?;
     Ok(all)
 }
 
@@ -72,12 +111,10 @@ pub fn with_option_files(
         ≡ with_option_files (map string_bytes words.now) option.now
         (map (λ n. n.now) names.now)) }
 {
-    let mut all = Vec::new(alloc);
     let (before, from) = words.split_at(dashes_at(words));
+    let mut all = Vec::new(alloc);
     push_words(alloc, &mut all, before)?;
-    for name in names {
-        all.push(format!(in alloc; "--{option}={name}")?)?;
-    }
+    push_options(alloc, &mut all, option, names)?;
     push_words(alloc, &mut all, from)?;
     Ok(all)
 }

@@ -3,8 +3,9 @@ use Rattle.program_manners.specs.FileLists.{end_byte}
 use Rattle.program_manners.specs.inside.FileLists.{AreReadFrom}
 use Rattle.program_manners.proofs.file_list.names_of_list.Given as goal
 
+-- these names were read, and the rest was not
 abbrev pub invariant-loop-rest : goal.invariant-loop-rest
-invariant-loop-rest l = AreReadFrom (end_byte l.end) l.fn.text.now (map (λ n. n.now) l.names.items) l.rest.now
+invariant-loop-rest l = AreReadFrom (end_byte l.end) l.text (map (λ n. n.now) l.names.items) l.rest
 
-abbrev pub measure-loop-rest : goal.measure-loop-rest
-measure-loop-rest l = length l.rest.now
+abbrev pub decreases-loop-rest : goal.decreases-loop-rest
+decreases-loop-rest l = length l.rest

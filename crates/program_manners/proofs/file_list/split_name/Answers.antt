@@ -12,9 +12,9 @@ returns-in-Some-clause-whole c =
     let text = c.args.text.now in
     let at = c.in-Some.at in
     inl (parted text at c.in-Some.ensures.0.high
-        ∙ ap (λ (byte : ℕ). take at text ++ byte ∷ drop (at + 1) text) (eqb-true _ _ c.in-Some.ensures.1)
-        ∙ ap (λ (rest : List ℕ). take at text ++ c.args.end ∷ rest)
-        (sym (take_all _ (drop (at + 1) text) (omega (arith, length-drop (at + 1) text)))))
+    ∙ ap (λ (byte : ℕ). take at text ++ byte ∷ drop (at + 1) text) (eqb-true _ _ c.in-Some.ensures.1)
+    ∙ ap (λ (rest : List ℕ). take at text ++ c.args.end ∷ rest)
+    (sym (take_all _ (drop (at + 1) text) (omega (arith, length-drop (at + 1) text)))))
 
 pub returns-in-None-clause-first : goal.returns-in-None-clause-first
 returns-in-None-clause-first c =

@@ -3,6 +3,6 @@ use Rattle.program_manners.specs.ListedWords.{is_dashes}
 use Rattle.program_manners.proofs.listed_words.dashes_at.Given as goal
 
 -- no word so far is `--`
-abbrev pub invariant-loop-word : goal.invariant-loop-word
-invariant-loop-word l =
-    (k : ℕ) → k < l.word-index → is_dashes (get_or (map string_bytes l.words.now) k []) ≡ false
+abbrev pub invariant-loop-at : goal.invariant-loop-at
+invariant-loop-at l =
+    (k : ℕ) → k < l.at → is_dashes (get_or (map string_bytes l.words) k []) ≡ false
