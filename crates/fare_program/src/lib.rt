@@ -51,6 +51,6 @@ pub use list_words::list_words;
 pub use note::Note;
 pub use program::main_over;
 pub use program_manners::{
-    Complaints, LOAD_LIMIT_BYTES, LoadFault, load_from, unread_words, words_of,
+    Complaints, LOAD_LIMIT_BYTES, LoadFault, WordsFault, load_from, unread_words, words_of,
 };
 pub use source::Source;
