@@ -1,10 +1,13 @@
 -- The taps of one token, collected from sorted files.
 use Rattle.std.proofs.Common.{◌≡◌, ℕ, ◌+◌, Bool, true, false, List, [], ◌∷◌, ◌++◌, All, length, map}
-use Rattle.std.proofs.Common.{get_or, flat_map, cond, refl, sym, ap, subst, ◌∙◌, append-nil}
+use Rattle.std.proofs.Common.{◌<◌, get_or, flat_map, cond, refl, sym, ap, subst, ◌∙◌, append-nil}
+use Rattle.std.proofs.Common.{option_map, Option, Some}
+use Rattle.std.specs.Prelude.{slice_get}
 use Rattle.std.proofs.Common.{append_assoc, arith}
 use Rattle.std.proofs.lemmas.List.Concat.{flat_map-append}
 use Rattle.std.proofs.lemmas.List.Elements.{All-append, All-cons, All-nil, filter-append}
 use Rattle.std.proofs.lemmas.List.Sorted.{All-permutation}
+use Rattle.std.proofs.lemmas.Option.{slice_get-get_or, slice_get-map}
 use Rattle.tap_views.specs.Token.{token_eq}
 use Rattle.tap_views.specs.declared.encoder.TapFields.{TapFields}
 use Rattle.tap_views.specs.declared.token.Token.{Token}
@@ -20,6 +23,7 @@ use Rattle.settlement.proofs.SettledOrders.{own_settled}
 use Rattle.sorted_taps.specs.Readers.{ahead, IsAdvanced, StandsIn}
 use Rattle.sorted_taps.specs.declared.reader.TapReader.{TapReader}
 use Rattle.sorted_taps.proofs.Checking.{AreCounted, counted_more, counted_none}
+use Rattle.sorted_taps.proofs.Files.{known_number}
 use Rattle.sorted_taps.proofs.Standing.{sorted_at_end, stands_on}
 use Rattle.sorted_bills.specs.inside.OwnTaps.{AreOwnAdded, AreOwnOf, AreSound, IsOwnPushed}
 use Rattle.sorted_bills.proofs.Counted.{counted_ends}
@@ -190,4 +194,33 @@ pub sound_list : (token : Token) (taps list : List TapFields) → AreSound token
 sound_list token taps list sound canonical = record {
   early = All-permutation Early taps list canonical.moved sound.early;
   its = All-permutation (λ (t : TapFields). token_of_tap t ≡ token) taps list canonical.moved sound.its;
+}
+
+-- the bytes of one of the files, as a slice gives them
+pub known_slice : {X : Type 0} (known : X → Option (List ℕ)) (files : List X) (all : List (List ℕ))
+    (k : ℕ) → map known files ≡ map Some all → k < length files
+    → slice_get (map known files) k ≡ Some (Some (get_or all k []))
+known_slice known files all k are within =
+    let number = known_number known files all are in
+    ap (λ (os : List (Option (List ℕ))). slice_get os k) are
+    ∙ slice_get-map Some all k
+    ∙ ap (option_map Some) (slice_get-get_or all k [] (omega (arith, number, within)))
+
+-- the token's taps of one file, behind those of others
+pub own_behind : (token : Token) (all : List ℕ) (taps own : List TapFields) (numbers counts : List ℕ)
+    → AreOwnAdded token all [] own [] counts
+    → AreOwnAdded token all taps (taps ++ own) numbers (numbers ++ counts)
+own_behind token all taps own numbers counts added = record {
+  list = added.list;
+  of_file = added.of_file;
+  named = added.named;
+  added = ap (λ (ts : List TapFields). taps ++ ts) added.added;
+  counted = ap (λ (ns : List ℕ). numbers ++ ns) added.counted;
+}
+
+pub sound_both : (token : Token) (taps own : List TapFields) → AreSound token taps
+    → AreSound token own → AreSound token (taps ++ own)
+sound_both token taps own first rest = record {
+  early = All-append Early taps own first.early rest.early;
+  its = All-append (λ (t : TapFields). token_of_tap t ≡ token) taps own first.its rest.its;
 }

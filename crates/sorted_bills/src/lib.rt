@@ -6,15 +6,20 @@
 mod bill;
 mod by_threads;
 mod charging;
+mod checking;
 mod counting;
 mod fault;
 pub mod laws;
 mod ledger;
 mod open_bill;
+mod own_by_threads;
 mod own_taps;
 mod part;
+mod range;
+mod rounds;
 mod stamps;
 mod taking;
+mod telling;
 
 pub use bill::sorted_bill;
 pub use fault::BillFault;

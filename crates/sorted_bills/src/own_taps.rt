@@ -17,6 +17,7 @@ ghost use Rattle.sorted_bills.specs.inside.OwnTaps.{AreOwnAdded, AreOwnOf, AreSo
 
 use crate::counting::ends_of;
 use crate::fault::BillFault;
+use crate::own_by_threads::{OwnTaps, own_by_threads};
 use crate::taking::{is_early, name_of};
 use placed_files::Placed;
 use settlement::TokenTaps;
@@ -62,7 +63,7 @@ fn push_head(token: Token, reader: &TapReader, taps: &mut Vec<TapFields>) -> Res
 
 /// Adds the token's taps of the file to the list, and the number of its taps to the numbers. The
 /// file is checked as `check_file` does it.
-fn add_file<F: Placed>(
+pub(crate) fn add_file<F: Placed>(
     alloc: Global,
     token: Token,
     file: &F,
@@ -128,15 +129,43 @@ fn in_order(taps: Vec<TapFields>) -> Vec<TapFields>
     list
 }
 
+/// The token's taps of all files, by so many threads if there are several: if one of them is refused,
+/// by this one.
+fn own_of_files<R: Threads + Sync, F: Placed + Sync>(
+    rt: &R,
+    alloc: Global,
+    token: Token,
+    files: &[F],
+    workers: u32,
+) -> Result<OwnTaps, BillFault>
+    ensures sound { IfOk result (λ own. AreSound token own.taps.items) }
+    ensures own { IfOk result (λ own. (all : List (List ℕ))
+        → map F.bytes files.now ≡ map Some all
+        → AreOwnOf token all own.taps.items own.numbers.items) }
+    ensures fault { IfErr result (λ fault. (all : List (List ℕ))
+        → map F.bytes files.now ≡ map Some all → IsBillFault all fault) }
+{
+    if workers > 1 {
+        if let Ok(Some(own)) = own_by_threads(rt, alloc, token, files, workers) {
+            return Ok(own);
+        }
+    }
+    let mut window = vec![in alloc; 0u8; WINDOW_BYTES]?;
+    let mut numbers = Vec::new(alloc);
+    let taps = own_taps(alloc, token, files, &mut window, &mut numbers)?;
+    Ok(OwnTaps { taps, numbers })
+}
+
 /// The taps of one token of sorted files, in canonical order: no other tap is kept. One pass checks
-/// each file whole, in their order: its fault is the first one. This thread does all, whatever the
-/// number of workers.
+/// each file whole. So many workers take a share of the files each; if one of them is refused, this
+/// thread checks all anew, in their order, and its fault is the first one. So neither the taps nor
+/// the fault depend on the workers.
 pub fn sorted_taps_of<R: Threads + Sync, F: Placed + Sync>(
-    _rt: &R,
+    rt: &R,
     alloc: Global,
     files: &[F],
     token: Token,
-    _workers: u32,
+    workers: u32,
 ) -> Result<TokenTaps, BillFault>
     ensures ended { IfOk result (λ made. (all : List (List ℕ))
         → map F.bytes files.now ≡ map Some all → ArePlainEnds all made.ends.items) }
@@ -148,10 +177,8 @@ pub fn sorted_taps_of<R: Threads + Sync, F: Placed + Sync>(
     ensures fault { IfErr result (λ fault. (all : List (List ℕ))
         → map F.bytes files.now ≡ map Some all → IsBillFault all fault) }
 {
-    let mut window = vec![in alloc; 0u8; WINDOW_BYTES]?;
-    let mut numbers = Vec::new(alloc);
-    let taps = own_taps(alloc, token, files, &mut window, &mut numbers)?;
-    let ends = ends_of(alloc, &numbers)?;
-    let list = in_order(taps);
+    let own = own_of_files(rt, alloc, token, files, workers)?;
+    let ends = ends_of(alloc, &own.numbers)?;
+    let list = in_order(own.taps);
     Ok(TokenTaps { ends, taps: list })
 }

@@ -1,11 +1,13 @@
 -- The taps of one token, collected from sorted files: what private functions alone cite.
-use Rattle.std.specs.Prelude.{◌≡◌, ℕ, All, List, [], ◌∷◌, ◌++◌, flat_map, length, map}
+use Rattle.std.specs.Prelude.{◌≡◌, ℕ, All, List, Option, Some, [], ◌∷◌, ◌++◌, IfSome, flat_map}
+use Rattle.std.specs.Prelude.{length, map, slice_get}
 use Rattle.tap_views.specs.Encoding.{AreEarly}
 use Rattle.tap_views.specs.declared.encoder.TapFields.{TapFields}
 use Rattle.tap_views.specs.declared.token.Token.{Token}
 use Rattle.settlement.specs.Posted.{HasName, only, token_of_tap}
 use Rattle.sorted_taps.specs.Merges.{AreSortedFiles}
 use Rattle.sorted_taps.specs.Sorted.{IsSortedFile}
+use Rattle.sorted_bills.specs.declared.own_by_threads.OwnTaps.{OwnTaps}
 
 -- the taps are of the token, with moments before 2100
 pub record AreSound (token : Token) (taps : List TapFields) : Type 0 where
@@ -36,3 +38,11 @@ pub record AreOwnOf (token : Token) (files : List (List ℕ)) (own : List TapFie
   pub named : All HasName (flat_map (λ list. list) lists)
   pub are : own ≡ only token (flat_map (λ list. list) lists)
   pub counted : numbers ≡ map length lists
+
+-- the taps are of the token, and if the bytes of the file at the place are known, it is sorted, and
+-- these are all that it has
+pub record IsOwnAt (token : Token) (known : List (Option (List ℕ))) (place : ℕ) (own : OwnTaps)
+    : Type 0 where
+  pub sound : AreSound token own.taps.items
+  pub added : (bytes : Option (List ℕ)) → slice_get known place ≡ Some bytes
+      → IfSome bytes (λ all. AreOwnAdded token all [] own.taps.items [] own.numbers.items)

@@ -9,20 +9,20 @@ pub returns-clause-ended : goal.returns-clause-ended
 returns-clause-ended g c = λ all are.
     subst (λ (ends : List UploadEnd). ArePlainEnds all ends)
     (sym (c.in_ok-ends.ensures.ends ∙ ap (map Posted) c.deref.ensures.value))
-    (own_ends c.args.token all c.in_ok-taps.taps.items c.own_taps.new.numbers.items
-    (c.in_ok-taps.ensures.own all are))
+    (own_ends c.args.token all c.in_ok-own.own.taps.items c.in_ok-own.own.numbers.items
+    (c.in_ok-own.ensures.own all are))
 
 pub returns-clause-order : goal.returns-clause-order
 returns-clause-order g c = λ all are.
-    own_in_order c.args.token all c.in_ok-taps.taps.items c.in_order-list.result.items
-    c.own_taps.new.numbers.items (c.in_ok-taps.ensures.own all are) c.in_order-list.ensures
+    own_in_order c.args.token all c.in_ok-own.own.taps.items c.in_order-list.result.items
+    c.in_ok-own.own.numbers.items (c.in_ok-own.ensures.own all are) c.in_order-list.ensures
 
 pub returns-clause-early : goal.returns-clause-early
 returns-clause-early g c =
-    (sound_list c.args.token c.in_ok-taps.taps.items c.in_order-list.result.items
-    c.in_ok-taps.ensures.sound c.in_order-list.ensures).early
+    (sound_list c.args.token c.in_ok-own.own.taps.items c.in_order-list.result.items
+    c.in_ok-own.ensures.sound c.in_order-list.ensures).early
 
 pub returns-clause-its : goal.returns-clause-its
 returns-clause-its g c =
-    (sound_list c.args.token c.in_ok-taps.taps.items c.in_order-list.result.items
-    c.in_ok-taps.ensures.sound c.in_order-list.ensures).its
+    (sound_list c.args.token c.in_ok-own.own.taps.items c.in_order-list.result.items
+    c.in_ok-own.ensures.sound c.in_order-list.ensures).its

@@ -1,0 +1,67 @@
+use Rattle.std.proofs.Common.{◌≡◌, ℕ, List, [], ◌++◌, Some, arith, get_or, map, sym, ap, subst, ◌∙◌}
+use Rattle.std.specs.Prelude.{IfSome, Option, slice_get}
+use Rattle.std.proofs.lemmas.Option.{slice_get-get_or}
+use Rattle.tap_views.specs.declared.encoder.TapFields.{TapFields}
+use Rattle.sorted_taps.proofs.Files.{known_number}
+use Rattle.sorted_bills.specs.declared.own_by_threads.OwnTaps.{OwnTaps}
+use Rattle.sorted_bills.specs.inside.OwnTaps.{AreOwnAdded, AreSound}
+use Rattle.sorted_bills.proofs.OwnTaps.{AreOwnSoFar, known_slice, none_so_far, none_sound, one_file_more}
+use Rattle.sorted_bills.proofs.OwnTaps.{own_behind, own_of_all, sound_both}
+use Rattle.sorted_bills.proofs.own_by_threads.join_all.Goals as goal
+
+pub loop-place-init : goal.loop-place-init
+loop-place-init g c =
+    let token = c.args.token in
+    let none : [] ≡ c.new-taps.result.items = sym c.new-taps.ensures.items in
+    let no_number : [] ≡ c.new-numbers.result.items = sym c.new-numbers.ensures.items in
+    record {
+      sound = subst (λ (taps : List TapFields). AreSound token taps) none (none_sound token);
+      own = λ all are. subst (λ (taps : List TapFields). AreOwnSoFar token all 0 taps
+          c.new-numbers.result.items) none
+          (subst (λ (numbers : List ℕ). AreOwnSoFar token all 0 [] numbers) no_number
+          (none_so_far token all));
+    }
+
+pub loop-place-preserved : goal.loop-place-preserved
+loop-place-preserved g c =
+    let token = c.args.token in
+    let place = c.loop-place.place in
+    let owns = c.args.owns.now in
+    let own = c.in-Some.own.now in
+    let test = c.loop-place-test.true in
+    let long = c.requires.len in
+    let taps = c.loop-place.taps.items in
+    let numbers = c.loop-place.numbers.items in
+    let there : slice_get owns place ≡ Some (Some own) =
+    slice_get-get_or owns place c.index-owns-place.result test
+    ∙ ap Some (sym c.index-owns-place.is ∙ c.in-Some.is) in
+    let made = c.requires.each place (Some own) there in
+    let more = c.in_ok-extend_from_slice.ensures.items in
+    let counts = c.in_ok-extend_from_slice-2.ensures.items in
+    record {
+      sound = subst (λ (ts : List TapFields). AreSound token ts) (sym more)
+          (sound_both token taps own.taps.items c.loop-place.invariant.sound made.sound);
+      own = λ all are.
+          let file = get_or all place [] in
+          let added = made.added (Some file)
+          (known_slice g.F.Placed.bytes c.args.files.now all place are (omega (arith, long, test))) in
+          one_file_more token all place taps c.extend_from_slice.new.self.items numbers
+          c.extend_from_slice-2.new.self.items (c.loop-place.invariant.own all are)
+          (subst (λ (ts : List TapFields). AreOwnAdded token file taps ts numbers
+          c.extend_from_slice-2.new.self.items) (sym more)
+          (subst (λ (ns : List ℕ). AreOwnAdded token file taps (taps ++ own.taps.items) numbers ns)
+          (sym counts) (own_behind token file taps own.taps.items numbers own.numbers.items added)));
+    }
+
+pub returns-clause-sound : goal.returns-clause-sound
+returns-clause-sound g c = c.loop-place.invariant.sound
+
+pub returns-clause-own : goal.returns-clause-own
+returns-clause-own g c = λ all are.
+    let number = known_number g.F.Placed.bytes c.args.files.now all are in
+    let most = c.loop-place.auto.place-end in
+    let past = c.loop-place-test.false in
+    let long = c.requires.len in
+    own_of_all c.args.token all c.loop-place.place c.loop-place.taps.items
+    c.loop-place.numbers.items (c.loop-place.invariant.own all are)
+    (omega (arith, number, most, past, long))

@@ -1,0 +1,126 @@
+//! The taps of one token of sorted files, collected by several threads.
+
+ghost use Rattle.std.specs.Prelude.{◌≡◌, ◌<◌, ℕ, List, Option, IfOk, IfSome, Some};
+ghost use Rattle.std.specs.Prelude.{length, map, slice_get};
+ghost use Rattle.sorted_bills.specs.inside.OwnTaps.{AreOwnOf, AreSound, IsOwnAt};
+ghost use Rattle.sorted_bills.specs.declared.own_by_threads.OwnTaps.{OwnTaps};
+
+use crate::own_taps::add_file;
+use placed_files::Placed;
+use sorted_taps::WINDOW_BYTES;
+use std::alloc::{AllocError, Global};
+use std::marker::Sync;
+use std::thread;
+use std::thread::Threads;
+use tap_views::{TapFields, Token};
+
+/// The taps of one token of some files, and the number of all taps of each file.
+#[derive(Drop)]
+pub(crate) struct OwnTaps {
+    /// The token's taps, one file after the other.
+    pub(crate) taps: Vec<TapFields>,
+    /// The numbers of the files' taps.
+    pub(crate) numbers: Vec<u64>,
+}
+
+/// The token's taps of the file at the place. None if there is no such file, if it is not sorted, or
+/// if memory is refused.
+fn own_at<F: Placed>(alloc: Global, token: Token, files: &[F], place: usize) -> Option<OwnTaps>
+    ensures { IfSome result (IsOwnAt token (map F.bytes files.now) place) }
+{
+    let file = files.get(place)?;
+    let Ok(mut window) = vec![in alloc; 0u8; WINDOW_BYTES] else {
+        return None;
+    };
+    let mut taps = Vec::new(alloc);
+    let mut numbers = Vec::new(alloc);
+    match add_file(alloc, token, file, &mut window, &mut taps, &mut numbers) {
+        Ok(()) => Some(OwnTaps { taps, numbers }),
+        Err(_) => None,
+    }
+}
+
+/// Puts the token's taps of each file at its place, by so many threads.
+fn collect_each<R: Threads + Sync, F: Placed + Sync>(
+    rt: &R,
+    alloc: Global,
+    token: Token,
+    files: &[F],
+    owns: &mut [Option<OwnTaps>],
+    workers: u32,
+)
+    requires { 0 < workers }
+    ensures len { length owns.new ≡ length owns.old }
+    ensures each { (place : ℕ) (own : Option OwnTaps) → slice_get owns.new place ≡ Some own
+        → IfSome own (IsOwnAt token (map F.bytes files.now) place) }
+{
+    thread::for_each_mut(
+        rt,
+        owns,
+        workers as usize,
+        &|place: usize, own: &mut Option<OwnTaps>|
+            ensures { IfSome own.new (IsOwnAt token (map F.bytes files.entry.now) place) }
+        { *own = own_at(alloc, token, files, place) },
+    );
+}
+
+/// The token's taps of all files. None if those of one are missing.
+fn join_all<F: Placed>(
+    alloc: Global,
+    token: Token,
+    files: &[F],
+    owns: &[Option<OwnTaps>],
+) -> Result<Option<OwnTaps>, AllocError>
+    requires len { length owns.now ≡ length files.now }
+    requires each { (place : ℕ) (own : Option OwnTaps) → slice_get owns.now place ≡ Some own
+        → IfSome own (IsOwnAt token (map F.bytes files.now) place) }
+    ensures sound { IfOk result (λ found. IfSome found (λ own. AreSound token own.taps.items)) }
+    ensures own { IfOk result (λ found. IfSome found (λ own. (all : List (List ℕ))
+        → map F.bytes files.now ≡ map Some all
+        → AreOwnOf token all own.taps.items own.numbers.items)) }
+{
+    let mut taps = Vec::new(alloc);
+    let mut numbers = Vec::new(alloc);
+    for place in 0..owns.len() {
+        match &owns[place] {
+            Some(own) => {
+                taps.extend_from_slice(&own.taps)?;
+                numbers.extend_from_slice(&own.numbers)?;
+            }
+            None => return Ok(None),
+        }
+    }
+    Ok(Some(OwnTaps { taps, numbers }))
+}
+
+/// As many places as there are files, all empty.
+fn places(alloc: Global, number: usize) -> Result<Vec<Option<OwnTaps>>, AllocError>
+    ensures { IfOk result (λ owns. length owns.items ≡ number) }
+{
+    let mut owns = Vec::with_capacity(alloc, number)?;
+    for _ in 0..number {
+        owns.push(None)?;
+    }
+    Ok(owns)
+}
+
+/// The token's taps of all files, if these are sorted, by so many threads of which each takes a
+/// share of the files. None says nothing of the files.
+pub(crate) fn own_by_threads<R: Threads + Sync, F: Placed + Sync>(
+    rt: &R,
+    alloc: Global,
+    token: Token,
+    files: &[F],
+    workers: u32,
+) -> Result<Option<OwnTaps>, AllocError>
+    requires { 0 < workers }
+    ensures sound { IfOk result (λ found. IfSome found (λ own. AreSound token own.taps.items)) }
+    ensures own { IfOk result (λ found. IfSome found (λ own. (all : List (List ℕ))
+        → map F.bytes files.now ≡ map Some all
+        → AreOwnOf token all own.taps.items own.numbers.items)) }
+{
+    let mut owns = places(alloc, files.len())?;
+    collect_each(rt, alloc, token, files, &mut owns, workers);
+    let found = join_all(alloc, token, files, &owns)?;
+    Ok(found)
+}
