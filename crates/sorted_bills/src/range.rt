@@ -24,6 +24,14 @@ use tap_views::Token;
 /// The most taps of a range, so that its lines stay few.
 const MOST_TAPS: u64 = 65_536;
 
+/// The least token but one: a range without a lower bound begins with it, since the teller of the
+/// whole ledger begins with the least one. If a tap has that one, the range is not made.
+fn second_token() -> Token {
+    let mut bytes = [0; 16];
+    bytes[15] = 1;
+    Token::of(&bytes)
+}
+
 /// The lines of the taps of a range of the tokens.
 #[derive(Drop)]
 pub(crate) struct Range {
@@ -105,7 +113,7 @@ impl Range {
         requires clock { clock.now ≡ table.now.zone }
         ensures { IsRange table.now (map F.bytes files.now) self.new }
     {
-        let first = from.unwrap_or(least_token());
+        let first = from.unwrap_or(second_token());
         let mut left = MOST_TAPS;
         self.span = None;
         self.first = first;
