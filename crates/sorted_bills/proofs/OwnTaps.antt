@@ -7,7 +7,7 @@ use Rattle.std.proofs.Common.{append_assoc, arith}
 use Rattle.std.proofs.lemmas.List.Concat.{flat_map-append}
 use Rattle.std.proofs.lemmas.List.Elements.{All-append, All-cons, All-nil, filter-append}
 use Rattle.std.proofs.lemmas.List.Sorted.{All-permutation}
-use Rattle.std.proofs.lemmas.Option.{slice_get-get_or, slice_get-map}
+use Rattle.std.proofs.lemmas.Option.{same_Some, slice_get-get_or, slice_get-map}
 use Rattle.tap_views.specs.Token.{token_eq}
 use Rattle.tap_views.specs.declared.encoder.TapFields.{TapFields}
 use Rattle.tap_views.specs.declared.token.Token.{Token}
@@ -205,6 +205,14 @@ known_slice known files all k are within =
     ap (λ (os : List (Option (List ℕ))). slice_get os k) are
     ∙ slice_get-map Some all k
     ∙ ap (option_map Some) (slice_get-get_or all k [] (omega (arith, number, within)))
+
+-- the bytes of one of the files, as a place of the files' bytes has them
+pub known_there : {X : Type 0} (known : X → Option (List ℕ)) (files : List X) (k : ℕ) (file : X)
+    (bytes : Option (List ℕ)) → k < length files → file ≡ get_or files k file
+    → slice_get (map known files) k ≡ Some bytes → known file ≡ bytes
+known_there known files k file bytes within is there =
+    same_Some (known file) bytes (sym (slice_get-map known files k
+    ∙ ap (option_map known) (slice_get-get_or files k file within ∙ ap Some (sym is))) ∙ there)
 
 -- the token's taps of one file, behind those of others
 pub own_behind : (token : Token) (all : List ℕ) (taps own : List TapFields) (numbers counts : List ℕ)

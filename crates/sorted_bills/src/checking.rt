@@ -19,7 +19,10 @@ fn number_at<F: Placed>(alloc: Global, files: &[F], place: usize) -> Option<u64>
     ensures { (known : Option (List ℕ))
         → slice_get (map F.bytes files.now) place ≡ Some known → IfSome result (HasNumber known) }
 {
-    let file = files.get(place)?;
+    if place >= files.len() {
+        return None;
+    }
+    let file = &files[place];
     let Ok(mut window) = vec![in alloc; 0u8; WINDOW_BYTES] else {
         return None;
     };

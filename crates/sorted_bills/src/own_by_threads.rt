@@ -28,7 +28,10 @@ pub(crate) struct OwnTaps {
 fn own_at<F: Placed>(alloc: Global, token: Token, files: &[F], place: usize) -> Option<OwnTaps>
     ensures { IfSome result (IsOwnAt token (map F.bytes files.now) place) }
 {
-    let file = files.get(place)?;
+    if place >= files.len() {
+        return None;
+    }
+    let file = &files[place];
     let Ok(mut window) = vec![in alloc; 0u8; WINDOW_BYTES] else {
         return None;
     };

@@ -21,13 +21,12 @@ loop-place-preserved g c = λ all are.
     let test = c.loop-place-test.true in
     let long = c.requires.len in
     let there : slice_get numbers place ≡ Some (Some c.in-Some.number) =
-    slice_get-get_or numbers place c.index-numbers-place.result test
-    ∙ ap Some (sym c.index-numbers-place.is ∙ c.in-Some.is) in
+    slice_get-get_or numbers place _ test ∙ ap Some c.in-Some.is in
     let made = c.requires.each place (Some c.in-Some.number) (Some (get_or all place [])) there
     (known_slice g.F.Placed.bytes files all place are (omega (arith, long, test))) in
     counted_more all place c.loop-place.all.items c.push.new.self.items made.0
     (c.loop-place.invariant all are) made.1
-    (c.in_ok-push.ensures.items ∙ ap (λ (n : ℕ). c.loop-place.all.items ++ n ∷ []) made.2)
+    (c.in_ok-push-in-Some.ensures.items ∙ ap (λ (n : ℕ). c.loop-place.all.items ++ n ∷ []) made.2)
 
 pub returns : goal.returns
 returns g c = λ all are.

@@ -27,7 +27,7 @@ loop-place-preserved g c =
     let token = c.args.token in
     let place = c.loop-place.place in
     let owns = c.args.owns.now in
-    let own = c.in-Some.own.now in
+    let own = c.in-Some.own in
     let test = c.loop-place-test.true in
     let long = c.requires.len in
     let taps = c.loop-place.taps.items in
@@ -36,8 +36,10 @@ loop-place-preserved g c =
     slice_get-get_or owns place c.index-owns-place.result test
     ∙ ap Some (sym c.index-owns-place.is ∙ c.in-Some.is) in
     let made = c.requires.each place (Some own) there in
-    let more = c.in_ok-extend_from_slice.ensures.items in
-    let counts = c.in_ok-extend_from_slice-2.ensures.items in
+    let more = c.in_ok-extend_from_slice-in-Some.ensures.items
+    ∙ ap (λ (ts : List TapFields). taps ++ ts) c.deref.ensures.value in
+    let counts = c.in_ok-extend_from_slice-in-Some-2.ensures.items
+    ∙ ap (λ (ns : List ℕ). numbers ++ ns) c.deref-in-Some.ensures.value in
     record {
       sound = subst (λ (ts : List TapFields). AreSound token ts) (sym more)
           (sound_both token taps own.taps.items c.loop-place.invariant.sound made.sound);
@@ -46,9 +48,9 @@ loop-place-preserved g c =
           let added = made.added (Some file)
           (known_slice g.F.Placed.bytes c.args.files.now all place are (omega (arith, long, test))) in
           one_file_more token all place taps c.extend_from_slice.new.self.items numbers
-          c.extend_from_slice-2.new.self.items (c.loop-place.invariant.own all are)
+          c.extend_from_slice-in-Some.new.self.items (c.loop-place.invariant.own all are)
           (subst (λ (ts : List TapFields). AreOwnAdded token file taps ts numbers
-          c.extend_from_slice-2.new.self.items) (sym more)
+          c.extend_from_slice-in-Some.new.self.items) (sym more)
           (subst (λ (ns : List ℕ). AreOwnAdded token file taps (taps ++ own.taps.items) numbers ns)
           (sym counts) (own_behind token file taps own.taps.items numbers own.numbers.items added)));
     }

@@ -1,4 +1,4 @@
-use Rattle.std.proofs.Common.{◌≡◌, List, Some, map}
+use Rattle.std.proofs.Common.{◌≡◌, ℕ, List, Some, map}
 use Rattle.sorted_bills.specs.inside.OwnTaps.{AreSound}
 use Rattle.sorted_bills.proofs.OwnTaps.{AreOwnSoFar}
 use Rattle.sorted_bills.proofs.own_by_threads.join_all.Given as goal
