@@ -1,4 +1,4 @@
-use Rattle.std.proofs.Common.{◌+◌, ◌≤◌, All, List, length, map, string_bytes}
+use Rattle.std.proofs.Common.{◌+◌, ◌≤◌, ℕ, All, List, length, map, string_bytes}
 use Rattle.std.specs.Prelude.{Option}
 use Rattle.std.specs.Io.KnownBytes.{append_known}
 use Rattle.tap_views.specs.declared.token.Token.{Token}
