@@ -42,6 +42,10 @@ pub trait Disk {
     /// All bytes of the file of this name, read into the memory of `room`. What stands there is
     /// overwritten, and more room is asked for where the file is no shorter.
     fn read_into(&self, name: &str, room: Vec<u8>) -> Result<Vec<u8>, LoadFault>;
+
+    /// Notes that so many more of all good taps are charged, for whoever watches the run. Nothing
+    /// else depends on it.
+    fn note_charged(&self, _taps: usize, _all: usize) {}
 }
 
 /// What came of reading a file before it is due.

@@ -65,6 +65,10 @@ impl<D: Disk> Uploads for NamedFiles<'_, D> {
             Err(_) => Err(AllocError),
         }
     }
+
+    fn note_charged(&self, taps: usize, all: usize) {
+        self.disk.note_charged(taps, all);
+    }
 }
 
 /// The sizes of the files of these names, if all may be read before they are due.

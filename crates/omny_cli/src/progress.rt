@@ -21,6 +21,9 @@ enum Stage {
 /// A MiB in bytes.
 const MIB: u64 = 1_048_576;
 
+/// So many taps are a million.
+const MILLION: usize = 1_000_000;
+
 /// How far a run is. Shown, it is what the run does now.
 #[derive(Clone, Copy, Debug)]
 pub(crate) struct Steps {
@@ -42,6 +45,10 @@ pub(crate) struct Steps {
     sorted_bytes: u64,
     /// How many bytes were read of these. Some may be read twice.
     sorted_read: u64,
+    /// How many taps are charged, as far as that is noted.
+    charged: usize,
+    /// How many are to be charged; 0 if that is not known.
+    taps: usize,
 }
 
 impl Steps {
@@ -57,6 +64,8 @@ impl Steps {
             loaded: 0,
             sorted_bytes: 0,
             sorted_read: 0,
+            charged: 0,
+            taps: 0,
         }
     }
 
@@ -78,6 +87,13 @@ impl Steps {
     pub(crate) fn open(&mut self, bytes: u64) {
         self.stage = Stage::Loaded;
         self.sorted_bytes = self.sorted_bytes.saturating_add(bytes);
+    }
+
+    /// Has charged so many more of all taps.
+    pub(crate) fn charge(&mut self, taps: usize, all: usize) {
+        self.stage = Stage::Loaded;
+        self.charged = self.charged.saturating_add(taps);
+        self.taps = all;
     }
 
     /// Has read so many more bytes of a sorted file.
@@ -166,6 +182,11 @@ impl Display for Steps {
                 let read = self.sorted_read.min(self.sorted_bytes) / MIB;
                 let all = self.sorted_bytes / MIB;
                 write!(f, "charging, {read} of {all} MiB read")
+            }
+            Stage::Loaded if self.taps > 0 => {
+                let charged = self.charged / MILLION;
+                let all = self.taps / MILLION;
+                write!(f, "charging {charged} of {all} million taps")
             }
             Stage::Loaded if self.has_table && !self.asks_for_list => f.write_str("charging"),
             Stage::Loaded => f.write_str("listing"),

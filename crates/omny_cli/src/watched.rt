@@ -119,6 +119,11 @@ impl<'a, R: Disk + Wait + Sync> Disk for WatchedDisk<'a, R> {
         self.ticker.steps.lock(self.rt).end_settled();
         Ok(bytes)
     }
+
+    // A part has some 40,000 taps, so that the lock costs none of them anything.
+    fn note_charged(&self, taps: usize, all: usize) {
+        self.ticker.steps.lock(self.rt).charge(taps, all);
+    }
 }
 
 impl<R: Wait, S: Source + Drop> Source for Watched<'_, R, S> {

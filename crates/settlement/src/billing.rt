@@ -6,6 +6,7 @@ ghost use Rattle.settlement.specs.inside.Billing.{IsPartBilled, IsSoundPart};
 
 use crate::bill::Bill;
 use crate::pieces::Pieces;
+use crate::uploads::Uploads;
 use fare_table::{Clock, FareTable};
 use shard_book::HashSeed;
 use std::alloc::Global;
@@ -46,12 +47,23 @@ fn add_part(
     Ok(())
 }
 
-/// The bill of the parts, in their order.
-fn bill_of(
+/// How many taps the parts have.
+fn count_of(parts: &[Pieces]) -> usize {
+    let mut taps = 0usize;
+    for pieces in parts {
+        taps = taps.saturating_add(pieces.count());
+    }
+    taps
+}
+
+/// The bill of the parts, in their order. After each, `uploads` is told how many of all taps it has.
+fn bill_of<U: Uploads>(
     alloc: Global,
     table: &FareTable,
     seed: HashSeed,
     parts: &[Pieces],
+    uploads: &U,
+    all: usize,
 ) -> Result<Bill, NoMemory>
     requires sound { All IsSoundPart parts.now }
     requires order { ArePartsInOrder parts.now }
@@ -63,18 +75,20 @@ fn bill_of(
     let mut bill = Bill::new(alloc, seed);
     for pieces in parts {
         add_part(alloc, table, &clock, &mut list, pieces, &mut bill)?;
+        uploads.note_charged(pieces.count(), all);
     }
     Ok(bill)
 }
 
 /// The bill of the parts, in their order. So many workers make the bill of a run of parts each;
-/// where a thread is refused, another does its work.
-pub(crate) fn bill_by_threads<R: Threads + Sync>(
+/// where a thread is refused, another does its work. `uploads` is told of each part that is charged.
+pub(crate) fn bill_by_threads<R: Threads + Sync, U: Uploads + Sync>(
     rt: &R,
     alloc: Global,
     table: &FareTable,
     seed: HashSeed,
     parts: &[Pieces],
+    uploads: &U,
     workers: u32,
 ) -> Result<Bill, NoMemory>
     requires sound { All IsSoundPart parts.now }
@@ -82,13 +96,14 @@ pub(crate) fn bill_by_threads<R: Threads + Sync>(
     requires few { length parts.now ≤ 65535 }
     ensures { IfOk result (IsBillOfParts table.now parts.now) }
 {
+    let all = count_of(parts);
     let size = parts.len().div_ceil(workers.max(1) as usize).max(1);
     let bills = thread::map_chunks(
         rt,
         alloc,
         parts,
         size,
-        &|_start, chunk: &[Pieces]| { bill_of(alloc, table, seed, chunk) },
+        &|_start, chunk: &[Pieces]| { bill_of(alloc, table, seed, chunk, uploads, all) },
     )?;
     let mut bill = Bill::new(alloc, seed);
     for more in bills {

@@ -43,6 +43,15 @@ impl Pieces {
         Ok(())
     }
 
+    /// How many taps they have.
+    pub(crate) fn count(&self) -> usize {
+        let mut taps = 0usize;
+        for piece in self.list.as_slice() {
+            taps = taps.saturating_add(piece.len());
+        }
+        taps
+    }
+
     /// The pieces, in their order.
     pub(crate) fn as_slice(&self) -> &[Vec<TapFields>]
         ensures { flat_map (λ piece. piece.items) result.now ≡ self.now }

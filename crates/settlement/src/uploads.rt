@@ -30,6 +30,10 @@ pub trait Uploads {
     fn read(&self, upload: usize, room: Vec<u8>) -> Result<Vec<u8>, AllocError>
         requires { upload < number self.now }
         ensures { IfOk result (λ bytes. may_be self.now upload bytes.items) };
+
+    /// Notes that so many more of all good taps are charged, for whoever watches the run. Nothing
+    /// else depends on it.
+    fn note_charged(&self, _taps: usize, _all: usize) {}
 }
 
 /// Uploads that are loaded already.
