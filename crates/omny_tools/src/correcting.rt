@@ -27,8 +27,8 @@ Both are ledgers of omny_cli --settle. A line of the one and a line of the other
 token, moment and validator stand beside each other. A line is written, as CSV, for each that only
 one ledger has, and for each whose answer, cents or reason differ. With --tokens these are counted
 and their cents summed: a line for each token that has one. The ledgers are read as it is written,
-so they may be larger than memory. If OLD has lines that NEW has not, their number is reported on the
-standard error.";
+so they may be larger than memory. If OLD has lines that NEW has not, their number is reported on
+the standard error.";
 
 /// The help of the old ledger.
 const OLD_HELP: &str = "The ledger of the bill that was issued; - stands for standard input";

@@ -23,8 +23,8 @@ since 1970-01-01T00:00Z or as 2024-03-08T17:00:00Z. A field may stand between do
 ends with LF or CRLF.
 
 The taps come out in the order of their lines, in TAP1 batches of 4096, the last of fewer.
-If a line is wrong, nothing is written, and its number is reported. So a file is read twice, and may be
-larger than memory. Standard input and pipes are held in memory whole.
+If a line is wrong, nothing is written, and its number is reported. So a file is read twice, and
+may be larger than memory. Standard input and pipes are held in memory whole.
 
 With --columns the file is any CSV with a head, as an agency has it: fields in quotes by RFC 4180, a
 byte order mark or none. A token may be a UUID, too, and a moment may have an offset, as
@@ -241,7 +241,10 @@ fn rows_words<'a>(
         return Ok(EncodeWords::Mistake(EncodeMistake::Only));
     };
     let devices = matches.get_str("validators").map(|word| Name(word));
-    if let Some(devices) = devices && devices.is_input() && file.is_input() {
+    if let Some(devices) = devices
+        && devices.is_input()
+        && file.is_input()
+    {
         return Ok(EncodeWords::Mistake(EncodeMistake::InputTwice));
     }
     let words = RowsWords {
@@ -274,9 +277,7 @@ pub(crate) fn encode_words<'a>(
         return Ok(EncodeWords::Mistake(EncodeMistake::NoColumns));
     }
     if matches.get_str("validators").is_some() {
-        return Ok(EncodeWords::Mistake(
-            EncodeMistake::NoColumnsForValidators,
-        ));
+        return Ok(EncodeWords::Mistake(EncodeMistake::NoColumnsForValidators));
     }
     Ok(EncodeWords::TapTable(file))
 }

@@ -11,8 +11,8 @@ use std::hash::RandomState;
 use std::io::{BufWriter, ErrorKind, Write};
 use std::{fmt, fs};
 use tap_rows::{
-    AgencyFault, Choice, DeviceTable, DevicesFault, Reason, Separator, Summary, Wanted, WrongDevice,
-    encode_rows, encode_some_rows, read_devices,
+    AgencyFault, Choice, DeviceTable, DevicesFault, Reason, Separator, Summary, Wanted,
+    WrongDevice, encode_rows, encode_some_rows, read_devices,
 };
 
 /// What is wrong with an agency's CSV.
@@ -238,8 +238,8 @@ fn summary_line(alloc: Global, summary: &Summary) -> Result<String, AllocError> 
     Ok(line)
 }
 
-/// Writes the upload of the rows of the file of this name, and says on `err` how many there are. The
-/// device table is read first, if one is named.
+/// Writes the upload of the rows of the file of this name, and says on `err` how many there are.
+/// The device table is read first, if one is named.
 pub(crate) fn encode_columns<'a, W: Write + Drop, E: Write>(
     rt: &HostRuntime,
     name: Name<'a>,

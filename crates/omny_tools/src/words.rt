@@ -41,8 +41,8 @@ const DECODE_HELP: &str =
 
 /// What `uploads` does.
 const UPLOADS_ABOUT: &str =
-    "Prints what uploads have: batches, taps, first and last moment, and the layout fault, if any, with
-its batch, its tap (both from 0), the offset of its batch in bytes, and what to do.
+    "Prints what uploads have: batches, taps, first and last moment, and the layout fault, if any,
+with its batch, its tap (both from 0), the offset of its batch in bytes, and what to do.
 
 Of an upload with a layout fault the part before it is printed, and the status is 1.
 
@@ -63,9 +63,9 @@ const GOOD_PART_HELP: &str =
 
 /// What `table` does.
 const TABLE_ABOUT: &str =
-    "Prints a fare table as it is understood: the zone with its next changes of clocks, the modes, the
-transfers, the classes with the price of each ride of a window, the ranges of validators with the
-gaps between them, and how many riders each class has.
+    "Prints a fare table as it is understood: the zone with its next changes of clocks, the modes,
+the transfers, the classes with the price of each ride of a window, the ranges of validators with
+the gaps between them, and how many riders each class has.
 
 Warnings name what the rules of the table pass over: keys that have no meaning and, where uploads
 are given, ranges that no validator of theirs is in, and validators of theirs that are in no range.

@@ -1,8 +1,8 @@
 -- The devices of a table, and the rows that give them.
-use Rattle.std.proofs.Common.{◌≡◌, ℕ, ◌+◌, Bool, true, false, cond, List, [], ◌∷◌, ◌++◌, length, Option, None, Some, inl, inr, refl, sym, ap, subst, ◌∙◌, arith, length-append}
-use Rattle.std.specs.Prelude.{map, ◌||◌}
+use Rattle.std.proofs.Common.{◌≡◌, ℕ, ◌+◌, Bool, true, false, cond, List, [], ◌∷◌, ◌++◌, length, Option, None, Some, inl, inr, refl, sym, ap, subst, ◌∙◌, arith, length-append, eqb-true}
+use Rattle.std.specs.Prelude.{Result, Ok, Err, IfOk, IfErr, map, codes, is_some, nat_eq, ◌||◌}
 use Rattle.std.specs.Cmp.Lexicographic.{nat_list_eq_equiv}
-use Rattle.std.specs.List.{AllZip, IsDistinct, list_any}
+use Rattle.std.specs.List.{IsDistinct, list_any}
 use Rattle.std.specs.Map.{keys_of, lookup}
 use Rattle.std.specs.Str.{bytes_eq}
 use Rattle.std.proofs.lemmas.List.{map-append}
@@ -13,12 +13,13 @@ use Rattle.csv.specs.Records.{field_at}
 use Rattle.csv.specs.declared.parser.State.TheVariants.{StartRecord}
 use Rattle.csv.specs.declared.reader.Reader.{Reader}
 use Rattle.tap_rows.specs.AgencyTexts.{HasRecords, config_of, fields_read, first_record}
-use Rattle.tap_rows.specs.Devices.{AreDevices, AreDevicesBy, Device, HasDeviceHead, IsDeviceRow, IsDevicesFault, device_head, validator_of}
+use Rattle.tap_rows.specs.Devices.{AreDevices, AreDevicesBy, Device, HasDeviceHead, IsDeviceRow, IsDevicesFault, device_head, devices_of, validator_of}
 use Rattle.tap_rows.specs.declared.agency.choice.Separator.{Separator}
 use Rattle.tap_rows.specs.declared.agency.choice.Separator.TheVariants.{Comma}
 use Rattle.tap_rows.specs.declared.devices.fault.DevicesFault.{DevicesFault}
 use Rattle.tap_rows.specs.declared.devices.fault.DevicesFault.TheVariants as fault
-use Rattle.tap_rows.specs.inside.DeviceRows.{HasDevices, IsFaultBy, IsRowFault}
+use Rattle.tap_rows.specs.declared.devices.table.DeviceTable.{DeviceTable}
+use Rattle.tap_rows.specs.inside.DeviceRows.{HasDevices, IsFaultBy, IsHeadRow, IsRowFault}
 use Rattle.tap_rows.specs.inside.RecordReaders.{HasCome}
 use Rattle.tap_rows.proofs.AgencyRowLemmas.{zip_more}
 use Rattle.tap_rows.proofs.GoingLemmas.{head_is}
@@ -32,6 +33,14 @@ two_fields (x ∷ []) a b long first second = absurd (omega (arith, long))
 two_fields (x ∷ y ∷ []) a b long first second = cc
 two_fields (x ∷ y ∷ z ∷ row) a b long first second = absurd (omega (arith, long))
 
+-- a row with the two names is the head, and the head has them
+pub head_row : (row : List (List ℕ)) → IsHeadRow row → row ≡ device_head
+head_row row is = two_fields row (codes "device") (codes "validator") is.0 is.1 is.2
+
+pub row_of_head : (row : List (List ℕ)) → row ≡ device_head → IsHeadRow row
+unfolding field_at
+row_of_head row same = subst IsHeadRow (sym same) (refl, refl, refl)
+
 -- ---- a look-up among the entries of a map
 pub lookup_named : {K : Type 0} (f : K → List ℕ) (name : List ℕ) (entries : List (K × ℕ)) → lookup (λ k. bytes_eq name (f k)) entries ≡ lookup (bytes_eq name) (map (λ e. (f e.0, e.1)) entries)
 lookup_named f name [] = refl
@@ -40,11 +49,33 @@ lookup_named f name (e ∷ entries) = ap (cond (bytes_eq name (f e.0)) (Some e.1
 -- no device has a name that is not found
 pub no_name : (devices : List Device) (name : List ℕ) → validator_of devices name ≡ None → list_any (bytes_eq name) (keys_of devices) ≡ false
 no_name [] name none = refl
-no_name (d ∷ devices) name none = by (bytes_eq name d.0) none
+no_name (d ∷ devices) name none = by (bytes_eq name d.0) (no_name devices name) none
   where
-    by : (b : Bool) → cond b (Some d.1) (validator_of devices name) ≡ None → (b || list_any (bytes_eq name) (keys_of devices)) ≡ false
-    by true is = absurd (cc is)
-    by false is = no_name devices name is
+    by : (b : Bool) → (validator_of devices name ≡ None → list_any (bytes_eq name) (keys_of devices) ≡ false) → cond b (Some d.1) (validator_of devices name) ≡ None
+        → (b || list_any (bytes_eq name) (keys_of devices)) ≡ false
+    by true rest is = absurd (cc is)
+    by false rest is = rest is
+
+-- a device of a new name is added behind the others
+pub device_added : {V : Type 0} (f : V → List ℕ) (old new : List (V × ℕ)) (key : V) (name : List ℕ) (number : ℕ) → f key ≡ name → lookup (bytes_eq name) (map {B = Device} (λ e. (f e.0, e.1)) old) ≡ None
+    → (lookup (λ k. bytes_eq (f key) (f k)) old ≡ None → new ≡ old ++ (key, number) ∷ []) → map {B = Device} (λ e. (f e.0, e.1)) new ≡ map {B = Device} (λ e. (f e.0, e.1)) old ++ (name, number) ∷ []
+device_added {V} f old new key name number same none more =
+    let pair : V × ℕ → Device = λ e. (f e.0, e.1) in
+    let absent : lookup (λ k. bytes_eq (f key) (f k)) old ≡ None = lookup_named f (f key) old ∙ subst (λ n. lookup (bytes_eq n) (map pair old) ≡ None) (sym same) none in
+    ap (map pair) (more absent) ∙ map-append pair old ((key, number) ∷ []) ∙ ap (λ (n : List ℕ). map pair old ++ (n, number) ∷ []) same
+
+-- what was found is none, where a test says so
+pub none_found : (found : Option ℕ) (test : Bool) → test ≡ is_some found → test ≡ false → found ≡ None
+none_found None test is other = refl
+none_found (Some number) test is other = absurd (cc (is, other))
+
+-- a name is empty or not, as its length says
+pub empty_name : (name : List ℕ) (test : Bool) → test ≡ nat_eq (length name) 0 → test ≡ true → name ≡ []
+empty_name [] test is so = refl
+empty_name (b ∷ name) test is so = let zero = eqb-true (length (b ∷ name)) 0 (sym is ∙ so) in absurd (omega (arith, zero))
+
+pub some_name : (name : List ℕ) (test : Bool) → test ≡ nat_eq (length name) 0 → test ≡ false → ¬ (name ≡ [])
+some_name name test is other none = let zero : nat_eq (length name) 0 ≡ true = ap (λ n. nat_eq (length n) 0) none in absurd (cc (is, other, zero))
 
 -- ---- the head
 -- a text without a record has not the head
@@ -60,7 +91,7 @@ pub other_head : {R : Type 0} (remaining : R → Option (List ℕ)) (separator :
     → HasCome remaining separator text (head ∷ []) reader → ¬ (head ≡ device_head) → ¬ (HasDeviceHead separator text)
 other_head remaining separator text head reader come other is = other (head_is separator text head [] reader.state come.left come.reached ∙ is)
 
-has_head : (separator : Separator) (text : List ℕ) (devices : List Device) → AreDevicesBy separator text devices → HasDeviceHead separator text
+pub has_head : (separator : Separator) (text : List ℕ) (devices : List Device) → AreDevicesBy separator text devices → HasDeviceHead separator text
 has_head separator text devices are = let (s, left, reached, none) = are.records in sym (head_is separator text device_head are.rows s left reached)
 
 -- ---- from row to row
@@ -135,3 +166,9 @@ pub comma_fault : (separator : Separator) (text : List ℕ) (f : DevicesFault) �
 comma_fault separator text fault.Head none is = (none, is)
 comma_fault separator text (fault.Row number why) none is = (Comma, inr (none, refl), is)
 comma_fault separator text fault.NoMemory none is = tt
+
+-- a text whose head has not the names by its own separator is read with commas
+pub by_comma : (separator : Separator) (text : List ℕ) (made : Result DeviceTable DevicesFault) → ¬ (HasDeviceHead separator text) → IfOk made (λ table. AreDevicesBy Comma text (devices_of table))
+    → IfErr made (IsFaultBy Comma text) → IfOk made (λ table. AreDevices separator text (devices_of table)) × IfErr made (IsDevicesFault separator text)
+by_comma separator text (Ok table) none are is = (comma_devices separator text (devices_of table) none are, tt)
+by_comma separator text (Err f) none are is = (tt, comma_fault separator text f none is)

@@ -5,6 +5,7 @@ mod DeviceLemmas
 mod FieldLemmas
 mod GoingLemmas
 pub mod MomentLemmas
+mod OneDeviceTable
 mod OneReading
 mod RowLemmas
 mod TableLemmas

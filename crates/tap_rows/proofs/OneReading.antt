@@ -20,7 +20,7 @@ use Rattle.tap_rows.proofs.AgencyMomentLemmas.{one_agency_time}
 use Rattle.tap_rows.proofs.AgencyRowLemmas.{one_value_there}
 
 -- ---- the records
-one_read : (p q : Read) (o : Option Read) → o ≡ Some p → o ≡ Some q → p ≡ q
+pub one_read : (p q : Read) (o : Option Read) → o ≡ Some p → o ≡ Some q → p ≡ q
 one_read p q o is also = cc
 
 pub one_list_of_records : (cfg : Config) (s : State) (xs : List ℕ) (rows others : List (List (List ℕ))) → AreRecords cfg s xs rows → AreRecords cfg s xs others → rows ≡ others
@@ -193,7 +193,7 @@ readings_same choice head (row ∷ rows) (r ∷ readings) [] is also = absurd al
 readings_same choice head (row ∷ rows) (r ∷ readings) (o ∷ others) is also =
     ap (λ x. x ∷ readings) (one_reading_there choice head row r o is.0 also.0) ∙ ap (λ xs. o ∷ xs) (readings_same choice head rows readings others is.1 also.1)
 
-head_same : (head other : List (List ℕ)) (rows others : List (List (List ℕ))) → head ∷ rows ≡ other ∷ others → (head ≡ other) × (rows ≡ others)
+pub head_same : (head other : List (List ℕ)) (rows others : List (List (List ℕ))) → head ∷ rows ≡ other ∷ others → (head ≡ other) × (rows ≡ others)
 head_same head other rows others same = (cc, cc)
 
 pub one_way : (choice : Choice) (text : List ℕ) (head other : List (List ℕ)) (rows others : List (List (List ℕ))) (readings again : List Reading) → IsRead choice text head rows readings

@@ -1,8 +1,9 @@
 -- How far a device table is read: what private functions alone cite.
-use Rattle.std.specs.Prelude.{◌≡◌, ℕ, List, ◌∷◌, Option, length}
+use Rattle.std.specs.Prelude.{◌≡◌, ℕ, List, ◌∷◌, Option, Some, codes, length}
 use Rattle.std.specs.List.{AllZip, IsDistinct}
 use Rattle.std.specs.Map.{keys_of}
 use Rattle.std.specs.Str.{bytes_eq}
+use Rattle.csv.specs.Records.{field_at}
 use Rattle.csv.specs.declared.reader.Reader.{Reader}
 use Rattle.tap_rows.specs.Devices.{Device, HasDeviceHead, IsDeviceRow, IsFirstWrong, IsWrongDevice, device_head}
 use Rattle.tap_rows.specs.declared.agency.choice.Separator.{Separator}
@@ -10,6 +11,11 @@ use Rattle.tap_rows.specs.declared.devices.fault.DevicesFault.{DevicesFault}
 use Rattle.tap_rows.specs.declared.devices.fault.DevicesFault.TheVariants as fault
 use Rattle.tap_rows.specs.declared.devices.fault.WrongDevice.{WrongDevice}
 use Rattle.tap_rows.specs.inside.RecordReaders.{HasCome}
+
+-- the row has the two names, as the head of a device table
+abbrev pub IsHeadRow : List (List ℕ) → Type 0
+IsHeadRow row =
+    (length row ≡ 2) × (field_at row 0 ≡ Some (codes "device")) × (field_at row 1 ≡ Some (codes "validator"))
 
 -- what is wrong with a row, whatever rows are before it
 abbrev pub IsRowOfNone : List (List ℕ) → WrongDevice → Type 0

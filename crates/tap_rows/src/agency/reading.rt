@@ -1,6 +1,6 @@
 //! What a row of an agency's CSV is read as.
 
-ghost use Rattle.std.specs.Prelude.{◌≡◌, ◌<◌, ◌↔◌, ℕ, List, Some, All, IfErr, IfOk, IsTrue};
+ghost use Rattle.std.specs.Prelude.{◌≡◌, ◌<◌, ◌↔◌, ℕ, List, None, Some, All, IfErr, IfOk, IsTrue};
 ghost use Rattle.std.specs.Prelude.{MatchOption, length};
 ghost use Rattle.std.specs.List.{AllZip};
 ghost use Rattle.csv.specs.Records.{field_at, fields_of};
@@ -8,6 +8,8 @@ ghost use Rattle.tap_rows.specs.Agencies as Spec;
 ghost use Rattle.tap_rows.specs.AgencyMoments.{IsLocalTime};
 ghost use Rattle.tap_rows.specs.AgencyRows.{IsAsLong, IsMet, IsNoTap, IsReadingOf, IsTapOf};
 ghost use Rattle.tap_rows.specs.AgencyRows.{IsTokenText, StandsForValidator};
+ghost use Rattle.tap_rows.specs.Devices.{devices_of, validator_of};
+ghost use Rattle.tap_rows.specs.Rows.{IsNoValidator, IsValidator};
 ghost use Rattle.tap_rows.specs.inside.Validators.{IsWrongValidator};
 ghost use Rattle.tap_rows.specs.inside.Places.{ArePlaces, IsPlaceOf};
 ghost use Rattle.tap_views.specs.Layout.{moment_limit};
@@ -85,21 +87,40 @@ pub(crate) fn field_in(row: &ByteRecord, place: usize) -> &[u8]
     }
 }
 
+/// The validator whose number a field writes.
+fn number_in(field: &[u8]) -> Result<u32, Reason>
+    ensures number { IfOk result (IsValidator field.now) }
+    ensures wrong { IfErr result
+        (λ reason. (reason ≡ Reason.Validator) × IsNoValidator field.now) }
+{
+    match validator_in(field) {
+        Some(number) => Ok(number),
+        None => Err(Reason::Validator),
+    }
+}
+
+/// The validator of the device whose name a field is.
+fn device_in(devices: &DeviceTable, field: &[u8]) -> Result<u32, Reason>
+    ensures number { IfOk result
+        (λ number. validator_of (devices_of devices.now) field.now ≡ Some number) }
+    ensures wrong { IfErr result (λ reason. (reason ≡ Reason.Device)
+        × (validator_of (devices_of devices.now) field.now ≡ None)) }
+{
+    match devices.validator_of(field) {
+        Some(number) => Ok(number),
+        None => Err(Reason::Device),
+    }
+}
+
 /// The validator that a field stands for, by its number or by its device's name; or why it stands
 /// for none.
-fn validator_for(devices: Option<&DeviceTable>, field: &[u8]) -> Result<u32, Reason>
-    ensures validator { IfOk result (StandsForValidator devices field.now) }
-    ensures wrong { IfErr result (IsWrongValidator devices field.now) }
+fn validator_for(choice: &Choice<'_>, field: &[u8]) -> Result<u32, Reason>
+    ensures validator { IfOk result (StandsForValidator choice.now.devices field.now) }
+    ensures wrong { IfErr result (IsWrongValidator choice.now.devices field.now) }
 {
-    match devices {
-        None => match validator_in(field) {
-            Some(number) => Ok(number),
-            None => Err(Reason::Validator),
-        },
-        Some(devices) => match devices.validator_of(field) {
-            Some(number) => Ok(number),
-            None => Err(Reason::Device),
-        },
+    match choice.devices {
+        None => number_in(field),
+        Some(devices) => device_in(devices, field),
     }
 }
 
@@ -117,23 +138,22 @@ fn moment_reason(field: &[u8]) -> Reason
 }
 
 /// The tap of a row that is kept and has as many fields as the head, or why it is none.
-fn tap_of(
-    devices: Option<&DeviceTable>,
-    places: &Places,
-    row: &ByteRecord,
-) -> Result<TapFields, Reason>
-    ensures tap { (choice : Choice) (head : List (List ℕ)) → ArePlaces choice head places.now
-        → choice.devices ≡ devices → IsAsLong head (fields_of row.now)
-        → IfOk result (IsTapOf choice head (fields_of row.now)) }
-    ensures wrong { (choice : Choice) (head : List (List ℕ)) → ArePlaces choice head places.now
-        → choice.devices ≡ devices → IsAsLong head (fields_of row.now)
-        → IfErr result (IsNoTap choice head (fields_of row.now)) }
+fn tap_of(choice: &Choice<'_>, places: &Places, row: &ByteRecord) -> Result<TapFields, Reason>
+    ensures tap { (head : List (List ℕ)) → ArePlaces choice.now head places.now
+        → IsAsLong head (fields_of row.now)
+        → IfOk result (IsTapOf choice.now head (fields_of row.now)) }
+    ensures wrong { (head : List (List ℕ)) → ArePlaces choice.now head places.now
+        → IsAsLong head (fields_of row.now)
+        → IfErr result (IsNoTap choice.now head (fields_of row.now)) }
     ensures early { IfOk result (λ tap. tap.moment < moment_limit) }
 {
     let Some(token) = token_text_in(field_in(row, places.token)) else {
         return Err(Reason::Token);
     };
-    let validator = validator_for(devices, field_in(row, places.validator))?;
+    let validator = match validator_for(choice, field_in(row, places.validator)) {
+        Ok(validator) => validator,
+        Err(reason) => return Err(reason),
+    };
     let field = field_in(row, places.moment);
     let Some(moment) = agency_moment_in(field) else {
         return Err(moment_reason(field));
@@ -157,7 +177,7 @@ pub(crate) fn reading_of(choice: &Choice<'_>, places: &Places, row: &ByteRecord)
     if !is_kept(choice.only, &places.only, row) {
         return Reading::LeftOut;
     }
-    match tap_of(choice.devices, places, row) {
+    match tap_of(choice, places, row) {
         Ok(tap) => Reading::Tap(tap),
         Err(reason) => Reading::Refused(reason),
     }

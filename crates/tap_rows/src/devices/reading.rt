@@ -1,10 +1,9 @@
 //! A device table, read from its file.
 
-ghost use Rattle.std.specs.Prelude.{◌≡◌, ◌↔◌, IfErr, IfOk, IsTrue};
+ghost use Rattle.std.specs.Prelude.{◌↔◌, IfErr, IfOk, IsTrue};
 ghost use Rattle.csv.specs.Records.{fields_of};
-ghost use Rattle.tap_rows.specs.Devices.{AreDevices, AreDevicesBy, IsDevicesFault, device_head};
-ghost use Rattle.tap_rows.specs.Devices.{devices_of};
-ghost use Rattle.tap_rows.specs.inside.DeviceRows.{IsFaultBy};
+ghost use Rattle.tap_rows.specs.Devices.{AreDevices, AreDevicesBy, IsDevicesFault, devices_of};
+ghost use Rattle.tap_rows.specs.inside.DeviceRows.{IsFaultBy, IsHeadRow};
 
 use crate::agency::{Separator, has_at, next_record, records_of};
 use crate::devices::fault::DevicesFault;
@@ -15,7 +14,7 @@ use std::hash::RandomState;
 
 /// Whether a record is the head of a device table.
 fn is_head(row: &ByteRecord) -> bool
-    ensures { IsTrue result ↔ fields_of row.now ≡ device_head }
+    ensures { IsTrue result ↔ IsHeadRow (fields_of row.now) }
 {
     row.len() == 2 && has_at(row, 0, b"device") && has_at(row, 1, b"validator")
 }
@@ -36,7 +35,10 @@ fn read_by(
     let Ok(has_head) = next_record(&mut reader, &mut row) else {
         return Err(DevicesFault::NoMemory);
     };
-    if !has_head || !is_head(&row) {
+    if !has_head {
+        return Err(DevicesFault::Head);
+    }
+    if !is_head(&row) {
         return Err(DevicesFault::Head);
     }
     let mut table = DeviceTable::new(alloc, seed);
@@ -68,7 +70,10 @@ pub fn read_devices(
     ensures fault { IfErr result (IsDevicesFault separator text.now) }
 {
     match read_by(alloc, seed, separator, text) {
-        Err(DevicesFault::Head) => read_by(alloc, seed, Separator::Comma, text),
-        read => read,
+        Ok(table) => Ok(table),
+        Err(fault) => match fault {
+            DevicesFault::Head => read_by(alloc, seed, Separator::Comma, text),
+            _ => Err(fault),
+        },
     }
 }
