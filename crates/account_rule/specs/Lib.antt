@@ -1,5 +1,4 @@
 pub mod Blocks
-pub mod Chains
 pub mod Kept
 pub mod Laws
 pub mod NoTransfers
@@ -8,5 +7,6 @@ pub mod Replies
 pub mod Stands
 pub mod Taps
 pub mod TokenRules
+pub mod Trips
 pub mod Windows
 pub mod inside
