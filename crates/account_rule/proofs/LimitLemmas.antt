@@ -116,7 +116,12 @@ pub charges-push : (terms : LiveTap → Terms) (window : List LiveTap) (ride : L
     ≡ charges terms window
     ++ charge (terms ride) (length window) (window_cents terms window) ∷ []
 unfolding charges window_cents
-charges-push terms window ride = charges_after-push terms 0 0 window ride
+charges-push terms window ride =
+    charges_after-push terms 0 0 window ride
+    ∙ ap (λ (c : Charge). charges_after terms 0 0 window ++ c ∷ [])
+    (same_charge (terms ride) (0 + length window) (length window)
+    (0 + sum_by charged_by (charges_after terms 0 0 window))
+    (sum_by charged_by (charges_after terms 0 0 window)) (omega arith) (omega arith))
 
 pub cents-push : (terms : LiveTap → Terms) (window : List LiveTap) (ride : LiveTap)
     → window_cents terms (window ++ ride ∷ [])
@@ -148,17 +153,23 @@ last_charge-push terms window ride =
     rw (charges-push terms window ride) (last_or-push None (charges terms window) _)
 
 -- ---- the limits
+pub zero-plus : (n : ℕ) → 0 + n ≡ n
+zero-plus n = omega arith
+
+one-plus : (n : ℕ) → 1 + n ≡ suc n
+one-plus n = omega arith
+
 count-free : (first : Charge) (more : List Charge) → is_paid first ≡ false
     → count_by is_paid (first ∷ more) ≡ count_by is_paid more
 count-free first more free =
     sum_by-cons (λ c. cond (is_paid c) 1 0) first more
-    ∙ ap (λ b. cond b 1 0 + count_by is_paid more) free
+    ∙ ap (λ b. cond b 1 0 + count_by is_paid more) free ∙ zero-plus (count_by is_paid more)
 
 count-paid : (first : Charge) (more : List Charge) → is_paid first ≡ true
     → count_by is_paid (first ∷ more) ≡ suc (count_by is_paid more)
 count-paid first more paid =
     sum_by-cons (λ c. cond (is_paid c) 1 0) first more
-    ∙ ap (λ b. cond b 1 0 + count_by is_paid more) paid
+    ∙ ap (λ b. cond b 1 0 + count_by is_paid more) paid ∙ one-plus (count_by is_paid more)
 
 paid_from : (terms : LiveTap → Terms) (rides cents limit : ℕ) (window : List LiveTap)
     → All (λ ride. (terms ride).rides ≤ limit) window
@@ -217,4 +228,5 @@ cents_from terms rides cents ceiling (first ∷ window) low all =
 pub window_cents-le : (terms : LiveTap → Terms) (ceiling : ℕ) (window : List LiveTap)
     → All (λ ride. (terms ride).ceiling ≤ ceiling) window → window_cents terms window ≤ ceiling
 unfolding window_cents charges
-window_cents-le terms ceiling window all = cents_from terms 0 0 ceiling window (omega arith) all
+window_cents-le terms ceiling window all =
+    omega (arith, cents_from terms 0 0 ceiling window (omega arith) all)

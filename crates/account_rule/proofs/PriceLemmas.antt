@@ -15,7 +15,7 @@ use Rattle.account_rule.specs.Taps.{LiveTap}
 use Rattle.account_rule.specs.Trips.{rides, trips}
 use Rattle.account_rule.specs.Windows.{charge, charged_by, charges, charges_after}
 use Rattle.account_rule.specs.Windows.{window_cents, windows}
-use Rattle.account_rule.proofs.LimitLemmas.{charged}
+use Rattle.account_rule.proofs.LimitLemmas.{charged, zero-plus}
 use Rattle.account_rule.proofs.ShareLemmas.{cents_measure, sum-replies}
 
 -- ---- higher terms
@@ -66,7 +66,8 @@ window_cents-rise : (low high : LiveTap → Terms) (window : List LiveTap)
     → ((ride : LiveTap) → AreNoHigher (low ride) (high ride))
     → window_cents low window ≤ window_cents high window
 unfolding window_cents charges
-window_cents-rise low high window rise = rise-from low high 0 0 0 window rise (omega arith)
+window_cents-rise low high window rise =
+    omega (arith, rise-from low high 0 0 0 window rise (omega arith))
 
 -- the windows do not depend on the terms
 same_windows : (rules : TokenRules) (higher : LiveTap → Terms) (taps : List TapIn)
@@ -175,4 +176,5 @@ pub equal_by_places : (terms : LiveTap → Terms) (same : Terms) (window : List 
     → IsOfPlace same place one
 unfolding charges
 equal_by_places terms same window low equal =
-    by_places terms same 0 0 window low equal (λ below. omega arith)
+    λ place one is. subst (λ n. IsOfPlace same n one) (zero-plus place)
+    (by_places terms same 0 0 window low equal (λ below. omega arith) place one is)
