@@ -1,10 +1,10 @@
 //! What a rider class pays.
 
-/// What a rider class pays in one window. That paid rides are capped is the MTA's rule (OMNY fare
+/// What a rider class pays for the rides of one window. That paid rides are capped is the MTA's rule (OMNY fare
 /// capping); the ceiling on what they cost together is this project's.
 #[derive(Clone, Copy, Debug, PartialEq, Eq)]
 pub struct Terms {
-    /// The price of one ride in cents, 1 to 100,000.
+    /// The price of one ride in cents, 0 to 100,000.
     pub fare: u32,
     /// How many rides are paid for, 1 to 1,000; further ones are free.
     pub rides: u32,
