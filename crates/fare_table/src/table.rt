@@ -214,7 +214,7 @@ fn table_of(alloc: Global, table: &Table) -> Result<FareTable, TableFault>
     let modes = modes_of(alloc, table)?;
     let transfers = transfers_of(alloc, &modes, table)?;
     let members = classes_of(table)?;
-    let classes = classes_from(alloc, members)?;
+    let classes = classes_from(alloc, &modes, members)?;
     let standard = default_of(members, table)?;
     let ranges = ranges_of(alloc, &modes, table)?;
     let riders = riders_of(alloc, members, table)?;
