@@ -1,7 +1,7 @@
 #!/usr/bin/env python3
 """Checks a ledger under a fare table, and a report against it (`-`: standard input):
 
-    check_ledger.py [--all] [--report REPORT] --table TABLE LEDGER
+    check_ledger.py [--all] [--report REPORT] --table TABLE LEDGER [--uploads FILE...]
 
 Prints `legal N lines` with status 0. Else status 1 and the first wrong line: `line N wants LINE`,
 the line that the fare rules give that tap there, or `line N is no ledger line`; the standard error
@@ -11,8 +11,16 @@ With `--report` a second line follows `legal N lines`: `report of the ledger`, o
 report's first line that is not that of the ledger's sums, `wrong report line N: wants LINE` or
 `wrong report line N: no report has it`. Of the uploads' lines only the form is known, and that their
 taps are as many as the ledger's: else `wrong report line N: the uploads have A taps, the ledger B`.
+A traced ledger, known by its head line, is checked without its last three columns. A line whose
+columns have not their form is no ledger line. Behind `legal N lines`, or their end with `--all`,
+comes `all classes of the table` or, with status 1, `line N has another class than CLASS` for the
+first such line. With `--uploads` comes also `all places of the uploads`, or with status 1 the first
+of `line N has another tap than upload U has at place P`, `line N has upload U place P again` and
+`no line has upload U place P`. Then the ledger has the taps of the uploads, each once. `--uploads`
+needs a traced ledger: `omny_audit` compares the taps of any.
 Written from docs/RULES.md and docs/FORMATS.md alone, so that it shares no mistake with the program.
-It keeps one account and one line at a time, and with `--report` the sums. It needs Python 3.11 and nothing else."""
+It keeps one account and one line at a time, with `--report` the sums, with `--uploads` their taps.
+It needs Python 3.11 and nothing else."""
 import io, os, re, struct, sys, tomllib
 from bisect import bisect_right
 from datetime import date, datetime, timedelta, timezone
@@ -22,6 +30,7 @@ from zoneinfo import ZoneInfo
 DAY_MS, TRANSFER_MS, MOMENT_LIMIT = 86_400_000, 7_200_000, 4_102_444_800_000
 HEAD = ("token,line,moment,validator,mode,answer,cents,"
         "window_start,window_end,ride,reason,points_at\n")
+TRACED_HEAD = HEAD[:-1] + ",class,upload,place\n"
 NUMBER, WORD = "(?:0|[1-9][0-9]*)", "[a-z-]{0,16}"
 MOMENT = "[0-9]{4}-[0-9]{2}-[0-9]{2}T(?:[01][0-9]|2[0-3])(?::[0-5][0-9]){2}[.][0-9]{3}Z"
 LINE = re.compile(f"([0-9a-f]{{32}}),({NUMBER}),({MOMENT}),({NUMBER}),{WORD},{WORD},({NUMBER}),"
@@ -29,6 +38,11 @@ LINE = re.compile(f"([0-9a-f]{{32}}),({NUMBER}),({MOMENT}),({NUMBER}),{WORD},{WO
 # a line that has a tap, whatever it says of it, and its cents behind the validator
 TAP = re.compile(f"([0-9a-f]{{32}}),[^,]*,({MOMENT}),({NUMBER}),(.*\n)")
 CENTS = re.compile(f"[^,]*,[^,]*,({NUMBER}),")
+# what stands behind the twelve fields of a line of a traced ledger: no class has more than 64 bytes,
+# no upload's number is past 32 bits, and no place past 64
+CLASS = re.compile("[A-Za-z0-9_-]{1,64}")
+COLUMNS = re.compile(f"(.*),({CLASS.pattern}),({NUMBER}),({NUMBER})\n")
+LINE_BYTES, TRACED_BYTES = 255, 255 + 97
 ANSWERS = {"paid": "paid", "transfer": "transfers", "capped": "capped", "stale": "stale",
            "unknown": "unknown"}
 UPLOADS = re.compile(f"uploads ({NUMBER})\n")
@@ -78,8 +92,10 @@ class Fares:
         self.pairs = {tuple(pair) for pair in table["transfers"]}
         self.terms = {name: (c["fare"], c["rides"], c.get("ceiling", c["fare"] * c["rides"]))
                       for name, c in table["classes"].items()}
-        self.usual = self.terms[table["default_class"]]
-        self.riders = {k.lower(): self.terms[c] for k, c in table.get("riders", {}).items()}
+        self.usual_class = table["default_class"]
+        self.usual = self.terms[self.usual_class]
+        self.classes = {k.lower(): c for k, c in table.get("riders", {}).items()}
+        self.riders = {k: self.terms[c] for k, c in self.classes.items()}
         self.ranges = sorted((r["first"], r["last"], r["mode"]) for r in table["validators"])
         self.zone = zone_of(table["zone"]) if "zone" in table else None
 
@@ -87,6 +103,13 @@ class Fares:
         """The mode of a validator, or None if the table does not know it."""
         at = bisect_right(self.ranges, validator, key=lambda r: r[0]) - 1
         return self.ranges[at][2] if at >= 0 and validator <= self.ranges[at][1] else None
+
+    def class_of(self, token):
+        """The name of a token's class. ValueError if a ledger cannot have it."""
+        name = self.classes.get(token, self.usual_class)
+        if not CLASS.fullmatch(name):
+            raise ValueError(f"no ledger can have the class name {name!r}")
+        return name
 
     def window_end(self, start):
         """Where the window ends that starts at this moment."""
@@ -180,6 +203,88 @@ def wrong_in_report(sums, file):
             return f"wrong report line {number}: wants {wanted[:-1]}"
     return none.format(number + 1) if read() else None
 
+def taps_of_upload(file):
+    """The good taps of an upload: token, moment and validator of each, before its first fault."""
+    at, taps = 0, []
+    while len(file) - at >= 8:
+        magic, count, flags = struct.unpack_from(">4sHH", file, at)
+        head, width = (8, 28) if magic == b"TAP1" else (12, 24)
+        if magic not in (b"TAP1", b"TAP2") or flags or count > 4096 \
+                or len(file) - at < head + width * count:
+            break
+        if magic == b"TAP1":
+            batch = struct.iter_unpack(">16sIQ", file[at + 8:at + 8 + 28 * count])
+        else:
+            validator, = struct.unpack_from(">I", file, at + 8)
+            batch = ((token, validator, moment) for token, moment
+                     in struct.iter_unpack(">16sQ", file[at + 12:at + 12 + 24 * count]))
+        batch = [(token, moment, validator) for token, validator, moment in batch]
+        if any(moment >= MOMENT_LIMIT for _, moment, _ in batch):
+            break
+        taps += batch
+        at += head + width * count
+    return taps
+
+class Trace:
+    """The columns of a traced ledger's lines, and the first that is wrong."""
+    def __init__(self, fares, uploads):
+        self.fares, self.wrong_class, self.wrong_place = fares, None, None
+        self.uploads = None if uploads is None else [taps_of_upload(file) for file in uploads]
+        self.seen = [bytearray(len(taps)) for taps in self.uploads or []]
+
+    def add(self, number, line, columns):
+        """Compares the columns of a line that has a tap with the table and the uploads."""
+        token, moment, _, validator, *_ = tap_in(line)
+        (name, upload, place), is_class = columns, self.fares.class_of(token)
+        if name != is_class and not self.wrong_class:
+            self.wrong_class = f"line {number} has another class than {is_class}"
+        if self.uploads is None or self.wrong_place:
+            return
+        taps = self.uploads[upload] if upload < len(self.uploads) else []
+        if not 1 <= place <= len(taps) or taps[place - 1] != (bytes.fromhex(token), moment, validator):
+            self.wrong_place = f"line {number} has another tap than upload {upload} has at place {place}"
+        elif self.seen[upload][place - 1]:
+            self.wrong_place = f"line {number} has upload {upload} place {place} again"
+        else:
+            self.seen[upload][place - 1] = 1
+
+    def verdict(self):
+        """Prints what the columns are. Gives whether all are right."""
+        print(self.wrong_class or "all classes of the table")
+        if self.uploads is None:
+            return not self.wrong_class
+        for upload, seen in enumerate(self.seen):
+            if not self.wrong_place and 0 in seen:
+                self.wrong_place = f"no line has upload {upload} place {seen.index(0) + 1}"
+        print(self.wrong_place or "all places of the uploads")
+        return not (self.wrong_class or self.wrong_place)
+
+class Untraced:
+    """The lines of a ledger, one by one. Those of a traced ledger have lost their columns, which are
+    kept beside; a line whose columns have not their form has become an empty one."""
+    def __init__(self, file):
+        self.file, self.columns, self.is_traced, self.at_head = file, None, False, True
+
+    def readline(self, limit):
+        """The next line, or a beginning of so many bytes of a longer one."""
+        line = self.file.readline(len(TRACED_HEAD) if self.at_head else
+                                  TRACED_BYTES + 1 if self.is_traced else limit)
+        if self.at_head:
+            self.at_head, self.is_traced = False, line == TRACED_HEAD.encode()
+            return HEAD.encode() if self.is_traced else line + (
+                b"" if line.endswith(b"\n") else self.file.readline(max(0, limit - len(line))))
+        if not self.is_traced or not line.endswith(b"\n") and len(line) <= TRACED_BYTES:
+            return line
+        more = line
+        while not more.endswith(b"\n") and (more := self.file.readline(65_536)):
+            pass
+        found = COLUMNS.fullmatch(line.decode("latin-1"))
+        if not found or int(found[3]) >= 2 ** 32 or int(found[4]) >= 2 ** 64 \
+                or len(found[1]) >= LINE_BYTES:
+            return b"\n"
+        self.columns = found[2], int(found[3]), int(found[4])
+        return found[1].encode("latin-1") + b"\n"
+
 def tap_of(line):
     """Token, moment, its text and validator of a ledger line. ValueError if it is none."""
     if not (fields := LINE.fullmatch(line)):
@@ -191,9 +296,9 @@ def tap_of(line):
         raise ValueError("a number or a moment is past its range")
     return token, moments[0], text, int(validator)
 
-def first_wrong(fares, file, sums):
+def first_wrong(fares, file, sums, trace):
     """How many lines are right, what is wrong with the next, and why it is no ledger line. The lines
-    that are right are added to the sums, if there are any."""
+    that are right are added to the sums, if there are any, and their columns to the trace."""
     read = lambda: file.readline(256).decode("latin-1")  # no ledger line has as many bytes
     if read() != HEAD:
         return 0, "line 1 is no ledger line", "it is not the head line"
@@ -213,6 +318,8 @@ def first_wrong(fares, file, sums):
         if sums:
             sums.add(line)
         count += 1
+        if file.is_traced:
+            trace.add(count + 1, line, file.columns)
     return count, None, None
 
 def lines_in(file):
@@ -238,7 +345,7 @@ def tap_in(line):
     cents = int(cents[1]) if cents else 0
     return token, moment, text, int(validator), cents if cents < 2 ** 32 else 0
 
-def all_wrong(fares, file, sums):
+def all_wrong(fares, file, sums, trace):
     """Prints each wrong line and the end. Gives whether no line is wrong. Each line that tells a tap
     is added to the sums as it should be, if there are any."""
     account, last, wrong, tokens, last_wrong, cents, wanted_cents = None, "", 0, 0, None, 0, 0
@@ -258,6 +365,8 @@ def all_wrong(fares, file, sums):
         wanted_cents += int(wanted.split(",")[6])
         if sums:
             sums.add(wanted)
+        if file.is_traced:
+            trace.add(number, line, file.columns)
         if falls or line != wanted:
             print(f"line {number} " + ("is no ledger line" if falls else f"wants {wanted[:-1]}"))
             wrong, tokens, last_wrong = wrong + 1, tokens + (token != last_wrong), token
@@ -268,12 +377,19 @@ def all_wrong(fares, file, sums):
           f"{wanted_cents}" if wrong else f"legal {number - 1} lines")
     return not wrong
 
+def read(name):
+    """All bytes of the file of this name."""
+    with open(name, "rb") as file:
+        return file.read()
+
 def main():
     words = sys.argv[1:]
     goes_on = words[:1] == ["--all"]
     words = words[goes_on:]
     report = words[1] if words[:1] == ["--report"] and len(words) > 1 else None
     words = words[2 if report is not None else 0:]
+    names = words[4:] if words[3:4] == ["--uploads"] and len(words) > 4 else None
+    words = words[:3] if names is not None else words
     if len(words) != 3 or words[0] != "--table":
         sys.exit(print(__doc__, file=sys.stderr) or 2)
     try:
@@ -281,11 +397,16 @@ def main():
                 open(0 if words[2] == "-" else words[2], "rb") as file, \
                 open(os.devnull if report is None else report, "rb") as reported:
             fares, sums = Fares(tomllib.load(table)), None if report is None else Sums()
+            ledger, trace = Untraced(file), Trace(fares, names and [read(name) for name in names])
             if goes_on:
-                wrong, why = "" if all_wrong(fares, file, sums) else "wrong", None
+                wrong, why = "" if all_wrong(fares, ledger, sums, trace) else "wrong", None
             else:
-                count, wrong, why = first_wrong(fares, file, sums)
+                count, wrong, why = first_wrong(fares, ledger, sums, trace)
                 print(wrong or f"legal {count} lines")
+            if names and not ledger.is_traced:
+                raise ValueError("--uploads needs a traced ledger")
+            if ledger.is_traced and (goes_on or not wrong):
+                wrong = "" if trace.verdict() and not wrong else "wrong"
             if sums and not wrong:
                 wrong = wrong_in_report(sums, reported)
                 print(wrong or "report of the ledger")

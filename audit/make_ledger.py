@@ -5,11 +5,11 @@ With uploads it prints the ledger of their taps, posted in order, as `omny_cli -
 one worker. With --week it writes DIR/table.toml, under a zone, and DIR/ledger.csv of N riders, some
 twenty taps each, over the week in which New York's clocks changed: every reason is in it.
 """
-import random, struct, sys, tomllib
+import random, sys, tomllib
 from collections import defaultdict
 from itertools import chain
 sys.dont_write_bytecode = True
-from check_ledger import HEAD, MOMENT_LIMIT, Account, Fares, moment_text
+from check_ledger import HEAD, Account, Fares, moment_text, read, taps_of_upload
 
 WEEK_START, HOUR_MS = 1_761_537_600_000, 3_600_000  # 2025-10-27, midnight in New York
 TABLE = '''zone = "EST5EDT,M3.2.0,M11.1.0"
@@ -45,24 +45,6 @@ mode = "ferry"
 '''
 
 
-def taps_of(upload):
-    """The taps (token, moment, validator) of an upload up to its first fault."""
-    at = 0
-    while at < len(upload):
-        layout, (count, flags) = upload[at:at + 4], struct.unpack_from(">HH", upload, at + 4)
-        first, size = {b"TAP1": (8, 28), b"TAP2": (12, 24)}[layout]
-        end = at + first + count * size
-        if flags or count > 4096 or end > len(upload):
-            return
-        shared = upload[at + 8:at + 12] if size == 24 else b""
-        batch = [struct.unpack(">16sIQ", tap[:16] + (shared or tap[16:20]) + tap[-8:])
-                 for tap in (upload[k:k + size] for k in range(at + first, end, size))]
-        if any(moment >= MOMENT_LIMIT for _, _, moment in batch):
-            return
-        yield from ((token.hex(), moment, validator) for token, validator, moment in batch)
-        at = end
-
-
 def week_of(rnd, riders):
     """Taps of riders in a week, with late ones, double ones, and ones at unknown validators."""
     for rider in range(riders):
@@ -94,8 +76,8 @@ def main():
     if sys.argv[1] == "--table":
         with open(sys.argv[2], "rb") as table:
             fares = Fares(tomllib.load(table))
-        uploads = (open(name, "rb").read() for name in sys.argv[3:])
-        write_ledger(fares, chain.from_iterable(map(taps_of, uploads)), sys.stdout)
+        taps = chain.from_iterable(taps_of_upload(read(name)) for name in sys.argv[3:])
+        write_ledger(fares, ((tap[0].hex(), *tap[1:]) for tap in taps), sys.stdout)
         return
     taps = list(week_of(random.Random(1), int(sys.argv[3])))
     reduced = sorted({token for token, _, _ in taps if token[0] == "0"})

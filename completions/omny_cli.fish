@@ -17,6 +17,7 @@ complete -c omny_cli -l shards -x -d 'Over how many shards the accounts are spre
 complete -c omny_cli -l token -x -d 'Print the statement of this token'
 complete -c omny_cli -l explain -d 'Print the statement of --token with the reason of each line'
 complete -c omny_cli -l ledger -d 'Print the ledger: every entry, as CSV'
+complete -c omny_cli -l traced -d 'Put class, upload and place behind each line of the settled ledger'
 complete -c omny_cli -s h -l help -d 'Print help'
 complete -c omny_cli -s V -l version -d 'Print the version'
 complete -c omny_cli -k -a '(__omny_cli_files .tap)'

@@ -20,8 +20,8 @@ _omny_tools() {
     # the options of the task, and the ending of its files: * is any name
     case $task in
     '') words='-V --version' ;;
-    encode) words='--columns --only --separator --refused' ending=csv ;;
-    merge-ledgers) ending=csv ;;
+    encode) words='--columns --validators --only --separator --refused' ending=csv ;;
+    merge-ledgers) words='--reports' ending=csv ;;
     corrections) words='--tokens' ending=csv ;;
     uploads) words='--good-part --tokens --look --within --from --until --table --list' ;;
     table)
@@ -37,7 +37,7 @@ _omny_tools() {
         [[ $given == -- ]] && before=--
     done
     case $task$before in
-    sort--ends) ending='*' ;;
+    sort--ends | merge-ledgers--reports) ending='*' ;;
     uploads--table) ending=toml ;;
     esac
     case $before in

@@ -31,12 +31,14 @@ complete -c omny_tools -n $no_task -s V -l version -d 'Print the version'
 complete -c omny_tools -s h -l help -d 'Print help'
 set -l encode '__fish_seen_subcommand_from encode'
 complete -c omny_tools -n $encode -l columns -x -d 'Read any CSV with these columns'
+complete -c omny_tools -n $encode -l validators -x -k -d 'Take the validators by the names of devices' \
+    -a '(__omny_tools_files .csv)'
 complete -c omny_tools -n $encode -l only -x -d 'Keep only the rows with this value'
 complete -c omny_tools -n $encode -l separator -x -a ', ";" tab' -d 'What stands between two fields'
 complete -c omny_tools -n $encode -l refused -r -d 'Make a file of the rows that are no taps'
 set -l uploads '__fish_seen_subcommand_from uploads'
 complete -c omny_tools -n $uploads -l good-part -r -d 'Make a file of what stands before the fault'
-complete -c omny_tools -n $uploads -l tokens -d 'Tell how many tokens the uploads share'
+complete -c omny_tools -n $uploads -l tokens -d 'Print how many tokens the uploads share'
 complete -c omny_tools -n $uploads -l look -d 'Look for near doubles and repeated uploads, too'
 complete -c omny_tools -n $uploads -l within -x -d 'How many seconds later a near double is at most'
 complete -c omny_tools -n $uploads -l from -x -d 'Look for taps before this moment'
@@ -65,6 +67,8 @@ set -l merge '__fish_seen_subcommand_from merge'
 complete -c omny_tools -n $merge -l ends -r -d 'How the uploads ended'
 complete -c omny_tools -n $merge -l reports -r -d 'The reports of the parts'
 complete -c omny_tools -n $merge -F
+complete -c omny_tools -n '__fish_seen_subcommand_from merge-ledgers' -l reports -r \
+    -d "The report of each ledger's part"
 complete -c omny_tools -n '__fish_seen_subcommand_from encode merge-ledgers corrections' -k \
     -a '(__omny_tools_files .csv)'
 complete -c omny_tools -n '__fish_seen_subcommand_from decode uploads sort split' -k \

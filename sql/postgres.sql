@@ -1,6 +1,7 @@
 -- The same in PostgreSQL, into the schema of the search path:
 --   psql -v ON_ERROR_STOP=1 -v zone=EST5EDT,M3.2.0,M11.1.0 -f postgres.sql < LEDGER
 --   psql -f questions.sql
+-- For a traced ledger `-v traced=1`: its last three columns go to the table `trace`.
 -- Texts are compared by bytes, as SQLite does, whatever order the database has. Rows are written
 -- once, already frozen, and the key is made when all are there. `sql/run_postgres` tries it.
 \set ON_ERROR_STOP 1
@@ -29,8 +30,28 @@ CREATE TABLE line (
                      WHEN 'transfer' THEN reason = answer WHEN 'stale' THEN reason = answer
                      WHEN 'unknown' THEN reason = answer ELSE false END)
 );
+CREATE TABLE trace (
+  token  text    COLLATE "C" NOT NULL,
+  line   bigint  NOT NULL,
+  class  text    COLLATE "C" NOT NULL CHECK (class ~ '^[A-Za-z0-9_-]{1,64}$'),
+  upload bigint  NOT NULL CHECK (upload BETWEEN 0 AND 4294967295),
+  place  bigint  NOT NULL CHECK (place >= 1)
+);
+\if :{?traced}
+CREATE TEMP TABLE both_forms (LIKE line) ON COMMIT DROP;
+ALTER TABLE both_forms DROP COLUMN day, ADD COLUMN class text, ADD COLUMN upload bigint,
+  ADD COLUMN place bigint;
+\copy both_forms FROM pstdin WITH (FORMAT csv, HEADER match)
+INSERT INTO line (token, line, moment, validator, mode, answer, cents, window_start, window_end,
+                  ride, reason, points_at)
+  SELECT token, line, moment, validator, mode, answer, cents, window_start, window_end,
+         ride, reason, points_at FROM both_forms;
+INSERT INTO trace SELECT token, line, class, upload, place FROM both_forms;
+\else
 \copy line FROM pstdin WITH (FORMAT csv, HEADER match, FREEZE)
+\endif
 ALTER TABLE line ADD PRIMARY KEY (token, line);
+ALTER TABLE trace ADD PRIMARY KEY (token, line), ADD UNIQUE (upload, place);
 -- the views of schema.sql
 CREATE VIEW live_taps AS
   SELECT token, line, mode, answer, last_mode, last_answer,

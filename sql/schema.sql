@@ -22,6 +22,19 @@ CREATE TABLE line (
   PRIMARY KEY (token, line)
 ) WITHOUT ROWID;
 
+-- What a traced ledger has behind each line: the class of the token, the upload of the tap, from 0,
+-- and the tap's place there, from 1. Of another ledger it has no row.
+CREATE TABLE trace (
+  token  TEXT    NOT NULL,
+  line   INTEGER NOT NULL,
+  class  TEXT    NOT NULL CHECK (length(class) BETWEEN 1 AND 64
+                                 AND class NOT GLOB '*[^A-Za-z0-9_-]*'),
+  upload INTEGER NOT NULL CHECK (upload BETWEEN 0 AND 4294967295),
+  place  INTEGER NOT NULL CHECK (typeof(place) = 'integer' AND place >= 1),
+  PRIMARY KEY (token, line),
+  UNIQUE (upload, place)
+) WITHOUT ROWID;
+
 -- The live taps of each token: the milliseconds since the live tap before it, its mode and answer.
 CREATE VIEW live_taps AS
   SELECT token, line, mode, answer, last_mode, last_answer,

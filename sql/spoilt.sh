@@ -10,11 +10,29 @@ declare -A SPOILT=(
     ["a line twice"]='3p'
 )
 
+# the same of the columns of the example's traced ledger
+declare -A SPOILT_TRACE=(
+    ["a tap of an upload twice"]='4s/,3$/,2/'
+    ["a class with a blank"]='2s/,full,0,1$/,fu ll,0,1/'
+    ["a class with no name"]='2s/,full,0,1$/,,0,1/'
+    ["a place that is no number"]='2s/,0,1$/,0,x/'
+    ["no place"]='2s/,0,1$/,0/'
+    ["an upload below 0"]='2s/,0,1$/,-1,1/'
+)
+
 # refuse_spoilt LEDGER: gives each spoilt ledger to `refused NAME`, which the script has
 refuse_spoilt() {
     local name
     for name in "${!SPOILT[@]}"; do
         sed "${SPOILT[$name]}" "$1" | refused "$name"
+    done
+}
+
+# refuse_spoilt_trace LEDGER: the same of a traced ledger
+refuse_spoilt_trace() {
+    local name
+    for name in "${!SPOILT_TRACE[@]}"; do
+        sed "${SPOILT_TRACE[$name]}" "$1" | refused "$name"
     done
 }
 

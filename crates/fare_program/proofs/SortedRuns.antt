@@ -1,14 +1,13 @@
 -- What was asked for was done, of sorted files.
-use Rattle.std.proofs.Common.{◌≡◌, ◌∷◌, ℕ, List, [], Bool, true, false, not, Option, Some, None, map, refl, subst, sym}
+use Rattle.std.proofs.Common.{◌≡◌, ℕ, List, Bool, true, false, not, Option, Some, None, map, refl, subst, sym}
 use Rattle.std.specs.Prelude.{MatchBool, is_some, ◌||◌}
-use Rattle.std.specs.Io.KnownBytes.{Appends}
 use Rattle.fare_table.specs.Fares.{Fares}
 use Rattle.tap_views.specs.declared.token.Token.{Token}
 use Rattle.program_manners.specs.Loads.{Loaded}
 use Rattle.fare_program.specs.Fault.{charge_mistake_of, explain_mistake, first_of_two, ledger_mistake, mistake}
-use Rattle.fare_program.specs.Fault.{settle_mistake, sorted_mistake, sorted_mistake_of, token_mistake}
+use Rattle.fare_program.specs.Fault.{settle_mistake, sorted_mistake, sorted_mistake_of, token_mistake, traced_mistake, traced_mistake_of}
 use Rattle.fare_program.specs.Options.{Asked}
-use Rattle.fare_program.specs.Program.{Does, GaveUp, GaveUpOn, IsTokenIn, LoadsTable, RunsListing, RunsService, RunsSorted}
+use Rattle.fare_program.specs.Program.{Does, DoesUntraced, GaveUp, GaveUpOn, IsTokenIn, LoadsTable, RunsListing, RunsService, RunsSorted, RunsTraced}
 use Rattle.fare_program.specs.Settling.{ShowsSettled}
 use Rattle.fare_program.specs.declared.fault.Fault.{Fault}
 use Rattle.fare_program.specs.declared.fault.Fault.TheVariants.{SettleNoTable, SettleList}
@@ -41,14 +40,51 @@ charges asked right sorted =
     let (token, one) = neither (token_mistake asked) _ right in
     let (settle, two) = neither (settle_mistake asked) _ one in
     let (ledger, three) = neither (ledger_mistake asked) _ two in
-    let (explain, four) = neither (explain_mistake asked) (sorted_mistake asked) three in
-    has_table_named asked.settle asked.list asked.table (settles asked.sorted asked.settle asked.files sorted four)
+    let (explain, four) = neither (explain_mistake asked) _ three in
+    let (live, five) = neither (sorted_mistake asked) (traced_mistake asked) four in
+    has_table_named asked.settle asked.list asked.table (settles asked.sorted asked.settle asked.files sorted live)
     settle
 
 loaded_table : (table : Option (List ℕ)) (told told' : Option (List Loaded)) (fares : Option Fares)
     → is_some table ≡ true → LoadsTable table told told' fares → (f : Fares) × (fares ≡ Some f)
 loaded_table None told told' fares some loads = cc
 loaded_table (Some name) told told' fares some loads = (loads.1, loads.4)
+
+-- a traced ledger is settled
+traced_settles : (traced ledger settle sorted : Bool) (token : Option (List ℕ)) → traced ≡ true
+    → traced_mistake_of traced ledger settle token sorted ≡ None → settle ≡ true
+traced_settles false ledger settle sorted token is right = cc
+traced_settles true false settle sorted token is right = cc
+traced_settles true true false sorted token is right = cc
+traced_settles true true true sorted token is right = refl
+
+-- of a traced ledger a table is named
+pub traced_table : (asked : Asked) → mistake asked ≡ None → asked.traced ≡ true
+    → is_some asked.table ≡ true
+traced_table asked right traced =
+    let (token, one) = neither (token_mistake asked) _ right in
+    let (settle, two) = neither (settle_mistake asked) _ one in
+    let (ledger, three) = neither (ledger_mistake asked) _ two in
+    let (explain, four) = neither (explain_mistake asked) _ three in
+    let (live, five) = neither (sorted_mistake asked) (traced_mistake asked) four in
+    (has_table_named asked.settle asked.list asked.table (traced_settles asked.traced asked.ledger
+    asked.settle asked.sorted asked.token traced five) settle).1
+
+-- a traced ledger was asked for, and written
+pub does_traced : (asked : Asked) (known : List ℕ → Option (List ℕ)) (told told' : Option (List Loaded))
+    (out out' : Option (List ℕ)) (well : Bool) → asked.traced ≡ true
+    → RunsTraced asked told told' out out' well → Does asked known told told' out out' well
+does_traced asked known told told' out out' well traced runs =
+    subst (λ (b : Bool). MatchBool b (RunsTraced asked told told' out out' well)
+    (DoesUntraced asked known told told' out out' well)) (sym traced) runs
+
+-- what was done is no traced ledger, and none was asked for
+pub does_untraced : (asked : Asked) (known : List ℕ → Option (List ℕ)) (told told' : Option (List Loaded))
+    (out out' : Option (List ℕ)) (well : Bool) → asked.traced ≡ false
+    → DoesUntraced asked known told told' out out' well → Does asked known told told' out out' well
+does_untraced asked known told told' out out' well untraced done =
+    subst (λ (b : Bool). MatchBool b (RunsTraced asked told told' out out' well)
+    (DoesUntraced asked known told told' out out' well)) (sym untraced) done
 
 -- the table that is named was loaded
 pub has_table : (asked : Asked) (told told' : Option (List Loaded)) (fares : Option Fares)
@@ -69,7 +105,7 @@ pub does_sorted : (asked : Asked) (known : List ℕ → Option (List ℕ)) (told
     → IsTokenIn asked.token token
     → (well ≡ true) × ((f : Fares) → fares ≡ Some f
     → IsChargedSorted asked (map known asked.files) f token out out')
-    → Does asked known told between out out' well
+    → DoesUntraced asked known told between out out' well
 does_sorted asked known told between fares token out out' well right sorted loads is_token made =
     let (list, some) = charges asked right sorted in
     let (f, is) = has_table asked told between fares right sorted loads in

@@ -6,7 +6,7 @@ use Rattle.std.specs.Io.KnownBytes.{Appends, Keeps}
 use Rattle.fare_table.specs.Fares.{Fares}
 use Rattle.tap_views.specs.declared.token.Token.{Token}
 use Rattle.fare_program.specs.Options.{Asked}
-use Rattle.fare_program.specs.Program.{Does, IsTokenIn, LoadsFiles, LoadsTable, RunsListing, RunsService, RunsSorted, ShowsAsked, names_to_load}
+use Rattle.fare_program.specs.Program.{DoesUntraced, IsTokenIn, LoadsFiles, LoadsTable, RunsListing, RunsService, RunsSorted, ShowsAsked, names_to_load}
 use Rattle.fare_program.specs.Uploads.{IsListing}
 use Rattle.fare_program.specs.inside.ChargedAhead.{IsChargedAhead}
 use Rattle.fare_program.proofs.PostedTexts.{settled_asked}
@@ -43,7 +43,7 @@ module _ (asked : Asked) (known : List ℕ → Option (List ℕ)) (told between 
   pub does_list : (files : List (List ℕ)) → LoadsFiles (names_to_load asked.files) between told' files
       → (asked.list ≡ true) ⊎ (fares ≡ None)
       → (text : List ℕ) × IsListing fares files text well × Appends mid out' text
-      → Does asked known told told' out out' well
+      → DoesUntraced asked known told told' out out' well
   does_list files loaded flag done =
       subst (λ (b : Bool). MatchBool b (RunsListing asked.table asked.files told told' out out' well)
       (MatchBool asked.sorted (RunsSorted asked known told told' out out' well)
@@ -61,7 +61,7 @@ module _ (asked : Asked) (known : List ℕ → Option (List ℕ)) (told between 
       → LoadsFiles (names_to_load asked.files) between told' files → IsTokenIn asked.token token
       → asked.list ≡ false → asked.sorted ≡ false
       → (text : List ℕ) × ShowsAsked asked f files token text well × Appends mid out' text
-      → Does asked known told told' out out' well
+      → DoesUntraced asked known told told' out out' well
   does_charge f files token is loaded is_token flag live done =
       subst (λ (b : Bool). MatchBool b (RunsListing asked.table asked.files told told' out out' well)
       (MatchBool asked.sorted (RunsSorted asked known told told' out out' well)
@@ -122,7 +122,7 @@ pub does_ahead : (asked : Asked) (known : List ℕ → Option (List ℕ)) (keeps
     (table : Option Fares) (token : Option Token) (out out' : Option (List ℕ)) (well : Bool)
     → LoadsTable asked.table told between table → (keeps ≡ false → between ≡ None)
     → IsTokenIn asked.token token → IsChargedAhead asked keeps table token out out' well
-    → Keeps out out → asked.sorted ≡ false → Does asked known told between out out' well
+    → Keeps out out → asked.sorted ≡ false → DoesUntraced asked known told between out out' well
 does_ahead asked known keeps told between table token out out' well loads none is_token is kept live =
     does_charge asked known told between between out out out' well table loads kept is.fares is.files token
     is.is_table

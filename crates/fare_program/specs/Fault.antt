@@ -13,6 +13,8 @@ use Rattle.fare_program.specs.declared.fault.Fault.TheVariants.{SettleList, Ledg
 use Rattle.fare_program.specs.declared.fault.Fault.TheVariants.{LedgerList, ExplainNoToken}
 use Rattle.fare_program.specs.declared.fault.Fault.TheVariants.{ExplainList, ExplainLedger}
 use Rattle.fare_program.specs.declared.fault.Fault.TheVariants.{SortedNoSettle, SortedNoFile}
+use Rattle.fare_program.specs.declared.fault.Fault.TheVariants.{TracedNoLedger, TracedNoSettle}
+use Rattle.fare_program.specs.declared.fault.Fault.TheVariants.{TracedToken, TracedSorted, ClassName}
 use Rattle.fare_program.specs.declared.fault.Fault.TheVariants.{File, Table, Unopened, Unsorted}
 use Rattle.fare_program.specs.declared.fault.Fault.TheVariants.{TooManyTaps, Late}
 use Rattle.fare_program.specs.declared.fault.Fault.TheVariants.{Uploads, Gather, Write, NoMemory}
@@ -36,8 +38,13 @@ fault_text ExplainList = codes "fault: --explain cannot be used with --list"
 fault_text ExplainLedger = codes "fault: --explain cannot be used with --ledger"
 fault_text SortedNoSettle = codes "fault: --sorted needs --settle"
 fault_text SortedNoFile = codes "fault: --sorted needs a FILE"
+fault_text TracedNoLedger = codes "fault: --traced needs --ledger"
+fault_text TracedNoSettle = codes "fault: --traced needs --settle"
+fault_text TracedToken = codes "fault: --traced cannot be used with --token"
+fault_text TracedSorted = codes "fault: --traced cannot be used with --sorted"
 fault_text (File file) = load_text file.name.now file.fault
 fault_text (Table fault) = table_text fault
+fault_text ClassName = codes "fault: table has a class name that no ledger can have"
 fault_text (Unopened file) = unopened_text file.name.now file.fault
 fault_text (Unsorted file) = sorted_text file.name.now file.fault
 fault_text TooManyTaps = codes "fault: too many taps"
@@ -60,6 +67,10 @@ status_of ExplainList = 2
 status_of ExplainLedger = 2
 status_of SortedNoSettle = 2
 status_of SortedNoFile = 2
+status_of TracedNoLedger = 2
+status_of TracedNoSettle = 2
+status_of TracedToken = 2
+status_of TracedSorted = 2
 status_of _ = 1
 
 -- the text of sorted files was broken off: one of them was refused after all were checked
@@ -122,15 +133,31 @@ sorted_mistake_of true true (file ∷ files) = None
 abbrev pub sorted_mistake : Asked → Option Fault
 sorted_mistake asked = sorted_mistake_of asked.sorted asked.settle asked.files
 
+-- What is wrong with a traced ledger where it is asked for: first that the ledger is not, then that
+-- the taps are not to be settled, then that a token is asked for, and then that the files are sorted
+-- ones.
+abbrev pub traced_mistake_of : Bool → Bool → Bool → Option (List ℕ) → Bool → Option Fault
+traced_mistake_of false ledger settle token sorted = None
+traced_mistake_of true false settle token sorted = Some TracedNoLedger
+traced_mistake_of true true false token sorted = Some TracedNoSettle
+traced_mistake_of true true true (Some digits) sorted = Some TracedToken
+traced_mistake_of true true true None true = Some TracedSorted
+traced_mistake_of true true true None false = None
+
+-- what is wrong with `--traced` among them
+abbrev pub traced_mistake : Asked → Option Fault
+traced_mistake asked =
+    traced_mistake_of asked.traced asked.ledger asked.settle asked.token asked.sorted
+
 -- the first of two faults, if there is one
 abbrev pub first_of_two : Option Fault → Option Fault → Option Fault
 first_of_two None other = other
 first_of_two (Some fault) other = Some fault
 
 -- what is wrong with what is asked for, if anything: the token is looked at first, then settling,
--- then the ledger, then the explained statement, then sorted files
+-- then the ledger, then the explained statement, then sorted files, then a traced ledger
 abbrev pub mistake : Asked → Option Fault
 mistake asked =
     first_of_two (token_mistake asked) (first_of_two (settle_mistake asked)
     (first_of_two (ledger_mistake asked) (first_of_two (explain_mistake asked)
-    (sorted_mistake asked))))
+    (first_of_two (sorted_mistake asked) (traced_mistake asked)))))

@@ -47,6 +47,10 @@ ledger_flag = flag_rule (codes "ledger")
 abbrev pub explain_flag : Rule
 explain_flag = flag_rule (codes "explain")
 
+-- `--traced`
+abbrev pub traced_flag : Rule
+traced_flag = flag_rule (codes "traced")
+
 -- `FILE`, as often as wanted
 abbrev pub file_argument : Rule
 file_argument = positional_rule (codes "FILE") Append
@@ -54,10 +58,10 @@ file_argument = positional_rule (codes "FILE") Append
 -- the program's options, without its files
 abbrev pub app_of_options : App
 app_of_options =
-    with_rule (with_rule (with_rule (with_rule (with_rule
+    with_rule (with_rule (with_rule (with_rule (with_rule (with_rule
     (with_rule (with_rule (with_rule (with_rule (named_app (codes "omny_cli"))
     table_option) list_flag) workers_option) shards_option) token_option) settle_flag) sorted_flag)
-    ledger_flag) explain_flag
+    ledger_flag) explain_flag) traced_flag
 
 -- all words that the program takes
 unfoldable pub program : App
@@ -107,6 +111,7 @@ pub record Asked : Type 0 where
   pub sorted : Bool
   pub ledger : Bool
   pub explain : Bool
+  pub traced : Bool
   pub files : List Text
 
 -- what these words ask for
@@ -121,6 +126,7 @@ asked_by words = record {
   sorted = is_given (codes "sorted") (matches_of program words);
   ledger = is_given (codes "ledger") (matches_of program words);
   explain = is_given (codes "explain") (matches_of program words);
+  traced = is_given (codes "traced") (matches_of program words);
   files = files_named words;
 }
 

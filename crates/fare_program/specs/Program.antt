@@ -24,6 +24,10 @@ use Rattle.ledger_texts.specs.Ledger.{IsLedgerOfBooks}
 use Rattle.program_manners.specs.Loads.{Loaded, Tells, TellsOne}
 use Rattle.program_manners.specs.LineWritten.{LineWritten}
 use Rattle.fare_program.specs.Uploads.{IsListing}
+use Rattle.toml.specs.Data.{Members}
+use Rattle.toml.specs.Parse.{parse_document}
+use Rattle.traced_ledgers.specs.Classes.{class_of_token}
+use Rattle.traced_ledgers.specs.Ledgers.{IsTracedLedger}
 
 -- Where a table is named, its file was loaded under that name, and its text means these fares.
 abbrev pub LoadsTable : Option (List ℕ) → Option (List Loaded) → Option (List Loaded) → Option Fares
@@ -143,14 +147,41 @@ pub record RunsSorted (asked : Asked) (known : List ℕ → Option (List ℕ))
   pub written : Appends out out' text
   pub is_well : well ≡ true
 
--- What is asked for was done, of files that were loaded, or of sorted files. What stands under a name
--- of a sorted file is given, where it is known.
-abbrev pub Does : Asked → (List ℕ → Option (List ℕ)) → Option (List Loaded) → Option (List Loaded)
+-- The named table was loaded, and then the files. What was appended to the writer is the traced
+-- ledger of the files, with the classes that the table's text names.
+pub record RunsTraced (asked : Asked) (told told' : Option (List Loaded))
+    (out out' : Option (List ℕ)) (well : Bool) : Type 0 where
+  pub name : List ℕ
+  pub is_named : asked.table ≡ Some name
+  pub table : List ℕ
+  pub between : Option (List Loaded)
+  pub loads_table : TellsOne told between (Some name) table
+  pub fares : Fares
+  pub means : Means table fares
+  pub tree : Members
+  pub parsed : parse_document table ≡ Some tree
+  pub classes : List ℕ → List ℕ
+  pub are_classes : (token : List ℕ) → class_of_token tree token ≡ Some (classes token)
+  pub files : List (List ℕ)
+  pub loads_files : LoadsFiles (names_to_load asked.files) between told' files
+  pub text : List ℕ
+  pub shows : IsTracedLedger classes fares files text well
+  pub written : Appends out out' text
+
+-- What is asked for beside a traced ledger was done, of files that were loaded, or of sorted files.
+-- What stands under a name of a sorted file is given, where it is known.
+abbrev pub DoesUntraced : Asked → (List ℕ → Option (List ℕ)) → Option (List Loaded) → Option (List Loaded)
     → Option (List ℕ) → Option (List ℕ) → Bool → Type 0
-Does asked known told told' out out' well = MatchBool (lists asked)
+DoesUntraced asked known told told' out out' well = MatchBool (lists asked)
     (RunsListing asked.table asked.files told told' out out' well)
     (MatchBool asked.sorted (RunsSorted asked known told told' out out' well)
     (RunsService asked told told' out out' well))
+
+-- What is asked for was done: a traced ledger was written, or something else.
+abbrev pub Does : Asked → (List ℕ → Option (List ℕ)) → Option (List Loaded) → Option (List Loaded)
+    → Option (List ℕ) → Option (List ℕ) → Bool → Type 0
+Does asked known told told' out out' well = MatchBool asked.traced
+    (RunsTraced asked told told' out out' well) (DoesUntraced asked known told told' out out' well)
 
 -- The program gave up: the fault's line was told, and nothing was written but where a write failed.
 pub record GaveUp (fault : Fault) (said said' : Option (List ℕ)) (failed : Bool)

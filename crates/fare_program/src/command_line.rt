@@ -1,6 +1,8 @@
 //! The command line.
 ghost use Rattle.std.specs.Prelude.{◌≡◌, ◌≤◌, ◌^◌, ◌<◌, ℕ, IfOk, codes, map, string_bytes};
 ghost use Rattle.clap.specs.Words.{FailsBy, app_of, fault_of, found_of, matches_of, rows_of};
+ghost use Rattle.clap.specs.Words.{with_rule};
+ghost use Rattle.fare_program.specs.Options.{explain_flag, file_argument, ledger_flag, traced_flag};
 ghost use Rattle.fare_program.specs.Options.{asked_by, is_given, number_of, program};
 ghost use Rattle.fare_program.specs.inside.Options.{asked_of};
 ghost use Rattle.fare_program.specs.inside.Options.{HasNumber};
@@ -23,7 +25,8 @@ const NOTES: &str = "What is printed:
   statement  each tap of the token, what it was and cost, the token's sums, its last window
              with --explain also why each tap costs this, the token's terms and all its windows
   ledger     CSV, a head line and a line for each tap of each token, with its window and the reason
-             of what it cost; with --token those of one token
+             of what it cost; with --token those of one token; with --traced also the class of
+             the token, the number of the tap's file, from 0, and its number there, from 1
   listing    each tap: number of its file, its number there (both from 0), token, validator,
              moment in milliseconds since 1970-01-01T00:00Z, and live (later than every known tap
              of its token before it), stale (not so) or unknown (the table lacks its validator)
@@ -39,6 +42,7 @@ Examples:
   omny_cli --table table.toml --settle a.tap b.tap
   omny_cli --table table.toml --settle --token 000000000000000000000000000000a1 a.tap b.tap
   omny_cli --table table.toml --settle --sorted monday.tap tuesday.tap
+  omny_cli --table table.toml --settle --ledger --traced a.tap b.tap
   omny_cli a.tap
 
 Exit status:
@@ -75,6 +79,9 @@ const LEDGER_HELP: &str = "Print the ledger, of all tokens or that of --token; n
 /// The help of `--explain`.
 const EXPLAIN_HELP: &str = "Print the statement of --token with reasons, the terms and all windows";
 
+/// The help of `--traced`.
+const TRACED_HELP: &str = "Put class, upload and place behind each line of the settled --ledger";
+
 /// The help of the files.
 const FILE_HELP: &str =
     "Uploads of TAP1 and TAP2 batches, at most 67108864 bytes each [default: standard input]";
@@ -90,20 +97,27 @@ fn command<'a>(alloc: Global) -> Result<Command<'a>, AllocError>
     let token = option_arg(alloc, "token", "HEX", TOKEN_HELP);
     let settle = flag_arg(alloc, "settle", SETTLE_HELP);
     let sorted = flag_arg(alloc, "sorted", SORTED_HELP);
-    let ledger = flag_arg(alloc, "ledger", LEDGER_HELP);
-    let explain = flag_arg(alloc, "explain", EXPLAIN_HELP);
-    let file = positional_arg(alloc, "FILE", ArgAction::Append, FILE_HELP);
-    new_command(alloc, "omny_cli", ABOUT, NOTES)
+    let command = new_command(alloc, "omny_cli", ABOUT, NOTES)
         .arg(table)?
         .arg(list)?
         .arg(workers)?
         .arg(shards)?
         .arg(token)?
         .arg(settle)?
-        .arg(sorted)?
-        .arg(ledger)?
-        .arg(explain)?
-        .arg(file)
+        .arg(sorted)?;
+    with_texts(alloc, command)
+}
+
+/// The command line with the options of the ledger and of the explained statement, and the files.
+fn with_texts<'a>(alloc: Global, command: Command<'a>) -> Result<Command<'a>, AllocError>
+    ensures { IfOk result (λ more. app_of more ≡ with_rule (with_rule (with_rule (with_rule
+        (app_of command.entry) ledger_flag) explain_flag) traced_flag) file_argument) }
+{
+    let ledger = flag_arg(alloc, "ledger", LEDGER_HELP);
+    let explain = flag_arg(alloc, "explain", EXPLAIN_HELP);
+    let traced = flag_arg(alloc, "traced", TRACED_HELP);
+    let file = positional_arg(alloc, "FILE", ArgAction::Append, FILE_HELP);
+    command.arg(ledger)?.arg(explain)?.arg(traced)?.arg(file)
 }
 
 /// The words read by clap.
@@ -158,6 +172,7 @@ impl<'a> Options<'a> {
             sorted: flag_in(&matches, "sorted"),
             ledger: flag_in(&matches, "ledger"),
             explain: flag_in(&matches, "explain"),
+            traced: flag_in(&matches, "traced"),
             files: names_in(alloc, &matches, "FILE")?,
         })
     }

@@ -39,10 +39,20 @@ pub(crate) enum Fault<'a> {
     SortedNoSettle,
     /// Sorted files are asked for, and none is named.
     SortedNoFile,
+    /// A traced ledger is asked for, and the ledger is not.
+    TracedNoLedger,
+    /// A traced ledger is asked for, and the taps are not to be settled.
+    TracedNoSettle,
+    /// A traced ledger is asked for, and a token.
+    TracedToken,
+    /// A traced ledger is asked for, and the files are sorted ones.
+    TracedSorted,
     /// A file or standard input was not loaded.
     File(FileFault<'a>),
     /// The fare table's text is no table.
     Table(TableFault),
+    /// The fare table has a class whose name cannot stand in a ledger.
+    ClassName,
     /// A sorted file was not opened.
     Unopened(UnopenedFile<'a>),
     /// A file is not read as taps in canonical order, and each file before it is.
@@ -135,6 +145,8 @@ impl<'a> Fault<'a> {
             Fault::LedgerNoTable | Fault::LedgerList => 2,
             Fault::ExplainNoToken | Fault::ExplainList | Fault::ExplainLedger => 2,
             Fault::SortedNoSettle | Fault::SortedNoFile => 2,
+            Fault::TracedNoLedger | Fault::TracedNoSettle => 2,
+            Fault::TracedToken | Fault::TracedSorted => 2,
             _ => 1,
         }
     }
@@ -204,8 +216,15 @@ impl fmt::Display for Fault<'_> {
             Fault::ExplainLedger => f.write_str("fault: --explain cannot be used with --ledger"),
             Fault::SortedNoSettle => f.write_str("fault: --sorted needs --settle"),
             Fault::SortedNoFile => f.write_str("fault: --sorted needs a FILE"),
+            Fault::TracedNoLedger => f.write_str("fault: --traced needs --ledger"),
+            Fault::TracedNoSettle => f.write_str("fault: --traced needs --settle"),
+            Fault::TracedToken => f.write_str("fault: --traced cannot be used with --token"),
+            Fault::TracedSorted => f.write_str("fault: --traced cannot be used with --sorted"),
             Fault::File(fault) => fault.fmt(f),
             Fault::Table(fault) => TableLine(*fault).fmt(f),
+            Fault::ClassName => f.write_str(
+                "fault: table has a class name that no ledger can have",
+            ),
             Fault::Unopened(fault) => fault.fmt(f),
             Fault::Unsorted(fault) => fault.fmt(f),
             Fault::TooManyTaps => f.write_str("fault: too many taps"),

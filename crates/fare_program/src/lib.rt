@@ -14,6 +14,7 @@
 //! | `settle`, `bill` | what is asked for of settled files, whose taps are charged in one order |
 //! | `settled_token` | what is asked for of one token of settled files |
 //! | `sorted`, `sorted_fault` | what is asked for of sorted files, and why they are not charged |
+//! | `traced` | the traced ledger of files |
 //! | `posting` | the text that is asked for of files, posted as they are or settled |
 //! | `output` | texts written out whole |
 //! | `fault` | why the program gives up, and the line that says so |
@@ -41,6 +42,7 @@ mod settled_token;
 mod sorted;
 mod sorted_fault;
 mod source;
+mod traced;
 mod uploads;
 
 pub use files_ahead::{Disk, FileAhead, read_ahead};

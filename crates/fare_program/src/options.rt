@@ -22,6 +22,8 @@ pub(crate) struct Options<'a> {
     pub(crate) ledger: bool,
     /// Whether the statement is explained.
     pub(crate) explain: bool,
+    /// Whether the ledger's lines have their class, upload and place behind them.
+    pub(crate) traced: bool,
     /// The uploads, in order; none stands for standard input.
     pub(crate) files: Vec<&'a str>,
     ghost some_worker: { 1 ≤ workers },

@@ -6,11 +6,12 @@ ghost use Rattle.clap.specs.Words.{kind_of};
 ghost use Rattle.std.specs.Io.KnownBytes.{Appends, Keeps};
 ghost use Rattle.fare_program.specs.Fault.{IsLate, charge_mistake_of, explain_mistake, fault_text};
 ghost use Rattle.fare_program.specs.Fault.{mistake, sorted_mistake, status_of, token_mistake};
+ghost use Rattle.fare_program.specs.Fault.{traced_mistake};
 ghost use Rattle.fare_program.specs.inside.Fault.{IsLoadLine, IsTableLine, IsWhyOf};
 ghost use Rattle.fare_program.specs.Options.{AsksForText, Parses, asked_by};
 ghost use Rattle.fare_program.specs.inside.Options.{asked_of};
 ghost use Rattle.fare_program.specs.Program.{Does, GaveUp, GaveUpOn, IsTokenIn, LoadsFiles};
-ghost use Rattle.fare_program.specs.Program.{LoadsTable, names_to_load};
+ghost use Rattle.fare_program.specs.Program.{DoesUntraced, LoadsTable, RunsTraced, names_to_load};
 ghost use Rattle.program_manners.specs.Loads.{Loaded, TellsOne};
 ghost use Rattle.program_manners.specs.LineWritten.{LineWritten};
 ghost use Rattle.program_manners.specs.Words.{IsRequest};
@@ -24,6 +25,7 @@ use crate::output::write_text;
 use crate::posting::charge;
 use crate::sorted::work_sorted;
 use crate::source::Source;
+use crate::traced::{Riders, charge_traced, riders_of};
 use crate::uploads::listing_text;
 use clap::Error;
 use clap::error::ErrorKind;
@@ -223,6 +225,31 @@ fn check_sorted<'a>(options: &Options<'a>) -> Result<(), Fault<'a>>
     Ok(())
 }
 
+/// Looks whether the ledger may be traced, where that is asked for: it is the settled one of all
+/// tokens, of files that are loaded.
+fn check_traced<'a>(options: &Options<'a>) -> Result<(), Fault<'a>>
+    ensures right { OnOk result (traced_mistake (asked_of options.now) ≡ None) }
+    ensures fault { IfErr result (λ fault. traced_mistake (asked_of options.now) ≡ Some fault) }
+    ensures status { IfErr result (λ fault. status_of fault ≡ 2) }
+{
+    if !options.traced {
+        return Ok(());
+    }
+    if !options.ledger {
+        return Err(Fault::TracedNoLedger);
+    }
+    if !options.settle {
+        return Err(Fault::TracedNoSettle);
+    }
+    if options.token.is_some() {
+        return Err(Fault::TracedToken);
+    }
+    if options.sorted {
+        return Err(Fault::TracedSorted);
+    }
+    Ok(())
+}
+
 /// Looks for a mistake in what is asked for, and gives the token whose statement is, if any.
 pub(crate) fn checked<'a>(options: &Options<'a>) -> Result<Option<Token>, Fault<'a>>
     ensures token { IfOk result (IsTokenIn (asked_of options.now).token) }
@@ -245,6 +272,7 @@ pub(crate) fn checked<'a>(options: &Options<'a>) -> Result<Option<Token>, Fault<
     )?;
     check_explain(options)?;
     check_sorted(options)?;
+    check_traced(options)?;
     Ok(token)
 }
 
@@ -284,8 +312,8 @@ fn work_by_table<'a, R: Threads + Wait + RandomSource + Sync, D: Disk + Sync, S:
         → LoadsTable (asked_of options.now).table told (S.loaded source.old) table
         → IsTokenIn (asked_of options.now).token token → Keeps before (W.contents out.old)
         → (asked_of options.now).sorted ≡ false
-        → Does (asked_of options.now) (D.bytes_under disk.now) told (S.loaded source.new) before
-        (W.contents out.new) well) }
+        → DoesUntraced (asked_of options.now) (D.bytes_under disk.now) told (S.loaded source.new)
+        before (W.contents out.new) well) }
     ensures fault { IfErr result (λ fault. fault ≢ Fault.Write
         → Keeps (W.contents out.old) (W.contents out.new)) }
     ensures status { IfErr result (λ fault. status_of fault ≡ 1) }
@@ -305,6 +333,32 @@ fn work_by_table<'a, R: Threads + Wait + RandomSource + Sync, D: Disk + Sync, S:
         Some(table) => charge(rt, alloc, options, table, token, files, out),
         None => list(alloc, None, &files, out),
     }
+}
+
+/// Loads the table and then the files, and writes their traced ledger. Says whether no file has a
+/// layout fault.
+fn work_traced<'a, R: Threads + Sync, D: Disk + Sync, S: Source, W: Write>(
+    rt: &R,
+    alloc: Global,
+    disk: &D,
+    options: &Options<'a>,
+    source: &mut S,
+    out: &mut W,
+) -> Result<bool, Fault<'a>>
+    requires table { is_some (asked_of options.now).table ≡ true }
+    ensures ok { IfOk result (λ well. RunsTraced (asked_of options.now) (S.loaded source.old)
+        (S.loaded source.new) (W.contents out.old) (W.contents out.new) well) }
+    ensures fault { IfErr result (λ fault. fault ≢ Fault.Write
+        → Keeps (W.contents out.old) (W.contents out.new)) }
+    ensures status { IfErr result (λ fault. status_of fault ≡ 1) }
+{
+    let Some(name) = options.table else {
+        unreachable!();
+    };
+    let text = load_named(source, name)?;
+    let riders = riders_of(alloc, &text)?;
+    let files = load_files(rt, alloc, disk, &options.files, READERS as usize, source)?;
+    charge_traced(alloc, &riders, &files, out)
 }
 
 /// Does what is asked for, and says whether each upload was listed without a layout fault, or
@@ -337,6 +391,9 @@ fn work<'a, R: Threads + Wait + RandomSource + Sync, D: Disk + Sync, S: Source, 
         → S.loaded source.new ≡ S.loaded source.old) }
 {
     let token = checked(options)?;
+    if options.traced {
+        return work_traced(rt, alloc, disk, options, source, out);
+    }
     let table = load_table(alloc, options.table, source)?;
     if options.sorted {
         return work_sorted(rt, alloc, disk, options, table, token, out);

@@ -1,6 +1,7 @@
 pub mod Changes
 pub mod Faults
 pub mod Ledgers
+pub mod RowFields
 pub mod Rows
 pub mod Texts
 pub mod Tokens

@@ -5,7 +5,8 @@ ghost use Rattle.std.specs.Prelude.{IsTrue, ◌↔◌, codes, length};
 ghost use Rattle.std.specs.Fmt.{decimal};
 ghost use Rattle.ledger_changes.specs.Ledgers.{IsRowLine, IsTokenText, fields_of, is_token_digit};
 ghost use Rattle.ledger_changes.specs.Rows.{Row};
-ghost use Rattle.ledger_changes.specs.inside.Fields.{all_fields, row_of_fields};
+ghost use Rattle.ledger_changes.specs.RowFields.{row_of_fields};
+ghost use Rattle.ledger_changes.specs.inside.Fields.{all_fields};
 ghost use Rattle.ledger_changes.specs.inside.LedgerRows.{row_of};
 
 use crate::row::LedgerRow;
@@ -29,15 +30,21 @@ pub(crate) struct LineFields<'a> {
     points_at: &'a [u8],
 }
 
-/// The fields that corrections look at.
+/// The fields of a ledger's line that say what it charges.
 #[derive(Clone, Copy)]
-pub(crate) struct RowFields<'a> {
-    token: &'a [u8],
-    moment: &'a [u8],
-    validator: u32,
-    answer: &'a [u8],
-    cents: u32,
-    reason: &'a [u8],
+pub struct RowFields<'a> {
+    /// The token's 32 digits.
+    pub token: &'a [u8],
+    /// The moment's text.
+    pub moment: &'a [u8],
+    /// The validator.
+    pub validator: u32,
+    /// The word of the answer.
+    pub answer: &'a [u8],
+    /// The cents.
+    pub cents: u32,
+    /// The word of the reason.
+    pub reason: &'a [u8],
 }
 
 /// The first field of a text, and what follows its comma; nothing where the text is one field.
@@ -126,8 +133,9 @@ fn without_feed(line: &[u8]) -> Option<&[u8]>
     line.strip_suffix(b"\n")
 }
 
-/// The row of a ledger's line; nothing where the line is none.
-pub(crate) fn row_fields(line: &[u8]) -> Option<RowFields<'_>>
+/// The fields of a ledger's line, with its line feed; nothing if the line has not twelve fields, its
+/// token is none, or its validator or its cents are no number of at most 32 bits.
+pub fn row_fields(line: &[u8]) -> Option<RowFields<'_>>
     ensures { MatchOption result ((row : Row) → ¬ (IsRowLine row line.now))
         (λ fields. IsRowLine (row_of_fields fields) line.now) }
 {

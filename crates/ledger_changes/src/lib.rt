@@ -14,4 +14,5 @@ mod token_sums;
 
 pub use both_ledgers::corrections;
 pub use fault::{Bill, CorrectionsFault};
+pub use form::{RowFields, row_fields};
 pub use token_corrections::corrections_by_token;

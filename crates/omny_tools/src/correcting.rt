@@ -16,7 +16,7 @@ use std::io::Write;
 const CORRECTIONS_STATUS: &str = "Exit status:
   0  the corrections are written, also where there is none
   1  a text is no settled ledger, or could not be read or written, as a line `fault: ..` on the
-     standard error tells; what was written is not the corrections
+     standard error says; what was written is not the corrections
   2  the command line is wrong";
 
 /// What `corrections` does.
@@ -27,8 +27,8 @@ Both are ledgers of omny_cli --settle. A line of the one and a line of the other
 token, moment and validator stand beside each other. A line is written, as CSV, for each that only
 one ledger has, and for each whose answer, cents or reason differ. With --tokens these are counted
 and their cents summed: a line for each token that has one. The ledgers are read as it is written,
-so they may be larger than memory. If OLD has lines that NEW has not, their number is told on the
-standard error.";
+so they may be larger than memory. If OLD has lines that NEW has not, their number is reported on
+the standard error.";
 
 /// The help of the old ledger.
 const OLD_HELP: &str = "The ledger of the bill that was issued; - stands for standard input";

@@ -5,13 +5,13 @@ use crate::words::subcommand;
 use clap::{Arg, ArgAction, ArgMatches, Command};
 use program_manners::{option_arg, positional_arg};
 use std::alloc::{AllocError, Global};
-use tap_rows::{Choice, Condition, Separator};
+use tap_rows::{Choice, Condition, DeviceTable, Separator};
 
 /// What the exit status of `encode` says.
 const ENCODE_STATUS: &str = "Exit status:
   0  the upload is written; with --refused also where rows were refused
   1  a file has a fault, or could not be read or written, as a line `fault: ..` on the standard
-     error tells
+     error says
   2  the command line is wrong";
 
 /// What `encode` does.
@@ -23,13 +23,17 @@ since 1970-01-01T00:00Z or as 2024-03-08T17:00:00Z. A field may stand between do
 ends with LF or CRLF.
 
 The taps come out in the order of their lines, in TAP1 batches of 4096, the last of fewer.
-If a line is wrong, nothing is written, and its number is told. So a file is read twice, and may be
-larger than memory. Standard input and pipes are held in memory whole.
+If a line is wrong, nothing is written, and its number is reported. So a file is read twice, and
+may be larger than memory. Standard input and pipes are held in memory whole.
 
 With --columns the file is any CSV with a head, as an agency has it: fields in quotes by RFC 4180, a
 byte order mark or none. A token may be a UUID, too, and a moment may have an offset, as
-2024-03-08 12:00:00-05:00. The last line on the standard error tells how many rows were read, how
-many are taps, left out and refused, and the first and the last moment. The head is row 1.";
+2024-03-08 12:00:00-05:00. The last line on the standard error reports how many rows were read, how
+many are taps, left out and refused, and the first and the last moment. The head is row 1.
+
+With --validators the column of validators has the names of devices. DEVICES is CSV with the head
+device,validator and a row for each device, which gives it its number. A row of another device is no
+tap.";
 
 /// The help of `encode`'s table.
 const ENCODE_HELP: &str = "The tap table; - stands for standard input [default: standard input]";
@@ -41,6 +45,10 @@ const COLUMNS_HELP: &str =
 /// The help of `--only`.
 const ONLY_HELP: &str =
     "Keep only the rows with this value in this column; of several, each must be met";
+
+/// The help of `--validators`.
+const VALIDATORS_HELP: &str =
+    "Take the validators by the names of their devices in the file DEVICES";
 
 /// The help of `--separator`.
 const SEPARATOR_HELP: &str = "What stands between two fields: , or ; or tab [default: ,]";
@@ -61,6 +69,10 @@ pub(crate) enum EncodeMistake {
     Only,
     /// An option needs `--columns`.
     NoColumns,
+    /// `--validators` needs `--columns`.
+    NoColumnsForValidators,
+    /// The rows and the devices are both standard input.
+    InputTwice,
 }
 
 impl EncodeMistake {
@@ -73,6 +85,8 @@ impl EncodeMistake {
             EncodeMistake::Separator => "--separator is one of , ; tab",
             EncodeMistake::Only => "--only needs COLUMN=VALUE",
             EncodeMistake::NoColumns => "--only, --separator and --refused need --columns",
+            EncodeMistake::NoColumnsForValidators => "--validators needs --columns",
+            EncodeMistake::InputTwice => "- can be named only once",
         }
     }
 }
@@ -86,6 +100,8 @@ pub(crate) struct RowsWords<'a> {
     pub(crate) validator: &'a str,
     /// The name of the column of moments.
     pub(crate) moment: &'a str,
+    /// The file of devices and their validators; none if the rows have the validators' numbers.
+    pub(crate) devices: Option<Name<'a>>,
     /// What stands between two fields.
     pub(crate) separator: Separator,
     /// Which rows are kept.
@@ -95,12 +111,13 @@ pub(crate) struct RowsWords<'a> {
 }
 
 impl RowsWords<'_> {
-    /// The choice that the words make.
-    pub(crate) fn choice(&self) -> Choice<'_> {
+    /// The choice that the words make, with the devices that they name.
+    pub(crate) fn choice<'c>(&'c self, devices: Option<&'c DeviceTable>) -> Choice<'c> {
         Choice {
             separator: self.separator,
             token: self.token.as_bytes(),
             validator: self.validator.as_bytes(),
+            devices,
             moment: self.moment.as_bytes(),
             only: &self.only,
         }
@@ -133,15 +150,18 @@ fn repeated_arg<'a>(alloc: Global, name: &'a str, value: &'a str, help: &'a str)
     option_arg(alloc, name, value, help).action(ArgAction::Append)
 }
 
-/// `encode [--columns NAMES [--only COLUMN=VALUE]... [--separator S] [--refused OUT]] [FILE]`
+/// `encode [--columns NAMES [--validators DEVICES] [--only COLUMN=VALUE]... [--separator S]
+/// [--refused OUT]] [FILE]`
 pub(crate) fn encode_command<'a>(alloc: Global) -> Result<Command<'a>, AllocError> {
     let columns = option_arg(alloc, "columns", "NAMES", COLUMNS_HELP);
+    let validators = option_arg(alloc, "validators", "DEVICES", VALIDATORS_HELP);
     let only = repeated_arg(alloc, "only", "COLUMN=VALUE", ONLY_HELP);
     let separator = option_arg(alloc, "separator", "SEPARATOR", SEPARATOR_HELP);
     let refused = option_arg(alloc, "refused", "OUT", REFUSED_HELP);
     let file = positional_arg(alloc, "FILE", ArgAction::Set, ENCODE_HELP);
     subcommand(alloc, "encode", ENCODE_ABOUT, ENCODE_STATUS)
         .arg(columns)?
+        .arg(validators)?
         .arg(only)?
         .arg(separator)?
         .arg(refused)?
@@ -220,10 +240,18 @@ fn rows_words<'a>(
     let Some(only) = conditions_of(alloc, matches)? else {
         return Ok(EncodeWords::Mistake(EncodeMistake::Only));
     };
+    let devices = matches.get_str("validators").map(|word| Name(word));
+    if let Some(devices) = devices
+        && devices.is_input()
+        && file.is_input()
+    {
+        return Ok(EncodeWords::Mistake(EncodeMistake::InputTwice));
+    }
     let words = RowsWords {
         token,
         validator,
         moment,
+        devices,
         separator,
         only,
         refused: matches.get_str("refused").map(|word| Name(word)),
@@ -247,6 +275,9 @@ pub(crate) fn encode_words<'a>(
         || matches.get_str("refused").is_some();
     if has_more {
         return Ok(EncodeWords::Mistake(EncodeMistake::NoColumns));
+    }
+    if matches.get_str("validators").is_some() {
+        return Ok(EncodeWords::Mistake(EncodeMistake::NoColumnsForValidators));
     }
     Ok(EncodeWords::TapTable(file))
 }

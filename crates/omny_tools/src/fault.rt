@@ -2,7 +2,7 @@
 
 use crate::layout::{Cause, Remedy};
 use crate::names::Name;
-use crate::row_coding::WrongRows;
+use crate::row_coding::{WrongDevices, WrongRows};
 use fare_table::TableFault;
 use part_reports::Wrong;
 use program_manners::LoadFault;
@@ -24,6 +24,8 @@ pub(crate) enum Fault<'a> {
     TapTable(Name<'a>, RowsFault),
     /// The file is no CSV of the columns that are wanted, or one of its rows is no tap.
     Rows(Name<'a>, WrongRows<'a>),
+    /// The file is no device table.
+    Devices(Name<'a>, WrongDevices),
     /// The upload has this layout fault, in the batch at this offset.
     Layout(Name<'a>, u64, LayoutFault),
     /// The text of a fare table is not UTF-8.
@@ -128,6 +130,11 @@ impl fmt::Display for WrongLine {
             Wrong::Sums => "the sums are too large",
             Wrong::Validators => "the validators do not add up to the totals",
             Wrong::Tokens => "the tokens do not add up to the totals",
+            Wrong::MoreThanReport => "its token has more, up to it, than in the report",
+            Wrong::LessThanReport => "the token before it has less than in the report",
+            Wrong::OtherToken => "its token is not the next one of the report",
+            Wrong::MissingToken => "the ledger ends, and the report has one more token",
+            Wrong::OtherValidators => "the validators have other sums than in the report",
         })
     }
 }
@@ -151,6 +158,7 @@ impl fmt::Display for Fault<'_> {
                 RowsFault::NoMemory => f.write_str("fault: out of memory"),
             },
             Fault::Rows(name, wrong) => write!(f, "fault: {name} {wrong}"),
+            Fault::Devices(name, wrong) => write!(f, "fault: {name} {wrong}"),
             Fault::Layout(name, offset, fault) => {
                 let cause = Cause(*fault);
                 let remedy = Remedy(*fault);

@@ -17,6 +17,15 @@ pub(crate) struct MergeWords<'a> {
     pub(crate) reports: Vec<Name<'a>>,
 }
 
+/// What `merge-ledgers` is asked for.
+#[derive(Drop)]
+pub(crate) struct LedgerWords<'a> {
+    /// The ledgers of the parts.
+    pub(crate) ledgers: Vec<Name<'a>>,
+    /// The report of each part, in the order of the ledgers; none if nothing is compared.
+    pub(crate) reports: Vec<Name<'a>>,
+}
+
 /// The name of the text of this number. Texts are numbered through both lists.
 fn name_of<'a>(first: &[Name<'a>], second: &[Name<'a>], text: usize) -> Option<Name<'a>> {
     match text.checked_sub(first.len()) {
@@ -75,15 +84,21 @@ pub(crate) fn merge<'a, W: Write + Drop>(
     }
 }
 
-/// Writes the ledger of the whole.
+/// Writes the ledger of the whole. If there are reports, each ledger is compared with its own.
 pub(crate) fn merge_ledgers<'a, W: Write + Drop>(
     rt: &HostRuntime,
-    names: &[Name<'a>],
+    words: &LedgerWords<'a>,
     out: &mut Output<W>,
 ) -> Result<(), Fault<'a>> {
-    let ledgers = open_all(rt, names)?;
-    match part_reports::merge_ledgers(rt.alloc(), ledgers, out) {
+    let ledgers = open_all(rt, &words.ledgers)?;
+    let reports = open_all(rt, &words.reports)?;
+    let merged = if reports.len() == ledgers.len() {
+        part_reports::merge_ledgers_with_reports(rt.alloc(), ledgers, reports, out)
+    } else {
+        part_reports::merge_ledgers(rt.alloc(), ledgers, out)
+    };
+    match merged {
         Ok(()) => Ok(()),
-        Err(fault) => Err(fault_of(names, &[], fault, out)),
+        Err(fault) => Err(fault_of(&words.ledgers, &words.reports, fault, out)),
     }
 }

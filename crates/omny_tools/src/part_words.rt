@@ -1,6 +1,6 @@
 //! The command lines of `split`, `merge` and `merge-ledgers`.
 
-use crate::merging::MergeWords;
+use crate::merging::{LedgerWords, MergeWords};
 use crate::names::Name;
 use crate::splitting::SplitWords;
 use crate::words::{names_at, subcommand};
@@ -11,7 +11,7 @@ use std::alloc::{AllocError, Global};
 /// What the exit status of `split` says.
 const SPLIT_STATUS: &str = "Exit status:
   0  the parts' files are made, and each upload's line is written
-  1  a file could not be read or made, as a line `fault: ..` on the standard error tells
+  1  a file could not be read or made, as a line `fault: ..` on the standard error says
   2  the command line is wrong";
 
 /// What `split` does.
@@ -21,7 +21,7 @@ const SPLIT_ABOUT: &str =
 The taps before each upload's first layout fault go to the part of their token: the number of the
 token's last four bytes, divided by 64, modulo the number of parts. DIR/0.tap, DIR/1.tap and so on
 have the parts' taps by rising token, moment and validator. A part's file is made as DIR/0.tap. and
-then renamed. A line for each upload tells how it ended, as in a report.";
+then renamed. A line for each upload says how it ended, as in a report.";
 
 /// The help of `--parts`.
 const PARTS_HELP: &str = "How many parts, 1 to 65535";
@@ -39,7 +39,7 @@ const UPLOADS_HELP: &str = "Uploads of at most 67108864 bytes; - stands for stan
 const MERGE_STATUS: &str = "Exit status:
   0  the report is written, and no upload was refused
   1  a text is wrong, or could not be read or written, as a line `fault: ..` on the standard error
-     tells; what was written is not the report
+     says; what was written is not the report
   2  the command line is wrong
   3  the report is written, and an upload was refused";
 
@@ -63,7 +63,7 @@ const REPORTS_HELP: &str = "The reports of the parts, in any order; - stands for
 const MERGE_LEDGERS_STATUS: &str = "Exit status:
   0  the ledger is written
   1  a text is wrong, or could not be read or written, as a line `fault: ..` on the standard error
-     tells; what was written is not the ledger
+     says; what was written is not the ledger
   2  the command line is wrong";
 
 /// What `merge-ledgers` does.
@@ -71,10 +71,18 @@ const MERGE_LEDGERS_ABOUT: &str =
     "Merges the ledgers of all parts into that of the whole, on standard output.
 
 The lines of the tokens come in the order of the tokens. A token has lines in one ledger alone. The
-ledgers are read as they are written, so they may be larger than memory.";
+ledgers are read as they are written, so they may be larger than memory.
+
+With --reports each ledger is compared with the report of its part: the lines of each token and of
+each validator must add up to the sums that the report has of it. So a ledger is refused if a line
+is missing, or has other cents.";
 
 /// The help of the ledgers.
 const LEDGERS_HELP: &str = "The ledgers of the parts, in any order; - stands for standard input";
+
+/// The help of the reports beside which ledgers are merged.
+const LEDGER_REPORTS_HELP: &str =
+    "The report of each ledger's part, in the order of the ledgers; - stands for standard input";
 
 /// `split --parts N --part-files DIR [--first K] FILE...`
 pub(crate) fn split_command<'a>(alloc: Global) -> Result<Command<'a>, AllocError> {
@@ -117,8 +125,9 @@ pub(crate) fn merge_command<'a>(alloc: Global) -> Result<Command<'a>, AllocError
         .arg(reports)
 }
 
-/// `merge-ledgers FILE...`
+/// `merge-ledgers FILE... [--reports FILE...]`
 pub(crate) fn merge_ledgers_command<'a>(alloc: Global) -> Result<Command<'a>, AllocError> {
+    let reports = files_arg(alloc, "reports", LEDGER_REPORTS_HELP);
     let file = positional_arg(alloc, "FILE", ArgAction::Append, LEDGERS_HELP).required(true);
     subcommand(
         alloc,
@@ -126,6 +135,7 @@ pub(crate) fn merge_ledgers_command<'a>(alloc: Global) -> Result<Command<'a>, Al
         MERGE_LEDGERS_ABOUT,
         MERGE_LEDGERS_STATUS,
     )
+    .arg(reports)?
     .arg(file)
 }
 
@@ -140,10 +150,13 @@ pub(crate) fn merge_words<'a>(
     })
 }
 
-/// The ledgers that `merge-ledgers` is asked for.
+/// What `merge-ledgers` is asked for.
 pub(crate) fn merge_ledgers_words<'a>(
     alloc: Global,
     matches: &ArgMatches<'a>,
-) -> Result<Vec<Name<'a>>, AllocError> {
-    names_at(alloc, matches, "FILE")
+) -> Result<LedgerWords<'a>, AllocError> {
+    Ok(LedgerWords {
+        ledgers: names_at(alloc, matches, "FILE")?,
+        reports: names_at(alloc, matches, "reports")?,
+    })
 }

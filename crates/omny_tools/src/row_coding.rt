@@ -2,14 +2,18 @@
 
 use crate::encode_words::RowsWords;
 use crate::fault::Fault;
-use crate::input::{load, open_in_pieces, plain_bytes, watch};
+use crate::input::{load, load_upload, open_in_pieces, plain_bytes, watch};
 use crate::names::{Escaped, Name};
 use crate::output::Output;
 use crate::telling::push_moment;
 use std::alloc::{AllocError, Global};
+use std::hash::RandomState;
 use std::io::{BufWriter, ErrorKind, Write};
 use std::{fmt, fs};
-use tap_rows::{AgencyFault, Reason, Summary, Wanted, encode_rows, encode_some_rows};
+use tap_rows::{
+    AgencyFault, Choice, DeviceTable, DevicesFault, Reason, Separator, Summary, Wanted,
+    WrongDevice, encode_rows, encode_some_rows, read_devices,
+};
 
 /// What is wrong with an agency's CSV.
 #[derive(Clone, Copy, Debug)]
@@ -41,8 +45,60 @@ fn why(reason: Reason) -> &'static str {
         Reason::Fields => "there are not as many fields as in the head",
         Reason::Token => "the token is neither 32 hexadecimal digits nor a UUID",
         Reason::Validator => "the validator is no number from 0 to 4294967295",
+        Reason::Device => "the device is none of --validators",
         Reason::LocalTime => "the moment is a local time: it has neither Z nor an offset",
         Reason::Moment => "the moment is no time before 2100 in whole milliseconds",
+    }
+}
+
+/// What is wrong with a device table.
+#[derive(Clone, Copy, Debug)]
+pub(crate) enum WrongDevices {
+    /// Its head.
+    Head,
+    /// The row of this number.
+    Row(u64, WrongDevice),
+}
+
+impl fmt::Display for WrongDevices {
+    fn fmt<W: fmt::Write>(&self, f: &mut fmt::Formatter<W>) -> fmt::Result {
+        match self {
+            WrongDevices::Head => f.write_str("row 1: it is not device,validator"),
+            WrongDevices::Row(number, wrong) => {
+                let why = why_no_device(*wrong);
+                write!(f, "row {number}: {why}")
+            }
+        }
+    }
+}
+
+/// What is wrong with a row of a device table.
+fn why_no_device(wrong: WrongDevice) -> &'static str {
+    match wrong {
+        WrongDevice::Fields => "there are not two fields",
+        WrongDevice::NoName => "the device is empty",
+        WrongDevice::Validator => "the validator is no number from 0 to 4294967295",
+        WrongDevice::Again => "the device is in an earlier row, too",
+    }
+}
+
+/// The device table in the file of this name, beside rows with this separator.
+fn load_devices<'a>(
+    rt: &HostRuntime,
+    name: Name<'a>,
+    separator: Separator,
+) -> Result<DeviceTable, Fault<'a>> {
+    let text = load_upload(rt, name)?;
+    let Ok(seed) = RandomState::new(rt) else {
+        return Err(Fault::NoMemory);
+    };
+    match read_devices(rt.alloc(), seed, separator, &text) {
+        Ok(devices) => Ok(devices),
+        Err(DevicesFault::Head) => Err(Fault::Devices(name, WrongDevices::Head)),
+        Err(DevicesFault::Row { number, wrong }) => {
+            Err(Fault::Devices(name, WrongDevices::Row(number, wrong)))
+        }
+        Err(DevicesFault::NoMemory) => Err(Fault::NoMemory),
     }
 }
 
@@ -82,19 +138,19 @@ fn encode_all<'a, W: Write + Drop>(
     rt: &HostRuntime,
     name: Name<'a>,
     words: &RowsWords<'a>,
+    choice: &Choice<'_>,
     out: &mut Output<W>,
 ) -> Result<Summary, Fault<'a>> {
-    let choice = words.choice();
     let encoded = if let Some(bytes) = plain_bytes(rt, name) {
         let mut text = watch(rt, name, bytes, "checked")?;
         let mut again = watch(rt, name, bytes, "encoded")?;
-        let encoded = encode_rows(rt.alloc(), &choice, &mut text, &mut again, out);
+        let encoded = encode_rows(rt.alloc(), choice, &mut text, &mut again, out);
         text.get_mut().end();
         again.get_mut().end();
         encoded
     } else {
         let text = load(rt, name)?;
-        encode_rows(rt.alloc(), &choice, text.as_slice(), text.as_slice(), out)
+        encode_rows(rt.alloc(), choice, text.as_slice(), text.as_slice(), out)
     };
     match encoded {
         Ok(summary) => Ok(summary),
@@ -108,18 +164,18 @@ fn encode_some<'a, W: Write + Drop, X: Write>(
     rt: &HostRuntime,
     name: Name<'a>,
     words: &RowsWords<'a>,
+    choice: &Choice<'_>,
     out: &mut Output<W>,
     refused: &mut X,
 ) -> Result<Summary, Fault<'a>> {
-    let choice = words.choice();
     let encoded = if let Some(bytes) = plain_bytes(rt, name) {
         let mut text = watch(rt, name, bytes, "encoded")?;
-        let encoded = encode_some_rows(rt.alloc(), &choice, &mut text, out, refused);
+        let encoded = encode_some_rows(rt.alloc(), choice, &mut text, out, refused);
         text.get_mut().end();
         encoded
     } else {
         let mut text = open_in_pieces(rt, name)?;
-        encode_some_rows(rt.alloc(), &choice, &mut text, out, refused)
+        encode_some_rows(rt.alloc(), choice, &mut text, out, refused)
     };
     match encoded {
         Ok(summary) => Ok(summary),
@@ -148,11 +204,12 @@ fn encode_and_refuse<'a, W: Write + Drop>(
     rt: &HostRuntime,
     name: Name<'a>,
     words: &RowsWords<'a>,
+    choice: &Choice<'_>,
     refused: Name<'a>,
     out: &mut Output<W>,
 ) -> Result<Summary, Fault<'a>> {
     let mut file = create(rt, refused)?;
-    let encoded = match encode_some(rt, name, words, out, &mut file) {
+    let encoded = match encode_some(rt, name, words, choice, out, &mut file) {
         Ok(summary) => match file.flush() {
             Ok(()) => Ok(summary),
             Err(_) => Err(Fault::Write),
@@ -181,7 +238,8 @@ fn summary_line(alloc: Global, summary: &Summary) -> Result<String, AllocError> 
     Ok(line)
 }
 
-/// Writes the upload of the rows of the file of this name, and tells on `err` how many there are.
+/// Writes the upload of the rows of the file of this name, and says on `err` how many there are.
+/// The device table is read first, if one is named.
 pub(crate) fn encode_columns<'a, W: Write + Drop, E: Write>(
     rt: &HostRuntime,
     name: Name<'a>,
@@ -189,9 +247,14 @@ pub(crate) fn encode_columns<'a, W: Write + Drop, E: Write>(
     out: &mut Output<W>,
     err: &mut E,
 ) -> Result<(), Fault<'a>> {
+    let devices = match words.devices {
+        Some(devices) => Some(load_devices(rt, devices, words.separator)?),
+        None => None,
+    };
+    let choice = words.choice(devices.as_ref());
     let summary = match words.refused {
-        Some(refused) => encode_and_refuse(rt, name, words, refused, out)?,
-        None => encode_all(rt, name, words, out)?,
+        Some(refused) => encode_and_refuse(rt, name, words, &choice, refused, out)?,
+        None => encode_all(rt, name, words, &choice, out)?,
     };
     out.finish()?;
     let line = summary_line(rt.alloc(), &summary)?;

@@ -24,7 +24,7 @@ const WORKERS: u32 = 4;
 const SORT_STATUS: &str = "Exit status:
   0  OUT is made, and no upload was refused
   1  a file has a fault, or could not be read or made, as a line `fault: ..` on the standard error
-     tells; OUT is not made
+     says; OUT is not made
   2  the command line is wrong
   3  OUT is made of the taps before each upload's first layout fault, and there is one";
 

@@ -105,8 +105,8 @@ fn perform<'a, R: Threads + Sync, W: Write + Drop, E: Write>(
             Ok(true)
         }
         Task::Merge(words) => merge(rt, words, out),
-        Task::MergeLedgers(names) => {
-            merge_ledgers(rt, names, out)?;
+        Task::MergeLedgers(words) => {
+            merge_ledgers(rt, words, out)?;
             Ok(true)
         }
         Task::Corrections(words) => {
@@ -114,6 +114,7 @@ fn perform<'a, R: Threads + Sync, W: Write + Drop, E: Write>(
             Ok(true)
         }
         Task::NotOneUpload | Task::InputTwice | Task::InputMerged => Ok(false),
+        Task::NotEachReport => Ok(false),
         Task::NoMoment | Task::WrongRows(_) | Task::WrongLook(_) | Task::Nothing => Ok(false),
     }
 }
@@ -148,6 +149,9 @@ pub(crate) fn run<R: Threads + Sync, E: Write>(
         Ok(Task::NotOneUpload) => return mistake(err, "--good-part needs one FILE"),
         Ok(Task::InputTwice) => return mistake(err, "- can be named only once"),
         Ok(Task::InputMerged) => return mistake(err, "--merge reads files, and - is none"),
+        Ok(Task::NotEachReport) => {
+            return mistake(err, "--reports needs one report for each ledger");
+        }
         Ok(Task::NoMoment) => {
             return mistake(err, "--from needs a moment, as 2026-03-01T00:00:00Z");
         }

@@ -3,7 +3,7 @@
 use crate::correcting::{CorrectionsWords, corrections_command, corrections_words};
 use crate::encode_words::{EncodeMistake, EncodeWords, RowsWords, encode_command, encode_words};
 use crate::look_words::{LookMistake, LookWords, add_look_args, asks_for_look, look_words};
-use crate::merging::MergeWords;
+use crate::merging::{LedgerWords, MergeWords};
 use crate::names::Name;
 use crate::part_words::{
     merge_command, merge_ledgers_command, merge_ledgers_words, merge_words, split_command,
@@ -19,13 +19,13 @@ use std::alloc::{AllocError, Global};
 
 /// What the program is for, as the help says it first.
 const ABOUT: &str =
-    "Turns tables of taps into uploads and back, and tells what uploads and fare tables have.";
+    "Turns tables of taps into uploads and back, and prints what uploads and fare tables have.";
 
 /// The exit status, as the help says it last.
 const STATUS: &str = "Exit status:
   0  all is done
   1  a file has a fault, or could not be read or written, as a line `fault: ..` on the standard
-     error tells
+     error says
   2  the command line is wrong";
 
 /// What `decode` does.
@@ -33,7 +33,7 @@ const DECODE_ABOUT: &str =
     "Writes the taps of uploads as one tap table for encode, to standard output.
 
 Tokens have lower-case digits, moments are milliseconds. Of an upload with a layout fault the taps
-before it are written, and the fault is told.";
+before it are written, and the fault is reported.";
 
 /// The help of `decode`'s uploads.
 const DECODE_HELP: &str =
@@ -41,18 +41,18 @@ const DECODE_HELP: &str =
 
 /// What `uploads` does.
 const UPLOADS_ABOUT: &str =
-    "Tells what uploads have: batches, taps, first and last moment, and the layout fault, if any, with
-its batch, its tap (both from 0), the offset of its batch in bytes, and what to do.
+    "Prints what uploads have: batches, taps, first and last moment, and the layout fault, if any,
+with its batch, its tap (both from 0), the offset of its batch in bytes, and what to do.
 
-An upload with a layout fault is told up to it, and the status is 1.
+Of an upload with a layout fault the part before it is printed, and the status is 1.
 
 With --look, or an option that says what to look for, the uploads are also searched for what an
-auditor fears, and it is told how much of each kind is found, with the first of it. Nothing is
+auditor fears. How much of each kind is found is printed, with the first of it. Nothing is
 changed or left out, and the status does not depend on what is found. All taps are in memory.";
 
 /// The help of `--tokens`.
 const TOKENS_HELP: &str =
-    "Tell how many tokens each upload has, and how many of these stand in another FILE, too";
+    "Print how many tokens each upload has, and how many of these another FILE has, too";
 
 /// The help of the uploads.
 const UPLOADS_HELP: &str = "Uploads of at most 67108864 bytes; - stands for standard input";
@@ -63,14 +63,14 @@ const GOOD_PART_HELP: &str =
 
 /// What `table` does.
 const TABLE_ABOUT: &str =
-    "Tells a fare table as it is understood: the zone with its next changes of clocks, the modes, the
-transfers, the classes with the price of each ride of a window, the ranges of validators with the
-gaps between them, and how many riders each class has.
+    "Prints a fare table as it is understood: the zone with its next changes of clocks, the modes,
+the transfers, the classes with the price of each ride of a window, the ranges of validators with
+the gaps between them, and how many riders each class has.
 
-Warnings tell what the rules of the table pass over: keys that have no meaning and, where uploads
+Warnings name what the rules of the table pass over: keys that have no meaning and, where uploads
 are given, ranges that no validator of theirs is in, and validators of theirs that are in no range.
-Faults tell each wrong value: its whole path, its line and column, and what is wanted. Both are told
-on the standard error, and of a table with a fault nothing else.";
+Faults name each wrong value: its whole path, its line and column, and what is wanted. Both go to
+the standard error, and of a table with a fault nothing else is printed.";
 
 /// The help of the table.
 const TABLE_HELP: &str =
@@ -84,11 +84,11 @@ const TABLE_UPLOADS_HELP: &str =
 const STRICT_HELP: &str = "Let the status be 1 also where there is a warning";
 
 /// The help of `--riders`.
-const RIDERS_HELP: &str = "Tell each rider with its class";
+const RIDERS_HELP: &str = "Print each rider with its class";
 
 /// The help of `--from`.
 const FROM_HELP: &str =
-    "Tell the changes of clocks after this moment, as 2026-03-01T00:00:00Z [default: now]";
+    "Print the changes of clocks after this moment, as 2026-03-01T00:00:00Z [default: now]";
 
 /// What the words ask for.
 #[derive(Drop)]
@@ -115,7 +115,7 @@ pub(crate) enum Task<'a> {
     /// Merge the reports of parts.
     Merge(MergeWords<'a>),
     /// Merge the ledgers of parts.
-    MergeLedgers(Vec<Name<'a>>),
+    MergeLedgers(LedgerWords<'a>),
     /// Write the corrections from one ledger to another.
     Corrections(CorrectionsWords<'a>),
     /// A good part is asked for, and not one upload.
@@ -124,6 +124,8 @@ pub(crate) enum Task<'a> {
     InputTwice,
     /// Standard input is to be merged.
     InputMerged,
+    /// There are more or fewer reports than ledgers.
+    NotEachReport,
     /// What is to be a moment is none.
     NoMoment,
     /// The words of `encode` are wrong in this way.
@@ -294,11 +296,14 @@ fn merge_task<'a>(words: MergeWords<'a>) -> Task<'a> {
 }
 
 /// What `merge-ledgers` is asked for.
-fn merge_ledgers_task<'a>(names: Vec<Name<'a>>) -> Task<'a> {
-    if inputs_in(&names) > 1 {
+fn merge_ledgers_task<'a>(words: LedgerWords<'a>) -> Task<'a> {
+    if inputs_in(&words.ledgers).saturating_add(inputs_in(&words.reports)) > 1 {
         return Task::InputTwice;
     }
-    Task::MergeLedgers(names)
+    if !words.reports.is_empty() && words.reports.len() != words.ledgers.len() {
+        return Task::NotEachReport;
+    }
+    Task::MergeLedgers(words)
 }
 
 /// What `sort` is asked for. Uploads that are merged are read at any offset.

@@ -1,6 +1,6 @@
 -- Adding up the validators of a report, one by one.
 use Rattle.std.proofs.Common.{◌≡◌, ◌∙◌, ℕ, ◌+◌, ◌<◌, ◌≤◌, zero, suc, List, [], ◌∷◌}
-use Rattle.std.proofs.Common.{length, drop, get_or, refl, sym, ap, subst, arith}
+use Rattle.std.proofs.Common.{length, drop, get_or, refl, sym, ap, arith}
 use Rattle.std.proofs.Math.Seq.{drop-cons}
 use Rattle.std.specs.Prelude.{◌↔◌, map}
 use Rattle.shard_book.specs.Shown.{validator_sum}

@@ -34,7 +34,8 @@ use Rattle.part_reports.proofs.JoinedTokens.{StandOnce, joined_lines, once_each}
 use Rattle.part_reports.proofs.Orders.{below_not_below}
 use Rattle.part_reports.proofs.PartsBegun.{told_unique}
 use Rattle.part_reports.proofs.PermutedTokens.{of_token, same_token}
-use Rattle.part_reports.proofs.Risings.{Rise, falls_from}
+use Rattle.part_reports.specs.inside.Going.{Rise}
+use Rattle.part_reports.proofs.Risings.{falls_from}
 use Rattle.part_reports.proofs.TextsRead.{lines_whole}
 use Rattle.part_reports.proofs.Added.{lines_stand}
 use Rattle.part_reports.proofs.TokenSums.{Sum, line_of, lines_keys, lines_length}

@@ -41,13 +41,13 @@ above_none q first (sum ∷ list) same all =
     ap (λ b. if b then sum ∷ filter (λ (sum : ℕ × Sums). sum.0 == q) list else filter
     (λ (sum : ℕ × Sums). sum.0 == q) list) test ∙ above_none q first list same all.1
 
-same_test : (x y : ℕ) → x ≡ y → (x == y) ≡ true
+pub same_test : (x y : ℕ) → x ≡ y → (x == y) ≡ true
 same_test x y same = grind (arith, nat_tests, same)
 
 other_test : (x y : ℕ) → x ≢ y → (x == y) ≡ false
 other_test x y other = grind (arith, nat_tests)
 
-one_small : (q : ℕ) (list : List (ℕ × Sums)) → All IsValidatorSum list
+pub one_small : (q : ℕ) (list : List (ℕ × Sums)) → All IsValidatorSum list
     → IsStrictlySortedBy nat_cmp (keys_of list) → (sums_of_validator q list).taps < 2 ^ 64
 unfolding IsStrictlySortedBy
 one_small q [] all rise = let none = taps_nothing in omega (arith, none)
@@ -104,7 +104,7 @@ tokens_small (told ∷ fronts) all =
     let parts = sum_by-append (λ (told : ToldFront). told.tokens) (told ∷ []) fronts in
     omega (arith, one, rest, parts)
 
-few : (fronts : List ToldFront) → All MayBePart fronts → length fronts ≤ 2 ^ 31 → AreFew fronts
+pub few : (fronts : List ToldFront) → All MayBePart fronts → length fronts ≤ 2 ^ 31 → AreFew fronts
 few fronts all short = record {
   totals = (let most = totals_small fronts all in omega (arith, most, short));
   validators = λ q. (let most = validators_small q fronts all in omega (arith, most, short));

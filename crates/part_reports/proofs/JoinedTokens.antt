@@ -18,7 +18,8 @@ use Rattle.part_reports.specs.inside.Standings.{MayFollow}
 use Rattle.part_reports.proofs.Leasts.{same_token as tied_same, token_total}
 use Rattle.part_reports.proofs.Orders.{NotBelow, below_differs}
 use Rattle.part_reports.proofs.PermutedTokens.{eq_of, same_token}
-use Rattle.part_reports.proofs.Risings.{Rise, falls_to}
+use Rattle.part_reports.specs.inside.Going.{Rise}
+use Rattle.part_reports.proofs.Risings.{falls_to}
 
 abbrev tokens_of : List TokenLine → List Token
 tokens_of lines = map (λ (line : TokenLine). line.token) lines

@@ -24,7 +24,7 @@ head_taken rest = refl
 head_left : (rest : List ℕ) → drop_through 10 (head_text ++ rest) ≡ rest
 head_left rest = refl
 
-known : (P : List ℕ → Type 0) (now : Option (List ℕ)) (left : List ℕ) → now ≡ Some left
+pub known : (P : List ℕ → Type 0) (now : Option (List ℕ)) (left : List ℕ) → now ≡ Some left
     → IfSome now P → P left
 known P now left is holds = subst (λ now. IfSome now P) is holds
 
@@ -76,12 +76,12 @@ no_ledgers (other ∷ front) back file (first ∷ files) (lines ∷ parts) same 
     no_ledgers front back file files parts rest are.1 none
 
 -- the texts of ledgers behind their head lines
-record AreLefts (files : List (List ℕ)) (ats : List Standing) : Type 0 where
-  lefts : List (List ℕ)
-  shown : AllZip (λ file left. file ≡ head_text ++ left) files lefts
-  sources : AllZip StandsInText (map (λ left. (Entries, left)) lefts) ats
+pub record AreLefts (files : List (List ℕ)) (ats : List Standing) : Type 0 where
+  pub lefts : List (List ℕ)
+  pub shown : AllZip (λ file left. file ≡ head_text ++ left) files lefts
+  pub sources : AllZip StandsInText (map (λ left. (Entries, left)) lefts) ats
 
-lefts_of : (files : List (List ℕ)) (known : List (Option (List ℕ))) (ats : List Standing)
+pub lefts_of : (files : List (List ℕ)) (known : List (Option (List ℕ))) (ats : List Standing)
     → known ≡ map (λ file. Some file) files → AreBegunLedgers known ats → AreLefts files ats
 lefts_of [] [] [] same are = record { lefts = []; shown = tt; sources = tt }
 lefts_of [] [] (at ∷ ats) same are = elim are [ ]
@@ -99,7 +99,7 @@ lefts_of (first ∷ files) (file ∷ knowns) (at ∷ ats) same are =
       sources = (begun.stands, more.sources);
     }
 
-texts_to : (files lefts : List (List ℕ)) (parts : List (List TokenLine))
+pub texts_to : (files lefts : List (List ℕ)) (parts : List (List TokenLine))
     → AllZip (λ file left. file ≡ head_text ++ left) files lefts → AllZip IsPartLedger parts files
     → AreTexts (map (λ left. (Entries, left)) lefts) parts
 texts_to [] [] [] shown are = tt
@@ -115,7 +115,7 @@ texts_to (file ∷ files) (left ∷ lefts) (lines ∷ parts) shown are = (
   texts_to files lefts parts shown.1 are.1,
 )
 
-texts_from : (files lefts : List (List ℕ)) (parts : List (List TokenLine))
+pub texts_from : (files lefts : List (List ℕ)) (parts : List (List TokenLine))
     → AllZip (λ file left. file ≡ head_text ++ left) files lefts
     → AreTexts (map (λ left. (Entries, left)) lefts) parts → AllZip IsPartLedger parts files
 texts_from [] [] [] shown are = tt

@@ -1,6 +1,7 @@
 pub mod Added
 pub mod Adding
 pub mod CannotMerge
+pub mod ChargeLines
 pub mod Counted
 pub mod EndsRead
 pub mod FewParts
@@ -9,6 +10,7 @@ pub mod FrontWritten
 pub mod FrontsRead
 pub mod JoinedTokens
 pub mod Leasts
+pub mod Groups
 pub mod LedgerTexts
 pub mod LinesRead
 pub mod ListsWritten
@@ -19,6 +21,8 @@ pub mod Parts
 pub mod PartsBegun
 pub mod PermutedTokens
 pub mod Places
+pub mod ReportsLeft
+pub mod ReportsMerged
 pub mod Rising
 pub mod RisingRead
 pub mod Risings

@@ -23,13 +23,14 @@ use Rattle.part_reports.specs.declared.merging.LineKind.{LineKind}
 use Rattle.part_reports.specs.declared.merging.LineKind.TheVariants.{Entries}
 use Rattle.part_reports.proofs.Orders.{NotBelow, below_differs, below_not_below, below_then}
 use Rattle.part_reports.proofs.Orders.{may_not_below, not_below_trans}
-use Rattle.part_reports.proofs.Parts.{IsGoing, Part, going_end, going_first, going_line, going_next}
+use Rattle.part_reports.specs.inside.Going.{IsGoing, Part, Rise}
+use Rattle.part_reports.proofs.Parts.{going_end, going_first, going_line, going_next}
 use Rattle.part_reports.proofs.Parts.{going_stuck, line_at, next_part, order_next}
 use Rattle.part_reports.proofs.Places.{at_map, each_at, each_by_place, each_set, join_of_map}
 use Rattle.part_reports.proofs.Places.{map_at}
 use Rattle.part_reports.proofs.Places.{map_kept, map_of_set, one_at, set_here, set_there, split_at}
 use Rattle.part_reports.proofs.Places.{IsSplit}
-use Rattle.part_reports.proofs.Risings.{Rise, each_middle, each_push, each_weaker, falls_from}
+use Rattle.part_reports.proofs.Risings.{each_middle, each_push, each_weaker, falls_from}
 use Rattle.part_reports.proofs.Risings.{rise_push}
 
 -- ---- known bytes
@@ -305,7 +306,7 @@ past_right p part token after is past back less = record {
         each_push (λ (line : TokenLine). token_cmp line.token head ≡ Less) part.done line below less
 
 -- what stands at the place, of a list that an element of was changed
-at_changed : (parts : List Part) (k i : ℕ) (next p : Part)
+pub at_changed : {X : Type 0} (parts : List X) (k i : ℕ) (next p : X)
     → slice_get (slice_set parts k next) i ≡ Some p
     → ((i ≡ k) × (p ≡ next)) ⊎ ((i ≢ k) × (slice_get parts i ≡ Some p))
 at_changed parts k i next p is = ⊎_elim
@@ -326,12 +327,12 @@ above_others tokens k i token (Some above) others other is = others i above othe
 
 -- ---- the merge at one of its places
 -- the part whose source stands at the place
-record IsPartAt (parts : List Part) (k : ℕ) (at : Standing) : Type 0 where
-  part : Part
-  there : slice_get parts k ≡ Some part
-  is : part.at ≡ at
+pub record IsPartAt (parts : List Part) (k : ℕ) (at : Standing) : Type 0 where
+  pub part : Part
+  pub there : slice_get parts k ≡ Some part
+  pub is : part.at ≡ at
 
-part_at : (texts : List (LineKind × List ℕ)) (ats : List Standing) (old new : Option (List ℕ))
+pub part_at : (texts : List (LineKind × List ℕ)) (ats : List Standing) (old new : Option (List ℕ))
     → (merging : IsMerging texts ats old new) → (k : ℕ) (at : Standing)
     → slice_get ats k ≡ Some at → IsPartAt merging.parts k at
 part_at texts ats old new merging k at is =
@@ -553,6 +554,41 @@ merging_next texts ats after old now new k merging least moved =
           (subst (λ (at : Standing). Appends now new at.line) (sym found.is) moved.written));
     }
 
+-- at the beginning nothing was written of any part
+pub first_nothing : (texts : List (LineKind × List ℕ)) (ats : List Standing)
+    (old : Option (List ℕ)) → (are : AllZip StandsInText texts ats)
+    → AllByRecursion (λ part. part.done ≡ []) (merging_first texts ats old are).parts
+unfolding merging_first begun
+first_nothing texts ats old are = (begun texts ats are).nothing
+
+-- the part at which the merge goes on
+pub record IsPartMoved (parts after : List Part) (k : ℕ) (token : Token) (was is : Standing)
+    : Type 0 where
+  pub part : Part
+  pub there : slice_get parts k ≡ Some part
+  pub at : part.at ≡ was
+  pub token_is : part.at.token ≡ Some token
+  pub moved : after ≡ slice_set parts k (next_part part token is)
+
+pub next_moved : (texts : List (LineKind × List ℕ)) (ats after : List Standing)
+    (old now new : Option (List ℕ)) (k : ℕ) → (merging : IsMerging texts ats old now)
+    → (least : IsBelowOthers (map (λ at. at.token) ats) k)
+    → (moved : IsMovedAt k ats after now new)
+    → IsPartMoved merging.parts
+    (merging_next texts ats after old now new k merging least moved).parts k least.token moved.was
+    moved.is
+unfolding merging_next
+next_moved texts ats after old now new k merging least moved =
+    let found = part_at texts ats old now merging k moved.was moved.there in
+    record {
+      part = found.part;
+      there = found.there;
+      at = found.is;
+      token_is = ap (λ (at : Standing). at.token) found.is
+          ∙ head_at ats k moved.was least.token moved.there least.there;
+      moved = refl;
+    }
+
 -- ---- the end
 texts_done : (parts : List Part) → AllByRecursion IsGoing parts
     → AllByRecursion (λ part. part.at.token ≡ None) parts
@@ -609,9 +645,18 @@ merging_end texts ats old new merging none =
       merging.written,
     )
 
+-- the lines at the end are those that were written
+pub end_lists : (texts : List (LineKind × List ℕ)) (ats : List Standing)
+    (old new : Option (List ℕ)) → (merging : IsMerging texts ats old new)
+    → (none : IsLeast (map (λ at. at.token) ats) None)
+    → (merging_end texts ats old new merging none).0
+    ≡ map (λ (part : Part). part.done) merging.parts
+unfolding merging_end
+end_lists texts ats old new merging none = refl
+
 -- ---- faults
 -- the lines of the text at the place
-list_at : (parts : List Part) (lists : List (List TokenLine)) (k : ℕ) (part : Part)
+pub list_at : (parts : List Part) (lists : List (List TokenLine)) (k : ℕ) (part : Part)
     → AllZip IsTextOf (map (λ part. part.text) parts) lists → slice_get parts k ≡ Some part
     → (list : List TokenLine) × (slice_get lists k ≡ Some list) × IsTextOf part.text list
 list_at [] lists k part are is = absurd (cc)

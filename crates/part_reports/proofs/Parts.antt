@@ -1,6 +1,6 @@
 -- A text that is being merged: how far it was written.
-use Rattle.std.proofs.Common.{◌≡◌, ◌∙◌, ℕ, ◌+◌, List, [], ◌∷◌, ◌++◌, Some, None}
-use Rattle.std.proofs.Common.{Option, length, refl, sym, ap, subst, arith, append_assoc}
+use Rattle.std.proofs.Common.{◌≡◌, ◌∙◌, ℕ, List, [], ◌∷◌, ◌++◌, Some, None}
+use Rattle.std.proofs.Common.{Option, refl, sym, ap, subst, arith, append_assoc}
 use Rattle.std.proofs.Common.{append-nil, length-append}
 use Rattle.std.specs.Prelude.{IfSome}
 use Rattle.std.specs.List.{AllByRecursion}
@@ -9,7 +9,8 @@ use Rattle.std.proofs.lemmas.List.Concat.{flat_map-append}
 use Rattle.tap_views.specs.declared.token.Token.{Token}
 use Rattle.part_reports.specs.TokenLines.{TokenLine, text_of}
 use Rattle.shard_book.specs.Sums.{sums}
-use Rattle.part_reports.specs.inside.Kinds.{AreLines, HasTokenSums, IsTextOf, Leave}
+use Rattle.part_reports.specs.inside.Going.{IsBehindSo, IsGoing, Part, Rise}
+use Rattle.part_reports.specs.inside.Kinds.{AreLines, HasTokenSums, IsTextOf}
 use Rattle.part_reports.specs.inside.SumsLeft.{sums_left}
 use Rattle.part_reports.specs.inside.Standings.{IsAtEnd, IsAtLine, IsBehindOne, IsLineOfKind, IsMoved}
 use Rattle.part_reports.specs.inside.Standings.{StandsInText, StandsInTextAt, IsStuck, MayEnd, MayFollow}
@@ -18,25 +19,11 @@ use Rattle.part_reports.specs.declared.merging.LineKind.{LineKind}
 use Rattle.part_reports.specs.declared.merging.LineKind.TheVariants.{Tokens, Entries}
 use Rattle.part_reports.proofs.Added.{leave_all, leave_behind, leave_push, one_of_token}
 use Rattle.part_reports.proofs.Orders.{may_follow_trans}
-use Rattle.part_reports.proofs.Risings.{AreCounted, Rise, begins, each_behind, each_push}
+use Rattle.part_reports.proofs.Risings.{AreCounted, begins, each_behind, each_push}
 use Rattle.part_reports.proofs.Risings.{each_weaker}
 use Rattle.part_reports.proofs.Risings.{lines_count, lines_each, lines_from, lines_rise}
 use Rattle.part_reports.proofs.Risings.{rise_behind}
 use Rattle.part_reports.proofs.Risings.{rise_middle, rise_push}
-
--- a text, where its source stands, and its lines that were written
-pub record Part : Type 0 where
-  pub text : LineKind × List ℕ
-  pub at : Standing
-  pub done : List TokenLine
-
--- behind these lines of the first kind those of the second kind are left
-abbrev pub IsBehindSo : LineKind → LineKind → List TokenLine → Type 0
-IsBehindSo (Tokens all total) (Tokens left rest) done =
-    (all ≡ length done + left) × Leave HasTokenSums done (sums_left total) (sums_left rest)
-IsBehindSo (Tokens all total) Entries done = ⊥
-IsBehindSo Entries (Tokens left rest) done = ⊥
-IsBehindSo Entries Entries done = Unit {0}
 
 none_behind : (kind : LineKind) → IsBehindSo kind kind []
 none_behind (Tokens left rest) = (omega arith, refl)
@@ -77,7 +64,7 @@ rest_count (Tokens all total) Entries done more is counted = elim is [ ]
 rest_count Entries (Tokens left rest) done more is counted = elim is [ ]
 rest_count Entries Entries done more is counted = tt
 
-like_line : (all kind : LineKind) (done : List TokenLine) (line : TokenLine) → IsBehindSo all kind done
+pub like_line : (all kind : LineKind) (done : List TokenLine) (line : TokenLine) → IsBehindSo all kind done
     → IsLineOfKind kind line → IsLineOfKind all line
 like_line (Tokens all total) (Tokens left rest) done line is fits = fits
 like_line (Tokens all total) Entries done line is fits = elim is [ ]
@@ -118,18 +105,6 @@ rest_may Entries Entries done before (line ∷ lines) is may = may
 -- the line at which a source stands
 abbrev pub line_at : Standing → Token → TokenLine
 line_at at token = record { token = token; text = at.line }
-
--- the lines that were written are the first of the text, and the source stands at the next
-pub record IsGoing (part : Part) : Type 0 where
-  pub kind : LineKind
-  pub left : List ℕ
-  pub source : StandsInText (kind, left) part.at
-  pub behind : IsBehindSo part.text.0 kind part.done
-  pub shown : part.text.1 ≡ text_of part.done ++ left
-  pub each : AllByRecursion (IsLineOfKind part.text.0) part.done
-  pub rise : Rise part.text.0 part.done
-  pub below : IfSome part.at.token
-      (λ token. AllByRecursion (λ line. MayFollow part.text.0 line.token token) part.done)
 
 nothing_below : (kind : LineKind) (head : Option Token)
     → IfSome head (λ token. AllByRecursion

@@ -18,7 +18,7 @@ Sum = Token × Sums
 abbrev pub of_token : Token → List Sum → List Sum
 of_token token sums = filter (λ (sum : Sum). token_eq token sum.0) sums
 
-both : (a b : Bool) → a ≡ true → b ≡ true → (a && b) ≡ true
+pub both : (a b : Bool) → a ≡ true → b ≡ true → (a && b) ≡ true
 both true true p q = refl
 both true false p q = q
 both false b p q = p

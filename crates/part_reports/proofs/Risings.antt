@@ -13,6 +13,7 @@ use Rattle.part_reports.specs.Ledgers.{IsLedgerEntryLine}
 use Rattle.part_reports.specs.TokenLines.{DoNotFall, TokenLine, text_of}
 use Rattle.part_reports.specs.inside.Kinds.{AreLines, HasTokenSums, IsSumLine, Leave}
 use Rattle.part_reports.specs.inside.SumsLeft.{sums_left}
+use Rattle.part_reports.specs.inside.Going.{Rise}
 use Rattle.part_reports.specs.inside.Standings.{IsLineOfKind, MayFollow, MayFollowAll}
 use Rattle.part_reports.specs.declared.merging.LineKind.{LineKind}
 use Rattle.part_reports.specs.declared.sums_left.SumsLeft.{SumsLeft}
@@ -53,12 +54,6 @@ each_from_map f P [] each = tt
 each_from_map f P (x ∷ xs) each = (each.0, each_from_map f P xs each.1)
 
 -- ---- lines in order
--- each line may stand behind each line before it
-abbrev pub Rise : LineKind → List TokenLine → Type 0
-Rise kind [] = Unit {0}
-Rise kind (line ∷ lines) =
-    AllByRecursion (λ other. MayFollow kind line.token other.token) lines × Rise kind lines
-
 pub rise_push : (kind : LineKind) (lines : List TokenLine) (last : TokenLine) → Rise kind lines
     → AllByRecursion (λ line. MayFollow kind line.token last.token) lines
     → Rise kind (lines ++ last ∷ [])
@@ -175,7 +170,7 @@ lines_rise (Tokens left rest) lines are = strictly_to left rest lines are.2
 lines_rise Entries lines are = falls_to lines are.1
 
 -- ---- lines that a text begins with
-no_bytes : (line rest : List ℕ) → [] ≡ line ++ rest → line ≡ []
+pub no_bytes : (line rest : List ℕ) → [] ≡ line ++ rest → line ≡ []
 no_bytes [] rest is = refl
 no_bytes (x ∷ line) rest is = cc
 

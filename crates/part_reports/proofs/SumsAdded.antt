@@ -17,12 +17,12 @@ use Rattle.shard_book.specs.Shown.{validator_sum}
 use Rattle.shard_book.specs.Sums.{Sums, add_all, add_sums, sums, sums_of, sums_of_replies}
 use Rattle.shard_book.specs.declared.sums.ValidatorSum.{ValidatorSum}
 use Rattle.shard_book.specs.declared.sums.totals.Totals.{Totals}
-use Rattle.part_reports.specs.Reports.{sums_of_validator}
+use Rattle.part_reports.specs.Reports.{sums_found, sums_of_validator}
 use Rattle.part_reports.specs.declared.front.Front.{Front}
 use Rattle.part_reports.specs.declared.sums.WholeSums.{WholeSums}
 use Rattle.part_reports.specs.inside.Fronts.{IsFront, ToldFront}
 use Rattle.part_reports.specs.inside.Sums.{AreFew, AreSumsOf, AreSmall, AreFrontsCounted, WithFront, WithOne}
-use Rattle.part_reports.specs.inside.Sums.{WithValidators, or_nothing, sums_found}
+use Rattle.part_reports.specs.inside.Sums.{WithValidators, or_nothing}
 use Rattle.std.proofs.lemmas.List.Concat.{flat_map-append}
 use Rattle.std.proofs.lemmas.List.Sums.{sum_by-append}
 
@@ -63,10 +63,10 @@ add_all_more (first ∷ list) more = ap (add_sums first) (add_all_more list more
     ∙ add_assoc first (add_all list) more
 
 -- ---- the tests of keys
-same_key : (k : ℕ) → is_eq (nat_cmp k k) ≡ true
+pub same_key : (k : ℕ) → is_eq (nat_cmp k k) ≡ true
 same_key k = grind (arith, nat_tests)
 
-other_key : (k q : ℕ) → k ≢ q → is_eq (nat_cmp k q) ≡ false
+pub other_key : (k q : ℕ) → k ≢ q → is_eq (nat_cmp k q) ≡ false
 other_key k q other = grind (arith, nat_tests)
 
 same_number : (k : ℕ) → (k == k) ≡ true

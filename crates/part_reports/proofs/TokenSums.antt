@@ -1,5 +1,5 @@
 -- The lines of a report's tokens, and the sums that they tell.
-use Rattle.std.proofs.Common.{◌≡◌, List, [], ◌∷◌, ◌++◌, length, refl, sym, ap, subst, ◌∙◌, arith}
+use Rattle.std.proofs.Common.{◌≡◌, List, [], ◌∷◌, ◌++◌, length, refl, ap, ◌∙◌, arith}
 use Rattle.std.specs.Prelude.{All, flat_map, map}
 use Rattle.std.specs.Map.{keys_of}
 use Rattle.std.proofs.lemmas.List.Elements.{All-cons, All-head, All-nil, All-tail}

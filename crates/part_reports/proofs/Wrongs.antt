@@ -1,5 +1,5 @@
 -- What holds if a line is wrong.
-use Rattle.std.specs.Prelude.{◌≡◌, Result, Ok, Err, IsErr, MatchResult}
+use Rattle.std.specs.Prelude.{Result, Ok, Err, IsErr, MatchResult}
 use Rattle.std.proofs.Common.{sym}
 use Rattle.std.proofs.lemmas.Bool.{true≢false}
 

@@ -1,6 +1,6 @@
 -- Reports of parts, and the report of the whole that they are merged into.
 use Rattle.std.specs.Prelude.{◌≡◌, ℕ, ◌+◌, ◌<◌, ◌^◌, List, [], ◌∷◌, All, IsTrue, ◌==◌, filter}
-use Rattle.std.specs.Prelude.{length, map, flat_map, sum_by}
+use Rattle.std.specs.Prelude.{length, map, flat_map, sum_by, Option, Some, None, if◌then◌else◌}
 use Rattle.std.specs.List.Sorted.{IsPermutation, IsStrictlySortedBy}
 use Rattle.std.specs.Map.{keys_of}
 use Rattle.std.specs.Ordering.{eq_by_cmp, nat_cmp}
@@ -95,6 +95,13 @@ tokens_of_reports parts = flat_map (λ part. part.tokens) parts
 abbrev pub sums_of_validator : ℕ → List (ℕ × Sums) → Sums
 sums_of_validator validator list =
     add_all (map (λ sum. sum.1) (filter (λ sum. sum.0 == validator) list))
+
+-- the sums that this validator has in the list; none if it is not in it
+abbrev pub sums_found : List (ℕ × Sums) → ℕ → Option Sums
+sums_found list validator =
+    if is_member (eq_by_cmp nat_cmp) (keys_of list) validator
+    then Some (sums_of_validator validator list)
+    else None
 
 -- The whole's report: the ends of the uploads, the totals of all parts added up, each validator of
 -- the parts once with its sums in all of them, and the tokens of all parts. Validators rise and

@@ -19,6 +19,16 @@ pub enum Wrong {
     Validators,
     /// The tokens before it, or up to it, do not add up to the report's totals.
     Tokens,
+    /// The lines of its token, up to it, have more than the report says of the token.
+    MoreThanReport,
+    /// The lines before it have less than the report says of their token.
+    LessThanReport,
+    /// Its token is not the next one of the report.
+    OtherToken,
+    /// The report has one more token.
+    MissingToken,
+    /// The lines before it have other sums of a validator than the report.
+    OtherValidators,
 }
 
 /// Why texts of parts are not merged.

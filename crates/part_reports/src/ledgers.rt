@@ -38,7 +38,7 @@ fn begin_ledger<R: BufRead + Drop>(
 }
 
 /// The same of each ledger.
-fn begin_ledgers<R: BufRead + Drop>(
+pub(crate) fn begin_ledgers<R: BufRead + Drop>(
     alloc: Global,
     ledgers: Vec<R>,
 ) -> Result<Vec<OrderedText<R>>, MergeFault>

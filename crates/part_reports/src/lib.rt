@@ -6,13 +6,16 @@
 //! parts, put in order.
 #![tactic(auto)]
 
+mod charge;
 mod fault;
 mod front;
 pub mod laws;
 mod ledger_line;
 mod ledgers;
+mod ledgers_with_reports;
 mod line_reader;
 mod merging;
+mod report_left;
 mod reports;
 mod sums;
 mod sums_left;
@@ -20,4 +23,5 @@ mod upload_ends;
 
 pub use fault::{MergeFault, Wrong};
 pub use ledgers::merge_ledgers;
+pub use ledgers_with_reports::merge_ledgers_with_reports;
 pub use reports::merge;

@@ -38,11 +38,11 @@ pub(crate) enum LineKind {
 #[derive(Drop)]
 pub(crate) struct OrderedText<R: BufRead + Drop> {
     /// The text.
-    reader: LineReader<R>,
+    pub(crate) reader: LineReader<R>,
     /// What its lines are.
     lines: LineKind,
     /// The token of the line that was read last; none at the end.
-    token: Option<Token>,
+    pub(crate) token: Option<Token>,
 }
 
 /// What the lines are behind a line of a report's token, and the token.
@@ -180,7 +180,7 @@ impl<R: BufRead + Drop> OrderedText<R> {
     }
 
     /// Goes on to the next line. Gives its token, which is not below this line's.
-    fn advance(&mut self) -> Result<Option<Token>, MergeFault>
+    pub(crate) fn advance(&mut self) -> Result<Option<Token>, MergeFault>
         ensures read { OnOk result (IfSome (R.remaining self.old.reader.from)
             (λ left. StandsInText (self.old.lines, left) (standing R.remaining self.new))) }
         ensures follows { IfOk result (λ token.
@@ -204,7 +204,7 @@ impl<R: BufRead + Drop> OrderedText<R> {
 
 /// Which token is below all others; none where there is none. If one stands twice, that is a
 /// mistake: it gives the later of the two places.
-fn least(tokens: &[Option<Token>]) -> Result<Option<usize>, usize>
+pub(crate) fn least(tokens: &[Option<Token>]) -> Result<Option<usize>, usize>
     ensures { MatchResult result (IsLeast tokens.now) (StandsTwice tokens.now) }
 {
     let mut found: Option<(usize, Token)> = None;
@@ -238,7 +238,11 @@ pub(crate) fn write_text<W: Write>(out: &mut W, text: &[u8]) -> Result<(), Merge
 }
 
 /// The fault of the text of this number.
-fn fault_in<R: BufRead + Drop>(sources: &[OrderedText<R>], at: usize, wrong: Wrong) -> MergeFault
+pub(crate) fn fault_in<R: BufRead + Drop>(
+    sources: &[OrderedText<R>],
+    at: usize,
+    wrong: Wrong,
+) -> MergeFault
     ensures { ¬ (IsOfTaps result) }
 {
     match sources.get(at) {
@@ -248,7 +252,7 @@ fn fault_in<R: BufRead + Drop>(sources: &[OrderedText<R>], at: usize, wrong: Wro
 }
 
 /// Where the texts stand.
-fn tokens_at<R: BufRead + Drop>(
+pub(crate) fn tokens_at<R: BufRead + Drop>(
     alloc: Global,
     sources: &[OrderedText<R>],
 ) -> Result<Vec<Option<Token>>, AllocError>
@@ -258,7 +262,7 @@ fn tokens_at<R: BufRead + Drop>(
 }
 
 /// Writes the line at which the text of this number stands, and goes on to the next.
-fn write_at<R: BufRead + Drop, W: Write>(
+pub(crate) fn write_at<R: BufRead + Drop, W: Write>(
     sources: &mut [OrderedText<R>],
     tokens: &mut [Option<Token>],
     at: usize,

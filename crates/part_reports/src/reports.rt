@@ -47,7 +47,7 @@ struct BegunReports<R: BufRead + Drop> {
 }
 
 /// Reads the report of a part up to the line of its first token, and adds what it tells.
-fn read_part<R: BufRead + Drop>(
+pub(crate) fn read_part<R: BufRead + Drop>(
     alloc: Global,
     sums: &mut WholeSums,
     from: R,

@@ -66,7 +66,7 @@ fn kept_of(validators: &BTreeMap<u32, Totals>, validator: u32) -> Totals
 }
 
 /// Adds the sums of a validator. False where they are more than any run has.
-fn add_validator(
+pub(crate) fn add_validator(
     validators: &mut BTreeMap<u32, Totals>,
     sum: &ValidatorSum,
 ) -> Result<bool, AllocError>

@@ -5,7 +5,7 @@ use Rattle.std.specs.Prelude.{slice_index_or}
 use Rattle.tap_views.specs.Encoding.{fields_of, AreEarly}
 use Rattle.tap_views.specs.Layout.{Tap}
 use Rattle.tap_views.specs.declared.encoder.TapFields.{TapFields}
-use Rattle.tap_parts.specs.Parts.{IsInFullBatches, of_part, taps_of_uploads}
+use Rattle.tap_parts.specs.Parts.{of_part, taps_of_uploads}
 use Rattle.tap_parts.specs.declared.upload.UploadTaps.{UploadTaps}
 use Rattle.tap_parts.specs.Canonical.{IsCanonical}
 
@@ -25,14 +25,13 @@ pub record AreSplit (parts : ℕ) (uploads : List (List ℕ)) (lists : List (Lis
       → slice_index_or lists part [] ≡ map fields_of (of_part part parts (taps_of_uploads taps))
 
 -- the file is read, with no fault, as exactly the uploads' taps that fall to the part, in canonical
--- order, and has them in full batches
+-- order
 pub record IsSplitFile (uploads : List (List ℕ)) (parts part : ℕ) (file : List ℕ) : Type 0 where
   pub taps : List (List Tap)
   pub of_uploads : AreGoodTapsOfEach uploads taps
   pub list : List TapFields
   pub canonical : IsCanonical (map fields_of (of_part part parts (taps_of_uploads taps))) list
   pub reads : IsFileOf file list
-  pub layout : IsInFullBatches file list
 
 -- the taps of all parts have moments that a file can have
 abbrev pub AreAllEarly : List (List TapFields) → Type 0

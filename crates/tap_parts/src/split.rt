@@ -66,7 +66,7 @@ impl Split {
     }
 
     /// The file of a part: its taps in canonical order, as an upload from which they are read
-    /// again, in `TAP1` batches of 4,096 taps, the last of fewer if need be. No batch is empty.
+    /// again.
     pub fn file(&self, alloc: Global, part: u32) -> Result<Vec<u8>, AllocError>
         requires { part < length self.now }
         ensures { IfOk result (λ file. (parts : ℕ) (uploads : List (List ℕ))

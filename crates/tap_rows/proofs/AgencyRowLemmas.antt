@@ -1,6 +1,6 @@
 -- The columns of a head, and the values of a row in them.
 use Rattle.std.proofs.Common.{◌≡◌, ℕ, zero, suc, ◌+◌, ◌<◌, ◌≤◌, List, [], ◌∷◌, ◌++◌, length, None, Some, refl, sym, subst, arith, Bor, ◌⊎◌, inl, inr}
-use Rattle.std.specs.Prelude.{All, option_map, slice_index_or, take, Option, slice_get, IsSomeAnd, MatchOption}
+use Rattle.std.specs.Prelude.{All, Result, Ok, Err, IfOk, IfErr, option_map, slice_index_or, take, Option, slice_get, IsSomeAnd, MatchOption}
 use Rattle.std.proofs.lemmas.List.{take_more}
 use Rattle.std.proofs.lemmas.Option.{slice_get-get_or}
 use Rattle.std.specs.List.{AllZip}
@@ -9,8 +9,11 @@ use Rattle.tap_rows.specs.Agencies.{HasNoColumn, IsWanting}
 use Rattle.tap_rows.specs.declared.agency.choice.Choice.{Choice}
 use Rattle.tap_rows.specs.declared.agency.fault.Wanted.TheVariants as wanted
 use Rattle.tap_rows.specs.AgencyMoments.{IsLocalTime}
-use Rattle.tap_rows.specs.AgencyRows.{HasSome, HasValue, IsColumn, IsMet, IsNoMoment, IsNoTap, IsTokenText}
-use Rattle.tap_rows.specs.Rows.{IsValidator}
+use Rattle.tap_rows.specs.AgencyRows.{HasSome, HasValue, IsColumn, IsMet, IsNoDevice, IsNoMoment, IsNoNumber, IsNoTap, IsTokenText, StandsForValidator}
+use Rattle.tap_rows.specs.Devices.{devices_of, validator_of}
+use Rattle.tap_rows.specs.Rows.{IsNoValidator, IsValidator}
+use Rattle.tap_rows.specs.declared.devices.table.DeviceTable.{DeviceTable}
+use Rattle.tap_rows.specs.inside.Validators.{IsWrongValidator}
 use Rattle.tap_rows.specs.declared.agency.reading.Reason.{Reason}
 use Rattle.tap_rows.specs.declared.agency.reading.Reason.TheVariants as why
 use Rattle.tap_rows.specs.inside.Places.{ArePlaces, IsPlaceOf}
@@ -102,15 +105,46 @@ not_met_there head row condition place column none is = none (value_there head r
 
 -- a moment's field that tells none
 pub wrong_moment : (choice : Choice) (head row : List (List ℕ)) (bytes : List ℕ) (number : ℕ) (text : List ℕ) (reason : Reason) → HasSome head row choice.token.now (λ text. IsTokenText text bytes)
-    → HasSome head row choice.validator.now (λ text. IsValidator text number) → HasValue head row choice.moment.now text → IsNoMoment text → (reason ≡ why.LocalTime → IsLocalTime text)
+    → HasSome head row choice.validator.now (λ text. StandsForValidator choice.devices text number) → HasValue head row choice.moment.now text → IsNoMoment text → (reason ≡ why.LocalTime → IsLocalTime text)
     → (¬ (reason ≡ why.LocalTime) → (reason ≡ why.Moment) × ¬ (IsLocalTime text)) → IsNoTap choice head row reason
 wrong_moment choice head row bytes number text why.Fields token validator has none local other = absurd (cc ((other (λ e. cc e)).0))
 wrong_moment choice head row bytes number text why.Token token validator has none local other = absurd (cc ((other (λ e. cc e)).0))
 wrong_moment choice head row bytes number text why.Validator token validator has none local other = absurd (cc ((other (λ e. cc e)).0))
+wrong_moment choice head row bytes number text why.Device token validator has none local other = absurd (cc ((other (λ e. cc e)).0))
 wrong_moment choice head row bytes number text why.LocalTime token validator has none local other =
     record { bytes = bytes; number = number; token = token; validator = validator; wrong = (text, has, (none, local refl)) }
 wrong_moment choice head row bytes number text why.Moment token validator has none local other =
     record { bytes = bytes; number = number; token = token; validator = validator; wrong = (text, has, (none, (other (λ e. cc e)).1)) }
+
+-- what a validator's field stands for, by the number or by the device
+pub number_stands : (devices : Option (Bor DeviceTable)) (text : List ℕ) (made : Result ℕ Reason) → devices ≡ None → IfOk made (IsValidator text) → IfOk made (StandsForValidator devices text)
+number_stands devices text made none is = subst (λ d. IfOk made (StandsForValidator d text)) (sym none) is
+
+pub no_number_stands : (devices : Option (Bor DeviceTable)) (text : List ℕ) (made : Result ℕ Reason) → devices ≡ None → IfErr made (λ reason. (reason ≡ why.Validator) × IsNoValidator text)
+    → IfErr made (IsWrongValidator devices text)
+no_number_stands devices text (Ok number) none is = tt
+no_number_stands devices text (Err reason) none is = subst (IsWrongValidator devices text) (sym is.0) (subst (λ d. IsNoNumber d text) (sym none) is.1)
+
+pub device_stands : (devices : Option (Bor DeviceTable)) (table : Bor DeviceTable) (text : List ℕ) (made : Result ℕ Reason) → devices ≡ Some table
+    → IfOk made (λ number. validator_of (devices_of table.now) text ≡ Some number) → IfOk made (StandsForValidator devices text)
+device_stands devices table text made some is = subst (λ d. IfOk made (StandsForValidator d text)) (sym some) is
+
+pub no_device_stands : (devices : Option (Bor DeviceTable)) (table : Bor DeviceTable) (text : List ℕ) (made : Result ℕ Reason) → devices ≡ Some table
+    → IfErr made (λ reason. (reason ≡ why.Device) × (validator_of (devices_of table.now) text ≡ None)) → IfErr made (IsWrongValidator devices text)
+no_device_stands devices table text (Ok number) some is = tt
+no_device_stands devices table text (Err reason) some is = subst (IsWrongValidator devices text) (sym is.0) (subst (λ d. IsNoDevice d text) (sym some) is.1)
+
+-- a validator's field that stands for none
+pub wrong_validator : (choice : Choice) (head row : List (List ℕ)) (bytes text : List ℕ) (reason : Reason) → HasSome head row choice.token.now (λ text. IsTokenText text bytes)
+    → HasValue head row choice.validator.now text → IsWrongValidator choice.devices text reason → IsNoTap choice head row reason
+wrong_validator choice head row bytes text why.Fields token has is = absurd is
+wrong_validator choice head row bytes text why.Token token has is = absurd is
+wrong_validator choice head row bytes text why.Validator token has is =
+    record { bytes = bytes; token = token; wrong = (text, has, is) }
+wrong_validator choice head row bytes text why.Device token has is =
+    record { bytes = bytes; token = token; wrong = (text, has, is) }
+wrong_validator choice head row bytes text why.LocalTime token has is = absurd is
+wrong_validator choice head row bytes text why.Moment token has is = absurd is
 
 -- ---- no column is wanting where all were found
 only_there : (head : List (List ℕ)) (only : List Condition) (places : List ℕ) (k : ℕ) → AllZip (IsPlaceOf head) only places

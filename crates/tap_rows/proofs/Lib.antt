@@ -1,9 +1,11 @@
 mod AgencyLemmas
 mod AgencyMomentLemmas
 mod AgencyRowLemmas
+mod DeviceLemmas
 mod FieldLemmas
 mod GoingLemmas
 pub mod MomentLemmas
+mod OneDeviceTable
 mod OneReading
 mod RowLemmas
 mod TableLemmas

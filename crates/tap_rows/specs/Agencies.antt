@@ -89,6 +89,7 @@ abbrev pub reason_word : Reason → List ℕ
 reason_word why.Fields = codes "fields"
 reason_word why.Token = codes "token"
 reason_word why.Validator = codes "validator"
+reason_word why.Device = codes "device"
 reason_word why.LocalTime = codes "local time"
 reason_word why.Moment = codes "moment"
 

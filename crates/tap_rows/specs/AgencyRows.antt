@@ -1,17 +1,20 @@
 -- A row of an agency's CSV: its columns by the names of the head, whether it is kept, and the tap
 -- that it is.
-use Rattle.std.specs.Prelude.{◌≡◌, ℕ, List, Some, length, All}
+use Rattle.std.specs.Prelude.{◌≡◌, ℕ, List, Option, None, Some, length, All}
+use Rattle.std.specs.Borrow.{Bor}
 use Rattle.csv.specs.Records.{field_at}
 use Rattle.uuid.specs.Text.{parsed}
 use Rattle.tap_views.specs.declared.encoder.TapFields.{TapFields}
 use Rattle.tap_rows.specs.AgencyMoments.{IsAgencyMoment, IsLocalTime}
-use Rattle.tap_rows.specs.Rows.{IsValidator}
+use Rattle.tap_rows.specs.Devices.{devices_of, validator_of}
+use Rattle.tap_rows.specs.Rows.{IsNoValidator, IsValidator}
 use Rattle.tap_rows.specs.declared.agency.choice.Choice.{Choice}
 use Rattle.tap_rows.specs.declared.agency.choice.Condition.{Condition}
 use Rattle.tap_rows.specs.declared.agency.reading.Reading.{Reading}
 use Rattle.tap_rows.specs.declared.agency.reading.Reading.TheVariants as read
 use Rattle.tap_rows.specs.declared.agency.reading.Reason.{Reason}
 use Rattle.tap_rows.specs.declared.agency.reading.Reason.TheVariants as why
+use Rattle.tap_rows.specs.declared.devices.table.DeviceTable.{DeviceTable}
 
 -- of the fields of the head this one, and no other, is the name
 pub record IsColumn (head : List (List ℕ)) (name : List ℕ) (place : ℕ) : Type 0 where
@@ -40,19 +43,31 @@ IsTokenText text token = parsed text ≡ Some token
 abbrev pub HasSome : List (List ℕ) → List (List ℕ) → List ℕ → (List ℕ → Type 0) → Type 0
 HasSome head row name IsOne = (value : List ℕ) × HasValue head row name value × IsOne value
 
+-- the text stands for this validator: it writes the number or, if there are devices, is the name of the
+-- device to which the table gives it
+abbrev pub StandsForValidator : Option (Bor DeviceTable) → List ℕ → ℕ → Type 0
+StandsForValidator None text number = IsValidator text number
+StandsForValidator (Some devices) text number = validator_of (devices_of devices.now) text ≡ Some number
+
 -- the row's fields in the columns of the choice tell this tap
 pub record IsTapOf (choice : Choice) (head row : List (List ℕ)) (tap : TapFields) : Type 0 where
   pub token : HasSome head row choice.token.now (λ text. IsTokenText text tap.token)
-  pub validator : HasSome head row choice.validator.now (λ text. IsValidator text tap.validator)
+  pub validator : HasSome head row choice.validator.now (λ text. StandsForValidator choice.devices text tap.validator)
   pub moment : HasSome head row choice.moment.now (λ text. IsAgencyMoment text tap.moment)
 
 -- the text is no token
 abbrev pub IsNoToken : List ℕ → Type 0
 IsNoToken text = (token : List ℕ) → ¬ (IsTokenText text token)
 
--- the text is no validator
-abbrev pub IsNoValidator : List ℕ → Type 0
-IsNoValidator text = (number : ℕ) → ¬ (IsValidator text number)
+-- there are no devices, and the text writes no validator's number
+abbrev pub IsNoNumber : Option (Bor DeviceTable) → List ℕ → Type 0
+IsNoNumber None text = IsNoValidator text
+IsNoNumber (Some devices) text = ⊥
+
+-- there are devices, and none has the text as its name
+abbrev pub IsNoDevice : Option (Bor DeviceTable) → List ℕ → Type 0
+IsNoDevice None text = ⊥
+IsNoDevice (Some devices) text = validator_of (devices_of devices.now) text ≡ None
 
 -- the text is no moment
 abbrev pub IsNoMoment : List ℕ → Type 0
@@ -62,25 +77,26 @@ IsNoMoment text = (number : ℕ) → ¬ (IsAgencyMoment text number)
 abbrev pub HasNoToken : Choice → List (List ℕ) → List (List ℕ) → Type 0
 HasNoToken choice head row = HasSome head row choice.token.now IsNoToken
 
--- it is the validator's
-pub record HasNoValidator (choice : Choice) (head row : List (List ℕ)) : Type 0 where
+-- it is the validator's, which is wrong in this way
+pub record HasNoValidator (choice : Choice) (head row : List (List ℕ)) (IsWrong : List ℕ → Type 0) : Type 0 where
   pub bytes : List ℕ
   pub token : HasSome head row choice.token.now (λ text. IsTokenText text bytes)
-  pub wrong : HasSome head row choice.validator.now IsNoValidator
+  pub wrong : HasSome head row choice.validator.now IsWrong
 
 -- it is the moment's, which is wrong in this way
 pub record HasNoMoment (choice : Choice) (head row : List (List ℕ)) (IsWrong : List ℕ → Type 0) : Type 0 where
   pub bytes : List ℕ
   pub number : ℕ
   pub token : HasSome head row choice.token.now (λ text. IsTokenText text bytes)
-  pub validator : HasSome head row choice.validator.now (λ text. IsValidator text number)
+  pub validator : HasSome head row choice.validator.now (λ text. StandsForValidator choice.devices text number)
   pub wrong : HasSome head row choice.moment.now (λ text. IsNoMoment text × IsWrong text)
 
 -- why a row that is kept, and has as many fields as the head, is no tap
 abbrev pub IsNoTap : Choice → List (List ℕ) → List (List ℕ) → Reason → Type 0
 IsNoTap choice head row why.Fields = ⊥
 IsNoTap choice head row why.Token = HasNoToken choice head row
-IsNoTap choice head row why.Validator = HasNoValidator choice head row
+IsNoTap choice head row why.Validator = HasNoValidator choice head row (IsNoNumber choice.devices)
+IsNoTap choice head row why.Device = HasNoValidator choice head row (IsNoDevice choice.devices)
 IsNoTap choice head row why.LocalTime = HasNoMoment choice head row IsLocalTime
 IsNoTap choice head row why.Moment = HasNoMoment choice head row (λ text. ¬ (IsLocalTime text))
 
@@ -93,6 +109,7 @@ abbrev pub IsRefused : Choice → List (List ℕ) → List (List ℕ) → Reason
 IsRefused choice head row why.Fields = ¬ (IsAsLong head row)
 IsRefused choice head row why.Token = IsAsLong head row × IsKept choice head row × IsNoTap choice head row why.Token
 IsRefused choice head row why.Validator = IsAsLong head row × IsKept choice head row × IsNoTap choice head row why.Validator
+IsRefused choice head row why.Device = IsAsLong head row × IsKept choice head row × IsNoTap choice head row why.Device
 IsRefused choice head row why.LocalTime = IsAsLong head row × IsKept choice head row × IsNoTap choice head row why.LocalTime
 IsRefused choice head row why.Moment = IsAsLong head row × IsKept choice head row × IsNoTap choice head row why.Moment
 

@@ -3,6 +3,7 @@ pub mod AgencyMoments
 pub mod AgencyRows
 pub mod AgencyTexts
 pub mod Decoded
+pub mod Devices
 pub mod Fields
 pub mod Moments
 pub mod Rows

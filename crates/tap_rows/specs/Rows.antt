@@ -17,6 +17,10 @@ IsToken text token = decode_sized text 16 ≡ Ok token
 abbrev pub IsValidator : List ℕ → ℕ → Type 0
 IsValidator text number = IsDecimal text number × (number < 2 ^ 32)
 
+-- the text writes no validator's number
+abbrev pub IsNoValidator : List ℕ → Type 0
+IsNoValidator text = (number : ℕ) → ¬ (IsValidator text number)
+
 -- the text of a field stands for such a value, as it is or in quotes
 abbrev pub TellsToken : List ℕ → List ℕ → Type 0
 TellsToken text token = FieldStandsForSome (λ value. IsToken value token) text

@@ -1,6 +1,8 @@
 -- What only private functions cite. Who reads the contracts of public calls need not read it.
+pub mod DeviceRows
 pub mod Goings
 pub mod Places
 pub mod RecordReaders
 pub mod TapTables
+pub mod Validators
 pub mod WaitingTaps

@@ -14,6 +14,9 @@ mod writing;
 
 pub use choice::{Choice, Condition, Separator};
 pub use fault::{AgencyFault, Wanted};
+pub(crate) use places::has_at;
+pub(crate) use reading::field_in;
 pub use reading::{Reading, Reason};
+pub(crate) use records::{next_record, records_of};
 pub use summary::Summary;
 pub use writing::{encode_rows, encode_some_rows};

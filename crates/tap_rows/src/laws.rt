@@ -7,12 +7,15 @@ ghost use Rattle.fare_texts.specs.Moments.{IsCivilText};
 ghost use Rattle.tap_views.specs.Files.{IsFileOf, IsReadAs};
 ghost use Rattle.tap_rows.specs.Agencies.{IsRead};
 ghost use Rattle.tap_rows.specs.Decoded.{fields_in};
+ghost use Rattle.tap_rows.specs.Devices.{AreDevices, Device, IsDevicesFault};
 ghost use Rattle.tap_rows.specs.Moments.{IsMoment, IsSecondText};
 ghost use Rattle.tap_rows.specs.Rows.{IsNoTapRow, IsTapRow, IsTapFields};
 ghost use Rattle.tap_rows.specs.TapTables.{IsBadRow, IsTapTable, tap_table_text};
 ghost use Rattle.tap_rows.specs.declared.agency.choice.Choice.{Choice};
+ghost use Rattle.tap_rows.specs.declared.agency.choice.Separator.{Separator};
 ghost use Rattle.tap_rows.specs.declared.agency.reading.Reading.{Reading};
 ghost use Rattle.tap_rows.specs.declared.column.Column.{Column};
+ghost use Rattle.tap_rows.specs.declared.devices.fault.DevicesFault.{DevicesFault};
 ghost use Rattle.tap_views.specs.Layout.{Tap, moment_limit};
 ghost use Rattle.tap_views.specs.declared.encoder.TapFields.{TapFields};
 ghost use Rattle.tap_views.specs.declared.fault.LayoutFault.{LayoutFault};
@@ -55,6 +58,16 @@ pub fn one_reading_of_rows()
         (rows others : List (List (List ℕ))) (readings again : List Reading)
         → IsRead choice text head rows readings → IsRead choice text other others again
         → (head ≡ other) × (rows ≡ others) × (readings ≡ again) }
+{}
+
+/// A text is the device table of at most one list of devices, and then only want of memory can keep
+/// it from being read.
+pub fn one_device_table()
+    ensures devices { (separator : Separator) (text : List ℕ) (devices others : List Device)
+        → AreDevices separator text devices → AreDevices separator text others → devices ≡ others }
+    ensures good { (separator : Separator) (text : List ℕ) (devices : List Device)
+        (fault : DevicesFault) → AreDevices separator text devices
+        → IsDevicesFault separator text fault → fault ≡ DevicesFault.NoMemory }
 {}
 
 /// What an upload of some taps is read as, when it is decoded: these taps, in their order, and no

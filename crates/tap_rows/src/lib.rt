@@ -4,6 +4,7 @@
 
 mod agency;
 mod column;
+mod devices;
 mod fault;
 mod field;
 mod into_table;
@@ -18,6 +19,7 @@ pub use agency::{
     encode_some_rows,
 };
 pub use column::Column;
+pub use devices::{DeviceTable, DevicesFault, WrongDevice, read_devices};
 pub use fault::RowsFault;
 pub use into_table::{decode, write_head};
 pub use into_upload::encode;

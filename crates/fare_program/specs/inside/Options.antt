@@ -18,6 +18,7 @@ asked_of options = record {
   sorted = options.sorted;
   ledger = options.ledger;
   explain = options.explain;
+  traced = options.traced;
   files = map (λ f. f.now) options.files.items;
 }
 

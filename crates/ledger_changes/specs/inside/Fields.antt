@@ -1,8 +1,6 @@
 -- The fields of a line, as the code has them.
 use Rattle.std.specs.Prelude.{ℕ, List, [], ◌∷◌}
-use Rattle.ledger_changes.specs.Rows.{Row}
 use Rattle.ledger_changes.specs.declared.form.LineFields.{LineFields}
-use Rattle.ledger_changes.specs.declared.form.RowFields.{RowFields}
 
 -- all twelve, in order
 abbrev pub all_fields : LineFields → List (List ℕ)
@@ -10,18 +8,3 @@ all_fields fields =
     fields.token.now ∷ fields.number.now ∷ fields.moment.now ∷ fields.validator.now
     ∷ fields.mode.now ∷ fields.answer.now ∷ fields.cents.now ∷ fields.start.now ∷ fields.until.now
     ∷ fields.ride.now ∷ fields.reason.now ∷ fields.points_at.now ∷ []
-
--- the row that they make
-abbrev pub row_of_fields : RowFields → Row
-row_of_fields fields = record {
-  key = record {
-    token = fields.token.now;
-    moment = fields.moment.now;
-    validator = fields.validator;
-  };
-  charge = record {
-    answer = fields.answer.now;
-    cents = fields.cents;
-    reason = fields.reason.now;
-  };
-}

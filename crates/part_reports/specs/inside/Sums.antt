@@ -1,28 +1,19 @@
 -- What the reports of all parts have before their tokens, added up.
 use Rattle.std.specs.Prelude.{◌≡◌, ℕ, ◌<◌, ◌≤◌, ◌^◌, List, [], ◌∷◌, ◌++◌, Option, Some, None, Bool}
 use Rattle.std.specs.Prelude.{true, false}
-use Rattle.std.specs.Prelude.{flat_map, map, sum_by, if◌then◌else◌}
+use Rattle.std.specs.Prelude.{flat_map, map, sum_by}
 use Rattle.std.specs.Option.{option_map}
 use Rattle.std.specs.BTreeMap.{get}
 use Rattle.std.specs.BTreeMap.{BTreeMap}
-use Rattle.std.specs.Map.{keys_of}
-use Rattle.std.specs.Ordering.{eq_by_cmp, nat_cmp}
-use Rattle.std.specs.Set.{is_member}
+use Rattle.std.specs.Ordering.{nat_cmp}
 use Rattle.shard_book.specs.Shown.{validator_sum}
 use Rattle.shard_book.specs.Sums.{Sums, add_all, sums, sums_of}
 use Rattle.shard_book.specs.declared.sums.ValidatorSum.{ValidatorSum}
 use Rattle.shard_book.specs.declared.sums.totals.Totals.{Totals}
 use Rattle.part_reports.specs.declared.front.Front.{Front}
 use Rattle.part_reports.specs.declared.sums.WholeSums.{WholeSums}
-use Rattle.part_reports.specs.Reports.{sums_of_validator}
+use Rattle.part_reports.specs.Reports.{sums_found, sums_of_validator}
 use Rattle.part_reports.specs.inside.Fronts.{IsFront, ToldFront}
-
--- the sums that this validator has in the list; none where it is not in it
-abbrev pub sums_found : List (ℕ × Sums) → ℕ → Option Sums
-sums_found list validator =
-    if is_member (eq_by_cmp nat_cmp) (keys_of list) validator
-    then Some (sums_of_validator validator list)
-    else None
 
 -- the map has these sums
 abbrev pub AreSumsOf : BTreeMap ℕ Totals → List (ℕ × Sums) → Type 0

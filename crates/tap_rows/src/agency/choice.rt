@@ -3,6 +3,8 @@
 ghost use Rattle.std.specs.Prelude.{◌≡◌};
 ghost use Rattle.tap_rows.specs.AgencyTexts.{separator_byte};
 
+use crate::devices::DeviceTable;
+
 /// What stands between two fields.
 #[derive(Clone, Copy, Debug, PartialEq, Eq)]
 pub enum Separator {
@@ -45,6 +47,8 @@ pub struct Choice<'a> {
     pub token: &'a [u8],
     /// The name of the column of validators.
     pub validator: &'a [u8],
+    /// The devices whose names are in that column; none if it has the validators' numbers.
+    pub devices: Option<&'a DeviceTable>,
     /// The name of the column of moments.
     pub moment: &'a [u8],
     /// What a row must meet, so that it is kept: all of them.

@@ -1,19 +1,23 @@
 //! What a row of an agency's CSV is read as.
 
-ghost use Rattle.std.specs.Prelude.{◌≡◌, ◌<◌, ◌↔◌, ℕ, List, Some, All, IfErr, IfOk, IsTrue};
+ghost use Rattle.std.specs.Prelude.{◌≡◌, ◌<◌, ◌↔◌, ℕ, List, None, Some, All, IfErr, IfOk, IsTrue};
 ghost use Rattle.std.specs.Prelude.{MatchOption, length};
 ghost use Rattle.std.specs.List.{AllZip};
 ghost use Rattle.csv.specs.Records.{field_at, fields_of};
 ghost use Rattle.tap_rows.specs.Agencies as Spec;
 ghost use Rattle.tap_rows.specs.AgencyMoments.{IsLocalTime};
 ghost use Rattle.tap_rows.specs.AgencyRows.{IsAsLong, IsMet, IsNoTap, IsReadingOf, IsTapOf};
-ghost use Rattle.tap_rows.specs.AgencyRows.{IsTokenText};
+ghost use Rattle.tap_rows.specs.AgencyRows.{IsTokenText, StandsForValidator};
+ghost use Rattle.tap_rows.specs.Devices.{devices_of, validator_of};
+ghost use Rattle.tap_rows.specs.Rows.{IsNoValidator, IsValidator};
+ghost use Rattle.tap_rows.specs.inside.Validators.{IsWrongValidator};
 ghost use Rattle.tap_rows.specs.inside.Places.{ArePlaces, IsPlaceOf};
 ghost use Rattle.tap_views.specs.Layout.{moment_limit};
 
 use crate::agency::choice::{Choice, Condition};
 use crate::agency::instant::{agency_moment_in, is_local_time};
 use crate::agency::places::{Places, has_at};
+use crate::devices::DeviceTable;
 use crate::row::validator_in;
 use csv::ByteRecord;
 use tap_views::TapFields;
@@ -28,6 +32,8 @@ pub enum Reason {
     Token,
     /// The validator's field is no decimal number below 2^32.
     Validator,
+    /// Devices are named, and none has the validator's field as its name.
+    Device,
     /// The moment's field is a time without an offset.
     LocalTime,
     /// The moment's field tells no moment below 2100-01-01T00:00Z.
@@ -71,13 +77,50 @@ fn is_kept(only: &[Condition<'_>], places: &[usize], row: &ByteRecord) -> bool
 }
 
 /// The field at a place; empty where there is none.
-fn field_in(row: &ByteRecord, place: usize) -> &[u8]
+pub(crate) fn field_in(row: &ByteRecord, place: usize) -> &[u8]
     ensures { place < length (fields_of row.now)
         → field_at (fields_of row.now) place ≡ Some result.now }
 {
     match row.get(place) {
         Some(field) => field,
         None => b"",
+    }
+}
+
+/// The validator whose number a field writes.
+fn number_in(field: &[u8]) -> Result<u32, Reason>
+    ensures number { IfOk result (IsValidator field.now) }
+    ensures wrong { IfErr result
+        (λ reason. (reason ≡ Reason.Validator) × IsNoValidator field.now) }
+{
+    match validator_in(field) {
+        Some(number) => Ok(number),
+        None => Err(Reason::Validator),
+    }
+}
+
+/// The validator of the device whose name a field is.
+fn device_in(devices: &DeviceTable, field: &[u8]) -> Result<u32, Reason>
+    ensures number { IfOk result
+        (λ number. validator_of (devices_of devices.now) field.now ≡ Some number) }
+    ensures wrong { IfErr result (λ reason. (reason ≡ Reason.Device)
+        × (validator_of (devices_of devices.now) field.now ≡ None)) }
+{
+    match devices.validator_of(field) {
+        Some(number) => Ok(number),
+        None => Err(Reason::Device),
+    }
+}
+
+/// The validator that a field stands for, by its number or by its device's name; or why it stands
+/// for none.
+fn validator_for(choice: &Choice<'_>, field: &[u8]) -> Result<u32, Reason>
+    ensures validator { IfOk result (StandsForValidator choice.now.devices field.now) }
+    ensures wrong { IfErr result (IsWrongValidator choice.now.devices field.now) }
+{
+    match choice.devices {
+        None => number_in(field),
+        Some(devices) => device_in(devices, field),
     }
 }
 
@@ -95,20 +138,21 @@ fn moment_reason(field: &[u8]) -> Reason
 }
 
 /// The tap of a row that is kept and has as many fields as the head, or why it is none.
-fn tap_of(places: &Places, row: &ByteRecord) -> Result<TapFields, Reason>
-    ensures tap { (choice : Choice) (head : List (List ℕ)) → ArePlaces choice head places.now
+fn tap_of(choice: &Choice<'_>, places: &Places, row: &ByteRecord) -> Result<TapFields, Reason>
+    ensures tap { (head : List (List ℕ)) → ArePlaces choice.now head places.now
         → IsAsLong head (fields_of row.now)
-        → IfOk result (IsTapOf choice head (fields_of row.now)) }
-    ensures wrong { (choice : Choice) (head : List (List ℕ)) → ArePlaces choice head places.now
+        → IfOk result (IsTapOf choice.now head (fields_of row.now)) }
+    ensures wrong { (head : List (List ℕ)) → ArePlaces choice.now head places.now
         → IsAsLong head (fields_of row.now)
-        → IfErr result (IsNoTap choice head (fields_of row.now)) }
+        → IfErr result (IsNoTap choice.now head (fields_of row.now)) }
     ensures early { IfOk result (λ tap. tap.moment < moment_limit) }
 {
     let Some(token) = token_text_in(field_in(row, places.token)) else {
         return Err(Reason::Token);
     };
-    let Some(validator) = validator_in(field_in(row, places.validator)) else {
-        return Err(Reason::Validator);
+    let validator = match validator_for(choice, field_in(row, places.validator)) {
+        Ok(validator) => validator,
+        Err(reason) => return Err(reason),
     };
     let field = field_in(row, places.moment);
     let Some(moment) = agency_moment_in(field) else {
@@ -133,7 +177,7 @@ pub(crate) fn reading_of(choice: &Choice<'_>, places: &Places, row: &ByteRecord)
     if !is_kept(choice.only, &places.only, row) {
         return Reading::LeftOut;
     }
-    match tap_of(places, row) {
+    match tap_of(choice, places, row) {
         Ok(tap) => Reading::Tap(tap),
         Err(reason) => Reading::Refused(reason),
     }

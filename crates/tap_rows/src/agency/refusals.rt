@@ -23,6 +23,7 @@ fn word_of(reason: Reason) -> &'static str
         Reason::Fields => "fields",
         Reason::Token => "token",
         Reason::Validator => "validator",
+        Reason::Device => "device",
         Reason::LocalTime => "local time",
         Reason::Moment => "moment",
     }

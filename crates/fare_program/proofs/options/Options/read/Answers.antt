@@ -18,5 +18,6 @@ returns-clause-asked c =
     let sorted = c.flag_in-3.ensures ∙ ap (is_given (codes "sorted")) rows in
     let ledger = c.flag_in-4.ensures ∙ ap (is_given (codes "ledger")) rows in
     let explain = c.flag_in-5.ensures ∙ ap (is_given (codes "explain")) rows in
+    let traced = c.flag_in-6.ensures ∙ ap (is_given (codes "traced")) rows in
     let files = c.in_ok-names_in.ensures ∙ ap (λ r. unwrap_or (all_of (codes "FILE") r) []) rows in
-    λ i. record { table = table i; list = list i; workers = workers i; shards = shards i; token = token i; settle = settle i; sorted = sorted i; ledger = ledger i; explain = explain i; files = files i }
+    λ i. record { table = table i; list = list i; workers = workers i; shards = shards i; token = token i; settle = settle i; sorted = sorted i; ledger = ledger i; explain = explain i; traced = traced i; files = files i }

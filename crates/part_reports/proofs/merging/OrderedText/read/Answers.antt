@@ -1,5 +1,5 @@
 use Rattle.std.proofs.Common.{sym, ◌∙◌, subst}
-use Rattle.std.proofs.lemmas.Result.{MatchResult-at_err, MatchResult-at_ok, err_from_is_err_and}
+use Rattle.std.proofs.lemmas.Result.{MatchResult-at_ok, err_from_is_err_and}
 use Rattle.part_reports.specs.inside.Standings.{IsFirstLine}
 use Rattle.part_reports.proofs.Firsts.{first_is_source, no_text, weaker}
 use Rattle.part_reports.proofs.Wrongs.{wrong_of}

@@ -3,7 +3,7 @@ use Rattle.std.proofs.lemmas.List.Sorted.{All-permutation}
 use Rattle.tap_views.specs.Encoding.{AreEarly, fields_of}
 use Rattle.tap_views.specs.Layout.{moment_limit}
 use Rattle.tap_views.specs.declared.encoder.TapFields.{TapFields}
-use Rattle.tap_parts.specs.Parts.{IsInFullBatches, of_part}
+use Rattle.tap_parts.specs.Parts.{of_part}
 use Rattle.tap_views.specs.Files.{IsFileOf}
 use Rattle.tap_parts.specs.Canonical.{IsCanonical}
 use Rattle.tap_parts.specs.Parts.{taps_of_uploads}
@@ -45,6 +45,4 @@ returns c = λ parts uploads split.
       canonical = subst (λ taps. IsCanonical taps list) same c.in_ok-list.ensures;
       reads = subst (λ taps. IsFileOf c.in_ok-file.file.items taps) c.deref.ensures.value
           c.in_ok-file.ensures.file;
-      layout = subst (λ taps. IsInFullBatches c.in_ok-file.file.items taps) c.deref.ensures.value
-          c.in_ok-file.ensures.batches;
     }

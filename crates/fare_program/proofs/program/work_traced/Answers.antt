@@ -1,0 +1,46 @@
+use Rattle.std.proofs.Common.{◌∙◌, ℕ, List, Vec, Global, Bor, ap, map, subst, sym}
+use Rattle.std.specs.Prelude.{option_map}
+use Rattle.toml.specs.Parse.{parse_document}
+use Rattle.fare_table.specs.Meaning.{Means}
+use Rattle.std.proofs.lemmas.Result.{IfOk-weaker}
+use Rattle.fare_program.specs.Program.{LoadsFiles, names_to_load}
+use Rattle.fare_program.specs.inside.Options.{asked_of}
+use Rattle.traced_ledgers.specs.Ledgers.{IsTracedLedger}
+use Rattle.traced_ledgers.specs.Names.{class_by}
+use Rattle.fare_program.proofs.program.work_traced.Goals as goal
+
+abbrev bytes_in : Vec ℕ Global → List ℕ
+bytes_in file = file.items
+
+abbrev name_in : Bor (List ℕ) → List ℕ
+name_in name = name.now
+
+pub returns-clause-ok : goal.returns-clause-ok
+returns-clause-ok g c =
+    let asked = asked_of c.args.options.now in
+    let loaded = subst (λ (ns : List (Bor (List ℕ))). LoadsFiles (names_to_load (map name_in ns))
+    (g.S.Source.loaded c.load_named.new.source) (g.S.Source.loaded c.load_files.new.source)
+    (map bytes_in c.in_ok-files.files.items)) c.deref-2.ensures.value c.in_ok-files.ensures.ok in
+    let names = c.in_ok-riders.ensures.names in
+    IfOk-weaker c.charge_traced.result _ _
+    (λ well done. record {
+      name = c.in-Some.name.now;
+      is_named = ap (option_map (λ (f : Bor (List ℕ)). f.now)) c.in-Some.is;
+      table = c.in_ok-text.text.items;
+      between = g.S.Source.loaded c.load_named.new.source;
+      loads_table = c.in_ok-text.ensures.ok;
+      fares = c.in_ok-riders.riders.table;
+      means = subst (λ (b : List ℕ). Means b c.in_ok-riders.riders.table) c.deref.ensures.value
+          c.in_ok-riders.ensures.table;
+      tree = names.0;
+      parsed = ap parse_document (sym c.deref.ensures.value) ∙ names.1;
+      classes = class_by c.in_ok-riders.riders.names;
+      are_classes = names.2;
+      files = map bytes_in c.in_ok-files.files.items;
+      loads_files = loaded;
+      text = done.0;
+      shows = subst (λ (fs : List (Vec ℕ Global)). IsTracedLedger (class_by c.in_ok-riders.riders.names)
+          c.in_ok-riders.riders.table (map bytes_in fs) done.0 well) c.deref-3.ensures.value done.1;
+      written = done.2;
+    })
+    c.charge_traced.ensures.ok

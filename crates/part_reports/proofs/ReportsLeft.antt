@@ -1,0 +1,777 @@
+-- What charges leave of a report: the next one, one that cannot be, and the end.
+use Rattle.std.proofs.Common.{◌≡◌, ◌≢◌, ◌∙◌, ◌<◌, ◌^◌, ◌⊎◌, zero, suc, ℕ, List, [], ◌∷◌, ◌++◌, Option, Some}
+use Rattle.std.proofs.Common.{None, inl, inr, refl, sym, ap, subst, arith, length, append-nil}
+use Rattle.std.proofs.Common.{append_assoc, true, false, length-append, Bool, ◌&&◌, ◌==◌, cond}
+use Rattle.std.proofs.lemmas.Bool.{and_parts, cases_eq, eqb-true}
+use Rattle.std.specs.declared.cmp.Ordering.TheVariants.{Less}
+use Rattle.std.specs.Cmp.Lexicographic.{pointwise}
+use Rattle.std.specs.Prelude.{◌↔◌, All, flat_map, is_some, map}
+use Rattle.std.specs.BTreeMap.{BTreeMap, is_at}
+use Rattle.std.specs.List.{AllByRecursion}
+use Rattle.std.specs.List.Sorted.{IsStrictlySortedBy}
+use Rattle.std.specs.Map.{keys_of, lookup}
+use Rattle.std.specs.Option.{option_map}
+use Rattle.std.specs.Ordering.{nat_cmp}
+use Rattle.std.proofs.lemmas.List.{map-append, nil_from_length}
+use Rattle.std.proofs.lemmas.List.Elements.{All-cons, All-head, All-nil, All-push}
+use Rattle.fare_texts.specs.ReportLines.{token_line}
+use Rattle.report_texts.specs.Numbers.{IsTokenSum}
+use Rattle.shard_book.specs.Shown.{validator_sum}
+use Rattle.shard_book.specs.Sums.{Sums, add_sums, sums, sums_of}
+use Rattle.shard_book.specs.declared.sums.ValidatorSum.{ValidatorSum}
+use Rattle.shard_book.specs.declared.sums.totals.Totals.{Totals}
+use Rattle.tap_views.specs.Token.{token_cmp}
+use Rattle.tap_views.specs.declared.token.Token.{Token}
+use Rattle.part_reports.specs.Charges.{LineCharge}
+use Rattle.part_reports.specs.LedgersWithReports.{AddUpTo, AddUpToText, at_validator}
+use Rattle.part_reports.specs.Reports.{IsPartReport, Report, added, report_text, sums_found}
+use Rattle.part_reports.specs.Reports.{sums_of_validator}
+use Rattle.part_reports.specs.TokenLines.{TokenLine, text_of}
+use Rattle.part_reports.specs.declared.sums.WholeSums.{WholeSums}
+use Rattle.part_reports.specs.declared.sums_left.SumsLeft.{SumsLeft}
+use Rattle.part_reports.specs.inside.Fronts.{MayBePart, ToldFront}
+use Rattle.part_reports.specs.inside.Going.{IsGoing, Part}
+use Rattle.part_reports.specs.inside.Kinds.{HasTokenSums, IsTextOf}
+use Rattle.part_reports.specs.inside.Parts.{IsNoPart, IsPart, begun_text, left_text}
+use Rattle.part_reports.specs.inside.ReportsLeft.{AreSame, IsLineOfSums, IsNoRest, IsNotUsedUp}
+use Rattle.part_reports.specs.inside.ReportsLeft.{IsRestOf, IsTurned}
+use Rattle.part_reports.specs.inside.ReportsLeft.{IsUsedBy, ReportAt, UseUp, charge_with}
+use Rattle.part_reports.specs.inside.Standings.{Standing, line_with}
+use Rattle.part_reports.specs.inside.Sums.{AreFrontsCounted, AreSumsOf, WithOne, or_nothing}
+use Rattle.part_reports.specs.inside.SumsLeft.{left_of, sums_left}
+use Rattle.part_reports.specs.declared.merging.LineKind.{LineKind}
+use Rattle.part_reports.specs.declared.merging.LineKind.TheVariants.{Tokens}
+use Rattle.part_reports.proofs.Added.{leave_sums, lines_stand}
+use Rattle.part_reports.proofs.EndsRead.{All-behind, All-front}
+use Rattle.part_reports.proofs.FewParts.{few, one_small, same_test, told_may, told_of}
+use Rattle.part_reports.proofs.Groups.{groups_use, head_same, no_stay, no_turn, other_next, something_left}
+use Rattle.part_reports.proofs.Groups.{stays_on, turns_on, use_groups}
+use Rattle.part_reports.proofs.Parts.{going_end, going_first, going_line, going_next, going_stuck}
+use Rattle.part_reports.proofs.Parts.{here, like_line, line_at}
+use Rattle.part_reports.proofs.PartsBegun.{told_unique}
+use Rattle.part_reports.proofs.PermutedTokens.{both}
+use Rattle.part_reports.proofs.Rising.{is_less, less}
+use Rattle.part_reports.proofs.Risings.{begins, each_weaker, lines_each}
+use Rattle.part_reports.proofs.SumsAdded.{or_nothing_in, other_key, same_key, taps_joined}
+use Rattle.part_reports.proofs.TokenSums.{Sum, line_of, lines_keys, lines_length, lines_text}
+use Rattle.part_reports.proofs.TokenSums.{sums_same}
+use Rattle.part_reports.proofs.Unique.{token_line_unique}
+use Rattle.part_reports.proofs.WholeFronts.{whole_text}
+
+-- ---- lists of sums and of their lines
+record Cut (sums : List Sum) (front back : List TokenLine) : Type 0 where
+  first : List Sum
+  more : List Sum
+  whole : sums ≡ first ++ more
+  of_front : map line_of first ≡ front
+  of_back : map line_of more ≡ back
+
+cut : (sums : List Sum) (front back : List TokenLine) → map line_of sums ≡ front ++ back
+    → Cut sums front back
+cut sums [] back same = record {
+  first = [];
+  more = sums;
+  whole = refl;
+  of_front = refl;
+  of_back = same;
+}
+cut [] (line ∷ front) back same = absurd (cc)
+cut (sum ∷ sums) (line ∷ front) back same =
+    let head : line_of sum ≡ line = cc in
+    let tail : map line_of sums ≡ front ++ back = cc in
+    let rest = cut sums front back tail in
+    record {
+      first = sum ∷ rest.first;
+      more = rest.more;
+      whole = ap (λ sums. sum ∷ sums) rest.whole;
+      of_front = ap (λ line. line ∷ map line_of rest.first) head
+          ∙ ap (λ lines. line ∷ lines) rest.of_front;
+      of_back = rest.of_back;
+    }
+
+none_some : {X : Type 0} (token : Token) → None ≡ Some token → X
+none_some token is = absurd (cc)
+
+pub some_token : (a b : Token) → Some a ≡ Some b → a ≡ b
+some_token a b is = cc
+
+-- ---- the report in the text
+abbrev part_of : (file : List ℕ) (left : ReportAt) (done : List LineCharge)
+    → IsUsedBy file left done → Part
+part_of file left done is =
+    record { text = left_text is.begun; at = left.at; done = map line_of is.told }
+
+same_front : (file : List ℕ) (left : ReportAt) (done : List LineCharge)
+    → (is : IsUsedBy file left done) → (report : Report) → IsPartReport report
+    → file ≡ report_text report
+    → (is.begun.0 ≡ told_of report) × (is.begun.1 ≡ flat_map token_line report.tokens)
+same_front file left done is report fit shown =
+    told_unique is.begun.0 (told_of report) is.begun.1 (flat_map token_line report.tokens) is.may
+    (told_may report fit)
+    (sym is.shown ∙ shown
+    ∙ sym (whole_text report.ends report.totals report.validators report.tokens))
+
+report_lines : (file : List ℕ) (left : ReportAt) (done : List LineCharge)
+    → (is : IsUsedBy file left done) → (report : Report) → IsPartReport report
+    → file ≡ report_text report → IsTextOf (left_text is.begun) (map line_of report.tokens)
+report_lines file left done is report fit shown =
+    let same = same_front file left done is report fit shown in
+    let text : left_text is.begun
+    ≡ (Tokens (length report.tokens) (left_of report.totals), flat_map token_line report.tokens) =
+    ap (λ (told : ToldFront). (Tokens told.tokens (left_of told.totals), is.begun.1)) same.0
+    ∙ ap (λ (text : List ℕ). (Tokens (length report.tokens) (left_of report.totals), text)) same.1
+    in
+    subst (λ (text : LineKind × List ℕ). IsTextOf text (map line_of report.tokens)) (sym text)
+    (lines_stand report.tokens report.totals fit.tokens fit.tokens_rise fit.tokens_add)
+
+-- the first of the sums is that of the token with this line
+record FirstIs (token : Token) (line : List ℕ) (sums : List Sum) : Type 0 where
+  before : Sums
+  more : List Sum
+  whole : sums ≡ (token, before) ∷ more
+  has : HasTokenSums (line_with token line) before
+
+first_is : (token : Token) (line : List ℕ) (sums : List Sum) (back : List TokenLine)
+    → All IsTokenSum sums → map line_of sums ≡ line_with token line ∷ back
+    → FirstIs token line sums
+first_is token line [] back fit same = absurd (cc)
+first_is token line (sum ∷ sums) back fit same =
+    let head : line_of sum ≡ line_with token line = cc in
+    let name : sum.0 ≡ token = ap (λ (line : TokenLine). line.token) head in
+    let text : token_line sum ≡ line = ap (λ (line : TokenLine). line.text) head in
+    let is : sum ≡ (token, sum.1) = ap (λ (token : Token). (token, sum.1)) name in
+    record {
+      before = sum.1;
+      more = sums;
+      whole = ap (λ (sum : Sum). sum ∷ sums) is;
+      has = record {
+        is = subst IsTokenSum is (All-head IsTokenSum sum sums fit);
+        shown = sym text ∙ ap token_line is;
+      };
+    }
+
+-- what is left of a report to which the charges add up
+record Rest (file : List ℕ) (left : ReportAt) (done : List LineCharge)
+    (is : IsUsedBy file left done) (charges : List LineCharge) : Type 0 where
+  report : Report
+  fit : IsPartReport report
+  shown : file ≡ report_text report
+  add : AddUpTo (done ++ charges) report
+  more : List Sum
+  whole : report.tokens ≡ is.told ++ more
+  spent : UseUp left.token left.rest more charges
+  none : left.at.token ≡ None → more ≡ []
+  some : (token : Token) → left.at.token ≡ Some token → FirstIs token left.at.line more
+
+rest_by : (file : List ℕ) (left : ReportAt) (done : List LineCharge)
+    → (is : IsUsedBy file left done) → (charges : List LineCharge)
+    → (add : AddUpToText (done ++ charges) file) → (back : List TokenLine)
+    → map line_of add.report.tokens ≡ map line_of is.told ++ back
+    → (left.at.token ≡ None → back ≡ [])
+    → ((token : Token) → left.at.token ≡ Some token
+    → (behind : List TokenLine) × (back ≡ line_with token left.at.line ∷ behind))
+    → Rest file left done is charges
+rest_by file left done is charges add back same no_more one_more =
+    let report = add.report in
+    let parts = cut report.tokens (map line_of is.told) back same in
+    let fits : All IsTokenSum (parts.first ++ parts.more) =
+    subst (λ sums. All IsTokenSum sums) parts.whole add.is_report.tokens in
+    let told : parts.first ≡ is.told =
+    sums_same parts.first is.told (All-front IsTokenSum parts.first parts.more fits) is.fit
+    parts.of_front in
+    let whole : report.tokens ≡ is.told ++ parts.more =
+    parts.whole ∙ ap (λ sums. sums ++ parts.more) told in
+    record {
+      report = report;
+      fit = add.is_report;
+      shown = add.shown;
+      add = add.add;
+      more = parts.more;
+      whole = whole;
+      spent = (is.spent parts.more charges).0
+          (subst (λ tokens. UseUp None (sums []) tokens (done ++ charges)) whole
+          (subst (λ charges. UseUp None (sums []) report.tokens charges) (sym add.add.grouped)
+          (groups_use report.tokens add.add.groups add.is_report.tokens_rise add.add.tokens)));
+      none = λ end. no_sums parts.more (parts.of_back ∙ no_more end);
+      some = λ token there. let (behind, first) = one_more token there in
+          first_is token left.at.line parts.more behind
+          (All-behind IsTokenSum parts.first parts.more fits) (parts.of_back ∙ first);
+    }
+  where
+    no_sums : (sums : List Sum) → map line_of sums ≡ [] → sums ≡ []
+    no_sums [] same = refl
+    no_sums (sum ∷ sums) same = absurd (cc)
+
+rest_of : (file : List ℕ) (left : ReportAt) (done : List LineCharge)
+    → (is : IsUsedBy file left done) → (charges : List LineCharge)
+    → AddUpToText (done ++ charges) file → Rest file left done is charges
+rest_of file left done is charges add = by_head left.at.token refl
+  where
+    lines : IsTextOf (left_text is.begun) (map line_of add.report.tokens)
+    lines = report_lines file left done is add.report add.is_report add.shown
+
+    by_head : (head : Option Token) → left.at.token ≡ head → Rest file left done is charges
+    by_head None end =
+        let text = going_end (part_of file left done is) is.going end in
+        let kind = (left_text is.begun).0 in
+        let (back, whole, bytes) = begins kind (map line_of is.told)
+        (map line_of add.report.tokens) [] (lines_each kind (map line_of is.told) text.0)
+        (lines_each kind (map line_of add.report.tokens) lines.0)
+        (sym lines.1 ∙ text.1 ∙ sym (append-nil (text_of (map line_of is.told)))) in
+        let size = ap length whole in
+        let parts = length-append (map line_of is.told) back in
+        let all = lines.0.0 in
+        let told = text.0.0 in
+        let none : back ≡ [] = nil_from_length back (omega (arith, size, parts, all, told)) in
+        rest_by file left done is charges add back whole (λ ends. none)
+        (λ token there. none_some token (sym end ∙ there))
+    by_head (Some token) there =
+        let (behind, whole, bytes) = going_line (part_of file left done is) token is.going there
+        (map line_of add.report.tokens) lines in
+        rest_by file left done is charges add (line_at left.at token ∷ behind)
+        (whole ∙ append_assoc (map line_of is.told) (line_at left.at token ∷ []) behind)
+        (λ end. none_some token (sym end ∙ there))
+        (λ other is. (
+          behind,
+          ap (λ token. line_with token left.at.line ∷ behind)
+              (some_token token other (sym there ∙ is)),
+        ))
+
+-- the line at which the report stands has the token's sums
+has_sums : (file : List ℕ) (left : ReportAt) (done : List LineCharge)
+    → (is : IsUsedBy file left done) → (token : Token) (sums : Sums)
+    → left.at.token ≡ Some token → IsLineOfSums left.at.line sums
+    → HasTokenSums (line_with token left.at.line) sums
+has_sums file left done is token sums there line =
+    let part = part_of file left done is in
+    let at = here part token is.going there in
+    let sum = like_line part.text.0 is.going.kind part.done (line_at left.at token) is.going.behind
+    at.line in
+    let same = (token_line_unique (token, sum.sums) (line.name, sums) [] [] sum.is line.is
+    (ap (λ text. text ++ []) (sym sum.shown ∙ line.shown))).0 in
+    let sums_are : sum.sums ≡ sums = ap (λ (sum : Sum). sum.1) same in
+    subst (λ sums. HasTokenSums (line_with token left.at.line) sums) sums_are
+    (record { is = sum.is; shown = sum.shown })
+
+same_sums : (token : Token) (line : List ℕ) (a b : Sums) → HasTokenSums (line_with token line) a
+    → IsLineOfSums line b → a ≡ b
+same_sums token line a b has is =
+    ap (λ (sum : Sum). sum.1) (token_line_unique (token, a) (is.name, b) [] [] has.is is.is
+    (ap (λ text. text ++ []) (sym has.shown ∙ is.shown))).0
+
+-- ---- the report is begun
+pub used_none : (file : List ℕ) (before after : WholeSums) (at : Standing)
+    (used : BTreeMap ℕ Totals) (rest : Sums) → AreFrontsCounted before []
+    → IsPart before after file at → rest ≡ sums [] → AreSumsOf used []
+    → IsUsedBy file (record {
+      at = at;
+      token = None;
+      rest = rest;
+      used = used;
+      validators = after.validators;
+    }) []
+used_none file before after at used rest nothing part none empty = record {
+  begun = part.begun;
+  may = part.may;
+  shown = part.shown;
+  told = [];
+  fit = All-nil IsTokenSum;
+  going = going_first (left_text part.begun) at part.stands;
+  spent = λ tokens charges. subst (λ rest. UseUp None (sums []) tokens charges
+      ↔ UseUp None rest tokens charges) (sym none) (λ spent. spent, λ spent. spent);
+  used = empty;
+  validators = subst (λ list. AreSumsOf after.validators list)
+      (append-nil part.begun.0.validators) (part.added [] nothing).validators;
+}
+
+pub not_begun : (file : List ℕ) (before : WholeSums) (charges : List LineCharge)
+    → AreFrontsCounted before [] → IsNoPart before file → ¬ (AddUpToText charges file)
+not_begun file before charges nothing no_part add =
+    let report = add.report in
+    let fit = add.is_report in
+    no_part [] nothing (told_of report, flat_map token_line report.tokens)
+    (map line_of report.tokens) (told_may report fit)
+    (add.shown ∙ sym (whole_text report.ends report.totals report.validators report.tokens))
+    (lines_stand report.tokens report.totals fit.tokens fit.tokens_rise fit.tokens_add)
+    (few (told_of report ∷ [])
+    (All-cons MayBePart (told_of report) [] (told_may report fit) (All-nil MayBePart)) (omega arith))
+
+-- ---- one charge more
+at_more : (done : List LineCharge) (charge : LineCharge)
+    → map at_validator (done ++ charge ∷ [])
+    ≡ map at_validator done ++ at_validator charge ∷ []
+at_more done charge = map-append at_validator done (charge ∷ [])
+
+abbrev left_with : ReportAt → Sums → BTreeMap ℕ Totals → ReportAt
+left_with left rest used = record {
+  at = left.at;
+  token = left.token;
+  rest = rest;
+  used = used;
+  validators = left.validators;
+}
+
+used_more : (token : Token) (sum : ValidatorSum) (before after : BTreeMap ℕ Totals)
+    (done : List LineCharge) → AreSumsOf before (map at_validator done)
+    → WithOne before after sum true
+    → AreSumsOf after (map at_validator (done ++ charge_with token sum ∷ []))
+used_more token sum before after done are one =
+    subst (λ list. AreSumsOf after list) (sym (at_more done (charge_with token sum)))
+    (one (map at_validator done) are)
+
+pub used_next : (file : List ℕ) (old mid : ReportAt) (done : List LineCharge) (token : Token)
+    (sum : ValidatorSum) (before more : Sums) (used : BTreeMap ℕ Totals)
+    → IsUsedBy file old done → IsRestOf token old mid before
+    → before ≡ add_sums (sums_of sum.totals) more → WithOne mid.used used sum true
+    → IsUsedBy file (left_with mid more used) (done ++ charge_with token sum ∷ [])
+used_next file old mid done token sum before more used is next add one = elim next [
+  | inl stays ↦ stayed stays.0 stays.1 stays.2
+  | inr turned ↦ turns turned
+]
+  where
+    charge : LineCharge
+    charge = charge_with token sum
+
+    stayed : old.token ≡ Some token → before ≡ old.rest → mid ≡ old
+        → IsUsedBy file (left_with mid more used) (done ++ charge ∷ [])
+    stayed there rest same = record {
+      begun = is.begun;
+      may = is.may;
+      shown = is.shown;
+      told = is.told;
+      fit = is.fit;
+      going = subst (λ (at : Standing). IsGoing (record {
+        text = left_text is.begun;
+        at = at;
+        done = map line_of is.told;
+      })) (ap (λ (left : ReportAt). left.at) (sym same)) is.going;
+      spent = λ tokens charges.
+          let step = stays_on old.token old.rest more tokens charge charges there
+          (sym rest ∙ add) in
+          let head : Some token ≡ mid.token =
+          sym there ∙ ap (λ (left : ReportAt). left.token) (sym same) in
+          let all = is.spent tokens (charge ∷ charges) in (
+            λ spent. subst (λ head. UseUp head more tokens charges) head (step.0 (all.0
+                (subst (λ charges. UseUp None (sums []) (is.told ++ tokens) charges)
+                (append_assoc done (charge ∷ []) charges) spent))),
+            λ spent. subst (λ charges. UseUp None (sums []) (is.told ++ tokens) charges)
+                (sym (append_assoc done (charge ∷ []) charges))
+                (all.1 (step.1 (subst (λ head. UseUp head more tokens charges) (sym head) spent))),
+          );
+      used = used_more token sum mid.used used done
+          (subst (λ (left : ReportAt). AreSumsOf left.used (map at_validator done)) (sym same)
+          is.used) one;
+      validators = subst (λ (left : ReportAt). AreSumsOf left.validators is.begun.0.validators)
+          (sym same) is.validators;
+    }
+
+    turns : IsTurned token old mid before
+        → IsUsedBy file (left_with mid more used) (done ++ charge ∷ [])
+    turns turned =
+        let going = going_next (part_of file old done is) token mid.at is.going turned.there
+        turned.moved in
+        let has = has_sums file old done is token before turned.there turned.line in
+        let line : line_at old.at token ≡ line_of (token, before) =
+        ap (λ (text : List ℕ). record { token = token; text = text }) has.shown in
+        let lines : map line_of is.told ++ line_at old.at token ∷ []
+        ≡ map line_of (is.told ++ (token, before) ∷ []) =
+        ap (λ line. map line_of is.told ++ line ∷ []) line
+        ∙ sym (map-append line_of is.told ((token, before) ∷ [])) in
+        record {
+          begun = is.begun;
+          may = is.may;
+          shown = is.shown;
+          told = is.told ++ (token, before) ∷ [];
+          fit = All-push IsTokenSum is.told (token, before) is.fit has.is;
+          going = subst (λ (done : List TokenLine). IsGoing (record {
+            text = left_text is.begun;
+            at = mid.at;
+            done = done;
+          })) lines going;
+          spent = λ tokens charges.
+              let step = turns_on old.token old.rest before more tokens charge charges
+              turned.other turned.none add in
+              let all = is.spent ((token, before) ∷ tokens) (charge ∷ charges) in
+              let first = append_assoc is.told ((token, before) ∷ []) tokens in
+              let second = append_assoc done (charge ∷ []) charges in (
+                λ spent. subst (λ head. UseUp head more tokens charges) (sym turned.token_is)
+                    (step.0 (all.0
+                    (subst (λ tokens. UseUp None (sums []) tokens (done ++ charge ∷ charges)) first
+                    (subst (λ charges. UseUp None (sums [])
+                    ((is.told ++ (token, before) ∷ []) ++ tokens) charges) second spent)))),
+                λ spent. subst (λ charges. UseUp None (sums [])
+                    ((is.told ++ (token, before) ∷ []) ++ tokens) charges) (sym second)
+                    (subst (λ tokens. UseUp None (sums []) tokens (done ++ charge ∷ charges))
+                    (sym first) (all.1 (step.1
+                    (subst (λ head. UseUp head more tokens charges) turned.token_is spent)))),
+              );
+          used = used_more token sum mid.used used done
+              (subst (λ map. AreSumsOf map (map_at done)) (sym turned.used) is.used) one;
+          validators = subst (λ map. AreSumsOf map is.begun.0.validators) (sym turned.validators)
+              is.validators;
+        }
+      where
+        map_at : List LineCharge → List (ℕ × Sums)
+        map_at charges = map at_validator charges
+
+-- ---- a charge that cannot be
+pub no_charge : (file : List ℕ) (left : ReportAt) (done : List LineCharge) (charge : LineCharge)
+    (charges : List LineCharge) → IsUsedBy file left done → IsNoRest charge.token left
+    → ¬ (AddUpToText (done ++ charge ∷ charges) file)
+no_charge file left done charge charges is (other, why) add =
+    let rest = rest_of file left done is (charge ∷ charges) add in
+    elim why [
+      | inl some ↦
+          something_left left.token left.rest rest.more charge charges other some rest.spent
+      | inr behind ↦
+          elim behind [
+            | inl elsewhere ↦
+                other_next left.token left.rest rest.more charge charges other
+                (λ before more whole. elsewhere (there rest before more whole left.at.token refl))
+                rest.spent
+            | inr last ↦
+                elim last.1 [
+                  | inl none ↦
+                      let first = rest.some charge.token last.0 in
+                      none first.before
+                      (record { name = charge.token; is = first.has.is; shown = first.has.shown })
+                  | inr stuck ↦
+                      going_stuck (part_of file left done is) charge.token is.going last.0 stuck
+                      (map line_of rest.report.tokens)
+                      (report_lines file left done is rest.report rest.fit rest.shown)
+                ]
+          ]
+    ]
+  where
+    there : (rest : Rest file left done is (charge ∷ charges)) → (before : Sums)
+        (more : List Sum) → rest.more ≡ (charge.token, before) ∷ more → (head : Option Token)
+        → left.at.token ≡ head → left.at.token ≡ Some charge.token
+    there rest before more whole None end =
+        let none : [] ≡ (charge.token, before) ∷ more = sym (rest.none end) ∙ whole in
+        absurd (cc)
+    there rest before more whole (Some token) is =
+        let first = rest.some token is in
+        let same : (token, first.before) ∷ first.more ≡ (charge.token, before) ∷ more =
+        sym first.whole ∙ whole in
+        let name = ap (λ (sum : Sum). sum.0)
+        (head_same (token, first.before) (charge.token, before) first.more more same) in
+        is ∙ ap (λ token. Some token) name
+
+pub too_much : (file : List ℕ) (old mid : ReportAt) (done : List LineCharge) (token : Token)
+    (sum : ValidatorSum) (before : SumsLeft) (charges : List LineCharge)
+    → IsUsedBy file old done → IsRestOf token old mid (sums_left before)
+    → ((more : SumsLeft) → ¬ (sums_left before ≡ add_sums (sums_of sum.totals) (sums_left more)))
+    → ¬ (AddUpToText (done ++ charge_with token sum ∷ charges) file)
+too_much file old mid done token sum before charges is next none add =
+    let charge = charge_with token sum in
+    let rest = rest_of file old done is (charge ∷ charges) add in
+    let no_more : (more : Sums) → ¬ (sums_left before ≡ add_sums charge.sums more) =
+    λ more. none (left_of more) in
+    elim next [
+      | inl stays ↦
+          no_stay old.token old.rest rest.more charge charges stays.0
+          (λ more is. no_more more (stays.1 ∙ is)) rest.spent
+      | inr turned ↦
+          let first = rest.some token turned.there in
+          let same : first.before ≡ sums_left before =
+          same_sums token old.at.line first.before (sums_left before) first.has turned.line in
+          no_turn old.token old.rest first.before first.more charge charges turned.other
+          (λ more is. no_more more (sym same ∙ is))
+          (subst (λ tokens. UseUp old.token old.rest tokens (charge ∷ charges)) first.whole
+          rest.spent)
+    ]
+
+-- the validator has more taps than a report can say
+pub too_many : (file : List ℕ) (old mid : ReportAt) (done : List LineCharge) (token : Token)
+    (sum : ValidatorSum) (before : Sums) (used : BTreeMap ℕ Totals) (charges : List LineCharge)
+    → IsUsedBy file old done → IsRestOf token old mid before → WithOne mid.used used sum false
+    → ¬ (AddUpToText (done ++ charge_with token sum ∷ charges) file)
+too_many file old mid done token sum before used charges is next over add =
+    let charge = charge_with token sum in
+    let same : mid.used ≡ old.used = elim next [
+      | inl stays ↦ ap (λ (left : ReportAt). left.used) stays.2
+      | inr turned ↦ turned.used
+    ] in
+    let most = over (map at_validator done)
+    (subst (λ used. AreSumsOf used (map at_validator done)) (sym same) is.used) in
+    let front : sums_of_validator sum.validator (map at_validator done ++ validator_sum sum ∷ [])
+    ≡ sums_of_validator sum.validator (map at_validator (done ++ charge ∷ [])) =
+    ap (sums_of_validator sum.validator) (sym (at_more done charge)) in
+    let all : map at_validator (done ++ charge ∷ charges)
+    ≡ map at_validator (done ++ charge ∷ []) ++ map at_validator charges =
+    ap (map at_validator) (sym (append_assoc done (charge ∷ []) charges))
+    ∙ map-append at_validator (done ++ charge ∷ []) charges in
+    let parts = taps_joined sum.validator (map at_validator (done ++ charge ∷ []))
+    (map at_validator charges) in
+    let whole = ap (λ list. (sums_of_validator sum.validator list).taps) all in
+    let told : sums_of_validator sum.validator (map at_validator (done ++ charge ∷ charges))
+    ≡ sums_of_validator sum.validator add.report.validators =
+    sym (or_nothing_in (map at_validator (done ++ charge ∷ charges)) sum.validator)
+    ∙ ap or_nothing (add.add.validators sum.validator)
+    ∙ or_nothing_in add.report.validators sum.validator in
+    let taps = ap (λ (s : Sums). s.taps) told in
+    let first = ap (λ (s : Sums). s.taps) front in
+    let small = one_small sum.validator add.report.validators add.is_report.validators
+    add.is_report.validators_rise in
+    omega (arith, most, parts, whole, taps, first, small)
+
+-- ---- the end
+abbrev told_with : ToldFront → ℕ → ToldFront
+told_with front count = record {
+  ends = front.ends;
+  totals = front.totals;
+  validators = front.validators;
+  tokens = count;
+}
+
+pub used_up : (file : List ℕ) (left : ReportAt) (done : List LineCharge) → IsUsedBy file left done
+    → left.rest ≡ sums [] → left.at.token ≡ None → AreSame left.used left.validators
+    → AddUpToText done file
+used_up file left done is none end same =
+    let text = going_end (part_of file left done is) is.going end in
+    let front = is.begun.0 in
+    let may = is.may in
+    let number : front.tokens ≡ length is.told = sym text.0.0 ∙ lines_length is.told in
+    let rises : IsStrictlySortedBy token_cmp (keys_of is.told) =
+    subst (λ keys. IsStrictlySortedBy token_cmp keys) (lines_keys is.told) text.0.2 in
+    let adds : front.totals ≡ added is.told =
+    leave_sums is.told front.totals is.fit text.0.3 in
+    let report : Report = record {
+      ends = front.ends;
+      totals = front.totals;
+      validators = front.validators;
+      tokens = is.told;
+    } in
+    let shown : begun_text is.begun ≡ report_text report =
+    ap (λ (count : ℕ). begun_text (told_with front count, is.begun.1)) number
+    ∙ ap (λ (text : List ℕ). begun_text (told_of report, text))
+    (text.1 ∙ lines_text is.told)
+    ∙ whole_text front.ends front.totals front.validators is.told in
+    let spent : UseUp None (sums []) is.told done =
+    subst (λ tokens. UseUp None (sums []) tokens done) (append-nil is.told)
+    (subst (λ charges. UseUp None (sums []) (is.told ++ []) charges) (append-nil done)
+    ((is.spent [] []).1 (none, refl))) in
+    let groups = use_groups is.told done spent in
+    record {
+      report = report;
+      is_report = record {
+        number = may.ends.few;
+        ends = may.ends.are.each;
+        posted = may.ends.are.posted;
+        totals = may.totals;
+        validators_number = may.validators.few;
+        validators = may.validators.are.each;
+        validators_rise = may.validators.are.rise;
+        validators_add = may.add;
+        tokens_number = subst (λ n. n < 2 ^ 64) number may.tokens;
+        tokens = is.fit;
+        tokens_rise = rises;
+        tokens_add = adds;
+      };
+      shown = is.shown ∙ shown;
+      add = record {
+        groups = groups.groups;
+        grouped = groups.whole;
+        tokens = groups.of_tokens;
+        validators = λ validator. sym (is.used validator) ∙ same validator
+            ∙ is.validators validator;
+      };
+    }
+
+end_rest : (file : List ℕ) (left : ReportAt) (done : List LineCharge)
+    → (is : IsUsedBy file left done) → AddUpToText done file → Rest file left done is []
+end_rest file left done is add = rest_of file left done is []
+    (subst (λ charges. AddUpToText charges file) (sym (append-nil done)) add)
+
+pub rest_left : (left : ReportAt) → ¬ (left.rest ≡ sums []) → IsNotUsedUp left
+rest_left left some file done is add =
+    let rest = end_rest file left done is add in
+    some rest.spent.0
+
+pub token_left : (left : ReportAt) (token : Token) → left.at.token ≡ Some token
+    → IsNotUsedUp left
+token_left left token there file done is add =
+    let rest = end_rest file left done is add in
+    let first = rest.some token there in
+    let none : [] ≡ (token, first.before) ∷ first.more = sym rest.spent.1 ∙ first.whole in
+    absurd (cc)
+
+pub validators_left : (left : ReportAt) → ¬ (AreSame left.used left.validators)
+    → IsNotUsedUp left
+validators_left left other file done is add =
+    let same = same_front file left done is add.report add.is_report add.shown in
+    other (λ validator. is.used validator ∙ add.add.validators validator
+    ∙ ap (λ (told : ToldFront). sums_found told.validators validator) (sym same.0)
+    ∙ sym (is.validators validator))
+
+pub some_left : (left : ReportAt) → is_some left.at.token ≡ true → IsNotUsedUp left
+some_left left some = by_head left.at.token refl some
+  where
+    by_head : (head : Option Token) → left.at.token ≡ head → is_some head ≡ true
+        → IsNotUsedUp left
+    by_head None is test = absurd (cc)
+    by_head (Some token) is test = token_left left token is
+
+pub none_there : (head : Option Token) → is_some head ≡ false → head ≡ None
+none_there None test = refl
+none_there (Some token) test = absurd (cc)
+
+-- ---- two tables
+abbrev found_in : List (ℕ × Totals) → ℕ → Option Sums
+found_in entries validator = option_map sums_of (lookup (is_at (nat_cmp validator)) entries)
+
+pub tables_same : (test : Totals → Totals → Bool)
+    → ((a b : Totals) → test a b ≡ true → sums_of a ≡ sums_of b)
+    → (some more : List (ℕ × Totals))
+    → pointwise (λ (p q : ℕ × Totals). (p.0 == q.0) && test p.1 q.1) some more ≡ true
+    → (validator : ℕ) → found_in some validator ≡ found_in more validator
+tables_same test is [] [] same validator = refl
+tables_same test is [] (y ∷ more) same validator = absurd (cc)
+tables_same test is (x ∷ some) [] same validator = absurd (cc)
+tables_same test is (x ∷ some) (y ∷ more) same validator =
+    let tests = and_parts ((x.0 == y.0) && test x.1 y.1)
+    (pointwise (λ (p q : ℕ × Totals). (p.0 == q.0) && test p.1 q.1) some more) same in
+    let first = and_parts (x.0 == y.0) (test x.1 y.1) tests.0 in
+    let key : x.0 ≡ y.0 = eqb-true x.0 y.0 first.0 in
+    let sums = is x.1 y.1 first.1 in
+    let rest = tables_same test is some more tests.1 validator in
+    by_test (is_at (nat_cmp validator) x.0) (is_at (nat_cmp validator) y.0)
+    (ap (is_at (nat_cmp validator)) key) sums rest
+  where
+    by_test : (a b : Bool) → a ≡ b → sums_of x.1 ≡ sums_of y.1
+        → found_in some validator ≡ found_in more validator
+        → option_map sums_of (cond a (Some x.1) (lookup (is_at (nat_cmp validator)) some))
+        ≡ option_map sums_of (cond b (Some y.1) (lookup (is_at (nat_cmp validator)) more))
+    by_test true true same sums rest = ap (λ sums. Some sums) sums
+    by_test true false same sums rest = absurd (cc)
+    by_test false true same sums rest = absurd (cc)
+    by_test false false same sums rest = rest
+
+found_head : (entry : ℕ × Totals) (entries : List (ℕ × Totals))
+    → found_in (entry ∷ entries) entry.0 ≡ Some (sums_of entry.1)
+found_head entry entries =
+    ap (λ at. option_map sums_of (cond at (Some entry.1) (lookup (is_at (nat_cmp entry.0)) entries)))
+    (same_key entry.0)
+
+found_behind : (validator : ℕ) (entry : ℕ × Totals) (entries : List (ℕ × Totals))
+    → validator ≢ entry.0 → found_in (entry ∷ entries) validator ≡ found_in entries validator
+found_behind validator entry entries other =
+    ap (λ at. option_map sums_of (cond at (Some entry.1) (lookup (is_at (nat_cmp validator)) entries)))
+    (other_key validator entry.0 other)
+
+below_not : (a b : ℕ) → nat_cmp a b ≡ Less → a ≢ b
+below_not a b below same = let less = is_less a b below in absurd (omega (arith, less, same))
+
+none_above : (validator : ℕ) (entries : List (ℕ × Totals))
+    → AllByRecursion (λ key. nat_cmp validator key ≡ Less) (keys_of entries)
+    → found_in entries validator ≡ None
+none_above validator [] above = refl
+none_above validator (entry ∷ entries) above =
+    found_behind validator entry entries (below_not validator entry.0 above.0)
+    ∙ none_above validator entries above.1
+
+above_all : (low high : ℕ) (keys : List ℕ) → low < high
+    → AllByRecursion (λ key. nat_cmp high key ≡ Less) keys
+    → AllByRecursion (λ key. nat_cmp low key ≡ Less) keys
+above_all low high keys lower above =
+    each_weaker (λ key. nat_cmp high key ≡ Less) (λ key. nat_cmp low key ≡ Less) keys
+    (λ key below. let more = is_less high key below in less low key (omega (arith, lower, more)))
+    above
+
+either_below : (a b : ℕ) → a ≢ b → (a < b) ⊎ (b < a)
+either_below zero zero other = absurd (other refl)
+either_below zero (suc b) other = inl (omega arith)
+either_below (suc a) zero other = inr (omega arith)
+either_below (suc a) (suc b) other = elim (either_below a b (λ same. other (ap suc same))) [
+  | inl below ↦ inl (omega (arith, below))
+  | inr below ↦ inr (omega (arith, below))
+]
+
+pub tables_equal : (test : Totals → Totals → Bool)
+    → ((a b : Totals) → sums_of a ≡ sums_of b → test a b ≡ true)
+    → (some more : List (ℕ × Totals)) → IsStrictlySortedBy nat_cmp (keys_of some)
+    → IsStrictlySortedBy nat_cmp (keys_of more)
+    → ((validator : ℕ) → found_in some validator ≡ found_in more validator)
+    → pointwise (λ (p q : ℕ × Totals). (p.0 == q.0) && test p.1 q.1) some more ≡ true
+unfolding IsStrictlySortedBy
+tables_equal test is [] [] rise rise_too same = refl
+tables_equal test is [] (y ∷ more) rise rise_too same =
+    let none : None ≡ Some (sums_of y.1) = same y.0 ∙ found_head y more in absurd (cc)
+tables_equal test is (x ∷ some) [] rise rise_too same =
+    let none : Some (sums_of x.1) ≡ None = sym (found_head x some) ∙ same x.0 in absurd (cc)
+tables_equal test is (x ∷ some) (y ∷ more) rise rise_too same = elim (cases_eq x.0 y.0) [
+  | inl key ↦
+      let found : Some (sums_of x.1) ≡ Some (sums_of y.1) =
+      sym (found_head x some) ∙ same x.0 ∙ ap (found_in (y ∷ more)) key ∙ found_head y more in
+      let sums : sums_of x.1 ≡ sums_of y.1 = cc in
+      both ((x.0 == y.0) && test x.1 y.1)
+      (pointwise (λ (p q : ℕ × Totals). (p.0 == q.0) && test p.1 q.1) some more)
+      (both (x.0 == y.0) (test x.1 y.1) (same_test x.0 y.0 key) (is x.1 y.1 sums))
+      (tables_equal test is some more rise.1 rise_too.1 (λ validator. behind validator key))
+  | inr other ↦
+      elim (either_below x.0 y.0 other) [
+        | inl below ↦
+            let none : Some (sums_of x.1) ≡ None =
+            sym (found_head x some) ∙ same x.0
+            ∙ none_above x.0 (y ∷ more) (less x.0 y.0 below, above_all x.0 y.0 (keys_of more) below rise_too.0)
+            in
+            absurd (cc)
+        | inr below ↦
+            let none : Some (sums_of y.1) ≡ None =
+            sym (found_head y more) ∙ sym (same y.0)
+            ∙ none_above y.0 (x ∷ some) (less y.0 x.0 below, above_all y.0 x.0 (keys_of some) below rise.0)
+            in
+            absurd (cc)
+      ]
+]
+  where
+    behind : (validator : ℕ) → x.0 ≡ y.0 → found_in some validator ≡ found_in more validator
+    behind validator key = elim (cases_eq validator x.0) [
+      | inl at ↦
+          none_above validator some
+          (subst (λ k. AllByRecursion (λ other. nat_cmp k other ≡ Less) (keys_of some)) (sym at) rise.0)
+          ∙ sym (none_above validator more
+          (subst (λ k. AllByRecursion (λ other. nat_cmp k other ≡ Less) (keys_of more))
+          (sym (at ∙ key)) rise_too.0))
+      | inr other ↦
+          sym (found_behind validator x some other) ∙ same validator
+          ∙ found_behind validator y more (λ e. other (e ∙ sym key))
+    ]
+
+-- ---- two totals
+abbrev pub totals_test : Totals → Totals → Bool
+totals_test a b =
+    (a.taps == b.taps) && ((a.paid == b.paid) && ((a.transfers == b.transfers)
+    && ((a.capped == b.capped) && ((a.stale == b.stale) && ((a.unknown == b.unknown)
+    && (a.cents == b.cents))))))
+
+pub test_sums : (a b : Totals) → totals_test a b ≡ true → sums_of a ≡ sums_of b
+test_sums a b test =
+    let one = and_parts (a.taps == b.taps) _ test in
+    let two = and_parts (a.paid == b.paid) _ one.1 in
+    let three = and_parts (a.transfers == b.transfers) _ two.1 in
+    let four = and_parts (a.capped == b.capped) _ three.1 in
+    let five = and_parts (a.stale == b.stale) _ four.1 in
+    let six = and_parts (a.unknown == b.unknown) (a.cents == b.cents) five.1 in
+    λ i. record {
+      taps = eqb-true a.taps b.taps one.0 i;
+      paid = eqb-true a.paid b.paid two.0 i;
+      transfers = eqb-true a.transfers b.transfers three.0 i;
+      capped = eqb-true a.capped b.capped four.0 i;
+      stale = eqb-true a.stale b.stale five.0 i;
+      unknown = eqb-true a.unknown b.unknown six.0 i;
+      cents = eqb-true a.cents b.cents six.1 i;
+    }
+
+pub sums_test : (a b : Totals) → sums_of a ≡ sums_of b → totals_test a b ≡ true
+sums_test a b same =
+    both (a.taps == b.taps) _ (same_test a.taps b.taps (ap (λ (s : Sums). s.taps) same))
+    (both (a.paid == b.paid) _ (same_test a.paid b.paid (ap (λ (s : Sums). s.paid) same))
+    (both (a.transfers == b.transfers) _
+    (same_test a.transfers b.transfers (ap (λ (s : Sums). s.transfers) same))
+    (both (a.capped == b.capped) _
+    (same_test a.capped b.capped (ap (λ (s : Sums). s.capped) same))
+    (both (a.stale == b.stale) _ (same_test a.stale b.stale (ap (λ (s : Sums). s.stale) same))
+    (both (a.unknown == b.unknown) (a.cents == b.cents)
+    (same_test a.unknown b.unknown (ap (λ (s : Sums). s.unknown) same))
+    (same_test a.cents b.cents (ap (λ (s : Sums). s.cents) same)))))))

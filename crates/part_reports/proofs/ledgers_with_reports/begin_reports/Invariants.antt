@@ -1,0 +1,12 @@
+use Rattle.std.proofs.Common.{◌≡◌, ◌++◌, map}
+use Rattle.part_reports.specs.inside.ReportsLeft.{AreBegunReports, report_at}
+use Rattle.part_reports.proofs.ledgers_with_reports.begin_reports.Given as goal
+
+abbrev pub invariant-loop-from : goal.invariant-loop-from
+invariant-loop-from g l = record {
+  may : (goal.iterator-loop-from g).can_next l.from-iterator;
+  ends : (goal.iterator-loop-from g).is_finite l.from-iterator;
+  all : l.yielded ++ l.from-iterator.rest.items ≡ l.fn.reports.items;
+  begun : AreBegunReports (map g.R.Read.remaining l.yielded)
+      (map (report_at g.R.Read.remaining) l.lefts.items);
+}

@@ -1,0 +1,88 @@
+use Rattle.std.proofs.Common.{◌∙◌, ap, arith, length, map, sym, subst}
+use Rattle.std.proofs.lemmas.List.{length-map}
+use Rattle.std.specs.Io.KnownBytes.{Appends}
+use Rattle.std.proofs.lemmas.Result.{IfErr-weaker, err_from_is_err_and, on_ok_weaker}
+use Rattle.reason_texts.specs.Ledger.{head_text}
+use Rattle.part_reports.specs.inside.BegunLedgers.{AreBegunLedgers}
+use Rattle.part_reports.specs.inside.ReportsLeft.{AreBegunReports, report_at}
+use Rattle.part_reports.specs.inside.Standings.{standing}
+use Rattle.part_reports.proofs.ReportsMerged.{ledgers_number, no_charges, no_whole, reports_number}
+use Rattle.part_reports.proofs.ReportsMerged.{whole}
+use Rattle.part_reports.proofs.ledgers_with_reports.merge_ledgers_with_reports.Goals as goal
+
+pub returns-in_err-sources-clause-refused : goal.returns-in_err-sources-clause-refused
+returns-in_err-sources-clause-refused g c =
+    let p = err_from_is_err_and c.from_residual.result c.from_residual.ensures.1 in
+    rw (p.1, p.2) (λ of_texts files report_files same same_reports text is.
+    c.in_err-sources.ensures.refused of_texts files same text is.merged)
+
+pub returns-in_err-lefts-clause-refused : goal.returns-in_err-lefts-clause-refused
+returns-in_err-lefts-clause-refused g c =
+    let p = err_from_is_err_and c.from_residual-in_err-lefts.result
+    c.from_residual-in_err-lefts.ensures.1 in
+    rw (p.1, p.2) (λ of_texts files report_files same same_reports text is.
+    no_charges files report_files text
+    (c.in_err-lefts.ensures.refused of_texts report_files same_reports) is)
+
+pub returns-clause-whole : goal.returns-clause-whole
+returns-clause-whole g c =
+    let remaining = g.R.Read.remaining in
+    let ledgers = map remaining c.args.ledgers.items in
+    let reports = map remaining c.args.reports.items in
+    let old = g.W.Write.contents c.args.out.now in
+    let mid = g.W.Write.contents c.write_text.new.out in
+    let are : AreBegunLedgers ledgers (map (standing remaining) c.deref_mut.result.now) =
+    subst (λ sources. AreBegunLedgers ledgers (map (standing remaining) sources))
+    (sym c.deref_mut.ensures.value) c.in_ok-sources.ensures.begun in
+    let begun : AreBegunReports reports (map (report_at remaining) c.deref_mut-2.result.now) =
+    subst (λ lefts. AreBegunReports reports (map (report_at remaining) lefts))
+    (sym c.deref_mut-2.ensures.value) c.in_ok-lefts.ensures.begun in
+    let head : Appends old mid head_text =
+    subst (λ bytes. Appends old mid bytes) (c.as_bytes.ensures.value ∙ c.head_line.ensures)
+    c.in_ok-write_text.ensures.written in
+    on_ok_weaker c.write_all_taken.result (λ merged files report_files same same_reports.
+    whole files report_files ledgers reports (map (standing remaining) c.deref_mut.result.now)
+    (map (report_at remaining) c.deref_mut-2.result.now) old mid
+    (g.W.Write.contents c.write_all_taken.new.out) same same_reports are begun head merged)
+    c.write_all_taken.ensures.merged
+
+pub returns-clause-refused : goal.returns-clause-refused
+returns-clause-refused g c =
+    let remaining = g.R.Read.remaining in
+    let ledgers = map remaining c.args.ledgers.items in
+    let reports = map remaining c.args.reports.items in
+    let are : AreBegunLedgers ledgers (map (standing remaining) c.deref_mut.result.now) =
+    subst (λ sources. AreBegunLedgers ledgers (map (standing remaining) sources))
+    (sym c.deref_mut.ensures.value) c.in_ok-sources.ensures.begun in
+    let begun : AreBegunReports reports (map (report_at remaining) c.deref_mut-2.result.now) =
+    subst (λ lefts. AreBegunReports reports (map (report_at remaining) lefts))
+    (sym c.deref_mut-2.ensures.value) c.in_ok-lefts.ensures.begun in
+    IfErr-weaker c.write_all_taken.result _ _
+    (λ fault refused of_texts files report_files same same_reports.
+    no_whole files report_files ledgers reports (map (standing remaining) c.deref_mut.result.now)
+    (map (report_at remaining) c.deref_mut-2.result.now) same same_reports are begun
+    (refused of_texts)) c.write_all_taken.ensures.refused
+
+pub write_all_taken-requires : goal.write_all_taken-requires
+write_all_taken-requires g c =
+    let remaining = g.R.Read.remaining in
+    let ledgers = c.args.ledgers.items in
+    let reports = c.args.reports.items in
+    let sources = c.in_ok-sources.sources.items in
+    let lefts = c.in_ok-lefts.lefts.items in
+    let one = ledgers_number (map remaining ledgers) (map (standing remaining) sources)
+    c.in_ok-sources.ensures.begun in
+    let two = reports_number (map remaining reports) (map (report_at remaining) lefts)
+    c.in_ok-lefts.ensures.begun in
+    omega (
+      arith,
+      one,
+      two,
+      length-map ledgers remaining,
+      length-map reports remaining,
+      length-map sources (standing remaining),
+      length-map lefts (report_at remaining),
+      ap length c.deref_mut.ensures.value,
+      ap length c.deref_mut-2.ensures.value,
+      c.requires.number,
+    )

@@ -1,0 +1,51 @@
+use Rattle.std.proofs.Common.{◌∙◌, Some, ap, arith, get_or, sym}
+use Rattle.std.proofs.lemmas.Option.{slice_get-get_or}
+use Rattle.std.proofs.lemmas.Result.{IfErr-weaker, on_ok_weaker}
+use Rattle.part_reports.specs.inside.ReportsLeft.{report_at}
+use Rattle.part_reports.specs.inside.Standings.{standing}
+use Rattle.part_reports.proofs.Places.{map_at, map_of_set}
+use Rattle.part_reports.proofs.ledgers_with_reports.take_at.Goals as goal
+
+pub returns-in-Some-clause-taken : goal.returns-in-Some-clause-taken
+returns-in-Some-clause-taken g c =
+    let remaining = g.R.Read.remaining in
+    let sources = c.args.sources.now in
+    let lefts = c.args.lefts.now in
+    let at = c.args.at in
+    let source = c.index-sources-at.result in
+    let left = get_or lefts at c.index-lefts-at.result in
+    on_ok_weaker c.take.result (λ taken. record {
+      source = standing remaining source;
+      source_there = map_at (standing remaining) sources at source
+          (slice_get-get_or sources at source (omega arith)
+          ∙ ap (λ source. Some source) (sym c.index-sources-at.is));
+      token = c.in-Some.token;
+      token_is = c.in-Some.is;
+      was = report_at remaining left;
+      is = report_at remaining c.take.new.self;
+      there = map_at (report_at remaining) lefts at left
+          (slice_get-get_or lefts at c.index-lefts-at.result (omega arith));
+      moved = map_of_set (report_at remaining) lefts at c.take.new.self;
+      taken = taken;
+    }) c.take.ensures.taken
+
+pub returns-in-Some-clause-refused : goal.returns-in-Some-clause-refused
+returns-in-Some-clause-refused g c =
+    let remaining = g.R.Read.remaining in
+    let sources = c.args.sources.now in
+    let lefts = c.args.lefts.now in
+    let at = c.args.at in
+    let source = c.index-sources-at.result in
+    let left = get_or lefts at c.index-lefts-at.result in
+    IfErr-weaker c.take.result _ _ (λ fault refused of_texts. record {
+      source = standing remaining source;
+      source_there = map_at (standing remaining) sources at source
+          (slice_get-get_or sources at source (omega arith)
+          ∙ ap (λ source. Some source) (sym c.index-sources-at.is));
+      token = c.in-Some.token;
+      token_is = c.in-Some.is;
+      was = report_at remaining left;
+      there = map_at (report_at remaining) lefts at left
+          (slice_get-get_or lefts at c.index-lefts-at.result (omega arith));
+      not_taken = refused of_texts;
+    }) c.take.ensures.refused

@@ -1,0 +1,132 @@
+use Rattle.std.proofs.Common.{◌≡◌, ◌∙◌, Some, None, drop, length, arith}
+use Rattle.std.proofs.lemmas.List.{length-map, take_at}
+use Rattle.std.proofs.lemmas.Option.{slice_get_within}
+use Rattle.std.proofs.lemmas.Result.{IfErr-weaker, err_from_is_err_and, on_ok_weaker}
+use Rattle.std.specs.Prelude.{map}
+use Rattle.part_reports.specs.inside.ReportsLeft.{report_at}
+use Rattle.part_reports.specs.inside.Standings.{standing}
+use Rattle.part_reports.proofs.Merges.{least_of, merging_stuck, merging_twin, twin_of}
+use Rattle.part_reports.proofs.ReportsMerged.{at_end, beginning, going_on, not_taken, something_left}
+use Rattle.part_reports.proofs.ledgers_with_reports.write_all_taken.Goals as goal
+
+pub loop-init : goal.loop-init
+loop-init g c =
+    let sources = c.args.sources.now in
+    let lefts = c.args.lefts.now in
+    let size : length (map (standing g.R.Read.remaining) sources)
+    ≡ length (map (report_at g.R.Read.remaining) lefts) =
+    omega (
+      arith,
+      length-map sources (standing g.R.Read.remaining),
+      length-map lefts (report_at g.R.Read.remaining),
+      c.requires.number,
+    ) in
+    record {
+      merging = λ texts files are unused. beginning texts files
+          (map (standing g.R.Read.remaining) sources) (map (report_at g.R.Read.remaining) lefts)
+          (g.W.Write.contents c.args.out.now) size are unused;
+      same = c.in_ok-tokens.ensures;
+    }
+
+pub write_at-requires-clause-tokens : goal.write_at-requires-clause-tokens
+write_at-requires-clause-tokens g c = c.deref_mut.ensures.value ∙ c.loop.invariant.same
+
+pub returns-in_err-take_at-in-Ok-Some-clause-refused :
+    goal.returns-in_err-take_at-in-Ok-Some-clause-refused
+returns-in_err-take_at-in-Ok-Some-clause-refused g c =
+    let remaining = g.R.Read.remaining in
+    let p = err_from_is_err_and c.from_residual-in_err-take_at-in-Ok-Some.result
+    c.from_residual-in_err-take_at-in-Ok-Some.ensures.1 in
+    rw (p.1, p.2) (λ of_texts texts files are unused lists joined told is summed.
+    not_taken texts files (map (standing remaining) c.loop.sources)
+    (map (report_at remaining) c.loop.lefts) (g.W.Write.contents c.args.out.now)
+    (g.W.Write.contents c.loop.out) c.in-Ok-Some.at
+    (c.loop.invariant.merging texts files are unused)
+    (c.in_err-take_at-in-Ok-Some.ensures.refused of_texts) lists told summed)
+
+pub returns-in_err-write_at-in-Ok-Some-clause-refused :
+    goal.returns-in_err-write_at-in-Ok-Some-clause-refused
+returns-in_err-write_at-in-Ok-Some-clause-refused g c =
+    let remaining = g.R.Read.remaining in
+    let sources = c.loop.sources in
+    let least = least_of remaining sources c.deref.result.now c.loop.tokens.items
+    c.in-Ok-Some.field-0 (Some c.in-Ok-Some.at) c.deref.ensures.value c.loop.invariant.same
+    c.in-Ok-Some.ensures c.in-Ok-Some.field-0-is in
+    let p = err_from_is_err_and c.from_residual-in_err-write_at-in-Ok-Some.result
+    c.from_residual-in_err-write_at-in-Ok-Some.ensures.1 in
+    rw (p.1, p.2) (λ of_texts texts files are unused lists joined told is summed.
+    merging_stuck texts (map (standing remaining) sources) (g.W.Write.contents c.args.out.now)
+    (g.W.Write.contents c.loop.out) (c.loop.invariant.merging texts files are unused).merging
+    c.in-Ok-Some.at least (c.in_err-write_at-in-Ok-Some.ensures.refused of_texts) lists told)
+
+pub returns-in-Ok-None-clause-merged : goal.returns-in-Ok-None-clause-merged
+returns-in-Ok-None-clause-merged g c =
+    let remaining = g.R.Read.remaining in
+    let sources = c.loop.sources in
+    let none = least_of remaining sources c.deref.result.now c.loop.tokens.items
+    c.in-Ok-None.field-0 None c.deref.ensures.value c.loop.invariant.same
+    c.in-Ok-None.ensures c.in-Ok-None.field-0-is in
+    on_ok_weaker c.finish_all.result (λ up texts files are unused.
+    at_end texts files (map (standing remaining) sources) (map (report_at remaining) c.loop.lefts)
+    (g.W.Write.contents c.args.out.now) (g.W.Write.contents c.loop.out)
+    (c.loop.invariant.merging texts files are unused) none up) c.finish_all.ensures.all
+
+pub returns-in-Ok-None-clause-refused : goal.returns-in-Ok-None-clause-refused
+returns-in-Ok-None-clause-refused g c =
+    let remaining = g.R.Read.remaining in
+    let sources = c.loop.sources in
+    let none = least_of remaining sources c.deref.result.now c.loop.tokens.items
+    c.in-Ok-None.field-0 None c.deref.ensures.value c.loop.invariant.same
+    c.in-Ok-None.ensures c.in-Ok-None.field-0-is in
+    IfErr-weaker c.finish_all.result _ _
+    (λ fault refused of_texts texts files are unused lists joined told is summed.
+    something_left texts files (map (standing remaining) sources)
+    (map (report_at remaining) c.loop.lefts) (g.W.Write.contents c.args.out.now)
+    (g.W.Write.contents c.loop.out) (c.loop.invariant.merging texts files are unused) none
+    (refused of_texts) lists told summed) c.finish_all.ensures.refused
+
+pub returns-in-Err-clause-refused : goal.returns-in-Err-clause-refused
+returns-in-Err-clause-refused g c =
+    let remaining = g.R.Read.remaining in
+    let sources = c.loop.sources in
+    let twin = twin_of remaining sources c.deref.result.now c.loop.tokens.items c.in-Err.at
+    c.deref.ensures.value c.loop.invariant.same c.in-Err.ensures in
+    λ of_texts texts files are unused lists joined told is summed.
+    merging_twin texts (map (standing remaining) sources)
+    (g.W.Write.contents c.args.out.now) (g.W.Write.contents c.loop.out)
+    (c.loop.invariant.merging texts files are unused).merging c.in-Err.at twin lists joined told is
+
+pub loop-preserved : goal.loop-preserved
+loop-preserved g c =
+    let remaining = g.R.Read.remaining in
+    let sources = c.loop.sources in
+    let least = least_of remaining sources c.deref.result.now c.loop.tokens.items
+    c.in-Ok-Some.field-0 (Some c.in-Ok-Some.at) c.deref.ensures.value c.loop.invariant.same
+    c.in-Ok-Some.ensures c.in-Ok-Some.field-0-is in
+    let tokens = c.write_at.new.tokens in
+    let kept = c.write_at.auto.tokens in
+    let size : length tokens ≡ c.loop.tokens.len =
+    omega (arith, kept, c.deref_mut.ensures.len, c.loop.tokens.ok.0) in
+    record {
+      merging = λ texts files are unused. going_on texts files (map (standing remaining) sources)
+          (map (standing remaining) c.write_at.new.sources)
+          (map (report_at remaining) c.loop.lefts)
+          (map (report_at remaining) c.take_at.new.lefts) (g.W.Write.contents c.args.out.now)
+          (g.W.Write.contents c.loop.out) (g.W.Write.contents c.write_at.new.out)
+          c.in-Ok-Some.at (c.loop.invariant.merging texts files are unused) least
+          c.in_ok-take_at-in-Ok-Some.ensures.taken c.in_ok-write_at-in-Ok-Some.ensures.moved;
+      same = take_at tokens (drop (length tokens) c.loop.tokens.items) c.loop.tokens.len size
+          ∙ c.in_ok-write_at-in-Ok-Some.ensures.tokens;
+    }
+
+pub returns-in_err-tokens-clause-refused : goal.returns-in_err-tokens-clause-refused
+returns-in_err-tokens-clause-refused g c =
+    let p = err_from_is_err_and c.from_residual.result c.from_residual.ensures.1 in
+    rw (p.1, p.2) (λ of_texts texts files are unused lists joined told is summed. of_texts)
+
+pub write_at-requires-clause-within : goal.write_at-requires-clause-within
+write_at-requires-clause-within g c =
+    let ats = map (standing g.R.Read.remaining) c.loop.sources in
+    let taken = c.in_ok-take_at-in-Ok-Some.ensures.taken in
+    let within = slice_get_within ats c.in-Ok-Some.at taken.source taken.source_there in
+    omega (arith, within, length-map c.loop.sources (standing g.R.Read.remaining))

@@ -1,0 +1,18 @@
+use Rattle.std.proofs.Common.{◌≡◌, ℕ, List, map}
+use Rattle.std.specs.List.{AllZip}
+use Rattle.part_reports.specs.inside.ReportsLeft.{AreUnused, report_at}
+use Rattle.part_reports.specs.inside.Standings.{StandsInText, standing}
+use Rattle.part_reports.specs.declared.merging.LineKind.{LineKind}
+use Rattle.part_reports.proofs.ReportsMerged.{IsMergingBeside}
+use Rattle.part_reports.proofs.ledgers_with_reports.write_all_taken.Given as goal
+
+abbrev pub invariant-loop : goal.invariant-loop
+invariant-loop g l = record {
+  merging : (texts : List (LineKind × List ℕ)) (files : List (List ℕ))
+      → AllZip StandsInText texts (map (standing g.R.Read.remaining) l.fn.sources)
+      → AreUnused files (map (report_at g.R.Read.remaining) l.fn.lefts)
+      → IsMergingBeside texts files (map (standing g.R.Read.remaining) l.sources)
+      (map (report_at g.R.Read.remaining) l.lefts)
+      (g.W.Write.contents l.fn.out) (g.W.Write.contents l.out);
+  same : l.tokens.items ≡ map (λ source. source.token) l.sources;
+}

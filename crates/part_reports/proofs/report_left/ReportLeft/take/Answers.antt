@@ -1,0 +1,89 @@
+use Rattle.std.proofs.Common.{◌∷◌, ◌++◌, true, false, subst, sym}
+use Rattle.std.proofs.lemmas.Option.{MatchOption-at_none, MatchOption-at_some}
+use Rattle.std.proofs.lemmas.Result.{err_from_is_err_and}
+use Rattle.part_reports.specs.Charges.{IsChargeOf}
+use Rattle.part_reports.specs.LedgersWithReports.{AddUpToText}
+use Rattle.part_reports.specs.inside.ReportsLeft.{IsNoRest, charge_with, report_at}
+use Rattle.part_reports.specs.inside.Standings.{line_with}
+use Rattle.part_reports.specs.inside.Sums.{WithOne}
+use Rattle.part_reports.specs.inside.SumsLeft.{sums_left}
+use Rattle.part_reports.proofs.ChargeLines.{one_charge}
+use Rattle.part_reports.proofs.ReportsLeft.{no_charge, too_many, too_much, used_next}
+use Rattle.part_reports.proofs.report_left.ReportLeft.take.Goals as goal
+
+pub returns-in_err-charge-clause-refused : goal.returns-in_err-charge-clause-refused
+returns-in_err-charge-clause-refused g c =
+    let p = err_from_is_err_and c.from_residual.result
+    c.from_residual.ensures.1 in
+    let none = MatchOption-at_none _ _ c.in_err-charge.ensures.none.0 c.charge_of.ensures in
+    let token = c.args.token in
+    rw (p.1, p.2) (λ of_texts file done used charge is more add. none token charge
+    (subst (λ line. IsChargeOf (line_with token line) charge) (sym c.line.ensures) is))
+
+pub returns-in_err-before-clause-refused : goal.returns-in_err-before-clause-refused
+returns-in_err-before-clause-refused g c =
+    let p = err_from_is_err_and c.from_residual-in_err-before.result
+    c.from_residual-in_err-before.ensures.1 in
+    let left = report_at g.R.Read.remaining c.args.self.now in
+    rw (p.1, p.2) (λ of_texts file done used charge is more add.
+    no_charge file left done charge more used
+    (subst (λ token. IsNoRest token left) (sym is.token) (c.in_err-before.ensures.refused of_texts))
+    add)
+
+pub returns-in-None-clause-refused : goal.returns-in-None-clause-refused
+returns-in-None-clause-refused g c =
+    let remaining = g.R.Read.remaining in
+    let token = c.args.token in
+    let sum = c.in_ok-charge.charge in
+    let told = MatchOption-at_some _ _ sum c.in_ok-charge.ensures.value c.charge_of.ensures in
+    let own : IsChargeOf (line_with token c.args.ledger.now.line.items) (charge_with token sum) =
+    subst (λ line. IsChargeOf (line_with token line) (charge_with token sum)) c.line.ensures
+    (told token) in
+    λ of_texts file done used charge is more add.
+    let same = one_charge (line_with token c.args.ledger.now.line.items) charge
+    (charge_with token sum) is own in
+    too_much file (report_at remaining c.args.self.now) (report_at remaining c.rest_of.new.self) done
+    token sum c.in_ok-before.before more used c.in_ok-before.ensures.next c.in-None.ensures
+    (subst (λ charge. AddUpToText (done ++ charge ∷ more) file) same add)
+
+pub returns-else-branch-clause-refused : goal.returns-else-branch-clause-refused
+returns-else-branch-clause-refused g c =
+    let remaining = g.R.Read.remaining in
+    let token = c.args.token in
+    let sum = c.in_ok-charge.charge in
+    let told = MatchOption-at_some _ _ sum c.in_ok-charge.ensures.value c.charge_of.ensures in
+    let own : IsChargeOf (line_with token c.args.ledger.now.line.items) (charge_with token sum) =
+    subst (λ line. IsChargeOf (line_with token line) (charge_with token sum)) c.line.ensures
+    (told token) in
+    let mid = report_at remaining c.rest_of.new.self in
+    let over : WithOne mid.used c.add_validator.new.validators sum false =
+    subst (λ well. WithOne mid.used c.add_validator.new.validators sum well) c.if-branch.false
+    c.in_ok-add_validator.ensures in
+    λ of_texts file done used charge is more add.
+    let same = one_charge (line_with token c.args.ledger.now.line.items) charge
+    (charge_with token sum) is own in
+    too_many file (report_at remaining c.args.self.now) mid done token sum
+    (sums_left c.in_ok-before.before) c.add_validator.new.validators more used
+    c.in_ok-before.ensures.next over
+    (subst (λ charge. AddUpToText (done ++ charge ∷ more) file) same add)
+
+pub returns-then-branch-clause-taken : goal.returns-then-branch-clause-taken
+returns-then-branch-clause-taken g c =
+    let remaining = g.R.Read.remaining in
+    let token = c.args.token in
+    let sum = c.in_ok-charge.charge in
+    let told = MatchOption-at_some _ _ sum c.in_ok-charge.ensures.value c.charge_of.ensures in
+    let own : IsChargeOf (line_with token c.args.ledger.now.line.items) (charge_with token sum) =
+    subst (λ line. IsChargeOf (line_with token line) (charge_with token sum)) c.line.ensures
+    (told token) in
+    let mid = report_at remaining c.rest_of.new.self in
+    let one : WithOne mid.used c.add_validator.new.validators sum true =
+    subst (λ well. WithOne mid.used c.add_validator.new.validators sum well) c.if-branch.true
+    c.in_ok-add_validator.ensures in
+    λ file done used. (
+      charge_with token sum,
+      own,
+      used_next file (report_at remaining c.args.self.now) mid done token sum
+          (sums_left c.in_ok-before.before) (sums_left c.in-Some.rest)
+          c.add_validator.new.validators used c.in_ok-before.ensures.next c.in-Some.ensures one,
+    )

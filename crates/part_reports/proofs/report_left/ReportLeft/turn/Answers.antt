@@ -1,0 +1,69 @@
+use Rattle.std.proofs.Common.{◌≡◌, ◌≢◌, ◌∙◌, [], Some, ap, inl, inr, refl, rules, subst, sym}
+use Rattle.std.proofs.lemmas.Option.{MatchOption-at_none, MatchOption-at_some}
+use Rattle.std.proofs.lemmas.Result.{err_from_is_err_and}
+use Rattle.report_texts.specs.Numbers.{IsTokenSum}
+use Rattle.fare_texts.specs.ReportLines.{token_line}
+use Rattle.shard_book.specs.Sums.{Sums, sums}
+use Rattle.part_reports.specs.inside.Standings.{MayFollowToken}
+use Rattle.part_reports.specs.inside.SumsLeft.{sums_left}
+use Rattle.part_reports.proofs.report_left.ReportLeft.turn.Goals as goal
+
+pub returns-then-not-is_nothing-clause-refused : goal.returns-then-not-is_nothing-clause-refused
+returns-then-not-is_nothing-clause-refused g c = λ of_texts.
+    let some : ¬ (sums_left c.args.self.now.rest ≡ sums []) = search rules in
+    (c.requires.other, inl some)
+
+pub returns-then-not-is_token-clause-refused : goal.returns-then-not-is_token-clause-refused
+returns-then-not-is_token-clause-refused g c = λ of_texts.
+    let elsewhere : c.args.self.now.report.token ≢ Some c.args.token = search rules in
+    (c.requires.other, inr (inl elsewhere))
+
+pub returns-in_err-sum-clause-refused : goal.returns-in_err-sum-clause-refused
+returns-in_err-sum-clause-refused g c =
+    let p = err_from_is_err_and c.from_residual.result
+    c.from_residual.ensures.1 in
+    let there : c.args.self.now.report.token ≡ Some c.args.token = search rules in
+    let none = MatchOption-at_none _ _ c.in_err-sum.ensures.none.0 c.token_sum_of.ensures in
+    rw (p.1, p.2) (λ of_texts. (
+      c.requires.other,
+      inr (inr (
+        there,
+        inl (λ before line. none (line.name, before) line.is (c.line.ensures ∙ line.shown)),
+      )),
+    ))
+
+pub returns-in_err-advance-clause-refused : goal.returns-in_err-advance-clause-refused
+returns-in_err-advance-clause-refused g c =
+    let p = err_from_is_err_and c.from_residual-in_err-advance.result
+    c.from_residual-in_err-advance.ensures.1 in
+    let there : c.args.self.now.report.token ≡ Some c.args.token = search rules in
+    rw (p.1, p.2) (λ of_texts.
+    (c.requires.other, inr (inr (there, inr (c.in_err-advance.ensures.refused of_texts)))))
+
+pub returns-clause-next : goal.returns-clause-next
+returns-clause-next g c =
+    let report = c.args.self.now.report in
+    let sum = c.in_ok-sum.sum in
+    let none : sums_left c.args.self.now.rest ≡ sums [] = search rules in
+    let there : report.token ≡ Some c.args.token = search rules in
+    let told = MatchOption-at_some _ _ sum c.in_ok-sum.ensures.value c.token_sum_of.ensures in
+    let same : sums_left c.of.result ≡ _ = ap sums_left c.of.ensures in
+    inr (record {
+      other = c.requires.other;
+      none = none;
+      there = there;
+      line = record {
+        name = sum.token;
+        is = subst (λ (sums : Sums). IsTokenSum (sum.token, sums)) (sym same) told.0;
+        shown = sym c.line.ensures ∙ told.1
+            ∙ ap (λ (sums : Sums). token_line (sum.token, sums)) (sym same);
+      };
+      moved = record {
+        read = c.in_ok-advance.ensures.read;
+        order = subst (λ head. MayFollowToken report.lines report.token head)
+            c.in_ok-advance.ensures.token c.in_ok-advance.ensures.follows;
+      };
+      token_is = refl;
+      used = refl;
+      validators = refl;
+    })

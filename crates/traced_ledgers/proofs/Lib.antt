@@ -1,0 +1,5 @@
+pub mod Classes
+pub mod TracedLines
+pub mod Numbering
+pub mod Settled
+pub mod Strides

@@ -1,0 +1,6 @@
+pub mod Classes
+pub mod Columns
+pub mod Ledgers
+pub mod Names
+pub mod Traces
+pub mod inside
