@@ -1,5 +1,5 @@
 -- The text of a listing of whole files.
-use Rattle.std.specs.Prelude.{◌≡◌, ◌+◌, ℕ, Bool, true, List, [], ◌∷◌, ◌++◌, length, map, flat_map}
+use Rattle.std.specs.Prelude.{◌≡◌, ◌+◌, ℕ, Bool, true, List, [], ◌∷◌, ◌++◌, map, flat_map}
 use Rattle.std.specs.Prelude.{Option, None, Some, is_some, not}
 use Rattle.std.specs.List.{list_all}
 use Rattle.tap_views.specs.Layout.{Tap, num}

@@ -1,4 +1,4 @@
-use Rattle.std.proofs.Common.{◌≡◌, Bool, None, subst, sym, true}
+use Rattle.std.proofs.Common.{Bool, None, subst, sym}
 use Rattle.std.specs.Prelude.{MatchBool}
 use Rattle.std.proofs.KnownBytes.{Appends-kept, Keeps-refl}
 use Rattle.ledger_texts.specs.Ledger.{IsLedgerOver}

@@ -1,4 +1,4 @@
-use Rattle.std.proofs.Common.{◌≡◌, None, refl, sym, true}
+use Rattle.std.proofs.Common.{None, refl, sym, true}
 use Rattle.fare_program.specs.inside.Options.{asked_of}
 use Rattle.fare_program.proofs.Billed.{shows_bill}
 use Rattle.fare_program.proofs.sorted.write_report.Goals as goal
