@@ -15,4 +15,6 @@ mod shelf;
 #[cfg(test)]
 mod sorted;
 #[cfg(test)]
+mod sorted_ranges;
+#[cfg(test)]
 mod writers;

@@ -20,9 +20,9 @@ const TOKEN: &str = "000000000000000000000000000000a1";
 
 /// A disk of two files, `a` and another under each other name.
 #[derive(Clone, Copy)]
-struct TwoFiles<'a> {
-    a: &'a [u8],
-    b: &'a [u8],
+pub(crate) struct TwoFiles<'a> {
+    pub(crate) a: &'a [u8],
+    pub(crate) b: &'a [u8],
 }
 
 impl<'a> Disk for TwoFiles<'a> {
@@ -82,7 +82,7 @@ fn other_taps() -> [TapFields; 3] {
 
 /// The status, the text and the fault line of a run with these words over the sample table and the
 /// files `a` and `b`, which are loaded or opened.
-fn run_on<'a, R: Threads + Wait + RandomSource + Sync, D: Disk + Sync>(
+pub(crate) fn run_on<'a, R: Threads + Wait + RandomSource + Sync, D: Disk + Sync>(
     rt: &R,
     alloc: Global,
     words: &[&str],

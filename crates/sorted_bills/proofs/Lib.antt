@@ -4,3 +4,4 @@ pub mod OwnTaps
 mod Parts
 pub mod Settled
 pub mod Takings
+mod Told

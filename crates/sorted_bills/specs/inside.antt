@@ -1,9 +1,11 @@
 -- What only private functions cite. Who reads the contracts of public calls need not read it.
 pub mod Billed
 pub mod Charged
+pub mod Following
 pub mod Numbered
 pub mod OpenBills
 pub mod OwnTaps
 pub mod Printed
+pub mod Ranges
 pub mod Taken
 pub mod Told

@@ -25,7 +25,7 @@ use std::thread::Threads;
 use tap_views::Token;
 
 /// More workers do not serve.
-const MAX_WORKERS: u32 = 64;
+pub(crate) const MAX_WORKERS: u32 = 64;
 
 /// The part at a place among the ranges between the tokens of the list; none if it is not made.
 fn part_at<F: Placed>(
@@ -178,7 +178,7 @@ pub(crate) fn bill_by_threads<R: Threads + Sync, F: Placed + Sync>(
     ensures posted { IfOk result (λ made. are_posted made.ends.items ≡ true) }
 {
     let mut window = vec![in alloc; 0u8; WINDOW_BYTES]?;
-    let bounds = bounds_of(alloc, files, workers.min(MAX_WORKERS) - 1, &mut window)?;
+    let bounds = bounds_of(alloc, files, workers.min(MAX_WORKERS) - 1)?;
     if bounds.is_empty() {
         return Err(BillFault::Changed);
     }

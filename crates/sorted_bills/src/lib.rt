@@ -1,7 +1,7 @@
 //! Files whose taps are in canonical order, charged as a settled run charges them: read in pieces,
 //! merged, and posted tap by tap. No list of the taps is kept, however many there are. Several
-//! workers make a bill, each of a range of the tokens, or check a share of the files each. The lines
-//! of a ledger are written by one.
+//! workers make a bill or the lines of a ledger, each of a range of the tokens, or check a share of
+//! the files each.
 #![tactic(auto)]
 
 mod bill;
@@ -16,8 +16,11 @@ mod open_bill;
 mod own_by_threads;
 mod own_taps;
 mod part;
+mod range;
+mod rounds;
 mod stamps;
 mod taking;
+mod telling;
 
 pub use bill::sorted_bill;
 pub use fault::BillFault;

@@ -88,7 +88,7 @@ fn add_bill(alloc: Global, bill: &mut Bill, more: Bill) -> Result<(), NoMemory>
 }
 
 /// Whether the token is below the other one.
-fn is_below(token: Token, other: Token) -> bool
+pub(crate) fn is_below(token: Token, other: Token) -> bool
     ensures { IsTrue result → token_cmp token other ≡ Less }
 {
     token < other

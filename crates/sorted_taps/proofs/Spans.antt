@@ -189,6 +189,19 @@ come_on files from readers end before taps span come is begun at_begin sized end
       };
     }
 
+-- taps that were taken from where readers stand
+pub come_further : (files : List (List ℕ)) (from readers next : List TapReader)
+    (before taps : List TapFields) → HaveCome files from before readers
+    → AreTaken files readers taps next → HaveCome files from (before ++ taps) next
+come_further files from readers next before taps come further =
+    let (last, taken, stands) = all_shifted files (λ k. 0) come.to readers taps next
+    (record { number = come.stand.number; each = come.stand.each }) further in
+    record {
+      to = last;
+      taken = taken_append files from come.to last before taps come.taken taken;
+      stand = record { number = stands.number; each = stands.each };
+    }
+
 -- readers that stand for others at the ends of their files
 pub at_end_too : (ones others : List TapReader) → StandAs ones others → AreAtEnd others
     → AreAtEnd ones

@@ -27,6 +27,15 @@ pub struct Merge {
 }
 
 impl Merge {
+    /// Where the readers of the files stand.
+    pub fn of(alloc: Global, readers: Vec<TapReader>) -> Result<Merge, AllocError>
+        ensures readers { IfOk result (λ merge. merge.readers ≡ readers) }
+        ensures ranked { IfOk result (λ merge. IsRanked merge.readers.items merge.heads.items) }
+    {
+        let heads = tree_of(alloc, &readers)?;
+        Ok(Merge { readers, heads })
+    }
+
     /// At the first tap of each file. The window has `WINDOW_BYTES` at least.
     pub fn begin<F: Placed>(
         alloc: Global,
@@ -40,8 +49,7 @@ impl Merge {
             → map F.bytes files.now ≡ map Some all → AreBegun all merge.readers.items) }
     {
         let readers = begun(alloc, files, window)?;
-        let heads = tree_of(alloc, &readers)?;
-        Ok(Merge { readers, heads })
+        Ok(Merge::of(alloc, readers)?)
     }
 
     /// At the first tap of each file whose token is not below this one, if the files are in order and
@@ -61,8 +69,7 @@ impl Merge {
         for file in files {
             readers.push(reader_near(alloc, file, token, window)?)?;
         }
-        let heads = tree_of(alloc, &readers)?;
-        Ok(Merge { readers, heads })
+        Ok(Merge::of(alloc, readers)?)
     }
 
     /// The tap that is taken next, or none if all files are at their ends.

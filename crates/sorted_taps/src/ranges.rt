@@ -8,13 +8,19 @@ ghost use Rattle.sorted_taps.specs.Reading.{window_bytes};
 
 use crate::fault::SortedFault;
 use crate::reader::TapReader;
-use crate::reading::FIRST_READ_BYTES;
+use crate::reading::{FIRST_READ_BYTES, fill_at};
 use placed_files::Placed;
 use std::alloc::Global;
-use tap_views::Token;
+use tap_views::{TAP1_HEADER_BYTES, TAP1_TAP_BYTES, Token};
+
+/// The taps of a batch.
+const BATCH_TAPS: u64 = 512;
 
 /// The bytes of a batch of 512 taps.
 const BATCH_BYTES: u64 = FIRST_READ_BYTES as u64;
+
+/// The bytes of a token, with which a tap begins.
+const TOKEN_BYTES: usize = 16;
 
 /// Files of fewer batches together are not worth ranges.
 const SHORT_BATCHES: u64 = 64;
@@ -30,37 +36,28 @@ fn batches_in<F: Placed>(file: &F) -> Result<u64, SortedFault> {
     }
 }
 
-/// The token of the first tap of the batch with this number, or none if there is no such batch.
-fn token_at<F: Placed>(
-    alloc: Global,
-    file: &F,
-    batch: u64,
-    window: &mut [u8],
-) -> Result<Option<Token>, SortedFault>
-    requires { window_bytes ≤ length window.old }
-{
-    let Some(offset) = batch.checked_mul(BATCH_BYTES) else {
+/// The token of the tap with this number, counted from 0, or none if the file ends before it.
+fn token_at<F: Placed>(file: &F, tap: u64) -> Result<Option<Token>, SortedFault> {
+    let place = TAP1_HEADER_BYTES as u64 + tap % BATCH_TAPS * TAP1_TAP_BYTES as u64;
+    let Some(batch) = (tap / BATCH_TAPS).checked_mul(BATCH_BYTES) else {
         return Ok(None);
     };
-    let reader = TapReader::at(alloc, file, offset, window)?;
-    Ok(reader.head().map(|tap| Token::of(&tap.token)))
+    let mut bytes = [0u8; TOKEN_BYTES];
+    let count = fill_at(file, &mut bytes, batch.saturating_add(place))?;
+    if count < TOKEN_BYTES {
+        return Ok(None);
+    }
+    Ok(Some(Token::of(&bytes)))
 }
 
 /// The offset of a batch that begins with a token below this one, and is followed by none that
 /// does; 0 if there is none.
-fn offset_below<F: Placed>(
-    alloc: Global,
-    file: &F,
-    token: Token,
-    window: &mut [u8],
-) -> Result<u64, SortedFault>
-    requires { window_bytes ≤ length window.old }
-{
+fn offset_below<F: Placed>(file: &F, token: Token) -> Result<u64, SortedFault> {
     let mut low = 0u64;
     let mut high = batches_in(file)?;
     while high - low > 1 {
         let middle = low + (high - low) / 2;
-        match token_at(alloc, file, middle, window)? {
+        match token_at(file, middle.saturating_mul(BATCH_TAPS))? {
             Some(first) if first < token => low = middle,
             _ => high = middle,
         }
@@ -77,7 +74,7 @@ pub(crate) fn reader_near<F: Placed>(
 ) -> Result<TapReader, SortedFault>
     requires { window_bytes ≤ length window.old }
 {
-    let offset = offset_below(alloc, file, token, window)?;
+    let offset = offset_below(file, token)?;
     let mut reader = TapReader::at(alloc, file, offset, window)?;
     for _ in 0..PASSED_TAPS {
         match reader.head() {
@@ -116,28 +113,26 @@ fn all_batches<F: Placed>(files: &[F]) -> Result<u64, SortedFault> {
 }
 
 /// So many tokens, between which the taps of the files lie in ranges of about the same number:
-/// rising. They are fewer if batches begin with the same token, and none if the files are short.
-/// The window has `WINDOW_BYTES` at least.
+/// rising. They are fewer if a token has the taps of several ranges, and none if the files are
+/// short.
 pub fn bounds_of<F: Placed>(
     alloc: Global,
     files: &[F],
     most: u32,
-    window: &mut [u8],
 ) -> Result<Vec<Token>, SortedFault>
-    requires { window_bytes ≤ length window.old }
     ensures { IfOk result (λ bounds. length bounds.items ≤ most) }
 {
     let mut bounds = Vec::new(alloc);
     let Some(file) = longest(files)? else {
         return Ok(bounds);
     };
-    let batches = batches_in(file)?;
-    if batches <= most as u64 || all_batches(files)? < SHORT_BATCHES {
+    if all_batches(files)? < SHORT_BATCHES {
         return Ok(bounds);
     }
+    let taps = batches_in(file)?.saturating_mul(BATCH_TAPS);
+    let step = taps / (most as u64 + 1);
     for bound in 0..most {
-        let batch = batches.saturating_mul(bound as u64 + 1) / (most as u64 + 1);
-        if let Some(token) = token_at(alloc, file, batch, window)? {
+        if let Some(token) = token_at(file, step.saturating_mul(bound as u64 + 1))? {
             if bounds.last().is_none_or(|last| *last < token) {
                 bounds.push(token)?;
             }

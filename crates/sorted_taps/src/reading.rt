@@ -17,7 +17,7 @@ pub(crate) const FIRST_READ_BYTES: usize = TAP1_HEADER_BYTES + 512 * TAP1_TAP_BY
 pub const WINDOW_BYTES: usize = TAP1_HEADER_BYTES + MAX_TAPS * TAP1_TAP_BYTES;
 
 /// Fills the buffer from this offset on. No file of the system reaches the offset 2^64.
-fn fill_at<F: Placed>(file: &F, buffer: &mut [u8], offset: u64) -> Result<usize, Unread>
+pub(crate) fn fill_at<F: Placed>(file: &F, buffer: &mut [u8], offset: u64) -> Result<usize, Unread>
     ensures fits { OnOk result (offset + length buffer.new < 2 ^ 64) }
     ensures most { IfOk result (λ count. count ≤ length buffer.new) }
     ensures bytes { IfOk result (λ count. IfSome (F.bytes file.now)

@@ -1,9 +1,9 @@
 -- All taps of the files are their settled taps, and their lines are the ledger.
-use Rattle.std.proofs.Common.{ℕ, List, ◌++◌, map, string_bytes, sym, ap, subst, ◌∙◌}
+use Rattle.std.proofs.Common.{ℕ, List, [], ◌++◌, map, string_bytes, sym, ap, subst, ◌∙◌, arith}
 use Rattle.std.proofs.Common.{◌^◌, ◌<◌}
 use Rattle.std.specs.Prelude.{sum}
 use Rattle.std.proofs.lemmas.Result.{err_from_is_err_and}
-use Rattle.std.specs.Io.KnownBytes.{Appends}
+use Rattle.std.specs.Io.KnownBytes.{Appends, append_known}
 use Rattle.report_texts.specs.UploadEnds.{ArePlainEnds}
 use Rattle.report_texts.specs.declared.upload_end.UploadEnd.{UploadEnd}
 use Rattle.report_texts.specs.declared.upload_end.UploadEnd.TheVariants.{Posted}
@@ -12,34 +12,63 @@ use Rattle.ledger_texts.proofs.Along.{ledger_along}
 use Rattle.ledger_texts.proofs.Writing.{come_first, last_out}
 use Rattle.settlement.specs.Posted.{posted}
 use Rattle.settled_texts.proofs.Rows.{posted_falls}
+use Rattle.sorted_taps.proofs.Spans.{at_end_too}
 use Rattle.sorted_bills.proofs.Counted.{counted_ends, late_says_nothing, too_many}
+use Rattle.sorted_bills.proofs.Told.{told_begun}
 use Rattle.sorted_bills.proofs.ledger.write_sorted_ledger.Goals as goal
 
-pub write_all-requires-clause-come : goal.write_all-requires-clause-come
-write_all-requires-clause-come g c =
-    come_first c.args.table.now c.of-teller.result (c.of-teller.ensures.told c.args.table.now)
+pub write_ranges-requires-clause-room : goal.write_ranges-requires-clause-room
+write_ranges-requires-clause-room g c =
+    let none = c.of-teller.ensures.none in
+    let few = c.in_ok-counted.ensures.few.1 in
+    omega (arith, none, few)
+
+pub write_ranges-requires-clause-told : goal.write_ranges-requires-clause-told
+write_ranges-requires-clause-told g c =
+    let fares = c.args.table.now in
+    let teller = c.of-teller.result in
+    let readers = c.in_ok-taker.taker.merge.readers.items in
+    let bytes = append_known (g.W.Write.contents c.args.out.now) (string_bytes c.in_ok-text.text) in (
+      [],
+      readers,
+      teller.token,
+      bytes,
+      told_begun fares (map g.F.Placed.bytes c.args.files.now) [] readers teller bytes
+          (come_first fares teller (c.of-teller.ensures.told fares)),
+    )
+
+pub write_ranges-requires-clause-ranges : goal.write_ranges-requires-clause-ranges
+write_ranges-requires-clause-ranges g c =
+    c.of-rounds.ensures c.args.table.now (map g.F.Placed.bytes c.args.files.now)
 
 pub returns-clause-ok : goal.returns-clause-ok
 returns-clause-ok g c =
     let fares = c.args.table.now in
-    let told = c.in_ok-write_all.ensures.told in
+    let teller = c.of-teller.result in
+    let begun = c.in_ok-taker.taker.merge.readers.items in
+    let end = c.write_ranges.new.taker.merge.readers.items in
+    let bytes = append_known (g.W.Write.contents c.args.out.now) (string_bytes c.in_ok-text.text) in
+    let told = c.in_ok-write_ranges.ensures.told [] begun teller.token bytes
+    (told_begun fares (map g.F.Placed.bytes c.args.files.now) [] begun teller bytes
+    (come_first fares teller (c.of-teller.ensures.told fares))) in
     let history = posted fares told.taps in (
       head_text ++ told.lines,
-      λ all are. record {
-        history = history;
-        is_settled = c.posted_taps.ensures.history fares all told.taps
-            (c.taken_taps_are_settled.ensures all c.in_ok-taker.taker.merge.readers.items
-            c.write_all.new.taker.merge.readers.items told.taps
-            (c.in_ok-taker.ensures.begun all are) (told.taken.taken all are) told.at_end
-            told.taken.named);
-        over = ledger_along fares history told.lines
-            (posted_falls fares c.of-teller.result.token told.taps told.no_fall) told.along;
-      },
+      λ all are.
+          let way = told.come all are in
+          record {
+            history = history;
+            is_settled = c.posted_taps.ensures.history fares all told.taps
+                (c.taken_taps_are_settled.ensures all begun way.to told.taps
+                (c.in_ok-taker.ensures.begun all are) way.taken
+                (at_end_too way.to end way.stand c.in_ok-write_ranges.ensures.end) told.named);
+            over = ledger_along fares history told.lines
+                (posted_falls fares teller.token told.taps told.no_fall) told.told.are;
+          },
       subst (λ (head : List ℕ). Appends (g.W.Write.contents c.args.out.now)
           (g.W.Write.contents c.pass_on.new.out) (head ++ told.lines)) c.in_ok-text.ensures
-          (last_out (g.W.Write.contents c.args.out.now) (g.W.Write.contents c.write_all.new.out)
+          (last_out (g.W.Write.contents c.args.out.now) (g.W.Write.contents c.write_ranges.new.out)
           (g.W.Write.contents c.pass_on.new.out) (string_bytes c.in_ok-text.text)
-          (string_bytes c.write_all.new.text) (string_bytes c.pass_on.new.text) told.lines
+          (string_bytes c.write_ranges.new.text) (string_bytes c.pass_on.new.text) told.lines
           told.appended c.in_ok-pass_on.ensures.kept c.in_ok-pass_on.ensures.empty),
     )
 

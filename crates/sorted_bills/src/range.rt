@@ -1,0 +1,202 @@
+//! The lines of the taps of a range of the tokens, made by a thread of its own.
+
+ghost use Rattle.std.specs.Prelude.{◌≡◌, ◌+◌, ◌≤◌, ℕ, [], All, IfOk, None, OnOk, length, map};
+ghost use Rattle.std.specs.Prelude.{string_bytes};
+ghost use Rattle.fare_table.specs.Fares.{Fares};
+ghost use Rattle.reason_texts.specs.Tellers.{HasTold};
+ghost use Rattle.sorted_bills.specs.inside.Ranges.{AreLinesAnywhere, IsRange};
+
+use crate::fault::BillFault;
+use crate::taking::Taker;
+use crate::telling::tell_below;
+use fare_table::{Clock, FareTable};
+use ledger_texts::pass_on;
+use placed_files::Placed;
+use reason_texts::Teller;
+use settled_texts::least_token;
+use sorted_taps::{Span, WINDOW_BYTES, copies_of};
+use std::alloc::Global;
+use std::marker::Sync;
+use std::thread;
+use std::thread::Threads;
+use tap_views::Token;
+
+/// The most taps of a range, so that its lines stay few.
+const MOST_TAPS: u64 = 65_536;
+
+/// The least token but one: a range without a lower bound begins with it, since the teller of the
+/// whole ledger begins with the least one. If a tap has that one, the range is not made.
+fn second_token() -> Token {
+    let mut bytes = [0; 16];
+    bytes[15] = 1;
+    Token::of(&bytes)
+}
+
+/// The lines of the taps of a range of the tokens.
+#[derive(Drop)]
+pub(crate) struct Range {
+    /// A token below which the taps have none.
+    pub(crate) first: Token,
+    /// Where the readers of the files stood before the taps and behind them. None if the range was
+    /// not made whole.
+    pub(crate) span: Option<Span>,
+    /// A teller that has come past the taps.
+    pub(crate) teller: Teller,
+    /// The number of the taps, at least that of those of the last token.
+    pub(crate) number: u64,
+    /// Lines that wait.
+    text: String,
+    /// The lines of the taps.
+    pub(crate) lines: Vec<u8>,
+}
+
+/// Appends the lines of the taps from one token on and below another to the list, which has none
+/// yet, and returns where the readers of the files stood before these taps and behind them. The
+/// text has room for lines that wait. More taps than are left are refused.
+fn tell_span<F: Placed>(
+    alloc: Global,
+    table: &FareTable,
+    clock: &Clock,
+    files: &[F],
+    from: Option<Token>,
+    below: Option<Token>,
+    text: &mut String,
+    teller: &mut Teller,
+    left: &mut u64,
+    lines: &mut Vec<u8>,
+) -> Result<Span, BillFault>
+    requires clock { clock.now ≡ table.now.zone }
+    requires none { (lines.old.items ≡ []) × (string_bytes text.old ≡ []) }
+    requires fresh { (fares : Fares) → HasTold fares teller.old [] }
+    requires number { teller.old.number ≡ 0 }
+    ensures few { OnOk result (teller.new.number + left.new ≤ left.old) }
+    ensures lines { IfOk result (λ span. AreLinesAnywhere table.now (map F.bytes files.now)
+        teller.old.token span teller.new lines.new.items) }
+{
+    let window = vec![in alloc; 0u8; WINDOW_BYTES]?;
+    let mut taker = Taker::near(alloc, files, from, window)?;
+    let begin = copies_of(alloc, taker.merge.readers())?;
+    tell_below(
+        text, table, clock, teller, &mut taker, files, below, left, lines,
+    )?;
+    pass_on(text, lines)?;
+    let end = taker.into_readers();
+    Ok(Span { begin, end })
+}
+
+impl Range {
+    /// A range that was not made.
+    pub(crate) fn new(alloc: Global) -> Self
+        ensures { result.span ≡ None }
+    {
+        Range {
+            first: least_token(),
+            span: None,
+            teller: Teller::of(least_token()),
+            number: 0,
+            text: String::new(alloc),
+            lines: Vec::new(alloc),
+        }
+    }
+
+    /// Makes the lines of the taps from one token on and below another, or without a bound if there
+    /// is none. If they are too many, or something is refused, the range is not made.
+    fn make<F: Placed>(
+        &mut self,
+        alloc: Global,
+        table: &FareTable,
+        clock: &Clock,
+        files: &[F],
+        from: Option<Token>,
+        below: Option<Token>,
+    )
+        requires clock { clock.now ≡ table.now.zone }
+        ensures { IsRange table.now (map F.bytes files.now) self.new }
+    {
+        let first = from.unwrap_or(second_token());
+        let mut left = MOST_TAPS;
+        self.span = None;
+        self.first = first;
+        self.teller = Teller::of(first);
+        self.text.clear();
+        self.lines.clear();
+        let Ok(span) = tell_span(
+            alloc,
+            table,
+            clock,
+            files,
+            from,
+            below,
+            &mut self.text,
+            &mut self.teller,
+            &mut left,
+            &mut self.lines,
+        ) else {
+            return;
+        };
+        self.number = MOST_TAPS - left;
+        self.span = Some(span);
+    }
+
+    /// Makes the range at a place among those between the tokens of the list. It is not made if
+    /// there is no such place.
+    fn make_at<F: Placed>(
+        &mut self,
+        alloc: Global,
+        table: &FareTable,
+        clock: &Clock,
+        files: &[F],
+        bounds: &[Token],
+        place: usize,
+    )
+        requires clock { clock.now ≡ table.now.zone }
+        ensures { IsRange table.now (map F.bytes files.now) self.new }
+    {
+        if place > bounds.len() {
+            self.span = None;
+            return;
+        }
+        let from = match place.checked_sub(1) {
+            Some(before) => bounds.get(before).copied(),
+            None => None,
+        };
+        self.make(alloc, table, clock, files, from, bounds.get(place).copied());
+    }
+}
+
+/// Makes the ranges from a place on among those between the tokens of the list, each by a thread of
+/// its own.
+pub(crate) fn make_ranges<R: Threads + Sync, F: Placed + Sync>(
+    rt: &R,
+    alloc: Global,
+    table: &FareTable,
+    clock: &Clock,
+    files: &[F],
+    bounds: &[Token],
+    place: usize,
+    ranges: &mut [Range],
+)
+    requires clock { clock.now ≡ table.now.zone }
+    ensures len { length ranges.new ≡ length ranges.old }
+    ensures made { All (IsRange table.now (map F.bytes files.now)) ranges.new }
+{
+    let threads = ranges.len().max(1);
+    thread::for_each_mut(
+        rt,
+        ranges,
+        threads,
+        &|index: usize, range: &mut Range|
+            requires { clock.now ≡ table.now.zone }
+            ensures { IsRange table.entry.now (map F.bytes files.entry.now) range.new }
+        {
+            range.make_at(
+                alloc,
+                table,
+                clock,
+                files,
+                bounds,
+                place.saturating_add(index),
+            )
+        },
+    );
+}

@@ -1,0 +1,318 @@
+//! The lines of all taps of merged files, in rounds of a range of the tokens a thread.
+
+ghost use Rattle.std.specs.Prelude.{◌≡◌, ◌+◌, ◌≤◌, ◌<◌, ◌^◌, ℕ, All, List, Option, IfErr, IfOk};
+ghost use Rattle.std.specs.Prelude.{IfSome, None, OnOk, length, map, string_bytes};
+ghost use Rattle.std.specs.Io.KnownBytes.{append_known};
+ghost use Rattle.fare_table.specs.Fares.{Fares};
+ghost use Rattle.tap_views.specs.declared.token.Token.{Token};
+ghost use Rattle.shard_book.specs.declared.entry.Entry.{Entry};
+ghost use Rattle.sorted_taps.specs.Heads.{IsRanked};
+ghost use Rattle.sorted_taps.specs.Merges.{AreAtEnd};
+ghost use Rattle.sorted_taps.specs.declared.reader.TapReader.{TapReader};
+ghost use Rattle.sorted_bills.specs.Faults.{IsBeforeText, IsBillFault};
+ghost use Rattle.sorted_bills.specs.inside.Following.{DoesFollow};
+ghost use Rattle.sorted_bills.specs.inside.Ranges.{IsBehind, IsRange};
+ghost use Rattle.sorted_bills.specs.inside.Taken.{IsReady};
+ghost use Rattle.sorted_bills.specs.inside.Told.{AreToldSoFar};
+
+use crate::by_threads::MAX_WORKERS;
+use crate::fault::BillFault;
+use crate::part::is_below;
+use crate::range::{Range, make_ranges};
+use crate::taking::Taker;
+use crate::telling::tell_below;
+use fare_table::{Clock, FareTable};
+use fare_texts::write_out;
+use ledger_texts::pass_on;
+use placed_files::Placed;
+use reason_texts::Teller;
+use sorted_taps::{Merge, SortedFault, Span, are_at_end, bounds_of, joined};
+use std::alloc::Global;
+use std::io::Write;
+use std::marker::Sync;
+use std::thread::Threads;
+use tap_views::Token;
+
+/// The taps of a range, about.
+const RANGE_TAPS: u64 = 24_576;
+
+/// More ranges are not made.
+const MAX_RANGES: u64 = 1_048_576;
+
+/// The ranges of the tokens, of which some are made at once.
+#[derive(Drop)]
+pub(crate) struct Rounds {
+    /// The tokens between the ranges.
+    bounds: Vec<Token>,
+    /// The ranges that are made at once, a worker each. None if there is one worker.
+    ranges: Vec<Range>,
+}
+
+/// The ranges of so many taps, and as many at once as there are workers.
+fn rounds_of<F: Placed>(
+    alloc: Global,
+    files: &[F],
+    counted: u64,
+    workers: u32,
+) -> Result<Rounds, SortedFault>
+    ensures { IfOk result (λ rounds. All (λ range. range.span ≡ None) rounds.ranges.items) }
+{
+    let most = (counted / RANGE_TAPS).min(MAX_RANGES) as u32;
+    let bounds = bounds_of(alloc, files, most)?;
+    let mut ranges = Vec::new(alloc);
+    if !bounds.is_empty() {
+        for _ in 0..workers.min(MAX_WORKERS) {
+            ranges.push(Range::new(alloc))?;
+        }
+    }
+    Ok(Rounds { bounds, ranges })
+}
+
+impl Rounds {
+    /// The ranges of so many taps for so many workers: one range if there is one worker, or if
+    /// something is refused.
+    pub(crate) fn of<F: Placed>(alloc: Global, files: &[F], counted: u64, workers: u32) -> Self
+        ensures { (fares : Fares) (known : List (Option (List ℕ)))
+            → All (IsRange fares known) result.ranges.items }
+    {
+        if workers > 1 {
+            if let Ok(rounds) = rounds_of(alloc, files, counted, workers) {
+                return rounds;
+            }
+        }
+        Rounds {
+            bounds: Vec::new(alloc),
+            ranges: Vec::new(alloc),
+        }
+    }
+}
+
+/// The merge behind a span, or none if this does not begin where the merge stands, or memory is
+/// refused. There are so many files.
+fn merge_behind(alloc: Global, merge: &Merge, span: Span, files: usize) -> Option<Merge>
+    ensures ranked { IfSome result (λ next. IsRanked next.readers.items next.heads.items) }
+    ensures number { IfSome result (λ next. length next.readers.items ≡ files) }
+    ensures behind { IfSome result (IsBehind merge.now.readers.items span) }
+{
+    let end = joined(merge.readers(), span)?;
+    if end.len() != files {
+        return None;
+    }
+    match Merge::of(alloc, end) {
+        Ok(next) => Some(next),
+        Err(_) => None,
+    }
+}
+
+/// The merge behind a range, if its taps come next: if it was made, its tokens are above this one,
+/// it has no more taps than are left, and it begins where the merge stands.
+fn next_merge(
+    alloc: Global,
+    merge: &Merge,
+    token: Token,
+    left: u64,
+    range: &mut Range,
+    files: usize,
+) -> Option<Merge>
+    ensures range { (fares : Fares) (known : List (Option (List ℕ))) → IsRange fares known range.new }
+    ensures ranked { IfSome result (λ next. IsRanked next.readers.items next.heads.items) }
+    ensures number { IfSome result (λ next. length next.readers.items ≡ files) }
+    ensures same { IfSome result (λ next. (range.new.lines ≡ range.old.lines)
+        × (range.new.teller ≡ range.old.teller) × (range.new.number ≡ range.old.number)) }
+    ensures follows { IfSome result (λ next. (fares : Fares) (known : List (Option (List ℕ)))
+        → IsRange fares known range.old
+        → DoesFollow fares known merge.now.readers.items token left range.old next) }
+{
+    let span = range.span.take()?;
+    if range.number > left || !is_below(token, range.first) {
+        return None;
+    }
+    merge_behind(alloc, merge, span, files)
+}
+
+/// Writes the lines of the taps with tokens below the bound: those of the range, if its taps come
+/// next, and else as this thread makes them.
+fn write_range<F: Placed, W: Write>(
+    alloc: Global,
+    text: &mut String,
+    table: &FareTable,
+    clock: &Clock,
+    teller: &mut Teller,
+    taker: &mut Taker,
+    files: &[F],
+    range: &mut Range,
+    below: Option<Token>,
+    left: &mut u64,
+    out: &mut W,
+) -> Result<(), BillFault>
+    requires clock { clock.now ≡ table.now.zone }
+    requires ready { IsReady (length files.now) taker.old }
+    requires room { teller.old.number + left.old < 2 ^ 64 }
+    requires told { (earlier : List Entry) × (begun : List TapReader) × (from : Token)
+        × (before : Option (List ℕ))
+        × AreToldSoFar table.now (map F.bytes files.now) earlier begun from before
+        taker.old.merge.readers.items teller.old
+        (append_known (W.contents out.old) (string_bytes text.old)) }
+    requires range { IsRange table.now (map F.bytes files.now) range.old }
+    ensures range { IsRange table.now (map F.bytes files.now) range.new }
+    ensures ready { OnOk result (IsReady (length files.now) taker.new) }
+    ensures few { OnOk result (teller.new.number + left.new ≤ teller.old.number + left.old) }
+    ensures told { OnOk result ((earlier : List Entry) (begun : List TapReader) (from : Token)
+        (before : Option (List ℕ))
+        → AreToldSoFar table.now (map F.bytes files.now) earlier begun from before
+        taker.old.merge.readers.items teller.old
+        (append_known (W.contents out.old) (string_bytes text.old))
+        → AreToldSoFar table.now (map F.bytes files.now) earlier begun from before
+        taker.new.merge.readers.items teller.new
+        (append_known (W.contents out.new) (string_bytes text.new))) }
+    ensures fault { IfErr result (λ fault. IsBeforeText fault → ⊥) }
+    ensures of_files { IfErr result (λ fault. (all : List (List ℕ)) → IsBillFault all fault) }
+{
+    match next_merge(alloc, &taker.merge, teller.token, *left, range, files.len()) {
+        Some(next) => {
+            pass_on(text, out)?;
+            write_out(&range.lines, out)?;
+            *left -= range.number;
+            *teller = range.teller;
+            taker.merge = next;
+            Ok(())
+        }
+        None => tell_below(text, table, clock, teller, taker, files, below, left, out),
+    }
+}
+
+/// The index of the range at a place, among those that are made at once. At the first place of a
+/// round its ranges are made.
+fn index_at<R: Threads + Sync, F: Placed + Sync>(
+    rt: &R,
+    alloc: Global,
+    table: &FareTable,
+    clock: &Clock,
+    files: &[F],
+    bounds: &[Token],
+    ranges: &mut [Range],
+    place: usize,
+) -> usize
+    requires clock { clock.now ≡ table.now.zone }
+    requires some { 0 < length ranges.old }
+    requires ranges { All (IsRange table.now (map F.bytes files.now)) ranges.old }
+    ensures ranges { All (IsRange table.now (map F.bytes files.now)) ranges.new }
+    ensures within { result < length ranges.new }
+{
+    let index = place % ranges.len();
+    if index > 0 {
+        return index;
+    }
+    make_ranges(rt, alloc, table, clock, files, bounds, place, ranges);
+    index
+}
+
+/// Writes the lines of the range at a place among those between the tokens of the list.
+fn write_place<R: Threads + Sync, F: Placed + Sync, W: Write>(
+    rt: &R,
+    alloc: Global,
+    text: &mut String,
+    table: &FareTable,
+    clock: &Clock,
+    teller: &mut Teller,
+    taker: &mut Taker,
+    files: &[F],
+    bounds: &[Token],
+    ranges: &mut [Range],
+    place: usize,
+    left: &mut u64,
+    out: &mut W,
+) -> Result<(), BillFault>
+    requires clock { clock.now ≡ table.now.zone }
+    requires ready { IsReady (length files.now) taker.old }
+    requires room { teller.old.number + left.old < 2 ^ 64 }
+    requires told { (earlier : List Entry) × (begun : List TapReader) × (from : Token)
+        × (before : Option (List ℕ))
+        × AreToldSoFar table.now (map F.bytes files.now) earlier begun from before
+        taker.old.merge.readers.items teller.old
+        (append_known (W.contents out.old) (string_bytes text.old)) }
+    requires ranges { All (IsRange table.now (map F.bytes files.now)) ranges.old }
+    ensures ranges { OnOk result (All (IsRange table.now (map F.bytes files.now)) ranges.new) }
+    ensures ready { OnOk result (IsReady (length files.now) taker.new) }
+    ensures few { OnOk result (teller.new.number + left.new ≤ teller.old.number + left.old) }
+    ensures told { OnOk result ((earlier : List Entry) (begun : List TapReader) (from : Token)
+        (before : Option (List ℕ))
+        → AreToldSoFar table.now (map F.bytes files.now) earlier begun from before
+        taker.old.merge.readers.items teller.old
+        (append_known (W.contents out.old) (string_bytes text.old))
+        → AreToldSoFar table.now (map F.bytes files.now) earlier begun from before
+        taker.new.merge.readers.items teller.new
+        (append_known (W.contents out.new) (string_bytes text.new))) }
+    ensures fault { IfErr result (λ fault. IsBeforeText fault → ⊥) }
+    ensures of_files { IfErr result (λ fault. (all : List (List ℕ)) → IsBillFault all fault) }
+{
+    let below = bounds.get(place).copied();
+    if ranges.is_empty() {
+        return tell_below(text, table, clock, teller, taker, files, below, left, out);
+    }
+    let index = index_at(rt, alloc, table, clock, files, bounds, ranges, place);
+    let range = &mut ranges[index];
+    write_range(
+        alloc, text, table, clock, teller, taker, files, range, below, left, out,
+    )
+}
+
+/// Takes all taps of the files, so many as were counted, posts them, and appends their lines to the
+/// text, of which what is there may go out first.
+pub(crate) fn write_ranges<R: Threads + Sync, F: Placed + Sync, W: Write>(
+    rt: &R,
+    alloc: Global,
+    text: &mut String,
+    table: &FareTable,
+    clock: &Clock,
+    teller: &mut Teller,
+    taker: &mut Taker,
+    files: &[F],
+    rounds: &mut Rounds,
+    counted: u64,
+    out: &mut W,
+) -> Result<(), BillFault>
+    requires clock { clock.now ≡ table.now.zone }
+    requires ready { IsReady (length files.now) taker.old }
+    requires room { teller.old.number + counted < 2 ^ 64 }
+    requires told { (earlier : List Entry) × (begun : List TapReader) × (from : Token)
+        × (before : Option (List ℕ))
+        × AreToldSoFar table.now (map F.bytes files.now) earlier begun from before
+        taker.old.merge.readers.items teller.old
+        (append_known (W.contents out.old) (string_bytes text.old)) }
+    requires ranges { All (IsRange table.now (map F.bytes files.now)) rounds.old.ranges.items }
+    ensures end { OnOk result (AreAtEnd taker.new.merge.readers.items) }
+    ensures told { OnOk result ((earlier : List Entry) (begun : List TapReader) (from : Token)
+        (before : Option (List ℕ))
+        → AreToldSoFar table.now (map F.bytes files.now) earlier begun from before
+        taker.old.merge.readers.items teller.old
+        (append_known (W.contents out.old) (string_bytes text.old))
+        → AreToldSoFar table.now (map F.bytes files.now) earlier begun from before
+        taker.new.merge.readers.items teller.new
+        (append_known (W.contents out.new) (string_bytes text.new))) }
+    ensures fault { IfErr result (λ fault. IsBeforeText fault → ⊥) }
+    ensures of_files { IfErr result (λ fault. (all : List (List ℕ)) → IsBillFault all fault) }
+{
+    let mut left = counted;
+    for place in 0..rounds.bounds.len() + 1 {
+        write_place(
+            rt,
+            alloc,
+            text,
+            table,
+            clock,
+            teller,
+            taker,
+            files,
+            &rounds.bounds,
+            &mut rounds.ranges,
+            place,
+            &mut left,
+            out,
+        )?;
+    }
+    if left > 0 || !are_at_end(taker.merge.readers()) {
+        return Err(BillFault::Changed);
+    }
+    Ok(())
+}
