@@ -4,8 +4,8 @@ use Rattle.std.specs.Prelude.{IfSome}
 use Rattle.std.proofs.Common.{refl, sym, ap, subst, ◌∙◌, append-nil}
 use Rattle.std.specs.Ordering.{is_lt}
 use Rattle.std.specs.declared.cmp.Ordering.TheVariants.{Less}
-use Rattle.std.specs.Io.KnownBytes.{Appends}
-use Rattle.std.proofs.KnownBytes.{Appends-nil, Appends-trans}
+use Rattle.std.specs.Io.KnownBytes.{Appends, Keeps, append_known}
+use Rattle.std.proofs.KnownBytes.{Appends-nil, Appends-trans, append_known-passed}
 use Rattle.std.proofs.lemmas.Bool.{false≢true}
 use Rattle.std.proofs.lemmas.List.Elements.{All-append, All-nil}
 use Rattle.fare_table.specs.Fares.{Fares}
@@ -28,7 +28,7 @@ use Rattle.sorted_taps.specs.declared.span.Span.{Span}
 use Rattle.sorted_taps.proofs.Spans.{stand_alone}
 use Rattle.sorted_bills.specs.declared.range.Range.{Range}
 use Rattle.sorted_bills.specs.inside.Following.{DoesFollow}
-use Rattle.sorted_bills.specs.inside.Ranges.{AreLinesAnywhere, AreLinesFrom, IsRange}
+use Rattle.sorted_bills.specs.inside.Ranges.{AreLinesAnywhere, AreLinesFrom, IsBehind, IsRange}
 use Rattle.sorted_bills.specs.inside.Told.{AreToldSoFar}
 use Rattle.sorted_bills.proofs.Parts.{less_is_up}
 use Rattle.sorted_bills.proofs.Takings.{fall_both}
@@ -149,6 +149,31 @@ module _ (fares : Fares) (known : List (Option (List ℕ))) (earlier : List Entr
       range.lines.items
       (λ files are. follows.behind files begun so_far.taps made.taps (so_far.come files are)
       (made.spanned files are)) up made.lines_are appended
+
+-- a range that was made and is found to come next
+pub range_follows : (fares : Fares) (known : List (Option (List ℕ))) (readers : List TapReader)
+    (token : Token) (left : ℕ) (range : Range) (span : Span) (next : Merge) → range.span ≡ Some span
+    → token_cmp token range.first ≡ Less → range.number ≤ left → IsBehind readers span next
+    → IsRange fares known range → DoesFollow fares known readers token left range next
+range_follows fares known readers token left range span next is above fits behind range_is =
+    let (few, lines) = subst (λ (made : Option Span). IfSome made (λ s.
+    (range.teller.number ≤ range.number)
+    × AreLinesAnywhere fares known range.first s range.teller range.lines.items)) is range_is in
+    record {
+      span = span;
+      above = above;
+      fits = fits;
+      few = few;
+      lines = lines;
+      behind = behind;
+    }
+
+-- what waited went out, and then some lines
+pub lines_out : (a b c : Option (List ℕ)) (left lines : List ℕ) → Keeps a (append_known b left)
+    → left ≡ [] → Appends b c lines → Appends a (append_known c left) lines
+lines_out a b c left lines kept none more =
+    subst (λ (ls : List ℕ). Appends a (append_known c left) ls) (append-nil lines)
+    (append_known-passed a b c left left lines [] kept none more (sym (append-nil left)))
 
 -- ranges that were not made
 pub none_made : (fares : Fares) (known : List (Option (List ℕ))) (ranges : List Range)

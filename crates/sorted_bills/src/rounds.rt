@@ -127,7 +127,8 @@ fn next_merge(
     if range.number > left || !is_below(token, range.first) {
         return None;
     }
-    merge_behind(alloc, merge, span, files)
+    let next = merge_behind(alloc, merge, span, files)?;
+    Some(next)
 }
 
 /// Writes the lines of the taps with tokens below the bound: those of the range, if its taps come

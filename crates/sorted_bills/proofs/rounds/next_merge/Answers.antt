@@ -1,18 +1,10 @@
-use Rattle.std.proofs.Common.{rules, ◌≡◌, ◌+◌, ◌≤◌, ◌<◌, ◌^◌, ℕ, All, List, Option, IfErr, IfOk, IfSome, None, OnOk, length, map, string_bytes, ◌-◌, ◌*◌, ◌/◌, ◌%◌, Bool, true, false, nat_eq, nat_lt, [], ◌∷◌, ◌++◌, slice_index_or, slice_set, bit_and, bit_or, Fits, w8, w32, w64, Bor, MutBor}
-use Rattle.std.specs.Io.KnownBytes.{append_known}
-use Rattle.fare_table.specs.Fares.{Fares}
-use Rattle.tap_views.specs.declared.token.Token.{Token}
-use Rattle.shard_book.specs.declared.entry.Entry.{Entry}
-use Rattle.sorted_taps.specs.Heads.{IsRanked}
-use Rattle.sorted_taps.specs.Merges.{AreAtEnd}
-use Rattle.sorted_taps.specs.declared.reader.TapReader.{TapReader}
-use Rattle.sorted_bills.specs.Faults.{IsBeforeText, IsBillFault}
-use Rattle.sorted_bills.specs.inside.Following.{DoesFollow}
-use Rattle.sorted_bills.specs.inside.Ranges.{IsBehind, IsRange}
-use Rattle.sorted_bills.specs.inside.Taken.{IsReady}
-use Rattle.sorted_bills.specs.inside.Told.{AreToldSoFar}
+-- The range is found to come next.
+use Rattle.std.proofs.Common.{sym}
+use Rattle.sorted_bills.proofs.Told.{range_follows}
 use Rattle.sorted_bills.proofs.rounds.next_merge.Goals as goal
 
--- src/rounds.rt:109:1
 pub returns-clause-follows : goal.returns-clause-follows
-returns-clause-follows c = ?
+returns-clause-follows g c = λ known range_is.
+    range_follows c known g.args.merge.now.readers.items g.args.token g.args.left g.args.range.now
+    g.in_ok-span.span g.in_ok-next.next (sym g.in_ok-span.ensures.value) g.if-not-is_below.ensures
+    g.if-range-left.false g.in_ok-next.ensures.behind range_is
