@@ -249,11 +249,12 @@ impl<'a> Disk for FickleDisk<'a> {
     }
 }
 
-/// The status, the text and the fault line of a ledger of this upload, whose reads fail from some
-/// number on, and whose stamps differ.
+/// The status, the text and the fault line of this upload, which is a ledger or, without that word, a
+/// report. Reads fail from some number on, and stamps differ.
 fn run_fickle<R: Threads + Wait + RandomSource + Sync>(
     rt: &R,
     alloc: Global,
+    text: &[&str],
     all: &[u8],
     failing_from: u64,
     other_from: u64,
@@ -267,16 +268,18 @@ fn run_fickle<R: Threads + Wait + RandomSource + Sync>(
         other_from,
     };
     let disk = FickleDisk { opened: Ok(file) };
-    let words = [
+    let mut words = vec![in alloc;
         "--table",
         "t",
         "--settle",
         "--sorted",
-        "--ledger",
         "--workers",
         "1",
         "a",
-    ];
+    ]?;
+    for word in text {
+        words.push(*word)?;
+    }
     run_on(rt, alloc, &words, &disk, all, all)
 }
 
@@ -295,7 +298,14 @@ fn a_read_that_fails_is_told_by_its_pass(rt: HostRuntime) -> Result<(), Fail> {
     for line in lines {
         let mut found = 0u32;
         for _ in 0..20 {
-            let (status, text, err) = run_fickle(&rt, alloc, &all, failing_from, u64::MAX)?;
+            let (status, text, err) = run_fickle(
+                &rt,
+                alloc,
+                &["--ledger"],
+                &all,
+                failing_from,
+                u64::MAX,
+            )?;
             if err.as_slice() != line.as_bytes() {
                 break;
             }
@@ -309,17 +319,20 @@ fn a_read_that_fails_is_told_by_its_pass(rt: HostRuntime) -> Result<(), Fail> {
     Ok(())
 }
 
-/// A file with another stamp behind the second pass. The text was written by then.
+/// A file with another stamp behind the last pass. A ledger was written by then.
 #[test]
 fn a_file_that_changes_is_told(rt: HostRuntime) -> Result<(), Fail> {
     let alloc = rt.alloc();
     let all = upload(alloc, &first_taps())?;
-    let (status, text, err) = run_fickle(&rt, alloc, &all, u64::MAX, 1)?;
+    let told = b"fault: a file changed while it was read\n".as_slice();
+    let (status, text, err) = run_fickle(&rt, alloc, &["--ledger"], &all, u64::MAX, 1)?;
     assert_eq!(rt; (status, text.is_empty()), (1, false));
-    assert_eq!(rt;
-        err.as_slice(),
-        b"fault: a file changed while it was read\n".as_slice()
-    );
+    assert_eq!(rt; err.as_slice(), told);
+
+    // a report is written once all is read
+    let (status, text, err) = run_fickle(&rt, alloc, &[], &all, u64::MAX, 1)?;
+    assert_eq!(rt; (status, text.is_empty()), (1, true));
+    assert_eq!(rt; err.as_slice(), told);
     Ok(())
 }
 

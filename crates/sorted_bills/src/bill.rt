@@ -20,7 +20,7 @@ use placed_files::Placed;
 use settled_texts::least_token;
 use settlement::Billed;
 use shard_book::HashSeed;
-use sorted_taps::{WINDOW_BYTES, check_files};
+use sorted_taps::{WINDOW_BYTES, check_files, have_stamps, stamps_of};
 use std::alloc::Global;
 use std::marker::Sync;
 use std::thread::Threads;
@@ -72,17 +72,8 @@ fn first_fault<F: Placed>(alloc: Global, files: &[F], met: BillFault) -> BillFau
     }
 }
 
-/// The bill of the settled history of sorted files, in one pass: the files are merged, each tap is
-/// posted by its token's account, and the sums are kept. Of each file some batches are in memory,
-/// and of each token its sums: 32 bytes while each count fits 16 bits and the cents 32.
-///
-/// So many workers, 64 at most, charge a range of the tokens each, with readers of their own and
-/// copies of these as they began: at most some 32 KiB a worker for each file of `sort`. Where the
-/// ranges begin is a guess that suits long files in batches of 512 taps. Each range must end
-/// where the next one begins, to the tap: if not, or if a worker is refused, all is charged anew by
-/// one. If a file is refused then, all are checked in their order, and the fault is the first one.
-/// So neither the bill nor the fault depends on the workers.
-pub fn sorted_bill<R: Threads + Sync, F: Placed + Sync>(
+/// The bill of the files, by so many workers, whatever becomes of the files on the way.
+fn bill_by_workers<R: Threads + Sync, F: Placed + Sync>(
     rt: &R,
     alloc: Global,
     table: &FareTable,
@@ -108,4 +99,43 @@ pub fn sorted_bill<R: Threads + Sync, F: Placed + Sync>(
         Ok(made) => Ok(made),
         Err(met) => Err(first_fault(alloc, files, met)),
     }
+}
+
+/// The bill of the settled history of sorted files, in one pass: the files are merged, each tap is
+/// posted by its token's account, and the sums are kept. Of each file some batches are in memory,
+/// and of each token its sums: 32 bytes while each count fits 16 bits and the cents 32.
+///
+/// So many workers, 64 at most, charge a range of the tokens each, with readers of their own and
+/// copies of these as they began: at most some 32 KiB a worker for each file of `sort`. Where the
+/// ranges begin is a guess that suits long files in batches of 512 taps. Each range must end
+/// where the next one begins, to the tap: if not, or if a worker is refused, all is charged anew by
+/// one. If a file is refused then, all are checked in their order, and the fault is the first one.
+/// So neither the bill nor the fault depends on the workers.
+///
+/// Pieces of a file end where its batches end, so a file that is cut short on the way reads as one
+/// that ends there. So the stamps of all files are compared before and behind: with another one the
+/// fault is `Changed`.
+pub fn sorted_bill<R: Threads + Sync, F: Placed + Sync>(
+    rt: &R,
+    alloc: Global,
+    table: &FareTable,
+    seed: HashSeed,
+    files: &[F],
+    workers: u32,
+) -> Result<Billed, BillFault>
+    ensures ended { IfOk result (λ made. (all : List (List ℕ))
+        → map F.bytes files.now ≡ map Some all → ArePlainEnds all made.ends.items) }
+    ensures posted { IfOk result (λ made. are_posted made.ends.items ≡ true) }
+    ensures billed { IfOk result (λ made. (history : List Entry) × IsBillOf history made.bill
+        × (length history ≤ 2 ^ 95) × ((all : List (List ℕ))
+        → map F.bytes files.now ≡ map Some all → IsSettledHistory table.now all history)) }
+    ensures fault { IfErr result (λ fault. (all : List (List ℕ))
+        → map F.bytes files.now ≡ map Some all → IsBillFault all fault) }
+{
+    let stamps = stamps_of(alloc, files)?;
+    let made = bill_by_workers(rt, alloc, table, seed, files, workers)?;
+    if !have_stamps(files, &stamps) {
+        return Err(BillFault::Changed);
+    }
+    Ok(made)
 }

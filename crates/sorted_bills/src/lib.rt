@@ -18,7 +18,6 @@ mod own_taps;
 mod part;
 mod range;
 mod rounds;
-mod stamps;
 mod taking;
 mod telling;
 

@@ -9,6 +9,7 @@ use crate::check::check_files;
 use crate::fault::{MergeFault, SortedFault, WriteFault};
 use crate::merge::Merge;
 use crate::reading::WINDOW_BYTES;
+use crate::stamps::{have_stamps, stamps_of};
 use crate::writing::{BATCH_TAPS, put, put_rest};
 use placed_files::Placed;
 use std::alloc::{AllocError, Global};
@@ -58,7 +59,8 @@ impl From<WriteFault> for MergeStop {
     }
 }
 
-/// Merges the files as `merge_sorted` does.
+/// Merges the files as `merge_sorted` does. If one has another stamp than at the begin, it is refused
+/// before the last taps are written.
 fn write_merged<F: Placed, W: Write>(
     alloc: Global,
     files: &[F],
@@ -72,6 +74,7 @@ fn write_merged<F: Placed, W: Write>(
     ensures begun { IfErr result (λ stop. stop ≢ MergeStop.Write
         → IsBegun (W.contents out.old) (W.contents out.new)) }
 {
+    let stamps = stamps_of(alloc, files)?;
     let mut waiting = Vec::with_capacity(alloc, BATCH_TAPS)?;
     let mut merge = Merge::begin(alloc, files, window)?;
     for _ in 0..u64::MAX {
@@ -85,6 +88,10 @@ fn write_merged<F: Placed, W: Write>(
             }
             None => {
                 let numbers = merge.numbers(alloc)?;
+                // a file that was cut short on the way reads as one that ends there
+                if !have_stamps(files, &stamps) {
+                    return Err(MergeStop::Refused);
+                }
                 put_rest(alloc, &waiting, out)?;
                 return Ok(numbers);
             }
@@ -98,8 +105,9 @@ fn write_merged<F: Placed, W: Write>(
 /// memory.
 ///
 /// If a file is refused, all are checked in their order, and the fault is that of the first one
-/// that is not sorted: so it is a function of the files. After a fault whole batches may stand in
-/// the output, and after a write that failed anything.
+/// that is not sorted: so it is a function of the files. If none is refused then, or a file has
+/// another stamp at the end than at the begin, the fault is `Changed`. After a fault whole batches
+/// may stand in the output, and after a write that failed anything.
 pub fn merge_sorted<F: Placed, W: Write>(
     alloc: Global,
     files: &[F],

@@ -11,10 +11,15 @@ use Rattle.sorted_taps.proofs.Putting.{if_any, may_wait_none, put_begun, put_non
 use Rattle.sorted_taps.proofs.Taking.{taken_merged, taken_more}
 use Rattle.sorted_taps.proofs.merged_file.write_merged.Goals as goal
 
+pub returns-in_err-stamps-clause-begun : goal.returns-in_err-stamps-clause-begun
+returns-in_err-stamps-clause-begun g c =
+    let old = g.W.Write.contents c.args.out.now in
+    if_any _ c.from_residual.result (λ stop is. put_begun old old [] [] (put_none old))
+
 pub returns-in_err-waiting-clause-begun : goal.returns-in_err-waiting-clause-begun
 returns-in_err-waiting-clause-begun g c =
     let old = g.W.Write.contents c.args.out.now in
-    if_any _ c.from_residual.result (λ stop is. put_begun old old [] [] (put_none old))
+    if_any _ c.from_residual-in_err-waiting.result (λ stop is. put_begun old old [] [] (put_none old))
 
 pub returns-in_err-merge-clause-begun : goal.returns-in_err-merge-clause-begun
 returns-in_err-merge-clause-begun g c =
@@ -79,7 +84,7 @@ returns-in-None-clause-merged g c = λ all are.
       merged = taps;
       canonical = merged.canonical;
       written = c.in_ok-put_rest-in-None.ensures.written old taps
-          (subst (λ l. HasPut old here taps l) (sym c.deref.ensures.value) c.loop.invariant.put);
+          (subst (λ l. HasPut old here taps l) (sym c.deref-in-None.ensures.value) c.loop.invariant.put);
     }
 
 pub loop-preserved : goal.loop-preserved

@@ -1,4 +1,4 @@
-use Rattle.sorted_bills.proofs.bill.sorted_bill.Goals as goal
+use Rattle.sorted_bills.proofs.bill.bill_by_workers.Goals as goal
 
 pub returns-in-Ok-clause-ended : goal.returns-in-Ok-clause-ended
 returns-in-Ok-clause-ended g c = c.in-Ok.ensures.billed.ended

@@ -2,15 +2,12 @@
 
 ghost use Rattle.std.specs.Prelude.{◌≡◌, IfOk, length};
 
+use crate::fault::SortedFault;
 use placed_files::{FileStamp, Placed};
-use sorted_taps::SortedFault;
 use std::alloc::Global;
 
-/// The stamps of the files.
-pub(crate) fn stamps_of<F: Placed>(
-    alloc: Global,
-    files: &[F],
-) -> Result<Vec<FileStamp>, SortedFault>
+/// The stamps of the files, in their order. `Unread` if the system does not give one.
+pub fn stamps_of<F: Placed>(alloc: Global, files: &[F]) -> Result<Vec<FileStamp>, SortedFault>
     ensures { IfOk result (λ stamps. length stamps.items ≡ length files.now) }
 {
     let mut stamps = Vec::with_capacity(alloc, files.len())?;
@@ -24,7 +21,7 @@ pub(crate) fn stamps_of<F: Placed>(
 }
 
 /// Whether the files have these stamps. A file whose stamp cannot be read has another.
-pub(crate) fn have_stamps<F: Placed>(files: &[F], stamps: &[FileStamp]) -> bool {
+pub fn have_stamps<F: Placed>(files: &[F], stamps: &[FileStamp]) -> bool {
     for (file, old) in files.iter().zip(stamps) {
         match file.stamp() {
             Ok(stamp) => {
