@@ -79,7 +79,8 @@ pub fn write_sorted_ledger<R: Threads + Sync, F: Placed + Sync, W: Write>(
         &mut teller,
         &mut taker,
         files,
-        &mut rounds,
+        &rounds.bounds,
+        &mut rounds.ranges,
         counted,
         out,
     )?;

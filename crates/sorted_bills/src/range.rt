@@ -69,6 +69,7 @@ fn tell_span<F: Placed>(
     requires none { (lines.old.items ≡ []) × (string_bytes text.old ≡ []) }
     requires fresh { (fares : Fares) → HasTold fares teller.old [] }
     requires number { teller.old.number ≡ 0 }
+    requires most { left.old ≤ 65_536 }
     ensures few { OnOk result (teller.new.number + left.new ≤ left.old) }
     ensures lines { IfOk result (λ span. AreLinesAnywhere table.now (map F.bytes files.now)
         teller.old.token span teller.new lines.new.items) }

@@ -43,9 +43,9 @@ const MAX_RANGES: u64 = 1_048_576;
 #[derive(Drop)]
 pub(crate) struct Rounds {
     /// The tokens between the ranges.
-    bounds: Vec<Token>,
+    pub(crate) bounds: Vec<Token>,
     /// The ranges that are made at once, a worker each. None if there is one worker.
-    ranges: Vec<Range>,
+    pub(crate) ranges: Vec<Range>,
 }
 
 /// The ranges of so many taps, and as many at once as there are workers.
@@ -259,7 +259,8 @@ fn write_place<R: Threads + Sync, F: Placed + Sync, W: Write>(
 }
 
 /// Takes all taps of the files, so many as were counted, posts them, and appends their lines to the
-/// text, of which what is there may go out first.
+/// text, of which what is there may go out first. The tokens rise, and lie between the ranges, of
+/// which some are made at once.
 pub(crate) fn write_ranges<R: Threads + Sync, F: Placed + Sync, W: Write>(
     rt: &R,
     alloc: Global,
@@ -269,7 +270,8 @@ pub(crate) fn write_ranges<R: Threads + Sync, F: Placed + Sync, W: Write>(
     teller: &mut Teller,
     taker: &mut Taker,
     files: &[F],
-    rounds: &mut Rounds,
+    bounds: &[Token],
+    ranges: &mut [Range],
     counted: u64,
     out: &mut W,
 ) -> Result<(), BillFault>
@@ -281,7 +283,7 @@ pub(crate) fn write_ranges<R: Threads + Sync, F: Placed + Sync, W: Write>(
         × AreToldSoFar table.now (map F.bytes files.now) earlier begun from before
         taker.old.merge.readers.items teller.old
         (append_known (W.contents out.old) (string_bytes text.old)) }
-    requires ranges { All (IsRange table.now (map F.bytes files.now)) rounds.old.ranges.items }
+    requires ranges { All (IsRange table.now (map F.bytes files.now)) ranges.old }
     ensures end { OnOk result (AreAtEnd taker.new.merge.readers.items) }
     ensures told { OnOk result ((earlier : List Entry) (begun : List TapReader) (from : Token)
         (before : Option (List ℕ))
@@ -295,20 +297,9 @@ pub(crate) fn write_ranges<R: Threads + Sync, F: Placed + Sync, W: Write>(
     ensures of_files { IfErr result (λ fault. (all : List (List ℕ)) → IsBillFault all fault) }
 {
     let mut left = counted;
-    for place in 0..rounds.bounds.len() + 1 {
+    for place in 0..bounds.len() + 1 {
         write_place(
-            rt,
-            alloc,
-            text,
-            table,
-            clock,
-            teller,
-            taker,
-            files,
-            &rounds.bounds,
-            &mut rounds.ranges,
-            place,
-            &mut left,
+            rt, alloc, text, table, clock, teller, taker, files, bounds, ranges, place, &mut left,
             out,
         )?;
     }

@@ -25,6 +25,12 @@ tell_below-requires-clause-told g c =
           (come_first fares teller (c.requires.fresh fares)),
     )
 
+pub tell_below-requires-clause-room : goal.tell_below-requires-clause-room
+tell_below-requires-clause-room g c =
+    let none = c.requires.number in
+    let most = c.requires.most in
+    omega (arith, none, most)
+
 pub returns-clause-few : goal.returns-clause-few
 returns-clause-few g c =
     let none = c.requires.number in
