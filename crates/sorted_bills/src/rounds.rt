@@ -39,12 +39,15 @@ const RANGE_TAPS: u64 = 24_576;
 /// More ranges are not made.
 const MAX_RANGES: u64 = 1_048_576;
 
+/// Of more files no ranges are made: each range begins with a batch or two of each file.
+const MAX_FILES: usize = 256;
+
 /// The ranges of the tokens, of which some are made at once.
 #[derive(Drop)]
 pub(crate) struct Rounds {
     /// The tokens between the ranges.
     pub(crate) bounds: Vec<Token>,
-    /// The ranges that are made at once, a worker each. None if there is one worker.
+    /// The ranges that are made at once, a worker each. None if this thread makes all lines.
     pub(crate) ranges: Vec<Range>,
 }
 
@@ -69,13 +72,13 @@ fn rounds_of<F: Placed>(
 }
 
 impl Rounds {
-    /// The ranges of so many taps for so many workers: one range if there is one worker, or if
-    /// something is refused.
+    /// The ranges of so many taps for so many workers: one range if there is one worker, if there
+    /// are many files, or if something is refused.
     pub(crate) fn of<F: Placed>(alloc: Global, files: &[F], counted: u64, workers: u32) -> Self
         ensures { (fares : Fares) (known : List (Option (List ℕ)))
             → All (IsRange fares known) result.ranges.items }
     {
-        if workers > 1 {
+        if workers > 1 && files.len() <= MAX_FILES {
             if let Ok(rounds) = rounds_of(alloc, files, counted, workers) {
                 return rounds;
             }
