@@ -19,7 +19,7 @@ use Rattle.ledger_texts.specs.Lines.{HasCome, IsUpTo}
 use Rattle.ledger_texts.proofs.Rising.{none_below, up_chain, up_itself, up_weaker}
 use Rattle.settlement.specs.Posted.{HasName, posted_after, token_of_tap}
 use Rattle.settlement.proofs.Placed.{all_map}
-use Rattle.settled_texts.specs.Telling.{AreTold, NoTapFallsFrom, last_token}
+use Rattle.settled_texts.specs.Telling.{NoTapFallsFrom, last_token}
 use Rattle.settled_texts.proofs.Tellings.{last_append, none_told, told_append}
 use Rattle.sorted_taps.specs.Spans.{HaveCome}
 use Rattle.sorted_taps.specs.declared.merge.Merge.{Merge}

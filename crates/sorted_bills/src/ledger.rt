@@ -35,9 +35,10 @@ use std::thread::Threads;
 ///
 /// Of several workers, 64 at most, each makes the lines of a range of the tokens in memory, and
 /// these go out in order. Then each takes the next range. A worker takes up to 16 MiB for lines, and
-/// some 32 KiB for each file of `sort`. Where the ranges begin is a guess that suits files in batches
-/// of 512 taps. Each range must begin where the one before it ends, to the tap: if not, or if a worker
-/// is refused, this thread makes the lines of that range. So the text does not depend on the workers.
+/// some 32 KiB for each file of `sort`. Of more than 256 files this thread makes all lines. Where the
+/// ranges begin is a guess that suits files in batches of 512 taps. Each range must begin where the
+/// one before it ends, to the tap: if not, or if a worker is refused, this thread makes the lines of
+/// that range. So the text does not depend on the workers.
 pub fn write_sorted_ledger<R: Threads + Sync, F: Placed + Sync, W: Write>(
     rt: &R,
     alloc: Global,
@@ -78,7 +79,8 @@ pub fn write_sorted_ledger<R: Threads + Sync, F: Placed + Sync, W: Write>(
         &mut teller,
         &mut taker,
         files,
-        &mut rounds,
+        &rounds.bounds,
+        &mut rounds.ranges,
         counted,
         out,
     )?;

@@ -1,6 +1,6 @@
 //! The lines of the taps of a range of the tokens, made by a thread of its own.
 
-ghost use Rattle.std.specs.Prelude.{◌≡◌, ◌+◌, ◌≤◌, ℕ, [], All, IfOk, None, OnOk, length, map};
+ghost use Rattle.std.specs.Prelude.{◌≡◌, ◌+◌, ◌≤◌, [], All, IfOk, None, OnOk, length, map};
 ghost use Rattle.std.specs.Prelude.{string_bytes};
 ghost use Rattle.fare_table.specs.Fares.{Fares};
 ghost use Rattle.reason_texts.specs.Tellers.{HasTold};
@@ -69,6 +69,7 @@ fn tell_span<F: Placed>(
     requires none { (lines.old.items ≡ []) × (string_bytes text.old ≡ []) }
     requires fresh { (fares : Fares) → HasTold fares teller.old [] }
     requires number { teller.old.number ≡ 0 }
+    requires most { left.old ≤ 65_536 }
     ensures few { OnOk result (teller.new.number + left.new ≤ left.old) }
     ensures lines { IfOk result (λ span. AreLinesAnywhere table.now (map F.bytes files.now)
         teller.old.token span teller.new lines.new.items) }

@@ -39,13 +39,16 @@ const RANGE_TAPS: u64 = 24_576;
 /// More ranges are not made.
 const MAX_RANGES: u64 = 1_048_576;
 
+/// Of more files no ranges are made: each range begins with a batch or two of each file.
+const MAX_FILES: usize = 256;
+
 /// The ranges of the tokens, of which some are made at once.
 #[derive(Drop)]
 pub(crate) struct Rounds {
     /// The tokens between the ranges.
-    bounds: Vec<Token>,
-    /// The ranges that are made at once, a worker each. None if there is one worker.
-    ranges: Vec<Range>,
+    pub(crate) bounds: Vec<Token>,
+    /// The ranges that are made at once, a worker each. None if this thread makes all lines.
+    pub(crate) ranges: Vec<Range>,
 }
 
 /// The ranges of so many taps, and as many at once as there are workers.
@@ -69,13 +72,13 @@ fn rounds_of<F: Placed>(
 }
 
 impl Rounds {
-    /// The ranges of so many taps for so many workers: one range if there is one worker, or if
-    /// something is refused.
+    /// The ranges of so many taps for so many workers: one range if there is one worker, if there
+    /// are many files, or if something is refused.
     pub(crate) fn of<F: Placed>(alloc: Global, files: &[F], counted: u64, workers: u32) -> Self
         ensures { (fares : Fares) (known : List (Option (List ℕ)))
             → All (IsRange fares known) result.ranges.items }
     {
-        if workers > 1 {
+        if workers > 1 && files.len() <= MAX_FILES {
             if let Ok(rounds) = rounds_of(alloc, files, counted, workers) {
                 return rounds;
             }
@@ -259,7 +262,8 @@ fn write_place<R: Threads + Sync, F: Placed + Sync, W: Write>(
 }
 
 /// Takes all taps of the files, so many as were counted, posts them, and appends their lines to the
-/// text, of which what is there may go out first.
+/// text, of which what is there may go out first. The tokens rise, and lie between the ranges, of
+/// which some are made at once.
 pub(crate) fn write_ranges<R: Threads + Sync, F: Placed + Sync, W: Write>(
     rt: &R,
     alloc: Global,
@@ -269,7 +273,8 @@ pub(crate) fn write_ranges<R: Threads + Sync, F: Placed + Sync, W: Write>(
     teller: &mut Teller,
     taker: &mut Taker,
     files: &[F],
-    rounds: &mut Rounds,
+    bounds: &[Token],
+    ranges: &mut [Range],
     counted: u64,
     out: &mut W,
 ) -> Result<(), BillFault>
@@ -281,7 +286,7 @@ pub(crate) fn write_ranges<R: Threads + Sync, F: Placed + Sync, W: Write>(
         × AreToldSoFar table.now (map F.bytes files.now) earlier begun from before
         taker.old.merge.readers.items teller.old
         (append_known (W.contents out.old) (string_bytes text.old)) }
-    requires ranges { All (IsRange table.now (map F.bytes files.now)) rounds.old.ranges.items }
+    requires ranges { All (IsRange table.now (map F.bytes files.now)) ranges.old }
     ensures end { OnOk result (AreAtEnd taker.new.merge.readers.items) }
     ensures told { OnOk result ((earlier : List Entry) (begun : List TapReader) (from : Token)
         (before : Option (List ℕ))
@@ -295,20 +300,9 @@ pub(crate) fn write_ranges<R: Threads + Sync, F: Placed + Sync, W: Write>(
     ensures of_files { IfErr result (λ fault. (all : List (List ℕ)) → IsBillFault all fault) }
 {
     let mut left = counted;
-    for place in 0..rounds.bounds.len() + 1 {
+    for place in 0..bounds.len() + 1 {
         write_place(
-            rt,
-            alloc,
-            text,
-            table,
-            clock,
-            teller,
-            taker,
-            files,
-            &rounds.bounds,
-            &mut rounds.ranges,
-            place,
-            &mut left,
+            rt, alloc, text, table, clock, teller, taker, files, bounds, ranges, place, &mut left,
             out,
         )?;
     }

@@ -1,5 +1,5 @@
 -- All taps of the files are their settled taps, and their lines are the ledger.
-use Rattle.std.proofs.Common.{ℕ, List, [], ◌++◌, map, string_bytes, sym, ap, subst, ◌∙◌, arith}
+use Rattle.std.proofs.Common.{ℕ, All, List, [], ◌++◌, map, string_bytes, sym, ap, subst, ◌∙◌, arith}
 use Rattle.std.proofs.Common.{◌^◌, ◌<◌}
 use Rattle.std.specs.Prelude.{sum}
 use Rattle.std.proofs.lemmas.Result.{err_from_is_err_and}
@@ -13,6 +13,8 @@ use Rattle.ledger_texts.proofs.Writing.{come_first, last_out}
 use Rattle.settlement.specs.Posted.{posted}
 use Rattle.settled_texts.proofs.Rows.{posted_falls}
 use Rattle.sorted_taps.proofs.Spans.{at_end_too}
+use Rattle.sorted_bills.specs.declared.range.Range.{Range}
+use Rattle.sorted_bills.specs.inside.Ranges.{IsRange}
 use Rattle.sorted_bills.proofs.Counted.{counted_ends, late_says_nothing, too_many}
 use Rattle.sorted_bills.proofs.Told.{told_begun}
 use Rattle.sorted_bills.proofs.ledger.write_sorted_ledger.Goals as goal
@@ -24,7 +26,7 @@ write_ranges-requires-clause-room g c =
     omega (arith, none, few)
 
 pub write_ranges-requires-clause-told : goal.write_ranges-requires-clause-told
-write_ranges-requires-clause-told g c =
+write_ranges-requires-clause-told g c κs within =
     let fares = c.args.table.now in
     let teller = c.of-teller.result in
     let readers = c.in_ok-taker.taker.merge.readers.items in
@@ -38,8 +40,10 @@ write_ranges-requires-clause-told g c =
     )
 
 pub write_ranges-requires-clause-ranges : goal.write_ranges-requires-clause-ranges
-write_ranges-requires-clause-ranges g c =
-    c.of-rounds.ensures c.args.table.now (map g.F.Placed.bytes c.args.files.now)
+write_ranges-requires-clause-ranges g c κs within =
+    let known = map g.F.Placed.bytes c.args.files.now in
+    subst (λ (rs : List Range). All (IsRange c.args.table.now known) rs) (sym c.deref_mut-2.ensures.value)
+    (c.of-rounds.ensures c.args.table.now known)
 
 pub returns-clause-ok : goal.returns-clause-ok
 returns-clause-ok g c =

@@ -1,6 +1,5 @@
 -- Each range is what its own call left.
 use Rattle.std.proofs.Common.{arith, map, subst}
-use Rattle.sorted_bills.specs.declared.range.Range.{Range}
 use Rattle.sorted_bills.specs.inside.Ranges.{IsRange}
 use Rattle.sorted_bills.proofs.range.make_ranges.Goals as goal
 

@@ -1,6 +1,6 @@
 -- The lines are those of the taps after whatever entries of lower tokens, since the teller is fresh.
-use Rattle.std.proofs.Common.{◌≡◌, ℕ, List, [], ◌++◌, Some, Vec, Global, map, string_bytes, refl, sym, ap}
-use Rattle.std.proofs.Common.{subst, ◌∙◌, arith}
+use Rattle.std.proofs.Common.{ℕ, List, [], Some, Vec, Global, map, string_bytes, sym}
+use Rattle.std.proofs.Common.{subst, arith}
 use Rattle.std.specs.Io.KnownBytes.{append_known}
 use Rattle.ledger_texts.proofs.Writing.{come_first, last_out}
 use Rattle.settled_texts.specs.Telling.{AreTold}
@@ -24,6 +24,12 @@ tell_below-requires-clause-told g c =
       told_begun fares (map g.F.Placed.bytes c.args.files.now) [] readers teller bytes
           (come_first fares teller (c.requires.fresh fares)),
     )
+
+pub tell_below-requires-clause-room : goal.tell_below-requires-clause-room
+tell_below-requires-clause-room g c =
+    let none = c.requires.number in
+    let most = c.requires.most in
+    omega (arith, none, most)
 
 pub returns-clause-few : goal.returns-clause-few
 returns-clause-few g c =

@@ -8,7 +8,8 @@ use Rattle.sorted_bills.proofs.rounds.write_range.Goals as goal
 
 pub returns-in_err-write_out-in-Some-clause-range :
     goal.returns-in_err-write_out-in-Some-clause-range
-returns-in_err-write_out-in-Some-clause-range g c = ?
+returns-in_err-write_out-in-Some-clause-range g c =
+    c.next_merge.ensures.range c.args.table.now (map g.F.Placed.bytes c.args.files.now)
 
 pub returns-in_ok-write_out-in-Some-clause-range :
     goal.returns-in_ok-write_out-in-Some-clause-range

@@ -11,7 +11,7 @@ loop-place-init g c = record {
 }
 
 pub write_place-requires-clause-ready : goal.write_place-requires-clause-ready
-write_place-requires-clause-ready g c = c.loop-place.invariant.ready
+write_place-requires-clause-ready g c κs within = c.loop-place.invariant.ready
 
 pub write_place-requires-clause-room : goal.write_place-requires-clause-room
 write_place-requires-clause-room g c =
@@ -20,12 +20,12 @@ write_place-requires-clause-room g c =
     omega (arith, few, room)
 
 pub write_place-requires-clause-told : goal.write_place-requires-clause-told
-write_place-requires-clause-told g c =
+write_place-requires-clause-told g c κs within =
     let (earlier, begun, from, before, so_far) = c.requires.told in
     (earlier, begun, from, before, c.loop-place.invariant.told earlier begun from before so_far)
 
 pub write_place-requires-clause-ranges : goal.write_place-requires-clause-ranges
-write_place-requires-clause-ranges g c = c.loop-place.invariant.ranges
+write_place-requires-clause-ranges g c κs within = c.loop-place.invariant.ranges
 
 pub loop-place-preserved : goal.loop-place-preserved
 loop-place-preserved g c =

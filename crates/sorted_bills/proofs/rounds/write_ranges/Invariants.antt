@@ -14,7 +14,7 @@ abbrev pub invariant-loop-place : goal.invariant-loop-place
 invariant-loop-place g l = record {
   ready : IsReady (length l.files) l.taker;
   few : l.teller.number + l.left ≤ l.fn.teller.number + l.counted;
-  ranges : All (IsRange l.table (map g.F.Placed.bytes l.files)) l.rounds.ranges.items;
+  ranges : All (IsRange l.table (map g.F.Placed.bytes l.files)) l.ranges;
   told : (earlier : List Entry) (begun : List TapReader) (from : Token) (before : Option (List ℕ))
       → AreToldSoFar l.table (map g.F.Placed.bytes l.files) earlier begun from before
       l.fn.taker.merge.readers.items l.fn.teller

@@ -1,6 +1,6 @@
 -- Each turn tells the taps that were taken last.
 use Rattle.std.proofs.Common.{◌≡◌, List, [], ◌++◌, All, map, string_bytes}
-use Rattle.std.proofs.Common.{refl, sym, ap, subst, ◌∙◌, arith}
+use Rattle.std.proofs.Common.{sym, ap, subst, ◌∙◌, arith}
 use Rattle.std.specs.Io.KnownBytes.{append_known}
 use Rattle.std.proofs.lemmas.List.{nil_from_length}
 use Rattle.std.proofs.lemmas.Result.{err_from_is_err_and}
@@ -11,7 +11,6 @@ use Rattle.ledger_texts.proofs.Rising.{up_itself}
 use Rattle.settlement.specs.Posted.{posted_after}
 use Rattle.settled_texts.specs.Telling.{AreTold, NoTapFallsFrom, last_token}
 use Rattle.sorted_taps.proofs.Spans.{come_further}
-use Rattle.sorted_bills.specs.inside.Told.{AreToldSoFar}
 use Rattle.sorted_bills.proofs.Counted.{late_is_late, late_says_nothing}
 use Rattle.sorted_bills.proofs.Takings.{Early}
 use Rattle.sorted_bills.proofs.Told.{told_more, told_still}

@@ -1,4 +1,4 @@
-use Rattle.std.proofs.Common.{List, map, subst, sym, arith}
+use Rattle.std.proofs.Common.{map, subst, arith}
 use Rattle.tap_views.specs.declared.token.Token.{Token}
 use Rattle.sorted_bills.specs.inside.Ranges.{AreLinesAnywhere}
 use Rattle.sorted_bills.proofs.range.Range.make.Goals as goal
