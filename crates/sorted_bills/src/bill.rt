@@ -72,7 +72,8 @@ fn first_fault<F: Placed>(alloc: Global, files: &[F], met: BillFault) -> BillFau
     }
 }
 
-/// The bill of the files, by so many workers, whatever becomes of the files on the way.
+/// The bill of the files, whether they change meanwhile or not. A worker that is refused has all
+/// charged anew by one.
 fn bill_by_workers<R: Threads + Sync, F: Placed + Sync>(
     rt: &R,
     alloc: Global,
@@ -112,9 +113,8 @@ fn bill_by_workers<R: Threads + Sync, F: Placed + Sync>(
 /// one. If a file is refused then, all are checked in their order, and the fault is the first one.
 /// So neither the bill nor the fault depends on the workers.
 ///
-/// Pieces of a file end where its batches end, so a file that is cut short on the way reads as one
-/// that ends there. So the stamps of all files are compared before and behind: with another one the
-/// fault is `Changed`.
+/// A file that was written meanwhile, or has another length at the end, is reported as changed: one
+/// that was shortened may have looked like its end.
 pub fn sorted_bill<R: Threads + Sync, F: Placed + Sync>(
     rt: &R,
     alloc: Global,
