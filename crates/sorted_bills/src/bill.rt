@@ -14,6 +14,7 @@ use crate::charging::charge;
 use crate::counting::{count, ends_of};
 use crate::fault::BillFault;
 use crate::open_bill::OpenBill;
+use crate::stamps::{have_stamps, stamps_of};
 use crate::taking::Taker;
 use fare_table::FareTable;
 use placed_files::Placed;
@@ -72,17 +73,9 @@ fn first_fault<F: Placed>(alloc: Global, files: &[F], met: BillFault) -> BillFau
     }
 }
 
-/// The bill of the settled history of sorted files, in one pass: the files are merged, each tap is
-/// posted by its token's account, and the sums are kept. Of each file some batches are in memory,
-/// and of each token its sums: 32 bytes while each count fits 16 bits and the cents 32.
-///
-/// So many workers, 64 at most, charge a range of the tokens each, with readers of their own and
-/// copies of these as they began: at most some 32 KiB a worker for each file of `sort`. Where the
-/// ranges begin is a guess that suits long files in batches of 512 taps. Each range must end
-/// where the next one begins, to the tap: if not, or if a worker is refused, all is charged anew by
-/// one. If a file is refused then, all are checked in their order, and the fault is the first one.
-/// So neither the bill nor the fault depends on the workers.
-pub fn sorted_bill<R: Threads + Sync, F: Placed + Sync>(
+/// The bill of the files, whether they change meanwhile or not. A worker that is refused has all
+/// charged anew by one.
+fn bill_by_workers<R: Threads + Sync, F: Placed + Sync>(
     rt: &R,
     alloc: Global,
     table: &FareTable,
@@ -108,4 +101,42 @@ pub fn sorted_bill<R: Threads + Sync, F: Placed + Sync>(
         Ok(made) => Ok(made),
         Err(met) => Err(first_fault(alloc, files, met)),
     }
+}
+
+/// The bill of the settled history of sorted files, in one pass: the files are merged, each tap is
+/// posted by its token's account, and the sums are kept. Of each file some batches are in memory,
+/// and of each token its sums: 32 bytes while each count fits 16 bits and the cents 32.
+///
+/// So many workers, 64 at most, charge a range of the tokens each, with readers of their own and
+/// copies of these as they began: at most some 32 KiB a worker for each file of `sort`. Where the
+/// ranges begin is a guess that suits long files in batches of 512 taps. Each range must end
+/// where the next one begins, to the tap: if not, or if a worker is refused, all is charged anew by
+/// one. If a file is refused then, all are checked in their order, and the fault is the first one.
+/// So neither the bill nor the fault depends on the workers.
+///
+/// A file that was written meanwhile, or has another length at the end, is reported as changed: one
+/// that was shortened may have looked like its end.
+pub fn sorted_bill<R: Threads + Sync, F: Placed + Sync>(
+    rt: &R,
+    alloc: Global,
+    table: &FareTable,
+    seed: HashSeed,
+    files: &[F],
+    workers: u32,
+) -> Result<Billed, BillFault>
+    ensures ended { IfOk result (λ made. (all : List (List ℕ))
+        → map F.bytes files.now ≡ map Some all → ArePlainEnds all made.ends.items) }
+    ensures posted { IfOk result (λ made. are_posted made.ends.items ≡ true) }
+    ensures billed { IfOk result (λ made. (history : List Entry) × IsBillOf history made.bill
+        × (length history ≤ 2 ^ 95) × ((all : List (List ℕ))
+        → map F.bytes files.now ≡ map Some all → IsSettledHistory table.now all history)) }
+    ensures fault { IfErr result (λ fault. (all : List (List ℕ))
+        → map F.bytes files.now ≡ map Some all → IsBillFault all fault) }
+{
+    let stamps = stamps_of(alloc, files)?;
+    let made = bill_by_workers(rt, alloc, table, seed, files, workers)?;
+    if !have_stamps(files, &stamps) {
+        return Err(BillFault::Changed);
+    }
+    Ok(made)
 }

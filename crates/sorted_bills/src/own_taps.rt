@@ -18,6 +18,7 @@ ghost use Rattle.sorted_bills.specs.inside.OwnTaps.{AreOwnAdded, AreOwnOf, AreSo
 use crate::counting::ends_of;
 use crate::fault::BillFault;
 use crate::own_by_threads::{OwnTaps, own_by_threads};
+use crate::stamps::{have_stamps, stamps_of};
 use crate::taking::{is_early, name_of};
 use placed_files::Placed;
 use settlement::TokenTaps;
@@ -159,7 +160,8 @@ fn own_of_files<R: Threads + Sync, F: Placed + Sync>(
 /// The taps of one token of sorted files, in canonical order: no other tap is kept. One pass checks
 /// each file whole. So many workers take a share of the files each; if one of them is refused, this
 /// thread checks all anew, in their order, and its fault is the first one. So neither the taps nor
-/// the fault depend on the workers.
+/// the fault depend on the workers. A file that was written meanwhile, or has another length at the
+/// end, is reported as changed.
 pub fn sorted_taps_of<R: Threads + Sync, F: Placed + Sync>(
     rt: &R,
     alloc: Global,
@@ -177,7 +179,11 @@ pub fn sorted_taps_of<R: Threads + Sync, F: Placed + Sync>(
     ensures fault { IfErr result (λ fault. (all : List (List ℕ))
         → map F.bytes files.now ≡ map Some all → IsBillFault all fault) }
 {
+    let stamps = stamps_of(alloc, files)?;
     let own = own_of_files(rt, alloc, token, files, workers)?;
+    if !have_stamps(files, &stamps) {
+        return Err(BillFault::Changed);
+    }
     let ends = ends_of(alloc, &own.numbers)?;
     let list = in_order(own.taps);
     Ok(TokenTaps { ends, taps: list })

@@ -23,12 +23,14 @@ pub(crate) fn stamps_of<F: Placed>(
     Ok(stamps)
 }
 
-/// Whether the files have these stamps. A file whose stamp cannot be read has another.
+/// Whether the files have the lengths of these stamps, and were not written since. What else the
+/// system notes of a file may be another: its names, for instance, since a file that is replaced by
+/// a rename is read as it was. A file whose stamp cannot be read was written.
 pub(crate) fn have_stamps<F: Placed>(files: &[F], stamps: &[FileStamp]) -> bool {
     for (file, old) in files.iter().zip(stamps) {
         match file.stamp() {
             Ok(stamp) => {
-                if stamp != *old {
+                if stamp.bytes != old.bytes || stamp.modified != old.modified {
                     return false;
                 }
             }

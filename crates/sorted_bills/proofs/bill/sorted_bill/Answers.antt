@@ -1,9 +1,9 @@
+use Rattle.std.proofs.lemmas.Result.{err_from_is_err_and}
+use Rattle.sorted_bills.proofs.Counted.{late_says_nothing}
 use Rattle.sorted_bills.proofs.bill.sorted_bill.Goals as goal
 
-pub returns-in-Ok-clause-ended : goal.returns-in-Ok-clause-ended
-returns-in-Ok-clause-ended g c = c.in-Ok.ensures.billed.ended
-
-pub returns-in-Ok-clause-billed : goal.returns-in-Ok-clause-billed
-returns-in-Ok-clause-billed g c =
-    let billed = c.in-Ok.ensures.billed in
-    (billed.history, billed.of_history, billed.few, billed.settled)
+pub returns-in_err-stamps-clause-fault : goal.returns-in_err-stamps-clause-fault
+returns-in_err-stamps-clause-fault g c =
+    let p = err_from_is_err_and c.from_residual.result
+    c.from_residual.ensures.1 in
+    rw (p.1, p.2) (λ all are. late_says_nothing all c.in_err-stamps.field-0.0)

@@ -1,7 +1,9 @@
 use Rattle.std.proofs.Common.{◌∙◌, List, map, sym, ap, subst}
+use Rattle.std.proofs.lemmas.Result.{err_from_is_err_and}
 use Rattle.report_texts.specs.UploadEnds.{ArePlainEnds}
 use Rattle.report_texts.specs.declared.upload_end.UploadEnd.{UploadEnd}
 use Rattle.report_texts.specs.declared.upload_end.UploadEnd.TheVariants.{Posted}
+use Rattle.sorted_bills.proofs.Counted.{late_says_nothing}
 use Rattle.sorted_bills.proofs.OwnTaps.{own_ends, own_in_order, sound_list}
 use Rattle.sorted_bills.proofs.own_taps.sorted_taps_of.Goals as goal
 
@@ -26,3 +28,9 @@ pub returns-clause-its : goal.returns-clause-its
 returns-clause-its g c =
     (sound_list c.args.token c.in_ok-own.own.taps.items c.in_order-list.result.items
     c.in_ok-own.ensures.sound c.in_order-list.ensures).its
+
+pub returns-in_err-stamps-clause-fault : goal.returns-in_err-stamps-clause-fault
+returns-in_err-stamps-clause-fault g c =
+    let p = err_from_is_err_and c.from_residual-in_err-stamps.result
+    c.from_residual-in_err-stamps.ensures.1 in
+    rw (p.1, p.2) (λ all are. late_says_nothing all c.in_err-stamps.field-0.0)
