@@ -8,12 +8,14 @@ use Rattle.std.proofs.lemmas.List.{map-append}
 use Rattle.clap.specs.Words.{Text}
 use Rattle.tap_balance.specs.Balances.{AreGoodFields}
 use Rattle.tap_views.specs.declared.encoder.TapFields.{TapFields}
-use Rattle.omny_audit.specs.Fault.{IsOneOf, IsRightFault, NamesOneOf, is_unwritten, named_by}
+use Rattle.omny_audit.specs.Fault.{IsRightFault, NamesOneOf, is_unwritten, named_by}
 use Rattle.omny_audit.specs.Options.{AuditAsked, files_of}
 use Rattle.omny_audit.specs.declared.fault.Fault.{Fault}
 use Rattle.omny_audit.specs.declared.fault.Fault.TheVariants.{File, Ledger, Table, Write, Closed, NoMemory}
 use Rattle.omny_audit.specs.Program.{AreGoodFieldsOfAll, IsRightAuditFault, LoadsNamedFiles, compared}
-use Rattle.omny_audit.specs.Source.{OpensOne, Refuses, TellsRefusal}
+use Rattle.omny_audit.specs.Source.{OpensOne}
+use Rattle.program_manners.specs.Refusals.{IsOneOf, Refuses, TellsRefusal}
+use Rattle.program_manners.proofs.Refusals.{is_one_at}
 use Rattle.omny_audit.specs.inside.Fault.{is_of_loading}
 use Rattle.omny_audit.specs.inside.Source.{IsAllOf}
 use Rattle.program_manners.specs.Loads.{Loaded, Tells, TellsOne}
@@ -70,13 +72,7 @@ compared_is (name ∷ names) good has is =
     let some : nat_eq (length (name ∷ names)) 0 ≡ false = not_zero (length names) in
     ap (λ (b : Bool). if b then Some good else None) (is ∙ ap not some)
 
--- a name at a place is one of the names
-pub is_one_at : (names : List (Bor Text)) (k : ℕ) (d : Bor Text) (name : Text) → k < length names → name ≡ (get_or names k d).now → IsOneOf name (map (λ n. n.now) names)
-is_one_at [] k d name within is = absurd (omega arith)
-is_one_at (n ∷ names) zero d name within is = inl is
-is_one_at (n ∷ names) (suc k) d name within is = inr (is_one_at names k d name (omega arith) is)
-
--- so is that of a fault
+-- a fault that names one at a place names one of the names
 pub names_at : (names : List (Bor Text)) (k : ℕ) (d : Bor Text) (fault : Fault) → k < length names
     → IfSome (named_by fault) (λ told. told ≡ (get_or names k d).now) → NamesOneOf (map (λ n. n.now) names) fault
 names_at names k d fault within is = weaker (named_by fault) is

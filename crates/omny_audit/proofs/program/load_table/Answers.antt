@@ -1,6 +1,7 @@
 use Rattle.std.proofs.Common.{ℕ, List, refl, subst, ⊎_elim}
 use Rattle.fare_table.specs.declared.fault.TableFault.TheVariants.{NoMemory as NoRoom, Text as NoText}
-use Rattle.omny_audit.specs.Fault.{IsFirstTableFault, IsRightFault}
+use Rattle.omny_audit.specs.Fault.{IsRightFault}
+use Rattle.program_manners.specs.Refusals.{IsFirstTableFault}
 use Rattle.omny_audit.specs.declared.fault.Fault.TheVariants.{Table}
 use Rattle.omny_audit.proofs.ProgramLemmas.{handed_on, one_error}
 use Rattle.omny_audit.proofs.program.load_table.Goals as goal

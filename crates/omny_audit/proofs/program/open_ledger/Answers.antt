@@ -1,6 +1,6 @@
 use Rattle.std.proofs.Common.{◌≡◌, ◌∙◌, ℕ, Bor, List, ap, codes, option_map, subst, sym}
 use Rattle.std.specs.Prelude.{unwrap_or}
-use Rattle.omny_audit.specs.Source.{TellsRefusal}
+use Rattle.program_manners.specs.Refusals.{TellsRefusal}
 use Rattle.omny_audit.proofs.ProgramLemmas.{lent_name, refusal_told}
 use Rattle.omny_audit.proofs.program.open_ledger.Goals as goal
 
