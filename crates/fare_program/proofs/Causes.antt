@@ -1,7 +1,6 @@
 -- The fault that is told is the right one.
-use Rattle.std.proofs.Common.{◌≡◌, ◌∙◌, ◌<◌, ◌∷◌, ℕ, List, [], Bool, true, false, Option, None, Some, arith, ap, inl, inr, length, map, refl, sym, subst}
-use Rattle.std.specs.Prelude.{IfErr, Result, Ok, Err}
-use Rattle.std.specs.Result.{IsErrAnd}
+use Rattle.std.proofs.Common.{◌≡◌, ◌∙◌, ◌<◌, ◌∷◌, ℕ, List, [], Bool, true, false, Option, None, Some, Bor, arith, nat_eq, ap, inl, inr, length, map, refl, sym, subst}
+use Rattle.std.proofs.lemmas.Bool.Decides.{nat_tests}
 use Rattle.std.proofs.lemmas.List.{length-map}
 use Rattle.fare_program.specs.Causes.{IsNameTold, IsRightFault, IsRightOfSorted, names_told}
 use Rattle.fare_program.specs.Options.{Asked}
@@ -13,11 +12,6 @@ use Rattle.fare_program.specs.inside.Fault.{IsRunFailure}
 use Rattle.program_manners.specs.Loads.{Loaded, TellsOne}
 use Rattle.program_manners.specs.Refusals.{IsFirstTableFault, IsOneOf}
 use Rattle.program_manners.specs.declared.loading.LoadFault.{LoadFault}
-
--- a fault that is handed on
-pub handed_on : {A : Type 0} (r : Result A Fault) (fault : Fault) (P : Fault → Type 0) → IsErrAnd r (λ e. e ≡ fault) → P fault → IfErr r P
-handed_on (Ok x) fault P same is = tt
-handed_on (Err e) fault P same is = subst P (sym same) is
 
 -- a write that failed, or want of memory, is right of everything
 pub output_of_uploads : (settle : Bool) (uploads : ℕ) (fault : Fault) → IsOfOutput fault → IsRightOfUploads settle uploads fault
@@ -84,3 +78,10 @@ module _ (asked : Asked) (under : List ℕ → Option (List ℕ)) (told told' : 
 pub named_one : (asked : Asked) (names : List (List ℕ)) (name : List ℕ) → asked.files ≡ names → IsOneOf name names → IsNameTold asked name
 named_one asked [] name are one = absurd one
 named_one asked (n ∷ names) name are one = inr (subst (λ (ns : List (List ℕ)). IsOneOf name (names_told ns)) (sym are) one)
+
+-- without names no file is asked for
+pub none_named : (names : List (Bor (List ℕ))) → nat_eq (length names) 0 ≡ true → map (λ n. n.now) names ≡ []
+none_named [] is = refl
+none_named (n ∷ names) is =
+    let zero : length (n ∷ names) ≡ 0 = grind (arith, nat_tests) in
+    absurd (omega (arith, zero))

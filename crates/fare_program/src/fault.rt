@@ -177,8 +177,9 @@ impl From<NoMemory> for Fault<'_> {
 }
 
 impl From<TableFault> for Fault<'_> {
-    ghost from_gives = { λ refused fault.
-        (fault_text fault ≡ table_text refused) × (status_of fault ≡ 1) };
+    ghost use Rattle.fare_program.specs.declared.fault.Fault.TheVariants.{Table as ForTable};
+
+    ghost from_gives = { λ refused fault. fault ≡ ForTable refused };
 
     fn from(fault: TableFault) -> Self {
         Fault::Table(fault)

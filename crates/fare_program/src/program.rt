@@ -455,7 +455,7 @@ fn show<W: Write, E: Write>(error: &Error, out: &mut W, err: &mut Complaints<E>)
     ensures requested { result ≡ 2 → ¬ IsRequest (kind_of error.now) }
     ensures mistake { result ≡ 2 → Keeps (W.contents out.old) (W.contents out.new) }
     ensures quiet { result ≡ 0 → err.new ≡ err.old }
-    ensures fault { result ≡ 1 → (fault : Fault) × (status_of fault ≡ 1)
+    ensures fault { result ≡ 1 → (fault : Fault) × IsOfOutput fault × (status_of fault ≡ 1)
         × GaveUp fault (E.contents err.old.writer) (E.contents err.new.writer) err.new.failed
         (W.contents out.old) (W.contents out.new) }
     ensures status { result ≤ 2 }

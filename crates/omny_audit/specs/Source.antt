@@ -1,5 +1,5 @@
 -- What a source of bytes tells of what it opened.
-use Rattle.std.specs.Prelude.{⊤, ⊥, ℕ, List, Option, Some, None}
+use Rattle.std.specs.Prelude.{⊤, ℕ, List, Option, Some, None}
 use Rattle.program_manners.specs.Loads.{Loaded, TellsOne}
 
 -- One load under this name, of all that a reader that was opened has left. Where the source keeps a

@@ -1,5 +1,5 @@
 -- What a source of bytes tells of what it did not load, and what a text tells that is no fare table.
-use Rattle.std.specs.Prelude.{◌≡◌, ◌≢◌, ◌⊎◌, ⊤, ⊥, ℕ, List, [], ◌∷◌, Option, Some, None, Err, IsUtf8}
+use Rattle.std.specs.Prelude.{◌≡◌, ◌≢◌, ◌⊎◌, ⊤, ℕ, List, [], ◌∷◌, Option, Some, None, Err, IsUtf8}
 use Rattle.std.specs.Prelude.{codes, unwrap_or}
 use Rattle.fare_table.specs.TableMeaning.{meaning_in}
 use Rattle.fare_table.specs.declared.fault.TableFault.{TableFault}

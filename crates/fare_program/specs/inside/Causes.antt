@@ -1,5 +1,5 @@
 -- Causes of faults: what private functions alone cite.
-use Rattle.std.specs.Prelude.{◌≡◌, ◌<◌, ⊥, ℕ, List, Option, Bool, false}
+use Rattle.std.specs.Prelude.{◌≡◌, ◌<◌, ℕ, List, Option, Bool, false}
 use Rattle.program_manners.specs.Loads.{Loaded}
 use Rattle.program_manners.specs.Refusals.{IsFirstTableFault}
 use Rattle.program_manners.specs.declared.loading.LoadFault.{LoadFault}
