@@ -1,5 +1,6 @@
 pub mod Appends
 pub mod Billed
+pub mod Causes
 pub mod Defaults
 pub mod Going
 pub mod LastMoments

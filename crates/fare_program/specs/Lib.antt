@@ -1,3 +1,4 @@
+pub mod Causes
 pub mod Fault
 pub mod Lines
 pub mod Listing

@@ -2,6 +2,7 @@
 ghost use Rattle.std.specs.Prelude.{◌≡◌, ◌≢◌, ◌^◌, ◌≤◌, List, ℕ, IfErr, IfOk, length};
 ghost use Rattle.std.specs.Io.KnownBytes.{Appends, Keeps};
 ghost use Rattle.fare_program.specs.Fault.{status_of};
+ghost use Rattle.fare_program.specs.inside.Causes.{IsOfOutput};
 ghost use Rattle.fare_program.specs.inside.Settling.{ShowsBill};
 ghost use Rattle.report_texts.specs.OverHistory.{IsReportOver};
 ghost use Rattle.report_texts.specs.UploadEnds.{ArePlainEnds, are_posted};
@@ -34,6 +35,7 @@ pub(crate) fn write_billed<'a, W: Write>(
         → ArePlainEnds files made.ends.items → IsReportOver files history text)
         × (well ≡ are_posted made.ends.items)
         × Appends (W.contents out.old) (W.contents out.new) text) }
+    ensures output { IfErr result IsOfOutput }
     ensures status { IfErr result (λ fault. status_of fault ≡ 1) }
     ensures fault { IfErr result (λ fault. fault ≢ Fault.Write
         → Keeps (W.contents out.old) (W.contents out.new)) }
@@ -60,6 +62,7 @@ pub(crate) fn write_bill<'a, R: Threads + RandomSource + Sync, U: Uploads + Sync
         × AreRead (U.may_be uploads.now) 0 (U.number uploads.now) files
         × ShowsBill table.now files text well
         × Appends (W.contents out.old) (W.contents out.new) text) }
+    ensures output { IfErr result IsOfOutput }
     ensures status { IfErr result (λ fault. status_of fault ≡ 1) }
     ensures fault { IfErr result (λ fault. fault ≢ Fault.Write
         → Keeps (W.contents out.old) (W.contents out.new)) }

@@ -1,8 +1,13 @@
 //! Why the program gives up, with the line that says so and the status.
-ghost use Rattle.std.specs.Prelude.{◌≡◌, ◌≢◌, Some, if◌then◌else◌};
+ghost use Rattle.std.specs.Prelude.{◌≡◌, ◌≢◌, ℕ, List, Option, Some, if◌then◌else◌, map};
 ghost use Rattle.fare_service.specs.declared.faults.GatherFault.{GatherFault};
 ghost use Rattle.fare_program.specs.Fault.{IsLate, fault_text, gather_text, status_of};
-ghost use Rattle.sorted_bills.specs.Faults.{IsBeforeText};
+ghost use Rattle.fare_program.specs.Causes.{IsNameTold, IsRightFault, IsRightOfSorted};
+ghost use Rattle.fare_program.specs.Options.{Asked};
+ghost use Rattle.sorted_bills.specs.Faults.{IsBeforeText, IsBillFault};
+ghost use Rattle.program_manners.specs.Loads.{Loaded};
+ghost use Rattle.program_manners.specs.Refusals.{IsOneOf, TellsRefusal};
+ghost use Rattle.program_manners.specs.declared.loading.LoadFault.{LoadFault as ALoadFault};
 ghost use Rattle.program_manners.specs.Lines.{load_text, table_text};
 
 use crate::sorted_fault::{LateFault, UnopenedFile, UnsortedFile};
@@ -76,13 +81,19 @@ impl<'a> Fault<'a> {
     pub(crate) fn of_load(name: &'a str, fault: LoadFault) -> Fault<'a>
         ensures line { fault_text result ≡ load_text name.entry.now fault }
         ensures status { status_of result ≡ 1 }
+        ensures right { (asked : Asked) (under : List ℕ → Option (List ℕ))
+            (told after : Option (List Loaded)) (refused : Option (Option (List ℕ) × ALoadFault))
+            → IsNameTold asked name.entry.now → TellsRefusal refused name.entry.now fault
+            → IsRightFault asked under told after refused result }
     {
         Fault::File(FileFault { name, fault })
     }
 
     /// Why the sorted file of this name was not opened.
     pub(crate) fn of_unopened(name: &'a str, fault: Unopened) -> Fault<'a>
-        ensures { status_of result ≡ 1 }
+        ensures status { status_of result ≡ 1 }
+        ensures right { (names : List (List ℕ)) (known : List (Option (List ℕ)))
+            → IsOneOf name.entry.now names → IsRightOfSorted names known result }
     {
         Fault::Unopened(UnopenedFile { name, fault })
     }
@@ -91,6 +102,9 @@ impl<'a> Fault<'a> {
     pub(crate) fn of_bill(names: &[&'a str], fault: BillFault) -> Fault<'a>
         ensures status { status_of result ≡ 1 }
         ensures before { result ≢ Fault.Write → (IsLate result → ⊥) → IsBeforeText fault }
+        ensures right { (known : List (Option (List ℕ)))
+            → ((all : List (List ℕ)) → known ≡ map Some all → IsBillFault all fault)
+            → IsRightOfSorted (map (λ n. n.now) names.now) known result }
     {
         match fault {
             BillFault::File(refused) => match names.get(refused.index) {
@@ -163,8 +177,9 @@ impl From<NoMemory> for Fault<'_> {
 }
 
 impl From<TableFault> for Fault<'_> {
-    ghost from_gives = { λ refused fault.
-        (fault_text fault ≡ table_text refused) × (status_of fault ≡ 1) };
+    ghost use Rattle.fare_program.specs.declared.fault.Fault.TheVariants.{Table as ForTable};
+
+    ghost from_gives = { λ refused fault. fault ≡ ForTable refused };
 
     fn from(fault: TableFault) -> Self {
         Fault::Table(fault)

@@ -1,7 +1,8 @@
 //! The text that is asked for of files, which are posted as they are or settled.
-ghost use Rattle.std.specs.Prelude.{◌≡◌, ◌≢◌, ℕ, List, IfErr, IfOk, OnOk, map};
+ghost use Rattle.std.specs.Prelude.{◌≡◌, ◌≢◌, ℕ, List, IfErr, IfOk, OnOk, length, map};
 ghost use Rattle.std.specs.Io.KnownBytes.{Appends, Keeps};
 ghost use Rattle.fare_program.specs.Fault.{status_of};
+ghost use Rattle.fare_program.specs.inside.Causes.{IsOfOutput, IsRightOfUploads};
 ghost use Rattle.fare_program.specs.inside.Options.{asked_of};
 ghost use Rattle.fare_program.specs.Program.{ShowsAsked, ShowsOf, ShowsStatement, ShowsWith};
 
@@ -32,6 +33,7 @@ fn print_statement<'a, W: Write>(
 ) -> Result<(), Fault<'a>>
     ensures ok { OnOk result ((text : List ℕ) × ShowsStatement explain token outcome.now text
         × Appends (W.contents out.old) (W.contents out.new) text) }
+    ensures output { IfErr result IsOfOutput }
     ensures status { IfErr result (λ fault. status_of fault ≡ 1) }
     ensures fault { IfErr result (λ fault. fault ≢ Fault.Write
         → Keeps (W.contents out.old) (W.contents out.new)) }
@@ -56,6 +58,7 @@ fn print<'a, R: Threads + Sync, W: Write>(
 ) -> Result<(), Fault<'a>>
     ensures ok { OnOk result ((text : List ℕ) × ShowsWith explain token outcome.now.ends outcome.now text
         × Appends (W.contents out.old) (W.contents out.new) text) }
+    ensures output { IfErr result IsOfOutput }
     ensures status { IfErr result (λ fault. status_of fault ≡ 1) }
     ensures fault { IfErr result (λ fault. fault ≢ Fault.Write
         → Keeps (W.contents out.old) (W.contents out.new)) }
@@ -80,6 +83,7 @@ fn print_asked<'a, R: Threads + Sync, W: Write>(
     ensures ok { OnOk result ((text : List ℕ)
         × ShowsOf (asked_of options.now) token outcome.now.ends outcome.now text
         × Appends (W.contents out.old) (W.contents out.new) text) }
+    ensures output { IfErr result IsOfOutput }
     ensures status { IfErr result (λ fault. status_of fault ≡ 1) }
     ensures fault { IfErr result (λ fault. fault ≢ Fault.Write
         → Keeps (W.contents out.old) (W.contents out.new)) }
@@ -106,6 +110,8 @@ pub(crate) fn charge<'a, R: Threads + Wait + RandomSource + Sync, W: Write>(
     ensures ok { IfOk result (λ well. (text : List ℕ)
         × ShowsAsked (asked_of options.now) table (map (λ f. f.items) files.items) token text well
         × Appends (W.contents out.old) (W.contents out.new) text) }
+    ensures right { IfErr result (IsRightOfUploads (asked_of options.now).settle
+        (length files.items)) }
     ensures status { IfErr result (λ fault. status_of fault ≡ 1) }
     ensures fault { IfErr result (λ fault. fault ≢ Fault.Write
         → Keeps (W.contents out.old) (W.contents out.new)) }

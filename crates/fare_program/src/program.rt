@@ -4,11 +4,13 @@ ghost use Rattle.std.specs.Prelude.{List, Option, true, false, None, Some, IfErr
 ghost use Rattle.std.specs.Prelude.{is_some, map, option_map, string_bytes};
 ghost use Rattle.clap.specs.Words.{kind_of};
 ghost use Rattle.std.specs.Io.KnownBytes.{Appends, Keeps};
+ghost use Rattle.fare_program.specs.Causes.{IsNameTold, IsRightFault};
+ghost use Rattle.fare_program.specs.inside.Causes.{IsOfOutput};
 ghost use Rattle.fare_program.specs.Fault.{IsLate, charge_mistake_of, explain_mistake, fault_text};
 ghost use Rattle.fare_program.specs.Fault.{mistake, sorted_mistake, status_of, token_mistake};
 ghost use Rattle.fare_program.specs.Fault.{traced_mistake};
 ghost use Rattle.fare_program.specs.inside.Fault.{IsLoadLine, IsTableLine, IsWhyOf};
-ghost use Rattle.fare_program.specs.Options.{AsksForText, Parses, asked_by};
+ghost use Rattle.fare_program.specs.Options.{Asked, AsksForText, Parses, asked_by};
 ghost use Rattle.fare_program.specs.inside.Options.{asked_of};
 ghost use Rattle.fare_program.specs.Program.{Does, GaveUp, GaveUpOn, IsTokenIn, LoadsFiles};
 ghost use Rattle.fare_program.specs.Program.{DoesUntraced, LoadsTable, RunsTraced, names_to_load};
@@ -49,6 +51,9 @@ fn load_named<'a, S: Source>(source: &mut S, name: &'a str) -> Result<Vec<u8>, F
     ensures ok { IfOk result (λ bytes. TellsOne (S.loaded source.old) (S.loaded source.new)
         (Some name.entry.now) bytes.items) }
     ensures fault { IfErr result (λ fault. IsLoadLine name.entry.now (fault_text fault)) }
+    ensures right { IfErr result (λ fault. (asked : Asked) (under : List ℕ → Option (List ℕ))
+        (told after : Option (List Loaded)) → IsNameTold asked name.entry.now
+        → IsRightFault asked under told after (S.refused source.new) fault) }
     ensures status { IfErr result (λ fault. status_of fault ≡ 1) }
 {
     match source.load(name) {
@@ -62,6 +67,9 @@ fn load_input<'a, S: Source>(source: &mut S) -> Result<Vec<u8>, Fault<'a>>
     ensures ok { IfOk result (λ bytes. TellsOne (S.loaded source.old) (S.loaded source.new)
         None bytes.items) }
     ensures fault { IfErr result (λ fault. IsLoadLine (codes "standard input") (fault_text fault)) }
+    ensures right { IfErr result (λ fault. (asked : Asked) (under : List ℕ → Option (List ℕ))
+        (told after : Option (List Loaded)) → asked.files ≡ []
+        → IsRightFault asked under told after (S.refused source.new) fault) }
     ensures status { IfErr result (λ fault. status_of fault ≡ 1) }
 {
     match source.input() {
@@ -80,6 +88,10 @@ fn load_table<'a, S: Source>(
         (S.loaded source.old) (S.loaded source.new) table) }
     ensures fault { IfErr result (λ fault. MatchOption name.entry ⊥ (λ n.
         IsLoadLine n.now (fault_text fault) ⊎ IsTableLine (fault_text fault))) }
+    ensures right { IfErr result (λ fault. (asked : Asked) (under : List ℕ → Option (List ℕ))
+        → asked.table ≡ option_map (λ n. n.now) name.entry
+        → IsRightFault asked under (S.loaded source.old) (S.loaded source.new)
+        (S.refused source.new) fault) }
     ensures status { IfErr result (λ fault. status_of fault ≡ 1) }
 {
     let Some(name) = name else {
@@ -102,6 +114,9 @@ fn load_files<'a, R: Threads + Sync, D: Disk + Sync, S: Source>(
 ) -> Result<Vec<Vec<u8>>, Fault<'a>>
     ensures ok { IfOk result (λ files. LoadsFiles (names_to_load (map (λ n. n.now) names.now))
         (S.loaded source.old) (S.loaded source.new) (map (λ f. f.items) files.items)) }
+    ensures right { IfErr result (λ fault. (asked : Asked) (under : List ℕ → Option (List ℕ))
+        (told after : Option (List Loaded)) → asked.files ≡ map (λ n. n.now) names.now
+        → IsRightFault asked under told after (S.refused source.new) fault) }
     ensures status { IfErr result (λ fault. status_of fault ≡ 1) }
 {
     let mut files = Vec::new(alloc);
@@ -289,6 +304,7 @@ fn list<'a, W: Write>(
         × Appends (W.contents out.old) (W.contents out.new) text) }
     ensures fault { IfErr result (λ fault. fault ≢ Fault.Write
         → Keeps (W.contents out.old) (W.contents out.new)) }
+    ensures output { IfErr result IsOfOutput }
     ensures status { IfErr result (λ fault. status_of fault ≡ 1) }
 {
     let (text, clean) = listing_text(alloc, table.as_ref(), files)?;
@@ -316,6 +332,9 @@ fn work_by_table<'a, R: Threads + Wait + RandomSource + Sync, D: Disk + Sync, S:
         before (W.contents out.new) well) }
     ensures fault { IfErr result (λ fault. fault ≢ Fault.Write
         → Keeps (W.contents out.old) (W.contents out.new)) }
+    ensures right { IfErr result (λ fault. (told : Option (List Loaded))
+        → IsRightFault (asked_of options.now) (D.bytes_under disk.now) told
+        (S.loaded source.new) (S.refused source.new) fault) }
     ensures status { IfErr result (λ fault. status_of fault ≡ 1) }
 {
     let files = load_files(
@@ -350,6 +369,9 @@ fn work_traced<'a, R: Threads + Sync, D: Disk + Sync, S: Source, W: Write>(
         (S.loaded source.new) (W.contents out.old) (W.contents out.new) well) }
     ensures fault { IfErr result (λ fault. fault ≢ Fault.Write
         → Keeps (W.contents out.old) (W.contents out.new)) }
+    ensures right { IfErr result (λ fault. (asked_of options.now).traced ≡ true
+        → IsRightFault (asked_of options.now) (D.bytes_under disk.now) (S.loaded source.old)
+        (S.loaded source.new) (S.refused source.new) fault) }
     ensures status { IfErr result (λ fault. status_of fault ≡ 1) }
 {
     let Some(name) = options.table else {
@@ -387,6 +409,11 @@ fn work<'a, R: Threads + Wait + RandomSource + Sync, D: Disk + Sync, S: Source, 
     // A mistake in what is asked for is seen before all else, and then nothing was loaded. Another
     // fault has the other status.
     ensures why { IfErr result (IsWhyOf (asked_of options.now)) }
+
+    // A fault that is no such mistake is the right one.
+    ensures right_fault { IfErr result (λ fault. status_of fault ≡ 1
+        → IsRightFault (asked_of options.now) (D.bytes_under disk.now) (S.loaded source.old)
+        (S.loaded source.new) (S.refused source.new) fault) }
     ensures unloaded { IfErr result (λ fault. status_of fault ≡ 2
         → S.loaded source.new ≡ S.loaded source.old) }
 {
@@ -428,7 +455,7 @@ fn show<W: Write, E: Write>(error: &Error, out: &mut W, err: &mut Complaints<E>)
     ensures requested { result ≡ 2 → ¬ IsRequest (kind_of error.now) }
     ensures mistake { result ≡ 2 → Keeps (W.contents out.old) (W.contents out.new) }
     ensures quiet { result ≡ 0 → err.new ≡ err.old }
-    ensures fault { result ≡ 1 → (fault : Fault) × (status_of fault ≡ 1)
+    ensures fault { result ≡ 1 → (fault : Fault) × IsOfOutput fault × (status_of fault ≡ 1)
         × GaveUp fault (E.contents err.old.writer) (E.contents err.new.writer) err.new.failed
         (W.contents out.old) (W.contents out.new) }
     ensures status { result ≤ 2 }
@@ -490,14 +517,17 @@ pub fn main_over<
         ⊎ (is_some (mistake (asked_by (map string_bytes words.now))) ≡ true) }
 
     // With status 1 the whole text was written, and tells of an upload that is not well, and nothing
-    // was said on `err`; or a fault was told, and nothing was written but where a write failed, or
-    // where a sorted file was refused after all were checked.
+    // was said on `err`; or a fault was told, which is the right one, and nothing was written but
+    // where a write failed, or where a sorted file was refused after all were checked.
     ensures faults { result ≡ 1
         → (Parses (map string_bytes words.now)
         × Does (asked_by (map string_bytes words.now)) (D.bytes_under disk.now)
         (S.loaded source.old) (S.loaded source.new) (W.contents out.old) (W.contents out.new)
         false × (err.new ≡ err.old))
         ⊎ ((fault : Fault) × (status_of fault ≡ 1)
+        × (Parses (map string_bytes words.now)
+        → IsRightFault (asked_by (map string_bytes words.now)) (D.bytes_under disk.now)
+        (S.loaded source.old) (S.loaded source.new) (S.refused source.new) fault)
         × GaveUpOn (asked_by (map string_bytes words.now)) fault (E.contents err.old.writer)
         (E.contents err.new.writer) err.new.failed (W.contents out.old) (W.contents out.new)) }
 

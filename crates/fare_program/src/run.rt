@@ -69,6 +69,7 @@ pub(crate) fn post_live<'a, R: Threads + Wait + RandomSource + Sync>(
 ) -> Result<Outcome, Fault<'a>>
     ensures live { IfOk result (IsLiveRun table options.now.shards options.now.workers
         (map (λ f. f.items) files.items)) }
+    ensures fault { IfErr result (IsRunFailure (length files.items)) }
     ensures status { IfErr result (λ fault. status_of fault ≡ 1) }
 {
     let uploads = files.as_slice();

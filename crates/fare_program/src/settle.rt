@@ -2,6 +2,7 @@
 ghost use Rattle.std.specs.Prelude.{◌≡◌, ◌≢◌, ℕ, true, List, None, IfErr, IfOk};
 ghost use Rattle.std.specs.Io.KnownBytes.{Appends, Keeps};
 ghost use Rattle.fare_program.specs.Fault.{status_of};
+ghost use Rattle.fare_program.specs.inside.Causes.{IsOfOutput};
 ghost use Rattle.fare_program.specs.Options.{Asked};
 ghost use Rattle.fare_program.specs.Settling.{ShowsSettled};
 ghost use Rattle.fare_program.specs.inside.Options.{asked_of};
@@ -38,6 +39,7 @@ fn write_ledger<'a, R: Threads + Sync, U: Uploads + Sync, W: Write>(
         × ((asked : Asked) → asked.ledger ≡ true
         → ShowsSettled asked table.now files None text well)
         × Appends (W.contents out.old) (W.contents out.new) text) }
+    ensures output { IfErr result IsOfOutput }
     ensures status { IfErr result (λ fault. status_of fault ≡ 1) }
     ensures fault { IfErr result (λ fault. fault ≢ Fault.Write
         → Keeps (W.contents out.old) (W.contents out.new)) }
@@ -64,6 +66,7 @@ fn charge_all<'a, R: Threads + RandomSource + Sync, U: Uploads + Sync, W: Write>
         × AreRead (U.may_be uploads.now) 0 (U.number uploads.now) files
         × ShowsSettled (asked_of options.now) table.now files None text well
         × Appends (W.contents out.old) (W.contents out.new) text) }
+    ensures output { IfErr result IsOfOutput }
     ensures status { IfErr result (λ fault. status_of fault ≡ 1) }
     ensures fault { IfErr result (λ fault. fault ≢ Fault.Write
         → Keeps (W.contents out.old) (W.contents out.new)) }
@@ -88,6 +91,7 @@ pub(crate) fn charge_settled<'a, R: Threads + RandomSource + Sync, U: Uploads + 
         × AreRead (U.may_be uploads.now) 0 (U.number uploads.now) files
         × ShowsSettled (asked_of options.now) table.now files token text well
         × Appends (W.contents out.old) (W.contents out.new) text) }
+    ensures output { IfErr result IsOfOutput }
     ensures status { IfErr result (λ fault. status_of fault ≡ 1) }
     ensures fault { IfErr result (λ fault. fault ≢ Fault.Write
         → Keeps (W.contents out.old) (W.contents out.new)) }

@@ -9,6 +9,7 @@ ghost use Rattle.ledger_texts.specs.Explained.{IsExplainedOver};
 ghost use Rattle.settlement.specs.Posted.{posted, token_of_tap};
 ghost use Rattle.settlement.specs.Reading.{AreRead};
 ghost use Rattle.fare_program.specs.Fault.{status_of};
+ghost use Rattle.fare_program.specs.inside.Causes.{IsOfOutput};
 ghost use Rattle.fare_program.specs.Settling.{ShowsOver, ShowsSettled};
 ghost use Rattle.fare_program.specs.inside.Options.{asked_of};
 
@@ -41,6 +42,7 @@ fn write_statement<'a, W: Write>(
         → MatchBool explain (IsExplainedOver table.now history token text)
         (IsStatementOver table.now history token text))
         × Appends (W.contents out.old) (W.contents out.new) text) }
+    ensures output { IfErr result IsOfOutput }
     ensures status { IfErr result (λ fault. status_of fault ≡ 1) }
     ensures fault { IfErr result (λ fault. fault ≢ Fault.Write
         → Keeps (W.contents out.old) (W.contents out.new)) }
@@ -70,6 +72,7 @@ pub(crate) fn write_text<'a, W: Write>(
         → own token history ≡ posted table.now taps.now
         → ShowsOver (asked_of options.now) (Some token) table.now files history text)
         × Appends (W.contents out.old) (W.contents out.new) text) }
+    ensures output { IfErr result IsOfOutput }
     ensures status { IfErr result (λ fault. status_of fault ≡ 1) }
     ensures fault { IfErr result (λ fault. fault ≢ Fault.Write
         → Keeps (W.contents out.old) (W.contents out.new)) }
@@ -97,6 +100,7 @@ pub(crate) fn write_token<'a, R: Threads + Sync, U: Uploads + Sync, W: Write>(
         × AreRead (U.may_be uploads.now) 0 (U.number uploads.now) files
         × ShowsSettled (asked_of options.now) table.now files (Some token) text well
         × Appends (W.contents out.old) (W.contents out.new) text) }
+    ensures output { IfErr result IsOfOutput }
     ensures status { IfErr result (λ fault. status_of fault ≡ 1) }
     ensures fault { IfErr result (λ fault. fault ≢ Fault.Write
         → Keeps (W.contents out.old) (W.contents out.new)) }

@@ -1,8 +1,9 @@
 //! What is asked for of sorted files, which are read in pieces and merged.
-ghost use Rattle.std.specs.Prelude.{◌≡◌, ◌≢◌, ℕ, true, false, List, Some, None, IfErr, IfOk, OnOk};
+ghost use Rattle.std.specs.Prelude.{◌≡◌, ◌≢◌, ℕ, true, false, List, Option, Some, None, IfErr, IfOk, OnOk};
 ghost use Rattle.std.specs.Prelude.{◌++◌, ◌∷◌, [], is_some, map};
 ghost use Rattle.std.specs.Io.KnownBytes.{Keeps};
 ghost use Rattle.fare_table.specs.Fares.{Fares};
+ghost use Rattle.fare_program.specs.Causes.{IsRightOfSorted};
 ghost use Rattle.fare_program.specs.Fault.{IsLate, status_of};
 ghost use Rattle.fare_program.specs.inside.ChargedSorted.{IsChargedSorted};
 ghost use Rattle.fare_program.specs.inside.Options.{asked_of};
@@ -41,6 +42,8 @@ fn open_files<'a, D: Disk>(
 ) -> Result<Vec<D::File>, Fault<'a>>
     ensures opened { IfOk result (λ files. map D.File.bytes files.items
         ≡ map (D.bytes_under disk.now) (map (λ n. n.now) names.now)) }
+    ensures right { IfErr result (λ fault. (known : List (Option (List ℕ)))
+        → IsRightOfSorted (map (λ n. n.now) names.now) known fault) }
     ensures status { IfErr result (λ fault. status_of fault ≡ 1) }
 {
     let mut files = Vec::new(alloc);
@@ -65,6 +68,8 @@ fn write_report<'a, R: Threads + RandomSource + Sync, F: Placed + Sync, W: Write
     ensures ok { OnOk result ((asked_of options.now).ledger ≡ false
         → IsChargedSorted (asked_of options.now) (map F.bytes files.now) table.now None
         (W.contents out.old) (W.contents out.new)) }
+    ensures right { IfErr result (IsRightOfSorted (asked_of options.now).files
+        (map F.bytes files.now)) }
     ensures status { IfErr result (λ fault. status_of fault ≡ 1) }
     ensures fault { IfErr result (λ fault. fault ≢ Fault.Write → (IsLate fault → ⊥)
         → Keeps (W.contents out.old) (W.contents out.new)) }
@@ -91,6 +96,8 @@ fn write_ledger<'a, R: Threads + Sync, F: Placed + Sync, W: Write>(
     ensures ok { OnOk result ((asked_of options.now).ledger ≡ true
         → IsChargedSorted (asked_of options.now) (map F.bytes files.now) table.now None
         (W.contents out.old) (W.contents out.new)) }
+    ensures right { IfErr result (IsRightOfSorted (asked_of options.now).files
+        (map F.bytes files.now)) }
     ensures status { IfErr result (λ fault. status_of fault ≡ 1) }
     ensures fault { IfErr result (λ fault. fault ≢ Fault.Write → (IsLate fault → ⊥)
         → Keeps (W.contents out.old) (W.contents out.new)) }
@@ -116,6 +123,8 @@ fn write_token<'a, R: Threads + Sync, F: Placed + Sync, W: Write>(
 ) -> Result<(), Fault<'a>>
     ensures ok { OnOk result (IsChargedSorted (asked_of options.now) (map F.bytes files.now)
         table.now (Some token) (W.contents out.old) (W.contents out.new)) }
+    ensures right { IfErr result (IsRightOfSorted (asked_of options.now).files
+        (map F.bytes files.now)) }
     ensures status { IfErr result (λ fault. status_of fault ≡ 1) }
     ensures fault { IfErr result (λ fault. fault ≢ Fault.Write → (IsLate fault → ⊥)
         → Keeps (W.contents out.old) (W.contents out.new)) }
@@ -143,6 +152,8 @@ fn charge_all<'a, R: Threads + RandomSource + Sync, F: Placed + Sync, W: Write>(
 ) -> Result<(), Fault<'a>>
     ensures ok { OnOk result (IsChargedSorted (asked_of options.now) (map F.bytes files.now)
         table.now None (W.contents out.old) (W.contents out.new)) }
+    ensures right { IfErr result (IsRightOfSorted (asked_of options.now).files
+        (map F.bytes files.now)) }
     ensures status { IfErr result (λ fault. status_of fault ≡ 1) }
     ensures fault { IfErr result (λ fault. fault ≢ Fault.Write → (IsLate fault → ⊥)
         → Keeps (W.contents out.old) (W.contents out.new)) }
@@ -165,6 +176,8 @@ fn charge_sorted<'a, R: Threads + RandomSource + Sync, F: Placed + Sync, W: Writ
 ) -> Result<(), Fault<'a>>
     ensures ok { OnOk result (IsChargedSorted (asked_of options.now) (map F.bytes files.now)
         table.now token (W.contents out.old) (W.contents out.new)) }
+    ensures right { IfErr result (IsRightOfSorted (asked_of options.now).files
+        (map F.bytes files.now)) }
     ensures status { IfErr result (λ fault. status_of fault ≡ 1) }
     ensures fault { IfErr result (λ fault. fault ≢ Fault.Write → (IsLate fault → ⊥)
         → Keeps (W.contents out.old) (W.contents out.new)) }
@@ -192,6 +205,8 @@ pub(crate) fn work_sorted<'a, R: Threads + RandomSource + Sync, D: Disk, W: Writ
         → IsChargedSorted (asked_of options.now)
         (map (D.bytes_under disk.now) (asked_of options.now).files) fares token
         (W.contents out.old) (W.contents out.new))) }
+    ensures right { IfErr result (IsRightOfSorted (asked_of options.now).files
+        (map (D.bytes_under disk.now) (asked_of options.now).files)) }
     ensures status { IfErr result (λ fault. status_of fault ≡ 1) }
     ensures fault { IfErr result (λ fault. fault ≢ Fault.Write → (IsLate fault → ⊥)
         → Keeps (W.contents out.old) (W.contents out.new)) }

@@ -5,11 +5,16 @@ use program_manners::LoadFault;
 
 /// Where the program's bytes come from.
 pub trait Source {
-    ghost use Rattle.std.specs.Prelude.{◌≡◌, List, IfOk, Option, None, Some, false};
+    ghost use Rattle.std.specs.Prelude.{◌≡◌, ℕ, List, IfErr, IfOk, Option, None, Some, false};
     ghost use Rattle.program_manners.specs.Loads.{Loaded, TellsOne};
+    ghost use Rattle.program_manners.specs.Refusals.{Refuses};
+    ghost use Rattle.program_manners.specs.declared.loading.LoadFault.{LoadFault as AFault};
 
     // What was loaded so far, in order, by a source that keeps it.
     ghost loaded: { Self → Option (List Loaded) } = { λ _. None };
+
+    // The last load that it refused: the name, and why; of a source that keeps it.
+    ghost refused: { Self → Option (Option (List ℕ) × AFault) } = { λ _. None };
 
     /// Whether it keeps what it loaded. Files need not be loaded from a source that keeps nothing.
     fn keeps_loads(&self) -> bool
@@ -22,11 +27,14 @@ pub trait Source {
 
     /// All bytes of the file of this name. What a fault leaves loaded is not told.
     fn load(&mut self, name: &str) -> Result<Vec<u8>, LoadFault>
-        ensures { IfOk result (λ bytes.
-            TellsOne (loaded self.old) (loaded self.new) (Some name.now) bytes.items) };
+        ensures told { IfOk result (λ bytes.
+            TellsOne (loaded self.old) (loaded self.new) (Some name.now) bytes.items) }
+        ensures fault { IfErr result
+            (λ fault. Refuses (refused self.new) (Some name.now) fault) };
 
     /// All bytes of standard input. What a fault leaves loaded is not told.
     fn input(&mut self) -> Result<Vec<u8>, LoadFault>
-        ensures { IfOk result (λ bytes.
-            TellsOne (loaded self.old) (loaded self.new) None bytes.items) };
+        ensures told { IfOk result (λ bytes.
+            TellsOne (loaded self.old) (loaded self.new) None bytes.items) }
+        ensures fault { IfErr result (λ fault. Refuses (refused self.new) None fault) };
 }

@@ -5,13 +5,14 @@ ghost use Rattle.toml.specs.Data.{Members};
 ghost use Rattle.toml.specs.Parse.{parse_document};
 ghost use Rattle.fare_table.specs.Meaning.{Means};
 ghost use Rattle.fare_program.specs.Fault.{status_of};
+ghost use Rattle.fare_program.specs.inside.Causes.{IsOfOutput, IsRightOfText};
 ghost use Rattle.traced_ledgers.specs.Classes.{class_of_token};
 ghost use Rattle.traced_ledgers.specs.Ledgers.{IsTracedLedger};
 ghost use Rattle.traced_ledgers.specs.Names.{class_by};
 
 use crate::fault::Fault;
 use crate::output::flush;
-use fare_table::{FareTable, TableFault};
+use fare_table::FareTable;
 use std::alloc::Global;
 use std::io::Write;
 use traced_ledgers::{ClassFault, ClassNames, write_traced_ledger};
@@ -27,11 +28,11 @@ pub(crate) struct Riders {
 
 /// Why the names of classes were not read. The text was read as a fare table before.
 fn of_names<'a>(fault: ClassFault) -> Fault<'a>
-    ensures { status_of result ≡ 1 }
+    ensures status { status_of result ≡ 1 }
+    ensures right { (text : List ℕ) → IsRightOfText text result }
 {
     match fault {
-        ClassFault::Text => Fault::Table(TableFault::Text),
-        ClassFault::Name => Fault::ClassName,
+        ClassFault::Text | ClassFault::Name => Fault::ClassName,
         ClassFault::NoMemory => Fault::NoMemory,
     }
 }
@@ -42,6 +43,7 @@ pub(crate) fn riders_of<'a>(alloc: Global, text: &[u8]) -> Result<Riders, Fault<
     ensures names { IfOk result (λ riders. (tree : Members)
         × (parse_document text.now ≡ Some tree)
         × ((token : List ℕ) → class_of_token tree token ≡ Some (class_by riders.names token))) }
+    ensures right { IfErr result (IsRightOfText text.now) }
     ensures status { IfErr result (λ fault. status_of fault ≡ 1) }
 {
     let table = FareTable::read(alloc, text)?;
@@ -63,6 +65,7 @@ pub(crate) fn charge_traced<'a, W: Write>(
         text well × Appends (W.contents out.old) (W.contents out.new) text) }
     ensures fault { IfErr result (λ fault. fault ≢ Fault.Write
         → Keeps (W.contents out.old) (W.contents out.new)) }
+    ensures output { IfErr result IsOfOutput }
     ensures status { IfErr result (λ fault. status_of fault ≡ 1) }
 {
     let well = write_traced_ledger(alloc, &riders.table, &riders.names, files, out)?;

@@ -8,12 +8,14 @@ use Rattle.std.proofs.lemmas.List.{map-append}
 use Rattle.clap.specs.Words.{Text}
 use Rattle.tap_balance.specs.Balances.{AreGoodFields}
 use Rattle.tap_views.specs.declared.encoder.TapFields.{TapFields}
-use Rattle.omny_audit.specs.Fault.{IsOneOf, IsRightFault, NamesOneOf, is_unwritten, named_by}
+use Rattle.omny_audit.specs.Fault.{IsRightFault, NamesOneOf, is_unwritten, named_by}
 use Rattle.omny_audit.specs.Options.{AuditAsked, files_of}
 use Rattle.omny_audit.specs.declared.fault.Fault.{Fault}
 use Rattle.omny_audit.specs.declared.fault.Fault.TheVariants.{File, Ledger, Table, Write, Closed, NoMemory}
 use Rattle.omny_audit.specs.Program.{AreGoodFieldsOfAll, IsRightAuditFault, LoadsNamedFiles, compared}
-use Rattle.omny_audit.specs.Source.{OpensOne, Refuses, TellsRefusal}
+use Rattle.omny_audit.specs.Source.{OpensOne}
+use Rattle.program_manners.specs.Refusals.{IsOneOf, Refuses, TellsRefusal}
+use Rattle.program_manners.proofs.Refusals.{handed_on, is_one_at}
 use Rattle.omny_audit.specs.inside.Fault.{is_of_loading}
 use Rattle.omny_audit.specs.inside.Source.{IsAllOf}
 use Rattle.program_manners.specs.Loads.{Loaded, Tells, TellsOne}
@@ -70,13 +72,7 @@ compared_is (name ∷ names) good has is =
     let some : nat_eq (length (name ∷ names)) 0 ≡ false = not_zero (length names) in
     ap (λ (b : Bool). if b then Some good else None) (is ∙ ap not some)
 
--- a name at a place is one of the names
-pub is_one_at : (names : List (Bor Text)) (k : ℕ) (d : Bor Text) (name : Text) → k < length names → name ≡ (get_or names k d).now → IsOneOf name (map (λ n. n.now) names)
-is_one_at [] k d name within is = absurd (omega arith)
-is_one_at (n ∷ names) zero d name within is = inl is
-is_one_at (n ∷ names) (suc k) d name within is = inr (is_one_at names k d name (omega arith) is)
-
--- so is that of a fault
+-- a fault that names one at a place names one of the names
 pub names_at : (names : List (Bor Text)) (k : ℕ) (d : Bor Text) (fault : Fault) → k < length names
     → IfSome (named_by fault) (λ told. told ≡ (get_or names k d).now) → NamesOneOf (map (λ n. n.now) names) fault
 names_at names k d fault within is = weaker (named_by fault) is
@@ -119,11 +115,6 @@ at_ledger asked fault is = weaker (named_by fault) is
 pub names_none : (names : List Text) (fault : Fault) → named_by fault ≡ None → NamesOneOf names fault
 names_none names fault none = rw none tt
 
--- a fault that is handed on
-pub handed_on : {A : Type 0} (r : Result A Fault) (fault : Fault) (P : Fault → Type 0) → IsErrAnd r (λ e. e ≡ fault) → P fault → IfErr r P
-handed_on (Ok x) fault P same is = tt
-handed_on (Err e) fault P same is = subst P (sym same) is
-
 -- the same names, lent twice
 pub loads_same : (names same : List (Bor Text)) (told told' : Option (List Loaded)) (files : List (List ℕ)) → names ≡ same
     → LoadsNamedFiles (map (λ n. n.now) names) told told' files → LoadsNamedFiles (map (λ n. n.now) same) told told' files
@@ -158,20 +149,10 @@ written_first asked told told' refused fault out out' written right = record {
     apart : false ≡ true → ⊥
     apart same = cc
 
--- what the source tells of a load that it refused
-pub refusal_told : (refused : Option (Option (List ℕ) × LoadFault)) (name : Option (List ℕ)) (fault : LoadFault) → Refuses refused name fault
-    → TellsRefusal refused (unwrap_or name (codes "standard input")) fault
-refusal_told None name fault is = tt
-refusal_told (Some one) name fault is = (ap (λ (n : Option (List ℕ)). unwrap_or n (codes "standard input")) is.0, is.1)
-
 -- a name that is lent, or what stands for it
 pub lent_name : (name : Option (Bor Text)) (usual : Bor Text) → (unwrap_or name usual).now ≡ unwrap_or (option_map (λ n. n.now) name) usual.now
 lent_name None usual = refl
 lent_name (Some n) usual = refl
-
--- an error is one
-pub one_error : {A : Type 0} (r : Result A TableFault) (fault other : TableFault) → r ≡ Err fault → IsErrOf r other → fault ≡ other
-one_error r fault other same is = cc
 
 -- what is left behind where a write failed
 pub unwritten_on : {A : Type 0} (r : Result A Fault) (P : Type 0) → P → IfErr r (λ fault. is_unwritten fault ≡ true → P)

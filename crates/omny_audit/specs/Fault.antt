@@ -1,13 +1,10 @@
 -- The fault lines, without their line feeds. Each has the status 1.
-use Rattle.std.specs.Prelude.{◌≡◌, ◌≢◌, ◌⊎◌, ℕ, List, [], ◌∷◌, Bool, true, false, codes, Err, IsUtf8}
+use Rattle.std.specs.Prelude.{ℕ, List, Bool, true, false, codes}
 use Rattle.std.specs.Prelude.{Option, None, Some, IfSome}
-use Rattle.fare_table.specs.TableMeaning.{meaning_in}
-use Rattle.fare_table.specs.declared.fault.TableFault.{TableFault}
-use Rattle.fare_table.specs.declared.fault.TableFault.TheVariants.{NoMemory as NoRoom, Text as NoText}
 use Rattle.program_manners.specs.Lines.{load_text, table_text}
-use Rattle.program_manners.specs.Loads.{Loaded, TellsOne}
+use Rattle.program_manners.specs.Loads.{Loaded}
 use Rattle.program_manners.specs.declared.loading.LoadFault.{LoadFault}
-use Rattle.omny_audit.specs.Source.{TellsRefusal}
+use Rattle.program_manners.specs.Refusals.{IsOneOf, RefusesTable, TellsRefusal}
 use Rattle.omny_audit.specs.declared.fault.Fault.{Fault}
 use Rattle.omny_audit.specs.declared.fault.Fault.TheVariants.{File, Ledger, Table}
 use Rattle.omny_audit.specs.declared.fault.Fault.TheVariants.{Write, Closed, NoMemory}
@@ -37,27 +34,9 @@ abbrev pub named_by : Fault → Option (List ℕ)
 named_by (File file) = Some file.name.now
 named_by _ = None
 
--- the name is one of these
-abbrev pub IsOneOf : List ℕ → List (List ℕ) → Type 0
-IsOneOf name [] = ⊥
-IsOneOf name (other ∷ names) = (name ≡ other) ⊎ IsOneOf name names
-
 -- the fault is about no other file than one of these names
 abbrev pub NamesOneOf : List (List ℕ) → Fault → Type 0
 NamesOneOf names fault = IfSome (named_by fault) (λ name. IsOneOf name names)
-
--- The fault is the first one of a table's text: the meaning of the text tells it, or the text is not
--- UTF-8. Want of memory may come before.
-pub record IsFirstTableFault (text : List ℕ) (fault : TableFault) : Type 0 where
-  pub of_text : fault ≢ NoRoom → IsUtf8 text → meaning_in text ≡ Err fault
-  pub no_text : fault ≢ NoRoom → ¬ (IsUtf8 text) → fault ≡ NoText
-
--- The file of this name was loaded, and its text is refused by this fault.
-pub record RefusesTable (name : List ℕ) (told told' : Option (List Loaded)) (fault : TableFault)
-    : Type 0 where
-  pub bytes : List ℕ
-  pub told_is : TellsOne told told' (Some name) bytes
-  pub first : IsFirstTableFault bytes fault
 
 -- The fault is the right one: a file that is named is one that the source refused so, and a table
 -- fault is the first one of the text that was loaded under the table's name.

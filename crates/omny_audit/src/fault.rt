@@ -2,7 +2,7 @@
 ghost use Rattle.std.specs.Prelude.{◌≡◌, ℕ, IfSome, List, Option, Some, false};
 ghost use Rattle.omny_audit.specs.Fault.{IsRightFault, audit_fault_text, is_quiet, is_unwritten};
 ghost use Rattle.omny_audit.specs.Fault.{named_by};
-ghost use Rattle.omny_audit.specs.Source.{TellsRefusal};
+ghost use Rattle.program_manners.specs.Refusals.{TellsRefusal};
 ghost use Rattle.program_manners.specs.Loads.{Loaded};
 ghost use Rattle.program_manners.specs.declared.loading.LoadFault.{LoadFault as ALoadFault};
 ghost use Rattle.program_manners.specs.Lines.{load_text};

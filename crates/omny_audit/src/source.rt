@@ -7,7 +7,8 @@ use std::io::Read;
 pub trait Source {
     ghost use Rattle.std.specs.Prelude.{◌≡◌, IfOk, List, Option, None, Some, option_map};
     ghost use Rattle.std.specs.Prelude.{IfErr, ℕ};
-    ghost use Rattle.omny_audit.specs.Source.{OpensOne, Refuses};
+    ghost use Rattle.omny_audit.specs.Source.{OpensOne};
+    ghost use Rattle.program_manners.specs.Refusals.{Refuses};
     ghost use Rattle.program_manners.specs.declared.loading.LoadFault.{LoadFault as AFault};
     ghost use Rattle.program_manners.specs.Loads.{Loaded, TellsOne};
 

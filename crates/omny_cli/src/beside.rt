@@ -29,7 +29,7 @@ fn run<
     err: &mut Complaints<E>,
 ) -> u8
     ensures { IsRun (map string_bytes words.now) (D.bytes_under disk.now) (S.loaded source.old)
-        (S.loaded source.new) (W.contents out.old) (W.contents out.new)
+        (S.loaded source.new) (S.refused source.new) (W.contents out.old) (W.contents out.new)
         (E.contents err.old.writer) (E.contents err.new.writer) err.new.failed
         (err.new ≡ err.old) result }
 {
@@ -57,7 +57,7 @@ pub fn run_beside_line<
     err: &mut Complaints<E>,
 ) -> u8
     ensures { IsRun (map string_bytes words.now) (D.bytes_under disk.now) (S.loaded source.old)
-        (S.loaded source.new) (W.contents out.old) (W.contents out.new)
+        (S.loaded source.new) (S.refused source.new) (W.contents out.old) (W.contents out.new)
         (E.contents err.old.writer) (E.contents err.new.writer) err.new.failed
         (err.new ≡ err.old) result }
 {

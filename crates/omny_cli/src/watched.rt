@@ -84,6 +84,8 @@ impl<R: Disk + Wait> Disk for WatchedDisk<'_, R> {
 impl<R: Wait, S: Source + Drop> Source for Watched<'_, R, S> {
     ghost loaded = { λ w. S.loaded w.from };
 
+    ghost refused = { λ w. S.refused w.from };
+
     fn keeps_loads(&self) -> bool {
         self.from.keeps_loads()
     }

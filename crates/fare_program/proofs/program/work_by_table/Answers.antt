@@ -3,6 +3,10 @@ use Rattle.std.proofs.lemmas.Result.{IfOk-weaker}
 use Rattle.fare_program.specs.Program.{LoadsFiles, LoadsTable, names_to_load}
 use Rattle.fare_program.specs.inside.Options.{asked_of}
 use Rattle.fare_program.proofs.Works.{does_charge, does_list}
+use Rattle.std.proofs.Common.{Option}
+use Rattle.program_manners.specs.Loads.{Loaded}
+use Rattle.program_manners.proofs.Refusals.{handed_on}
+use Rattle.fare_program.specs.Causes.{IsRightFault}
 use Rattle.fare_program.proofs.program.work_by_table.Goals as goal
 
 abbrev bytes_in : Vec ℕ Global → List ℕ
@@ -50,3 +54,11 @@ returns-clause-ok g c =
     (ap (map bytes_in) (sym c.deref-in-None.ensures.value)) loaded)
     (inr refl) done)
     c.list-in-None.ensures.ok
+
+pub returns-in_err-files-clause-right : goal.returns-in_err-files-clause-right
+returns-in_err-files-clause-right g c =
+    let asked = asked_of c.args.options.now in
+    handed_on c.from_residual.result c.in_err-files.field-0.0
+    (λ f. (told : Option (List Loaded)) → IsRightFault asked (g.D.Disk.bytes_under c.args.disk.now) told _ _ f)
+    c.from_residual.ensures.1
+    (λ told. c.in_err-files.ensures.right asked (g.D.Disk.bytes_under c.args.disk.now) told _ (ap (map name_in) (sym c.deref.ensures.value)))

@@ -7,6 +7,9 @@ use Rattle.fare_program.specs.Program.{LoadsFiles, names_to_load}
 use Rattle.fare_program.specs.inside.Options.{asked_of}
 use Rattle.traced_ledgers.specs.Ledgers.{IsTracedLedger}
 use Rattle.traced_ledgers.specs.Names.{class_by}
+use Rattle.std.proofs.Common.{◌≡◌, inl, true}
+use Rattle.program_manners.proofs.Refusals.{handed_on}
+use Rattle.fare_program.specs.Causes.{IsRightFault}
 use Rattle.fare_program.proofs.program.work_traced.Goals as goal
 
 abbrev bytes_in : Vec ℕ Global → List ℕ
@@ -44,3 +47,19 @@ returns-clause-ok g c =
       written = done.2;
     })
     c.charge_traced.ensures.ok
+
+pub returns-in_err-text-clause-right : goal.returns-in_err-text-clause-right
+returns-in_err-text-clause-right g c =
+    let asked = asked_of c.args.options.now in
+    handed_on c.from_residual.result c.in_err-text.field-0.0
+    (λ f. asked.traced ≡ true → IsRightFault asked (g.D.Disk.bytes_under c.args.disk.now) _ _ _ f)
+    c.from_residual.ensures.1
+    (λ traced. c.in_err-text.ensures.right asked (g.D.Disk.bytes_under c.args.disk.now) _ _ (inl (ap (option_map name_in) c.in-Some.is)))
+
+pub returns-in_err-files-clause-right : goal.returns-in_err-files-clause-right
+returns-in_err-files-clause-right g c =
+    let asked = asked_of c.args.options.now in
+    handed_on c.from_residual-in_err-files.result c.in_err-files.field-0.0
+    (λ f. asked.traced ≡ true → IsRightFault asked (g.D.Disk.bytes_under c.args.disk.now) _ _ _ f)
+    c.from_residual-in_err-files.ensures.1
+    (λ traced. c.in_err-files.ensures.right asked (g.D.Disk.bytes_under c.args.disk.now) _ _ (ap (map name_in) (sym c.deref-2.ensures.value)))

@@ -1,5 +1,7 @@
 use Rattle.std.proofs.Common.{◌≡◌, ◌<◌, ◌++◌, ◌∷◌, [], ◌∙◌, List, ℕ, length, map, take, ap, ap₂, get_or, Bor, ◌+◌}
 use Rattle.std.proofs.lemmas.List.{map-append, take_all, take_more}
+use Rattle.std.proofs.Common.{refl}
+use Rattle.program_manners.proofs.Refusals.{is_one_at}
 use Rattle.fare_program.proofs.sorted.open_files.Goals as goal
 
 abbrev name_in : Bor (List ℕ) → List ℕ
@@ -28,3 +30,9 @@ returns-clause-opened g c =
     let under = g.D.Disk.bytes_under c.args.disk.now in
     c.loop-name.invariant
     ∙ ap (λ ns. map under (map name_in ns)) (take_all _ c.args.names.now c.loop-name-test.false)
+
+pub returns-in-Err-clause-right : goal.returns-in-Err-clause-right
+returns-in-Err-clause-right g c = λ known.
+    let no_name : Bor (List ℕ) = record { ref_ptr = (0, 0); now = [] } in
+    c.of_unopened.ensures.right (map name_in c.args.names.now) known
+    (is_one_at c.args.names.now c.loop-name.name-index no_name _ c.loop-name-test.true refl)

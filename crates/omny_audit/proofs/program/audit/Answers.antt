@@ -6,7 +6,8 @@ use Rattle.omny_audit.specs.Fault.{NamesOneOf}
 use Rattle.omny_audit.specs.Options.{files_of}
 use Rattle.omny_audit.specs.inside.Options.{audit_asked_of}
 use Rattle.omny_audit.specs.Program.{IsRightAuditFault, compared}
-use Rattle.omny_audit.proofs.ProgramLemmas.{at_ledger, at_uploads, both_err, compared_is, handed_on, loads_same, names_same, opened, right_later, written_first}
+use Rattle.omny_audit.proofs.ProgramLemmas.{at_ledger, at_uploads, both_err, compared_is, loads_same, names_same, opened, right_later, written_first}
+use Rattle.program_manners.proofs.Refusals.{handed_on}
 use Rattle.omny_audit.proofs.program.audit.Goals as goal
 
 -- the table and the uploads were loaded, and the ledger was read, which the answer is on

@@ -1,5 +1,5 @@
 use Rattle.std.proofs.Common.{Some}
-use Rattle.omny_audit.proofs.ProgramLemmas.{refusal_told}
+use Rattle.program_manners.proofs.Refusals.{refusal_told}
 use Rattle.omny_audit.proofs.program.load_named.Goals as goal
 
 pub returns-in-Err-clause-right : goal.returns-in-Err-clause-right

@@ -1,8 +1,8 @@
-use Rattle.std.proofs.Common.{ℕ, List, refl, subst, ⊎_elim}
-use Rattle.fare_table.specs.declared.fault.TableFault.TheVariants.{NoMemory as NoRoom, Text as NoText}
-use Rattle.omny_audit.specs.Fault.{IsFirstTableFault, IsRightFault}
+use Rattle.std.proofs.Common.{ℕ, List, refl, subst}
+use Rattle.omny_audit.specs.Fault.{IsRightFault}
+use Rattle.program_manners.specs.Refusals.{IsFirstTableFault}
 use Rattle.omny_audit.specs.declared.fault.Fault.TheVariants.{Table}
-use Rattle.omny_audit.proofs.ProgramLemmas.{handed_on, one_error}
+use Rattle.program_manners.proofs.Refusals.{first_table_fault, handed_on}
 use Rattle.omny_audit.proofs.program.load_table.Goals as goal
 
 pub returns-in_err-text-clause-right : goal.returns-in_err-text-clause-right
@@ -19,8 +19,5 @@ returns-in_err-table-clause-right g c =
       bytes = c.in_ok-text.text.items;
       told_is = c.in_ok-text.ensures.ok;
       first = subst (λ (t : List ℕ). IsFirstTableFault t fault) c.deref.ensures.value
-          (record {
-            of_text = c.in_err-table.ensures.fault;
-            no_text = λ room none. ⊎_elim (one_error _ fault NoText refl) (λ is. absurd (room (one_error _ fault NoRoom refl is))) (c.in_err-table.ensures.not_text none);
-          });
+          (first_table_fault _ _ fault refl c.in_err-table.ensures.fault c.in_err-table.ensures.not_text);
     })

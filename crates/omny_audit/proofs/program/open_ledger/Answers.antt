@@ -1,7 +1,8 @@
 use Rattle.std.proofs.Common.{◌≡◌, ◌∙◌, ℕ, Bor, List, ap, codes, option_map, subst, sym}
 use Rattle.std.specs.Prelude.{unwrap_or}
-use Rattle.omny_audit.specs.Source.{TellsRefusal}
-use Rattle.omny_audit.proofs.ProgramLemmas.{lent_name, refusal_told}
+use Rattle.program_manners.specs.Refusals.{TellsRefusal}
+use Rattle.program_manners.proofs.Refusals.{refusal_told}
+use Rattle.omny_audit.proofs.ProgramLemmas.{lent_name}
 use Rattle.omny_audit.proofs.program.open_ledger.Goals as goal
 
 pub returns-in-Err-clause-right : goal.returns-in-Err-clause-right
