@@ -8,8 +8,8 @@ use Rattle.clap.specs.Words.{App, IsAmong, Row, Rule, Text, all_of, fault_of, fi
 use Rattle.clap.specs.Words.{one_of, with_rule}
 use Rattle.clap.specs.declared.builder.action.ArgAction.TheVariants.{Append}
 use Rattle.clap.specs.declared.error.kind.ErrorKind.TheVariants.{DisplayHelp, DisplayVersion}
-use Rattle.program_manners.specs.Words.{flag_rule, named_app, number_rule, option_rule}
-use Rattle.program_manners.specs.Words.{positional_rule}
+use Rattle.program_manners.specs.Words.{flag_rule, list_option, named_app, null_flag, number_rule}
+use Rattle.program_manners.specs.Words.{option_rule, positional_rule}
 
 -- `--table F`
 abbrev pub table_option : Rule
@@ -58,10 +58,10 @@ file_argument = positional_rule (codes "FILE") Append
 -- the program's options, without its files
 abbrev pub app_of_options : App
 app_of_options =
-    with_rule (with_rule (with_rule (with_rule (with_rule (with_rule
+    with_rule (with_rule (with_rule (with_rule (with_rule (with_rule (with_rule (with_rule
     (with_rule (with_rule (with_rule (with_rule (named_app (codes "omny_cli"))
     table_option) list_flag) workers_option) shards_option) token_option) settle_flag) sorted_flag)
-    ledger_flag) explain_flag) traced_flag
+    ledger_flag) explain_flag) traced_flag) list_option) null_flag
 
 -- all words that the program takes
 unfoldable pub program : App

@@ -5,6 +5,7 @@
 //! | module | what it does |
 //! |---|---|
 //! | `command_line`, `options` | what a command line asks for; its words, as `clap` reads them |
+//! | `list_words` | the list of files that the words name |
 //! | `source`, `files_ahead` | whole files from a source; those that are read before their turns |
 //! | `host`, `sampling` | the system's files and standard input as a source; a sample of a file's tokens |
 //! | `named_files` | files that are read while their taps are settled |
@@ -28,6 +29,7 @@ mod fault;
 mod files_ahead;
 mod host;
 mod lines;
+mod list_words;
 mod listing;
 mod named_files;
 mod note;
@@ -47,9 +49,10 @@ mod uploads;
 
 pub use files_ahead::{Disk, FileAhead, read_ahead};
 pub use host::Host;
+pub use list_words::list_words;
 pub use note::Note;
 pub use program::main_over;
 pub use program_manners::{
-    Complaints, LOAD_LIMIT_BYTES, LoadFault, load_from, unread_words, words_of,
+    Complaints, LOAD_LIMIT_BYTES, LoadFault, WordsFault, load_from, unread_words, words_of,
 };
 pub use source::Source;
