@@ -5,7 +5,7 @@ use Rattle.clap.specs.Words.{HasKind, Kinds, Row, kind_of}
 use Rattle.clap.specs.declared.error.Error.{Error}
 use Rattle.clap.specs.declared.error.kind.ErrorKind.TheVariants.{OutOfMemory}
 use Rattle.program_manners.specs.ListWords.{lacks_list, list_asked, view_of}
-use Rattle.fare_program.proofs.list_words.list_words.Goals as goal
+use Rattle.fare_program.proofs.named_list.list_words.Goals as goal
 
 -- an error where no kind may come is want of memory
 only_memory : (kinds : Kinds) (e : Error) → kinds ≡ [] → HasKind kinds e → kind_of e ≡ OutOfMemory
