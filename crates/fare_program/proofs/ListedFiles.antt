@@ -220,33 +220,36 @@ itself a = (bytes_eq-Decides a a).1 refl
 others_kept : (id : Text) (how : Reading) (source : ValueSource) (values : List Text) (other : Text) → bytes_eq id other ≡ false
     → (rows : List Row) → row_at other (with_values id how source values rows) ≡ row_at other rows
 others_kept id how source values other apart [] = ap (λ (b : Bool). cond b (Some _) None) apart
-others_kept id how source values other apart (r ∷ rows) = at_first (bytes_eq r.id id) refl
+others_kept id how source values other apart (r ∷ rows) =
+    at_first (bytes_eq r.id id) refl (others_kept id how source values other apart rows)
   where
-    at_first : (b : Bool) → bytes_eq r.id id ≡ b → row_at other (with_values id how source values (r ∷ rows)) ≡ row_at other (r ∷ rows)
-    at_first true is =
+    at_first : (b : Bool) → bytes_eq r.id id ≡ b → row_at other (with_values id how source values rows) ≡ row_at other rows
+        → row_at other (with_values id how source values (r ∷ rows)) ≡ row_at other (r ∷ rows)
+    at_first true is behind =
         let away : bytes_eq r.id other ≡ false = ap (λ (t : Text). bytes_eq t other) (same_id r.id id is) ∙ apart in
         ap (λ (b : Bool). row_at other (cond b (more_values source values r ++ rows) (r ∷ with_values id how source values rows))) is
         ∙ ap (λ (b : Bool). cond b (Some _) (row_at other rows)) away
         ∙ sym (ap (λ (b : Bool). cond b (Some r) (row_at other rows)) away)
-    at_first false is =
+    at_first false is behind =
         ap (λ (b : Bool). row_at other (cond b (more_values source values r ++ rows) (r ∷ with_values id how source values rows))) is
-        ∙ ap (λ (o : Option Row). cond (bytes_eq r.id other) (Some r) o) (others_kept id how source values other apart rows)
+        ∙ ap (λ (o : Option Row). cond (bytes_eq r.id other) (Some r) o) behind
 
 row_merged : (id : Text) (how : Reading) (source : ValueSource) (values : List Text) (rows : List Row)
     → row_at id (with_values id how source values rows) ≡ Some (merged id how source values (row_at id rows))
 row_merged id how source values [] = ap (λ (b : Bool). cond b (Some (merged id how source values None)) None) (itself id)
-row_merged id how source values (r ∷ rows) = at_first (bytes_eq r.id id) refl
+row_merged id how source values (r ∷ rows) = at_first (bytes_eq r.id id) refl (row_merged id how source values rows)
   where
     at_first : (b : Bool) → bytes_eq r.id id ≡ b
+        → row_at id (with_values id how source values rows) ≡ Some (merged id how source values (row_at id rows))
         → row_at id (with_values id how source values (r ∷ rows)) ≡ Some (merged id how source values (row_at id (r ∷ rows)))
-    at_first true is =
+    at_first true is behind =
         ap (λ (b : Bool). row_at id (cond b (more_values source values r ++ rows) (r ∷ with_values id how source values rows))) is
         ∙ ap (λ (b : Bool). cond b (Some (merged id how source values (Some r))) (row_at id rows)) is
         ∙ sym (ap (λ (b : Bool). Some (merged id how source values (cond b (Some r) (row_at id rows)))) is)
-    at_first false is =
+    at_first false is behind =
         ap (λ (b : Bool). row_at id (cond b (more_values source values r ++ rows) (r ∷ with_values id how source values rows))) is
         ∙ ap (λ (b : Bool). cond b (Some r) (row_at id (with_values id how source values rows))) is
-        ∙ row_merged id how source values rows
+        ∙ behind
         ∙ sym (ap (λ (b : Bool). Some (merged id how source values (cond b (Some r) (row_at id rows)))) is)
 
 values_merged : (id : Text) (how : Reading) (source : ValueSource) (values : List Text) (o : Option Row)

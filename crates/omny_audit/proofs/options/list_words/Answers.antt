@@ -31,12 +31,12 @@ returns-in-Ok-clause-unread c = λ not_read. absurd (not_read c.in-Ok.ensures.ki
 
 pub returns-in-Err-clause-list : goal.returns-in-Err-clause-list
 returns-in-Err-clause-list c = λ parses.
-    let failed = c.unread.ensures.memory (only_memory _ _ parses c.in-Err.ensures.kinds) in
+    let failed = c.unread.ensures.memory (only_memory _ c.in-Err.error parses c.in-Err.ensures.kinds) in
     rw failed tt
 
 pub returns-in-Err-clause-right : goal.returns-in-Err-clause-right
 returns-in-Err-clause-right c = λ parses.
-    let failed = c.unread.ensures.memory (only_memory _ _ parses c.in-Err.ensures.kinds) in
+    let failed = c.unread.ensures.memory (only_memory _ c.in-Err.error parses c.in-Err.ensures.kinds) in
     rw failed tt
 
 pub returns-in-Err-clause-wrong : goal.returns-in-Err-clause-wrong
