@@ -1,12 +1,12 @@
 -- What the words with the names of a list ask for: what they asked for without, and these files.
-use Rattle.std.proofs.Common.{◌≡◌, ◌∙◌, ◌+◌, ◌++◌, ◌∷◌, ℕ, Bool, true, false, true≢false, List, [], Option, None, Some, append-nil, append_assoc, ap, cond, refl, subst, sym, codes, length, eqb-true, arith}
+use Rattle.std.proofs.Common.{◌≡◌, ◌∙◌, ◌+◌, ◌++◌, ◌∷◌, Bool, true, false, true≢false, List, [], Option, None, Some, append-nil, append_assoc, ap, cond, refl, subst, sym, codes, length, eqb-true, arith}
 use Rattle.std.specs.Prelude.{◌&&◌, ◌||◌, find, fold, is_some, min, not, option_map, unwrap_or}
 use Rattle.std.specs.List.{list_all}
 use Rattle.std.specs.Str.{bytes_eq}
 use Rattle.std.proofs.lemmas.List.Sums.{fold-append}
 use Rattle.std.proofs.lemmas.Slice.Eq.{bytes_eq-Decides}
 use Rattle.clap.specs.Lexer.{long_of, short_of, usize_max}
-use Rattle.clap.specs.Walk.{Held, Outcome, Step, Waiting, Walk, action_of, after_flag, after_step, arg_by_id, arg_by_index, default_rows, done, has_row, idle, is_empty, is_multiple, is_pending, long_or_other, more_values, next, nothing_held, option, plain, plain_word, positional, positional_held, pushed, reading_by, refused, rows_after, settled, short_or_plain, stronger, subcommand, subcommand_met, subcommand_or_other, takes_several, to_positional, trailing, used, used_as, used_by_id, value, waits, walk_from, walked, walked_from, with_default, with_values, word_met}
+use Rattle.clap.specs.Walk.{Held, Outcome, Step, Waiting, Walk, action_of, after_flag, after_step, arg_by_id, arg_by_index, default_rows, done, has_row, idle, is_empty, is_multiple, is_pending, long_or_other, more_values, next, nothing_held, option, plain, plain_word, positional, pushed, reading_by, refused, rows_after, settled, short_or_plain, stronger, subcommand, subcommand_met, subcommand_or_other, takes_several, to_positional, trailing, used, used_as, used_by_id, value, waits, walk_from, walked, walked_from, with_default, with_values, word_met}
 use Rattle.clap.proofs.WalkLemmas.{both}
 use Rattle.clap.specs.Words.{Row, Rule, Text, all_of}
 use Rattle.clap.specs.declared.builder.action.ArgAction.{ArgAction}
@@ -154,14 +154,14 @@ module _ (c : List Rule) (p : Rule) (takes : TakesFiles c p) where
       → (IsAtFiles (walked c [] w word) false → IsEnded (walked c [] w word) words) → IsEnded w (word ∷ words)
   ends_next w word words true is at rest =
       let same : ended (word ∷ words) ≡ word ∷ words =
-          ap (λ (t : Bool). (word ∷ words) ++ missing_dashes (cond t (word ∷ words) (from_dashes words))) is ∙ append-nil (word ∷ words) in
+      ap (λ (t : Bool). (word ∷ words) ++ missing_dashes (cond t (word ∷ words) (from_dashes words))) is ∙ append-nil (word ∷ words) in
       record {
         at = subst (λ (ws : List Text). IsAtFiles (fold (walked c []) w ws) true) (sym same) (all_behind words (walked c [] w word) (open_at w word true is at));
         held = ap (λ (ws : List Text). (fold (walked c []) w ws).held) same;
       }
   ends_next w word words false is at rest =
       let same : ended (word ∷ words) ≡ word ∷ ended words =
-          ap (λ (t : Bool). (word ∷ words) ++ missing_dashes (cond t (word ∷ words) (from_dashes words))) is in
+      ap (λ (t : Bool). (word ∷ words) ++ missing_dashes (cond t (word ∷ words) (from_dashes words))) is in
       let more = rest (open_at w word false is at) in
       record {
         at = subst (λ (ws : List Text). IsAtFiles (fold (walked c []) w ws) true) (sym same) more.at;
@@ -304,6 +304,7 @@ defaults_more id values rows rows' name how more apart (v ∷ vs) = record {
   where
     kept : (rs : List Row) → row_at id (with_values name how DefaultValue (v ∷ vs) rs) ≡ row_at id rs
     kept rs = others_kept name how DefaultValue (v ∷ vs) id (apart_both id name apart (bytes_eq name id) refl) rs
+
     at_other : (other : Text) → bytes_eq id other ≡ false → (b : Bool) → bytes_eq name other ≡ b
         → row_at other (with_values name how DefaultValue (v ∷ vs) rows') ≡ row_at other (with_values name how DefaultValue (v ∷ vs) rows)
     at_other other away false is =

@@ -5,5 +5,4 @@ ghost use Rattle.fare_program.specs.Options.{ListsAddFiles};
 /// these files behind its own.
 pub fn lists_add_files()
     ensures { ListsAddFiles }
-{
-}
+{}

@@ -1,11 +1,9 @@
 -- Texts that list names, and how one more name is read.
-use Rattle.std.proofs.Common.{◌≡◌, ◌≢◌, ◌<◌, ◌≤◌, ◌⊎◌, ◌∙◌, ◌+◌, ◌==◌, ℕ, true, false, true≢false, eqb-true, zero, suc, List, [], ◌∷◌, ◌++◌, length, get_or, take, drop, refl, sym, ap, inl, inr, arith, append_assoc, append-nil}
-use Rattle.std.specs.Prelude.{IsUtf8, flat_map}
-use Rattle.std.specs.List.{All}
+use Rattle.std.proofs.Common.{◌≡◌, ◌≢◌, ◌<◌, ◌⊎◌, ◌∙◌, ◌+◌, ◌==◌, ℕ, true, false, true≢false, zero, suc, List, [], ◌∷◌, ◌++◌, length, get_or, take, drop, refl, sym, ap, inl, inr, arith, append_assoc, append-nil}
 use Rattle.std.proofs.lemmas.List.{get_or-take, length-take}
 use Rattle.std.proofs.lemmas.List.Concat.{flat_map-append}
 use Rattle.std.proofs.lemmas.List.Elements.{All-nil, All-push}
-use Rattle.program_manners.specs.FileLists.{AreNamesOf, IsFirstWrong, IsListedName, IsWrongBy, Lacks, ended_by}
+use Rattle.program_manners.specs.FileLists.{IsFirstWrong, IsListedName, IsWrongBy, Lacks, ended_by}
 use Rattle.program_manners.specs.declared.file_list.WrongName.{WrongName}
 use Rattle.program_manners.specs.inside.FileLists.{AreReadFrom}
 
@@ -23,11 +21,6 @@ parted (x ∷ text) (suc at) within =
     let step : suc (at + 1) ≡ suc at + 1 = omega arith in
     ap (λ (t : List ℕ). x ∷ t) (parted text at (omega arith))
     ∙ ap (λ (n : ℕ). take (suc at) (x ∷ text) ++ get_or (x ∷ text) (suc at) 0 ∷ drop n (x ∷ text)) step
-
--- a text that is a name's end with something before it is not empty
-not_nil : (a b : List ℕ) (x : ℕ) → [] ≡ a ++ x ∷ b → ⊥
-not_nil [] b x is = let bad : 0 ≡ length (x ∷ b) = ap length is in absurd (omega arith)
-not_nil (y ∷ a) b x is = let bad : 0 ≡ length (y ∷ a ++ x ∷ b) = ap length is in absurd (omega arith)
 
 -- one name more, ended
 ended_push : (end : ℕ) (names : List (List ℕ)) (name : List ℕ) → ended_by end (names ++ name ∷ []) ≡ ended_by end names ++ (name ++ end ∷ [])
@@ -80,24 +73,7 @@ wrong_read end text names rest piece behind number wrong read some is_number lac
   ];
 }
 
-pub all_read : (end : ℕ) (text : List ℕ) (names : List (List ℕ)) → AreReadFrom end text names [] → text ≢ [] → AreNamesOf end text names
-all_read end text names read some = record {
-  some = λ none. elim read.whole [
-    | inl is ↦ some (is ∙ ap (λ (ns : List (List ℕ)). ended_by end ns ++ []) none)
-    | inr ended ↦ not_nil text [] end (sym (ended.1 ∙ ap (ended_by end) none))
-  ];
-  are_names = read.are_names;
-  whole = elim read.whole [
-    | inl is ↦ inl (is ∙ append-nil (ended_by end names))
-    | inr ended ↦ inr ended.1
-  ];
-}
-
 -- what the test of a text's length says of it
 pub some_left : (text : List ℕ) → (length text == 0) ≡ false → text ≢ []
 some_left [] is none = true≢false is
 some_left (byte ∷ text) is none = let bad : suc (length text) ≡ 0 = ap length none in absurd (omega arith)
-
-pub none_left : (text : List ℕ) → (length text == 0) ≡ true → text ≡ []
-none_left [] is = refl
-none_left (byte ∷ text) is = let bad : length (byte ∷ text) ≡ 0 = eqb-true _ _ is in absurd (omega arith)

@@ -1,4 +1,4 @@
-use Rattle.std.proofs.Common.{◌≡◌, ◌++◌, ◌∷◌, List, [], Option, ap, codes, refl, true, false, Bool, ℕ}
+use Rattle.std.proofs.Common.{◌≡◌, ◌∷◌, List, Option, ap, codes, refl, true, false, Bool, ℕ}
 use Rattle.std.specs.Prelude.{option_and_then, slice_get}
 use Rattle.std.specs.List.{list_all}
 use Rattle.std.specs.Option.{option_map_or}

@@ -1,4 +1,4 @@
-use Rattle.std.proofs.Common.{◌≡◌, ◌∙◌, Bool, Bor, List, Option, None, Some, ap, codes, false, refl, subst, sym, true}
+use Rattle.std.proofs.Common.{◌≡◌, ◌∙◌, Bool, Bor, List, Option, None, Some, ap, codes, false, refl, subst, sym}
 use Rattle.std.specs.Prelude.{is_some, option_and_then, option_map}
 use Rattle.std.specs.Option.{option_map_or}
 use Rattle.std.proofs.lemmas.Result.{IfErr-weaker, IfOk-weaker}
@@ -62,14 +62,14 @@ pub returns-in-Some-clause-right : goal.returns-in-Some-clause-right
 returns-in-Some-clause-right c =
     let found = found_of c.args.matches.now in
     let is = twice (rows_of found) c.in-Some.list c.get_str.result c.ledger_in.result (ap (option_map view_of) (sym c.in-Some.is) ∙ c.in_ok-of.ensures.list)
-        (c.get_str.ensures ∙ first_value-rows found (codes "LEDGER")) c.ledger_in.ensures in
+    (c.get_str.ensures ∙ first_value-rows found (codes "LEDGER")) c.ledger_in.ensures in
     IfOk-weaker c.unless_both_input.result _ _ (λ _ right. (c.in_ok-of.ensures.right, is ∙ right)) c.unless_both_input.ensures.right
 
 pub returns-in-Some-clause-wrong : goal.returns-in-Some-clause-wrong
 returns-in-Some-clause-wrong c =
     let found = found_of c.args.matches.now in
     let is = twice (rows_of found) c.in-Some.list c.get_str.result c.ledger_in.result (ap (option_map view_of) (sym c.in-Some.is) ∙ c.in_ok-of.ensures.list)
-        (c.get_str.ensures ∙ first_value-rows found (codes "LEDGER")) c.ledger_in.ensures in
+    (c.get_str.ensures ∙ first_value-rows found (codes "LEDGER")) c.ledger_in.ensures in
     IfErr-weaker c.unless_both_input.result _ _
     (λ fault wrong. subst (λ (f : ListFault). IsWrongList f (rows_of found)) (sym wrong.0) (is ∙ wrong.1))
     c.unless_both_input.ensures.wrong

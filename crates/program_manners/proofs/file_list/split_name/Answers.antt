@@ -1,4 +1,4 @@
-use Rattle.std.proofs.Common.{◌≡◌, ◌<◌, ◌∙◌, ◌+◌, ℕ, List, ◌∷◌, ◌++◌, ap, sym, inl, inr, arith, eq-eqb, eqb-true, get_or, take, drop, length, take_all, length-drop, refl}
+use Rattle.std.proofs.Common.{◌∙◌, ◌+◌, ℕ, List, ◌∷◌, ◌++◌, ap, sym, inl, arith, eq-eqb, eqb-true, take, drop, take_all, length-drop}
 use Rattle.program_manners.proofs.NameLists.{lacks_before, parted}
 use Rattle.program_manners.proofs.file_list.split_name.Goals as goal
 

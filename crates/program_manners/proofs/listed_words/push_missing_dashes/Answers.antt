@@ -1,7 +1,7 @@
-use Rattle.std.proofs.Common.{◌≡◌, ◌<◌, ◌∙◌, ◌++◌, ℕ, List, [], ap, sym, arith, append-nil, length, map, string_bytes, drop}
+use Rattle.std.proofs.Common.{◌<◌, ◌∙◌, ◌++◌, List, ap, sym, arith, append-nil, length, map, string_bytes}
 use Rattle.std.proofs.lemmas.List.{length-map}
 use Rattle.clap.specs.Words.{Text}
-use Rattle.program_manners.specs.ListedWords.{from_dashes, missing_dashes}
+use Rattle.program_manners.specs.ListedWords.{missing_dashes}
 use Rattle.program_manners.proofs.WordLists.{none_missing}
 use Rattle.program_manners.proofs.listed_words.push_missing_dashes.Goals as goal
 

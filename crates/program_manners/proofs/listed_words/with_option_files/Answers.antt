@@ -1,4 +1,4 @@
-use Rattle.std.proofs.Common.{◌≡◌, ◌∙◌, ◌++◌, List, ap, sym, map, string_bytes, take, drop}
+use Rattle.std.proofs.Common.{◌∙◌, ◌++◌, List, ap, sym, map, string_bytes}
 use Rattle.std.proofs.lemmas.List.{drop-map, take-map}
 use Rattle.clap.specs.Words.{Text}
 use Rattle.program_manners.specs.ListedWords.{before_dashes, from_dashes}
@@ -13,9 +13,9 @@ returns c =
     let rest = ap (map string_bytes) c.arguments_in-arguments.ensures ∙ sym (drop-map string_bytes 1 words) in
     let name = ap (map string_bytes) c.name_in.ensures ∙ sym (take-map string_bytes 1 words) in
     let before = ap (map string_bytes) c.words_before.ensures ∙ sym (take-map string_bytes at arguments)
-        ∙ c.dashes_at-at.ensures.before ∙ ap before_dashes rest in
+    ∙ c.dashes_at-at.ensures.before ∙ ap before_dashes rest in
     let from = ap (map string_bytes) c.words_from.ensures ∙ sym (drop-map string_bytes at arguments)
-        ∙ c.dashes_at-at.ensures.from ∙ ap from_dashes rest in
+    ∙ c.dashes_at-at.ensures.from ∙ ap from_dashes rest in
     let options = options_of c.args.option.now c.args.names.now in
     made_in_turn (map string_bytes c.new-all.result.items) _ _ _ _ _ _ _ _ (ap (map string_bytes) c.new-all.ensures.items)
     (c.in_ok-push_words.ensures ∙ ap (λ (t : List Text). map string_bytes c.new-all.result.items ++ t) name)

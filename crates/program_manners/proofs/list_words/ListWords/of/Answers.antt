@@ -1,6 +1,6 @@
-use Rattle.std.proofs.Common.{◌≡◌, ◌∙◌, Bool, true, false, List, Option, None, Some, ap, ap₂, codes, refl, sym}
+use Rattle.std.proofs.Common.{◌≡◌, ◌∙◌, Bool, true, false, List, Option, Some, ap, ap₂, codes, refl, sym}
 use Rattle.std.specs.Prelude.{◌&&◌, if◌then◌else◌, is_some, not, option_map}
-use Rattle.clap.specs.Words.{Row, Text, first_of, found_of, rows_of}
+use Rattle.clap.specs.Words.{Row, Text, found_of, rows_of}
 use Rattle.clap.proofs.WalkLemmas.{first_value-rows}
 use Rattle.program_manners.specs.ListWords.{end_asked}
 use Rattle.program_manners.specs.Words.{is_given}
