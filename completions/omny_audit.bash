@@ -2,6 +2,7 @@
 
 _omny_audit() {
     local word=${COMP_WORDS[COMP_CWORD]} before=${COMP_WORDS[COMP_CWORD - 1]} given ending=csv
+    local options=(--all --table --uploads --files-from -0 --null -h --help -V --version)
     # bash splits a word at `=`, so that `--table=F` is the words `--table`, `=` and `F`
     if [[ $word == = ]]; then
         word=
@@ -19,7 +20,10 @@ _omny_audit() {
         [[ $before != -- ]] || break
     done
     if [[ $word == -* && $before != -- ]]; then
-        mapfile -t COMPREPLY < <(compgen -W '--all --table --uploads -h --help -V --version' -- "$word")
+        mapfile -t COMPREPLY < <(compgen -W "${options[*]}" -- "$word")
+    elif [[ $before == --files-from ]]; then
+        compopt -o filenames 2> /dev/null
+        mapfile -t COMPREPLY < <(compgen -f -- "$word")
     else
         [[ $before != --table ]] || ending=toml
         # files with this ending and folders; if there is none with the ending, all files

@@ -32,6 +32,9 @@ _omny_tools() {
     split) words='--parts --part-files --first' ;;
     merge) words='--ends --reports' ending='*' ;;
     esac
+    case $task in
+    decode | uploads | sort | split | merge | merge-ledgers) words+=' --files-from -0 --null' ;;
+    esac
     # behind `--` there are only files
     for given in "${COMP_WORDS[@]:1:COMP_CWORD - 1}"; do
         [[ $given == -- ]] && before=--
@@ -42,7 +45,7 @@ _omny_tools() {
     esac
     case $before in
     --from | --until | --within | --parts | --first | --columns | --only | --separator) return ;;
-    --good-part | --refused) ending='*' ;;
+    --good-part | --refused | --files-from) ending='*' ;;
     --part-files) ending=/ ;;
     esac
     if [[ $word == -* && $before != -- ]]; then

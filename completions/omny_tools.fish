@@ -69,6 +69,9 @@ complete -c omny_tools -n $merge -l reports -r -d 'The reports of the parts'
 complete -c omny_tools -n $merge -F
 complete -c omny_tools -n '__fish_seen_subcommand_from merge-ledgers' -l reports -r \
     -d "The report of each ledger's part"
+set -l lists '__fish_seen_subcommand_from decode uploads sort split merge merge-ledgers'
+complete -c omny_tools -n $lists -l files-from -r -F -d 'Take the files that a list names'
+complete -c omny_tools -n $lists -s 0 -l null -d 'The names of the list end with NUL'
 complete -c omny_tools -n '__fish_seen_subcommand_from encode merge-ledgers corrections' -k \
     -a '(__omny_tools_files .csv)'
 complete -c omny_tools -n '__fish_seen_subcommand_from decode uploads sort split' -k \

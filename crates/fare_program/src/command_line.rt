@@ -6,10 +6,13 @@ ghost use Rattle.fare_program.specs.Options.{explain_flag, file_argument, ledger
 ghost use Rattle.fare_program.specs.Options.{asked_by, is_given, number_of, program};
 ghost use Rattle.fare_program.specs.inside.Options.{asked_of};
 ghost use Rattle.fare_program.specs.inside.Options.{HasNumber};
+ghost use Rattle.program_manners.specs.Words.{list_option, null_flag};
 
 use crate::options::Options;
 use clap::{ArgAction, ArgMatches, Command, Error};
-use program_manners::{flag_arg, names_in, new_command, number_arg, option_arg, positional_arg};
+use program_manners::{
+    add_list_args, flag_arg, names_in, new_command, number_arg, option_arg, positional_arg,
+};
 use std::alloc::{AllocError, Global};
 
 /// What the program is for, as the help says it first.
@@ -43,6 +46,7 @@ Examples:
   omny_cli --table table.toml --settle --token 000000000000000000000000000000a1 a.tap b.tap
   omny_cli --table table.toml --settle --sorted monday.tap tuesday.tap
   omny_cli --table table.toml --settle --ledger --traced a.tap b.tap
+  find week -name '*.tap' -print0 | omny_cli --table table.toml --settle --files-from - -0
   omny_cli a.tap
 
 Exit status:
@@ -64,8 +68,7 @@ const WORKERS_HELP: &str = "How many threads post the uploads, 1 to 16";
 const SHARDS_HELP: &str = "Over how many shards the accounts are spread, 1 to 64";
 
 /// The help of `--token`.
-const TOKEN_HELP: &str =
-    "Print the statement of this token, 32 hexadecimal digits, instead of the report";
+const TOKEN_HELP: &str = "Print the statement of this token, 32 hexadecimal digits, not the report";
 
 /// The help of `--settle`.
 const SETTLE_HELP: &str = "Post all taps in order of token, moment and validator; needs --table";
@@ -108,20 +111,23 @@ fn command<'a>(alloc: Global) -> Result<Command<'a>, AllocError>
     with_texts(alloc, command)
 }
 
-/// The command line with the options of the ledger and of the explained statement, and the files.
+/// The command line with the options of the ledger and of the explained statement, the list of files
+/// and the files.
 fn with_texts<'a>(alloc: Global, command: Command<'a>) -> Result<Command<'a>, AllocError>
     ensures { IfOk result (λ more. app_of more ≡ with_rule (with_rule (with_rule (with_rule
-        (app_of command.entry) ledger_flag) explain_flag) traced_flag) file_argument) }
+        (with_rule (with_rule (app_of command.entry) ledger_flag) explain_flag) traced_flag)
+        list_option) null_flag) file_argument) }
 {
     let ledger = flag_arg(alloc, "ledger", LEDGER_HELP);
     let explain = flag_arg(alloc, "explain", EXPLAIN_HELP);
     let traced = flag_arg(alloc, "traced", TRACED_HELP);
     let file = positional_arg(alloc, "FILE", ArgAction::Append, FILE_HELP);
-    command.arg(ledger)?.arg(explain)?.arg(traced)?.arg(file)
+    let command = command.arg(ledger)?.arg(explain)?.arg(traced)?;
+    add_list_args(alloc, command)?.arg(file)
 }
 
 /// The words read by clap.
-fn matched<'a>(alloc: Global, words: &'a [String]) -> Result<ArgMatches<'a>, Error>
+pub(crate) fn matched<'a>(alloc: Global, words: &'a [String]) -> Result<ArgMatches<'a>, Error>
     ensures rows { IfOk result (λ matches. rows_of (found_of matches)
         ≡ matches_of program (map string_bytes words.entry.now)) }
     ensures workers { IfOk result

@@ -5,6 +5,7 @@
 //! | module | what it does |
 //! |---|---|
 //! | `command_line`, `options` | what a command line asks for; its words, as `clap` reads them |
+//! | `named_list`, `laws` | the list of files that the words name, and what it adds to them |
 //! | `source`, `files_ahead` | whole files from a source; those that are read before their turns |
 //! | `host`, `sampling` | the system's files and standard input as a source; a sample of a file's tokens |
 //! | `named_files` | files that are read while their taps are settled |
@@ -27,9 +28,11 @@ mod command_line;
 mod fault;
 mod files_ahead;
 mod host;
+pub mod laws;
 mod lines;
 mod listing;
 mod named_files;
+mod named_list;
 mod note;
 mod options;
 mod output;
@@ -47,9 +50,10 @@ mod uploads;
 
 pub use files_ahead::{Disk, FileAhead, read_ahead};
 pub use host::Host;
+pub use named_list::list_words;
 pub use note::Note;
 pub use program::main_over;
 pub use program_manners::{
-    Complaints, LOAD_LIMIT_BYTES, LoadFault, load_from, unread_words, words_of,
+    Complaints, LOAD_LIMIT_BYTES, LoadFault, WordsFault, load_from, unread_words, words_of,
 };
 pub use source::Source;

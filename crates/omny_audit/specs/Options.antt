@@ -1,13 +1,17 @@
 -- The command line, and what its words ask for.
-use Rattle.std.specs.Prelude.{◌≡◌, ◌⊎◌, Bool, List, [], ◌∷◌, ◌++◌, Option, None, Some, codes, true}
-use Rattle.std.specs.Prelude.{if◌then◌else◌, option_and_then, unwrap_or}
+use Rattle.std.specs.Prelude.{◌≡◌, ◌⊎◌, ◌&&◌, Bool, List, [], ◌∷◌, ◌++◌, Option, None, Some, codes}
+use Rattle.std.specs.Prelude.{false, if◌then◌else◌, is_some, not, option_and_then, true, unwrap_or}
+use Rattle.std.specs.Option.{option_map_or}
 use Rattle.std.specs.Str.{bytes_eq}
-use Rattle.clap.specs.Words.{App, IsAmong, Rule, Text, all_of, fault_of, first_of, matches_of}
+use Rattle.clap.specs.Words.{App, IsAmong, Row, Rule, Text, all_of, fault_of, first_of, matches_of}
 use Rattle.clap.specs.Words.{with_rule}
 use Rattle.clap.specs.declared.builder.action.ArgAction.TheVariants.{Set}
 use Rattle.clap.specs.declared.error.kind.ErrorKind.TheVariants.{DisplayHelp, DisplayVersion}
-use Rattle.program_manners.specs.Words.{files_rule, flag_rule, is_given, named_app, option_rule}
-use Rattle.program_manners.specs.Words.{positional_rule}
+use Rattle.program_manners.specs.ListWords.{lacks_list}
+use Rattle.program_manners.specs.declared.file_list.ListFault.{ListFault}
+use Rattle.program_manners.specs.declared.file_list.ListFault.TheVariants.{InputTwice, NullAlone}
+use Rattle.program_manners.specs.Words.{files_rule, flag_rule, is_given, list_option, named_app}
+use Rattle.program_manners.specs.Words.{null_flag, option_rule, positional_rule}
 
 -- `--table F`, which has to be given
 abbrev pub required_table_option : Rule
@@ -28,8 +32,9 @@ ledger_argument = positional_rule (codes "LEDGER") Set
 -- all words that the program takes
 unfoldable pub audit_program : App
 audit_program =
-    with_rule (with_rule (with_rule (with_rule (named_app (codes "omny_audit"))
-    required_table_option) all_flag) uploads_option) ledger_argument
+    with_rule (with_rule (with_rule (with_rule (with_rule (with_rule
+    (named_app (codes "omny_audit")) required_table_option) all_flag) uploads_option) list_option)
+    null_flag) ledger_argument
 
 -- the words after the program's name are a command line of the program
 abbrev pub ParsesForAudit : List Text → Type 0
@@ -44,6 +49,26 @@ AsksForAuditText words =
 -- nothing for `-`, which stands for standard input
 abbrev pub not_dash : Text → Option Text
 not_dash text = if bytes_eq text (codes "-") then None else Some text
+
+-- whether a list of this name is standard input, and so is the ledger, of which no file is named
+abbrev pub are_input : Text → Bool → Bool
+are_input list has_ledger = bytes_eq list (codes "-") && not has_ledger
+
+-- whether the words name a list, and it and the ledger are standard input
+abbrev pub reads_input_twice : List Row → Bool
+reads_input_twice rows = option_map_or (λ list. are_input list
+    (is_some (option_and_then not_dash (first_of (codes "LEDGER") rows))))
+    (first_of (codes "files-from") rows) false
+
+-- nothing is wrong with what the words say of a list
+abbrev pub IsRightList : List Row → Type 0
+IsRightList rows = (lacks_list rows ≡ false) × (reads_input_twice rows ≡ false)
+
+-- what is wrong with what the words say of a list
+abbrev pub IsWrongList : ListFault → List Row → Type 0
+IsWrongList NullAlone rows = lacks_list rows ≡ true
+IsWrongList InputTwice rows = reads_input_twice rows ≡ true
+IsWrongList _ rows = ⊥
 
 -- what a command line asks for
 pub record AuditAsked : Type 0 where

@@ -31,14 +31,28 @@ mod text;
 
 use escaping::Escaping;
 use files::Host;
+use options::list_words;
 use program::main_over;
-use program_manners::{Complaints, unread_words, words_of};
+use program_manners::{Complaints, take_list, unread_words, words_of};
+use std::io::Write;
 use std::process::ExitCode;
+
+/// The words of the command line with the names of the list that they name, if they name one. The
+/// error is the status, where it was told why there are none.
+fn words_with_list<E: Write>(rt: &HostRuntime, err: &mut Complaints<E>) -> Result<Vec<String>, u8> {
+    let words = match words_of(rt) {
+        Ok(words) => words,
+        Err(fault) => return Err(unread_words(&fault, err)),
+    };
+    let list = list_words(rt.alloc(), &words);
+    let more = take_list(rt, &words, list, Some("uploads"), err)?;
+    Ok(more.unwrap_or(words))
+}
 
 /// The program.
 fn main(rt: HostRuntime) -> ExitCode {
     let mut err = Complaints::new(Escaping::new(rt.stderr()));
-    let status = match words_of(&rt) {
+    let status = match words_with_list(&rt, &mut err) {
         Ok(words) => main_over(
             rt.alloc(),
             &words,
@@ -46,7 +60,7 @@ fn main(rt: HostRuntime) -> ExitCode {
             &mut rt.stdout(),
             &mut err,
         ),
-        Err(error) => unread_words(&error, &mut err),
+        Err(status) => status,
     };
     err.into_writer().finish();
     ExitCode::from(status)

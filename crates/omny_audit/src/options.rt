@@ -1,15 +1,18 @@
 //! The command line.
-ghost use Rattle.std.specs.Prelude.{◌≡◌, IfOk, [], codes, false, map, option_and_then, option_map};
-ghost use Rattle.std.specs.Prelude.{string_bytes, unwrap_or};
+ghost use Rattle.std.specs.Prelude.{◌≡◌, ◌⊎◌, IfErr, IfOk, [], codes, false, is_some, map, true};
+ghost use Rattle.std.specs.Prelude.{None, option_and_then, option_map, string_bytes, unwrap_or};
 ghost use Rattle.clap.specs.Words.{FailsBy, all_of, app_of, fault_of, found_of, matches_of};
 ghost use Rattle.clap.specs.Words.{rows_of, rule_of};
-ghost use Rattle.omny_audit.specs.Options.{audit_asked_by, not_dash, audit_program};
+ghost use Rattle.omny_audit.specs.Options.{ParsesForAudit, audit_asked_by, not_dash, audit_program};
+ghost use Rattle.omny_audit.specs.Options.{IsRightList, IsWrongList, are_input};
 ghost use Rattle.omny_audit.specs.inside.Options.{audit_asked_of};
 ghost use Rattle.omny_audit.specs.Options.{required_table_option};
+ghost use Rattle.program_manners.specs.ListWords.{list_asked, view_of};
 
 use clap::{Arg, ArgAction, ArgMatches, Command, Error};
 use program_manners::{
-    files_arg, flag_arg, flag_in, names_in, new_command, option_arg, positional_arg,
+    ListFault, ListWords, add_list_args, files_arg, flag_arg, flag_in, names_in, new_command,
+    option_arg, positional_arg,
 };
 use std::alloc::{AllocError, Global};
 
@@ -41,6 +44,7 @@ With --uploads each missing and each surplus tap follows.
 Examples:
   omny_audit --table table.toml ledger.csv
   omny_audit --table table.toml ledger.csv --uploads a.tap b.tap
+  find week -name '*.tap' -print0 | omny_audit --table table.toml ledger.csv --files-from - -0
   omny_audit --all --table table.toml ledger.csv
   omny_cli --table table.toml --ledger a.tap b.tap | omny_audit --table table.toml --uploads a.tap b.tap
 
@@ -93,11 +97,11 @@ fn command<'a>(alloc: Global) -> Result<Command<'a>, AllocError>
     let all = flag_arg(alloc, "all", ALL_HELP);
     let uploads = files_arg(alloc, "uploads", UPLOADS_HELP);
     let ledger = positional_arg(alloc, "LEDGER", ArgAction::Set, LEDGER_HELP);
-    new_command(alloc, "omny_audit", ABOUT, NOTES)
+    let command = new_command(alloc, "omny_audit", ABOUT, NOTES)
         .arg(table)?
         .arg(all)?
-        .arg(uploads)?
-        .arg(ledger)
+        .arg(uploads)?;
+    add_list_args(alloc, command)?.arg(ledger)
 }
 
 /// The words read by clap.
@@ -142,5 +146,67 @@ impl<'a> Options<'a> {
             uploads: names_in(alloc, &matches, "uploads")?,
             ledger: ledger_in(matches.get_str("LEDGER")),
         })
+    }
+}
+
+/// The list. The error is `InputTwice`: the list and the ledger are standard input.
+fn unless_both_input<'a>(
+    list: ListWords<'a>,
+    ledger: Option<&'a str>,
+) -> Result<Option<ListWords<'a>>, ListFault>
+    ensures list { IfOk result (λ named. named ≡ Some list.entry) }
+    ensures right { IfOk result (λ _.
+        are_input list.entry.name.now (is_some ledger.entry) ≡ false) }
+    ensures wrong { IfErr result (λ fault. (fault ≡ ListFault.InputTwice)
+        × (are_input list.entry.name.now (is_some ledger.entry) ≡ true)) }
+{
+    let is_input = list.is_input();
+    let has_ledger = ledger.is_some();
+    if is_input && !has_ledger {
+        return Err(ListFault::InputTwice);
+    }
+    Ok(Some(list))
+}
+
+/// The list of uploads that clap's matches name, if they name one. The error is `NullAlone` or
+/// `InputTwice`.
+fn list_in<'a>(matches: &ArgMatches<'a>) -> Result<Option<ListWords<'a>>, ListFault>
+    ensures list { IfOk result (λ list. option_map view_of list
+        ≡ list_asked (rows_of (found_of matches.now))) }
+    ensures right { IfOk result (λ _. IsRightList (rows_of (found_of matches.now))) }
+    ensures wrong { IfErr result (λ fault. IsWrongList fault (rows_of (found_of matches.now))) }
+{
+    match ListWords::of(matches)? {
+        None => Ok(None),
+        Some(list) => unless_both_input(list, ledger_in(matches.get_str("LEDGER"))),
+    }
+}
+
+/// The list of uploads that the words name, if they name one. Words that are no command line name
+/// none: the program tells why, or shows its help.
+///
+/// # Errors
+///
+/// `NullAlone`, if the words say what ends the names of a list and name none; `InputTwice`, if the
+/// list and the ledger are standard input; `NoMemory`.
+pub(crate) fn list_words<'a>(
+    alloc: Global,
+    words: &'a [String],
+) -> Result<Option<ListWords<'a>>, ListFault>
+    ensures list { ParsesForAudit (map string_bytes words.entry.now)
+        → IfOk result (λ list. option_map view_of list
+        ≡ list_asked (matches_of audit_program (map string_bytes words.entry.now))) }
+    ensures right { ParsesForAudit (map string_bytes words.entry.now)
+        → IfOk result (λ _.
+        IsRightList (matches_of audit_program (map string_bytes words.entry.now))) }
+    ensures wrong { IfErr result (λ fault. (ParsesForAudit (map string_bytes words.entry.now)
+        × IsWrongList fault (matches_of audit_program (map string_bytes words.entry.now)))
+        ⊎ (fault ≡ ListFault.NoMemory)) }
+    ensures unread { (¬ ParsesForAudit (map string_bytes words.entry.now))
+        → IfOk result (λ list. list ≡ None) }
+{
+    match matched(alloc, words) {
+        Ok(matches) => list_in(&matches),
+        Err(error) => ListWords::unread(&error),
     }
 }

@@ -1,6 +1,6 @@
-//! The program: `fare_program` over the words, the files, the standard input and the outputs of the
-//! system. If the standard error is a terminal, a note there says what one should know of the run,
-//! and a line says what a long run does.
+//! The program: `fare_program` over the words, with the names of a list if they name one, the files,
+//! the standard input and the outputs of the system. If the standard error is a terminal, a note
+//! there says what one should know of the run, and a line says what a long run does.
 //!
 //! | module | what it does |
 //! |---|---|
@@ -18,8 +18,9 @@ mod ticker;
 mod watched;
 
 use beside::run_beside_line;
-use fare_program::{Complaints, Host, Note, unread_words, words_of};
+use fare_program::{Complaints, Host, Note, list_words, unread_words, words_of};
 use hushing::Hushing;
+use program_manners::take_list;
 use progress::Steps;
 use std::io::IsTerminal;
 use std::process::ExitCode;
@@ -36,14 +37,24 @@ fn ticker_for(rt: &HostRuntime, words: &[String]) -> Ticker {
     Ticker::new(Steps::of(words), rt.stderr(), is_terminal)
 }
 
+/// The words of the command line with the names of the list that they name, if they name one. The
+/// error is the status, where it was told why there are none.
+fn words_with_list(rt: &HostRuntime) -> Result<Vec<String>, u8> {
+    let mut err = Complaints::new(rt.stderr());
+    let words = match words_of(rt) {
+        Ok(words) => words,
+        Err(fault) => return Err(unread_words(&fault, &mut err)),
+    };
+    let list = list_words(rt.alloc(), &words);
+    let more = take_list(rt, &words, list, None, &mut err)?;
+    Ok(more.unwrap_or(words))
+}
+
 /// The program.
 fn main(rt: HostRuntime) -> ExitCode {
-    let words = match words_of(&rt) {
+    let words = match words_with_list(&rt) {
         Ok(words) => words,
-        Err(error) => {
-            let mut err = Complaints::new(rt.stderr());
-            return ExitCode::from(unread_words(&error, &mut err));
-        }
+        Err(status) => return ExitCode::from(status),
     };
     let ticker = ticker_for(&rt, &words);
     ExitCode::from(run_beside_line(

@@ -4,6 +4,7 @@
 //! | module | what it does |
 //! |---|---|
 //! | `words` | the command line, as `clap` reads it |
+//! | `list_words` | the list of files that the words name |
 //! | `names` | the names of files, as they are shown and opened |
 //! | `input`, `output` | files and standard input; standard output |
 //! | `progress` | how far a long run is, on a terminal |
@@ -30,6 +31,7 @@ mod encode_words;
 mod fault;
 mod input;
 mod layout;
+mod list_words;
 mod look_words;
 mod looking;
 mod making;
@@ -46,6 +48,7 @@ mod tasks;
 mod telling;
 mod words;
 
+use list_words::words_with_list;
 use program_manners::{Complaints, unread_words, words_of};
 use std::process::ExitCode;
 use tasks::run;
@@ -53,9 +56,13 @@ use tasks::run;
 /// The program.
 fn main(rt: HostRuntime) -> ExitCode {
     let mut err = rt.stderr();
-    let status = match words_of(&rt) {
-        Ok(words) => run(&rt, &rt, &words, &mut err),
-        Err(error) => unread_words(&error, &mut Complaints::new(err)),
+    let words = match words_of(&rt) {
+        Ok(words) => words,
+        Err(fault) => return ExitCode::from(unread_words(&fault, &mut Complaints::new(err))),
+    };
+    let status = match words_with_list(&rt, &words, &mut err) {
+        Ok(more) => run(&rt, &rt, &more.unwrap_or(words), &mut err),
+        Err(status) => status,
     };
     ExitCode::from(status)
 }

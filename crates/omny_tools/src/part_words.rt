@@ -1,11 +1,12 @@
 //! The command lines of `split`, `merge` and `merge-ledgers`.
 
+use crate::list_words::files_or_list_arg;
 use crate::merging::{LedgerWords, MergeWords};
 use crate::names::Name;
 use crate::splitting::SplitWords;
 use crate::words::{names_at, subcommand};
-use clap::{ArgAction, ArgMatches, Command, value_parser};
-use program_manners::{files_arg, option_arg, positional_arg};
+use clap::{ArgMatches, Command, value_parser};
+use program_manners::{add_list_args, files_arg, option_arg};
 use std::alloc::{AllocError, Global};
 
 /// What the exit status of `split` says.
@@ -84,7 +85,7 @@ const LEDGERS_HELP: &str = "The ledgers of the parts, in any order; - stands for
 const LEDGER_REPORTS_HELP: &str =
     "The report of each ledger's part, in the order of the ledgers; - stands for standard input";
 
-/// `split --parts N --part-files DIR [--first K] FILE...`
+/// `split --parts N --part-files DIR [--first K] [--files-from LIST [-0]] FILE...`
 pub(crate) fn split_command<'a>(alloc: Global) -> Result<Command<'a>, AllocError> {
     let parts = option_arg(alloc, "parts", "N", PARTS_HELP)
         .value_parser(value_parser!(u32).range(1..=65_535))
@@ -93,12 +94,12 @@ pub(crate) fn split_command<'a>(alloc: Global) -> Result<Command<'a>, AllocError
     let first = option_arg(alloc, "first", "K", FIRST_HELP)
         .value_parser(value_parser!(u32))
         .default_value("0");
-    let file = positional_arg(alloc, "FILE", ArgAction::Append, UPLOADS_HELP).required(true);
-    subcommand(alloc, "split", SPLIT_ABOUT, SPLIT_STATUS)
+    let file = files_or_list_arg(alloc, "FILE", UPLOADS_HELP)?;
+    let command = subcommand(alloc, "split", SPLIT_ABOUT, SPLIT_STATUS)
         .arg(parts)?
         .arg(folder)?
-        .arg(first)?
-        .arg(file)
+        .arg(first)?;
+    add_list_args(alloc, command)?.arg(file)
 }
 
 /// What `split` is asked for.
@@ -116,27 +117,28 @@ pub(crate) fn split_words<'a>(
     })
 }
 
-/// `merge --ends FILE... --reports FILE...`
+/// `merge --ends FILE... --reports FILE... [--files-from LIST [-0]]`
 pub(crate) fn merge_command<'a>(alloc: Global) -> Result<Command<'a>, AllocError> {
     let ends = files_arg(alloc, "ends", ENDS_HELP).required(true);
-    let reports = files_arg(alloc, "reports", REPORTS_HELP).required(true);
-    subcommand(alloc, "merge", MERGE_ABOUT, MERGE_STATUS)
+    let reports = files_arg(alloc, "reports", REPORTS_HELP).required_unless_present("files-from")?;
+    let command = subcommand(alloc, "merge", MERGE_ABOUT, MERGE_STATUS)
         .arg(ends)?
-        .arg(reports)
+        .arg(reports)?;
+    add_list_args(alloc, command)
 }
 
-/// `merge-ledgers FILE... [--reports FILE...]`
+/// `merge-ledgers [--files-from LIST [-0]] FILE... [--reports FILE...]`
 pub(crate) fn merge_ledgers_command<'a>(alloc: Global) -> Result<Command<'a>, AllocError> {
     let reports = files_arg(alloc, "reports", LEDGER_REPORTS_HELP);
-    let file = positional_arg(alloc, "FILE", ArgAction::Append, LEDGERS_HELP).required(true);
-    subcommand(
+    let file = files_or_list_arg(alloc, "FILE", LEDGERS_HELP)?;
+    let command = subcommand(
         alloc,
         "merge-ledgers",
         MERGE_LEDGERS_ABOUT,
         MERGE_LEDGERS_STATUS,
     )
-    .arg(reports)?
-    .arg(file)
+    .arg(reports)?;
+    add_list_args(alloc, command)?.arg(file)
 }
 
 /// What `merge` is asked for.

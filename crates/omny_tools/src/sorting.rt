@@ -2,12 +2,13 @@
 
 use crate::fault::{Fault, say};
 use crate::input::{load_upload, open_placed};
+use crate::list_words::files_or_list_arg;
 use crate::making::{NewFile, make_file};
 use crate::names::Name;
 use crate::progress::Progress;
 use crate::words::{names_at, subcommand};
-use clap::{ArgAction, ArgMatches, Command};
-use program_manners::{flag_arg, option_arg, positional_arg};
+use clap::{ArgMatches, Command};
+use program_manners::{add_list_args, flag_arg, option_arg};
 use report_texts::{UploadEnd, write_upload};
 use sorted_taps::{FileFault, MergeFault, SortedFault, WriteFault, merge_sorted};
 use sorted_uploads::sort_uploads;
@@ -63,17 +64,17 @@ pub(crate) struct SortWords<'a> {
     pub(crate) uploads: Vec<Name<'a>>,
 }
 
-/// `sort [--merge] --out OUT [--ends ENDS] UPLOAD...`
+/// `sort [--merge] --out OUT [--ends ENDS] [--files-from LIST [-0]] UPLOAD...`
 pub(crate) fn sort_command<'a>(alloc: Global) -> Result<Command<'a>, AllocError> {
     let merge = flag_arg(alloc, "merge", MERGE_HELP);
     let out = option_arg(alloc, "out", "OUT", OUT_HELP).required(true);
     let ends = option_arg(alloc, "ends", "ENDS", ENDS_HELP);
-    let upload = positional_arg(alloc, "UPLOAD", ArgAction::Append, UPLOADS_HELP).required(true);
-    subcommand(alloc, "sort", SORT_ABOUT, SORT_STATUS)
+    let upload = files_or_list_arg(alloc, "UPLOAD", UPLOADS_HELP)?;
+    let command = subcommand(alloc, "sort", SORT_ABOUT, SORT_STATUS)
         .arg(merge)?
         .arg(out)?
-        .arg(ends)?
-        .arg(upload)
+        .arg(ends)?;
+    add_list_args(alloc, command)?.arg(upload)
 }
 
 /// What `sort` is asked for.

@@ -2,6 +2,7 @@
 
 use crate::correcting::{CorrectionsWords, corrections_command, corrections_words};
 use crate::encode_words::{EncodeMistake, EncodeWords, RowsWords, encode_command, encode_words};
+use crate::list_words::{files_or_list_arg, has_input_twice};
 use crate::look_words::{LookMistake, LookWords, add_look_args, asks_for_look, look_words};
 use crate::merging::{LedgerWords, MergeWords};
 use crate::names::Name;
@@ -14,7 +15,7 @@ use crate::splitting::SplitWords;
 use crate::table::Question;
 use clap::{ArgAction, ArgMatches, Command, Error};
 use jiff::Timestamp;
-use program_manners::{flag_arg, new_command, option_arg, positional_arg};
+use program_manners::{add_list_args, flag_arg, new_command, option_arg, positional_arg};
 use std::alloc::{AllocError, Global};
 
 /// What the program is for, as the help says it first.
@@ -146,21 +147,23 @@ pub(crate) fn subcommand<'a>(
     Command::new(alloc, name).about(about).after_help(status)
 }
 
-/// `decode [FILE]...`
+/// `decode [--files-from LIST [-0]] [FILE]...`
 fn decode_command<'a>(alloc: Global) -> Result<Command<'a>, AllocError> {
     let file = positional_arg(alloc, "FILE", ArgAction::Append, DECODE_HELP);
-    subcommand(alloc, "decode", DECODE_ABOUT, STATUS).arg(file)
+    let command = subcommand(alloc, "decode", DECODE_ABOUT, STATUS);
+    add_list_args(alloc, command)?.arg(file)
 }
 
-/// `uploads [--good-part OUT] [--tokens] [LOOK]... FILE...`
+/// `uploads [--good-part OUT] [--tokens] [LOOK]... [--files-from LIST [-0]] FILE...`
 fn uploads_command<'a>(alloc: Global) -> Result<Command<'a>, AllocError> {
     let good = option_arg(alloc, "good-part", "OUT", GOOD_PART_HELP);
     let tokens = flag_arg(alloc, "tokens", TOKENS_HELP);
-    let file = positional_arg(alloc, "FILE", ArgAction::Append, UPLOADS_HELP).required(true);
+    let file = files_or_list_arg(alloc, "FILE", UPLOADS_HELP)?;
     let command = subcommand(alloc, "uploads", UPLOADS_ABOUT, STATUS)
         .arg(good)?
         .arg(tokens)?;
-    add_look_args(alloc, command)?.arg(file)
+    let command = add_look_args(alloc, command)?;
+    add_list_args(alloc, command)?.arg(file)
 }
 
 /// `table [--strict] [--riders] [--from MOMENT] F [UPLOAD]...`
@@ -179,7 +182,7 @@ fn table_command<'a>(alloc: Global) -> Result<Command<'a>, AllocError> {
 }
 
 /// The command line, as clap reads it.
-fn command<'a>(alloc: Global) -> Result<Command<'a>, AllocError> {
+pub(crate) fn command<'a>(alloc: Global) -> Result<Command<'a>, AllocError> {
     let encode = encode_command(alloc)?;
     let decode = decode_command(alloc)?;
     let uploads = uploads_command(alloc)?;
@@ -339,6 +342,9 @@ pub(crate) fn task_of<'a>(alloc: Global, words: &'a [String]) -> Result<Task<'a>
     let Some((name, matches)) = matches.subcommand() else {
         return Ok(Task::Nothing);
     };
+    if has_input_twice(matches) {
+        return Ok(Task::InputTwice);
+    }
     if name == "encode" {
         return Ok(encode_task(encode_words(alloc, matches)?));
     }

@@ -1,1 +1,3 @@
+pub mod NameLists
 pub mod Refusals
+pub mod WordLists

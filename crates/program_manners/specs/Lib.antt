@@ -1,6 +1,11 @@
+pub mod Arguments
+pub mod FileLists
 pub mod LineWritten
 pub mod Lines
+pub mod ListWords
+pub mod ListedWords
 pub mod Loads
 pub mod Refusals
 pub mod TerminalLine
 pub mod Words
+pub mod inside

@@ -39,6 +39,14 @@ files_rule name = record (new_rule name) {
 abbrev pub flag_rule : Text → Rule
 flag_rule name = record (new_rule name) { long = Some name; action = Some SetTrue }
 
+-- `--files-from LIST`
+abbrev pub list_option : Rule
+list_option = option_rule (codes "files-from")
+
+-- `-0`, `--null`
+abbrev pub null_flag : Rule
+null_flag = record (flag_rule (codes "null")) { short = Some 48 }
+
 -- a positional argument `NAME` with this action
 abbrev pub positional_rule : Text → ArgAction → Rule
 positional_rule name action = record (new_rule name) { action = Some action }

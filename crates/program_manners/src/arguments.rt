@@ -1,35 +1,125 @@
 //! The words of the command line, and why they could not be had.
-ghost use Rattle.std.specs.Prelude.{◌≡◌, ◌≢◌, codes};
-ghost use Rattle.std.specs.IoError.{error_kind};
+ghost use Rattle.std.specs.Prelude.{◌≡◌, ◌<◌, ◌++◌, IfOk, OnOk, Some, flat_map, string_bytes};
+ghost use Rattle.program_manners.specs.Arguments.{unread_status, unread_text};
+ghost use Rattle.program_manners.specs.inside.Arguments.{escaped_byte, hex_digit};
 ghost use Rattle.program_manners.specs.LineWritten.{LineWritten};
 
 use crate::complaints::Complaints;
+use std::alloc::{AllocError, Global};
 use std::env::Env;
 use std::io::{ErrorKind, Write};
-use std::{env, io};
+use std::{env, fmt};
 
-/// The words of the command line, the program's name first. The kind of an error is `OutOfMemory`
-/// where memory was refused, and another one where a word is not UTF-8. What the words are no
-/// contract can say.
-pub fn words_of<R: Env + AllocGlobal>(rt: &R) -> io::Result<Vec<String>> {
-    let words = env::args(rt)?.collect(rt.alloc())?;
-    Ok(words)
+/// The longest word that Linux gives a program, in bytes with its NUL.
+const MAX_WORD_BYTES: usize = 131_072;
+
+/// Why the words of the command line could not be had.
+#[derive(Debug, Drop)]
+pub enum WordsFault {
+    /// This word is not UTF-8. Shown is what its line shows of it: printable ASCII as it is, and
+    /// each other byte as `\xHH`.
+    NotUtf8(String),
+    /// A growth of memory was refused.
+    NoMemory,
+}
+
+impl From<AllocError> for WordsFault {
+    ghost use Rattle.program_manners.specs.declared.arguments.WordsFault.TheVariants.{NoMemory};
+
+    ghost from_gives = { λ _ fault. fault ≡ NoMemory };
+
+    fn from(_refused: AllocError) -> WordsFault {
+        WordsFault::NoMemory
+    }
+}
+
+impl fmt::Display for WordsFault {
+    ghost output = { λ fault. Some (unread_text fault) };
+
+    fn fmt<W: fmt::Write>(&self, f: &mut fmt::Formatter<W>) -> fmt::Result {
+        match self {
+            WordsFault::NotUtf8(shown) => write!(f, "error: an argument is not UTF-8: {shown}"),
+            WordsFault::NoMemory => f.write_str("fault: out of memory"),
+        }
+    }
 }
 
 /// Says why the words could not be had, and gives the status: 1 for want of memory, and 2 for a
 /// word that is not UTF-8.
-pub fn unread_words<E: Write>(error: &io::Error, err: &mut Complaints<E>) -> u8
-    ensures memory { error_kind error.now ≡ ErrorKind.OutOfMemory → (result ≡ 1)
-        × LineWritten (E.contents err.old.writer) (E.contents err.new.writer) err.new.failed
-        (codes "fault: out of memory") }
-    ensures word { error_kind error.now ≢ ErrorKind.OutOfMemory → (result ≡ 2)
-        × LineWritten (E.contents err.old.writer) (E.contents err.new.writer) err.new.failed
-        (codes "error: an argument is not UTF-8") }
+pub fn unread_words<E: Write>(fault: &WordsFault, err: &mut Complaints<E>) -> u8
+    ensures status { result ≡ unread_status fault.now }
+    ensures line { LineWritten (E.contents err.old.writer) (E.contents err.new.writer)
+        err.new.failed (unread_text fault.now) }
 {
-    if error.kind() == ErrorKind::OutOfMemory {
-        err.tell_line("fault: out of memory");
-        return 1;
+    err.tell_line(fault);
+    match fault {
+        WordsFault::NotUtf8(_) => 2,
+        WordsFault::NoMemory => 1,
     }
-    err.tell_line("error: an argument is not UTF-8");
-    2
+}
+
+/// The words of the command line, the program's name first. What the words are no contract can say.
+///
+/// # Errors
+///
+/// The first word that is not UTF-8; refused memory.
+pub fn words_of<R: Env + AllocGlobal>(rt: &R) -> Result<Vec<String>, WordsFault> {
+    match env::args(rt) {
+        Ok(words) => Ok(words.collect(rt.alloc())?),
+        Err(error) if error.kind() == ErrorKind::OutOfMemory => Err(WordsFault::NoMemory),
+        Err(_) => Err(WordsFault::NotUtf8(first_wrong_word(rt)?)),
+    }
+}
+
+/// The first word that is not UTF-8, as it is shown; nothing if there is none.
+fn first_wrong_word<R: Env + AllocGlobal>(rt: &R) -> Result<String, AllocError> {
+    let mut room = Vec::new(rt.alloc());
+    room.resize(MAX_WORD_BYTES, 0)?;
+    for place in 0..usize::MAX {
+        let Ok(len) = rt.arg(place, room.as_mut_slice()) else {
+            break;
+        };
+        let word = room.as_slice().get(..len).unwrap_or(&[]);
+        if str::from_utf8(word).is_err() {
+            return escaped(rt.alloc(), word);
+        }
+    }
+    Ok(String::new(rt.alloc()))
+}
+
+/// The hexadecimal digit of a number.
+fn hex_digit(number: u8) -> char
+    requires { number < 16 }
+    ensures { result ≡ hex_digit number }
+{
+    let digit = if number < 10 {
+        b'0' + number
+    } else {
+        b'a' + (number - 10)
+    };
+    digit as char
+}
+
+/// Adds a byte as it is shown.
+fn push_escaped(shown: &mut String, byte: u8) -> Result<(), AllocError>
+    ensures { OnOk result (string_bytes shown.new ≡ string_bytes shown.old ++ escaped_byte byte) }
+{
+    if byte >= b' ' && byte <= b'~' {
+        return shown.push(byte as char);
+    }
+    shown.push('\\')?;
+    shown.push('x')?;
+    shown.push(hex_digit(byte / 16))?;
+    shown.push(hex_digit(byte % 16))
+}
+
+/// The bytes as they are shown: printable ASCII as it is, and each other byte as `\xHH`.
+fn escaped(alloc: Global, bytes: &[u8]) -> Result<String, AllocError>
+    ensures { IfOk result (λ shown. string_bytes shown ≡ flat_map escaped_byte bytes.now) }
+{
+    let mut shown = String::new(alloc);
+    for byte in bytes {
+        push_escaped(&mut shown, *byte)?;
+    }
+    Ok(shown)
 }

@@ -11,11 +11,17 @@
 //! | `answers` | what clap answers where there is nothing to run |
 //! | `arguments` | the words of the command line, and why they could not be had |
 //! | `words` | a command and its options, as `clap` takes them |
+//! | `file_list`, `list_line` | the names of files that a text lists, and the line of a fault |
+//! | `list_words`, `listed_words` | a list on a command line, and the words with its names |
 #![tactic(auto)]
 
 mod answers;
 mod arguments;
 mod complaints;
+mod file_list;
+mod list_line;
+mod list_words;
+mod listed_words;
 mod loading;
 mod opened;
 mod table_line;
@@ -23,8 +29,12 @@ mod terminal_line;
 mod words;
 
 pub use answers::show_answer;
-pub use arguments::{unread_words, words_of};
+pub use arguments::{WordsFault, unread_words, words_of};
 pub use complaints::Complaints;
+pub use file_list::{ListFault, NameEnd, WrongName, names_of_list};
+pub use list_line::ListLine;
+pub use list_words::{ListWords, take_list};
+pub use listed_words::{with_files, with_option_files};
 pub use loading::{
     FileFault, LOAD_LIMIT_BYTES, LoadFault, STANDARD_INPUT, load_file, load_from, open_file,
 };
@@ -32,5 +42,6 @@ pub use opened::Opened;
 pub use table_line::TableLine;
 pub use terminal_line::{PACE_MS, QUIET_MS, TerminalLine};
 pub use words::{
-    files_arg, flag_arg, flag_in, names_in, new_command, number_arg, option_arg, positional_arg,
+    add_list_args, files_arg, flag_arg, flag_in, names_in, new_command, number_arg, option_arg,
+    positional_arg,
 };

@@ -1,15 +1,21 @@
 //! A command and its options, as `clap` takes them.
 ghost use Rattle.std.specs.Prelude.{◌≡◌, IfOk, [], false, map, pos, unwrap_or};
 ghost use Rattle.clap.specs.Simple.{app_of};
-ghost use Rattle.clap.specs.Words.{all_of, found_of, rows_of, rule_of};
-ghost use Rattle.program_manners.specs.Words.{files_rule, flag_rule, is_given, named_app};
-ghost use Rattle.program_manners.specs.Words.{number_rule};
+ghost use Rattle.clap.specs.Words.{all_of, found_of, rows_of, rule_of, with_rule};
+ghost use Rattle.program_manners.specs.Words.{files_rule, flag_rule, is_given, list_option};
+ghost use Rattle.program_manners.specs.Words.{named_app, null_flag, number_rule};
 ghost use Rattle.program_manners.specs.Words.{option_rule, positional_rule};
 
 use clap::builder::ValueParser;
 use clap::{Arg, ArgAction, ArgMatches, Command};
 use program_version::VERSION;
 use std::alloc::{AllocError, Global};
+
+/// The help of `--files-from`.
+const LIST_HELP: &str = "Take the files that LIST names, a name a line; - is standard input";
+
+/// The help of `-0`.
+const NULL_HELP: &str = "The names of LIST end with NUL, as `find -print0` writes them";
 
 /// An option with a value: `--NAME VALUE`.
 pub fn option_arg<'a>(alloc: Global, name: &'a str, value: &'a str, help: &'a str) -> Arg<'a>
@@ -79,6 +85,32 @@ pub fn new_command<'a>(alloc: Global, name: &'a str, about: &'a str, notes: &'a 
         .version(VERSION)
         .about(about)
         .after_help(notes)
+}
+
+/// The option of a list of files: `--files-from LIST`.
+fn list_arg<'a>(alloc: Global) -> Arg<'a>
+    ensures rule { rule_of result ≡ list_option }
+    ensures local { result.global ≡ false }
+{
+    option_arg(alloc, "files-from", "LIST", LIST_HELP)
+}
+
+/// The flag that says what ends the names of a list: `-0`, `--null`.
+fn null_arg<'a>(alloc: Global) -> Arg<'a>
+    ensures rule { rule_of result ≡ null_flag }
+    ensures local { result.global ≡ false }
+{
+    flag_arg(alloc, "null", NULL_HELP).short('0')
+}
+
+/// The command with the options of a list of files: `--files-from LIST` and `-0`.
+pub fn add_list_args<'a>(alloc: Global, command: Command<'a>) -> Result<Command<'a>, AllocError>
+    ensures { IfOk result (λ more. app_of more
+        ≡ with_rule (with_rule (app_of command.entry) list_option) null_flag) }
+{
+    let list = list_arg(alloc);
+    let null = null_arg(alloc);
+    command.arg(list)?.arg(null)
 }
 
 /// All values under this name, in order.

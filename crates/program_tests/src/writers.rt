@@ -2,7 +2,7 @@
 
 use super::running::{NoDisk, run_over};
 use super::shelf::{Content, FIRST, SAMPLE, Shelf};
-use fare_program::{Complaints, LoadFault, main_over, unread_words};
+use fare_program::{Complaints, LoadFault, WordsFault, main_over, unread_words};
 use sample_table::Narrow;
 use std::alloc::Global;
 use std::io;
@@ -156,25 +156,20 @@ fn ends_with_its_status_where_the_fault_cannot_be_told(rt: HostRuntime) -> Resul
     Ok(())
 }
 
-/// Whether words that cannot be read for this reason are told by this line, with this status.
-fn is_told(alloc: Global, kind: io::ErrorKind, line: &[u8], status: u8) -> bool {
+/// Whether words that cannot be had are told by this line, with this status.
+fn is_told(alloc: Global, fault: &WordsFault, line: &[u8], status: u8) -> bool {
     let mut err = Complaints::new(Vec::new(alloc));
-    let ended = unread_words(&io::Error::from(kind), &mut err);
+    let ended = unread_words(fault, &mut err);
     let said = err.into_writer();
     ended == status && said.as_slice() == line
 }
 
 #[test]
-fn tells_of_words_that_cannot_be_had(rt: HostRuntime) {
+fn tells_of_words_that_cannot_be_had(rt: HostRuntime) -> Result<(), Fail> {
     let alloc = rt.alloc();
-    assert!(rt;
-        is_told(
-            alloc,
-            io::ErrorKind::OutOfMemory,
-            b"fault: out of memory\n",
-            1
-        )
-    );
-    let line = b"error: an argument is not UTF-8\n";
-    assert!(rt; is_told(alloc, io::ErrorKind::InvalidData, line, 2));
+    assert!(rt; is_told(alloc, &WordsFault::NoMemory, b"fault: out of memory\n", 1));
+    let shown = String::from_str(alloc, "a\\xff.tap")?;
+    let line = b"error: an argument is not UTF-8: a\\xff.tap\n";
+    assert!(rt; is_told(alloc, &WordsFault::NotUtf8(shown), line, 2));
+    Ok(())
 }

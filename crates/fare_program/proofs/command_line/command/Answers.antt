@@ -1,6 +1,7 @@
 use Rattle.std.proofs.Common.{◌∙◌, ap, ap₂}
 use Rattle.std.proofs.lemmas.Result.{IfOk-weaker}
 use Rattle.clap.specs.Words.{App, with_rule}
+use Rattle.program_manners.specs.Words.{list_option, null_flag}
 use Rattle.fare_program.specs.Options.{explain_flag, file_argument, ledger_flag, program, traced_flag}
 use Rattle.fare_program.proofs.command_line.command.Goals as goal
 
@@ -14,4 +15,6 @@ returns c =
     let five = c.in_ok-arg-5.ensures.shape c.option_arg-token.ensures.local ∙ ap₂ with_rule four c.option_arg-token.ensures.rule in
     let six = c.in_ok-arg-6.ensures.shape c.flag_arg-settle.ensures.local ∙ ap₂ with_rule five c.flag_arg-settle.ensures.rule in
     let seven = c.in_ok-command.ensures.shape c.flag_arg-sorted.ensures.local ∙ ap₂ with_rule six c.flag_arg-sorted.ensures.rule in
-    IfOk-weaker c.with_texts.result _ _ (λ command is. is ∙ ap (λ (a : App). with_rule (with_rule (with_rule (with_rule a ledger_flag) explain_flag) traced_flag) file_argument) seven) c.with_texts.ensures
+    IfOk-weaker c.with_texts.result _ _
+    (λ command is. is ∙ ap (λ (a : App). with_rule (with_rule (with_rule (with_rule (with_rule (with_rule a ledger_flag) explain_flag) traced_flag) list_option) null_flag) file_argument) seven)
+    c.with_texts.ensures

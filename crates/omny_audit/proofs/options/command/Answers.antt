@@ -1,6 +1,7 @@
-use Rattle.std.proofs.Common.{◌∙◌, ap₂}
+use Rattle.std.proofs.Common.{◌∙◌, ap, ap₂}
 use Rattle.std.proofs.lemmas.Result.{IfOk-weaker}
-use Rattle.clap.specs.Words.{with_rule}
+use Rattle.clap.specs.Words.{App, with_rule}
+use Rattle.program_manners.specs.Words.{list_option, null_flag}
 use Rattle.omny_audit.specs.Options.{audit_program}
 use Rattle.omny_audit.proofs.options.command.Goals as goal
 
@@ -9,5 +10,6 @@ unfolding audit_program
 returns c =
     let one = c.in_ok-arg.ensures.shape c.table_arg-table.ensures.local ∙ ap₂ with_rule c.new_command.ensures c.table_arg-table.ensures.rule in
     let two = c.in_ok-arg-2.ensures.shape c.flag_arg-all.ensures.local ∙ ap₂ with_rule one c.flag_arg-all.ensures.rule in
-    let three = c.in_ok-arg-3.ensures.shape c.files_arg-uploads.ensures.local ∙ ap₂ with_rule two c.files_arg-uploads.ensures.rule in
-    IfOk-weaker c.arg-4.result _ _ (λ command adds. adds.shape c.positional_arg-ledger.ensures.local ∙ ap₂ with_rule three c.positional_arg-ledger.ensures.rule) c.arg-4.ensures
+    let three = c.in_ok-command.ensures.shape c.files_arg-uploads.ensures.local ∙ ap₂ with_rule two c.files_arg-uploads.ensures.rule in
+    let four = c.in_ok-add_list_args.ensures ∙ ap (λ (a : App). with_rule (with_rule a list_option) null_flag) three in
+    IfOk-weaker c.arg-4.result _ _ (λ command adds. adds.shape c.positional_arg-ledger.ensures.local ∙ ap₂ with_rule four c.positional_arg-ledger.ensures.rule) c.arg-4.ensures

@@ -1,0 +1,46 @@
+use Rattle.std.proofs.Common.{◌≡◌, List, [], inl, inr, subst}
+use Rattle.std.specs.Prelude.{IfOk, option_map}
+use Rattle.std.proofs.lemmas.Result.{IfErr-weaker}
+use Rattle.clap.specs.Words.{HasKind, Kinds, Row, kind_of}
+use Rattle.clap.specs.declared.error.Error.{Error}
+use Rattle.clap.specs.declared.error.kind.ErrorKind.TheVariants.{OutOfMemory}
+use Rattle.program_manners.specs.ListWords.{list_asked, view_of}
+use Rattle.omny_audit.specs.Options.{IsRightList, IsWrongList}
+use Rattle.omny_audit.proofs.options.list_words.Goals as goal
+
+-- an error where no kind may come is want of memory
+only_memory : (kinds : Kinds) (e : Error) → kinds ≡ [] → HasKind kinds e → kind_of e ≡ OutOfMemory
+only_memory kinds e none has = elim (subst (λ (k : Kinds). HasKind k e) none has) [ inl memory ↦ memory | inr among ↦ absurd among ]
+
+pub returns-in-Ok-clause-list : goal.returns-in-Ok-clause-list
+returns-in-Ok-clause-list c = λ parses.
+    subst (λ (rows : List Row). IfOk c.list_in.result (λ list. option_map view_of list ≡ list_asked rows)) c.in-Ok.ensures.rows c.list_in.ensures.list
+
+pub returns-in-Ok-clause-right : goal.returns-in-Ok-clause-right
+returns-in-Ok-clause-right c = λ parses.
+    subst (λ (rows : List Row). IfOk c.list_in.result (λ _. IsRightList rows)) c.in-Ok.ensures.rows c.list_in.ensures.right
+
+pub returns-in-Ok-clause-wrong : goal.returns-in-Ok-clause-wrong
+returns-in-Ok-clause-wrong c =
+    IfErr-weaker c.list_in.result _ _
+    (λ fault is. inl (c.in-Ok.ensures.kinds, subst (λ (rows : List Row). IsWrongList fault rows) c.in-Ok.ensures.rows is))
+    c.list_in.ensures.wrong
+
+pub returns-in-Ok-clause-unread : goal.returns-in-Ok-clause-unread
+returns-in-Ok-clause-unread c = λ not_read. absurd (not_read c.in-Ok.ensures.kinds)
+
+pub returns-in-Err-clause-list : goal.returns-in-Err-clause-list
+returns-in-Err-clause-list c = λ parses.
+    let failed = c.unread.ensures.memory (only_memory _ c.in-Err.error parses c.in-Err.ensures.kinds) in
+    rw failed tt
+
+pub returns-in-Err-clause-right : goal.returns-in-Err-clause-right
+returns-in-Err-clause-right c = λ parses.
+    let failed = c.unread.ensures.memory (only_memory _ c.in-Err.error parses c.in-Err.ensures.kinds) in
+    rw failed tt
+
+pub returns-in-Err-clause-wrong : goal.returns-in-Err-clause-wrong
+returns-in-Err-clause-wrong c = IfErr-weaker c.unread.result _ _ (λ fault is. inr is) c.unread.ensures.fault
+
+pub returns-in-Err-clause-unread : goal.returns-in-Err-clause-unread
+returns-in-Err-clause-unread c = λ not_read. c.unread.ensures.list

@@ -1,0 +1,43 @@
+use Rattle.std.proofs.Common.{Bor, ◌≡◌, ◌⊎◌, ◌++◌, ◌∷◌, [], ◌∙◌, ◌+◌, ℕ, List, ap, sym, subst, arith, length, map}
+use Rattle.std.proofs.lemmas.List.{length-map, map-append}
+use Rattle.program_manners.specs.FileLists.{IsListedName, Lacks, end_byte}
+use Rattle.program_manners.specs.inside.FileLists.{AreReadFrom}
+use Rattle.program_manners.proofs.NameLists.{name_read, some_left, wrong_read}
+use Rattle.program_manners.proofs.file_list.names_of_list.Goals as goal
+
+-- a text is split at its first end of a name
+abbrev Split : List ℕ → List ℕ → List ℕ → ℕ → Type 0
+Split rest piece behind end =
+    Lacks end piece × ((rest ≡ piece ++ end ∷ behind) ⊎ ((rest ≡ piece) × (behind ≡ [])))
+
+pub returns-in-Err-clause-refused : goal.returns-in-Err-clause-refused
+returns-in-Err-clause-refused c =
+    let rest = c.loop-rest.rest.now in
+    let piece = c.split_name.result.0.now in
+    let behind = c.split_name.result.1.now in
+    let split = subst (Split rest piece behind) c.byte.ensures (c.split_name.ensures.first, c.split_name.ensures.whole) in
+    let counted : c.len.result + 1 ≡ length (map (λ (n : Bor (List ℕ)). n.now) c.loop-rest.names.items) + 1 =
+    omega (arith, c.len.ensures, length-map c.loop-rest.names.items (λ (n : Bor (List ℕ)). n.now)) in
+    wrong_read _ c.args.text.now _ rest piece behind _ c.in-Err.wrong c.loop-rest.invariant
+    (some_left rest (sym c.is_empty-in-loop-rest.ensures ∙ c.loop-rest-test.true)) counted split.0 c.in-Err.ensures.wrong split.1
+
+pub loop-rest-preserved : goal.loop-rest-preserved
+loop-rest-preserved c =
+    let rest = c.loop-rest.rest.now in
+    let piece = c.split_name.result.0.now in
+    let behind = c.split_name.result.1.now in
+    let now : Bor (List ℕ) → List ℕ = λ n. n.now in
+    let split = subst (Split rest piece behind) c.byte.ensures (c.split_name.ensures.first, c.split_name.ensures.whole) in
+    let is_name : IsListedName (end_byte c.args.end) piece = record {
+      some = c.in-Ok.ensures.right.0;
+      no_nul = c.in-Ok.ensures.right.1;
+      no_end = split.0;
+      is_text = c.in-Ok.ensures.right.2;
+    } in
+    let more : map now c.push.new.self.items ≡ map now c.loop-rest.names.items ++ piece ∷ [] =
+    ap (map now) c.in_ok-push-in-Ok.ensures.items
+    ∙ map-append now c.loop-rest.names.items (c.in-Ok.name ∷ [])
+    ∙ ap (λ (n : List ℕ). map now c.loop-rest.names.items ++ n ∷ []) c.in-Ok.ensures.name in
+    subst (λ (names : List (List ℕ)). AreReadFrom (end_byte c.args.end) c.args.text.now names behind) (sym more)
+    (name_read _ c.args.text.now _ rest piece behind c.loop-rest.invariant
+    (some_left rest (sym c.is_empty-in-loop-rest.ensures ∙ c.loop-rest-test.true)) is_name split.1)

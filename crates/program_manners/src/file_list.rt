@@ -1,0 +1,155 @@
+//! The names of files that a text lists.
+ghost use Rattle.std.specs.Prelude.{◌≡◌, ◌≢◌, ◌⊎◌, ◌++◌, ◌∷◌, [], IfErr, IfOk, IsUtf8, OnOk, map};
+ghost use Rattle.program_manners.specs.FileLists.{AreNamesOf, IsRefusedList, IsWrongBy, Lacks};
+ghost use Rattle.program_manners.specs.FileLists.{end_byte};
+
+use crate::loading::LoadFault;
+use memchr::memchr;
+use std::alloc::{AllocError, AllocFailed, Global};
+
+/// What ends each name of a list.
+#[derive(Clone, Copy, Debug, PartialEq, Eq)]
+pub enum NameEnd {
+    /// A line feed: a name is a line.
+    LineFeed,
+    /// A NUL, so that a name may have line feeds.
+    Nul,
+}
+
+impl NameEnd {
+    /// The byte.
+    fn byte(self) -> u8
+        ensures { result ≡ end_byte self }
+    {
+        match self {
+            NameEnd::LineFeed => b'\n',
+            NameEnd::Nul => 0,
+        }
+    }
+}
+
+/// Why a name of a list is refused.
+#[derive(Clone, Copy, Debug, PartialEq, Eq)]
+pub enum WrongName {
+    /// It is empty.
+    Empty,
+    /// It has a NUL, which no file's name has.
+    HasNul,
+    /// It is not UTF-8.
+    NotUtf8,
+}
+
+/// Why a list gives no names. The first two are mistakes in the words.
+#[derive(Clone, Copy, Debug, PartialEq, Eq)]
+pub enum ListFault {
+    /// It is said what ends its names, and no list is named.
+    NullAlone,
+    /// The list is standard input, and so is a file.
+    InputTwice,
+    /// It could not be read.
+    Unread,
+    /// It has more than 67,108,864 bytes.
+    TooLong,
+    /// It is empty.
+    NoNames,
+    /// Its name of this number, from 1 on, is refused.
+    Name(usize, WrongName),
+    /// A growth of memory was refused.
+    NoMemory,
+}
+
+impl From<LoadFault> for ListFault {
+    ghost use Rattle.program_manners.specs.FileLists.{list_fault_of};
+
+    ghost from_gives = { λ load fault. fault ≡ list_fault_of load };
+
+    fn from(fault: LoadFault) -> ListFault {
+        match fault {
+            LoadFault::Unread => ListFault::Unread,
+            LoadFault::TooLong => ListFault::TooLong,
+            LoadFault::NoMemory => ListFault::NoMemory,
+        }
+    }
+}
+
+impl From<AllocError> for ListFault {
+    ghost use Rattle.program_manners.specs.declared.file_list.ListFault.TheVariants.{NoMemory};
+
+    ghost from_gives = { λ _ fault. fault ≡ NoMemory };
+
+    fn from(_refused: AllocError) -> ListFault {
+        ListFault::NoMemory
+    }
+}
+
+impl<T: Drop> From<AllocFailed<T>> for ListFault {
+    ghost use Rattle.program_manners.specs.declared.file_list.ListFault.TheVariants.{NoMemory};
+
+    ghost from_gives = { λ _ fault. fault ≡ NoMemory };
+
+    fn from(_refused: AllocFailed<T>) -> ListFault {
+        ListFault::NoMemory
+    }
+}
+
+/// What stands before the first such byte of the text, and what stands behind it. If there is none,
+/// it is all of the text, and nothing.
+fn split_name(text: &[u8], end: u8) -> (&[u8], &[u8])
+    ensures first { Lacks end result.0.now }
+    ensures whole { (text.now ≡ result.0.now ++ end ∷ result.1.now)
+        ⊎ ((text.now ≡ result.0.now) × (result.1.now ≡ [])) }
+{
+    match memchr(end, text) {
+        Some(at) => (&text[..at], &text[at + 1..]),
+        None => (text, &[]),
+    }
+}
+
+/// The name of these bytes; else why they are none.
+fn name_of(bytes: &[u8]) -> Result<&str, WrongName>
+    ensures name { IfOk result (λ name. name.now ≡ bytes.now) }
+    ensures right { OnOk result ((bytes.now ≢ []) × Lacks 0 bytes.now × IsUtf8 bytes.now) }
+    ensures wrong { IfErr result (λ wrong. IsWrongBy wrong bytes.now) }
+{
+    if bytes.is_empty() {
+        return Err(WrongName::Empty);
+    }
+    match memchr(0, bytes) {
+        Some(_) => Err(WrongName::HasNul),
+        None => match str::from_utf8(bytes) {
+            Ok(name) => Ok(name),
+            Err(_) => Err(WrongName::NotUtf8),
+        },
+    }
+}
+
+/// The names that the text lists, in their order: what stands between the bytes that end names. The
+/// last name need not be ended.
+///
+/// # Errors
+///
+/// The first name that is empty, has a NUL or is not UTF-8; a list without a name; refused memory.
+pub fn names_of_list<'a>(
+    alloc: Global,
+    text: &'a [u8],
+    end: NameEnd,
+) -> Result<Vec<&'a str>, ListFault>
+    ensures names { IfOk result (λ names. AreNamesOf (end_byte end) text.entry.now
+        (map (λ n. n.now) names.items)) }
+    ensures refused { IfErr result (λ fault. IsRefusedList (end_byte end) text.entry.now fault) }
+{
+    if text.is_empty() {
+        return Err(ListFault::NoNames);
+    }
+    let mut names = Vec::new(alloc);
+    let mut rest = text;
+    while !rest.is_empty() {
+        let (piece, behind) = split_name(rest, end.byte());
+        match name_of(piece) {
+            Ok(name) => names.push(name)?,
+            Err(wrong) => return Err(ListFault::Name(names.len() + 1, wrong)),
+        }
+        rest = behind;
+    }
+    Ok(names)
+}
