@@ -19,6 +19,7 @@
 //! | `output` | texts written out whole |
 //! | `fault` | why the program gives up, and the line that says so |
 //! | `note` | what a person should know of a run before it begins |
+//! | `noting` | loaded uploads whose charging is noted, for whoever watches the run |
 //! | `program` | the whole |
 #![tactic(auto)]
 
@@ -31,6 +32,7 @@ mod lines;
 mod listing;
 mod named_files;
 mod note;
+mod noting;
 mod options;
 mod output;
 mod posting;
@@ -45,7 +47,7 @@ mod source;
 mod traced;
 mod uploads;
 
-pub use files_ahead::{Disk, FileAhead, read_ahead};
+pub use files_ahead::{Amount, Disk, FileAhead, read_ahead};
 pub use host::Host;
 pub use note::Note;
 pub use program::main_over;
