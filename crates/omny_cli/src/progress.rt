@@ -225,6 +225,9 @@ impl Sight {
 
     /// What is charged and of how much, if that is known.
     pub(crate) fn charged(&self) -> Option<Reading> {
+        if self.steps.stage != Stage::Loaded {
+            return None;
+        }
         match self.work() {
             Some(Work::Bytes(reading) | Work::Taps(reading)) => Some(reading),
             _ => None,
