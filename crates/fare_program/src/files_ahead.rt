@@ -42,6 +42,22 @@ pub trait Disk {
     /// All bytes of the file of this name, read into the memory of `room`. What stands there is
     /// overwritten, and more room is asked for where the file is no shorter.
     fn read_into(&self, name: &str, room: Vec<u8>) -> Result<Vec<u8>, LoadFault>;
+
+    /// Notes how much is to be charged, before anything is. It serves whoever watches the run:
+    /// nothing else depends on it.
+    fn note_all(&self, _all: Amount) {}
+
+    /// Notes that so much more of it is charged.
+    fn note_charged(&self, _more: Amount) {}
+}
+
+/// How much of what was uploaded.
+#[derive(Clone, Copy, Debug, PartialEq, Eq)]
+pub enum Amount {
+    /// So many taps.
+    Taps(u64),
+    /// Uploads of so many bytes.
+    Bytes(u64),
 }
 
 /// What came of reading a file before it is due.

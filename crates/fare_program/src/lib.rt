@@ -20,6 +20,7 @@
 //! | `output` | texts written out whole |
 //! | `fault` | why the program gives up, and the line that says so |
 //! | `note` | what a person should know of a run before it begins |
+//! | `noting` | loaded uploads whose charging is noted, for whoever watches the run |
 //! | `program` | the whole |
 #![tactic(auto)]
 
@@ -34,6 +35,7 @@ mod listing;
 mod named_files;
 mod named_list;
 mod note;
+mod noting;
 mod options;
 mod output;
 mod posting;
@@ -48,7 +50,7 @@ mod source;
 mod traced;
 mod uploads;
 
-pub use files_ahead::{Disk, FileAhead, read_ahead};
+pub use files_ahead::{Amount, Disk, FileAhead, read_ahead};
 pub use host::Host;
 pub use named_list::list_words;
 pub use note::Note;

@@ -5,7 +5,7 @@ ghost use Rattle.fare_program.specs.inside.Options.{asked_of};
 ghost use Rattle.fare_program.specs.inside.ChargedAhead.{IsChargedAhead};
 
 use crate::fault::Fault;
-use crate::files_ahead::Disk;
+use crate::files_ahead::{Amount, Disk};
 use crate::options::Options;
 use crate::settle::charge_settled;
 use fare_table::FareTable;
@@ -64,6 +64,14 @@ impl<D: Disk> Uploads for NamedFiles<'_, D> {
             Ok(bytes) => Ok(bytes),
             Err(_) => Err(AllocError),
         }
+    }
+
+    fn note_all(&self, taps: u64) {
+        self.disk.note_all(Amount::Taps(taps));
+    }
+
+    fn note_charged(&self, taps: u64) {
+        self.disk.note_charged(Amount::Taps(taps));
     }
 }
 

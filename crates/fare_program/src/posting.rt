@@ -7,6 +7,8 @@ ghost use Rattle.fare_program.specs.inside.Options.{asked_of};
 ghost use Rattle.fare_program.specs.Program.{ShowsAsked, ShowsOf, ShowsStatement, ShowsWith};
 
 use crate::fault::Fault;
+use crate::files_ahead::Disk;
+use crate::noting::NotedUploads;
 use crate::options::Options;
 use crate::output::flush;
 use crate::run::{are_posted, post_live};
@@ -14,7 +16,6 @@ use crate::settle::charge_settled;
 use fare_service::Outcome;
 use fare_table::FareTable;
 use ledger_texts::{write_explained, write_ledger};
-use settlement::LoadedUploads;
 use std::alloc::Global;
 use std::io::Write;
 use std::marker::Sync;
@@ -97,10 +98,11 @@ fn print_asked<'a, R: Threads + Sync, W: Write>(
 }
 
 /// Posts the files, settled where that is asked for, and writes what is asked for. Says whether
-/// each file was posted whole.
-pub(crate) fn charge<'a, R: Threads + Wait + RandomSource + Sync, W: Write>(
+/// each file was posted whole. What is charged is noted on the disk.
+pub(crate) fn charge<'a, R: Threads + Wait + RandomSource + Sync, D: Disk + Sync, W: Write>(
     rt: &R,
     alloc: Global,
+    disk: &D,
     options: &Options<'a>,
     table: FareTable,
     token: Option<Token>,
@@ -117,10 +119,10 @@ pub(crate) fn charge<'a, R: Threads + Wait + RandomSource + Sync, W: Write>(
         → Keeps (W.contents out.old) (W.contents out.new)) }
 {
     if options.settle {
-        let uploads = LoadedUploads { all: &files };
+        let uploads = NotedUploads { disk, all: &files };
         return charge_settled(rt, alloc, options, &table, token, &uploads, out);
     }
-    let outcome = post_live(rt, alloc, table, options, files)?;
+    let outcome = post_live(rt, alloc, disk, table, options, files)?;
     print_asked(rt, alloc, options, &outcome, token, out)?;
     flush(out)?;
     Ok(are_posted(outcome.ends()))

@@ -349,7 +349,7 @@ fn work_by_table<'a, R: Threads + Wait + RandomSource + Sync, D: Disk + Sync, S:
         return list(alloc, table, &files, out);
     }
     match table {
-        Some(table) => charge(rt, alloc, options, table, token, files, out),
+        Some(table) => charge(rt, alloc, disk, options, table, token, files, out),
         None => list(alloc, None, &files, out),
     }
 }

@@ -11,8 +11,10 @@ ghost use Rattle.fare_service.specs.Headline.{HasRun};
 ghost use Rattle.fare_program.specs.inside.PostedFiles.{IsLiveRun};
 
 use crate::fault::Fault;
+use crate::files_ahead::Disk;
+use crate::noting::NotingGate;
 use crate::options::Options;
-use fare_service::{OpenGate, Outcome, Service, UploadEnd, laws};
+use fare_service::{Outcome, Service, UploadEnd, laws};
 use fare_table::FareTable;
 use std::alloc::Global;
 use std::marker::Sync;
@@ -21,10 +23,12 @@ use std::sync::Wait;
 use std::thread::Threads;
 use tap_views::laws::one_reading_each;
 
-/// What the service comes to over these uploads, by this table.
-pub(crate) fn outcome_of<'a, R: Threads + Wait + RandomSource + Sync>(
+/// What the service comes to over these uploads, by this table. Each upload is noted on the disk when
+/// it is posted.
+pub(crate) fn outcome_of<'a, R: Threads + Wait + RandomSource + Sync, D: Disk + Sync>(
     rt: &R,
     alloc: Global,
+    disk: &D,
     table: FareTable,
     options: &Options<'a>,
     files: &[Vec<u8>],
@@ -37,7 +41,8 @@ pub(crate) fn outcome_of<'a, R: Threads + Wait + RandomSource + Sync>(
         Ok(opened) => opened,
         Err(fault) => return Err(Fault::of_open(fault)),
     };
-    match service.run(rt, alloc, share, options.workers, &OpenGate) {
+    let gate = NotingGate::new(disk, files);
+    match service.run(rt, alloc, share, options.workers, &gate) {
         Ok(outcome) => Ok(outcome),
         Err(fault) => Err(Fault::of_run(fault)),
     }
@@ -59,10 +64,11 @@ fn shows_plain(files: &[Vec<u8>], outcome: &Outcome)
     laws::statements_are_plain(files, outcome);
 }
 
-/// Posts the files as they are.
-pub(crate) fn post_live<'a, R: Threads + Wait + RandomSource + Sync>(
+/// Posts the files as they are. Each is noted on the disk when it is posted.
+pub(crate) fn post_live<'a, R: Threads + Wait + RandomSource + Sync, D: Disk + Sync>(
     rt: &R,
     alloc: Global,
+    disk: &D,
     table: FareTable,
     options: &Options<'a>,
     files: Vec<Vec<u8>>,
@@ -73,7 +79,7 @@ pub(crate) fn post_live<'a, R: Threads + Wait + RandomSource + Sync>(
     ensures status { IfErr result (λ fault. status_of fault ≡ 1) }
 {
     let uploads = files.as_slice();
-    let outcome = outcome_of(rt, alloc, table, options, uploads)?;
+    let outcome = outcome_of(rt, alloc, disk, table, options, uploads)?;
     // proof: where no token has taps in two files, what is shown does not depend on the schedule
     shows_plain(uploads, &outcome);
     Ok(outcome)

@@ -1,12 +1,12 @@
-//! A writer that takes the line away before it writes.
+//! A writer that takes the line away before it writes to where the line is.
 
 use crate::ticker::Ticker;
 use std::io;
 use std::io::Write;
 use std::sync::Wait;
 
-/// A writer before whose first byte the line is taken away for good. What it holds is what the
-/// writer below holds.
+/// A writer before whose first byte the line is taken away for good, unless it writes to a file. It
+/// counts what it writes. What it holds is what the writer below holds.
 #[derive(Drop)]
 pub(crate) struct Hushing<'a, R: Wait, W: Write + Drop> {
     /// What may wait for the line.
@@ -15,18 +15,18 @@ pub(crate) struct Hushing<'a, R: Wait, W: Write + Drop> {
     ticker: &'a Ticker,
     /// Where the bytes go.
     to: W,
-    /// Whether it has taken the line away.
+    /// Whether the line may stay, or was taken away.
     is_over: bool,
 }
 
 impl<'a, R: Wait, W: Write + Drop> Hushing<'a, R, W> {
-    /// A writer to which nothing was written.
-    pub(crate) fn new(rt: &'a R, ticker: &'a Ticker, to: W) -> Hushing<'a, R, W> {
+    /// A writer to which nothing was written, and whether that is a file: beside it the line stays.
+    pub(crate) fn new(rt: &'a R, ticker: &'a Ticker, to: W, is_file: bool) -> Hushing<'a, R, W> {
         Hushing {
             rt,
             ticker,
             to,
-            is_over: false,
+            is_over: is_file,
         }
     }
 }
@@ -39,7 +39,9 @@ impl<R: Wait, W: Write + Drop> Write for Hushing<'_, R, W> {
             self.ticker.end(self.rt);
             self.is_over = true;
         }
-        self.to.write(bytes)
+        let count = self.to.write(bytes)?;
+        self.ticker.meters.written.add(count as u64);
+        Ok(count)
     }
 
     fn flush(&mut self) -> io::Result<()> {

@@ -4,7 +4,9 @@
 //!
 //! | module | what it does |
 //! |---|---|
+//! | `meter` | counts of work that is done by some threads while another reads them |
 //! | `progress` | how far a run is |
+//! | `pace` | how long its work takes still |
 //! | `watched` | reads that are noted in its steps |
 //! | `ticker` | the line on the terminal |
 //! | `hushing` | writers that take the line away first |
@@ -13,6 +15,8 @@
 
 mod beside;
 mod hushing;
+mod meter;
+mod pace;
 mod progress;
 mod ticker;
 mod watched;
@@ -22,6 +26,7 @@ use fare_program::{Complaints, Host, Note, list_words, unread_words, words_of};
 use hushing::Hushing;
 use program_manners::take_list;
 use progress::Steps;
+use std::fs;
 use std::io::IsTerminal;
 use std::process::ExitCode;
 use ticker::Ticker;
@@ -50,6 +55,15 @@ fn words_with_list(rt: &HostRuntime) -> Result<Vec<String>, u8> {
     Ok(more.unwrap_or(words))
 }
 
+/// Whether the standard output is a file, which no terminal shows. It is asked by the name that the
+/// system has for it: where there is none, it is taken for no file.
+fn writes_to_file(rt: &HostRuntime) -> bool {
+    match fs::metadata(rt, "/dev/stdout") {
+        Ok(about) => about.is_file(),
+        Err(_) => false,
+    }
+}
+
 /// The program.
 fn main(rt: HostRuntime) -> ExitCode {
     let words = match words_with_list(&rt) {
@@ -63,7 +77,7 @@ fn main(rt: HostRuntime) -> ExitCode {
         &ticker,
         &WatchedDisk::new(&rt, &ticker),
         &mut Watched::new(&rt, &ticker, Host::new(&rt)),
-        &mut Hushing::new(&rt, &ticker, rt.stdout()),
-        &mut Complaints::new(Hushing::new(&rt, &ticker, rt.stderr())),
+        &mut Hushing::new(&rt, &ticker, rt.stdout(), writes_to_file(&rt)),
+        &mut Complaints::new(Hushing::new(&rt, &ticker, rt.stderr(), false)),
     ))
 }

@@ -1,5 +1,6 @@
-//! How far a run is, as far as that is seen from its reads.
+//! How far a run is, as far as that is seen from its reads and its meters.
 
+use crate::meter::{Reading, Readings};
 use std::fmt;
 use std::fmt::{Display, Formatter, Write};
 
@@ -18,13 +19,27 @@ enum Stage {
     Loaded,
 }
 
-/// How far a run is. Shown, it is what the run does now.
+/// A MiB in bytes.
+const MIB: u64 = 1_048_576;
+
+/// From so many taps on millions are shown, and thousands below.
+const MANY_TAPS: u64 = 10_000_000;
+
+/// A thousand taps.
+const THOUSAND: u64 = 1_000;
+
+/// A million taps.
+const MILLION: u64 = 1_000_000;
+
+/// How far a run is.
 #[derive(Clone, Copy, Debug)]
 pub(crate) struct Steps {
     /// What it does.
     stage: Stage,
     /// Whether the words ask for a listing.
     asks_for_list: bool,
+    /// Whether sorted files are read once to be checked, before they are read to be charged.
+    checks_first: bool,
     /// Whether it has read a fare table.
     has_table: bool,
     /// How many files there are, as far as it has looked.
@@ -42,7 +57,8 @@ impl Steps {
     pub(crate) fn of(words: &[String]) -> Steps {
         Steps {
             stage: Stage::Starting,
-            asks_for_list: asks_for_list(words),
+            asks_for_list: asks_for(words, "--list"),
+            checks_first: asks_for(words, "--ledger") && !asks_for(words, "--token"),
             has_table: false,
             found: 0,
             knows_all: true,
@@ -125,30 +141,134 @@ impl Steps {
     }
 }
 
-/// Whether the words ask for a listing. Words behind `--` are names of files.
-fn asks_for_list(words: &[String]) -> bool {
+/// Whether the words ask for this: by the word alone, or by it and a value behind `=`. Words behind
+/// `--` are names of files.
+fn asks_for(words: &[String], option: &str) -> bool {
     for word in words {
-        match word.as_str() {
-            "--" => return false,
-            "--list" => return true,
-            _ => {}
+        if word.as_str() == "--" {
+            return false;
+        }
+        let name = match word.as_str().split_once('=') {
+            Some((name, _)) => name,
+            None => word.as_str(),
+        };
+        if name == option {
+            return true;
         }
     }
     false
 }
 
-impl Display for Steps {
+/// What is seen of a run at a moment. Shown, it is what the run does then.
+#[derive(Clone, Copy, Debug)]
+pub(crate) struct Sight {
+    /// How far it is.
+    pub(crate) steps: Steps,
+    /// What its meters read.
+    pub(crate) readings: Readings,
+}
+
+/// Work of which it is known how much there is.
+#[derive(Clone, Copy, Debug, PartialEq, Eq)]
+enum Work {
+    /// Bytes of sorted files are read and checked.
+    Checking(Reading),
+    /// Bytes of uploads or of sorted files are charged.
+    Bytes(Reading),
+    /// Taps are charged.
+    Taps(Reading),
+}
+
+impl Sight {
+    /// The work that goes on, if it is known how much there is.
+    fn work(&self) -> Option<Work> {
+        let Readings {
+            taps,
+            posted,
+            sorted,
+            written: _,
+        } = self.readings;
+        if taps.goes_on() {
+            return Some(Work::Taps(taps));
+        }
+        if posted.goes_on() {
+            return Some(Work::Bytes(posted));
+        }
+        if sorted.goes_on() && self.steps.checks_first {
+            return Some(Work::Checking(sorted));
+        }
+        let charged = if self.steps.checks_first {
+            sorted.again()
+        } else {
+            sorted
+        };
+        if charged.goes_on() {
+            return Some(Work::Bytes(charged));
+        }
+        None
+    }
+
+    /// Shows what a run does that has read all that it needs, or goes on to read sorted files.
+    fn fmt_loaded<W: Write>(&self, f: &mut Formatter<W>) -> fmt::Result {
+        if let Some(work) = self.work() {
+            return work.fmt(f);
+        }
+        let written = self.readings.written.done;
+        if written > 0 {
+            return write!(f, "{} MiB written", written / MIB);
+        }
+        if self.steps.asks_for_list || !self.steps.has_table {
+            return f.write_str("listing");
+        }
+        f.write_str("charging")
+    }
+
+    /// What is charged and of how much, if that is known.
+    pub(crate) fn charged(&self) -> Option<Reading> {
+        if self.steps.stage != Stage::Loaded {
+            return None;
+        }
+        match self.work() {
+            Some(Work::Bytes(reading) | Work::Taps(reading)) => Some(reading),
+            _ => None,
+        }
+    }
+}
+
+impl Display for Work {
     fn fmt<W: Write>(&self, f: &mut Formatter<W>) -> fmt::Result {
-        match self.stage {
+        match self {
+            Work::Checking(read) => {
+                write!(f, "checking {} of {} MiB", read.done / MIB, read.all / MIB)
+            }
+            Work::Bytes(charged) => {
+                write!(f, "charging {} of {} MiB", charged.done / MIB, charged.all / MIB)
+            }
+            Work::Taps(charged) => {
+                let (unit, name) = if charged.all < MANY_TAPS {
+                    (THOUSAND, "thousand")
+                } else {
+                    (MILLION, "million")
+                };
+                let (done, all) = (charged.done / unit, charged.all / unit);
+                write!(f, "charging {done} of {all} {name} taps")
+            }
+        }
+    }
+}
+
+impl Display for Sight {
+    fn fmt<W: Write>(&self, f: &mut Formatter<W>) -> fmt::Result {
+        let steps = &self.steps;
+        match steps.stage {
             Stage::Starting => f.write_str("starting"),
             Stage::Table => f.write_str("reading the table"),
-            Stage::Files if self.knows_all => {
-                write!(f, "{} of {} files read", self.read(), self.found)
+            Stage::Files if steps.knows_all => {
+                write!(f, "{} of {} files read", steps.read(), steps.found)
             }
-            Stage::Files => write!(f, "{} files read", self.read()),
+            Stage::Files => write!(f, "{} files read", steps.read()),
             Stage::Input => f.write_str("reading the standard input"),
-            Stage::Loaded if self.has_table && !self.asks_for_list => f.write_str("charging"),
-            Stage::Loaded => f.write_str("listing"),
+            Stage::Loaded => self.fmt_loaded(f),
         }
     }
 }

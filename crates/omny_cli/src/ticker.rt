@@ -1,7 +1,9 @@
 //! A line on a terminal that says what a long run does: it is shown from the first second on, and
 //! is gone before anything else is written.
 
-use crate::progress::Steps;
+use crate::meter::Meters;
+use crate::pace::Pace;
+use crate::progress::{Sight, Steps};
 use program_manners::{PACE_MS, QUIET_MS, TerminalLine};
 use std::io;
 use std::sync::{Condvar, Mutex, Wait};
@@ -24,11 +26,18 @@ impl Line {
     }
 }
 
+/// How many milliseconds have passed, or 2^64 - 1 if there are more.
+fn millis_of(passed: Duration) -> u64 {
+    u64::try_from(passed.as_millis()).unwrap_or(u64::MAX)
+}
+
 /// What a run and the thread that shows its line share.
 #[derive(Drop)]
 pub struct Ticker {
     /// How far the run is.
     pub(crate) steps: Mutex<Steps>,
+    /// How much of its work is done.
+    pub(crate) meters: Meters,
     /// The line, which one thread at a time writes.
     line: Mutex<Line>,
     /// Rung when the line is taken away for good.
@@ -40,6 +49,7 @@ impl Ticker {
     pub(crate) fn new(steps: Steps, err: io::Stderr, is_terminal: bool) -> Ticker {
         Ticker {
             steps: Mutex::new(steps),
+            meters: Meters::new(),
             line: Mutex::new(Line {
                 shown: TerminalLine::new(err),
                 is_over: !is_terminal,
@@ -54,6 +64,7 @@ impl Ticker {
         let Ok(begun) = Instant::now(rt) else {
             return;
         };
+        let mut pace = Pace::new();
         let mut pause_ms = QUIET_MS;
         for _ in rt.forever() {
             if self.is_over_after(rt, pause_ms) {
@@ -63,7 +74,7 @@ impl Ticker {
                 return;
             };
             if passed.as_millis() >= u128::from(QUIET_MS) {
-                self.show(rt, passed.as_secs());
+                self.show(rt, passed, &mut pace);
                 pause_ms = PACE_MS;
             }
         }
@@ -82,11 +93,22 @@ impl Ticker {
     }
 
     /// Shows the line, unless it was taken away for good.
-    fn show<R: Wait>(&self, rt: &R, seconds: u64) {
-        let steps = *self.steps.lock(rt);
+    fn show<R: Wait>(&self, rt: &R, passed: Duration, pace: &mut Pace) {
+        let sight = self.sight(rt);
+        let left = pace.see(millis_of(passed), sight.charged());
+        let seconds = passed.as_secs();
         let mut line = self.line.lock(rt);
         if !line.is_over {
-            line.shown.show(format_args!("{steps}, {seconds} s"));
+            line.shown.show(format_args!("{sight}, {seconds} s{left}"));
+        }
+    }
+
+    /// What is seen of the run now.
+    fn sight<R: Wait>(&self, rt: &R) -> Sight {
+        let steps = *self.steps.lock(rt);
+        Sight {
+            steps,
+            readings: self.meters.read(),
         }
     }
 

@@ -1,9 +1,11 @@
 //! Reads that are noted in a run's steps.
 
+use crate::meter::Meter;
 use crate::ticker::Ticker;
-use fare_program::{Disk, FileAhead, LoadFault, Source};
-use placed_files::Unopened;
+use fare_program::{Amount, Disk, FileAhead, LoadFault, Source};
+use placed_files::{FileStamp, Placed, Unopened};
 use std::alloc::{AllocError, Global};
+use std::io;
 use std::sync::Wait;
 
 /// A disk or a source whose reads are noted. It gives what the one below gives.
@@ -40,15 +42,52 @@ impl<'a, R: Wait> WatchedDisk<'a, R> {
     }
 }
 
-impl<R: Disk + Wait> Disk for WatchedDisk<'_, R> {
-    type File = R::File;
+/// A file whose reads are counted. It gives what the one below gives.
+#[derive(Drop)]
+pub(crate) struct WatchedFile<'a, F: Drop> {
+    /// Counts the bytes that are read.
+    meter: &'a Meter,
+    /// What is read.
+    from: F,
+}
+
+impl<F: Placed + Drop> Placed for WatchedFile<'_, F> {
+    ghost bytes = { λ w. F.bytes w.from };
+
+    fn read_from(&self, buffer: &mut [u8], offset: u64) -> io::Result<usize> {
+        let count = self.from.read_from(buffer, offset)?;
+        self.meter.add(count as u64);
+        Ok(count)
+    }
+
+    fn stamp(&self) -> io::Result<FileStamp> {
+        self.from.stamp()
+    }
+}
+
+impl<'a, R: Disk + Wait> WatchedDisk<'a, R> {
+    /// The meter of what is counted so, and how much it is.
+    fn metered(&self, amount: Amount) -> (&'a Meter, u64) {
+        match amount {
+            Amount::Taps(taps) => (&self.ticker.meters.taps, taps),
+            Amount::Bytes(bytes) => (&self.ticker.meters.posted, bytes),
+        }
+    }
+}
+
+impl<'a, R: Disk + Wait> Disk for WatchedDisk<'a, R> {
+    type File = WatchedFile<'a, R::File>;
 
     ghost bytes_under = { λ w name. R.bytes_under w.rt.now name };
 
-    fn open_placed(&self, name: &str) -> Result<R::File, Unopened> {
-        let file = self.rt.open_placed(name)?;
+    fn open_placed(&self, name: &str) -> Result<WatchedFile<'a, R::File>, Unopened> {
+        let from = self.rt.open_placed(name)?;
+        let meter = &self.ticker.meters.sorted;
+        if let Ok(stamp) = from.stamp() {
+            meter.extend(stamp.bytes);
+        }
         self.ticker.steps.lock(self.rt).open();
-        Ok(file)
+        Ok(WatchedFile { meter, from })
     }
 
     fn size_ahead(&self, name: &str) -> Option<u64> {
@@ -78,6 +117,16 @@ impl<R: Disk + Wait> Disk for WatchedDisk<'_, R> {
         let bytes = self.rt.read_into(name, room)?;
         self.ticker.steps.lock(self.rt).end_settled();
         Ok(bytes)
+    }
+
+    fn note_all(&self, all: Amount) {
+        let (meter, all) = self.metered(all);
+        meter.begin(all);
+    }
+
+    fn note_charged(&self, more: Amount) {
+        let (meter, more) = self.metered(more);
+        meter.add(more);
     }
 }
 

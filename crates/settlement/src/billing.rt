@@ -6,6 +6,7 @@ ghost use Rattle.settlement.specs.inside.Billing.{IsPartBilled, IsSoundPart};
 
 use crate::bill::Bill;
 use crate::pieces::Pieces;
+use crate::uploads::Uploads;
 use fare_table::{Clock, FareTable};
 use shard_book::HashSeed;
 use std::alloc::Global;
@@ -46,11 +47,21 @@ fn add_part(
     Ok(())
 }
 
-/// The bill of the parts, in their order.
-fn bill_of(
+/// How many taps the parts have, or 2^64 - 1 if there are more.
+fn count_of(parts: &[Pieces]) -> u64 {
+    let mut taps = 0u64;
+    for pieces in parts {
+        taps = taps.saturating_add(pieces.count());
+    }
+    taps
+}
+
+/// The bill of the parts, in their order. Each is noted when it is charged.
+fn bill_of<U: Uploads>(
     alloc: Global,
     table: &FareTable,
     seed: HashSeed,
+    uploads: &U,
     parts: &[Pieces],
 ) -> Result<Bill, NoMemory>
     requires sound { All IsSoundPart parts.now }
@@ -63,17 +74,20 @@ fn bill_of(
     let mut bill = Bill::new(alloc, seed);
     for pieces in parts {
         add_part(alloc, table, &clock, &mut list, pieces, &mut bill)?;
+        uploads.note_charged(pieces.count());
     }
     Ok(bill)
 }
 
 /// The bill of the parts, in their order. So many workers make the bill of a run of parts each;
-/// where a thread is refused, another does its work.
-pub(crate) fn bill_by_threads<R: Threads + Sync>(
+/// where a thread is refused, another does its work. The parts are noted for whoever watches the
+/// uploads.
+pub(crate) fn bill_by_threads<R: Threads + Sync, U: Uploads + Sync>(
     rt: &R,
     alloc: Global,
     table: &FareTable,
     seed: HashSeed,
+    uploads: &U,
     parts: &[Pieces],
     workers: u32,
 ) -> Result<Bill, NoMemory>
@@ -82,13 +96,14 @@ pub(crate) fn bill_by_threads<R: Threads + Sync>(
     requires few { length parts.now ≤ 65535 }
     ensures { IfOk result (IsBillOfParts table.now parts.now) }
 {
+    uploads.note_all(count_of(parts));
     let size = parts.len().div_ceil(workers.max(1) as usize).max(1);
     let bills = thread::map_chunks(
         rt,
         alloc,
         parts,
         size,
-        &|_start, chunk: &[Pieces]| { bill_of(alloc, table, seed, chunk) },
+        &|_start, chunk: &[Pieces]| { bill_of(alloc, table, seed, uploads, chunk) },
     )?;
     let mut bill = Bill::new(alloc, seed);
     for more in bills {

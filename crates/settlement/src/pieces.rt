@@ -43,6 +43,15 @@ impl Pieces {
         Ok(())
     }
 
+    /// How many taps they have, or 2^64 - 1 if there are more.
+    pub(crate) fn count(&self) -> u64 {
+        let mut taps = 0u64;
+        for piece in &self.list {
+            taps = taps.saturating_add(piece.len() as u64);
+        }
+        taps
+    }
+
     /// The pieces, in their order.
     pub(crate) fn as_slice(&self) -> &[Vec<TapFields>]
         ensures { flat_map (λ piece. piece.items) result.now ≡ self.now }

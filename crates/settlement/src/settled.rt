@@ -137,7 +137,7 @@ pub fn settled_bill<R: Threads + Sync, U: Uploads + Sync>(
         × IsBillOf history made.bill × (length history ≤ 2 ^ 95))) }
 {
     let SplitUploads { ends, parts } = split(rt, alloc, uploads)?;
-    let bill = bill_by_threads(rt, alloc, table, seed, &parts, workers)?;
+    let bill = bill_by_threads(rt, alloc, table, seed, uploads, &parts, workers)?;
     Ok(Billed { ends, bill })
 }
 

@@ -30,6 +30,13 @@ pub trait Uploads {
     fn read(&self, upload: usize, room: Vec<u8>) -> Result<Vec<u8>, AllocError>
         requires { upload < number self.now }
         ensures { IfOk result (λ bytes. may_be self.now upload bytes.items) };
+
+    /// Notes how many good taps are to be charged, before the first one is. It serves whoever
+    /// watches the run: nothing else depends on it.
+    fn note_all(&self, _taps: u64) {}
+
+    /// Notes that so many more of them are charged.
+    fn note_charged(&self, _taps: u64) {}
 }
 
 /// Uploads that are loaded already.

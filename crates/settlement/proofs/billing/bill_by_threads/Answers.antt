@@ -66,7 +66,7 @@ returns g c =
     (subst (λ rs. IsJoining c.args.table.now c.args.parts.now c.loop-more.bill rs) none c.loop-more.invariant.joining)
 
 pub map_chunks-requires-clause-accepts : goal.map_chunks-requires-clause-accepts
-map_chunks-requires-clause-accepts g c κs lives start p chunk κs2 ref_ptr fits ranges u v κs3 =
+map_chunks-requires-clause-accepts g c κs lives start p chunk κs2 ref_ptr fits ranges u v κs3 outlives =
     let parts = c.args.parts.now in
     let size = c.max-size.result in
     let at = chunk.value in

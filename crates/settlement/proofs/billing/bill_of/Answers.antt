@@ -6,10 +6,10 @@ use Rattle.settlement.proofs.PartBills.{no_parts, order_take, part_added, part_r
 use Rattle.settlement.proofs.billing.bill_of.Goals as goal
 
 pub loop-pieces-init : goal.loop-pieces-init
-loop-pieces-init c = no_parts c.args.table.now c.new-bill.result c.new-bill.ensures
+loop-pieces-init g c = no_parts c.args.table.now c.new-bill.result c.new-bill.ensures
 
 pub add_part-requires-clause-sound : goal.add_part-requires-clause-sound
-add_part-requires-clause-sound c =
+add_part-requires-clause-sound g c =
     let parts = c.args.parts.now in
     let i = c.loop-pieces.pieces-index in
     let inside = c.loop-pieces-test.true in
@@ -17,7 +17,7 @@ add_part-requires-clause-sound c =
     subst IsSoundPart (sym c.pieces-item.is) (c.requires.sound i part inside)
 
 pub add_part-requires-clause-room : goal.add_part-requires-clause-room
-add_part-requires-clause-room c =
+add_part-requires-clause-room g c =
     let parts = c.args.parts.now in
     let i = c.loop-pieces.pieces-index in
     let short = length-take i parts in
@@ -26,7 +26,7 @@ add_part-requires-clause-room c =
     c.loop-pieces.invariant
 
 pub loop-pieces-preserved : goal.loop-pieces-preserved
-loop-pieces-preserved c =
+loop-pieces-preserved g c =
     let fares = c.args.table.now in
     let parts = c.args.parts.now in
     let i = c.loop-pieces.pieces-index in
@@ -40,7 +40,7 @@ loop-pieces-preserved c =
     c.in_ok-add_part.ensures)
 
 pub returns : goal.returns
-returns c =
+returns g c =
     let parts = c.args.parts.now in
     let i = c.loop-pieces.pieces-index in
     subst (λ (ps : List (List TapFields)). IsBillOfParts c.args.table.now ps c.loop-pieces.bill)

@@ -3,4 +3,4 @@ use Rattle.settlement.specs.inside.Billing.{IsBillOfParts}
 use Rattle.settlement.proofs.billing.bill_of.Given as goal
 
 abbrev pub invariant-loop-pieces : goal.invariant-loop-pieces
-invariant-loop-pieces l = IsBillOfParts l.table (take l.pieces-index l.parts) l.bill
+invariant-loop-pieces g l = IsBillOfParts l.table (take l.pieces-index l.parts) l.bill

@@ -1,0 +1,118 @@
+//! Counts of work that is done by some threads while another reads them.
+
+use std::sync::atomic::{AtomicU64, Ordering};
+
+/// How much work is done, and of how much.
+#[derive(Drop)]
+pub(crate) struct Meter {
+    /// How much is done.
+    done: AtomicU64,
+    /// How much there is.
+    all: AtomicU64,
+}
+
+/// What a meter reads.
+#[derive(Clone, Copy, Debug, PartialEq, Eq)]
+pub(crate) struct Reading {
+    /// How much is done.
+    pub(crate) done: u64,
+    /// How much there is: 0 if that is not known.
+    pub(crate) all: u64,
+}
+
+impl Meter {
+    /// There is nothing to do.
+    pub(crate) fn new() -> Meter {
+        Meter {
+            done: AtomicU64::new(0),
+            all: AtomicU64::new(0),
+        }
+    }
+
+    /// There is so much to do, and nothing of it is done.
+    pub(crate) fn begin(&self, all: u64) {
+        self.done.store(0, Ordering::SeqCst);
+        self.all.store(all, Ordering::SeqCst);
+    }
+
+    /// There is so much more to do.
+    pub(crate) fn extend(&self, more: u64) {
+        self.all.fetch_add(more, Ordering::SeqCst);
+    }
+
+    /// So much more is done.
+    pub(crate) fn add(&self, more: u64) {
+        self.done.fetch_add(more, Ordering::SeqCst);
+    }
+
+    /// What it reads now.
+    pub(crate) fn read(&self) -> Reading {
+        Reading {
+            done: self.done.load(Ordering::SeqCst),
+            all: self.all.load(Ordering::SeqCst),
+        }
+    }
+}
+
+impl Reading {
+    /// Whether something is left to do.
+    pub(crate) fn goes_on(&self) -> bool {
+        self.done < self.all
+    }
+
+    /// What is done of the same work, done a second time.
+    pub(crate) fn again(&self) -> Reading {
+        Reading {
+            done: self.done.saturating_sub(self.all),
+            all: self.all,
+        }
+    }
+}
+
+/// The meters of a run.
+#[derive(Drop)]
+pub(crate) struct Meters {
+    /// Taps that are charged.
+    pub(crate) taps: Meter,
+    /// Bytes of uploads that are posted.
+    pub(crate) posted: Meter,
+    /// Bytes of sorted files that are read. Some may be read twice.
+    pub(crate) sorted: Meter,
+    /// Bytes that are written. It is not known how many there are.
+    pub(crate) written: Meter,
+}
+
+/// What the meters of a run read.
+#[derive(Clone, Copy, Debug, PartialEq, Eq)]
+pub(crate) struct Readings {
+    /// Taps that are charged.
+    pub(crate) taps: Reading,
+    /// Bytes of uploads that are posted.
+    pub(crate) posted: Reading,
+    /// Bytes of sorted files that are read.
+    pub(crate) sorted: Reading,
+    /// Bytes that are written.
+    pub(crate) written: Reading,
+}
+
+impl Meters {
+    /// Nothing is done, and there is nothing to do.
+    pub(crate) fn new() -> Meters {
+        Meters {
+            taps: Meter::new(),
+            posted: Meter::new(),
+            sorted: Meter::new(),
+            written: Meter::new(),
+        }
+    }
+
+    /// What they read now.
+    pub(crate) fn read(&self) -> Readings {
+        Readings {
+            taps: self.taps.read(),
+            posted: self.posted.read(),
+            sorted: self.sorted.read(),
+            written: self.written.read(),
+        }
+    }
+}

@@ -1,0 +1,80 @@
+//! How long work that is seen again and again takes still.
+
+use crate::meter::Reading;
+use std::fmt;
+use std::fmt::{Display, Formatter, Write};
+
+/// For how many milliseconds work is watched before it is guessed how long it takes still.
+const WATCHED_MS: u64 = 1_000;
+
+/// What a meter read at a moment.
+#[derive(Clone, Copy, Debug)]
+struct First {
+    /// When: in milliseconds since the run began.
+    at_ms: u64,
+    /// What it read.
+    reading: Reading,
+}
+
+/// How fast work is done, on average since it was seen first.
+#[derive(Clone, Copy, Debug)]
+pub(crate) struct Pace {
+    /// When it was seen first.
+    first: Option<First>,
+}
+
+/// For how many seconds more work goes on, if that can be guessed. Shown, it follows what is shown
+/// of the work.
+#[derive(Clone, Copy, Debug, PartialEq, Eq)]
+pub(crate) struct Left(Option<u64>);
+
+impl Pace {
+    /// Of work that was not seen yet.
+    pub(crate) fn new() -> Pace {
+        Pace { first: None }
+    }
+
+    /// Sees the work, or none, at so many milliseconds since the run began.
+    pub(crate) fn see(&mut self, at_ms: u64, reading: Option<Reading>) -> Left {
+        let Some(reading) = reading else {
+            self.first = None;
+            return Left(None);
+        };
+        match self.first {
+            Some(first) if is_later(&first.reading, &reading) => {
+                let passed = at_ms.saturating_sub(first.at_ms);
+                Left(seconds_left(passed, first.reading.done, reading))
+            }
+            _ => {
+                self.first = Some(First { at_ms, reading });
+                Left(None)
+            }
+        }
+    }
+}
+
+/// Whether it is the same work, seen later.
+fn is_later(first: &Reading, reading: &Reading) -> bool {
+    first.all == reading.all && first.done <= reading.done
+}
+
+/// In how many seconds the rest is done, if that takes as long as what was done in so many
+/// milliseconds. Before these so much was done.
+fn seconds_left(passed_ms: u64, before: u64, reading: Reading) -> Option<u64> {
+    let more = reading.done.saturating_sub(before);
+    if more == 0 || passed_ms < WATCHED_MS || !reading.goes_on() {
+        return None;
+    }
+    let rest = u128::from(reading.all.saturating_sub(reading.done));
+    let left_ms = u128::from(passed_ms) * rest / u128::from(more);
+    u64::try_from(left_ms / 1_000).ok()
+}
+
+impl Display for Left {
+    fn fmt<W: Write>(&self, f: &mut Formatter<W>) -> fmt::Result {
+        match self.0 {
+            Some(seconds) => write!(f, ", {seconds} s left"),
+            None => Ok(()),
+        }
+    }
+}
