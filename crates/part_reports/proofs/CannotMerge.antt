@@ -61,11 +61,11 @@ ends_same first (a ∷ some) (b ∷ more) may may_too same =
     ap (λ x. x ++ all_ends some) is ∙ ap (λ rest. b ++ rest) rest
 
 -- what is left of a part's report behind the head of its tokens
-abbrev part_left : Report → LineKind × List ℕ
+abbrev pub part_left : Report → LineKind × List ℕ
 part_left part =
     (Tokens (length part.tokens) (left_of part.totals), flat_map token_line part.tokens)
 
-fronts_same : (begun : List BegunReport) (parts : List Report) → All (λ one. MayBePart one.0) begun
+pub fronts_same : (begun : List BegunReport) (parts : List Report) → All (λ one. MayBePart one.0) begun
     → All IsPartReport parts → map begun_text begun ≡ map report_text parts
     → (map (λ one. one.0) begun ≡ map told_of parts) × (map left_text begun ≡ map part_left parts)
 fronts_same [] [] may fit same = (refl, refl)
@@ -130,7 +130,7 @@ part_lines parts = map (λ (part : Report). map line_of part.tokens) parts
 abbrev whole_of : List (List TokenLine) → List TokenLine
 whole_of lists = flat_map (λ (list : List TokenLine). list) lists
 
-lines_texts : (parts : List Report) → All IsPartReport parts
+pub lines_texts : (parts : List Report) → All IsPartReport parts
     → AreTexts (map part_left parts) (part_lines parts)
 lines_texts [] fit = tt
 lines_texts (part ∷ parts) fit =

@@ -1,8 +1,8 @@
 -- Reports of few parts have no more than any run has.
 use Rattle.std.proofs.Common.{inl, inr, ◌≡◌, ◌≢◌, ℕ, suc, ◌+◌, ◌*◌, ◌<◌, ◌≤◌, ◌^◌, List, [], ◌∷◌}
 use Rattle.std.proofs.Common.{◌++◌, length, drop, take, get_or, refl, sym, ap, subst, ◌∙◌, arith}
-use Rattle.std.proofs.Common.{true, false, ◌==◌, if◌then◌else◌, length-append, Option}
-use Rattle.std.specs.Prelude.{All, filter, flat_map, map, sum_by, IfSome}
+use Rattle.std.proofs.Common.{true, false, ◌==◌, if◌then◌else◌, length-append, Option, Some}
+use Rattle.std.specs.Prelude.{All, filter, flat_map, map, sum_by, IfSome, slice_get}
 use Rattle.std.specs.List.{AllByRecursion}
 use Rattle.std.specs.List.Sorted.{IsStrictlySortedBy}
 use Rattle.std.specs.Map.{keys_of}
@@ -11,11 +11,13 @@ use Rattle.std.specs.declared.cmp.Ordering.TheVariants.{Less}
 use Rattle.std.proofs.lemmas.Bool.{cases_eq}
 use Rattle.std.proofs.lemmas.Bool.Decides.{nat_tests}
 use Rattle.std.proofs.lemmas.List.Elements.{All-head, All-map, All-push, All-tail}
+use Rattle.std.proofs.lemmas.List.Elements.{recursion_from_All}
 use Rattle.std.proofs.lemmas.List.Sums.{sum_by-append}
 use Rattle.shard_book.specs.Sums.{Sums, add_all, sums}
 use Rattle.fare_texts.specs.ReportLines.{token_line}
 use Rattle.report_texts.specs.Numbers.{IsValidatorSum}
-use Rattle.part_reports.specs.Reports.{IsPartReport, Report, report_text, sums_of_validator}
+use Rattle.part_reports.specs.Reports.{IsNoReport, IsPartReport, Report, report_text}
+use Rattle.part_reports.specs.Reports.{sums_of_validator}
 use Rattle.part_reports.specs.declared.sums.WholeSums.{WholeSums}
 use Rattle.part_reports.specs.Texts.{AreLeft}
 use Rattle.part_reports.specs.inside.Fronts.{MayBePart, ToldFront}
@@ -24,6 +26,7 @@ use Rattle.part_reports.specs.inside.Standings.{Standing}
 use Rattle.part_reports.specs.inside.Sums.{AreFew}
 use Rattle.part_reports.proofs.WholeFronts.{whole_text}
 use Rattle.part_reports.proofs.PartsBegun.{BegunSo}
+use Rattle.part_reports.proofs.Places.{at_map, each_at}
 use Rattle.part_reports.proofs.Rising.{is_less}
 use Rattle.part_reports.proofs.SumsAdded.{taps_joined, taps_nothing}
 use Rattle.part_reports.proofs.TextsRead.{behind_front, split}
@@ -142,20 +145,60 @@ told_may part is = record {
   tokens = is.tokens_number;
 }
 
-part_at : (before : List (List ℕ)) (file : List ℕ) (after : List (List ℕ)) (parts : List Report)
-    → All IsPartReport parts → before ++ file ∷ after ≡ map report_text parts
-    → (part : Report) × IsPartReport part × (file ≡ report_text part)
-part_at [] file after [] all same = absurd (cc)
-part_at [] file after (part ∷ parts) all same = (part, All-head IsPartReport part parts all, cc)
-part_at (first ∷ before) file after [] all same = absurd (cc)
-part_at (first ∷ before) file after (part ∷ parts) all same =
-    part_at before file after parts (All-tail IsPartReport part parts all) (cc)
-
-map_length : {X Y : Type 0} (f : X → Y) (xs : List X) → length (map f xs) ≡ length xs
+pub map_length : {X Y : Type 0} (f : X → Y) (xs : List X) → length (map f xs) ≡ length xs
 map_length f [] = refl
 map_length f (x ∷ xs) = let rest = map_length f xs in omega (arith, rest)
 
+middle_at : (before : List (List ℕ)) (file : List ℕ) (after : List (List ℕ))
+    → slice_get (before ++ file ∷ after) (length before) ≡ Some file
+middle_at [] file after = refl
+middle_at (first ∷ before) file after = middle_at before file after
+
 -- a text that is no report of a part
+pub no_report : {R : Type 0} (remaining : R → Option (List ℕ)) (items readers : List R) (x : R)
+    (before : WholeSums) (sources : List Standing)
+    → readers ≡ take (length readers) items → length readers < length items
+    → x ≡ get_or items (length readers) x
+    → BegunSo remaining readers before sources → IfSome (remaining x) (IsNoPart before)
+    → (files : List (List ℕ)) → AreLeft remaining items files
+    → (file : List ℕ) × (slice_get files (length readers) ≡ Some file)
+    × (length files ≤ 2 ^ 31 → IsNoReport file)
+no_report remaining items readers x before sources front within here so_far none_there files are =
+    let all = behind_front items readers x front within here in
+    let back = drop (suc (length readers)) items in
+    let split_files = split remaining readers x back files
+    (subst (λ items. AreLeft remaining items files) all are) in
+    let done = so_far split_files.before split_files.front_is in
+    let no_part = subst (λ left. IfSome left (IsNoPart before)) split_files.here none_there in
+    let fronts = map (λ (one : BegunReport). one.0) done.begun in
+    let count : length split_files.before ≡ length done.begun =
+    ap length done.shown ∙ map_length begun_text done.begun in
+    let place : length split_files.before ≡ length readers =
+    sym (map_length (λ file. Some file) split_files.before) ∙ ap length (sym split_files.front_is)
+    ∙ map_length remaining readers in
+    let total : length files ≡ length split_files.before + suc (length split_files.after) =
+    ap length split_files.is ∙ length-append split_files.before
+    (split_files.file ∷ split_files.after) in (
+      split_files.file,
+      subst (λ n. slice_get files n ≡ Some split_files.file) place
+          (subst (λ all. slice_get all (length split_files.before) ≡ Some split_files.file)
+          (sym split_files.is)
+          (middle_at split_files.before split_files.file split_files.after)),
+      λ short part is told.
+          let size : length (fronts ++ told_of part ∷ []) ≡ length done.begun + 1 =
+          length-append fronts (told_of part ∷ []) ∙ ap (λ n. n + 1)
+          (map_length (λ (one : BegunReport). one.0) done.begun) in
+          let all_may : All MayBePart (fronts ++ told_of part ∷ []) =
+          All-push MayBePart fronts (told_of part) (All-map MayBePart
+          (λ (one : BegunReport). one.0) done.begun done.may) (told_may part is) in
+          no_part fronts done.counted (told_of part, flat_map token_line part.tokens)
+          (map line_of part.tokens) (told_may part is)
+          (told ∙ sym (whole_text part.ends part.totals part.validators part.tokens))
+          (lines_stand part.tokens part.totals is.tokens is.tokens_rise is.tokens_add)
+          (few (fronts ++ told_of part ∷ []) all_may (omega (arith, count, total, size, short))),
+    )
+
+-- so the texts are no reports of parts
 pub parts_refused : {R : Type 0} (remaining : R → Option (List ℕ)) (items readers : List R) (x : R)
     (before : WholeSums) (sources : List Standing)
     → readers ≡ take (length readers) items → length readers < length items
@@ -165,27 +208,10 @@ pub parts_refused : {R : Type 0} (remaining : R → Option (List ℕ)) (items re
     → (parts : List Report) → All IsPartReport parts → ¬ (files ≡ map report_text parts)
 parts_refused remaining items readers x before sources front within here so_far none_there files are
     short parts may told =
-    let all = behind_front items readers x front within here in
-    let split_files = split remaining readers x (drop (suc (length readers)) items) files
-    (subst (λ items. AreLeft remaining items files) all are) in
-    let done = so_far split_files.before split_files.front_is in
-    let no_part = subst (λ left. IfSome left (IsNoPart before)) split_files.here none_there in
-    let (part, is, shown) = part_at split_files.before split_files.file split_files.after parts may
-    (sym split_files.is ∙ told) in
-    let fronts = map (λ (one : BegunReport). one.0) done.begun in
-    let count : length split_files.before ≡ length done.begun =
-    ap length done.shown ∙ map_length begun_text done.begun in
-    let total : length files ≡ length split_files.before + suc (length split_files.after) =
-    ap length split_files.is ∙ length-append split_files.before
-    (split_files.file ∷ split_files.after) in
-    let size : length (fronts ++ told_of part ∷ []) ≡ length done.begun + 1 =
-    length-append fronts (told_of part ∷ []) ∙ ap (λ n. n + 1)
-    (map_length (λ (one : BegunReport). one.0) done.begun) in
-    let all_may : All MayBePart (fronts ++ told_of part ∷ []) =
-    All-push MayBePart fronts (told_of part) (All-map MayBePart (λ (one : BegunReport). one.0) done.begun
-    done.may) (told_may part is) in
-    no_part fronts done.counted (told_of part, flat_map token_line part.tokens)
-    (map line_of part.tokens) (told_may part is)
-    (shown ∙ sym (whole_text part.ends part.totals part.validators part.tokens))
-    (lines_stand part.tokens part.totals is.tokens is.tokens_rise is.tokens_add)
-    (few (fronts ++ told_of part ∷ []) all_may (omega (arith, count, total, size, short)))
+    let (file, there, none) = no_report remaining items readers x before sources front within here
+    so_far none_there files are in
+    let (part, part_there, shown) = at_map report_text parts (length readers) file
+    (subst (λ files. slice_get files (length readers) ≡ Some file) told there) in
+    none short part
+    (each_at IsPartReport parts (length readers) part (recursion_from_All IsPartReport parts may)
+    part_there) (sym shown)

@@ -25,7 +25,7 @@ abbrev tokens_of : List TokenLine → List Token
 tokens_of lines = map (λ (line : TokenLine). line.token) lines
 
 -- a token that is not below another and is another one is above it
-strictly : (a b : Token) → NotBelow a b → a ≢ b → token_cmp a b ≡ Less
+pub strictly : (a b : Token) → NotBelow a b → a ≢ b → token_cmp a b ≡ Less
 strictly a b above other = by_order (token_cmp a b) refl
   where
     by_order : (o : Ordering) → token_cmp a b ≡ o → token_cmp a b ≡ Less
@@ -158,7 +158,7 @@ once_each [] rise = λ token. omega arith
 once_each (line ∷ lines) rise = λ token. once_by token line lines (token_eq token line.token) refl
     (once_each lines rise.1 token) rise.0
 
-apart_rest : (list : List TokenLine) (lists : List (List TokenLine)) → ShareNoToken (list ∷ lists)
+pub apart_rest : (list : List TokenLine) (lists : List (List TokenLine)) → ShareNoToken (list ∷ lists)
     → ShareNoToken lists
 apart_rest list lists apart a b first second other at at_too =
     apart (suc a) (suc b) first second (λ same. other (cc)) at at_too
@@ -172,7 +172,7 @@ all_others line (b ∷ second) all = (
 )
 
 -- a token of the first list stands in no other
-others_none : (line : TokenLine) (lists : List (List TokenLine))
+pub others_none : (line : TokenLine) (lists : List (List TokenLine))
     → ((k : ℕ) (second : List TokenLine) → slice_get lists k ≡ Some second
     → All (λ (b : TokenLine). line.token ≢ b.token) second)
     → lines_of_token line.token (flat_map (λ (list : List TokenLine). list) lists) ≡ []
@@ -194,7 +194,7 @@ some_by token first lines line more P true test holds rest is =
     (subst P same holds, eq_of token first.token test ∙ ap (λ (line : TokenLine). line.token) same)
 some_by token first lines line more P false test holds rest is = rest is
 
-some_of : (token : Token) (lines : List TokenLine) (line : TokenLine) (more : List TokenLine)
+pub some_of : (token : Token) (lines : List TokenLine) (line : TokenLine) (more : List TokenLine)
     → lines_of_token token lines ≡ line ∷ more
     → (P : TokenLine → Type 0) → All P lines → P line × (token ≡ line.token)
 some_of token [] line more is P all = absurd (cc)

@@ -7,9 +7,9 @@ use Rattle.std.specs.Io.KnownBytes.{Appends}
 use Rattle.std.specs.List.{AllZip}
 use Rattle.std.proofs.lemmas.List.{append_cancel_left}
 use Rattle.reason_texts.specs.Ledger.{head_text}
-use Rattle.part_reports.specs.Ledgers.{IsPartLedger, IsMergedLedger}
+use Rattle.part_reports.specs.Ledgers.{IsPartLedger, IsMergedLedger, IsNoLedger}
 use Rattle.part_reports.specs.TokenLines.{IsMergedByToken, TokenLine, text_of}
-use Rattle.part_reports.specs.inside.BegunLedgers.{AreBegunLedgers, IsBegunLedger, IsNoLedger}
+use Rattle.part_reports.specs.inside.BegunLedgers.{AreBegunLedgers, IsBegunLedger}
 use Rattle.part_reports.specs.inside.Kinds.{AreTexts, IsTextOf}
 use Rattle.part_reports.specs.inside.Standings.{StandsInText, Standing}
 use Rattle.part_reports.specs.declared.merging.LineKind.{LineKind}

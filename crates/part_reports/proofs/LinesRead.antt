@@ -4,7 +4,7 @@ use Rattle.std.proofs.Common.{refl, sym, ap, subst, ◌∙◌, Bool, true, false
 use Rattle.std.specs.Prelude.{IfSome, IfOk, IfErr}
 use Rattle.std.specs.Io.BufRead.{take_through, drop_through}
 use Rattle.part_reports.specs.declared.fault.MergeFault.{MergeFault}
-use Rattle.part_reports.specs.Faults.{IsOfTaps, IsOfTexts}
+use Rattle.part_reports.specs.Faults.{IsOfTexts}
 use Rattle.part_reports.specs.inside.LinesRead.{IsRead, IsTold}
 use Rattle.part_reports.proofs.OneLine.{IsOneLine, taken_one}
 
@@ -36,7 +36,7 @@ pub read_line : {T V : Type 0} (of : T → V) (MayStand : V → Type 0) (written
     → line ≡ items
     → IsTold of MayStand written line told
     → IfOk result (λ value. told ≡ Some value)
-    → IfErr result (λ fault. (told ≡ None) × ¬ (IsOfTaps fault))
+    → IfErr result (λ _. told ≡ None)
     → IsRead (λ x value. of x ≡ value) MayStand written text after result
 read_line of MayStand written one None after items line told result is same form ok err = tt
 read_line of MayStand written one (Some text) after items line told (Ok x) is same form ok err =
@@ -52,6 +52,6 @@ read_line of MayStand written one (Some text) after items line told (Ok x) is sa
     }
 read_line of MayStand written one (Some text) after items line told (Err fault) is same form ok err
     =
-    let none = subst (λ told. IsTold of MayStand written line told) err.0 form in
+    let none = subst (λ told. IsTold of MayStand written line told) err form in
     λ _ value rest may shown. none value may (same ∙ is.0 ∙ ap (take_through 10) shown
     ∙ taken_one (written value) rest (one value may))

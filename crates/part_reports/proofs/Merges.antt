@@ -341,7 +341,7 @@ part_at texts ats old new merging k at is =
     record { part = part; there = there; is = same }
 
 -- the source at the place, where a token stands there
-head_at : (ats : List Standing) (k : ℕ) (at : Standing) (token : Token)
+pub head_at : (ats : List Standing) (k : ℕ) (at : Standing) (token : Token)
     → slice_get ats k ≡ Some at → StandsAt (map (λ at. at.token) ats) k token
     → at.token ≡ Some token
 head_at ats k at token is stands =
@@ -349,14 +349,14 @@ head_at ats k at token is stands =
     (map_at (λ (at : Standing). at.token) ats k at is) stands
 
 -- where the merge goes on at a place
-record IsNext (parts : List Part) (k : ℕ) (tokens : List (Option Token)) (part : Part)
+pub record IsNext (parts : List Part) (k : ℕ) (tokens : List (Option Token)) (part : Part)
     (token : Token) (after : Standing) : Type 0 where
-  there : slice_get parts k ≡ Some part
-  is : part.at.token ≡ Some token
-  may : MayFollowToken part.text.0 (Some token) after.token
-  others : (other : ℕ) (above : Token) → other ≢ k → StandsAt tokens other above
+  pub there : slice_get parts k ≡ Some part
+  pub is : part.at.token ≡ Some token
+  pub may : MayFollowToken part.text.0 (Some token) after.token
+  pub others : (other : ℕ) (above : Token) → other ≢ k → StandsAt tokens other above
       → token_cmp token above ≡ Less
-  heads_are : map (λ (part : Part). part.at.token) parts ≡ tokens
+  pub heads_are : map (λ (part : Part). part.at.token) parts ≡ tokens
 
 head_above : (parts : List Part) (k : ℕ) (tokens : List (Option Token)) (part : Part)
     (token : Token) (after : Standing) → IsNext parts k tokens part token after → (i : ℕ) (p : Part)
@@ -419,7 +419,7 @@ less_not_below : (token : Token) (head : Option Token)
 less_not_below token None less = tt
 less_not_below token (Some head) less = below_not_below token head less
 
-below_next : (parts : List Part) (k : ℕ) (tokens : List (Option Token)) (part : Part)
+pub below_next : (parts : List Part) (k : ℕ) (tokens : List (Option Token)) (part : Part)
     (token : Token) (after : Standing) (joined : List TokenLine)
     → IsNext parts k tokens part token after
     → AllByRecursion (λ part. AreWritten part.at.token joined) parts
@@ -451,7 +451,7 @@ below_next parts k tokens part token after joined next below =
         (each_at (λ (part : Part). AreWritten part.at.token joined) parts k part below next.there)
 
 -- the lines of a token, with a line more at the end, and in the part
-same_next : (parts : List Part) (k : ℕ) (part : Part) (token : Token) (after : Standing)
+pub same_next : (parts : List Part) (k : ℕ) (part : Part) (token : Token) (after : Standing)
     (joined : List TokenLine) (any : Token) → slice_get parts k ≡ Some part
     → part.at.token ≡ Some token → ArePast parts
     → lines_of_token any joined ≡ lines_of_token any (flat_map (λ part. part.done) parts)
@@ -495,7 +495,7 @@ same_next parts k part token after joined any there is past same =
         (past k (suc (k + i)) part q (λ e. absurd (omega (arith, e))) there
         (parted.behind i q at)))))
 
-heads_of_parts : (parts : List Part)
+pub heads_of_parts : (parts : List Part)
     → map (λ (part : Part). part.at.token) parts
     ≡ map (λ (at : Standing). at.token) (map (λ (part : Part). part.at) parts)
 heads_of_parts [] = refl
@@ -666,7 +666,7 @@ list_at (first ∷ parts) (list ∷ lists) zero part are is = let h : Some first
     (list, refl, subst (λ (part : Part). IsTextOf part.text list) same are.0)
 list_at (first ∷ parts) (list ∷ lists) (suc k) part are is = list_at parts lists k part are.1 is
 
-others_each : (first second : List TokenLine) → HaveOtherTokens first second
+pub others_each : (first second : List TokenLine) → HaveOtherTokens first second
     → AllByRecursion (λ a. AllByRecursion (λ b. a.token ≢ b.token) second) first
 others_each first second others =
     each_weaker (λ (a : TokenLine). All (λ b. a.token ≢ b.token) second)

@@ -429,7 +429,7 @@ no_reports (other ∷ front) back file (first ∷ files) (charges ∷ lists) sam
     let rest : front ++ file ∷ back ≡ map (λ file. Some file) files = cc in
     no_reports front back file files lists rest are.1 none
 
-unused_of : (files : List (List ℕ)) (known_files : List (Option (List ℕ))) (lefts : List ReportAt)
+pub unused_of : (files : List (List ℕ)) (known_files : List (Option (List ℕ))) (lefts : List ReportAt)
     → known_files ≡ map (λ file. Some file) files → AreBegunReports known_files lefts
     → AreUnused files lefts
 unused_of [] [] [] same are = tt

@@ -1,10 +1,14 @@
 -- Ledgers of parts, and the ledger of the whole that they are merged into.
-use Rattle.std.specs.Prelude.{◌≡◌, ℕ, List, ◌++◌, All, codes}
+use Rattle.std.specs.Prelude.{◌≡◌, ◌<◌, ◌⊎◌, ℕ, List, ◌++◌, All, Some, codes, slice_get}
 use Rattle.std.specs.List.{AllZip}
 use Rattle.hex.specs.Hex.{encode_lower}
 use Rattle.tap_views.specs.Token.{Fits, bytes_of}
 use Rattle.reason_texts.specs.Ledger.{head_text}
-use Rattle.part_reports.specs.TokenLines.{TokenLine, DoNotFall, IsMergedByToken, text_of}
+use Rattle.part_reports.specs.TokenLines.{TokenLine, DoNotFall, HaveOtherTokens, IsMergedByToken}
+use Rattle.part_reports.specs.TokenLines.{text_of}
+use Rattle.part_reports.specs.declared.fault.MergeFault.{MergeFault}
+use Rattle.part_reports.specs.declared.fault.MergeFault.TheVariants.{Line, Taps, Unread, Write}
+use Rattle.part_reports.specs.declared.fault.MergeFault.TheVariants.{NoMemory}
 
 -- a ledger's line: the token's digits, a comma, and other fields up to the line feed
 pub record IsLedgerEntryLine (line : TokenLine) : Type 0 where
@@ -19,6 +23,31 @@ pub record IsPartLedger (lines : List TokenLine) (text : List ℕ) : Type 0 wher
   pub each : All IsLedgerEntryLine lines
   pub no_fall : DoNotFall lines
   pub shown : text ≡ head_text ++ text_of lines
+
+-- the text is no ledger
+abbrev pub IsNoLedger : List ℕ → Type 0
+IsNoLedger file = (lines : List TokenLine) → ¬ (IsPartLedger lines file)
+
+-- whatever ledgers they are, the two texts have a token in common
+abbrev pub LedgersShareToken : List ℕ → List ℕ → Type 0
+LedgersShareToken first second = (some more : List TokenLine) → IsPartLedger some first
+    → IsPartLedger more second → ¬ (HaveOtherTokens some more)
+
+-- the text of this number is wrong: it is no ledger, or has a token that an earlier one has
+pub record IsWrongLedgerAt (files : List (List ℕ)) (place : ℕ) : Type 0 where
+  pub file : List ℕ
+  pub there : slice_get files place ≡ Some file
+  pub wrong : IsNoLedger file
+      ⊎ ((earlier : ℕ) × (first : List ℕ) × (earlier < place)
+      × (slice_get files earlier ≡ Some first) × LedgersShareToken first file)
+
+-- a line that is refused is one of a text that is wrong
+abbrev pub NamesWrongLedger : List (List ℕ) → MergeFault → Type 0
+NamesWrongLedger files (Line text number wrong) = IsWrongLedgerAt files text
+NamesWrongLedger files (Taps reports uploads) = ⊥
+NamesWrongLedger files (Unread text) = Unit {0}
+NamesWrongLedger files Write = Unit {0}
+NamesWrongLedger files NoMemory = Unit {0}
 
 -- the text is the ledger of the whole, of the parts whose ledgers these texts are
 pub record IsMergedLedger (files : List (List ℕ)) (text : List ℕ) : Type 0 where

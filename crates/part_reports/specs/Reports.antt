@@ -1,5 +1,6 @@
 -- Reports of parts, and the report of the whole that they are merged into.
-use Rattle.std.specs.Prelude.{◌≡◌, ℕ, ◌+◌, ◌<◌, ◌^◌, List, [], ◌∷◌, All, IsTrue, ◌==◌, filter}
+use Rattle.std.specs.Prelude.{◌≡◌, ◌≢◌, ℕ, ◌+◌, ◌<◌, ◌≤◌, ◌⊎◌, ◌^◌, List, [], ◌∷◌, ◌++◌, All, IsTrue}
+use Rattle.std.specs.Prelude.{◌==◌, filter, slice_get}
 use Rattle.std.specs.Prelude.{length, map, flat_map, sum_by, Option, Some, None, if◌then◌else◌}
 use Rattle.std.specs.List.Sorted.{IsPermutation, IsStrictlySortedBy}
 use Rattle.std.specs.Map.{keys_of}
@@ -12,6 +13,10 @@ use Rattle.report_texts.specs.Numbers.{IsUploadEnd, AreCounts, IsValidatorSum, I
 use Rattle.report_texts.specs.Report.{report, upload_lines}
 use Rattle.report_texts.specs.UploadEnds.{is_posted, taps_told}
 use Rattle.report_texts.specs.declared.upload_end.UploadEnd.{UploadEnd}
+use Rattle.part_reports.specs.Faults.{number_from}
+use Rattle.part_reports.specs.declared.fault.MergeFault.{MergeFault}
+use Rattle.part_reports.specs.declared.fault.MergeFault.TheVariants.{Line, Taps, Unread, Write}
+use Rattle.part_reports.specs.declared.fault.MergeFault.TheVariants.{NoMemory}
 
 -- what a report tells: how each upload ended, the totals, and the sums of each validator and of
 -- each token
@@ -128,6 +133,48 @@ pub record IsMerged (end_files report_files : List (List ℕ)) (text : List ℕ)
   pub whole : Report
   pub is : IsWholeReport (all_ends ends) parts whole
   pub shown : text ≡ report_text whole
+
+-- the text is the report of no part
+abbrev pub IsNoReport : List ℕ → Type 0
+IsNoReport file = (report : Report) → IsPartReport report → ¬ (file ≡ report_text report)
+
+-- whatever reports of parts they are, the two texts have a token in common
+abbrev pub ReportsShareToken : List ℕ → List ℕ → Type 0
+ReportsShareToken first second = (some more : Report) → IsPartReport some → IsPartReport more
+    → first ≡ report_text some → second ≡ report_text more
+    → ¬ (All (λ a. All (λ b. a.0 ≢ b.0) more.tokens) some.tokens)
+
+-- the report at this place is wrong: it is no report of a part, or has a token that an earlier one
+-- has; only of more than 2^31 reports the sums may be too large
+pub record IsWrongReportAt (files : List (List ℕ)) (place : ℕ) : Type 0 where
+  pub file : List ℕ
+  pub there : slice_get files place ≡ Some file
+  pub wrong : (length files ≤ 2 ^ 31 → IsNoReport file)
+      ⊎ ((earlier : ℕ) × (first : List ℕ) × (earlier < place)
+      × (slice_get files earlier ≡ Some first) × ReportsShareToken first file)
+
+-- the text at this place is wrong: those before it tell ends of uploads, and it does not tell those
+-- of the next uploads
+pub record AreWrongEndsAt (files : List (List ℕ)) (place : ℕ) : Type 0 where
+  pub before : List (List UploadEnd)
+  pub fit : All IsUploadEnd (all_ends before)
+  pub file : List ℕ
+  pub after : List (List ℕ)
+  pub shown : files ≡ end_texts 0 before ++ file ∷ after
+  pub place_is : place ≡ length before
+  pub none : (ends : List UploadEnd) → All IsUploadEnd ends
+      → ¬ (file ≡ upload_lines (length (all_ends before)) ends)
+
+-- a line that is refused is one of a text that is wrong: of ends, or behind these a report
+abbrev pub NamesWrongText : List (List ℕ) → List (List ℕ) → MergeFault → Type 0
+NamesWrongText end_files report_files (Line text number wrong) =
+    ((place : ℕ) × (text ≡ number_from 0 place) × AreWrongEndsAt end_files place)
+    ⊎ ((place : ℕ) × (text ≡ number_from (length end_files) place)
+    × IsWrongReportAt report_files place)
+NamesWrongText end_files report_files (Taps reports uploads) = Unit {0}
+NamesWrongText end_files report_files (Unread text) = Unit {0}
+NamesWrongText end_files report_files Write = Unit {0}
+NamesWrongText end_files report_files NoMemory = Unit {0}
 
 -- there is no such text
 abbrev pub CannotBeMerged : List (List ℕ) → List (List ℕ) → Type 0

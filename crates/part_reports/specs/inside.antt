@@ -10,5 +10,7 @@ pub mod LinesRead
 pub mod Standings
 pub mod Sums
 pub mod SumsLeft
+pub mod Told
 pub mod UploadEnds
 pub mod Whole
+pub mod WrongTexts

@@ -4,7 +4,7 @@ ghost use Rattle.std.specs.Prelude.{◌≡◌, ◌<◌, ◌^◌, ◌↔◌, All,
 ghost use Rattle.fare_texts.specs.Counts.{totals_line};
 ghost use Rattle.shard_book.specs.Shown.{validator_sum};
 ghost use Rattle.shard_book.specs.Sums.{sums_of};
-ghost use Rattle.part_reports.specs.Faults.{IsOfTaps};
+ghost use Rattle.part_reports.specs.inside.Told.{IsOfReader};
 ghost use Rattle.report_texts.specs.Numbers.{AreCounts, IsUploadEnd, IsValidatorSum};
 ghost use Rattle.fare_texts.specs.ReportLines.{number_line, validator_line};
 ghost use Rattle.report_texts.specs.Report.{upload_line, upload_lines};
@@ -40,7 +40,8 @@ fn next_head<R: BufRead + Drop>(reader: &mut LineReader<R>, word: &[u8]) -> Resu
     requires one_line { All (λ byte. ¬ (byte ≡ 10)) word.now }
     ensures read { IsRead (λ told number. told ≡ number) (λ number. number < 2 ^ 64)
         (number_line word.now) (R.remaining reader.old.from) (R.remaining reader.new.from) result }
-    ensures other { IfErr result (λ fault. ¬ (IsOfTaps fault)) }
+    ensures text { reader.new.text ≡ reader.old.text }
+    ensures told { IfErr result (IsOfReader reader.new.text reader.new.lines) }
 {
     reader.next()?;
     reader.told(head_of(reader.line(), word))
@@ -53,7 +54,8 @@ fn next_end<R: BufRead + Drop>(
 ) -> Result<UploadEnd, MergeFault>
     ensures read { IsRead (λ end told. end ≡ told) IsUploadEnd (upload_line upload)
         (R.remaining reader.old.from) (R.remaining reader.new.from) result }
-    ensures other { IfErr result (λ fault. ¬ (IsOfTaps fault)) }
+    ensures text { reader.new.text ≡ reader.old.text }
+    ensures told { IfErr result (IsOfReader reader.new.text reader.new.lines) }
 {
     reader.next()?;
     reader.told(end_of(reader.line(), upload))
@@ -63,7 +65,8 @@ fn next_end<R: BufRead + Drop>(
 fn next_totals<R: BufRead + Drop>(reader: &mut LineReader<R>) -> Result<Totals, MergeFault>
     ensures read { IsRead (λ totals told. sums_of totals ≡ told) AreCounts totals_line
         (R.remaining reader.old.from) (R.remaining reader.new.from) result }
-    ensures other { IfErr result (λ fault. ¬ (IsOfTaps fault)) }
+    ensures text { reader.new.text ≡ reader.old.text }
+    ensures told { IfErr result (IsOfReader reader.new.text reader.new.lines) }
 {
     reader.next()?;
     reader.told(totals_of(reader.line()))
@@ -73,7 +76,8 @@ fn next_totals<R: BufRead + Drop>(reader: &mut LineReader<R>) -> Result<Totals, 
 fn next_validator<R: BufRead + Drop>(reader: &mut LineReader<R>) -> Result<ValidatorSum, MergeFault>
     ensures read { IsRead (λ sum told. validator_sum sum ≡ told) IsValidatorSum validator_line
         (R.remaining reader.old.from) (R.remaining reader.new.from) result }
-    ensures other { IfErr result (λ fault. ¬ (IsOfTaps fault)) }
+    ensures text { reader.new.text ≡ reader.old.text }
+    ensures told { IfErr result (IsOfReader reader.new.text reader.new.lines) }
 {
     reader.next()?;
     reader.told(validator_sum_of(reader.line()))
@@ -86,7 +90,8 @@ fn read_posted<R: BufRead + Drop>(
 ) -> Result<(), MergeFault>
     ensures read { IsRead (λ _ _. Unit {0}) (AreSoManyPosted uploads) (upload_lines 0)
         (R.remaining reader.old.from) (R.remaining reader.new.from) result }
-    ensures other { IfErr result (λ fault. ¬ (IsOfTaps fault)) }
+    ensures text { reader.new.text ≡ reader.old.text }
+    ensures told { IfErr result (IsOfReader reader.new.text reader.new.lines) }
 {
     for upload in 0..uploads {
         let end = next_end(reader, upload)?;
@@ -101,7 +106,8 @@ fn read_posted<R: BufRead + Drop>(
 fn read_uploads<R: BufRead + Drop>(reader: &mut LineReader<R>) -> Result<(), MergeFault>
     ensures read { IsRead (λ _ _. Unit {0}) AreEnds ends_text
         (R.remaining reader.old.from) (R.remaining reader.new.from) result }
-    ensures other { IfErr result (λ fault. ¬ (IsOfTaps fault)) }
+    ensures text { reader.new.text ≡ reader.old.text }
+    ensures told { IfErr result (IsOfReader reader.new.text reader.new.lines) }
 {
     let uploads = next_head(reader, b"uploads ")?;
     read_posted(reader, uploads)
@@ -126,7 +132,8 @@ fn read_rising<R: BufRead + Drop>(
     ensures read { IsRead (λ sums told. AreSums sums.items told) (AreRising number)
         (flat_map validator_line)
         (R.remaining reader.old.from) (R.remaining reader.new.from) result }
-    ensures other { IfErr result (λ fault. ¬ (IsOfTaps fault)) }
+    ensures text { reader.new.text ≡ reader.old.text }
+    ensures told { IfErr result (IsOfReader reader.new.text reader.new.lines) }
 {
     let mut sums: Vec<ValidatorSum> = Vec::new(alloc);
     for _ in 0..number {
@@ -146,7 +153,8 @@ fn read_validators<R: BufRead + Drop>(
 ) -> Result<Vec<ValidatorSum>, MergeFault>
     ensures read { IsRead (λ sums told. AreSums sums.items told) AreValidators validators_text
         (R.remaining reader.old.from) (R.remaining reader.new.from) result }
-    ensures other { IfErr result (λ fault. ¬ (IsOfTaps fault)) }
+    ensures text { reader.new.text ≡ reader.old.text }
+    ensures told { IfErr result (IsOfReader reader.new.text reader.new.lines) }
 {
     let number = next_head(reader, b"validators ")?;
     read_rising(alloc, reader, number)
@@ -159,7 +167,8 @@ fn read_sections<R: BufRead + Drop>(
 ) -> Result<Front, MergeFault>
     ensures read { IsRead IsFront MayBeSections told_text
         (R.remaining reader.old.from) (R.remaining reader.new.from) result }
-    ensures other { IfErr result (λ fault. ¬ (IsOfTaps fault)) }
+    ensures text { reader.new.text ≡ reader.old.text }
+    ensures told { IfErr result (IsOfReader reader.new.text reader.new.lines) }
 {
     read_uploads(reader)?;
     let totals = next_totals(reader)?;
@@ -194,7 +203,8 @@ pub(crate) fn read_front<R: BufRead + Drop>(
 ) -> Result<Front, MergeFault>
     ensures read { IsRead IsFront MayBePart told_text
         (R.remaining reader.old.from) (R.remaining reader.new.from) result }
-    ensures other { IfErr result (λ fault. ¬ (IsOfTaps fault)) }
+    ensures text { reader.new.text ≡ reader.old.text }
+    ensures told { IfErr result (IsOfReader reader.new.text reader.new.lines) }
 {
     let front = read_sections(alloc, reader)?;
     if !add_up(&front.totals, &front.validators) {

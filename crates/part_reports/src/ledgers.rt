@@ -1,17 +1,19 @@
 //! Ledgers of parts, merged.
 
-ghost use Rattle.std.specs.Prelude.{ℕ, List, IfErr, IfOk, IfSome, OnOk, map};
+ghost use Rattle.std.specs.Prelude.{◌≡◌, ◌<◌, ℕ, List, IfErr, IfOk, IfSome, OnErr, OnOk, length};
+ghost use Rattle.std.specs.Prelude.{map};
 ghost use Rattle.std.specs.Io.KnownBytes.{Appends};
-ghost use Rattle.part_reports.specs.Faults.{IsOfTaps, IsOfTexts};
-ghost use Rattle.part_reports.specs.Ledgers.{IsMergedLedger};
-ghost use Rattle.part_reports.specs.Texts.{AreLeft};
+ghost use Rattle.part_reports.specs.Faults.{IsOfTaps, IsOfTexts, text_named};
+ghost use Rattle.part_reports.specs.Ledgers.{IsMergedLedger, IsNoLedger, NamesWrongLedger};
+ghost use Rattle.part_reports.specs.Texts.{AreLeft, Begins};
 ghost use Rattle.part_reports.specs.inside.BegunLedgers.{AreBegunLedgers, IsBegunLedger};
-ghost use Rattle.part_reports.specs.inside.BegunLedgers.{IsNoLedger};
 ghost use Rattle.part_reports.specs.inside.Standings.{standing};
+ghost use Rattle.part_reports.specs.inside.Told.{AreNumbered, IsOfText, text_number};
 
 use crate::fault::{MergeFault, Wrong};
 use crate::line_reader::LineReader;
-use crate::merging::{LineKind, OrderedText, write_merged, write_text};
+use crate::merging::{LineKind, OrderedText, write_merged};
+use crate::writing::write_text;
 use reason_texts::head_line;
 use std::alloc::Global;
 use std::io::{BufRead, Write};
@@ -27,6 +29,8 @@ fn begin_ledger<R: BufRead + Drop>(
     ensures refused { IfErr result (λ fault. IsOfTexts fault
         → IfSome (R.remaining from) IsNoLedger) }
     ensures no_taps { IfErr result (λ fault. ¬ (IsOfTaps fault)) }
+    ensures number { IfOk result (λ source. text_number source ≡ text) }
+    ensures told { IfErr result (IsOfText text) }
 {
     let mut reader = LineReader::new(alloc, from, text);
     reader.next()?;
@@ -48,6 +52,13 @@ pub(crate) fn begin_ledgers<R: BufRead + Drop>(
         → AreLeft R.remaining ledgers.items files → (text : List ℕ)
         → ¬ (IsMergedLedger files text)) }
     ensures no_taps { IfErr result (λ fault. ¬ (IsOfTaps fault)) }
+    ensures numbered { IfOk result (λ sources.
+        AreNumbered (λ place. place) (map text_number sources.items)) }
+    ensures count { IfOk result (λ sources. length sources.items ≡ length ledgers.items) }
+    ensures named { IfErr result (λ fault. IfSome (text_named fault)
+        (λ text. text < length ledgers.items)) }
+    ensures wrong { IfErr result (λ fault. (files : List (List ℕ))
+        → AreLeft R.remaining ledgers.items files → NamesWrongLedger files fault) }
 {
     let mut sources = Vec::new(alloc);
     for from in ledgers {
@@ -72,6 +83,16 @@ pub fn merge_ledgers<R: BufRead + Drop, W: Write>(
         → AreLeft R.remaining ledgers.items files → (text : List ℕ)
         → ¬ (IsMergedLedger files text)) }
     ensures no_taps { IfErr result (λ fault. ¬ (IsOfTaps fault)) }
+    // What was written before a fault is a beginning of the ledger of the whole.
+    ensures begun { OnErr result ((files : List (List ℕ))
+        → AreLeft R.remaining ledgers.items files → (text : List ℕ) → IsMergedLedger files text
+        → Begins (W.contents out.old) (W.contents out.new) text) }
+    // The text that a fault names is one of the ledgers, and if a line of it is refused, it is
+    // wrong.
+    ensures named { IfErr result (λ fault. IfSome (text_named fault)
+        (λ text. text < length ledgers.items)) }
+    ensures wrong { IfErr result (λ fault. (files : List (List ℕ))
+        → AreLeft R.remaining ledgers.items files → NamesWrongLedger files fault) }
 {
     let mut sources = begin_ledgers(alloc, ledgers)?;
     write_text(out, head_line().as_bytes())?;

@@ -1,12 +1,12 @@
 //! Ledgers of parts beside the reports of the parts, merged.
 
-ghost use Rattle.std.specs.Prelude.{◌≡◌, ℕ, List, IfErr, IfOk, OnOk, length, map};
+ghost use Rattle.std.specs.Prelude.{◌≡◌, ℕ, List, IfErr, IfOk, OnErr, OnOk, length, map};
 ghost use Rattle.std.specs.Io.KnownBytes.{Appends};
 ghost use Rattle.std.specs.List.{AllZip};
 ghost use Rattle.part_reports.specs.Charges.{LineCharge};
 ghost use Rattle.part_reports.specs.Faults.{IsOfTaps, IsOfTexts};
 ghost use Rattle.part_reports.specs.LedgersWithReports.{AddUpToText, IsMergedWithReports};
-ghost use Rattle.part_reports.specs.Texts.{AreLeft};
+ghost use Rattle.part_reports.specs.Texts.{AreLeft, Begins};
 ghost use Rattle.part_reports.specs.TokenLines.{IsMergedByToken, TokenLine, text_of};
 ghost use Rattle.part_reports.specs.inside.Kinds.{AreTexts};
 ghost use Rattle.part_reports.specs.inside.ReportsLeft.{AreBegunReports, AreSummed, AreUnused};
@@ -17,8 +17,9 @@ ghost use Rattle.part_reports.specs.declared.merging.LineKind.{LineKind as AKind
 
 use crate::fault::{MergeFault, Wrong};
 use crate::ledgers::begin_ledgers;
-use crate::merging::{OrderedText, fault_in, least, tokens_at, write_at, write_text};
+use crate::merging::{OrderedText, fault_in, least, tokens_at, write_at};
 use crate::report_left::ReportLeft;
+use crate::writing::write_text;
 use reason_texts::head_line;
 use std::alloc::Global;
 use std::io::{BufRead, Write};
@@ -58,12 +59,12 @@ fn take_at<R: BufRead + Drop>(
     ensures no_taps { IfErr result (λ fault. ¬ (IsOfTaps fault)) }
 {
     if at >= sources.len() || at >= lefts.len() {
-        return Err(MergeFault::Unread(at));
+        return Err(MergeFault::NoMemory);
     }
     let source = &sources[at];
     match source.token {
         Some(token) => lefts[at].take(token, &source.reader),
-        None => Err(MergeFault::Unread(at)),
+        None => Err(MergeFault::NoMemory),
     }
 }
 
@@ -80,7 +81,7 @@ fn finish_all<R: BufRead + Drop>(
     for at in 0..lefts.len() {
         match sources.get(at) {
             Some(source) => lefts[at].finish(&source.reader)?,
-            None => return Err(MergeFault::Unread(at)),
+            None => return Err(MergeFault::NoMemory),
         }
     }
     Ok(())
@@ -108,6 +109,13 @@ fn write_all_taken<R: BufRead + Drop, W: Write>(
         → (lists : List (List TokenLine)) (joined : List TokenLine) → AreTexts texts lists
         → IsMergedByToken lists joined → ¬ (AreSummed lists files)) }
     ensures no_taps { IfErr result (λ fault. ¬ (IsOfTaps fault)) }
+    // What was written is a beginning of whatever the texts are merged into.
+    ensures begun { OnErr result ((texts : List (AKind × List ℕ)) (files : List (List ℕ))
+        → AllZip StandsInText texts (map (standing R.remaining) sources.old)
+        → AreUnused files (map (report_at R.remaining) lefts.old)
+        → (lists : List (List TokenLine)) (joined : List TokenLine) → AreTexts texts lists
+        → IsMergedByToken lists joined
+        → Begins (W.contents out.old) (W.contents out.new) (text_of joined)) }
 {
     let mut tokens = tokens_at(alloc, sources)?;
     for _ in 0..u64::MAX {
@@ -120,7 +128,7 @@ fn write_all_taken<R: BufRead + Drop, W: Write>(
             Err(at) => return Err(fault_in(sources, at, Wrong::Twice)),
         }
     }
-    Err(MergeFault::Unread(0))
+    Err(MergeFault::NoMemory)
 }
 
 /// Merges the ledgers of parts as `merge_ledgers` does, and compares each with the report of its
@@ -145,6 +153,12 @@ pub fn merge_ledgers_with_reports<R: BufRead + Drop, W: Write>(
         → AreLeft R.remaining reports.items report_files
         → (text : List ℕ) → ¬ (IsMergedWithReports files report_files text)) }
     ensures no_taps { IfErr result (λ fault. ¬ (IsOfTaps fault)) }
+    // What was written before a fault is a beginning of the ledger of the whole.
+    ensures begun { OnErr result ((files report_files : List (List ℕ))
+        → AreLeft R.remaining ledgers.items files
+        → AreLeft R.remaining reports.items report_files
+        → (text : List ℕ) → IsMergedWithReports files report_files text
+        → Begins (W.contents out.old) (W.contents out.new) text) }
 {
     let first = ledgers.len();
     let mut sources = begin_ledgers(alloc, ledgers)?;

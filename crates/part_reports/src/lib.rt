@@ -20,6 +20,7 @@ mod reports;
 mod sums;
 mod sums_left;
 mod upload_ends;
+mod writing;
 
 pub use fault::{MergeFault, Wrong};
 pub use ledgers::merge_ledgers;

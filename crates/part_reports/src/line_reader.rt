@@ -4,6 +4,9 @@ ghost use Rattle.std.specs.Prelude.{◌≡◌, [], Some, None, Ok, IfErr, IfOk, 
 ghost use Rattle.std.specs.Prelude.{IsTrue, OnOk, ◌↔◌};
 ghost use Rattle.std.specs.Io.BufRead.{drop_through, take_through};
 ghost use Rattle.part_reports.specs.Faults.{IsOfTaps, IsOfTexts};
+ghost use Rattle.part_reports.specs.inside.Told.{IsOfReader, next_number};
+ghost use Rattle.part_reports.specs.declared.fault.MergeFault.TheVariants.{Line, Unread};
+ghost use Rattle.part_reports.specs.declared.fault.Wrong.TheVariants.{Form};
 
 use crate::fault::{MergeFault, Wrong};
 use std::alloc::Global;
@@ -27,6 +30,7 @@ impl<R: BufRead + Drop> LineReader<R> {
     pub(crate) fn new(alloc: Global, from: R, text: usize) -> LineReader<R>
         ensures from { result.from ≡ from }
         ensures text { result.text ≡ text }
+        ensures lines { result.lines ≡ 0 }
     {
         LineReader {
             from,
@@ -42,6 +46,8 @@ impl<R: BufRead + Drop> LineReader<R> {
             (λ left. (self.new.line.items ≡ take_through 10 left)
             × (R.remaining self.new.from ≡ Some (drop_through 10 left)))) }
         ensures text { self.new.text ≡ self.old.text }
+        ensures lines { OnOk result (self.new.lines ≡ next_number self.old.lines) }
+        ensures told { IfErr result (IsOfReader self.new.text self.new.lines) }
         ensures fault { IfErr result (λ fault. (¬ (IsOfTexts fault)) × ¬ (IsOfTaps fault)) }
     {
         self.line.clear();
@@ -71,7 +77,9 @@ impl<R: BufRead + Drop> LineReader<R> {
 
     /// The fault of a read that failed.
     pub(crate) fn unread(&self) -> MergeFault
-        ensures { (¬ (IsOfTexts result)) × ¬ (IsOfTaps result) }
+        ensures other { (¬ (IsOfTexts result)) × ¬ (IsOfTaps result) }
+        ensures told { IsOfReader self.now.text self.now.lines result }
+        ensures text { result ≡ Unread self.now.text }
     {
         MergeFault::Unread(self.text)
     }
@@ -80,6 +88,8 @@ impl<R: BufRead + Drop> LineReader<R> {
     pub(crate) fn fault(&self, wrong: Wrong) -> MergeFault
         ensures texts { IsOfTexts result }
         ensures other { ¬ (IsOfTaps result) }
+        ensures told { IsOfReader self.now.text self.now.lines result }
+        ensures line { result ≡ Line self.now.text self.now.lines wrong }
     {
         MergeFault::Line {
             text: self.text,
@@ -91,7 +101,10 @@ impl<R: BufRead + Drop> LineReader<R> {
     /// What is told of the line that was read last; the line's fault if it is wrong.
     pub(crate) fn right<T: Drop>(&self, told: Result<T, Wrong>) -> Result<T, MergeFault>
         ensures value { IfOk result (λ value. told ≡ Ok value) }
-        ensures wrong { IfErr result (λ fault. IsErr told × ¬ (IsOfTaps fault)) }
+        ensures wrong { IfErr result (λ fault. IsErr told) }
+        ensures told { IfErr result (IsOfReader self.now.text self.now.lines) }
+        ensures line { IfErr result (λ fault. IfErr told (λ wrong.
+            fault ≡ Line self.now.text self.now.lines wrong)) }
     {
         match told {
             Ok(told) => Ok(told),
@@ -103,7 +116,10 @@ impl<R: BufRead + Drop> LineReader<R> {
     /// form.
     pub(crate) fn told<T: Drop>(&self, told: Option<T>) -> Result<T, MergeFault>
         ensures value { IfOk result (λ value. told ≡ Some value) }
-        ensures none { IfErr result (λ fault. (told ≡ None) × ¬ (IsOfTaps fault)) }
+        ensures none { IfErr result (λ fault. told ≡ None) }
+        ensures told { IfErr result (IsOfReader self.now.text self.now.lines) }
+        ensures line { IfErr result (λ fault.
+            fault ≡ Line self.now.text self.now.lines Form) }
     {
         match told {
             Some(told) => Ok(told),

@@ -1,11 +1,16 @@
 //! Lines of several texts in order of tokens, merged into one text.
 
 ghost use Rattle.std.specs.Prelude.{◌≡◌, ℕ, List, Some, IfErr, IfOk, IfSome, MatchOption};
-ghost use Rattle.std.specs.Prelude.{IsTrue, MatchResult, OnOk, Option, ◌<◌, ◌↔◌, length, map};
+ghost use Rattle.std.specs.Prelude.{IsTrue, MatchResult, OnErr, OnOk, Option, ◌<◌, ◌↔◌, length};
+ghost use Rattle.std.specs.Prelude.{map, slice_get};
 ghost use Rattle.std.specs.Io.BufRead.{take_through};
-ghost use Rattle.std.specs.Io.KnownBytes.{Appends};
 ghost use Rattle.std.specs.List.{AllZip};
+ghost use Rattle.std.specs.Io.KnownBytes.{Appends};
 ghost use Rattle.part_reports.specs.Faults.{IsOfTaps, IsOfTexts};
+ghost use Rattle.part_reports.specs.Texts.{Begins};
+ghost use Rattle.part_reports.specs.inside.Told.{IsOfReader, IsOfText, NamesOneOf, NamesOnly};
+ghost use Rattle.part_reports.specs.inside.Told.{text_number};
+ghost use Rattle.part_reports.specs.inside.WrongTexts.{IsWrongText};
 ghost use Rattle.part_reports.specs.TokenLines.{IsMergedByToken, TokenLine, text_of};
 ghost use Rattle.part_reports.specs.inside.Kinds.{AreTexts, IsTextOf};
 ghost use Rattle.part_reports.specs.declared.merging.LineKind.TheVariants.{Tokens};
@@ -13,12 +18,13 @@ ghost use Rattle.part_reports.specs.inside.Least.{IsLeast, StandsTwice};
 ghost use Rattle.part_reports.specs.inside.Standings.{IsFirstLine};
 ghost use Rattle.part_reports.specs.inside.Standings.{MayEnd, MayFollow, MayFollowAll};
 ghost use Rattle.part_reports.specs.inside.Standings.{MayFollowToken, StandsInText};
-ghost use Rattle.part_reports.specs.inside.Standings.{IsMovedAt, IsStuckAt, standing};
+ghost use Rattle.part_reports.specs.inside.Standings.{IsMovedAt, IsStuckAt, Standing, standing};
 
 use crate::fault::{MergeFault, Wrong};
 use crate::ledger_line::ledger_token_of;
 use crate::line_reader::LineReader;
 use crate::sums_left::SumsLeft;
+use crate::writing::write_text;
 use report_texts::token_sum_of;
 use std::alloc::{AllocError, Global};
 use std::cmp::Ordering;
@@ -153,6 +159,8 @@ impl<R: BufRead + Drop> OrderedText<R> {
             → IfSome (R.remaining reader.from)
             (λ left. (list : List TokenLine) → ¬ (IsTextOf (lines, left) list))) }
         ensures no_taps { IfErr result (λ fault. ¬ (IsOfTaps fault)) }
+        ensures text { IfOk result (λ source. source.reader.text ≡ reader.text) }
+        ensures told { IfErr result (IsOfText reader.text) }
     {
         let mut source = OrderedText {
             reader,
@@ -171,6 +179,8 @@ impl<R: BufRead + Drop> OrderedText<R> {
             → IfSome (R.remaining self.old.reader.from)
             (λ left. (list : List TokenLine) → ¬ (IsTextOf (self.old.lines, left) list))) }
         ensures no_taps { IfErr result (λ fault. ¬ (IsOfTaps fault)) }
+        ensures text { self.new.reader.text ≡ self.old.reader.text }
+        ensures told { IfErr result (IsOfReader self.new.reader.text self.new.reader.lines) }
     {
         self.reader.next()?;
         let (lines, token) = self.reader.right(first_of(self.lines, self.reader.line()))?;
@@ -191,6 +201,8 @@ impl<R: BufRead + Drop> OrderedText<R> {
             (λ left. (list : List TokenLine) → IsTextOf (self.old.lines, left) list
             → IfSome self.old.token (λ before. ¬ (MayFollowAll self.old.lines before list)))) }
         ensures no_taps { IfErr result (λ fault. ¬ (IsOfTaps fault)) }
+        ensures text { self.new.reader.text ≡ self.old.reader.text }
+        ensures told { IfErr result (IsOfReader self.new.reader.text self.new.reader.lines) }
     {
         let (lines, before) = (self.lines, self.token);
         self.read()?;
@@ -226,28 +238,18 @@ pub(crate) fn least(tokens: &[Option<Token>]) -> Result<Option<usize>, usize>
     }
 }
 
-/// Writes these bytes.
-pub(crate) fn write_text<W: Write>(out: &mut W, text: &[u8]) -> Result<(), MergeFault>
-    ensures written { OnOk result (Appends (W.contents out.old) (W.contents out.new) text.now) }
-    ensures fault { IfErr result (λ fault. (¬ (IsOfTexts fault)) × ¬ (IsOfTaps fault)) }
-{
-    match out.write_all(text) {
-        Ok(()) => Ok(()),
-        Err(_) => Err(MergeFault::Write),
-    }
-}
-
 /// The fault of the text of this number.
 pub(crate) fn fault_in<R: BufRead + Drop>(
     sources: &[OrderedText<R>],
     at: usize,
     wrong: Wrong,
 ) -> MergeFault
-    ensures { ¬ (IsOfTaps result) }
+    ensures no_taps { ¬ (IsOfTaps result) }
+    ensures named { NamesOnly result (slice_get (map text_number sources.now) at) }
 {
     match sources.get(at) {
         Some(source) => source.reader.fault(wrong),
-        None => MergeFault::Unread(at),
+        None => MergeFault::NoMemory,
     }
 }
 
@@ -276,6 +278,12 @@ pub(crate) fn write_at<R: BufRead + Drop, W: Write>(
     ensures refused { IfErr result (λ fault. IsOfTexts fault
         → IsStuckAt at (map (standing R.remaining) sources.old)) }
     ensures no_taps { IfErr result (λ fault. ¬ (IsOfTaps fault)) }
+    ensures begun { OnErr result ((was : Standing)
+        → slice_get (map (standing R.remaining) sources.old) at ≡ Some was
+        → Begins (W.contents out.old) (W.contents out.new) was.line) }
+    ensures texts { OnOk result (map text_number sources.new ≡ map text_number sources.old) }
+    ensures named { IfErr result
+        (λ fault. NamesOnly fault (slice_get (map text_number sources.old) at)) }
 {
     let source = &mut sources[at];
     write_text(out, source.reader.line())?;
@@ -299,6 +307,17 @@ pub(crate) fn write_merged<R: BufRead + Drop, W: Write>(
         → (lists : List (List TokenLine)) (joined : List TokenLine) → AreTexts texts lists
         → ¬ (IsMergedByToken lists joined)) }
     ensures no_taps { IfErr result (λ fault. ¬ (IsOfTaps fault)) }
+    // What was written is a beginning of whatever the texts are merged into.
+    ensures begun { OnErr result ((texts : List (LineKind × List ℕ))
+        → AllZip StandsInText texts (map (standing R.remaining) sources.old)
+        → (lists : List (List TokenLine)) (joined : List TokenLine) → AreTexts texts lists
+        → IsMergedByToken lists joined
+        → Begins (W.contents out.old) (W.contents out.new) (text_of joined)) }
+    // The text that a fault names is one of these, and it is wrong.
+    ensures named { IfErr result (λ fault. NamesOneOf fault (map text_number sources.old)) }
+    ensures wrong { IfErr result (λ fault. (texts : List (LineKind × List ℕ))
+        → AllZip StandsInText texts (map (standing R.remaining) sources.old)
+        → IsWrongText texts (map text_number sources.old) fault) }
 {
     let mut tokens = tokens_at(alloc, sources)?;
     for _ in 0..u64::MAX {
@@ -308,5 +327,5 @@ pub(crate) fn write_merged<R: BufRead + Drop, W: Write>(
             Err(at) => return Err(fault_in(sources, at, Wrong::Twice)),
         }
     }
-    Err(MergeFault::Unread(0))
+    Err(MergeFault::NoMemory)
 }

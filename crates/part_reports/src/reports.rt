@@ -1,9 +1,10 @@
 //! Reports of parts, merged.
 
 ghost use Rattle.std.specs.Prelude.{◌≡◌, ◌<◌, ◌≤◌, ◌^◌, ℕ, List, Some, All, IfErr, IfOk};
-ghost use Rattle.std.specs.Prelude.{IfSome, IsTrue, OnOk, ◌++◌, flat_map, length, map, ◌↔◌};
+ghost use Rattle.std.specs.Prelude.{IfSome, IsTrue, OnErr, OnOk, ◌++◌, flat_map, length, map, ◌↔◌};
+ghost use Rattle.std.specs.Prelude.{◌⊎◌};
 ghost use Rattle.std.specs.Io.KnownBytes.{Appends};
-ghost use Rattle.part_reports.specs.Faults.{IsOfTaps, IsOfTexts};
+ghost use Rattle.part_reports.specs.Faults.{IsOfTaps, IsOfTexts, NamesAmong, number_from};
 ghost use Rattle.part_reports.specs.declared.fault.MergeFault.TheVariants.{Taps};
 ghost use Rattle.fare_texts.specs.ReportLines.{validator_line};
 ghost use Rattle.report_texts.specs.UploadEnds.{is_posted};
@@ -12,9 +13,11 @@ ghost use Rattle.std.specs.String.{string_bytes};
 ghost use Rattle.std.specs.BTreeMap.{IsOrdered, get};
 ghost use Rattle.std.specs.Ordering.{nat_cmp};
 ghost use Rattle.part_reports.specs.Reports.{CannotBeMerged, IsMerged, IsPartReport, Report};
-ghost use Rattle.part_reports.specs.Reports.{HaveTaps, all_ends};
+ghost use Rattle.part_reports.specs.Reports.{HaveTaps, NamesWrongText, all_ends};
 ghost use Rattle.part_reports.specs.Reports.{report_text};
-ghost use Rattle.part_reports.specs.Texts.{AreLeft};
+ghost use Rattle.part_reports.specs.Texts.{AreLeft, Begins};
+ghost use Rattle.part_reports.specs.inside.Told.{AreNumbered, IsOfText, text_number};
+ghost use Rattle.part_reports.specs.inside.WrongTexts.{NamesWrongReport};
 ghost use Rattle.part_reports.specs.inside.UploadEnds.{HaveReadEnds};
 ghost use Rattle.part_reports.specs.inside.Parts.{AreParts, IsNoPart, IsPart};
 ghost use Rattle.part_reports.specs.inside.Standings.{standing};
@@ -25,11 +28,12 @@ ghost use Rattle.shard_book.specs.Sums.{sums_of};
 use crate::fault::{MergeFault, Wrong};
 use crate::front::read_front;
 use crate::line_reader::LineReader;
-use crate::merging::{LineKind, OrderedText, write_merged, write_text};
+use crate::merging::{LineKind, OrderedText, write_merged};
 use crate::sums::{WholeSums, add_front, no_sums};
 use crate::sums_left::SumsLeft;
 use crate::upload_ends::UploadEnds;
 use crate::upload_ends::read::read_ends;
+use crate::writing::write_text;
 use fare_texts::write_totals;
 use report_texts::{write_section_head, write_validator};
 use shard_book::{Totals, ValidatorSum};
@@ -58,6 +62,8 @@ pub(crate) fn read_part<R: BufRead + Drop>(
     ensures refused { IfErr result (λ fault. IsOfTexts fault
         → IfSome (R.remaining from) (IsNoPart sums.old)) }
     ensures other { IfErr result (λ fault. ¬ (IsOfTaps fault)) }
+    ensures number { IfOk result (λ source. text_number source ≡ text) }
+    ensures told { IfErr result (IsOfText text) }
 {
     let mut reader = LineReader::new(alloc, from, text);
     let front = read_front(alloc, &mut reader)?;
@@ -83,6 +89,12 @@ fn read_parts<R: BufRead + Drop>(
         → AreLeft R.remaining texts.items files → length files ≤ 2 ^ 31
         → (parts : List Report) → All IsPartReport parts → ¬ (files ≡ map report_text parts)) }
     ensures other { IfErr result (λ fault. ¬ (IsOfTaps fault)) }
+    ensures numbered { IfOk result (λ parts.
+        AreNumbered (number_from first) (map text_number parts.sources.items)) }
+    ensures count { IfOk result (λ parts. length parts.sources.items ≡ length texts.items) }
+    ensures named { IfErr result (NamesAmong first (length texts.items)) }
+    ensures wrong { IfErr result (λ fault. (files : List (List ℕ))
+        → AreLeft R.remaining texts.items files → NamesWrongReport first files fault) }
 {
     let mut sums = no_sums(alloc);
     let mut sources = Vec::new(alloc);
@@ -156,6 +168,19 @@ pub fn merge<R: BufRead + Drop, W: Write>(
         → fault ≡ Taps of_reports of_uploads → (end_files report_files : List (List ℕ))
         → AreLeft R.remaining ends.items end_files → AreLeft R.remaining reports.items report_files
         → HaveTaps end_files report_files of_reports of_uploads) }
+    // What was written before a fault is a beginning of a report of the whole, if there is one.
+    ensures begun { OnErr result ((end_files report_files : List (List ℕ))
+        → AreLeft R.remaining ends.items end_files → AreLeft R.remaining reports.items report_files
+        → (some : List ℕ) → IsMerged end_files report_files some
+        → (text : List ℕ) × IsMerged end_files report_files text
+        × Begins (W.contents out.old) (W.contents out.new) text) }
+    // The text that a fault names is one of the ends or, behind them, of the reports; and if a line
+    // of it is refused, it is wrong.
+    ensures named { IfErr result (λ fault. NamesAmong 0 (length ends.items) fault
+        ⊎ NamesAmong (length ends.items) (length reports.items) fault) }
+    ensures wrong { IfErr result (λ fault. (end_files report_files : List (List ℕ))
+        → AreLeft R.remaining ends.items end_files → AreLeft R.remaining reports.items report_files
+        → NamesWrongText end_files report_files fault) }
 {
     let first = ends.len();
     let ends = read_ends(alloc, ends)?;

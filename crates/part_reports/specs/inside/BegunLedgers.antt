@@ -2,8 +2,6 @@
 use Rattle.std.specs.Prelude.{◌≡◌, ℕ, List, ◌++◌, Option, IfSome}
 use Rattle.std.specs.List.{AllZip}
 use Rattle.reason_texts.specs.Ledger.{head_text}
-use Rattle.part_reports.specs.Ledgers.{IsPartLedger}
-use Rattle.part_reports.specs.TokenLines.{TokenLine}
 use Rattle.part_reports.specs.inside.Standings.{StandsInText, Standing}
 use Rattle.part_reports.specs.declared.merging.LineKind.TheVariants.{Entries}
 
@@ -17,7 +15,3 @@ pub record IsBegunLedger (file : List ℕ) (at : Standing) : Type 0 where
 abbrev pub AreBegunLedgers : List (Option (List ℕ)) → List Standing → Type 0
 AreBegunLedgers files ats =
     AllZip (λ file at. IfSome file (λ file. IsBegunLedger file at)) files ats
-
--- the text is no ledger
-abbrev pub IsNoLedger : List ℕ → Type 0
-IsNoLedger file = (lines : List TokenLine) → ¬ (IsPartLedger lines file)

@@ -1,10 +1,11 @@
 //! Reads how the uploads of the whole ended.
 
 ghost use Rattle.std.specs.Prelude.{◌≡◌, ◌<◌, ℕ, List, All, IfErr, IfOk, IsSome, length};
-ghost use Rattle.part_reports.specs.Faults.{IsOfTaps, IsOfTexts};
+ghost use Rattle.part_reports.specs.Faults.{IsOfTaps, IsOfTexts, NamesAmong};
+ghost use Rattle.part_reports.specs.inside.Told.{IsOfReader};
 ghost use Rattle.report_texts.specs.Numbers.{IsUploadEnd};
 ghost use Rattle.report_texts.specs.declared.upload_end.UploadEnd.{UploadEnd as AnEnd};
-ghost use Rattle.part_reports.specs.Reports.{end_texts, all_ends};
+ghost use Rattle.part_reports.specs.Reports.{NamesWrongText, end_texts, all_ends};
 ghost use Rattle.part_reports.specs.Texts.{AreLeft};
 ghost use Rattle.part_reports.specs.inside.UploadEnds.{HaveReadEnds, AreEndsAdded, IsNextEnd};
 
@@ -23,7 +24,8 @@ fn next_end<R: BufRead + Drop>(
     ensures next { IsNextEnd upload (R.remaining lines.old.from) (R.remaining lines.new.from)
         lines.new.line.items result }
     ensures some { IfOk result (λ end. IsSome end → 0 < length lines.new.line.items) }
-    ensures other { IfErr result (λ fault. ¬ (IsOfTaps fault)) }
+    ensures text { lines.new.text ≡ lines.old.text }
+    ensures told { IfErr result (IsOfReader lines.new.text lines.new.lines) }
 {
     lines.next()?;
     if lines.is_over() {
@@ -39,7 +41,8 @@ fn read_more<R: BufRead + Drop>(
     lines: &mut LineReader<R>,
 ) -> Result<(), MergeFault>
     ensures added { AreEndsAdded ends.old ends.new (R.remaining lines.old.from) result }
-    ensures other { IfErr result (λ fault. ¬ (IsOfTaps fault)) }
+    ensures text { lines.new.text ≡ lines.old.text }
+    ensures told { IfErr result (IsOfReader lines.new.text lines.new.lines) }
 {
     for _ in 0..u64::MAX {
         match next_end(lines, ends.uploads)? {
@@ -63,6 +66,9 @@ pub(crate) fn read_ends<R: BufRead + Drop>(
         → AreLeft R.remaining texts.items files → (lists : List (List AnEnd))
         → All IsUploadEnd (all_ends lists) → ¬ (files ≡ end_texts 0 lists)) }
     ensures other { IfErr result (λ fault. ¬ (IsOfTaps fault)) }
+    ensures named { IfErr result (NamesAmong 0 (length texts.items)) }
+    ensures wrong { IfErr result (λ fault. (files report_files : List (List ℕ))
+        → AreLeft R.remaining texts.items files → NamesWrongText files report_files fault) }
 {
     let mut ends = UploadEnds::new(alloc);
     let mut number: usize = 0;

@@ -1,4 +1,4 @@
-use Rattle.std.proofs.Common.{ℕ, List, refl, sym, subst, arith, Global}
+use Rattle.std.proofs.Common.{ℕ, List, refl, sym, subst, arith, Global, ◌∙◌}
 use Rattle.std.specs.Prelude.{map}
 use Rattle.std.specs.declared.vec.Vec.{Vec}
 use Rattle.std.proofs.lemmas.Result.{err_from_is_err_and}
@@ -14,8 +14,11 @@ abbrev Is : Vec ValidatorSum Global → List (ℕ × Sums) → Type 0
 Is sums told = AreSums sums.items told
 
 pub loop-init : goal.loop-init
-loop-init g c = rising_first c.new-sums.result.items (g.R.Read.remaining c.args.reader.now.from)
-    c.new-sums.ensures.items
+loop-init g c = record {
+  rising = rising_first c.new-sums.result.items (g.R.Read.remaining c.args.reader.now.from)
+      c.new-sums.ensures.items;
+  text = refl;
+}
 
 pub returns-in_err-sum-clause-read : goal.returns-in_err-sum-clause-read
 returns-in_err-sum-clause-read g c =
@@ -24,7 +27,7 @@ returns-in_err-sum-clause-read g c =
     let new = g.R.Read.remaining c.next_validator.new.reader.from in
     let p = err_from_is_err_and c.from_residual.result c.from_residual.ensures.1 in
     rw (p.1, p.2) (rising_no_line Is c.args.number c.loop.counter c.loop.sums.items old now new
-    c.in_err-sum.field-0.0 c.loop-test.true c.loop.invariant c.in_err-sum.ensures.read)
+    c.in_err-sum.field-0.0 c.loop-test.true c.loop.invariant.rising c.in_err-sum.ensures.read)
 
 pub returns-then-not-may_follow-clause-read : goal.returns-then-not-may_follow-clause-read
 returns-then-not-may_follow-clause-read g c =
@@ -34,7 +37,7 @@ returns-then-not-may_follow-clause-read g c =
     let at = c.deref.ensures.value in
     let no = c.if-not-may_follow.true in
     rising_not Is c.args.number c.loop.counter c.loop.sums.items c.in_ok-sum.sum old now new
-    c.fault.result c.loop-test.true c.loop.invariant c.in_ok-sum.ensures.read
+    c.fault.result c.loop-test.true c.loop.invariant.rising c.in_ok-sum.ensures.read
     (λ follow.
     let yes = c.may_follow.ensures.1 (subst (λ sums. MayFollowValidators (map validator_sum sums)
     c.in_ok-sum.sum.validator) (sym at) follow) in
@@ -45,14 +48,17 @@ loop-preserved g c =
     let old = g.R.Read.remaining c.args.reader.now.from in
     let now = g.R.Read.remaining c.loop.reader.from in
     let new = g.R.Read.remaining c.next_validator.new.reader.from in
-    rising_more c.loop.counter c.loop.sums.items c.push.new.self.items c.in_ok-sum.sum old now new
-    c.in_ok-push.ensures.items c.loop.invariant c.in_ok-sum.ensures.read
-    (subst (λ sums. MayFollowValidators (map validator_sum sums) c.in_ok-sum.sum.validator)
-    c.deref.ensures.value (c.may_follow.ensures.0 c.if-not-may_follow.false))
+    record {
+      rising = rising_more c.loop.counter c.loop.sums.items c.push.new.self.items c.in_ok-sum.sum old
+          now new c.in_ok-push.ensures.items c.loop.invariant.rising c.in_ok-sum.ensures.read
+          (subst (λ sums. MayFollowValidators (map validator_sum sums) c.in_ok-sum.sum.validator)
+          c.deref.ensures.value (c.may_follow.ensures.0 c.if-not-may_follow.false));
+      text = c.next_validator.ensures.text ∙ c.loop.invariant.text;
+    }
 
 pub returns-clause-read : goal.returns-clause-read
 returns-clause-read g c =
     let old = g.R.Read.remaining c.args.reader.now.from in
     let now = g.R.Read.remaining c.loop.reader.from in
     rising_done Is c.args.number c.loop.counter c.loop.sums.items old now c.loop.sums (omega arith)
-    refl c.loop.invariant
+    refl c.loop.invariant.rising

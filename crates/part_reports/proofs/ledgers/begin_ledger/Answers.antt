@@ -1,12 +1,36 @@
 use Rattle.std.proofs.Common.{rules, ◌≡◌, ◌∙◌, sym, subst, ap}
 use Rattle.std.specs.Prelude.{IfSome}
-use Rattle.std.proofs.lemmas.Result.{IfErr-weaker, IfOk-weaker}
+use Rattle.std.proofs.lemmas.Result.{IfErr-weaker, IfOk-weaker, err_from_is_err_and}
 use Rattle.reason_texts.specs.Ledger.{head_text}
-use Rattle.part_reports.specs.inside.BegunLedgers.{IsBegunLedger, IsNoLedger}
+use Rattle.part_reports.specs.Ledgers.{IsNoLedger}
+use Rattle.part_reports.specs.inside.BegunLedgers.{IsBegunLedger}
 use Rattle.part_reports.specs.inside.Standings.{standing}
 use Rattle.part_reports.proofs.Firsts.{weaker}
 use Rattle.part_reports.proofs.LedgerTexts.{behind_head, no_head, no_lines}
+use Rattle.part_reports.specs.inside.Told.{IsOfText}
+use Rattle.part_reports.proofs.ToldOf.{of_text}
 use Rattle.part_reports.proofs.ledgers.begin_ledger.Goals as goal
+
+pub returns-in_err-next-clause-told : goal.returns-in_err-next-clause-told
+returns-in_err-next-clause-told g c =
+    let p = err_from_is_err_and c.from_residual.result c.from_residual.ensures.1 in
+    rw (p.1, p.2) (of_text _ _ _ _ (c.next.ensures.text ∙ c.new-reader.ensures.text)
+    c.in_err-next.ensures.told)
+
+pub returns-then-eq-clause-number : goal.returns-then-eq-clause-number
+returns-then-eq-clause-number g c =
+    IfOk-weaker c.begin.result _ _ (λ source same.
+    same ∙ c.next.ensures.text ∙ c.new-reader.ensures.text) c.begin.ensures.text
+
+pub returns-then-eq-clause-told : goal.returns-then-eq-clause-told
+returns-then-eq-clause-told g c =
+    IfErr-weaker c.begin.result _ _ (λ fault of.
+    subst (λ text. IsOfText text fault) (c.next.ensures.text ∙ c.new-reader.ensures.text) of)
+    c.begin.ensures.told
+
+pub returns-else-eq-clause-told : goal.returns-else-eq-clause-told
+returns-else-eq-clause-told g c =
+    of_text _ _ _ _ (c.next.ensures.text ∙ c.new-reader.ensures.text) c.fault.ensures.told
 
 pub returns-then-eq-clause-begun : goal.returns-then-eq-clause-begun
 returns-then-eq-clause-begun g c =

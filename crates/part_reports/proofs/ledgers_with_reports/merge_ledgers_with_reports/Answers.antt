@@ -1,13 +1,16 @@
 use Rattle.std.proofs.Common.{◌∙◌, ap, arith, length, map, sym, subst}
 use Rattle.std.proofs.lemmas.List.{length-map}
 use Rattle.std.specs.Io.KnownBytes.{Appends}
-use Rattle.std.proofs.lemmas.Result.{IfErr-weaker, err_from_is_err_and, on_ok_weaker}
+use Rattle.std.proofs.lemmas.Result.{IfErr-weaker, err_from_is_err_and, on_err_weaker, on_ok_weaker}
 use Rattle.reason_texts.specs.Ledger.{head_text}
+use Rattle.part_reports.specs.Texts.{Begins}
 use Rattle.part_reports.specs.inside.BegunLedgers.{AreBegunLedgers}
 use Rattle.part_reports.specs.inside.ReportsLeft.{AreBegunReports, report_at}
 use Rattle.part_reports.specs.inside.Standings.{standing}
 use Rattle.part_reports.proofs.ReportsMerged.{ledgers_number, no_charges, no_whole, reports_number}
-use Rattle.part_reports.proofs.ReportsMerged.{whole}
+use Rattle.part_reports.proofs.LedgersWrong.{head_begun, merged_begun}
+use Rattle.part_reports.proofs.MergedBefore.{begins_nothing}
+use Rattle.part_reports.proofs.ReportsMerged.{unused_of, whole}
 use Rattle.part_reports.proofs.ledgers_with_reports.merge_ledgers_with_reports.Goals as goal
 
 pub returns-in_err-sources-clause-refused : goal.returns-in_err-sources-clause-refused
@@ -86,3 +89,51 @@ write_all_taken-requires g c =
       ap length c.deref_mut-2.ensures.value,
       c.requires.number,
     )
+
+-- ---- what was written before a fault
+pub returns-in_err-sources-clause-begun : goal.returns-in_err-sources-clause-begun
+returns-in_err-sources-clause-begun g c =
+    let p = err_from_is_err_and c.from_residual.result c.from_residual.ensures.1 in
+    rw p.1 (λ files report_files same same_reports text is.
+    begins_nothing (g.W.Write.contents c.args.out.now) text)
+
+pub returns-in_err-lefts-clause-begun : goal.returns-in_err-lefts-clause-begun
+returns-in_err-lefts-clause-begun g c =
+    let p = err_from_is_err_and c.from_residual-in_err-lefts.result
+    c.from_residual-in_err-lefts.ensures.1 in
+    rw p.1 (λ files report_files same same_reports text is.
+    begins_nothing (g.W.Write.contents c.args.out.now) text)
+
+pub returns-in_err-write_text-clause-begun : goal.returns-in_err-write_text-clause-begun
+returns-in_err-write_text-clause-begun g c =
+    let old = g.W.Write.contents c.args.out.now in
+    let mid = g.W.Write.contents c.write_text.new.out in
+    let p = err_from_is_err_and c.from_residual-in_err-write_text.result
+    c.from_residual-in_err-write_text.ensures.1 in
+    rw p.1 (λ files report_files same same_reports text is.
+    head_begun files text old mid is.merged
+    (subst (λ bytes. Begins old mid bytes) (c.as_bytes.ensures.value ∙ c.head_line.ensures)
+    c.in_err-write_text.ensures.begun))
+
+pub returns-clause-begun : goal.returns-clause-begun
+returns-clause-begun g c =
+    let remaining = g.R.Read.remaining in
+    let ledgers = map remaining c.args.ledgers.items in
+    let reports = map remaining c.args.reports.items in
+    let old = g.W.Write.contents c.args.out.now in
+    let mid = g.W.Write.contents c.write_text.new.out in
+    let new = g.W.Write.contents c.write_all_taken.new.out in
+    let are : AreBegunLedgers ledgers (map (standing remaining) c.deref_mut.result.now) =
+    subst (λ sources. AreBegunLedgers ledgers (map (standing remaining) sources))
+    (sym c.deref_mut.ensures.value) c.in_ok-sources.ensures.begun in
+    let begun : AreBegunReports reports (map (report_at remaining) c.deref_mut-2.result.now) =
+    subst (λ lefts. AreBegunReports reports (map (report_at remaining) lefts))
+    (sym c.deref_mut-2.ensures.value) c.in_ok-lefts.ensures.begun in
+    let head : Appends old mid head_text =
+    subst (λ bytes. Appends old mid bytes) (c.as_bytes.ensures.value ∙ c.head_line.ensures)
+    c.in_ok-write_text.ensures.written in
+    on_err_weaker c.write_all_taken.result (λ behind files report_files same same_reports text is.
+    merged_begun files ledgers (map (standing remaining) c.deref_mut.result.now) old mid new text
+    same are head (λ texts stand. behind texts report_files stand
+    (unused_of report_files reports (map (report_at remaining) c.deref_mut-2.result.now)
+    same_reports begun)) is.merged) c.write_all_taken.ensures.begun

@@ -3,10 +3,13 @@ use Rattle.std.proofs.lemmas.List.{length-map, take_at}
 use Rattle.std.proofs.lemmas.Option.{slice_get_within}
 use Rattle.std.proofs.lemmas.Result.{IfErr-weaker, err_from_is_err_and, on_ok_weaker}
 use Rattle.std.specs.Prelude.{map}
+use Rattle.part_reports.specs.TokenLines.{text_of}
 use Rattle.part_reports.specs.inside.ReportsLeft.{report_at}
 use Rattle.part_reports.specs.inside.Standings.{standing}
+use Rattle.part_reports.proofs.MergedBefore.{begins_nothing, begun_least, begun_so_far}
 use Rattle.part_reports.proofs.Merges.{least_of, merging_stuck, merging_twin, twin_of}
 use Rattle.part_reports.proofs.ReportsMerged.{at_end, beginning, going_on, not_taken, something_left}
+use Rattle.part_reports.proofs.ToldOf.{on_err_any}
 use Rattle.part_reports.proofs.ledgers_with_reports.write_all_taken.Goals as goal
 
 pub loop-init : goal.loop-init
@@ -130,3 +133,55 @@ write_at-requires-clause-within g c =
     let taken = c.in_ok-take_at-in-Ok-Some.ensures.taken in
     let within = slice_get_within ats c.in-Ok-Some.at taken.source taken.source_there in
     omega (arith, within, length-map c.loop.sources (standing g.R.Read.remaining))
+
+-- ---- what was written before a fault
+pub returns-in_err-tokens-clause-begun : goal.returns-in_err-tokens-clause-begun
+returns-in_err-tokens-clause-begun g c =
+    let p = err_from_is_err_and c.from_residual.result c.from_residual.ensures.1 in
+    rw p.1 (λ texts files are unused lists joined told is.
+    begins_nothing (g.W.Write.contents c.args.out.now) (text_of joined))
+
+pub returns-in_err-take_at-in-Ok-Some-clause-begun :
+    goal.returns-in_err-take_at-in-Ok-Some-clause-begun
+returns-in_err-take_at-in-Ok-Some-clause-begun g c =
+    let p = err_from_is_err_and c.from_residual-in_err-take_at-in-Ok-Some.result
+    c.from_residual-in_err-take_at-in-Ok-Some.ensures.1 in
+    rw p.1 (λ texts files are unused lists joined told is.
+    begun_so_far texts (map (standing g.R.Read.remaining) c.loop.sources)
+    (g.W.Write.contents c.args.out.now) (g.W.Write.contents c.loop.out)
+    (c.loop.invariant.merging texts files are unused).merging lists joined told is)
+
+pub returns-in_err-write_at-in-Ok-Some-clause-begun :
+    goal.returns-in_err-write_at-in-Ok-Some-clause-begun
+returns-in_err-write_at-in-Ok-Some-clause-begun g c =
+    let remaining = g.R.Read.remaining in
+    let sources = c.loop.sources in
+    let least = least_of remaining sources c.deref.result.now c.loop.tokens.items
+    c.in-Ok-Some.field-0 (Some c.in-Ok-Some.at) c.deref.ensures.value c.loop.invariant.same
+    c.in-Ok-Some.ensures c.in-Ok-Some.field-0-is in
+    let p = err_from_is_err_and c.from_residual-in_err-write_at-in-Ok-Some.result
+    c.from_residual-in_err-write_at-in-Ok-Some.ensures.1 in
+    rw p.1 (λ texts files are unused lists joined told is.
+    begun_least texts (map (standing remaining) sources) (g.W.Write.contents c.args.out.now)
+    (g.W.Write.contents c.loop.out) (g.W.Write.contents c.write_at.new.out) c.in-Ok-Some.at
+    (c.loop.invariant.merging texts files are unused).merging least
+    c.in_err-write_at-in-Ok-Some.ensures.begun lists joined told is)
+
+pub returns-in-Ok-None-clause-begun : goal.returns-in-Ok-None-clause-begun
+returns-in-Ok-None-clause-begun g c = on_err_any _ c.finish_all.result
+    (λ texts files are unused lists joined told is.
+    begun_so_far texts (map (standing g.R.Read.remaining) c.loop.sources)
+    (g.W.Write.contents c.args.out.now) (g.W.Write.contents c.loop.out)
+    (c.loop.invariant.merging texts files are unused).merging lists joined told is)
+
+pub returns-in-Err-clause-begun : goal.returns-in-Err-clause-begun
+returns-in-Err-clause-begun g c = λ texts files are unused lists joined told is.
+    begun_so_far texts (map (standing g.R.Read.remaining) c.loop.sources)
+    (g.W.Write.contents c.args.out.now) (g.W.Write.contents c.loop.out)
+    (c.loop.invariant.merging texts files are unused).merging lists joined told is
+
+pub returns-clause-begun : goal.returns-clause-begun
+returns-clause-begun g c = λ texts files are unused lists joined told is.
+    begun_so_far texts (map (standing g.R.Read.remaining) c.loop.sources)
+    (g.W.Write.contents c.args.out.now) (g.W.Write.contents c.loop.out)
+    (c.loop.invariant.merging texts files are unused).merging lists joined told is

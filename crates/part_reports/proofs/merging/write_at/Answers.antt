@@ -1,10 +1,14 @@
 use Rattle.std.proofs.Common.{◌∙◌, sym, ap, subst, get_or, map}
-use Rattle.std.specs.Prelude.{slice_set}
+use Rattle.std.specs.Prelude.{slice_get, slice_set}
 use Rattle.std.specs.Io.KnownBytes.{Appends}
 use Rattle.std.proofs.lemmas.Option.{slice_get-get_or}
 use Rattle.std.proofs.lemmas.Result.{err_from_is_err_and}
-use Rattle.part_reports.specs.inside.Standings.{MayFollowToken, standing}
-use Rattle.part_reports.proofs.Places.{map_at, map_of_set}
+use Rattle.part_reports.specs.Texts.{Begins}
+use Rattle.part_reports.specs.inside.Standings.{MayFollowToken, Standing, standing}
+use Rattle.part_reports.specs.inside.Told.{NamesOnly, text_number}
+use Rattle.part_reports.proofs.MergedBefore.{begins_whole}
+use Rattle.part_reports.proofs.Places.{map_at, map_kept, map_of_set, one_at}
+use Rattle.part_reports.proofs.ToldOf.{of_text, only_of}
 use Rattle.part_reports.proofs.merging.write_at.Goals as goal
 
 pub returns-in_err-tokens-clause-refused : goal.returns-in_err-tokens-clause-refused
@@ -20,6 +24,65 @@ returns-in_err-tokens-clause-refused g c =
           (slice_get-get_or sources at c.index-sources-at.result c.requires.within);
       stuck = c.in_err-tokens.ensures.refused of_texts;
     })
+
+pub returns-in_err-write_text-clause-begun : goal.returns-in_err-write_text-clause-begun
+returns-in_err-write_text-clause-begun g c =
+    let sources = c.args.sources.now in
+    let at = c.args.at in
+    let source = get_or sources at c.index-sources-at.result in
+    let p = err_from_is_err_and c.from_residual.result c.from_residual.ensures.1 in
+    rw p.1 (λ was there.
+    subst (λ bytes. Begins (g.W.Write.contents c.args.out.now)
+    (g.W.Write.contents c.write_text.new.out) bytes)
+    (c.line.ensures ∙ ap (λ (at : Standing). at.line)
+    (one_at (map (standing g.R.Read.remaining) sources) at (standing g.R.Read.remaining source) was
+    (map_at (standing g.R.Read.remaining) sources at source
+    (slice_get-get_or sources at c.index-sources-at.result c.requires.within)) there))
+    c.in_err-write_text.ensures.begun)
+
+pub returns-in_err-write_text-clause-named : goal.returns-in_err-write_text-clause-named
+returns-in_err-write_text-clause-named g c =
+    let p = err_from_is_err_and c.from_residual.result c.from_residual.ensures.1 in
+    rw (p.1, p.2) (subst (λ fault. NamesOnly fault (slice_get
+    (map text_number c.args.sources.now) c.args.at)) (sym c.in_err-write_text.ensures.write) tt)
+
+pub returns-in_err-tokens-clause-begun : goal.returns-in_err-tokens-clause-begun
+returns-in_err-tokens-clause-begun g c =
+    let sources = c.args.sources.now in
+    let at = c.args.at in
+    let source = get_or sources at c.index-sources-at.result in
+    let p = err_from_is_err_and c.from_residual-in_err-tokens.result
+    c.from_residual-in_err-tokens.ensures.1 in
+    rw p.1 (λ was there.
+    begins_whole (g.W.Write.contents c.args.out.now) (g.W.Write.contents c.write_text.new.out) _
+    (subst (λ bytes. Appends (g.W.Write.contents c.args.out.now)
+    (g.W.Write.contents c.write_text.new.out) bytes)
+    (c.line.ensures ∙ ap (λ (at : Standing). at.line)
+    (one_at (map (standing g.R.Read.remaining) sources) at (standing g.R.Read.remaining source) was
+    (map_at (standing g.R.Read.remaining) sources at source
+    (slice_get-get_or sources at c.index-sources-at.result c.requires.within)) there))
+    c.in_ok-write_text.ensures.written))
+
+pub returns-in_err-tokens-clause-named : goal.returns-in_err-tokens-clause-named
+returns-in_err-tokens-clause-named g c =
+    let sources = c.args.sources.now in
+    let at = c.args.at in
+    let source = get_or sources at c.index-sources-at.result in
+    let p = err_from_is_err_and c.from_residual-in_err-tokens.result
+    c.from_residual-in_err-tokens.ensures.1 in
+    rw (p.1, p.2) (only_of source.reader.text (slice_get (map text_number sources) at) _
+    (map_at text_number sources at source
+    (slice_get-get_or sources at c.index-sources-at.result c.requires.within))
+    (of_text _ _ _ _ c.advance.ensures.text c.in_err-tokens.ensures.told))
+
+pub returns-clause-texts : goal.returns-clause-texts
+returns-clause-texts g c =
+    let sources = c.args.sources.now in
+    let at = c.args.at in
+    let source = get_or sources at c.index-sources-at.result in
+    map_kept text_number sources at source c.advance.new.self
+    (slice_get-get_or sources at c.index-sources-at.result c.requires.within)
+    c.advance.ensures.text
 
 pub returns-clause-moved : goal.returns-clause-moved
 returns-clause-moved g c =

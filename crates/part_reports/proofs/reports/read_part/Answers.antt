@@ -1,4 +1,4 @@
-use Rattle.std.proofs.Common.{Err, List, Ok, subst}
+use Rattle.std.proofs.Common.{◌∙◌, Err, List, Ok, subst}
 use Rattle.std.specs.Prelude.{IfSome}
 use Rattle.std.proofs.lemmas.Result.{IfErr-weaker, IfOk-weaker, err_from_is_err_and}
 use Rattle.part_reports.specs.inside.Fronts.{IsFront, MayBePart, told_text}
@@ -9,6 +9,8 @@ use Rattle.part_reports.specs.inside.Kinds.{IsTextOf}
 use Rattle.part_reports.specs.inside.Standings.{StandsInText, standing}
 use Rattle.part_reports.specs.inside.Sums.{WithFront}
 use Rattle.part_reports.proofs.PartsBegun.{is_part, no_front, no_lines, no_sums}
+use Rattle.part_reports.specs.inside.Told.{IsOfText}
+use Rattle.part_reports.proofs.ToldOf.{of_text}
 use Rattle.part_reports.proofs.reports.read_part.Goals as goal
 
 pub returns-in_err-front-clause-refused : goal.returns-in_err-front-clause-refused
@@ -55,3 +57,27 @@ returns-clause-refused g c =
     (subst (λ rest. IfSome now (λ left. (lines : List TokenLine)
     → ¬ (IsTextOf (Tokens front.tokens rest, left) lines))) c.of-rest.ensures (none_there of_texts)))
     c.begin.ensures.refused
+
+-- ---- of which text a fault is
+pub returns-in_err-front-clause-told : goal.returns-in_err-front-clause-told
+returns-in_err-front-clause-told g c =
+    let p = err_from_is_err_and c.from_residual.result c.from_residual.ensures.1 in
+    rw (p.1, p.2) (of_text c.args.text c.read_front.new.reader.text c.read_front.new.reader.lines
+    c.in_err-front.field-0.0 (c.read_front.ensures.text ∙ c.new-reader.ensures.text)
+    c.in_err-front.ensures.told)
+
+pub returns-then-not-branch-clause-told : goal.returns-then-not-branch-clause-told
+returns-then-not-branch-clause-told g c =
+    of_text c.args.text c.read_front.new.reader.text c.read_front.new.reader.lines c.fault.result
+    (c.read_front.ensures.text ∙ c.new-reader.ensures.text) c.fault.ensures.told
+
+pub returns-clause-number : goal.returns-clause-number
+returns-clause-number g c =
+    IfOk-weaker c.begin.result _ _ (λ source same.
+    same ∙ c.read_front.ensures.text ∙ c.new-reader.ensures.text) c.begin.ensures.text
+
+pub returns-clause-told : goal.returns-clause-told
+returns-clause-told g c =
+    IfErr-weaker c.begin.result _ _ (λ fault of.
+    subst (λ text. IsOfText text fault) (c.read_front.ensures.text ∙ c.new-reader.ensures.text) of)
+    c.begin.ensures.told

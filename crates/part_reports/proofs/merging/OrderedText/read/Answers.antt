@@ -8,7 +8,7 @@ use Rattle.part_reports.proofs.merging.OrderedText.read.Goals as goal
 pub returns-in_err-lines-clause-refused : goal.returns-in_err-lines-clause-refused
 returns-in_err-lines-clause-refused g c =
     let lines = c.args.self.now.lines in
-    let none = wrong_of _ _ _ c.in_err-lines.ensures.wrong.0 c.first_of.ensures in
+    let none = wrong_of _ _ _ c.in_err-lines.ensures.wrong c.first_of.ensures in
     let p = err_from_is_err_and c.from_residual-in_err-lines.result
     c.from_residual-in_err-lines.ensures.1 in
     rw (p.1) (λ of_texts.

@@ -15,7 +15,7 @@ pub returns-in_err-charge-clause-refused : goal.returns-in_err-charge-clause-ref
 returns-in_err-charge-clause-refused g c =
     let p = err_from_is_err_and c.from_residual.result
     c.from_residual.ensures.1 in
-    let none = MatchOption-at_none _ _ c.in_err-charge.ensures.none.0 c.charge_of.ensures in
+    let none = MatchOption-at_none _ _ c.in_err-charge.ensures.none c.charge_of.ensures in
     let token = c.args.token in
     rw (p.1, p.2) (λ of_texts file done used charge is more add. none token charge
     (subst (λ line. IsChargeOf (line_with token line) charge) (sym c.line.ensures) is))

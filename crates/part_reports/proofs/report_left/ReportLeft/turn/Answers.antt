@@ -23,7 +23,7 @@ returns-in_err-sum-clause-refused g c =
     let p = err_from_is_err_and c.from_residual.result
     c.from_residual.ensures.1 in
     let there : c.args.self.now.report.token ≡ Some c.args.token = search rules in
-    let none = MatchOption-at_none _ _ c.in_err-sum.ensures.none.0 c.token_sum_of.ensures in
+    let none = MatchOption-at_none _ _ c.in_err-sum.ensures.none c.token_sum_of.ensures in
     rw (p.1, p.2) (λ of_texts. (
       c.requires.other,
       inr (inr (

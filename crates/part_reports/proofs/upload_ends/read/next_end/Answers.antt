@@ -19,7 +19,7 @@ returns-in_err-end-clause-next g c =
     (g.R.Read.remaining c.next.new.self.from) c.next.new.self.line.items c.line.result.now
     c.end_of.result c.in_err-end.field-0.0
     small c.in_ok-next.ensures.line c.line.ensures (λ over. let yes = c.is_over.ensures.1 over in
-    absurd (cc (yes, no))) c.end_of.ensures c.in_err-end.ensures.none.0)
+    absurd (cc (yes, no))) c.end_of.ensures c.in_err-end.ensures.none)
 
 pub returns-clause-next : goal.returns-clause-next
 returns-clause-next g c =
