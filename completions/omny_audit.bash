@@ -19,9 +19,10 @@ _omny_audit() {
         [[ $before != -- ]] || break
     done
     if [[ $word == -* && $before != -- ]]; then
-        mapfile -t COMPREPLY < <(compgen -W '--all --table --uploads -h --help -V --version' -- "$word")
+        mapfile -t COMPREPLY < <(compgen -W '--all --table --uploads --report -h --help -V --version' -- "$word")
     else
         [[ $before != --table ]] || ending=toml
+        [[ $before != --report ]] || ending=txt
         # files with this ending and folders; if there is none with the ending, all files
         compopt -o filenames 2> /dev/null
         mapfile -t COMPREPLY < <(compgen -f -X "!*.$ending" -- "$word"; compgen -d -- "$word")

@@ -18,6 +18,7 @@ complete -c omny_audit -l all -d 'Print each wrong line, each missing and each s
 complete -c omny_audit -l table -x -k -d 'The fare table' -a '(__omny_audit_files .toml)'
 complete -c omny_audit -l uploads -x -k -d 'Uploads whose taps the ledger should have' \
     -a '(__omny_audit_files .tap)'
+complete -c omny_audit -l report -x -k -d 'The report of the ledger' -a '(__omny_audit_files .txt)'
 complete -c omny_audit -s h -l help -d 'Print help'
 complete -c omny_audit -s V -l version -d 'Print the version'
 complete -c omny_audit -n $uploads -k -a '(__omny_audit_files .tap)'
