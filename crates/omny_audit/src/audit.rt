@@ -21,7 +21,7 @@ ghost use Rattle.omny_audit.specs.inside.Source.{IsAllOf};
 
 use crate::fault::Fault;
 use crate::output::write_text;
-use crate::report::{Beside, add_piece, are_both, write_report_line};
+use crate::report::{ReportWithSums, add_piece, are_both, write_report_line};
 use crate::text::{verdict_line, write_difference};
 use fare_table::{Clock, FareTable};
 use ledger_check::laws::verdicts_decide;
@@ -43,16 +43,16 @@ pub(crate) fn verdict_of<R: Read>(
     clock: &Clock,
     reader: &mut R,
     balance: &mut Balance,
-    beside: &mut Option<Beside>,
+    report: &mut Option<ReportWithSums>,
 ) -> Result<Verdict, Fault<'static>>
     requires clock { clock.now ≡ table.now.zone }
     requires good { (good : List TapFields) × IsBalance balance.old good [] }
-    requires sums { HasSummedFor table.now beside.old [] }
+    requires sums { HasSummedFor table.now report.old [] }
     ensures told { IfOk result (λ verdict. (text : List ℕ)
         × IsAllOf (R.remaining reader.old) text × IsVerdict table.now text verdict
         × StrikesOut table.now text balance.old balance.new verdict
-        × (IsTrue (is_legal verdict) → HasSummedFor table.now beside.new text)) }
-    ensures report { text_of beside.new ≡ text_of beside.old }
+        × (IsTrue (is_legal verdict) → HasSummedFor table.now report.new text)) }
+    ensures report { text_of report.new ≡ text_of report.old }
     ensures fault { IfErr result (λ fault. is_unwritten fault ≡ false) }
     ensures named { IfErr result (λ fault. named_by fault ≡ None) }
     ensures later { IfErr result (λ fault. is_of_loading fault ≡ false) }
@@ -69,7 +69,7 @@ pub(crate) fn verdict_of<R: Read>(
         if let Some(verdict) = checker.feed(table, clock, &step[..count], balance)? {
             return Ok(verdict);
         }
-        add_piece(alloc, table, &step[..count], beside)?;
+        add_piece(alloc, table, &step[..count], report)?;
     }
     Err(Fault::Ledger)
 }
@@ -128,23 +128,23 @@ fn audit_text(
     verdict: &Verdict,
     balance: &Balance,
     has_uploads: bool,
-    beside: Option<Beside>,
+    report: Option<ReportWithSums>,
 ) -> Result<(Vec<u8>, bool), NoMemory>
     requires { is_legal verdict.now ≡ true → (fares : Fares) × (text : List ℕ)
-        × HasSummedFor fares beside text × IsLedger fares text }
+        × HasSummedFor fares report text × IsLedger fares text }
     ensures { IfOk result (λ told. (fares : Fares) (text : List ℕ) (good : List TapFields)
         → IsVerdict fares text verdict.now
         → ((is_legal verdict.now ≡ true) ↔ IsLedger fares text)
         → (IsTrue (is_legal verdict.now) → (entries : List Entry) → IsLedgerOf fares entries text
         → IsBalance balance.now good (map tap_of_entry entries))
-        → (is_legal verdict.now ≡ true → HasSummedFor fares beside text)
-        → IsAudit false fares text (if has_uploads then Some good else None) (text_of beside)
+        → (is_legal verdict.now ≡ true → HasSummedFor fares report text)
+        → IsAudit false fares text (if has_uploads then Some good else None) (text_of report)
         told.0.items told.1) }
 {
     let found = finding_text(alloc, verdict, balance, has_uploads)?;
     let is_sound = found.1;
     let mut text = found.0.into_bytes();
-    let fits = write_report_line(alloc, &mut text, tells_legal(verdict), beside)?;
+    let fits = write_report_line(alloc, &mut text, tells_legal(verdict), report)?;
     Ok((text, are_both(is_sound, fits)))
 }
 
@@ -157,16 +157,16 @@ pub(crate) fn audit_over<R: Read, W: Write>(
     reader: &mut R,
     mut balance: Balance,
     has_uploads: bool,
-    mut beside: Option<Beside>,
+    mut report: Option<ReportWithSums>,
     out: &mut W,
 ) -> Result<bool, Fault<'static>>
     requires clock { clock.now ≡ table.now.zone }
     requires good { (good : List TapFields) × IsBalance balance good [] }
-    requires sums { HasSummedFor table.now beside [] }
+    requires sums { HasSummedFor table.now report [] }
     ensures told { IfOk result (λ well. (text : List ℕ) × IsAllOf (R.remaining reader.old) text
         × ((good : List TapFields) → IsBalance balance good [] → (told : List ℕ)
         × IsAudit false table.now text (if has_uploads then Some good else None)
-        (text_of beside) told well
+        (text_of report) told well
         × Appends (W.contents out.old) (W.contents out.new) told)) }
 
     // Only a write that fails leaves something of a text behind.
@@ -177,15 +177,15 @@ pub(crate) fn audit_over<R: Read, W: Write>(
         × IsAllOf (R.remaining reader.old) text
         × ((good : List TapFields) → IsBalance balance good [] → (told : List ℕ) × (well : Bool)
         × IsAudit false table.now text (if has_uploads then Some good else None)
-        (text_of beside) told well
+        (text_of report) told well
         × Begins (W.contents out.old) (W.contents out.new) told)) }
     ensures named { IfErr result (λ fault. named_by fault ≡ None) }
     ensures later { IfErr result (λ fault. is_of_loading fault ≡ false) }
 {
     // proof: the verdict is `legal` exactly if the text is a ledger
     verdicts_decide();
-    let verdict = verdict_of(alloc, table, clock, reader, &mut balance, &mut beside)?;
-    let told = audit_text(alloc, &verdict, &balance, has_uploads, beside)?;
+    let verdict = verdict_of(alloc, table, clock, reader, &mut balance, &mut report)?;
+    let told = audit_text(alloc, &verdict, &balance, has_uploads, report)?;
     write_text(out, told.0.as_slice())?;
     Ok(told.1)
 }

@@ -18,7 +18,7 @@ ghost use Rattle.omny_audit.specs.inside.Source.{IsAllOf};
 
 use crate::fault::Fault;
 use crate::output::{write_piece, write_text};
-use crate::report::{Beside, add_piece, are_both, write_report_line};
+use crate::report::{ReportWithSums, add_piece, are_both, write_report_line};
 use crate::text::{are_none, write_differences};
 use fare_table::{Clock, FareTable};
 use ledger_check::Recount;
@@ -41,11 +41,11 @@ fn recount_all<R: Read, W: Write>(
     reader: &mut R,
     has_uploads: bool,
     full: &mut FullBalance,
-    beside: &mut Option<Beside>,
+    report: &mut Option<ReportWithSums>,
     out: &mut W,
 ) -> Result<bool, Fault<'static>>
     requires clock { clock.now ≡ table.now.zone }
-    requires sums { HasSummedFor table.now beside.old [] }
+    requires sums { HasSummedFor table.now report.old [] }
     requires good { (good : List TapFields)
         × (has_uploads ≡ true → IsFullBalance full.old good []) }
 
@@ -54,8 +54,8 @@ fn recount_all<R: Read, W: Write>(
         × ((good : List TapFields) → (has_uploads ≡ true → IsFullBalance full.old good [])
         → HasRecountedAll table.now has_uploads full.new text good legal (W.contents out.old)
         (W.contents out.new))
-        × HasSummedFor table.now beside.new text) }
-    ensures report { text_of beside.new ≡ text_of beside.old }
+        × HasSummedFor table.now report.new text) }
+    ensures report { text_of report.new ≡ text_of report.old }
     ensures named { IfErr result (λ fault. named_by fault ≡ None) }
     ensures later { IfErr result (λ fault. is_of_loading fault ≡ false) }
 {
@@ -73,7 +73,7 @@ fn recount_all<R: Read, W: Write>(
             return Ok(legal);
         }
         recount.feed(table, clock, &step[..count], has_uploads, full, &mut told)?;
-        add_piece(alloc, table, &step[..count], beside)?;
+        add_piece(alloc, table, &step[..count], report)?;
         write_piece(out, told.as_str())?;
     }
     Err(Fault::Ledger)
@@ -114,22 +114,22 @@ fn end_text(
     full: &FullBalance,
     has_uploads: bool,
     legal: bool,
-    beside: Option<Beside>,
+    report: Option<ReportWithSums>,
 ) -> Result<(Vec<u8>, bool), NoMemory>
     requires { legal ≡ true → (fares : Fares) × (text : List ℕ)
-        × HasSummedFor fares beside text × IsLedger fares text }
+        × HasSummedFor fares report text × IsLedger fares text }
     ensures { IfOk result (λ told. (ending rest : List ℕ) × (sound fits : Bool)
         × ((good taps : List TapFields)
         → (has_uploads ≡ true → IsFullBalance full.now good taps)
         → IsDifferencesEnd (if has_uploads then Some good else None) taps legal ending sound)
-        × ((fares : Fares) (text : List ℕ) → (legal ≡ true → HasSummedFor fares beside text)
-        → IsReportLine fares text (text_of beside) legal rest fits)
+        × ((fares : Fares) (text : List ℕ) → (legal ≡ true → HasSummedFor fares report text)
+        → IsReportLine fares text (text_of report) legal rest fits)
         × (told.0.items ≡ ending ++ rest) × (told.1 ≡ (sound && fits))) }
 {
     let ending = differences_text(alloc, full, has_uploads, legal)?;
     let is_sound = ending.1;
     let mut text = ending.0.into_bytes();
-    let fits = write_report_line(alloc, &mut text, legal, beside)?;
+    let fits = write_report_line(alloc, &mut text, legal, report)?;
     Ok((text, are_both(is_sound, fits)))
 }
 
@@ -143,18 +143,18 @@ pub(crate) fn full_audit_over<R: Read, W: Write>(
     reader: &mut R,
     balance: Balance,
     has_uploads: bool,
-    mut beside: Option<Beside>,
+    mut report: Option<ReportWithSums>,
     out: &mut W,
 ) -> Result<bool, Fault<'static>>
     requires clock { clock.now ≡ table.now.zone }
     requires good { (good : List TapFields) × IsBalance balance good [] }
-    requires sums { HasSummedFor table.now beside [] }
+    requires sums { HasSummedFor table.now report [] }
 
     // Of all good taps that the balance can have.
     ensures told { IfOk result (λ well. (text : List ℕ) × IsAllOf (R.remaining reader.old) text
         × ((good : List TapFields) → IsBalance balance good [] → (told : List ℕ)
         × IsAudit true table.now text (if has_uploads then Some good else None)
-        (text_of beside) told well
+        (text_of report) told well
         × Appends (W.contents out.old) (W.contents out.new) told)) }
     ensures named { IfErr result (λ fault. named_by fault ≡ None) }
     ensures later { IfErr result (λ fault. is_of_loading fault ≡ false) }
@@ -169,10 +169,10 @@ pub(crate) fn full_audit_over<R: Read, W: Write>(
         reader,
         has_uploads,
         &mut full,
-        &mut beside,
+        &mut report,
         out,
     )?;
-    let told = end_text(alloc, &full, has_uploads, legal, beside)?;
+    let told = end_text(alloc, &full, has_uploads, legal, report)?;
     write_text(out, told.0.as_slice())?;
     Ok(told.1)
 }

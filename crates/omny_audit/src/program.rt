@@ -26,7 +26,7 @@ use crate::full_audit::full_audit_over;
 use crate::laws::audits_decide;
 use crate::options::Options;
 use crate::output::unwritten;
-use crate::report::Beside;
+use crate::report::ReportWithSums;
 use crate::source::Source;
 use clap::Error;
 use clap::error::ErrorKind;
@@ -118,10 +118,10 @@ fn load_report<'a, R: RandomSource, S: Source>(
     alloc: Global,
     name: Option<&'a str>,
     source: &mut S,
-) -> Result<Option<Beside>, Fault<'a>>
-    ensures ok { IfOk result (λ beside. LoadsReport (option_map (λ n. n.now) name.entry)
-        (S.loaded source.old) (S.loaded source.new) (text_of beside)) }
-    ensures sums { IfOk result (λ beside. (fares : Fares) → HasSummedFor fares beside []) }
+) -> Result<Option<ReportWithSums>, Fault<'a>>
+    ensures ok { IfOk result (λ report. LoadsReport (option_map (λ n. n.now) name.entry)
+        (S.loaded source.old) (S.loaded source.new) (text_of report)) }
+    ensures sums { IfOk result (λ report. (fares : Fares) → HasSummedFor fares report []) }
     ensures fault { IfErr result (λ fault. is_unwritten fault ≡ false) }
     ensures named { IfErr result
         (λ fault. NamesOneOf (named_file (option_map (λ n. n.now) name.entry)) fault) }
@@ -133,7 +133,7 @@ fn load_report<'a, R: RandomSource, S: Source>(
     };
     let text = load_named(source, name)?;
     let seed = HashSeed::new(rt)?;
-    Ok(Some(Beside::new(alloc, seed, text)))
+    Ok(Some(ReportWithSums::new(alloc, seed, text)))
 }
 
 /// Checks the ledger and writes the finding. Says whether all is well. The table is loaded first,
@@ -164,7 +164,7 @@ fn audit<'a, R: RandomSource, S: Source, W: Write>(
     let names = options.uploads.as_slice();
     let balance = load_balance(alloc, names, source)?;
     let has_uploads = !names.is_empty();
-    let beside = load_report(rt, alloc, options.report, source)?;
+    let report = load_report(rt, alloc, options.report, source)?;
     let mut ledger = open_ledger(options.ledger, source)?;
     // proof: all is well exactly if the ledger is right, and the report its own
     audits_decide();
@@ -176,7 +176,7 @@ fn audit<'a, R: RandomSource, S: Source, W: Write>(
             &mut ledger,
             balance,
             has_uploads,
-            beside,
+            report,
             out,
         );
     }
@@ -187,7 +187,7 @@ fn audit<'a, R: RandomSource, S: Source, W: Write>(
         &mut ledger,
         balance,
         has_uploads,
-        beside,
+        report,
         out,
     )
 }

@@ -18,21 +18,21 @@ use tap_views::NoMemory;
 
 /// A report, and the sums of the ledger that is read beside it.
 #[derive(Drop)]
-pub(crate) struct Beside {
+pub(crate) struct ReportWithSums {
     /// The text of the report.
     text: Vec<u8>,
     /// The sums of the ledger so far.
     sums: LedgerSums,
 }
 
-impl Beside {
+impl ReportWithSums {
     /// The report of this text, before anything of the ledger was read. The seed serves to hash the
     /// validators' numbers.
-    pub(crate) fn new(alloc: Global, seed: HashSeed, text: Vec<u8>) -> Beside
+    pub(crate) fn new(alloc: Global, seed: HashSeed, text: Vec<u8>) -> ReportWithSums
         ensures text { result.text ≡ text }
         ensures sums { (fares : Fares) → HasSummed fares result.sums [] }
     {
-        Beside {
+        ReportWithSums {
             text,
             sums: LedgerSums::new(alloc, seed),
         }
@@ -54,15 +54,15 @@ pub(crate) fn add_piece(
     alloc: Global,
     table: &FareTable,
     piece: &[u8],
-    beside: &mut Option<Beside>,
+    report: &mut Option<ReportWithSums>,
 ) -> Result<(), NoMemory>
-    requires { (text : List ℕ) × HasSummedFor table.now beside.old text }
-    ensures text { text_of beside.new ≡ text_of beside.old }
-    ensures sums { OnOk result ((text : List ℕ) → HasSummedFor table.now beside.old text
-        → HasSummedFor table.now beside.new (text ++ piece.now)) }
+    requires { (text : List ℕ) × HasSummedFor table.now report.old text }
+    ensures text { text_of report.new ≡ text_of report.old }
+    ensures sums { OnOk result ((text : List ℕ) → HasSummedFor table.now report.old text
+        → HasSummedFor table.now report.new (text ++ piece.now)) }
 {
-    match beside {
-        Some(beside) => beside.add(alloc, table, piece),
+    match report {
+        Some(report) => report.add(alloc, table, piece),
         None => Ok(()),
     }
 }
@@ -138,18 +138,18 @@ fn is_of_ledger(verdict: &ReportVerdict) -> bool
 
 /// Appends what is told of the report, beside a ledger that was read whole. Says whether the report
 /// is the ledger's.
-fn write_finding(alloc: Global, text: &mut Vec<u8>, beside: Beside) -> Result<bool, NoMemory>
-    requires { (fares : Fares) × (ledger : List ℕ) × HasSummed fares beside.sums ledger
+fn write_finding(alloc: Global, text: &mut Vec<u8>, report: ReportWithSums) -> Result<bool, NoMemory>
+    requires { (fares : Fares) × (ledger : List ℕ) × HasSummed fares report.sums ledger
         × IsLedger fares ledger }
     ensures { IfOk result (λ fits. (rest : List ℕ) × (text.new.items ≡ text.old.items ++ rest)
-        × ((fares : Fares) (ledger : List ℕ) → HasSummed fares beside.sums ledger
-        → IsReportFinding fares ledger beside.text.items rest fits)) }
+        × ((fares : Fares) (ledger : List ℕ) → HasSummed fares report.sums ledger
+        → IsReportFinding fares ledger report.text.items rest fits)) }
 {
-    let Beside { text: report, sums } = beside;
+    let ReportWithSums { text: lines, sums } = report;
     let Some(sums) = sums.finish(alloc)? else {
         unreachable!();
     };
-    let verdict = check_report(alloc, &sums, &report)?;
+    let verdict = check_report(alloc, &sums, &lines)?;
     write_verdict(alloc, text, &verdict)?;
     Ok(is_of_ledger(&verdict))
 }
@@ -160,22 +160,22 @@ pub(crate) fn write_report_line(
     alloc: Global,
     text: &mut Vec<u8>,
     is_legal: bool,
-    beside: Option<Beside>,
+    report: Option<ReportWithSums>,
 ) -> Result<bool, NoMemory>
     requires { is_legal ≡ true → (fares : Fares) × (ledger : List ℕ)
-        × HasSummedFor fares beside ledger × IsLedger fares ledger }
+        × HasSummedFor fares report ledger × IsLedger fares ledger }
     ensures { IfOk result (λ fits. (rest : List ℕ) × (text.new.items ≡ text.old.items ++ rest)
         × ((fares : Fares) (ledger : List ℕ)
-        → (is_legal ≡ true → HasSummedFor fares beside ledger)
-        → IsReportLine fares ledger (text_of beside) is_legal rest fits)) }
+        → (is_legal ≡ true → HasSummedFor fares report ledger)
+        → IsReportLine fares ledger (text_of report) is_legal rest fits)) }
 {
-    let Some(beside) = beside else {
+    let Some(report) = report else {
         return Ok(true);
     };
     if !is_legal {
         return Ok(false);
     }
-    write_finding(alloc, text, beside)
+    write_finding(alloc, text, report)
 }
 
 /// Whether the ledger and the report are right.

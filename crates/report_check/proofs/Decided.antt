@@ -1,6 +1,6 @@
 -- A true verdict says that a report is the ledger's exactly if it is.
-use Rattle.std.proofs.Common.{◌≡◌, ◌≢◌, ◌∙◌, ◌⊎◌, ℕ, ◌+◌, ◌<◌, Bool, true, false, List, [], ◌∷◌, ◌++◌, length, append_assoc, append-nil, codes}
-use Rattle.std.proofs.Common.{refl, sym, ap, arith, subst, inl, inr, length-append}
+use Rattle.std.proofs.Common.{◌≡◌, ◌≢◌, ◌∙◌, ℕ, ◌<◌, ◌^◌, true, false, List, [], ◌++◌, length, append_assoc, append-nil, codes}
+use Rattle.std.proofs.Common.{refl, sym, ap, arith, inl, inr}
 use Rattle.std.specs.Prelude.{◌↔◌, sum_by}
 use Rattle.std.specs.Io.BufRead.{drop_through, take_through}
 use Rattle.std.proofs.lemmas.List.{append_cancel_left}
@@ -12,7 +12,7 @@ use Rattle.shard_book.specs.declared.entry.Entry.{Entry}
 use Rattle.report_texts.specs.Report.{tokens_section, upload_line, upload_lines, uploads_section, validators_section}
 use Rattle.report_texts.specs.UploadEnds.{taps_told}
 use Rattle.report_texts.specs.declared.upload_end.UploadEnd.{UploadEnd}
-use Rattle.report_check.specs.Reports.{BeginsWithUploads, HasLineBehind, HasNoUploads, HasOtherTaps, HasReportBefore, HasWrongLine, HaveTapsOf, IsNoUploadLine, IsReportOfLedger, IsReportVerdict, IsWrongLine, is_of_ledger, report_of}
+use Rattle.report_check.specs.Reports.{BeginsWithUploads, HasNoUploads, HasOtherTaps, HasReportBefore, HasWrongLine, HaveTapsOf, IsNoUploadLine, IsReportOfLedger, IsReportVerdict, IsWrongLine, is_of_ledger, report_of}
 use Rattle.report_check.specs.declared.verdict.ReportVerdict.{ReportVerdict}
 use Rattle.report_check.specs.declared.verdict.ReportVerdict.TheVariants.{OfLedger, Wants, NoLine, Taps}
 use Rattle.ledger_check.proofs.LineLemmas.{lacks-tested}

@@ -18,8 +18,7 @@ use Rattle.report_texts.proofs.EndTexts.{line_words, refused_spelt, small_number
 use Rattle.report_texts.specs.Report.{upload_line, upload_lines, uploads_section}
 use Rattle.report_texts.specs.declared.upload_end.UploadEnd.{UploadEnd}
 use Rattle.report_texts.specs.declared.upload_end.UploadEnd.TheVariants.{Posted, Refused, Cut, Undrawn}
-use Rattle.report_texts.specs.inside.EndWords.{end_words, fault_number, fault_words}
-use Rattle.tap_views.specs.declared.fault.LayoutFault.{LayoutFault}
+use Rattle.report_texts.specs.inside.EndWords.{end_words, fault_number}
 
 -- ---- what stands behind the number of an upload
 behind_number : (number : ℕ) (a b : UploadEnd) (x y : List ℕ)

@@ -1,8 +1,8 @@
 -- Sums to which entries are added one by one.
-use Rattle.std.proofs.Common.{◌≡◌, ◌==◌, ℕ, ◌+◌, ◌<◌, ◌≤◌, ◌^◌, List, [], ◌∷◌, ◌++◌, length, map, All}
-use Rattle.std.proofs.Common.{refl, sym, ap, subst, ◌∙◌, arith, append-nil, append_assoc, length-append, suc}
+use Rattle.std.proofs.Common.{◌≡◌, ◌==◌, ◌+◌, ◌<◌, ◌≤◌, List, [], ◌∷◌, ◌++◌, length, map, All}
+use Rattle.std.proofs.Common.{sym, ap, subst, ◌∙◌, arith, append-nil, append_assoc, length-append, suc}
 use Rattle.std.specs.declared.cmp.Ordering.TheVariants.{Less, Greater}
-use Rattle.std.specs.Prelude.{Option, None, Some}
+use Rattle.std.specs.Prelude.{Option, Some}
 use Rattle.std.proofs.lemmas.List.Elements.{All-append, All-cons, All-head, All-map, All-nil}
 use Rattle.ledger_check.specs.Ledger.{token_number}
 use Rattle.ledger_check.proofs.TokenOrder.{greater_number}
@@ -11,7 +11,7 @@ use Rattle.settlement.proofs.Concats.{by_token_joined}
 use Rattle.settlement.proofs.Placed.{all_map}
 use Rattle.settlement.proofs.TokenRuns.{below_same, nothing_billed, one_token_list}
 use Rattle.shard_book.specs.Entry.{reply_of}
-use Rattle.shard_book.specs.Sums.{Sums, add_sums, sums, sums_of_replies}
+use Rattle.shard_book.specs.Sums.{Sums, add_sums, sums_of_replies}
 use Rattle.shard_book.specs.SumsByKey.{sums_by_token, token_of, validator_of}
 use Rattle.shard_book.specs.TalliesByKey.{AreByKey}
 use Rattle.shard_book.specs.Tally.{sums_of_tally}

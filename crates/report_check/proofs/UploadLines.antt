@@ -1,5 +1,5 @@
 -- The lines of uploads, one after another.
-use Rattle.std.proofs.Common.{◌≡◌, ℕ, ◌+◌, ◌<◌, ◌^◌, List, [], ◌∷◌, ◌++◌, length, codes, refl, sym, ap, subst, ◌∙◌}
+use Rattle.std.proofs.Common.{◌≡◌, ℕ, ◌+◌, ◌<◌, ◌^◌, List, [], ◌∷◌, ◌++◌, length, codes, sym, ap, ◌∙◌}
 use Rattle.std.proofs.Common.{All, append_assoc, append-nil, arith, suc}
 use Rattle.std.specs.Fmt.{decimal}
 use Rattle.std.specs.Prelude.{MatchOption, None, Option, Some}

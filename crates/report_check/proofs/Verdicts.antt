@@ -1,12 +1,12 @@
 -- What is told of a report, by its parts.
-use Rattle.std.proofs.Common.{◌≡◌, ◌≢◌, ℕ, ◌+◌, List, [], ◌++◌, length, map, refl, sym, ap, subst, ◌∙◌, inl, inr}
+use Rattle.std.proofs.Common.{◌≡◌, ℕ, ◌+◌, List, length, map, sym, ap, ◌∙◌, inr}
 use Rattle.std.specs.Prelude.{sum_by}
 use Rattle.report_texts.specs.Report.{report}
 use Rattle.report_texts.specs.UploadEnds.{taps_told}
 use Rattle.report_texts.specs.declared.upload_end.UploadEnd.{UploadEnd}
 use Rattle.shard_book.specs.Shown.{validator_sum}
 use Rattle.shard_book.specs.Sums.{Sums, sums, sums_of}
-use Rattle.shard_book.specs.SumsByKey.{sums_by_token, sums_by_validator}
+use Rattle.shard_book.specs.SumsByKey.{sums_by_validator}
 use Rattle.shard_book.specs.declared.entry.Entry.{Entry}
 use Rattle.shard_book.proofs.SumsLemmas.{sums-taps}
 use Rattle.tap_views.specs.declared.token.Token.{Token}

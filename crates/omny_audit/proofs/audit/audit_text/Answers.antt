@@ -19,7 +19,7 @@ returns c = λ fares text good is decide balance sums.
       is_legal = decide;
       rest = wrote.0;
       fits = c.in_ok-fits.fits;
-      report_line = subst (λ (b : Bool). IsReportLine fares text (text_of c.args.beside) b wrote.0 c.in_ok-fits.fits)
+      report_line = subst (λ (b : Bool). IsReportLine fares text (text_of c.args.report) b wrote.0 c.in_ok-fits.fits)
           c.tells_legal.ensures (wrote.2 fares text (λ yes. sums (sym c.tells_legal.ensures ∙ yes)));
       shown = wrote.1;
       both = c.are_both.ensures;

@@ -30,7 +30,7 @@ returns-then-count-eq0-clause-told g c =
     let none = ap (λ (n : ℕ). before.text ++ take n c.read.new.buf) c.if-count-eq0.true ∙ append-nil before.text in
     let Is : List ℕ → Type 0 = λ text. IsVerdict c.args.table.now text c.finish.result
     × StrikesOut c.args.table.now text c.args.balance.now c.loop-piece.balance c.finish.result
-    × (IsTrue (is_legal c.finish.result) → HasSummedFor c.args.table.now c.loop-piece.beside text) in
+    × (IsTrue (is_legal c.finish.result) → HasSummedFor c.args.table.now c.loop-piece.report text) in
     let told = at_end Is _ _ _
     (consumes-more _ _ _ before.text (take c.in-Ok.count c.read.new.buf) before.read got.0)
     (got.1 c.if-count-eq0.true (omega arith))
@@ -51,7 +51,7 @@ returns-in-Some-clause-told g c =
     let fed = rw c.in-Some.is at (c.in_ok-verdict.ensures.fed before.text before.fed) in
     let Is : List ℕ → Type 0 = λ text. IsVerdict c.args.table.now text c.in-Some.verdict
     × StrikesOut c.args.table.now text c.args.balance.now c.feed.new.balance c.in-Some.verdict
-    × (IsTrue (is_legal c.in-Some.verdict) → HasSummedFor c.args.table.now c.loop-piece.beside text) in
+    × (IsTrue (is_legal c.in-Some.verdict) → HasSummedFor c.args.table.now c.loop-piece.report text) in
     let given = c.requires.good in
     let no : is_legal c.in-Some.verdict ≡ false = rw c.in-Some.is at (c.in_ok-verdict.ensures.struck before.text given.0 (before.struck given.0 given.1)) in
     let told = whatever_follows Is _ _ _

@@ -14,6 +14,6 @@ invariant-loop-piece g l = record {
   fed : HasFed l.table l.checker text;
   struck : (good : List TapFields) → IsBalance l.fn.balance good [] → HasStruck l.table l.checker l.balance text good;
   read : Consumes (g.R.Read.remaining l.fn.reader) (g.R.Read.remaining l.reader) text;
-  sums : HasSummedFor l.table l.beside text;
-  report : text_of l.beside ≡ text_of l.fn.beside;
+  sums : HasSummedFor l.table l.report text;
+  report : text_of l.report ≡ text_of l.fn.report;
 }

@@ -32,7 +32,7 @@ returns-then-count-eq0-clause-told g c =
     let none = ap (λ (n : ℕ). before.text ++ take n c.read.new.buf) c.if-count-eq0.true ∙ append-nil before.text in
     let Is : List ℕ → Type 0 = λ text. ((good : List TapFields) → (c.args.has_uploads ≡ true → IsFullBalance c.args.full.now good [])
     → HasRecountedAll fares c.args.has_uploads c.loop-piece.full text good c.in_ok-legal.legal (g.W.Write.contents c.args.out.now) (g.W.Write.contents c.write_piece.new.out))
-    × HasSummedFor fares c.loop-piece.beside text in
+    × HasSummedFor fares c.loop-piece.report text in
     let told = at_end Is _ _ _
     (consumes-more _ _ _ before.text (take c.in-Ok.count c.read.new.buf) before.read got.0)
     (got.1 c.if-count-eq0.true (omega arith))

@@ -14,6 +14,6 @@ invariant-loop-piece g l = record {
   known : (good : List TapFields) → (l.has_uploads ≡ true → IsFullBalance l.fn.full good [])
       → (written : List ℕ) × HasRecounted l.table l.recount l.has_uploads l.full text written good
       × Appends (g.W.Write.contents l.fn.out) (g.W.Write.contents l.out) written;
-  sums : HasSummedFor l.table l.beside text;
-  report : text_of l.beside ≡ text_of l.fn.beside;
+  sums : HasSummedFor l.table l.report text;
+  report : text_of l.report ≡ text_of l.fn.report;
 }

@@ -14,13 +14,13 @@ pub full_audit_over-requires-clause-good : goal.full_audit_over-requires-clause-
 full_audit_over-requires-clause-good g c = let loaded = c.in_ok-balance.ensures.ok in (loaded.1, loaded.4)
 
 pub full_audit_over-requires-clause-sums : goal.full_audit_over-requires-clause-sums
-full_audit_over-requires-clause-sums g c = c.in_ok-beside.ensures.sums c.in_ok-table.table
+full_audit_over-requires-clause-sums g c = c.in_ok-report.ensures.sums c.in_ok-table.table
 
 pub audit_over-requires-clause-good : goal.audit_over-requires-clause-good
 audit_over-requires-clause-good g c = let loaded = c.in_ok-balance.ensures.ok in (loaded.1, loaded.4)
 
 pub audit_over-requires-clause-sums : goal.audit_over-requires-clause-sums
-audit_over-requires-clause-sums g c = c.in_ok-beside.ensures.sums c.in_ok-table.table
+audit_over-requires-clause-sums g c = c.in_ok-report.ensures.sums c.in_ok-table.table
 
 -- the table, the uploads and the report were loaded, and the ledger was read, which the answer is on
 pub returns-clause-ok : goal.returns-clause-ok
@@ -31,7 +31,7 @@ returns-clause-ok g c =
     let names = c.as_slice-names.ensures.value in
     let same = compared_is c.as_slice-names.result.now loaded.1 _ (ap not c.is_empty-has_uploads.ensures)
     ∙ ap (λ (ns : List (Bor (List ℕ))). compared (map (λ n. n.now) ns) loaded.1) names in
-    let reported = text_of c.in_ok-beside.beside in
+    let reported = text_of c.in_ok-report.report in
     let found = subst (λ (good : Option (List TapFields)). IsAudit false c.in_ok-table.table told.0 good reported finding.0 well) same finding.1 in
     record {
       text = finding.0;
@@ -46,7 +46,7 @@ returns-clause-ok g c =
         good = loaded.1;
         are_good = loaded.3;
         report = reported;
-        loads_report = c.in_ok-beside.ensures.ok;
+        loads_report = c.in_ok-report.ensures.ok;
         ledger = told.0;
         loads_ledger = opened _ _ _ _ told.0 c.in_ok-ledger.ensures.ok told.1;
         audit = subst (λ (b : Bool). IsAudit b c.in_ok-table.table told.0 (compared (map (λ n. n.now) c.args.options.now.uploads.items) loaded.1) reported finding.0 well) (sym c.if-options.false) found;
@@ -64,7 +64,7 @@ returns-then-options-clause-ok g c =
     let names = c.as_slice-names.ensures.value in
     let same = compared_is c.as_slice-names.result.now loaded.1 _ (ap not c.is_empty-has_uploads.ensures)
     ∙ ap (λ (ns : List (Bor (List ℕ))). compared (map (λ n. n.now) ns) loaded.1) names in
-    let reported = text_of c.in_ok-beside.beside in
+    let reported = text_of c.in_ok-report.report in
     let found = subst (λ (good : Option (List TapFields)). IsAudit true c.in_ok-table.table told.0 good reported finding.0 well) same finding.1 in
     record {
       text = finding.0;
@@ -79,7 +79,7 @@ returns-then-options-clause-ok g c =
         good = loaded.1;
         are_good = loaded.3;
         report = reported;
-        loads_report = c.in_ok-beside.ensures.ok;
+        loads_report = c.in_ok-report.ensures.ok;
         ledger = told.0;
         loads_ledger = opened _ _ _ _ told.0 c.in_ok-ledger.ensures.ok told.1;
         audit = subst (λ (b : Bool). IsAudit b c.in_ok-table.table told.0 (compared (map (λ n. n.now) c.args.options.now.uploads.items) loaded.1) reported finding.0 well) (sym c.if-options.true) found;
@@ -97,12 +97,12 @@ returns-in_err-balance-clause-named g c =
     (at_uploads asked fault
     (names_same c.as_slice-names.result.now c.args.options.now.uploads.items fault c.as_slice-names.ensures.value c.in_err-balance.ensures.named))
 
-pub returns-in_err-beside-clause-named : goal.returns-in_err-beside-clause-named
-returns-in_err-beside-clause-named g c =
-    let fault = c.in_err-beside.field-0.0 in
+pub returns-in_err-report-clause-named : goal.returns-in_err-report-clause-named
+returns-in_err-report-clause-named g c =
+    let fault = c.in_err-report.field-0.0 in
     let asked = audit_asked_of c.args.options.now in
-    handed_on c.from_residual-in_err-beside.result fault (λ f. NamesOneOf (files_of asked) f) c.from_residual-in_err-beside.ensures.1
-    (at_report asked fault c.in_err-beside.ensures.named)
+    handed_on c.from_residual-in_err-report.result fault (λ f. NamesOneOf (files_of asked) f) c.from_residual-in_err-report.ensures.1
+    (at_report asked fault c.in_err-report.ensures.named)
 
 pub returns-in_err-ledger-clause-named : goal.returns-in_err-ledger-clause-named
 returns-in_err-ledger-clause-named g c =
@@ -118,12 +118,12 @@ returns-in_err-balance-clause-right g c =
     handed_on c.from_residual-in_err-balance.result fault (λ f. IsRightAuditFault asked _ _ _ f _ _) c.from_residual-in_err-balance.ensures.1
     (written_first asked _ _ _ fault _ _ c.in_err-balance.ensures.fault (c.in_err-balance.ensures.right asked.table _ _))
 
-pub returns-in_err-beside-clause-right : goal.returns-in_err-beside-clause-right
-returns-in_err-beside-clause-right g c =
-    let fault = c.in_err-beside.field-0.0 in
+pub returns-in_err-report-clause-right : goal.returns-in_err-report-clause-right
+returns-in_err-report-clause-right g c =
+    let fault = c.in_err-report.field-0.0 in
     let asked = audit_asked_of c.args.options.now in
-    handed_on c.from_residual-in_err-beside.result fault (λ f. IsRightAuditFault asked _ _ _ f _ _) c.from_residual-in_err-beside.ensures.1
-    (written_first asked _ _ _ fault _ _ c.in_err-beside.ensures.fault (c.in_err-beside.ensures.right asked.table _ _))
+    handed_on c.from_residual-in_err-report.result fault (λ f. IsRightAuditFault asked _ _ _ f _ _) c.from_residual-in_err-report.ensures.1
+    (written_first asked _ _ _ fault _ _ c.in_err-report.ensures.fault (c.in_err-report.ensures.right asked.table _ _))
 
 pub returns-in_err-ledger-clause-right : goal.returns-in_err-ledger-clause-right
 returns-in_err-ledger-clause-right g c =
@@ -145,7 +145,7 @@ returns-clause-right g c =
           let names = c.as_slice-names.ensures.value in
           let same = compared_is c.as_slice-names.result.now loaded.1 _ (ap not c.is_empty-has_uploads.ensures)
           ∙ ap (λ (ns : List (Bor (List ℕ))). compared (map (λ n. n.now) ns) loaded.1) names in
-          let reported = text_of c.in_ok-beside.beside in
+          let reported = text_of c.in_ok-report.report in
           let found = subst (λ (good : Option (List TapFields)). IsAudit false c.in_ok-table.table told.0 good reported finding.0 finding.1) same finding.2 in
           record {
             text = finding.0;
@@ -161,7 +161,7 @@ returns-clause-right g c =
               good = loaded.1;
               are_good = loaded.3;
               report = reported;
-              loads_report = c.in_ok-beside.ensures.ok;
+              loads_report = c.in_ok-report.ensures.ok;
               ledger = told.0;
               loads_ledger = opened _ _ _ _ told.0 c.in_ok-ledger.ensures.ok told.1;
               audit = subst (λ (b : Bool). IsAudit b c.in_ok-table.table told.0 (compared (map (λ n. n.now) c.args.options.now.uploads.items) loaded.1) reported finding.0 finding.1) (sym c.if-options.false) found;

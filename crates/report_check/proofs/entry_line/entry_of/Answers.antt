@@ -1,15 +1,10 @@
-use Rattle.std.proofs.Common.{◌≡◌, ◌<◌, ◌≤◌, ◌^◌, ◌+◌, ◌∙◌, ℕ, List, ap, arith, length}
-use Rattle.std.specs.Fmt.{decimal}
+use Rattle.std.proofs.Common.{◌<◌, ◌≤◌, ◌^◌, ◌+◌, ◌∙◌, ℕ, ap, arith}
 use Rattle.fare_table.specs.Fares.{terms_at}
 use Rattle.fare_table.specs.declared.terms.Terms.{Terms}
 use Rattle.reason_texts.specs.Ledger.{mode_field}
-use Rattle.fare_texts.specs.StatementText.{answer_text}
-use Rattle.ledger_check.specs.Ledger.{IsNext}
 use Rattle.ledger_check.proofs.FieldLemmas.{decimal_lacks, moment_lacks}
 use Rattle.ledger_check.proofs.TokenOrder.{own-few}
-use Rattle.shard_book.specs.declared.entry.Entry.{Entry}
 use Rattle.tap_views.specs.Token.{bytes_of}
-use Rattle.tap_views.specs.declared.token.Token.{Token}
 use Rattle.report_check.proofs.EntryLines.{cents_fields, cents_most, shown_by}
 use Rattle.report_check.proofs.entry_line.entry_of.Goals as goal
 

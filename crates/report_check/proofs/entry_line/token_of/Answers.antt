@@ -1,4 +1,4 @@
-use Rattle.std.proofs.Common.{◌≡◌, ◌∷◌, ◌∙◌, sym}
+use Rattle.std.proofs.Common.{◌∷◌, ◌∙◌, sym}
 use Rattle.report_texts.proofs.Tokens.{token_text_unique}
 use Rattle.report_check.proofs.entry_line.token_of.Goals as goal
 

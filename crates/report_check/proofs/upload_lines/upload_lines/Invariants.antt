@@ -1,4 +1,4 @@
-use Rattle.std.proofs.Common.{◌≡◌, ◌++◌, ◌*◌, ◌^◌, ◌≤◌, List, All, codes, length}
+use Rattle.std.proofs.Common.{◌≡◌, ◌++◌, ◌*◌, ◌^◌, ◌≤◌, All, codes, length}
 use Rattle.std.specs.Prelude.{sum_by}
 use Rattle.fare_texts.specs.ReportLines.{number_line}
 use Rattle.report_texts.specs.Report.{upload_lines}

@@ -1,9 +1,8 @@
 -- Each round, one line more stands in both texts.
 use Rattle.std.proofs.Common.{◌≡◌, ◌++◌, ◌∙◌, ◌<◌, length, [], ℕ, List, refl, sym, ap, subst, inl, inr, arith, append_assoc, rules, tests}
 use Rattle.std.proofs.lemmas.Bool.Decides.{nat_tests}
-use Rattle.ledger_check.proofs.CheckerLemmas.{empty_list}
 use Rattle.report_check.specs.Reports.{IsWrongLine}
-use Rattle.report_check.proofs.Differences.{ends_behind, feeds_after, line_behind, longer, never_cut, same_texts}
+use Rattle.report_check.proofs.Differences.{ends_behind, feeds_after, longer, never_cut}
 use Rattle.report_check.proofs.Differences.{whole_after, wrong_line}
 use Rattle.report_check.proofs.verdict.first_difference.Goals as goal
 

@@ -1,4 +1,4 @@
-use Rattle.std.proofs.Common.{◌≡◌, ◌≤◌, ◌++◌, ◌∙◌, List, ℕ, [], length, refl, sym, ap, arith}
+use Rattle.std.proofs.Common.{◌≤◌, ◌++◌, ◌∙◌, List, ℕ, length, sym, ap, arith}
 use Rattle.std.proofs.lemmas.Bool.Decides.{nat_tests}
 use Rattle.ledger_check.proofs.CheckerLemmas.{empty_list}
 use Rattle.report_check.proofs.SummedLines.{ended, none_behind, none_by, none_of, summed_of}

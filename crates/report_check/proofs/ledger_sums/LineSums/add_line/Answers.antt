@@ -1,4 +1,4 @@
-use Rattle.std.proofs.Common.{◌≡◌, ◌≤◌, ◌<◌, ◌^◌, ◌∙◌, sym, refl, arith, length}
+use Rattle.std.proofs.Common.{refl, arith}
 use Rattle.report_check.proofs.SummedLines.{added_or, head_read, none_read, too_many}
 use Rattle.report_check.proofs.ledger_sums.LineSums.add_line.Goals as goal
 

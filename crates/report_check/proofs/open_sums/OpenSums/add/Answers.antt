@@ -1,6 +1,6 @@
-use Rattle.std.proofs.Common.{◌≡◌, ◌==◌, ◌∙◌, ◌∷◌, ◌+◌, ℕ, List, [], refl, sym, ap, subst, arith}
+use Rattle.std.proofs.Common.{◌==◌, ◌∙◌, ◌∷◌, ◌+◌, ℕ, List, [], refl, sym, ap, subst, arith}
 use Rattle.account_rule.specs.declared.reply.Reply.{Reply}
-use Rattle.shard_book.specs.Sums.{Sums, add_sums, sums_of_replies}
+use Rattle.shard_book.specs.Sums.{add_sums, sums_of_replies}
 use Rattle.shard_book.specs.SumsByKey.{validator_of}
 use Rattle.shard_book.specs.TalliesByKey.{AreByKey, HasRoom}
 use Rattle.shard_book.specs.Tally.{sums_of_tally}
