@@ -36,10 +36,10 @@ fits_of : ReportVerdictsDecide → (fares : Fares) (ledger : List ℕ) (report :
     (legal : Bool) (rest : List ℕ) (fits : Bool) (entries : List Entry) → legal ≡ true
     → IsReportLine fares ledger report legal rest fits → IsLedgerOf fares entries ledger
     → HasOwnReport report entries → fits ≡ true
-fits_of verdicts fares ledger None legal rest fits entries yes line of own = line.1
-fits_of verdicts fares ledger (Some report) false rest fits entries yes line of own =
-    absurd (false_true yes)
-fits_of verdicts fares ledger (Some report) true rest fits entries yes line of own =
+fits_of verdicts fares ledger None legal rest fits entries told line of own = line.1
+fits_of verdicts fares ledger (Some report) false rest fits entries told line of own =
+    absurd (false_true told)
+fits_of verdicts fares ledger (Some report) true rest fits entries told line of own =
     line.told ∙ (verdicts entries report line.verdict (line.true_of entries of)).1 own
 
 both_are : (a b : Bool) → a ≡ true → b ≡ true → (a && b) ≡ true

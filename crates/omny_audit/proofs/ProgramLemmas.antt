@@ -1,6 +1,7 @@
 -- What was loaded, one more each time, and what the program compares.
 use Rattle.std.proofs.Common.{◌≡◌, ◌∙◌, ℕ, Bool, true, false, not, List, [], ◌∷◌, ◌++◌, length, map, refl, sym, ap, subst, append-nil, append_assoc, nat_eq, Option, Some, None, if◌then◌else◌, Bor, ◌<◌, zero, suc, get_or, inl, inr, arith, codes}
 use Rattle.std.specs.Prelude.{IfErr, IfSome, Result, Ok, Err, option_map, unwrap_or}
+use Rattle.std.specs.Io.KnownBytes.{Keeps}
 use Rattle.std.specs.Result.{IsErrAnd, IsErrOf}
 use Rattle.fare_table.specs.declared.fault.TableFault.{TableFault}
 use Rattle.std.proofs.lemmas.Bool.Decides.{nat_tests}
@@ -196,3 +197,9 @@ one_error r fault other same is = cc
 pub unwritten_on : {A : Type 0} (r : Result A Fault) (P : Type 0) → P → IfErr r (λ fault. is_unwritten fault ≡ true → P)
 unwritten_on (Ok x) P is = tt
 unwritten_on (Err e) P is = λ un. is
+
+-- nothing was written yet
+pub kept_all : {A : Type 0} (r : Result A Fault) (o : Option (List ℕ)) → IfErr r (λ fault. is_unwritten fault ≡ false → Keeps o o)
+kept_all (Ok x) o = tt
+kept_all (Err e) None = λ un. tt
+kept_all (Err e) (Some xs) = λ un. refl

@@ -133,7 +133,8 @@ fn load_report<'a, R: RandomSource, S: Source>(
     };
     let text = load_named(source, name)?;
     let seed = HashSeed::new(rt)?;
-    Ok(Some(ReportWithSums::new(alloc, seed, text)))
+    let held = ReportWithSums::new(alloc, seed, text);
+    Ok(Some(held))
 }
 
 /// Checks the ledger and writes the finding. Says whether all is well. The table is loaded first,

@@ -91,7 +91,8 @@ fn taps_text(alloc: Global, line: u64, uploads: u128, ledger: u128) -> Result<St
         ++ (decimal ledger ++ codes "\n")))))) }
 {
     format!(in alloc;
-        "wrong report line {line}: the uploads have {uploads} taps, the ledger {ledger}\n")
+        "wrong report line {line}: the uploads have {uploads} taps, the ledger {ledger}\n"
+    )
 }
 
 /// Appends the line of the verdict on a report, with its line feed.
@@ -138,7 +139,11 @@ fn is_of_ledger(verdict: &ReportVerdict) -> bool
 
 /// Appends what is told of the report, beside a ledger that was read whole. Says whether the report
 /// is the ledger's.
-fn write_finding(alloc: Global, text: &mut Vec<u8>, report: ReportWithSums) -> Result<bool, NoMemory>
+fn write_finding(
+    alloc: Global,
+    text: &mut Vec<u8>,
+    report: ReportWithSums,
+) -> Result<bool, NoMemory>
     requires { (fares : Fares) × (ledger : List ℕ) × HasSummed fares report.sums ledger
         × IsLedger fares ledger }
     ensures { IfOk result (λ fits. (rest : List ℕ) × (text.new.items ≡ text.old.items ++ rest)

@@ -21,6 +21,6 @@ returns c = λ fares text good is decide balance sums.
       fits = c.in_ok-fits.fits;
       report_line = subst (λ (b : Bool). IsReportLine fares text (text_of c.args.report) b wrote.0 c.in_ok-fits.fits)
           c.tells_legal.ensures (wrote.2 fares text (λ yes. sums (sym c.tells_legal.ensures ∙ yes)));
-      shown = wrote.1;
+      shown = rw c.into_bytes-text.ensures.value at wrote.1;
       both = c.are_both.ensures;
     }

@@ -11,6 +11,6 @@ returns c =
       c.in_ok-fits.fits,
       c.in_ok-ending.ensures,
       wrote.2,
-      wrote.1,
+      rw c.into_bytes-text.ensures.value at wrote.1,
       c.are_both.ensures,
     )

@@ -40,12 +40,12 @@ returns-clause-told g c =
               found = recount_text all.taken ++ parts.0;
               sound = parts.2;
               finding = record {
-                  taken = all.taken;
-                  recount = all.recount;
-                  rest = parts.0;
-                  shown = refl;
-                  second = subst (λ (b : Bool). IsDifferencesEnd (if c.args.has_uploads then Some good else None) (taps_from all.taken) b parts.0 parts.2) is end;
-                };
+                taken = all.taken;
+                recount = all.recount;
+                rest = parts.0;
+                shown = refl;
+                second = subst (λ (b : Bool). IsDifferencesEnd (if c.args.has_uploads then Some good else None) (taps_from all.taken) b parts.0 parts.2) is end;
+              };
               legal = c.in_ok-legal.legal;
               is_legal = subst (λ (b : Bool). (b ≡ true) ↔ IsLedger fares found.0) (sym is) (recount_legal c.recounts_decide.ensures fares found.0 all.taken all.recount);
               rest = parts.1;

@@ -36,19 +36,22 @@ returns-then-count-eq0-clause-told g c =
     let told = at_end Is _ _ _
     (consumes-more _ _ _ before.text (take c.in-Ok.count c.read.new.buf) before.read got.0)
     (got.1 c.if-count-eq0.true (omega arith))
-    (subst Is (sym none) (λ good struck.
-    let now = before.known good struck in
-    let ended = c.in_ok-legal.ensures fares c.args.has_uploads c.loop-piece.full before.text now.0 good now.1 in
-    let more = ended.5 ∙ ap (λ (t : List ℕ). t ++ ended.4) c.clear.ensures.bytes in
-    record {
-      taken = ended.0;
-      recount = ended.1;
-      is_legal = ended.2;
-      struck = ended.3;
-      written = subst (λ (t : List ℕ). Appends (g.W.Write.contents c.args.out.now) (g.W.Write.contents c.write_piece.new.out) t) ended.6
-          (appends_more _ _ _ now.0 ended.4 now.2
-          (subst (λ (t : List ℕ). Appends (g.W.Write.contents c.loop-piece.out) (g.W.Write.contents c.write_piece.new.out) t) (c.as_str.ensures.value ∙ more) c.in_ok-write_piece.ensures.text));
-    }, before.sums)) in
+    (subst Is (sym none) (
+      λ good struck.
+          let now = before.known good struck in
+          let ended = c.in_ok-legal.ensures fares c.args.has_uploads c.loop-piece.full before.text now.0 good now.1 in
+          let more = ended.5 ∙ ap (λ (t : List ℕ). t ++ ended.4) c.clear.ensures.bytes in
+          record {
+            taken = ended.0;
+            recount = ended.1;
+            is_legal = ended.2;
+            struck = ended.3;
+            written = subst (λ (t : List ℕ). Appends (g.W.Write.contents c.args.out.now) (g.W.Write.contents c.write_piece.new.out) t) ended.6
+                (appends_more _ _ _ now.0 ended.4 now.2
+                (subst (λ (t : List ℕ). Appends (g.W.Write.contents c.loop-piece.out) (g.W.Write.contents c.write_piece.new.out) t) (c.as_str.ensures.value ∙ more) c.in_ok-write_piece.ensures.text));
+          },
+      before.sums,
+    )) in
     (told.0, told.1, told.2.0, told.2.1)
 
 pub returns-then-count-eq0-clause-report : goal.returns-then-count-eq0-clause-report

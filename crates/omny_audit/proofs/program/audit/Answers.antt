@@ -7,7 +7,7 @@ use Rattle.omny_audit.specs.Reports.{IsAudit}
 use Rattle.omny_audit.specs.inside.Options.{audit_asked_of}
 use Rattle.omny_audit.specs.inside.Reports.{text_of}
 use Rattle.omny_audit.specs.Program.{IsRightAuditFault, compared}
-use Rattle.omny_audit.proofs.ProgramLemmas.{at_ledger, at_report, at_uploads, both_err, compared_is, handed_on, loads_same, names_same, opened, right_later, written_first}
+use Rattle.omny_audit.proofs.ProgramLemmas.{at_ledger, at_report, at_uploads, both_err, compared_is, handed_on, kept_all, loads_same, names_same, opened, right_later, written_first}
 use Rattle.omny_audit.proofs.program.audit.Goals as goal
 
 pub full_audit_over-requires-clause-good : goal.full_audit_over-requires-clause-good
@@ -171,3 +171,6 @@ returns-clause-right g c =
           };
     })
     c.audit_over.ensures.later c.audit_over.ensures.begun
+
+pub returns-in_err-ledger-clause-fault : goal.returns-in_err-ledger-clause-fault
+returns-in_err-ledger-clause-fault g c = λ all. kept_all c.from_residual-in_err-ledger.result (g.W.Write.contents c.args.out.now)
