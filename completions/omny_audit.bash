@@ -2,7 +2,7 @@
 
 _omny_audit() {
     local word=${COMP_WORDS[COMP_CWORD]} before=${COMP_WORDS[COMP_CWORD - 1]} given ending=csv
-    local options=(--all --table --uploads --files-from -0 --null -h --help -V --version)
+    local options=(--all --table --uploads --report --files-from -0 --null -h --help -V --version)
     # bash splits a word at `=`, so that `--table=F` is the words `--table`, `=` and `F`
     if [[ $word == = ]]; then
         word=
@@ -26,6 +26,7 @@ _omny_audit() {
         mapfile -t COMPREPLY < <(compgen -f -- "$word")
     else
         [[ $before != --table ]] || ending=toml
+        [[ $before != --report ]] || ending=txt
         # files with this ending and folders; if there is none with the ending, all files
         compopt -o filenames 2> /dev/null
         mapfile -t COMPREPLY < <(compgen -f -X "!*.$ending" -- "$word"; compgen -d -- "$word")

@@ -1,8 +1,7 @@
 -- Texts that lack a byte, and texts split into lines.
 use Rattle.std.proofs.Common.{◌≡◌, ◌≢◌, ℕ, ◌+◌, ◌<◌, Bool, true, false, cond, not, ◌&&◌, ◌==◌, List, [], ◌∷◌, ◌++◌, length, get_or, take, drop, refl, sym, ap, ◌∙◌, subst, arith, append_assoc, append-nil, zero, suc, ◌-◌, take_all, length-drop, add-one}
 use Rattle.std.proofs.lemmas.Bool.{and_parts, eqb-false, ne_eqb, not-true}
-use Rattle.ledger_check.specs.Lines.{Lacks, begun_with, lines_of}
-use Rattle.ledger_check.specs.inside.Lines.{IsLine}
+use Rattle.ledger_check.specs.Lines.{IsLine, Lacks, begun_with, lines_of}
 
 -- a test of a text that is written out
 abbrev pub has_none : ℕ → List ℕ → Bool

@@ -11,10 +11,9 @@ use Rattle.tap_views.specs.declared.encoder.TapFields.{TapFields}
 use Rattle.tap_views.specs.declared.token.Token.{Token}
 use Rattle.reason_texts.specs.Ledger.{head_text}
 use Rattle.reason_texts.specs.declared.teller.Teller.{Teller}
-use Rattle.ledger_check.specs.Lines.{Lacks, lines_of}
+use Rattle.ledger_check.specs.Lines.{IsLine, Lacks, lines_of}
 use Rattle.ledger_check.specs.Recounts.{IsJudged, IsLineOfTap, IsTaken, TakenLine, lines_from, run_of, run_with, taps_from, told_lines, told_text}
 use Rattle.ledger_check.specs.RecountStates.{AreSums, HasRecounted, HasRunTeller, HasTakenLines, IsKept}
-use Rattle.ledger_check.specs.inside.Lines.{IsLine}
 use Rattle.ledger_check.specs.inside.Recounts.{HasFound, HasJudged, IsFirstFinding, TookLine}
 use Rattle.ledger_check.specs.declared.recount.LinesTaken.{LinesTaken}
 use Rattle.ledger_check.specs.declared.recount.Recount.{Recount}

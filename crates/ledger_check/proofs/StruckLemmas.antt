@@ -10,7 +10,7 @@ use Rattle.tap_balance.specs.declared.balance.Balance.{Balance}
 use Rattle.tap_views.specs.declared.encoder.TapFields.{TapFields}
 use Rattle.ledger_check.specs.Ledger.{AreNext, IsLedgerOf}
 use Rattle.ledger_check.specs.Struck.{AreStruck, AreTapsOfLines, HasStruck, IfUntold, tap_of_entry}
-use Rattle.ledger_check.specs.inside.Lines.{IsLine}
+use Rattle.ledger_check.specs.Lines.{IsLine}
 use Rattle.ledger_check.specs.inside.Taps.{IsEntryOfTap, TellsTap, tap_fields}
 use Rattle.ledger_check.specs.inside.Verdicts.{IsTaken}
 use Rattle.ledger_check.specs.declared.checker.Checker.{Checker}

@@ -1,10 +1,16 @@
 -- A text split into lines.
-use Rattle.std.specs.Prelude.{◌≢◌, ℕ, ◌==◌, if◌then◌else◌, List, [], ◌∷◌}
+use Rattle.std.specs.Prelude.{◌≡◌, ◌≢◌, ℕ, ◌==◌, if◌then◌else◌, List, [], ◌∷◌, ◌++◌}
 
 -- the byte stands nowhere in the text
 abbrev pub Lacks : ℕ → List ℕ → Type 0
 Lacks byte [] = Unit {0}
 Lacks byte (other ∷ text) = (other ≢ byte) × Lacks byte text
+
+-- the text ends with its one newline
+pub record IsLine (text : List ℕ) : Type 0 where
+  pub front : List ℕ
+  pub lacks : Lacks 10 front
+  pub shown : text ≡ front ++ 10 ∷ []
 
 -- the lines, where the byte stands before the first of them
 unfoldable pub begun_with : ℕ → List (List ℕ) → List (List ℕ)

@@ -1,6 +1,5 @@
 -- What only private functions cite. Who reads the contracts of public calls need not read it.
 pub mod Fronts
-pub mod Lines
 pub mod Recounts
 pub mod Replays
 pub mod Taps

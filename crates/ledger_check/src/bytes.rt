@@ -3,8 +3,7 @@
 ghost use Rattle.std.specs.Prelude.{◌≡◌, ◌∷◌, ◌++◌, [], ℕ, List, IfNone, IfSome};
 ghost use Rattle.std.specs.Prelude.{IsSomeAnd, IsTrue};
 ghost use Rattle.std.specs.Prelude.{◌↔◌};
-ghost use Rattle.ledger_check.specs.Lines.{Lacks};
-ghost use Rattle.ledger_check.specs.inside.Lines.{IsLine};
+ghost use Rattle.ledger_check.specs.Lines.{IsLine, Lacks};
 
 use memchr::memchr;
 
@@ -21,7 +20,7 @@ fn split_at_byte(text: &[u8], byte: u8) -> Option<(&[u8], &[u8])>
 }
 
 /// What stands before the first comma of the text, and what stands behind it.
-pub(crate) fn field(text: &[u8]) -> Option<(&[u8], &[u8])>
+pub fn field(text: &[u8]) -> Option<(&[u8], &[u8])>
     ensures found { (front : List ℕ) (back : List ℕ) → Lacks 44 front
         → text.now ≡ front ++ 44 ∷ back
         → IsSomeAnd result (λ parts. (parts.0.now ≡ front) × (parts.1.now ≡ back)) }
@@ -36,7 +35,7 @@ pub(crate) fn field(text: &[u8]) -> Option<(&[u8], &[u8])>
 
 /// The first line of the text with its newline, and what stands behind it; `None` where the text
 /// has no newline.
-pub(crate) fn split_line(text: &[u8]) -> Option<(&[u8], &[u8])>
+pub fn split_line(text: &[u8]) -> Option<(&[u8], &[u8])>
     ensures some { IfSome result (λ parts. IsLine parts.0.now
         × (text.now ≡ parts.0.now ++ parts.1.now)) }
     ensures none { IfNone result (Lacks 10 text.now) }
@@ -48,7 +47,7 @@ pub(crate) fn split_line(text: &[u8]) -> Option<(&[u8], &[u8])>
 }
 
 /// Whether the texts have the same bytes.
-pub(crate) fn same_bytes(a: &[u8], b: &[u8]) -> bool
+pub fn same_bytes(a: &[u8], b: &[u8]) -> bool
     ensures { IsTrue result ↔ (a.now ≡ b.now) }
 {
     a == b

@@ -7,9 +7,8 @@ ghost use Rattle.hex.specs.Hex.{encode_lower};
 ghost use Rattle.fare_texts.specs.Moments.{IsMomentText};
 ghost use Rattle.tap_views.specs.Token.{Fits, bytes_of};
 ghost use Rattle.tap_views.specs.declared.token.Token.{Token as AToken};
-ghost use Rattle.ledger_check.specs.Lines.{Lacks};
+ghost use Rattle.ledger_check.specs.Lines.{IsLine, Lacks};
 ghost use Rattle.ledger_check.specs.Recounts.{IsCentsField, IsLineOfTap};
-ghost use Rattle.ledger_check.specs.inside.Lines.{IsLine};
 ghost use Rattle.ledger_check.specs.inside.Fronts.{HasFront, IsFrontOf};
 
 use crate::bytes::{field, same_bytes};

@@ -19,5 +19,7 @@ mod tap;
 mod walk;
 mod wanted;
 
+pub use bytes::{field, same_bytes, split_line};
 pub use checker::{Checker, Verdict};
 pub use recount::Recount;
+pub use tap::read_small_number;

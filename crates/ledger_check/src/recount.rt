@@ -9,7 +9,7 @@ ghost use Rattle.tap_views.specs.declared.encoder.TapFields.{TapFields};
 ghost use Rattle.ledger_check.specs.Recounts.{IsRecount, TakenLine, recount_text, taps_from};
 ghost use Rattle.ledger_check.specs.Recounts.{taps_with, wrong_count};
 ghost use Rattle.ledger_check.specs.RecountStates.{HasRecounted, HasTakenLines, IsKept};
-ghost use Rattle.ledger_check.specs.inside.Lines.{IsLine};
+ghost use Rattle.ledger_check.specs.Lines.{IsLine};
 ghost use Rattle.ledger_check.specs.inside.Recounts.{HasEnded, HasFound, IsFirstFinding};
 ghost use Rattle.ledger_check.specs.inside.Recounts.{TookLine};
 

@@ -55,7 +55,7 @@ pub(crate) fn read_token(digits: &[u8]) -> Option<Token>
 }
 
 /// A number of at most 32 bits.
-pub(crate) fn read_small_number(digits: &[u8]) -> Option<u32>
+pub fn read_small_number(digits: &[u8]) -> Option<u32>
     ensures found { (number : ℕ) → number < 2 ^ 32 → digits.now ≡ decimal number
         → result ≡ Some number }
 {

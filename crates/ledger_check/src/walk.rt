@@ -10,7 +10,7 @@ ghost use Rattle.reason_texts.specs.Tellers.{HasTold};
 ghost use Rattle.ledger_check.specs.Recounts.{falls_after, told_for, told_text, no_line_text};
 ghost use Rattle.ledger_check.specs.Recounts.{wants_text};
 ghost use Rattle.ledger_check.specs.RecountStates.{HasRunTeller};
-ghost use Rattle.ledger_check.specs.inside.Lines.{IsLine};
+ghost use Rattle.ledger_check.specs.Lines.{IsLine};
 ghost use Rattle.ledger_check.specs.inside.Recounts.{HasJudged, TookTap};
 
 use crate::bytes::same_bytes;

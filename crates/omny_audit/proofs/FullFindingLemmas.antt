@@ -8,7 +8,8 @@ use Rattle.fare_table.specs.Fares.{Fares}
 use Rattle.shard_book.specs.declared.entry.Entry.{Entry}
 use Rattle.tap_balance.specs.FullBalances.{AreLacking}
 use Rattle.tap_views.specs.declared.encoder.TapFields.{TapFields}
-use Rattle.ledger_check.specs.Recounts.{RecountsDecide, taps_from, wrong_count}
+use Rattle.ledger_check.specs.Ledger.{IsLedger}
+use Rattle.ledger_check.specs.Recounts.{IsRecount, RecountsDecide, TakenLine, taps_from, wrong_count}
 use Rattle.ledger_check.specs.Struck.{tap_of_entry}
 use Rattle.omny_audit.specs.Findings.{HasGoodTaps, IsDifferencesEnd, IsFullFinding, IsRightLedger}
 use Rattle.omny_audit.specs.Text.{IsDifferencesText, are_none}
@@ -74,6 +75,13 @@ decides recounts even fares text good told well finding =
           end_well good taps legal finding.rest well ledger.0 (λ g. even g taps) (all.taps ledger.0 ledger.1) finding.second
           (of_zero (wrong_count taken) (all.all_right (ledger.0, ledger.1))) ledger.2,
     )
+
+-- no line is wrong exactly if the text is a ledger
+pub recount_legal : RecountsDecide → (fares : Fares) (text : List ℕ) (taken : List TakenLine) → IsRecount fares text taken
+    → (nat_eq (wrong_count taken) 0 ≡ true) ↔ IsLedger fares text
+recount_legal recounts fares text taken is =
+    let all = recounts fares text taken is in
+    (λ yes. all.right (zero_of (wrong_count taken) yes), λ ledger. of_zero (wrong_count taken) (all.all_right ledger))
 
 pub end_alone : (good taps : List TapFields) (has legal : Bool) (text : List ℕ) → has ≡ false → text ≡ []
     → IsDifferencesEnd (if has then Some good else None) taps legal text legal

@@ -1,3 +1,4 @@
+pub mod AuditLemmas
 pub mod FindingLemmas
 pub mod FullFindingLemmas
 pub mod ProgramLemmas

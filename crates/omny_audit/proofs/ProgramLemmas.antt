@@ -1,6 +1,7 @@
 -- What was loaded, one more each time, and what the program compares.
 use Rattle.std.proofs.Common.{◌≡◌, ◌∙◌, ℕ, Bool, true, false, not, List, [], ◌∷◌, ◌++◌, length, map, refl, sym, ap, subst, append-nil, append_assoc, nat_eq, Option, Some, None, if◌then◌else◌, Bor, ◌<◌, zero, suc, get_or, inl, inr, arith, codes}
 use Rattle.std.specs.Prelude.{IfErr, IfSome, Result, Ok, Err, option_map, unwrap_or}
+use Rattle.std.specs.Io.KnownBytes.{Keeps}
 use Rattle.std.specs.Result.{IsErrAnd, IsErrOf}
 use Rattle.fare_table.specs.declared.fault.TableFault.{TableFault}
 use Rattle.std.proofs.lemmas.Bool.Decides.{nat_tests}
@@ -9,7 +10,7 @@ use Rattle.clap.specs.Words.{Text}
 use Rattle.tap_balance.specs.Balances.{AreGoodFields}
 use Rattle.tap_views.specs.declared.encoder.TapFields.{TapFields}
 use Rattle.omny_audit.specs.Fault.{IsRightFault, NamesOneOf, is_unwritten, named_by}
-use Rattle.omny_audit.specs.Options.{AuditAsked, files_of}
+use Rattle.omny_audit.specs.Options.{AuditAsked, files_of, named_file}
 use Rattle.omny_audit.specs.declared.fault.Fault.{Fault}
 use Rattle.omny_audit.specs.declared.fault.Fault.TheVariants.{File, Ledger, Table, Write, Closed, NoMemory}
 use Rattle.omny_audit.specs.Program.{AreGoodFieldsOfAll, IsRightAuditFault, LoadsNamedFiles, compared}
@@ -85,6 +86,10 @@ is_one_left : (name : Text) (names more : List Text) → IsOneOf name names → 
 is_one_left name [] more one = absurd one
 is_one_left name (n ∷ names) more one = elim one [ inl is ↦ inl is | inr rest ↦ inr (is_one_left name names more rest) ]
 
+is_one_right : (name : Text) (names more : List Text) → IsOneOf name more → IsOneOf name (names ++ more)
+is_one_right name [] more one = one
+is_one_right name (n ∷ names) more one = inr (is_one_right name names more one)
+
 is_one_last : (name : Text) (names : List Text) (last : Text) → name ≡ last → IsOneOf name (names ++ last ∷ [])
 is_one_last name [] last is = inl is
 is_one_last name (n ∷ names) last is = inr (is_one_last name names last is)
@@ -102,14 +107,29 @@ at_uploads asked fault is = weaker (named_by fault) is
   where
     weaker : (o : Option Text) → IfSome o (λ name. IsOneOf name asked.uploads) → IfSome o (λ name. IsOneOf name (files_of asked))
     weaker None is = tt
-    weaker (Some name) is = inr (is_one_left name asked.uploads _ is)
+    weaker (Some name) is = inr (is_one_left name (asked.uploads ++ named_file asked.report) _ (is_one_left name asked.uploads (named_file asked.report) is))
+
+pub at_report : (asked : AuditAsked) (fault : Fault) → NamesOneOf (named_file asked.report) fault → NamesOneOf (files_of asked) fault
+at_report asked fault is = weaker (named_by fault) is
+  where
+    weaker : (o : Option Text) → IfSome o (λ name. IsOneOf name (named_file asked.report)) → IfSome o (λ name. IsOneOf name (files_of asked))
+    weaker None is = tt
+    weaker (Some name) is = inr (is_one_left name (asked.uploads ++ named_file asked.report) _ (is_one_right name asked.uploads (named_file asked.report) is))
+
+-- a fault about the one file that is named
+pub names_single : (name : Text) (fault : Fault) → IfSome (named_by fault) (λ told. told ≡ name) → NamesOneOf (name ∷ []) fault
+names_single name fault is = weaker (named_by fault) is
+  where
+    weaker : (o : Option Text) → IfSome o (λ told. told ≡ name) → IfSome o (λ other. IsOneOf other (name ∷ []))
+    weaker None is = tt
+    weaker (Some other) is = inl is
 
 pub at_ledger : (asked : AuditAsked) (fault : Fault) → IfSome (named_by fault) (λ told. told ≡ unwrap_or asked.ledger (codes "standard input")) → NamesOneOf (files_of asked) fault
 at_ledger asked fault is = weaker (named_by fault) is
   where
     weaker : (o : Option Text) → IfSome o (λ told. told ≡ unwrap_or asked.ledger (codes "standard input")) → IfSome o (λ name. IsOneOf name (files_of asked))
     weaker None is = tt
-    weaker (Some name) is = inr (is_one_last name asked.uploads _ is)
+    weaker (Some name) is = inr (is_one_last name (asked.uploads ++ named_file asked.report) _ is)
 
 -- a fault that names nothing names no other
 pub names_none : (names : List Text) (fault : Fault) → named_by fault ≡ None → NamesOneOf names fault
@@ -158,3 +178,9 @@ lent_name (Some n) usual = refl
 pub unwritten_on : {A : Type 0} (r : Result A Fault) (P : Type 0) → P → IfErr r (λ fault. is_unwritten fault ≡ true → P)
 unwritten_on (Ok x) P is = tt
 unwritten_on (Err e) P is = λ un. is
+
+-- nothing was written yet
+pub kept_all : {A : Type 0} (r : Result A Fault) (o : Option (List ℕ)) → IfErr r (λ fault. is_unwritten fault ≡ false → Keeps o o)
+kept_all (Ok x) o = tt
+kept_all (Err e) None = λ un. tt
+kept_all (Err e) (Some xs) = λ un. refl

@@ -2,6 +2,7 @@ pub mod Fault
 pub mod Findings
 pub mod Options
 pub mod Program
+pub mod Reports
 pub mod Source
 pub mod Text
 pub mod inside

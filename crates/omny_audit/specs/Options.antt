@@ -25,6 +25,10 @@ all_flag = flag_rule (codes "all")
 abbrev pub uploads_option : Rule
 uploads_option = files_rule (codes "uploads")
 
+-- `--report REPORT`
+abbrev pub report_option : Rule
+report_option = option_rule (codes "report")
+
 -- `LEDGER`
 abbrev pub ledger_argument : Rule
 ledger_argument = positional_rule (codes "LEDGER") Set
@@ -32,9 +36,9 @@ ledger_argument = positional_rule (codes "LEDGER") Set
 -- all words that the program takes
 unfoldable pub audit_program : App
 audit_program =
-    with_rule (with_rule (with_rule (with_rule (with_rule (with_rule
-    (named_app (codes "omny_audit")) required_table_option) all_flag) uploads_option) list_option)
-    null_flag) ledger_argument
+    with_rule (with_rule (with_rule (with_rule (with_rule (with_rule (with_rule
+    (named_app (codes "omny_audit")) required_table_option) all_flag) uploads_option)
+    report_option) list_option) null_flag) ledger_argument
 
 -- the words after the program's name are a command line of the program
 abbrev pub ParsesForAudit : List Text → Type 0
@@ -75,19 +79,27 @@ pub record AuditAsked : Type 0 where
   pub table : Text
   pub all : Bool
   pub uploads : List Text
+  pub report : Option Text
   pub ledger : Option Text
 
 -- the words' table, which no command line goes without; whether all wrong lines are asked for; their
--- uploads, in order; and the ledger's file, if one is named
+-- uploads, in order; the file of the report, if one is named; and that of the ledger, if one is named
 abbrev pub audit_asked_by : List Text → AuditAsked
 audit_asked_by words = record {
   table = unwrap_or (first_of (codes "table") (matches_of audit_program words)) [];
   all = is_given (codes "all") (matches_of audit_program words);
   uploads = unwrap_or (all_of (codes "uploads") (matches_of audit_program words)) [];
+  report = first_of (codes "report") (matches_of audit_program words);
   ledger = option_and_then not_dash (first_of (codes "LEDGER") (matches_of audit_program words));
 }
 
--- the files that are asked for: the table, the uploads in order, and the ledger
+-- the file that is named, if any
+abbrev pub named_file : Option Text → List Text
+named_file None = []
+named_file (Some name) = name ∷ []
+
+-- the files that are asked for: the table, the uploads in order, the report and the ledger
 abbrev pub files_of : AuditAsked → List Text
 files_of asked =
-    asked.table ∷ (asked.uploads ++ unwrap_or asked.ledger (codes "standard input") ∷ [])
+    asked.table ∷ ((asked.uploads ++ named_file asked.report)
+    ++ unwrap_or asked.ledger (codes "standard input") ∷ [])

@@ -7,7 +7,7 @@ use Rattle.fare_table.specs.Fares.{Fares}
 use Rattle.fare_table.specs.Meaning.{Means}
 use Rattle.tap_balance.specs.Balances.{AreGoodFields}
 use Rattle.tap_views.specs.declared.encoder.TapFields.{TapFields}
-use Rattle.omny_audit.specs.Findings.{IsFindingOf, IsRightLedger}
+use Rattle.omny_audit.specs.Reports.{IsAudit, IsRightAudit}
 use Rattle.omny_audit.specs.Fault.{IsRightFault, audit_fault_text, is_quiet, is_unwritten}
 use Rattle.omny_audit.specs.Options.{AuditAsked}
 use Rattle.omny_audit.specs.Text.{Begins}
@@ -43,24 +43,35 @@ abbrev pub compared : List Text → List TapFields → Option (List TapFields)
 compared [] good = None
 compared (name ∷ names) good = Some good
 
--- The table was loaded, then the uploads, and then all of the ledger; the text is the finding on the
--- ledger's text beside the good taps of the uploads, if uploads are named. It says that all is well,
--- or not.
+-- a file was loaded, if it is named
+abbrev pub LoadsReport : Option Text → Option (List Loaded) → Option (List Loaded)
+    → Option (List ℕ) → Type 0
+LoadsReport None told told' report = (told' ≡ told) × (report ≡ None)
+LoadsReport (Some name) told told' report =
+    (text : List ℕ) × TellsOne told told' (Some name) text × (report ≡ Some text)
+
+-- The table was loaded, then the uploads, then the report, if it is named, and then all of the
+-- ledger. The text is what is told of the ledger beside the good taps of the uploads, if uploads are
+-- named, and of the report. It says that all is well, or not.
 pub record HasFound (asked : AuditAsked) (told told' : Option (List Loaded)) (text : List ℕ)
     (well : Bool) : Type 0 where
   pub after_table : Option (List Loaded)
   pub after_uploads : Option (List Loaded)
+  pub after_report : Option (List Loaded)
   pub fares : Fares
   pub loads_table : LoadsRequiredTable asked.table told after_table fares
   pub uploads : List (List ℕ)
   pub loads_uploads : LoadsNamedFiles asked.uploads after_table after_uploads uploads
   pub good : List TapFields
   pub are_good : AreGoodFieldsOfAll uploads good
+  pub report : Option (List ℕ)
+  pub loads_report : LoadsReport asked.report after_uploads after_report report
   pub ledger : List ℕ
-  pub loads_ledger : TellsOne after_uploads told' asked.ledger ledger
-  pub finding : IsFindingOf asked.all fares ledger (compared asked.uploads good) text well
-  -- well exactly if the text is, whole, a ledger of legal histories, with the taps of the uploads
-  pub right : (well ≡ true) ↔ IsRightLedger fares ledger (compared asked.uploads good)
+  pub loads_ledger : TellsOne after_report told' asked.ledger ledger
+  pub audit : IsAudit asked.all fares ledger (compared asked.uploads good) report text well
+  -- well exactly if the text is, whole, a ledger of legal histories, with the taps of the uploads,
+  -- and the report is its own
+  pub right : (well ≡ true) ↔ IsRightAudit fares ledger (compared asked.uploads good) report
 
 -- what was appended to the writer is the text of what was found
 pub record Audits (asked : AuditAsked) (told told' : Option (List Loaded))

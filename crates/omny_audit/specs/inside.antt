@@ -2,4 +2,5 @@
 pub mod Fault
 pub mod Findings
 pub mod Options
+pub mod Reports
 pub mod Source

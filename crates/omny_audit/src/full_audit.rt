@@ -1,7 +1,7 @@
 //! The finding on all lines that a reader gives.
 
 ghost use Rattle.std.specs.Prelude.{◌≡◌, ◌++◌, ℕ, List, [], Bool, IfErr, IfOk, None, Some, nat_eq};
-ghost use Rattle.std.specs.Prelude.{OnOk, false, if◌then◌else◌, string_bytes, true};
+ghost use Rattle.std.specs.Prelude.{◌&&◌, false, if◌then◌else◌, string_bytes, true};
 ghost use Rattle.std.specs.Io.KnownBytes.{Appends};
 ghost use Rattle.fare_table.specs.Fares.{Fares};
 ghost use Rattle.tap_balance.specs.Balances.{IsBalance};
@@ -9,19 +9,24 @@ ghost use Rattle.tap_balance.specs.FullBalances.{IsFullBalance};
 ghost use Rattle.tap_views.specs.declared.encoder.TapFields.{TapFields};
 ghost use Rattle.omny_audit.specs.Fault.{named_by};
 ghost use Rattle.omny_audit.specs.inside.Fault.{is_of_loading};
-ghost use Rattle.omny_audit.specs.Findings.{IsDifferencesEnd, IsFullFinding};
+ghost use Rattle.ledger_check.specs.Ledger.{IsLedger};
+ghost use Rattle.omny_audit.specs.Findings.{IsDifferencesEnd};
+ghost use Rattle.omny_audit.specs.Reports.{IsAudit, IsReportLine};
+ghost use Rattle.omny_audit.specs.inside.Reports.{HasSummedFor, text_of};
 ghost use Rattle.omny_audit.specs.inside.Findings.{HasRecountedAll};
 ghost use Rattle.omny_audit.specs.inside.Source.{IsAllOf};
 
 use crate::fault::Fault;
 use crate::output::{write_piece, write_text};
+use crate::report::{ReportWithSums, add_piece, are_both, write_report_line};
 use crate::text::{are_none, write_differences};
 use fare_table::{Clock, FareTable};
 use ledger_check::Recount;
+use ledger_check::laws::recounts_decide;
 use std::alloc::{AllocError, Global};
 use std::io::{Read, Write};
 use tap_balance::{Balance, FullBalance};
-use tap_views::TapFields;
+use tap_views::{NoMemory, TapFields};
 
 /// How many bytes one read asks for.
 const PIECE_BYTES: usize = 65_536;
@@ -36,9 +41,11 @@ fn recount_all<R: Read, W: Write>(
     reader: &mut R,
     has_uploads: bool,
     full: &mut FullBalance,
+    report: &mut Option<ReportWithSums>,
     out: &mut W,
 ) -> Result<bool, Fault<'static>>
     requires clock { clock.now ≡ table.now.zone }
+    requires sums { HasSummedFor table.now report.old [] }
     requires good { (good : List TapFields)
         × (has_uploads ≡ true → IsFullBalance full.old good []) }
 
@@ -46,7 +53,9 @@ fn recount_all<R: Read, W: Write>(
     ensures told { IfOk result (λ legal. (text : List ℕ) × IsAllOf (R.remaining reader.old) text
         × ((good : List TapFields) → (has_uploads ≡ true → IsFullBalance full.old good [])
         → HasRecountedAll table.now has_uploads full.new text good legal (W.contents out.old)
-        (W.contents out.new))) }
+        (W.contents out.new))
+        × HasSummedFor table.now report.new text) }
+    ensures report { text_of report.new ≡ text_of report.old }
     ensures named { IfErr result (λ fault. named_by fault ≡ None) }
     ensures later { IfErr result (λ fault. is_of_loading fault ≡ false) }
 {
@@ -64,6 +73,7 @@ fn recount_all<R: Read, W: Write>(
             return Ok(legal);
         }
         recount.feed(table, clock, &step[..count], has_uploads, full, &mut told)?;
+        add_piece(alloc, table, &step[..count], report)?;
         write_piece(out, told.as_str())?;
     }
     Err(Fault::Ledger)
@@ -97,8 +107,35 @@ fn differences_text(
     Ok((text, is_even))
 }
 
+/// What is told of the taps behind a recount, if there are uploads, and of the report, if there is
+/// one and no line is wrong; and whether all is well.
+fn end_text(
+    alloc: Global,
+    full: &FullBalance,
+    has_uploads: bool,
+    legal: bool,
+    report: Option<ReportWithSums>,
+) -> Result<(Vec<u8>, bool), NoMemory>
+    requires { legal ≡ true → (fares : Fares) × (text : List ℕ)
+        × HasSummedFor fares report text × IsLedger fares text }
+    ensures { IfOk result (λ told. (ending rest : List ℕ) × (sound fits : Bool)
+        × ((good taps : List TapFields)
+        → (has_uploads ≡ true → IsFullBalance full.now good taps)
+        → IsDifferencesEnd (if has_uploads then Some good else None) taps legal ending sound)
+        × ((fares : Fares) (text : List ℕ) → (legal ≡ true → HasSummedFor fares report text)
+        → IsReportLine fares text (text_of report) legal rest fits)
+        × (told.0.items ≡ ending ++ rest) × (told.1 ≡ (sound && fits))) }
+{
+    let ending = differences_text(alloc, full, has_uploads, legal)?;
+    let is_sound = ending.1;
+    let mut text = ending.0.into_bytes();
+    let fits = write_report_line(alloc, &mut text, legal, report)?;
+    Ok((text, are_both(is_sound, fits)))
+}
+
 /// Checks all lines of the ledger that the reader has left, beside the taps of uploads that the
-/// balance has, and writes the finding. Says whether all is well.
+/// balance has and beside a report, if there is one, and writes the finding. Says whether all is
+/// well.
 pub(crate) fn full_audit_over<R: Read, W: Write>(
     alloc: Global,
     table: &FareTable,
@@ -106,22 +143,36 @@ pub(crate) fn full_audit_over<R: Read, W: Write>(
     reader: &mut R,
     balance: Balance,
     has_uploads: bool,
+    mut report: Option<ReportWithSums>,
     out: &mut W,
 ) -> Result<bool, Fault<'static>>
     requires clock { clock.now ≡ table.now.zone }
     requires good { (good : List TapFields) × IsBalance balance good [] }
+    requires sums { HasSummedFor table.now report [] }
 
     // Of all good taps that the balance can have.
     ensures told { IfOk result (λ well. (text : List ℕ) × IsAllOf (R.remaining reader.old) text
         × ((good : List TapFields) → IsBalance balance good [] → (told : List ℕ)
-        × IsFullFinding table.now text (if has_uploads then Some good else None) told well
+        × IsAudit true table.now text (if has_uploads then Some good else None)
+        (text_of report) told well
         × Appends (W.contents out.old) (W.contents out.new) told)) }
     ensures named { IfErr result (λ fault. named_by fault ≡ None) }
     ensures later { IfErr result (λ fault. is_of_loading fault ≡ false) }
 {
+    // proof: no line is wrong exactly if the text is a ledger
+    recounts_decide();
     let mut full = FullBalance::of(alloc, balance);
-    let legal = recount_all(alloc, table, clock, reader, has_uploads, &mut full, out)?;
-    let told = differences_text(alloc, &full, has_uploads, legal)?;
-    write_text(out, told.0.as_str())?;
+    let legal = recount_all(
+        alloc,
+        table,
+        clock,
+        reader,
+        has_uploads,
+        &mut full,
+        &mut report,
+        out,
+    )?;
+    let told = end_text(alloc, &full, has_uploads, legal, report)?;
+    write_text(out, told.0.as_slice())?;
     Ok(told.1)
 }

@@ -1,6 +1,7 @@
 //! What follows of a finding.
 
 ghost use Rattle.omny_audit.specs.Findings.{FindingsDecide, FullFindingsDecide};
+ghost use Rattle.omny_audit.specs.Reports.{AuditsDecide};
 
 /// What is found is well exactly where the text is, whole, a ledger of legal histories under the
 /// table and, if there are uploads, its taps are theirs in some order.
@@ -17,4 +18,13 @@ pub fn full_findings_decide()
 {
     ledger_check::laws::recounts_decide();
     tap_balance::laws::even_sides_lack_nothing();
+}
+
+/// All is well exactly if the ledger is right, as above, and the report is its own, if there is one.
+pub fn audits_decide()
+    ensures { AuditsDecide }
+{
+    findings_decide();
+    full_findings_decide();
+    report_check::laws::report_verdicts_decide();
 }

@@ -1,13 +1,14 @@
 //! The program for auditors: checks a ledger under a fare table, and tells whether it is, whole,
 //! the ledger of legal histories, or which of its lines is the first that no such ledger has there;
-//! and whether its taps are those of some uploads.
+//! and whether its taps are those of some uploads, and a report its own.
 //!
 //! | module | what it does |
 //! |---|---|
 //! | `audit` | the finding on all that a reader gives, up to the first wrong line |
 //! | `full_audit` | the finding on all lines |
+//! | `report` | the report that is held beside the ledger |
 //! | `laws` | what follows of a finding |
-//! | `source` | where the table, the uploads and the ledger come from |
+//! | `source` | where the table, the uploads, the report and the ledger come from |
 //! | `files` | the files and the standard input of the system as a source |
 //! | `options` | the words of the command line, as `clap` reads them |
 //! | `text` | the lines of a finding |
@@ -26,6 +27,7 @@ mod laws;
 mod options;
 mod output;
 mod program;
+mod report;
 mod source;
 mod text;
 
@@ -54,6 +56,7 @@ fn main(rt: HostRuntime) -> ExitCode {
     let mut err = Complaints::new(Escaping::new(rt.stderr()));
     let status = match words_with_list(&rt, &mut err) {
         Ok(words) => main_over(
+            &rt,
             rt.alloc(),
             &words,
             &mut Host::new(&rt),

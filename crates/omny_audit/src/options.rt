@@ -22,7 +22,8 @@ const ABOUT: &str = "Checks a ledger under a fare table, and against uploads.
 A ledger has a head line, and for each token, rising, a line for each of its taps: what it cost and
 why. It is legal where each line is the one that the fare rules give its tap after those before it.
 With --uploads its taps must be those of the uploads before their layout faults, each as often as
-there, in whatever order. With --all it goes on after the first wrong line.";
+there, in whatever order. With --report the report must be that of its sums. With --all it goes on
+after the first wrong line.";
 
 /// What the help says last: what is printed, and the exit status.
 const NOTES: &str = "What is printed:
@@ -40,16 +41,23 @@ tell, and then, in place of `legal N lines`:
   wrong N of M lines, of K tokens; cents C, wanted D
                              C is what the lines ask for, and D what the rules give their taps
 With --uploads each missing and each surplus tap follows.
+With --report a last line follows, if the ledger is legal:
+  report of the ledger                       each line is that of the sums of the ledger
+  wrong report line N: wants LINE            the first line that is not, and the one that should be
+  wrong report line N: no report has it      the first line that no report has there
+  wrong report line N: the uploads have A taps, the ledger B
+                                             N is the last line of the report's uploads
 
 Examples:
   omny_audit --table table.toml ledger.csv
   omny_audit --table table.toml ledger.csv --uploads a.tap b.tap
   find week -name '*.tap' -print0 | omny_audit --table table.toml ledger.csv --files-from - -0
   omny_audit --all --table table.toml ledger.csv
+  omny_audit --table table.toml --report bill.txt ledger.csv
   omny_cli --table table.toml --ledger a.tap b.tap | omny_audit --table table.toml --uploads a.tap b.tap
 
 Exit status:
-  0  the ledger is legal and, with --uploads, has their taps
+  0  the ledger is legal and, with --uploads, has their taps, and, with --report, the report is its own
   1  it is not, or has not; or a file, the table, memory or writing failed, as a line `fault: ..` on
      the standard error tells
   2  the command line is wrong";
@@ -63,6 +71,8 @@ pub(crate) struct Options<'a> {
     pub(crate) all: bool,
     /// The files of the uploads whose taps the ledger should have; none asks for no such check.
     pub(crate) uploads: Vec<&'a str>,
+    /// The file of the report; none asks for no such check.
+    pub(crate) report: Option<&'a str>,
     /// The file of the ledger; none stands for standard input.
     pub(crate) ledger: Option<&'a str>,
 }
@@ -77,6 +87,9 @@ const ALL_HELP: &str = "Print each wrong line, each missing and each surplus tap
 const UPLOADS_HELP: &str =
     "Uploads of at most 67108864 bytes, whose taps the ledger should have; the list ends at the \
      next option, at --, or with the line";
+
+/// The help of `--report`.
+const REPORT_HELP: &str = "The report of the ledger, of at most 67108864 bytes";
 
 /// The help of the ledger.
 const LEDGER_HELP: &str = "The ledger, a CSV file of any length [default: standard input, as -]";
@@ -96,11 +109,13 @@ fn command<'a>(alloc: Global) -> Result<Command<'a>, AllocError>
     let table = table_arg(alloc);
     let all = flag_arg(alloc, "all", ALL_HELP);
     let uploads = files_arg(alloc, "uploads", UPLOADS_HELP);
+    let report = option_arg(alloc, "report", "REPORT", REPORT_HELP);
     let ledger = positional_arg(alloc, "LEDGER", ArgAction::Set, LEDGER_HELP);
     let command = new_command(alloc, "omny_audit", ABOUT, NOTES)
         .arg(table)?
         .arg(all)?
-        .arg(uploads)?;
+        .arg(uploads)?
+        .arg(report)?;
     add_list_args(alloc, command)?.arg(ledger)
 }
 
@@ -144,6 +159,7 @@ impl<'a> Options<'a> {
             table: matches.get_str("table").unwrap_or(""),
             all: flag_in(&matches, "all"),
             uploads: names_in(alloc, &matches, "uploads")?,
+            report: matches.get_str("report"),
             ledger: ledger_in(matches.get_str("LEDGER")),
         })
     }

@@ -74,7 +74,7 @@ pub(crate) fn write_piece<'a, W: Write>(out: &mut W, text: &str) -> Result<(), F
 }
 
 /// Writes the whole text, through to where the writer brings it.
-pub(crate) fn write_text<'a, W: Write>(out: &mut W, text: &str) -> Result<(), Fault<'a>>
+pub(crate) fn write_text<'a, W: Write>(out: &mut W, text: &[u8]) -> Result<(), Fault<'a>>
     ensures fault { IfErr result (λ fault. is_unwritten fault ≡ true) }
     ensures named { IfErr result (λ fault. named_by fault ≡ None) }
     ensures later { IfErr result (λ fault. is_of_loading fault ≡ false) }
@@ -83,7 +83,7 @@ pub(crate) fn write_text<'a, W: Write>(out: &mut W, text: &str) -> Result<(), Fa
     // What a write that fails leaves is a beginning of the text.
     ensures begun { OnErr result (Begins (W.contents out.old) (W.contents out.new) text.now) }
 {
-    match write_bytes(out, text.as_bytes()) {
+    match write_bytes(out, text) {
         Ok(()) => flush(out),
         Err(error) => Err(unwritten(&error)),
     }

@@ -4,15 +4,17 @@ ghost use Rattle.std.specs.Prelude.{IfSome, None, Some, codes, false, map, optio
 ghost use Rattle.std.specs.Prelude.{Option, string_bytes, true, unwrap_or};
 ghost use Rattle.std.specs.Io.KnownBytes.{Appends, Keeps};
 ghost use Rattle.clap.specs.Words.{kind_of};
+ghost use Rattle.fare_table.specs.Fares.{Fares};
 ghost use Rattle.tap_balance.specs.Balances.{IsBalance};
 ghost use Rattle.tap_views.specs.declared.encoder.TapFields.{TapFields};
 ghost use Rattle.omny_audit.specs.Fault.{IsRightFault, NamesOneOf, is_unwritten, named_by};
 ghost use Rattle.omny_audit.specs.Options.{AsksForAuditText, ParsesForAudit, audit_asked_by};
 ghost use Rattle.omny_audit.specs.inside.Options.{audit_asked_of};
-ghost use Rattle.omny_audit.specs.Options.{files_of};
+ghost use Rattle.omny_audit.specs.inside.Reports.{HasSummedFor, text_of};
+ghost use Rattle.omny_audit.specs.Options.{files_of, named_file};
 ghost use Rattle.omny_audit.specs.Program.{AreGoodFieldsOfAll, AuditGaveUp, Audits};
 ghost use Rattle.omny_audit.specs.Program.{LoadsNamedFiles};
-ghost use Rattle.omny_audit.specs.Program.{LoadsRequiredTable};
+ghost use Rattle.omny_audit.specs.Program.{LoadsReport, LoadsRequiredTable};
 ghost use Rattle.omny_audit.specs.Program.{IsFaultTold, IsRightAuditFault};
 ghost use Rattle.omny_audit.specs.Source.{OpensOne};
 ghost use Rattle.program_manners.specs.Loads.{Loaded, TellsOne};
@@ -21,16 +23,19 @@ ghost use Rattle.program_manners.specs.Words.{IsRequest};
 use crate::audit::audit_over;
 use crate::fault::Fault;
 use crate::full_audit::full_audit_over;
-use crate::laws::{findings_decide, full_findings_decide};
+use crate::laws::audits_decide;
 use crate::options::Options;
 use crate::output::unwritten;
+use crate::report::ReportWithSums;
 use crate::source::Source;
 use clap::Error;
 use clap::error::ErrorKind;
 use fare_table::FareTable;
 use program_manners::{Complaints, STANDARD_INPUT, show_answer};
+use shard_book::HashSeed;
 use std::alloc::Global;
 use std::io::Write;
+use std::random::RandomSource;
 use tap_balance::Balance;
 
 /// All bytes of the file of this name.
@@ -107,9 +112,35 @@ fn open_ledger<'a, S: Source>(name: Option<&'a str>, source: &mut S) -> Result<S
     }
 }
 
+/// The report of the file of this name, if one is named.
+fn load_report<'a, R: RandomSource, S: Source>(
+    rt: &R,
+    alloc: Global,
+    name: Option<&'a str>,
+    source: &mut S,
+) -> Result<Option<ReportWithSums>, Fault<'a>>
+    ensures ok { IfOk result (λ report. LoadsReport (option_map (λ n. n.now) name.entry)
+        (S.loaded source.old) (S.loaded source.new) (text_of report)) }
+    ensures sums { IfOk result (λ report. (fares : Fares) → HasSummedFor fares report []) }
+    ensures fault { IfErr result (λ fault. is_unwritten fault ≡ false) }
+    ensures named { IfErr result
+        (λ fault. NamesOneOf (named_file (option_map (λ n. n.now) name.entry)) fault) }
+    ensures right { IfErr result (λ fault. (table : List ℕ) (told after : Option (List Loaded))
+        → IsRightFault table told after (S.refused source.new) fault) }
+{
+    let Some(name) = name else {
+        return Ok(None);
+    };
+    let text = load_named(source, name)?;
+    let seed = HashSeed::new(rt)?;
+    let held = ReportWithSums::new(alloc, seed, text);
+    Ok(Some(held))
+}
+
 /// Checks the ledger and writes the finding. Says whether all is well. The table is loaded first,
-/// then the uploads, and then the ledger is read.
-fn audit<'a, S: Source, W: Write>(
+/// then the uploads and the report, and then the ledger is read.
+fn audit<'a, R: RandomSource, S: Source, W: Write>(
+    rt: &R,
     alloc: Global,
     options: &Options<'a>,
     source: &mut S,
@@ -134,10 +165,11 @@ fn audit<'a, S: Source, W: Write>(
     let names = options.uploads.as_slice();
     let balance = load_balance(alloc, names, source)?;
     let has_uploads = !names.is_empty();
+    let report = load_report(rt, alloc, options.report, source)?;
     let mut ledger = open_ledger(options.ledger, source)?;
+    // proof: all is well exactly if the ledger is right, and the report its own
+    audits_decide();
     if options.all {
-        // proof: what is found of all lines is well exactly if the ledger is right
-        full_findings_decide();
         return full_audit_over(
             alloc,
             &table,
@@ -145,11 +177,10 @@ fn audit<'a, S: Source, W: Write>(
             &mut ledger,
             balance,
             has_uploads,
+            report,
             out,
         );
     }
-    // proof: what is found is well exactly if the ledger is right
-    findings_decide();
     audit_over(
         alloc,
         &table,
@@ -157,6 +188,7 @@ fn audit<'a, S: Source, W: Write>(
         &mut ledger,
         balance,
         has_uploads,
+        report,
         out,
     )
 }
@@ -200,7 +232,8 @@ fn show<W: Write, E: Write>(error: &Error, out: &mut W, err: &mut Complaints<E>)
 /// that they name, from the source, and writes the finding to `out`, mistakes and faults to `err`.
 /// Gives the status: 0 where all is well, 1 where it is not or something failed, 2 where the words
 /// are no command line.
-pub fn main_over<S: Source, W: Write, E: Write>(
+pub fn main_over<R: RandomSource, S: Source, W: Write, E: Write>(
+    rt: &R,
     alloc: Global,
     words: &[String],
     source: &mut S,
@@ -258,7 +291,7 @@ pub fn main_over<S: Source, W: Write, E: Write>(
         Ok(options) => options,
         Err(error) => return show(&error, out, err),
     };
-    match audit(alloc, &options, source, out) {
+    match audit(rt, alloc, &options, source, out) {
         Ok(true) => 0,
         Ok(false) => 1,
         Err(fault) => tell(err, &fault),

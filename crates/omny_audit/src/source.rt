@@ -1,4 +1,4 @@
-//! Where the table, the uploads and the ledger come from.
+//! Where the table, the uploads, the report and the ledger come from.
 
 use program_manners::LoadFault;
 use std::io::Read;

@@ -10,5 +10,6 @@ audit_asked_of options = record {
   table = options.table.now;
   all = options.all;
   uploads = map (λ f. f.now) options.uploads.items;
+  report = option_map (λ f. f.now) options.report;
   ledger = option_map (λ f. f.now) options.ledger;
 }

@@ -3,6 +3,7 @@ use Rattle.std.specs.Io.KnownBytes.{Appends, Consumes}
 use Rattle.tap_balance.specs.FullBalances.{IsFullBalance}
 use Rattle.tap_views.specs.declared.encoder.TapFields.{TapFields}
 use Rattle.ledger_check.specs.RecountStates.{HasRecounted}
+use Rattle.omny_audit.specs.inside.Reports.{HasSummedFor, text_of}
 use Rattle.omny_audit.proofs.full_audit.recount_all.Given as goal
 
 -- the recount has read what the reader has lost, and what it told was written
@@ -13,4 +14,6 @@ invariant-loop-piece g l = record {
   known : (good : List TapFields) → (l.has_uploads ≡ true → IsFullBalance l.fn.full good [])
       → (written : List ℕ) × HasRecounted l.table l.recount l.has_uploads l.full text written good
       × Appends (g.W.Write.contents l.fn.out) (g.W.Write.contents l.out) written;
+  sums : HasSummedFor l.table l.report text;
+  report : text_of l.report ≡ text_of l.fn.report;
 }

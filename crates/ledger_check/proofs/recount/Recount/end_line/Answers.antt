@@ -1,6 +1,6 @@
 use Rattle.std.proofs.Common.{◌≡◌, ◌<◌, ◌≤◌, ◌++◌, List, ℕ, [], length, inl, inr, refl, sym, ap, subst, ◌∙◌, arith, string_bytes}
 use Rattle.std.proofs.lemmas.Bool.Decides.{nat_tests}
-use Rattle.ledger_check.specs.inside.Lines.{IsLine}
+use Rattle.ledger_check.specs.Lines.{IsLine}
 use Rattle.ledger_check.specs.RecountStates.{HasRecounted, IsKept}
 use Rattle.ledger_check.proofs.CheckerLemmas.{empty_list}
 use Rattle.ledger_check.proofs.RecountLemmas.{kept_none, line_ends, took_line_of}

@@ -1,0 +1,75 @@
+-- What is told of a ledger and of the report that is held beside it.
+use Rattle.std.specs.Prelude.{◌≡◌, ◌↔◌, ◌&&◌, ℕ, Bool, true, false, List, [], ◌++◌, codes, Option, None, Some}
+use Rattle.std.specs.Fmt.{decimal}
+use Rattle.fare_table.specs.Fares.{Fares}
+use Rattle.ledger_check.specs.Ledger.{IsLedger, IsLedgerOf}
+use Rattle.omny_audit.specs.Findings.{HasGoodTaps, IsFindingOf}
+use Rattle.report_check.specs.Reports.{IsReportOfLedger, IsReportVerdict, is_of_ledger}
+use Rattle.report_check.specs.declared.verdict.ReportVerdict.{ReportVerdict}
+use Rattle.report_check.specs.declared.verdict.ReportVerdict.TheVariants.{OfLedger, Wants, NoLine}
+use Rattle.report_check.specs.declared.verdict.ReportVerdict.TheVariants.{Taps}
+use Rattle.shard_book.specs.declared.entry.Entry.{Entry}
+use Rattle.tap_views.specs.declared.encoder.TapFields.{TapFields}
+
+-- `report of the ledger`, `wrong report line 4: wants LINE`, `wrong report line 4: no report has it`
+-- or `wrong report line 4: the uploads have 5 taps, the ledger 6`; the wanted line has its line feed
+unfoldable pub report_text : ReportVerdict → List ℕ
+report_text OfLedger = codes "report of the ledger\n"
+report_text (Wants line wanted) =
+    codes "wrong report line " ++ (decimal line ++ (codes ": wants " ++ wanted.items))
+report_text (NoLine line) =
+    codes "wrong report line " ++ (decimal line ++ codes ": no report has it\n")
+report_text (Taps line uploads ledger) =
+    codes "wrong report line " ++ (decimal line ++ (codes ": the uploads have "
+    ++ (decimal uploads ++ (codes " taps, the ledger " ++ (decimal ledger ++ codes "\n")))))
+
+-- what is told of the report: a verdict that is true beside whatever entries the ledger has
+pub record IsReportFinding (fares : Fares) (ledger report rest : List ℕ) (fits : Bool) : Type 0 where
+  pub verdict : ReportVerdict
+  pub shown : rest ≡ report_text verdict
+  pub told : fits ≡ is_of_ledger verdict
+  pub true_of : (entries : List Entry) → IsLedgerOf fares entries ledger
+      → IsReportVerdict entries report verdict
+
+-- What follows the finding on the ledger, which is legal or not: nothing without a report, or behind
+-- a ledger that is not legal; else the line of the verdict on the report.
+abbrev pub IsReportLine : Fares → List ℕ → Option (List ℕ) → Bool → List ℕ → Bool → Type 0
+IsReportLine fares ledger None legal rest fits = (rest ≡ []) × (fits ≡ true)
+IsReportLine fares ledger (Some report) false rest fits = (rest ≡ []) × (fits ≡ false)
+IsReportLine fares ledger (Some report) true rest fits =
+    IsReportFinding fares ledger report rest fits
+
+-- what is told of the ledger's text beside the good taps of the uploads, if there are uploads, and
+-- behind it of the report, if there is one: all is well if both are
+pub record IsAudit (all : Bool) (fares : Fares) (ledger : List ℕ) (good : Option (List TapFields))
+    (report : Option (List ℕ)) (text : List ℕ) (well : Bool) : Type 0 where
+  pub found : List ℕ
+  pub sound : Bool
+  pub finding : IsFindingOf all fares ledger good found sound
+  pub legal : Bool
+  pub is_legal : (legal ≡ true) ↔ IsLedger fares ledger
+  pub rest : List ℕ
+  pub fits : Bool
+  pub report_line : IsReportLine fares ledger report legal rest fits
+  pub shown : text ≡ found ++ rest
+  pub both : well ≡ (sound && fits)
+
+-- the report is that of the ledger's entries, if there is a report
+abbrev pub HasOwnReport : Option (List ℕ) → List Entry → Type 0
+HasOwnReport None entries = Unit {0}
+HasOwnReport (Some report) entries = IsReportOfLedger entries report
+
+-- the text is, whole, a ledger of legal histories, has the taps of the uploads, and the report is its
+-- own
+abbrev pub IsRightAudit : Fares → List ℕ → Option (List TapFields) → Option (List ℕ) → Type 0
+IsRightAudit fares ledger good report =
+    (entries : List Entry) × IsLedgerOf fares entries ledger × HasGoodTaps good entries
+    × HasOwnReport report entries
+
+-- all is well exactly where all is right
+abbrev pub AuditsDecide : Type 0
+AuditsDecide =
+    (all : Bool) (fares : Fares) (ledger : List ℕ) (good : Option (List TapFields))
+    (report : Option (List ℕ)) (text : List ℕ) (well : Bool)
+    → IsAudit all fares ledger good report text well
+    → (well ≡ true) ↔ IsRightAudit fares ledger good report

@@ -1,0 +1,191 @@
+//! The report that is held beside the ledger.
+
+ghost use Rattle.std.specs.Prelude.{◌≡◌, ◌&&◌, ◌++◌, ℕ, List, [], IfOk, OnOk, codes, string_bytes};
+ghost use Rattle.std.specs.Prelude.{true};
+ghost use Rattle.std.specs.Fmt.{decimal};
+ghost use Rattle.fare_table.specs.Fares.{Fares};
+ghost use Rattle.ledger_check.specs.Ledger.{IsLedger};
+ghost use Rattle.omny_audit.specs.Reports.{IsReportFinding, IsReportLine, report_text};
+ghost use Rattle.omny_audit.specs.inside.Reports.{HasSummedFor, text_of};
+ghost use Rattle.report_check.specs.LedgerSums.{HasSummed};
+ghost use Rattle.report_check.specs.Reports.{is_of_ledger};
+
+use fare_table::FareTable;
+use report_check::{LedgerSums, ReportVerdict, check_report};
+use shard_book::HashSeed;
+use std::alloc::{AllocError, Global};
+use tap_views::NoMemory;
+
+/// A report, and the sums of the ledger that is read beside it.
+#[derive(Drop)]
+pub(crate) struct ReportWithSums {
+    /// The text of the report.
+    text: Vec<u8>,
+    /// The sums of the ledger so far.
+    sums: LedgerSums,
+}
+
+impl ReportWithSums {
+    /// The report of this text, before anything of the ledger was read. The seed serves to hash the
+    /// validators' numbers.
+    pub(crate) fn new(alloc: Global, seed: HashSeed, text: Vec<u8>) -> ReportWithSums
+        ensures text { result.text ≡ text }
+        ensures sums { (fares : Fares) → HasSummed fares result.sums [] }
+    {
+        ReportWithSums {
+            text,
+            sums: LedgerSums::new(alloc, seed),
+        }
+    }
+
+    /// Adds the next piece of the ledger to the sums.
+    fn add(&mut self, alloc: Global, table: &FareTable, piece: &[u8]) -> Result<(), NoMemory>
+        requires { (text : List ℕ) × HasSummed table.now self.old.sums text }
+        ensures text { self.new.text ≡ self.old.text }
+        ensures sums { OnOk result ((text : List ℕ) → HasSummed table.now self.old.sums text
+            → HasSummed table.now self.new.sums (text ++ piece.now)) }
+    {
+        self.sums.feed(alloc, table, piece)
+    }
+}
+
+/// Adds the next piece of the ledger to the sums, if there is a report.
+pub(crate) fn add_piece(
+    alloc: Global,
+    table: &FareTable,
+    piece: &[u8],
+    report: &mut Option<ReportWithSums>,
+) -> Result<(), NoMemory>
+    requires { (text : List ℕ) × HasSummedFor table.now report.old text }
+    ensures text { text_of report.new ≡ text_of report.old }
+    ensures sums { OnOk result ((text : List ℕ) → HasSummedFor table.now report.old text
+        → HasSummedFor table.now report.new (text ++ piece.now)) }
+{
+    match report {
+        Some(report) => report.add(alloc, table, piece),
+        None => Ok(()),
+    }
+}
+
+/// What stands before the wanted line.
+fn wants_words(alloc: Global, line: u64) -> Result<String, AllocError>
+    ensures { IfOk result (λ text. string_bytes text
+        ≡ codes "wrong report line " ++ (decimal line ++ codes ": wants ")) }
+{
+    format!(in alloc; "wrong report line {line}: wants ")
+}
+
+/// The line of a report's line that no report has.
+fn no_line_text(alloc: Global, line: u64) -> Result<String, AllocError>
+    ensures { IfOk result (λ text. string_bytes text
+        ≡ codes "wrong report line " ++ (decimal line ++ codes ": no report has it\n")) }
+{
+    format!(in alloc; "wrong report line {line}: no report has it\n")
+}
+
+/// The line of a report whose uploads have other taps than the ledger.
+fn taps_text(alloc: Global, line: u64, uploads: u128, ledger: u128) -> Result<String, AllocError>
+    ensures { IfOk result (λ text. string_bytes text
+        ≡ codes "wrong report line " ++ (decimal line ++ (codes ": the uploads have "
+        ++ (decimal uploads ++ (codes " taps, the ledger "
+        ++ (decimal ledger ++ codes "\n")))))) }
+{
+    format!(in alloc;
+        "wrong report line {line}: the uploads have {uploads} taps, the ledger {ledger}\n"
+    )
+}
+
+/// Appends the line of the verdict on a report, with its line feed.
+#[tactic(auto, unfolding(crate::specs::Reports::report_text))]
+fn write_verdict(
+    alloc: Global,
+    text: &mut Vec<u8>,
+    verdict: &ReportVerdict,
+) -> Result<(), AllocError>
+    ensures { OnOk result (text.new.items ≡ text.old.items ++ report_text verdict.now) }
+{
+    match verdict {
+        ReportVerdict::OfLedger => text.extend_from_slice(b"report of the ledger\n"),
+        ReportVerdict::Wants(line, wanted) => {
+            let words = wants_words(alloc, *line)?;
+            text.extend_from_slice(words.as_bytes())?;
+            text.extend_from_slice(wanted.as_slice())
+        }
+        ReportVerdict::NoLine(line) => {
+            let words = no_line_text(alloc, *line)?;
+            text.extend_from_slice(words.as_bytes())
+        }
+        ReportVerdict::Taps {
+            line,
+            uploads,
+            ledger,
+        } => {
+            let words = taps_text(alloc, *line, *uploads, *ledger)?;
+            text.extend_from_slice(words.as_bytes())
+        }
+    }
+}
+
+/// Whether the verdict is that the report is the ledger's.
+fn is_of_ledger(verdict: &ReportVerdict) -> bool
+    ensures { result ≡ is_of_ledger verdict.now }
+{
+    match verdict {
+        ReportVerdict::OfLedger => true,
+        ReportVerdict::Wants(_, _) | ReportVerdict::NoLine(_) => false,
+        ReportVerdict::Taps { .. } => false,
+    }
+}
+
+/// Appends what is told of the report, beside a ledger that was read whole. Says whether the report
+/// is the ledger's.
+fn write_finding(
+    alloc: Global,
+    text: &mut Vec<u8>,
+    report: ReportWithSums,
+) -> Result<bool, NoMemory>
+    requires { (fares : Fares) × (ledger : List ℕ) × HasSummed fares report.sums ledger
+        × IsLedger fares ledger }
+    ensures { IfOk result (λ fits. (rest : List ℕ) × (text.new.items ≡ text.old.items ++ rest)
+        × ((fares : Fares) (ledger : List ℕ) → HasSummed fares report.sums ledger
+        → IsReportFinding fares ledger report.text.items rest fits)) }
+{
+    let ReportWithSums { text: lines, sums } = report;
+    let Some(sums) = sums.finish(alloc)? else {
+        unreachable!();
+    };
+    let verdict = check_report(alloc, &sums, &lines)?;
+    write_verdict(alloc, text, &verdict)?;
+    Ok(is_of_ledger(&verdict))
+}
+
+/// Appends what is told of the report behind a legal ledger, if there is a report. Says whether it
+/// is the ledger's: without a report it is, and beside a ledger that is not legal it is not.
+pub(crate) fn write_report_line(
+    alloc: Global,
+    text: &mut Vec<u8>,
+    is_legal: bool,
+    report: Option<ReportWithSums>,
+) -> Result<bool, NoMemory>
+    requires { is_legal ≡ true → (fares : Fares) × (ledger : List ℕ)
+        × HasSummedFor fares report ledger × IsLedger fares ledger }
+    ensures { IfOk result (λ fits. (rest : List ℕ) × (text.new.items ≡ text.old.items ++ rest)
+        × ((fares : Fares) (ledger : List ℕ)
+        → (is_legal ≡ true → HasSummedFor fares report ledger)
+        → IsReportLine fares ledger (text_of report) is_legal rest fits)) }
+{
+    let Some(report) = report else {
+        return Ok(true);
+    };
+    if !is_legal {
+        return Ok(false);
+    }
+    write_finding(alloc, text, report)
+}
+
+/// Whether the ledger and the report are right.
+pub(crate) fn are_both(is_sound: bool, fits: bool) -> bool
+    ensures { result ≡ (is_sound && fits) }
+{
+    is_sound && fits
+}

@@ -1,0 +1,11 @@
+pub mod Decided
+pub mod Differences
+pub mod EndsTold
+pub mod EntryLines
+pub mod Feeds
+pub mod OpenSums
+pub mod SummedLines
+pub mod Through
+pub mod UploadLines
+pub mod Verdicts
+pub mod WithoutMoments

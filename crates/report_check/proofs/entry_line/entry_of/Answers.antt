@@ -1,0 +1,60 @@
+use Rattle.std.proofs.Common.{◌<◌, ◌≤◌, ◌^◌, ◌+◌, ◌∙◌, ℕ, ap, arith}
+use Rattle.fare_table.specs.Fares.{terms_at}
+use Rattle.fare_table.specs.declared.terms.Terms.{Terms}
+use Rattle.reason_texts.specs.Ledger.{mode_field}
+use Rattle.ledger_check.proofs.FieldLemmas.{decimal_lacks, moment_lacks}
+use Rattle.ledger_check.proofs.TokenOrder.{own-few}
+use Rattle.tap_views.specs.Token.{bytes_of}
+use Rattle.report_check.proofs.EntryLines.{cents_fields, cents_most, shown_by}
+use Rattle.report_check.proofs.entry_line.entry_of.Goals as goal
+
+few : (entries own : ℕ) → own ≤ entries → entries < 2 ^ 62 → own + 1 < 2 ^ 64
+few entries own one two = omega (arith, one, two)
+
+pub returns-in_err-token-clause-found : goal.returns-in_err-token-clause-found
+returns-in_err-token-clause-found c = λ earlier entry is.
+    let line = cents_fields _ entry.token _ entry _ c.args.line.now is.shown in
+    absurd (c.in_err-token.ensures.found entry.token _ is.postable.token line.shown)
+
+pub returns-in_err-validator-clause-found : goal.returns-in_err-validator-clause-found
+returns-in_err-validator-clause-found c = λ earlier entry is.
+    let line = cents_fields _ entry.token _ entry _ c.args.line.now is.shown in
+    let one = c.in_ok-token.ensures.found entry.token _ is.postable.token line.shown in
+    absurd (c.in_err-validator.ensures _ line.moment _ entry.validator
+    (decimal_lacks _ (few _ _ (own-few entry.token earlier) is.few))
+    (moment_lacks entry.moment line.moment is.postable.moment line.is) is.postable.validator one.1)
+
+pub returns-in_err-answer-clause-found : goal.returns-in_err-answer-clause-found
+returns-in_err-answer-clause-found c = λ earlier entry is.
+    let fares = c.args.table.now in
+    let line = cents_fields fares entry.token _ entry _ c.args.line.now is.shown in
+    let one = c.in_ok-token.ensures.found entry.token _ is.postable.token line.shown in
+    let two = c.in_ok-validator.ensures _ line.moment _ entry.validator
+    (decimal_lacks _ (few _ _ (own-few entry.token earlier) is.few))
+    (moment_lacks entry.moment line.moment is.postable.moment line.is) is.postable.validator one.1 in
+    let mode = c.mode_field.ensures ∙ ap (mode_field fares) two.0 in
+    let most = cents_most fares earlier entry is.replied in
+    let named = c.bytes.ensures ∙ ap bytes_of one.0 in
+    let terms = c.terms_of-terms.ensures.terms ∙ ap (terms_at fares) named in
+    let fare = ap (λ (t : Terms). t.fare) terms in
+    absurd (c.in_err-answer.ensures entry.answer entry.cents line.behind
+    (omega (arith, most, fare, c.terms_of-terms.ensures.bounds.fare_high))
+    (shown_by _ _ _ _ two.1 mode))
+
+pub returns-clause-found : goal.returns-clause-found
+returns-clause-found c = λ earlier entry is.
+    let fares = c.args.table.now in
+    let line = cents_fields fares entry.token _ entry _ c.args.line.now is.shown in
+    let one = c.in_ok-token.ensures.found entry.token _ is.postable.token line.shown in
+    let two = c.in_ok-validator.ensures _ line.moment _ entry.validator
+    (decimal_lacks _ (few _ _ (own-few entry.token earlier) is.few))
+    (moment_lacks entry.moment line.moment is.postable.moment line.is) is.postable.validator one.1 in
+    let mode = c.mode_field.ensures ∙ ap (mode_field fares) two.0 in
+    let most = cents_most fares earlier entry is.replied in
+    let named = c.bytes.ensures ∙ ap bytes_of one.0 in
+    let terms = c.terms_of-terms.ensures.terms ∙ ap (terms_at fares) named in
+    let fare = ap (λ (t : Terms). t.fare) terms in
+    let three = c.in_ok-answer.ensures entry.answer entry.cents line.behind
+    (omega (arith, most, fare, c.terms_of-terms.ensures.bounds.fare_high))
+    (shown_by _ _ _ _ two.1 mode) in
+    (cc)

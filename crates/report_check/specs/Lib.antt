@@ -1,0 +1,6 @@
+pub mod EntryLines
+pub mod LedgerSums
+pub mod OpenSums
+pub mod Reports
+pub mod Sums
+pub mod inside

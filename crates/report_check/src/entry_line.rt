@@ -1,0 +1,107 @@
+//! What the line of a ledger's entry says of its sums.
+
+ghost use Rattle.std.specs.Prelude.{◌≡◌, ◌<◌, ◌^◌, ◌∷◌, ◌++◌, ℕ, List, IfSome, IsSomeAnd, Some};
+ghost use Rattle.std.specs.Fmt.{decimal};
+ghost use Rattle.hex.specs.Hex.{encode_lower};
+ghost use Rattle.account_rule.specs.declared.reply.Answer.{Answer as AnAnswer};
+ghost use Rattle.fare_texts.specs.StatementText.{answer_text};
+ghost use Rattle.reason_texts.specs.Ledger.{mode_field};
+ghost use Rattle.ledger_check.specs.Ledger.{IsNext};
+ghost use Rattle.ledger_check.specs.Lines.{Lacks};
+ghost use Rattle.shard_book.specs.declared.entry.Entry.{Entry as AnEntry};
+ghost use Rattle.tap_views.specs.Token.{Fits, bytes_of};
+ghost use Rattle.tap_views.specs.declared.token.Token.{Token as AToken};
+ghost use Rattle.report_check.specs.EntryLines.{without_moment};
+
+use account_rule::Answer;
+use fare_table::FareTable;
+use ledger_check::{field, read_small_number};
+use report_texts::{after_word, token_before};
+use shard_book::Entry;
+use tap_views::Token;
+
+/// The name of the validator's mode, or nothing if the table does not know the validator.
+fn mode_field(table: &FareTable, validator: u32) -> &[u8]
+    ensures { result.now ≡ mode_field table.now validator }
+{
+    match table.mode_of(validator) {
+        Some(mode) => table.mode_name(mode).as_bytes(),
+        None => "".as_bytes(),
+    }
+}
+
+/// The answer of this name.
+fn answer_by(name: &[u8]) -> Option<Answer>
+    ensures { (answer : AnAnswer) → name.now ≡ answer_text answer → result ≡ Some answer }
+{
+    match name {
+        b"paid" => Some(Answer::Paid),
+        b"transfer" => Some(Answer::Transfer),
+        b"capped" => Some(Answer::Capped),
+        b"stale" => Some(Answer::Stale),
+        b"unknown" => Some(Answer::Unknown),
+        _ => None,
+    }
+}
+
+/// The token of the line, and what stands behind its comma.
+fn token_of(line: &[u8]) -> Option<(Token, &[u8])>
+    ensures fits { IfSome result (λ parts. Fits parts.0) }
+    ensures found { (token : AToken) (behind : List ℕ) → Fits token
+        → line.now ≡ encode_lower (bytes_of token) ++ 44 ∷ behind
+        → IsSomeAnd result (λ parts. (parts.0 ≡ token) × (parts.1.now ≡ behind)) }
+{
+    let (token, rest) = token_before(line)?;
+    let behind = after_word(rest, b",")?;
+    Some((token, behind))
+}
+
+/// The validator, behind the number and the moment, and what stands behind its comma.
+fn validator_of(text: &[u8]) -> Option<(u32, &[u8])>
+    ensures { (number moment behind : List ℕ) (validator : ℕ) → Lacks 44 number → Lacks 44 moment
+        → validator < 2 ^ 32
+        → text.now ≡ number ++ 44 ∷ (moment ++ 44 ∷ (decimal validator ++ 44 ∷ behind))
+        → IsSomeAnd result (λ parts. (parts.0 ≡ validator) × (parts.1.now ≡ behind)) }
+{
+    let (_number, rest) = field(text)?;
+    let (_moment, rest) = field(rest)?;
+    let (digits, rest) = field(rest)?;
+    let validator = read_small_number(digits)?;
+    Some((validator, rest))
+}
+
+/// The answer and the cents, behind the mode.
+fn reply_of(text: &[u8], mode: &[u8]) -> Option<(Answer, u32)>
+    ensures { (answer : AnAnswer) (cents : ℕ) (behind : List ℕ) → cents < 2 ^ 32
+        → text.now ≡ mode.now ++ 44 ∷ (answer_text answer ++ 44 ∷ (decimal cents ++ 44 ∷ behind))
+        → IsSomeAnd result (λ parts. (parts.0 ≡ answer) × (parts.1 ≡ cents)) }
+{
+    let rest = after_word(text, mode)?;
+    let rest = after_word(rest, b",")?;
+    let (name, rest) = field(rest)?;
+    let answer = answer_by(name)?;
+    let (digits, _rest) = field(rest)?;
+    let cents = read_small_number(digits)?;
+    Some((answer, cents))
+}
+
+/// The entry of the line but for its moment, which is 0. `None` only if no ledger goes on with the
+/// line.
+pub(crate) fn entry_of(table: &FareTable, line: &[u8]) -> Option<Entry>
+    ensures fits { IfSome result (λ entry. Fits entry.token) }
+    ensures found { (earlier : List AnEntry) (entry : AnEntry) → IsNext table.now earlier entry line.now
+        → result ≡ Some (without_moment entry) }
+{
+    let (token, rest) = token_of(line)?;
+    // proof: no reply has more cents than the fare, which 32 bits hold
+    let _terms = table.terms_of(&token.bytes());
+    let (validator, rest) = validator_of(rest)?;
+    let (answer, cents) = reply_of(rest, mode_field(table, validator))?;
+    Some(Entry {
+        token,
+        validator,
+        moment: 0,
+        answer,
+        cents,
+    })
+}

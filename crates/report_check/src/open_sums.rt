@@ -1,0 +1,156 @@
+//! Sums to which entries are added one by one.
+
+ghost use Rattle.std.specs.Prelude.{◌≡◌, ◌+◌, ◌<◌, ◌≤◌, ◌^◌, ◌++◌, ◌∷◌, ℕ, [], List, IfOk, OnOk};
+ghost use Rattle.std.specs.Prelude.{All, MatchBool, MatchOption, length};
+ghost use Rattle.ledger_check.specs.Ledger.{token_number};
+ghost use Rattle.shard_book.specs.SumsByKey.{sums_by_token};
+ghost use Rattle.shard_book.specs.declared.entry.Entry.{Entry as AnEntry};
+ghost use Rattle.tap_views.specs.Token.{Fits};
+ghost use Rattle.report_check.specs.Sums.{AreSumsOf};
+ghost use Rattle.report_check.specs.OpenSums.{AreOpenSums, IsRunOf, IsSplitAt};
+ghost use Rattle.report_check.specs.inside.OpenSums.{HasRoom, IsBelow};
+
+use shard_book::{Entry, HashSeed, Tally, TokenSums, Totals, ValidatorSum, ValidatorTallies};
+use std::alloc::Global;
+use std::cmp::Ordering;
+use tap_views::{NoMemory, Token};
+
+/// The sums of entries: by token, by validator and of all.
+#[derive(Drop)]
+pub struct EntrySums {
+    /// The tokens, rising, each with its sums.
+    pub tokens: TokenSums,
+    /// The validators, rising, each with its sums.
+    pub validators: Vec<ValidatorSum>,
+    /// The sums of all entries.
+    pub totals: Totals,
+}
+
+/// A token, and what its entries come to.
+#[derive(Clone, Copy)]
+pub(crate) struct OpenToken {
+    /// The token.
+    token: Token,
+    /// The sums of its entries.
+    tally: Tally,
+}
+
+/// The sums of the entries that were added, which come token by token.
+#[derive(Drop)]
+pub(crate) struct OpenSums {
+    /// The tokens before the last one, rising, each with its sums.
+    tokens: TokenSums,
+    /// The last token.
+    last: Option<OpenToken>,
+    /// The sums of all entries by validator.
+    validators: ValidatorTallies,
+    /// The sums of all entries.
+    totals: Tally,
+    /// How many entries there are.
+    pub(crate) entries: u64,
+}
+
+/// The sums of the tokens, the last one behind the others.
+fn closed_tokens(
+    alloc: Global,
+    tokens: TokenSums,
+    last: Option<OpenToken>,
+) -> Result<TokenSums, NoMemory>
+    requires { (entries : List AnEntry) × IsSplitAt entries tokens last
+        × (length entries ≤ 2 ^ 62) }
+    ensures { IfOk result (λ closed. (entries : List AnEntry) → IsSplitAt entries tokens last
+        → closed ≡ sums_by_token entries) }
+{
+    let Some(last) = last else {
+        return Ok(tokens);
+    };
+    let mut tokens = tokens;
+    tokens.push(alloc, last.token, &last.tally)?;
+    Ok(tokens)
+}
+
+impl OpenSums {
+    /// The sums of no entries. The seed serves to hash the validators' numbers.
+    pub(crate) fn new(alloc: Global, seed: HashSeed) -> OpenSums
+        ensures { AreOpenSums [] result }
+    {
+        OpenSums {
+            tokens: TokenSums::new(alloc),
+            last: None,
+            validators: ValidatorTallies::new(alloc, seed),
+            totals: Tally::new(),
+            entries: 0,
+        }
+    }
+
+    /// The token of the next entry, with the sums of the entries that it has already. `None` if it
+    /// is below the last one. After want of memory the sums are of no use.
+    fn next_run(&mut self, alloc: Global, token: Token) -> Result<Option<OpenToken>, NoMemory>
+        requires room { HasRoom self.old 1 }
+        requires fits { Fits token }
+        ensures run { IfOk result (λ held. (entries : List AnEntry) → AreOpenSums entries self.old
+            → MatchOption held (IsBelow token entries)
+            (λ held. (held.token ≡ token) × IsRunOf entries self.new.tokens held)) }
+        ensures validators { self.new.validators ≡ self.old.validators }
+        ensures totals { self.new.totals ≡ self.old.totals }
+        ensures entries { self.new.entries ≡ self.old.entries }
+    {
+        let none = OpenToken {
+            token,
+            tally: Tally::new(),
+        };
+        let Some(last) = self.last else {
+            return Ok(Some(none));
+        };
+        match last.token.cmp(&token) {
+            Ordering::Less => {
+                self.tokens.push(alloc, last.token, &last.tally)?;
+                Ok(Some(none))
+            }
+            Ordering::Equal => Ok(Some(last)),
+            Ordering::Greater => Ok(None),
+        }
+    }
+
+    /// Adds an entry. Says whether its token is not below the last one: else it is not added, and
+    /// the sums are of no use, nor are they after want of memory.
+    pub(crate) fn add(&mut self, alloc: Global, entry: &Entry) -> Result<bool, NoMemory>
+        requires room { HasRoom self.old 1 }
+        requires fits { Fits entry.now.token }
+        ensures { IfOk result (λ added. (entries : List AnEntry) → AreOpenSums entries self.old
+            → MatchBool added (AreOpenSums (entries ++ entry.now ∷ []) self.new)
+            (IsBelow entry.now.token entries)) }
+    {
+        let Some(mut held) = self.next_run(alloc, entry.token)? else {
+            return Ok(false);
+        };
+        held.tally.add(entry.reply());
+        self.last = Some(held);
+        self.totals.add(entry.reply());
+        self.validators.add(entry)?;
+        self.entries += 1;
+        Ok(true)
+    }
+
+    /// The sums of the entries that were added.
+    pub(crate) fn into_sums(self, alloc: Global) -> Result<EntrySums, NoMemory>
+        requires { HasRoom self 0 }
+        ensures { IfOk result (λ sums. (entries : List AnEntry) → AreOpenSums entries self
+            → AreSumsOf entries sums) }
+    {
+        let OpenSums {
+            tokens,
+            last,
+            validators,
+            totals,
+            entries: _,
+        } = self;
+        let tokens = closed_tokens(alloc, tokens, last)?;
+        let validators = validators.sums(alloc)?;
+        Ok(EntrySums {
+            tokens,
+            validators,
+            totals: totals.totals(),
+        })
+    }
+}

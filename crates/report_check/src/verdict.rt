@@ -1,0 +1,104 @@
+//! The verdict on a report beside the sums of a ledger's entries.
+
+ghost use Rattle.std.specs.Prelude.{◌≡◌, List, IfOk};
+ghost use Rattle.shard_book.specs.declared.entry.Entry.{Entry};
+ghost use Rattle.report_check.specs.Sums.{AreSumsOf};
+ghost use Rattle.report_check.specs.Reports.{IsReportVerdict, report_of};
+ghost use Rattle.report_check.specs.inside.Differences.{EndsWithFeed, IsDifferenceFrom};
+
+use crate::open_sums::EntrySums;
+use crate::upload_lines::{UploadLines, upload_lines};
+use ledger_check::split_line;
+use report_texts::{UploadEnd, after_word, write_report};
+use std::alloc::Global;
+use tap_views::NoMemory;
+
+/// What a check tells of a report. Lines count from 1.
+#[derive(Drop)]
+pub enum ReportVerdict {
+    /// It is the report of the ledger.
+    OfLedger,
+    /// The line of this number should be this one, which has its line feed.
+    Wants(u64, Vec<u8>),
+    /// No report has a line of this number there.
+    NoLine(u64),
+    /// Up to the line of this number, the last one of the uploads, the uploads have so many taps,
+    /// and the ledger has so many others.
+    Taps {
+        /// The number of the line.
+        line: u64,
+        /// How many taps the uploads have.
+        uploads: u128,
+        /// How many taps the ledger has.
+        ledger: u128,
+    },
+}
+
+/// The first line of the text that is not that of the wanted text, whose last line is whole.
+fn first_difference(alloc: Global, text: &[u8], wanted: &[u8]) -> Result<ReportVerdict, NoMemory>
+    requires { EndsWithFeed wanted.now }
+    ensures { IfOk result (IsDifferenceFrom text.now wanted.now) }
+{
+    let mut rest = text;
+    let mut left = wanted;
+    let mut number: u64 = 1;
+    while !left.is_empty() {
+        let Some((line, behind)) = split_line(left) else {
+            unreachable!();
+        };
+        let Some(more) = after_word(rest, line) else {
+            let mut own = Vec::new(alloc);
+            own.extend_from_slice(line)?;
+            return Ok(ReportVerdict::Wants(number, own));
+        };
+        rest = more;
+        left = behind;
+        number += 1;
+    }
+    if rest.is_empty() {
+        return Ok(ReportVerdict::OfLedger);
+    }
+    Ok(ReportVerdict::NoLine(number))
+}
+
+/// The report of the uploads that ended so, and of the sums.
+fn wanted_report(alloc: Global, ends: &[UploadEnd], sums: &EntrySums) -> Result<Vec<u8>, NoMemory>
+    ensures report { IfOk result (λ text. (entries : List Entry) → AreSumsOf entries sums.now
+        → text.items ≡ report_of ends.now entries) }
+    ensures ends { IfOk result (λ text. EndsWithFeed text.items) }
+{
+    let mut text = Vec::new(alloc);
+    match write_report(
+        alloc,
+        ends,
+        &sums.totals,
+        &sums.validators,
+        &sums.tokens,
+        &mut text,
+    ) {
+        Ok(()) => Ok(text),
+        Err(_) => Err(NoMemory),
+    }
+}
+
+/// Whether the report is that of the ledger whose entries have these sums, or the first line that
+/// is not. The text of the report that it should be is held beside the report.
+pub fn check_report(alloc: Global, sums: &EntrySums, text: &[u8]) -> Result<ReportVerdict, NoMemory>
+    ensures { IfOk result (λ verdict. (entries : List Entry) → AreSumsOf entries sums.now
+        → IsReportVerdict entries text.now verdict) }
+{
+    match upload_lines(alloc, text)? {
+        UploadLines::NoLine(number) => Ok(ReportVerdict::NoLine(number)),
+        UploadLines::Told(ends, taps) => {
+            if taps != sums.totals.taps {
+                return Ok(ReportVerdict::Taps {
+                    line: ends.len() as u64 + 1,
+                    uploads: taps,
+                    ledger: sums.totals.taps,
+                });
+            }
+            let wanted = wanted_report(alloc, &ends, sums)?;
+            first_difference(alloc, text, &wanted)
+        }
+    }
+}
