@@ -1,5 +1,7 @@
 -- The fault that is told is the right one.
 use Rattle.std.proofs.Common.{◌≡◌, ◌∙◌, ◌<◌, ◌∷◌, ℕ, List, [], Bool, true, false, Option, None, Some, Bor, arith, nat_eq, ap, inl, inr, length, map, refl, sym, subst}
+use Rattle.std.specs.Prelude.{IfErr, Result, Ok, Err}
+use Rattle.std.specs.Result.{IsErrAnd}
 use Rattle.std.proofs.lemmas.Bool.Decides.{nat_tests}
 use Rattle.std.proofs.lemmas.List.{length-map}
 use Rattle.fare_program.specs.Causes.{IsNameTold, IsRightFault, IsRightOfSorted, names_told}
@@ -12,6 +14,11 @@ use Rattle.fare_program.specs.inside.Fault.{IsRunFailure}
 use Rattle.program_manners.specs.Loads.{Loaded, TellsOne}
 use Rattle.program_manners.specs.Refusals.{IsFirstTableFault, IsOneOf}
 use Rattle.program_manners.specs.declared.loading.LoadFault.{LoadFault}
+
+-- a fault that is handed on
+pub handed_on : {A : Type 0} (r : Result A Fault) (fault : Fault) (P : Fault → Type 0) → IsErrAnd r (λ e. e ≡ fault) → P fault → IfErr r P
+handed_on (Ok x) fault P same is = tt
+handed_on (Err e) fault P same is = subst P (sym same) is
 
 -- a write that failed, or want of memory, is right of everything
 pub output_of_uploads : (settle : Bool) (uploads : ℕ) (fault : Fault) → IsOfOutput fault → IsRightOfUploads settle uploads fault

@@ -16,7 +16,7 @@ use Rattle.omny_audit.specs.declared.fault.Fault.TheVariants.{File, Ledger, Tabl
 use Rattle.omny_audit.specs.Program.{AreGoodFieldsOfAll, IsRightAuditFault, LoadsNamedFiles, compared}
 use Rattle.omny_audit.specs.Source.{OpensOne}
 use Rattle.program_manners.specs.Refusals.{IsOneOf, Refuses, TellsRefusal}
-use Rattle.program_manners.proofs.Refusals.{handed_on, is_one_at}
+use Rattle.program_manners.proofs.Refusals.{is_one_at}
 use Rattle.omny_audit.specs.inside.Fault.{is_of_loading}
 use Rattle.omny_audit.specs.inside.Source.{IsAllOf}
 use Rattle.program_manners.specs.Loads.{Loaded, Tells, TellsOne}
@@ -134,6 +134,11 @@ at_ledger asked fault is = weaker (named_by fault) is
 -- a fault that names nothing names no other
 pub names_none : (names : List Text) (fault : Fault) → named_by fault ≡ None → NamesOneOf names fault
 names_none names fault none = rw none tt
+
+-- a fault that is handed on
+pub handed_on : {A : Type 0} (r : Result A Fault) (fault : Fault) (P : Fault → Type 0) → IsErrAnd r (λ e. e ≡ fault) → P fault → IfErr r P
+handed_on (Ok x) fault P same is = tt
+handed_on (Err e) fault P same is = subst P (sym same) is
 
 -- the same names, lent twice
 pub loads_same : (names same : List (Bor Text)) (told told' : Option (List Loaded)) (files : List (List ℕ)) → names ≡ same

@@ -1,7 +1,10 @@
 -- What was refused, and names of files among others.
-use Rattle.std.proofs.Common.{◌≡◌, ◌<◌, ℕ, List, [], ◌∷◌, Bor, Option, None, Some, ap, arith, codes, get_or, inl, inr, length, map, suc, subst, sym, zero, ⊎_elim}
-use Rattle.std.specs.Prelude.{Err, IfErr, IsUtf8, Ok, Result, unwrap_or, ◌≢◌, ◌⊎◌}
-use Rattle.std.specs.Result.{IsErrAnd, IsErrOf}
+use Rattle.std.proofs.Common.{◌≡◌, ◌<◌, ℕ, List, [], ◌∷◌, Bor, Option, None, Some, ap, arith, codes, get_or, inl, inr, length, map, subst, suc, zero, ⊎_elim}
+use Rattle.std.specs.Prelude.{Err, IsUtf8, Result, unwrap_or, ◌≢◌, ◌⊎◌}
+use Rattle.std.specs.Result.{IsErrOf}
+use Rattle.clap.specs.Words.{HasKind, Kinds, kind_of}
+use Rattle.clap.specs.declared.error.Error.{Error}
+use Rattle.clap.specs.declared.error.kind.ErrorKind.TheVariants.{OutOfMemory}
 use Rattle.fare_table.specs.TableMeaning.{meaning_in}
 use Rattle.fare_table.specs.declared.fault.TableFault.{TableFault}
 use Rattle.fare_table.specs.declared.fault.TableFault.TheVariants.{NoMemory, Text}
@@ -14,11 +17,6 @@ pub is_one_at : (names : List (Bor (List ℕ))) (k : ℕ) (d : Bor (List ℕ)) (
 is_one_at [] k d name within is = absurd (omega arith)
 is_one_at (n ∷ names) zero d name within is = inl is
 is_one_at (n ∷ names) (suc k) d name within is = inr (is_one_at names k d name (omega arith) is)
-
--- a fault that is handed on
-pub handed_on : {A F : Type 0} (r : Result A F) (fault : F) (P : F → Type 0) → IsErrAnd r (λ e. e ≡ fault) → P fault → IfErr r P
-handed_on (Ok x) fault P same is = tt
-handed_on (Err e) fault P same is = subst P (sym same) is
 
 -- what the source refused under a name is told under it
 pub refusal_told : (refused : Option (Option (List ℕ) × LoadFault)) (name : Option (List ℕ)) (fault : LoadFault) → Refuses refused name fault
@@ -37,3 +35,7 @@ first_table_fault r text fault same first not_text = record {
   of_text = first;
   no_text = λ room none. ⊎_elim (one_error r fault Text same) (λ is. absurd (room (one_error r fault NoMemory same is))) (not_text none);
 }
+
+-- an error of words where no kind may come is want of memory
+pub only_memory : (kinds : Kinds) (e : Error) → kinds ≡ [] → HasKind kinds e → kind_of e ≡ OutOfMemory
+only_memory kinds e none has = elim (subst (λ (k : Kinds). HasKind k e) none has) [ inl memory ↦ memory | inr among ↦ absurd among ]

@@ -1,15 +1,10 @@
 use Rattle.std.proofs.Common.{◌≡◌, List, [], false, inl, inr, subst, true}
 use Rattle.std.specs.Prelude.{IfOk, option_map}
 use Rattle.std.proofs.lemmas.Result.{IfErr-weaker}
-use Rattle.clap.specs.Words.{HasKind, Kinds, Row, kind_of}
-use Rattle.clap.specs.declared.error.Error.{Error}
-use Rattle.clap.specs.declared.error.kind.ErrorKind.TheVariants.{OutOfMemory}
+use Rattle.clap.specs.Words.{Row}
+use Rattle.program_manners.proofs.Refusals.{only_memory}
 use Rattle.program_manners.specs.ListWords.{lacks_list, list_asked, view_of}
 use Rattle.fare_program.proofs.named_list.list_words.Goals as goal
-
--- an error where no kind may come is want of memory
-only_memory : (kinds : Kinds) (e : Error) → kinds ≡ [] → HasKind kinds e → kind_of e ≡ OutOfMemory
-only_memory kinds e none has = elim (subst (λ (k : Kinds). HasKind k e) none has) [ inl memory ↦ memory | inr among ↦ absurd among ]
 
 pub returns-in-Ok-clause-list : goal.returns-in-Ok-clause-list
 returns-in-Ok-clause-list c = λ parses.

@@ -1,7 +1,8 @@
 use Rattle.std.proofs.Common.{◌≡◌, ◌∙◌, Bor, List, Option, ap, inl, inr, option_map, refl, subst, sym, ℕ}
 use Rattle.std.specs.Prelude.{MatchOption, ◌⊎◌}
 use Rattle.program_manners.specs.Refusals.{IsFirstTableFault}
-use Rattle.program_manners.proofs.Refusals.{first_table_fault, handed_on}
+use Rattle.program_manners.proofs.Refusals.{first_table_fault}
+use Rattle.fare_program.proofs.Causes.{handed_on}
 use Rattle.fare_program.specs.Causes.{IsRightFault}
 use Rattle.fare_program.specs.Fault.{fault_text}
 use Rattle.fare_program.specs.inside.Fault.{IsLoadLine, IsTableLine}

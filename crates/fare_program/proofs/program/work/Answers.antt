@@ -7,7 +7,7 @@ use Rattle.fare_program.specs.inside.Options.{asked_of}
 use Rattle.fare_program.proofs.SortedRuns.{does_sorted, does_traced, does_untraced, has_table, traced_table}
 use Rattle.fare_program.proofs.Works.{does_ahead}
 use Rattle.std.proofs.Common.{◌≡◌, refl}
-use Rattle.program_manners.proofs.Refusals.{handed_on}
+use Rattle.fare_program.proofs.Causes.{handed_on}
 use Rattle.fare_program.specs.Causes.{IsRightFault}
 use Rattle.fare_program.specs.Fault.{status_of}
 use Rattle.fare_program.proofs.program.work.Goals as goal

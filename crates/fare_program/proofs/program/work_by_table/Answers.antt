@@ -5,7 +5,7 @@ use Rattle.fare_program.specs.inside.Options.{asked_of}
 use Rattle.fare_program.proofs.Works.{does_charge, does_list}
 use Rattle.std.proofs.Common.{Option}
 use Rattle.program_manners.specs.Loads.{Loaded}
-use Rattle.program_manners.proofs.Refusals.{handed_on}
+use Rattle.fare_program.proofs.Causes.{handed_on}
 use Rattle.fare_program.specs.Causes.{IsRightFault}
 use Rattle.fare_program.proofs.program.work_by_table.Goals as goal
 

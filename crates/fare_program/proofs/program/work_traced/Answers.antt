@@ -8,7 +8,7 @@ use Rattle.fare_program.specs.inside.Options.{asked_of}
 use Rattle.traced_ledgers.specs.Ledgers.{IsTracedLedger}
 use Rattle.traced_ledgers.specs.Names.{class_by}
 use Rattle.std.proofs.Common.{◌≡◌, inl, true}
-use Rattle.program_manners.proofs.Refusals.{handed_on}
+use Rattle.fare_program.proofs.Causes.{handed_on}
 use Rattle.fare_program.specs.Causes.{IsRightFault}
 use Rattle.fare_program.proofs.program.work_traced.Goals as goal
 

@@ -2,7 +2,7 @@ use Rattle.std.proofs.Common.{◌≡◌, ◌∙◌, ℕ, List, Bor, Some, ap, ma
 use Rattle.fare_table.specs.Fares.{Fares}
 use Rattle.fare_program.specs.Settling.{ShowsSettled}
 use Rattle.fare_program.specs.inside.Options.{asked_of}
-use Rattle.program_manners.proofs.Refusals.{handed_on}
+use Rattle.fare_program.proofs.Causes.{handed_on}
 use Rattle.fare_program.specs.Causes.{IsRightOfSorted}
 use Rattle.fare_program.proofs.sorted.work_sorted.Goals as goal
 

@@ -1,5 +1,6 @@
 use Rattle.std.proofs.Common.{refl}
-use Rattle.program_manners.proofs.Refusals.{first_table_fault, handed_on}
+use Rattle.program_manners.proofs.Refusals.{first_table_fault}
+use Rattle.fare_program.proofs.Causes.{handed_on}
 use Rattle.fare_program.specs.declared.fault.Fault.TheVariants.{Table}
 use Rattle.fare_program.specs.inside.Causes.{IsRightOfText}
 use Rattle.fare_program.proofs.traced.riders_of.Goals as goal

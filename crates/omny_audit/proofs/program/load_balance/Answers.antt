@@ -2,7 +2,7 @@ use Rattle.std.proofs.Common.{◌≡◌, ◌∙◌, ◌<◌, ◌++◌, ◌∷◌
 use Rattle.std.proofs.lemmas.List.{map-append, take_all, take_more}
 use Rattle.tap_balance.specs.Balances.{AreGoodFields}
 use Rattle.omny_audit.specs.Fault.{NamesOneOf}
-use Rattle.program_manners.proofs.Refusals.{handed_on}
+use Rattle.omny_audit.proofs.ProgramLemmas.{handed_on}
 use Rattle.omny_audit.proofs.ProgramLemmas.{loads_push, names_at, posted_push, tells_none}
 use Rattle.omny_audit.proofs.program.load_balance.Goals as goal
 

@@ -2,7 +2,8 @@ use Rattle.std.proofs.Common.{ℕ, List, refl, subst}
 use Rattle.omny_audit.specs.Fault.{IsRightFault}
 use Rattle.program_manners.specs.Refusals.{IsFirstTableFault}
 use Rattle.omny_audit.specs.declared.fault.Fault.TheVariants.{Table}
-use Rattle.program_manners.proofs.Refusals.{first_table_fault, handed_on}
+use Rattle.program_manners.proofs.Refusals.{first_table_fault}
+use Rattle.omny_audit.proofs.ProgramLemmas.{handed_on}
 use Rattle.omny_audit.proofs.program.load_table.Goals as goal
 
 pub returns-in_err-text-clause-right : goal.returns-in_err-text-clause-right

@@ -10,7 +10,7 @@ use Rattle.sorted_bills.proofs.own_taps.sorted_taps_of.Goals as goal
 pub returns-clause-ended : goal.returns-clause-ended
 returns-clause-ended g c = λ all are.
     subst (λ (ends : List UploadEnd). ArePlainEnds all ends)
-    (sym (c.in_ok-ends.ensures.ends ∙ ap (map Posted) c.deref.ensures.value))
+    (sym (c.in_ok-ends.ensures.ends ∙ ap (map Posted) c.deref-2.ensures.value))
     (own_ends c.args.token all c.in_ok-own.own.taps.items c.in_ok-own.own.numbers.items
     (c.in_ok-own.ensures.own all are))
 
@@ -31,6 +31,6 @@ returns-clause-its g c =
 
 pub returns-in_err-stamps-clause-fault : goal.returns-in_err-stamps-clause-fault
 returns-in_err-stamps-clause-fault g c =
-    let p = err_from_is_err_and c.from_residual-in_err-stamps.result
-    c.from_residual-in_err-stamps.ensures.1 in
+    let p = err_from_is_err_and c.from_residual.result
+    c.from_residual.ensures.1 in
     rw (p.1, p.2) (λ all are. late_says_nothing all c.in_err-stamps.field-0.0)
