@@ -242,7 +242,12 @@ impl Display for Work {
                 write!(f, "checking {} of {} MiB", read.done / MIB, read.all / MIB)
             }
             Work::Bytes(charged) => {
-                write!(f, "charging {} of {} MiB", charged.done / MIB, charged.all / MIB)
+                write!(
+                    f,
+                    "charging {} of {} MiB",
+                    charged.done / MIB,
+                    charged.all / MIB
+                )
             }
             Work::Taps(charged) => {
                 let (unit, name) = if charged.all < MANY_TAPS {
