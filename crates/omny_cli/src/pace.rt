@@ -58,7 +58,7 @@ fn is_later(first: &Reading, reading: &Reading) -> bool {
     first.all == reading.all && first.done <= reading.done
 }
 
-/// In how many seconds the rest is done, if that takes as long as what was done in so many
+/// In how many seconds at most the rest is done, if that takes as long as what was done in so many
 /// milliseconds. Before these so much was done.
 fn seconds_left(passed_ms: u64, before: u64, reading: Reading) -> Option<u64> {
     let more = reading.done.saturating_sub(before);
@@ -67,7 +67,7 @@ fn seconds_left(passed_ms: u64, before: u64, reading: Reading) -> Option<u64> {
     }
     let rest = u128::from(reading.all.saturating_sub(reading.done));
     let left_ms = u128::from(passed_ms) * rest / u128::from(more);
-    u64::try_from(left_ms / 1_000).ok()
+    u64::try_from(left_ms.div_ceil(1_000)).ok()
 }
 
 impl Display for Left {
