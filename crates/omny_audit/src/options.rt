@@ -4,7 +4,7 @@ ghost use Rattle.std.specs.Prelude.{None, option_and_then, option_map, string_by
 ghost use Rattle.clap.specs.Words.{FailsBy, all_of, app_of, fault_of, found_of, matches_of};
 ghost use Rattle.clap.specs.Words.{rows_of, rule_of};
 ghost use Rattle.omny_audit.specs.Options.{ParsesForAudit, audit_asked_by, not_dash, audit_program};
-ghost use Rattle.omny_audit.specs.Options.{IsRightList, IsWrongList, are_input};
+ghost use Rattle.omny_audit.specs.inside.Options.{IsRightList, IsWrongList, are_input};
 ghost use Rattle.omny_audit.specs.inside.Options.{audit_asked_of};
 ghost use Rattle.omny_audit.specs.Options.{required_table_option};
 ghost use Rattle.program_manners.specs.ListWords.{list_asked, view_of};

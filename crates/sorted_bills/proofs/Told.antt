@@ -46,15 +46,13 @@ pub last_up : (low high : Token) (taps : List TapFields) → IsUpTo low high
 last_up low high [] up = up
 last_up low high (tap ∷ taps) up = up_itself (last_token (token_of_tap tap) taps)
 
--- a lower token is another one
-pub below_apart : (a b : Token) → token_cmp a b ≡ Less → token_eq a b ≡ false
-below_apart a b less = by (token_eq a b) refl
+-- a token to which another does not come up is another one
+pub below_apart : (a b : Token) → (IsUpTo b a → ⊥) → token_eq a b ≡ false
+below_apart a b above = by (token_eq a b) refl
   where
     by : (t : Bool) → token_eq a b ≡ t → token_eq a b ≡ false
     by false is = is
-    by true is =
-        let up : IsUpTo b a = subst (λ (t : Token). IsUpTo t a) (same_token a b is) (up_itself a) in
-        absurd (false≢true (sym up ∙ ap is_lt less))
+    by true is = absurd (above (subst (λ (t : Token). IsUpTo t a) (same_token a b is) (up_itself a)))
 
 -- no tap is told
 pub told_begun : (fares : Fares) (known : List (Option (List ℕ))) (earlier : List Entry)
@@ -143,7 +141,7 @@ module _ (fares : Fares) (known : List (Option (List ℕ))) (earlier : List Entr
       let come = so_far.told.come.up in
       let made = follows.lines entries
       (none_below entries teller.token range.first come up
-      (below_apart teller.token range.first follows.above))
+      (below_apart teller.token range.first (λ up. false≢true (sym up ∙ ap is_lt follows.above))))
       (up_weaker entries teller.token range.first come up) in
       told_more readers next.readers.items teller range.teller bytes more so_far range.first made.taps
       range.lines.items

@@ -1,8 +1,14 @@
 -- Options: what private functions alone cite.
-use Rattle.std.specs.Prelude.{map}
-use Rattle.std.specs.Prelude.{option_map}
+use Rattle.std.specs.Prelude.{◌≡◌, ◌&&◌, Bool, codes, false, is_some, map, not, option_and_then}
+use Rattle.std.specs.Prelude.{option_map, true}
+use Rattle.std.specs.Option.{option_map_or}
+use Rattle.std.specs.Str.{bytes_eq}
+use Rattle.clap.specs.Words.{Row, Text, first_of}
+use Rattle.program_manners.specs.ListWords.{lacks_list}
+use Rattle.program_manners.specs.declared.file_list.ListFault.{ListFault}
+use Rattle.program_manners.specs.declared.file_list.ListFault.TheVariants.{InputTwice, NullAlone}
 use Rattle.omny_audit.specs.declared.options.Options.{Options}
-use Rattle.omny_audit.specs.Options.{AuditAsked}
+use Rattle.omny_audit.specs.Options.{AuditAsked, not_dash}
 
 -- what the options ask for
 abbrev pub audit_asked_of : Options → AuditAsked
@@ -13,3 +19,53 @@ audit_asked_of options = record {
   report = option_map (λ f. f.now) options.report;
   ledger = option_map (λ f. f.now) options.ledger;
 }
+
+-- whether a list of this name is standard input, and so is the ledger, of which no file is named
+abbrev pub are_input : Text → Bool → Bool
+are_input list has_ledger = bytes_eq list (codes "-") && not has_ledger
+
+-- whether the words name a list, and it and the ledger are standard input
+abbrev pub reads_input_twice : List Row → Bool
+reads_input_twice rows = option_map_or (λ list. are_input list
+    (is_some (option_and_then not_dash (first_of (codes "LEDGER") rows))))
+    (first_of (codes "files-from") rows) false
+
+-- nothing is wrong with what the words say of a list
+abbrev pub IsRightList : List Row → Type 0
+IsRightList rows = (lacks_list rows ≡ false) × (reads_input_twice rows ≡ false)
+
+-- what is wrong with what the words say of a list
+abbrev pub IsWrongList : ListFault → List Row → Type 0
+IsWrongList NullAlone rows = lacks_list rows ≡ true
+IsWrongList InputTwice rows = reads_input_twice rows ≡ true
+IsWrongList _ rows = ⊥
+
+-- what a command line asks for
+pub record AuditAsked : Type 0 where
+  pub table : Text
+  pub all : Bool
+  pub uploads : List Text
+  pub report : Option Text
+  pub ledger : Option Text
+
+-- the words' table, which no command line goes without; whether all wrong lines are asked for; their
+-- uploads, in order; the file of the report, if one is named; and that of the ledger, if one is named
+abbrev pub audit_asked_by : List Text → AuditAsked
+audit_asked_by words = record {
+  table = unwrap_or (first_of (codes "table") (matches_of audit_program words)) [];
+  all = is_given (codes "all") (matches_of audit_program words);
+  uploads = unwrap_or (all_of (codes "uploads") (matches_of audit_program words)) [];
+  report = first_of (codes "report") (matches_of audit_program words);
+  ledger = option_and_then not_dash (first_of (codes "LEDGER") (matches_of audit_program words));
+}
+
+-- the file that is named, if any
+abbrev pub named_file : Option Text → List Text
+named_file None = []
+named_file (Some name) = name ∷ []
+
+-- the files that are asked for: the table, the uploads in order, the report and the ledger
+abbrev pub files_of : AuditAsked → List Text
+files_of asked =
+    asked.table ∷ ((asked.uploads ++ named_file asked.report)
+    ++ unwrap_or asked.ledger (codes "standard input") ∷ [])

@@ -8,7 +8,8 @@ use Rattle.program_manners.specs.ListWords.{list_asked, view_of}
 use Rattle.program_manners.specs.declared.file_list.ListFault.{ListFault}
 use Rattle.program_manners.specs.declared.file_list.NameEnd.{NameEnd}
 use Rattle.program_manners.specs.declared.list_words.ListWords.{ListWords}
-use Rattle.omny_audit.specs.Options.{IsWrongList, are_input, not_dash, reads_input_twice}
+use Rattle.omny_audit.specs.Options.{not_dash}
+use Rattle.omny_audit.specs.inside.Options.{IsWrongList, are_input, reads_input_twice}
 use Rattle.omny_audit.proofs.options.list_in.Goals as goal
 
 -- the name of a list that is asked for is given

@@ -4,7 +4,7 @@ use Rattle.std.proofs.lemmas.Result.{IfErr-weaker}
 use Rattle.clap.specs.Words.{Row}
 use Rattle.program_manners.proofs.Refusals.{only_memory}
 use Rattle.program_manners.specs.ListWords.{list_asked, view_of}
-use Rattle.omny_audit.specs.Options.{IsRightList, IsWrongList}
+use Rattle.omny_audit.specs.inside.Options.{IsRightList, IsWrongList}
 use Rattle.omny_audit.proofs.options.list_words.Goals as goal
 
 pub returns-in-Ok-clause-list : goal.returns-in-Ok-clause-list
