@@ -49,3 +49,33 @@ AsksForAuditText words =
 -- nothing for `-`, which stands for standard input
 abbrev pub not_dash : Text → Option Text
 not_dash text = if bytes_eq text (codes "-") then None else Some text
+
+-- what a command line asks for
+pub record AuditAsked : Type 0 where
+  pub table : Text
+  pub all : Bool
+  pub uploads : List Text
+  pub report : Option Text
+  pub ledger : Option Text
+
+-- the words' table, which no command line goes without; whether all wrong lines are asked for; their
+-- uploads, in order; the file of the report, if one is named; and that of the ledger, if one is named
+abbrev pub audit_asked_by : List Text → AuditAsked
+audit_asked_by words = record {
+  table = unwrap_or (first_of (codes "table") (matches_of audit_program words)) [];
+  all = is_given (codes "all") (matches_of audit_program words);
+  uploads = unwrap_or (all_of (codes "uploads") (matches_of audit_program words)) [];
+  report = first_of (codes "report") (matches_of audit_program words);
+  ledger = option_and_then not_dash (first_of (codes "LEDGER") (matches_of audit_program words));
+}
+
+-- the file that is named, if any
+abbrev pub named_file : Option Text → List Text
+named_file None = []
+named_file (Some name) = name ∷ []
+
+-- the files that are asked for: the table, the uploads in order, the report and the ledger
+abbrev pub files_of : AuditAsked → List Text
+files_of asked =
+    asked.table ∷ ((asked.uploads ++ named_file asked.report)
+    ++ unwrap_or asked.ledger (codes "standard input") ∷ [])
