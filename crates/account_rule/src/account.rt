@@ -38,12 +38,12 @@ const TRANSFER_TIME_MS: u64 = 7_200_000;
 pub struct Account {
     /// The moment of the last live tap.
     last: u64,
+    /// The moment of the last ride.
+    ride: u64,
     /// Whether there was a live tap: the first one is a ride and so opens a window. Before it, no
     /// other field says anything.
     has_window: bool,
-    /// The moment of the last ride.
-    ride: u64,
-    /// How many transfers followed it.
+    /// How many transfers followed the last ride.
     given: u8,
     /// The mode of the last live tap.
     mode: Mode,

@@ -22,7 +22,7 @@ use Rattle.tap_views.proofs.ReadingLemmas.{one_list}
 use Rattle.fare_table.specs.Fares.{Fares, mode_at}
 use Rattle.account_rule.specs.Laws.{is_ride}
 use Rattle.account_rule.specs.Replies.{replies}
-use Rattle.account_rule.specs.TokenRules.{rules_of}
+use Rattle.account_rule.specs.TokenRules.{rules_of, transfers_of}
 use Rattle.account_rule.specs.declared.tap.TapIn.{TapIn}
 use Rattle.shard_book.specs.Entry.{mode_of_place, tap_of, taps_of}
 use Rattle.shard_book.specs.declared.entry.Entry.{Entry}
@@ -45,7 +45,13 @@ use Rattle.bill_laws.proofs.Alike.{alike-filter, alike-without, moved_all, moved
 use Rattle.bill_laws.proofs.Alike.{pairs_behind, pairs_without, permuted_alike, split_at}
 use Rattle.bill_laws.proofs.OwnTaps.{own_after, tap_in, taps_after}
 use Rattle.bill_laws.proofs.Posts.{after, plain_is_after}
-use Rattle.bill_laws.proofs.Rides.{IsBehind, no_fewer_rides}
+use Rattle.bill_laws.proofs.Rides.{GiveOneAtMost, IsBehind, no_fewer_rides}
+
+-- each ride gives one transfer
+gives_one : (fares : Fares) (token : Token)
+    → GiveOneAtMost (rules_of fares (bytes_of token)).transfers
+unfolding rules_of transfers_of
+gives_one fares token tap = omega arith
 
 -- the number of rides of a token, by the fields of its taps
 rides_by : Fares → Token → List TapFields → ℕ
@@ -128,7 +134,7 @@ module _ (fares : Fares) (token : Token) (x : TapFields) where
       let rules = rules_of fares (bytes_of token) in
       let t = map (tap_in fares) in
       let rides : List TapIn → ℕ = λ ts. count_by is_ride (replies rules ts) in
-      let least = no_fewer_rides rules (tap_in fares x) (t front) (t back) behind in
+      let least = no_fewer_rides rules (gives_one fares token) (tap_in fares x) (t front) (t back) behind in
       let fewer : rides (t xs) ≡ rides (t front ++ t back) =
       ap (λ fs. rides (t fs)) list ∙ ap rides (map-append (tap_in fares) front back) in
       let rest : rides (t ys) ≡ rides (t front ++ tap_in fares x ∷ t back) =

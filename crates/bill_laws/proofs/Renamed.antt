@@ -93,7 +93,7 @@ have_bytes token (f ∷ fs) names are =
 
 -- ---- the same terms, the same rules
 with_terms_of : Fares → Terms → TokenRules
-with_terms_of fares terms = record (rules_of fares []) { terms = terms }
+with_terms_of fares terms = record (rules_of fares []) { terms = λ ride. terms }
 
 same_rules : (fares : Fares) (token other : Token) → HaveSameTerms fares token other
     → rules_of fares (bytes_of token) ≡ rules_of fares (bytes_of other)

@@ -24,7 +24,7 @@ returns-clause-lacks c = λ earlier told.
     ap (λ (t : TapIn). t.mode) (tap_of-post fares c.args.entry.now c.mode_of.result
     c.mode_of.ensures.mode) ∙ c.in_ok-mode.was in
     rw mode (ap (λ (n : NoTransfer). Some n)
-    (c.no_transfer.ensures.lacks (rules_of fares (bytes_of c.args.self.now.token))
+    (c.no_transfer.ensures.lacks fares (bytes_of c.args.self.now.token)
     (map (tap_of fares) earlier) told.stands))
 
 pub returns-clause-modes : goal.returns-clause-modes
