@@ -31,15 +31,15 @@ pub none-first : (rules : TokenRules) (kept : Option Kept) (taps : List TapIn) (
 unfolding no_transfer no_transfer_from kept_trip
 none-first rules kept taps moment mode fresh keeps =
     let none : None ≡ last_trip rules taps = ap kept_trip (sym fresh) ∙ keeps.trip in
-    ap (λ trip. no_transfer_from rules trip (live_at moment mode)) none
+    ap (λ trip. no_transfer_from rules.transfers trip (live_at moment mode)) none
 
 pub none-kept : (rules : TokenRules) (kept : Option Kept) (state : Kept) (taps : List TapIn)
     (moment : ℕ) (mode : Mode) → kept ≡ Some state → KeepsOf rules kept taps
-    → no_transfer_from rules (kept_trip (Some state)) (live_at moment mode)
+    → no_transfer_from rules.transfers (kept_trip (Some state)) (live_at moment mode)
     ≡ no_transfer rules taps moment mode
 unfolding no_transfer
 none-kept rules kept state taps moment mode is keeps =
-    ap (λ trip. no_transfer_from rules trip (live_at moment mode))
+    ap (λ trip. no_transfer_from rules.transfers trip (live_at moment mode))
     (ap kept_trip (sym is) ∙ keeps.trip)
 
 -- of a ride what is said is so
@@ -81,7 +81,7 @@ spent-lacks rules taps tap trip is all =
 
 trip-lacks : (rules : TokenRules) (taps : List TapIn) (tap : LiveTap) (trip : TripEnd)
     → last_trip rules taps ≡ Some trip → gives rules.transfers (Some trip) tap ≡ false
-    → Lacks rules taps tap (no_transfer_from rules (Some trip) tap)
+    → Lacks rules taps tap (no_transfer_from rules.transfers (Some trip) tap)
 unfolding no_transfer_from
 trip-lacks rules taps tap trip is none =
     elim (cases_Bool (ltb (rules.transfers.time tap) (tap.moment - trip.last.moment))) [
@@ -116,7 +116,7 @@ trip-lacks rules taps tap trip is none =
     ]
 
 first-lacks : (rules : TokenRules) (taps : List TapIn) (tap : LiveTap)
-    → last_trip rules taps ≡ None → Lacks rules taps tap (no_transfer_from rules None tap)
+    → last_trip rules taps ≡ None → Lacks rules taps tap (no_transfer_from rules.transfers None tap)
 unfolding no_transfer_from
 first-lacks rules taps tap none =
     no-last (live taps)
@@ -131,7 +131,7 @@ lacks-live rules taps tap mode known later ride =
     let shown = live_at tap.moment mode in
     let pushed = ends_in_transfer-push rules taps tap shown (is_live taps tap mode known later) in
     elim (last_trip rules taps) as (λ found. last_trip rules taps ≡ found
-    → Lacks rules taps shown (no_transfer_from rules found shown)) [
+    → Lacks rules taps shown (no_transfer_from rules.transfers found shown)) [
       | None ↦ λ none. first-lacks rules taps shown none
       | Some trip ↦ λ is. trip-lacks rules taps shown trip is
           (ap (λ t. gives rules.transfers t shown) (sym is) ∙ sym pushed ∙ ride)

@@ -8,7 +8,7 @@ use Rattle.std.specs.List.{last_or}
 use Rattle.std.specs.Option.{option_and_then}
 use Rattle.std.proofs.lemmas.Bool.{ltb-true, lt-ltb, le-ltb}
 use Rattle.fare_table.specs.declared.mode.Mode.{Mode}
-use Rattle.fare_table.specs.Terms.{AreBoundedTerms}
+use Rattle.fare_table.specs.Terms.{AreRideTerms}
 use Rattle.fare_table.specs.declared.terms.Terms.{Terms}
 use Rattle.account_rule.specs.declared.account.Account.{Account}
 use Rattle.account_rule.specs.declared.reply.Answer.TheVariants.{Transfer, Stale, Unknown}
@@ -19,7 +19,7 @@ use Rattle.account_rule.specs.Trips.{TripEnd, ends_in_transfer, last_trip}
 use Rattle.account_rule.specs.Blocks.{last_block}
 use Rattle.account_rule.specs.Replies.{live_reply, reply, reply_with, ride_reply}
 use Rattle.account_rule.specs.TokenRules.{TokenRules, TransferRules}
-use Rattle.account_rule.specs.Kept.{IsRoomy, KeepsTerms, Kept, kept_numbers, is_after, kept_of}
+use Rattle.account_rule.specs.Kept.{IsClass, IsRoomy, Kept, kept_numbers, is_after, kept_of}
 use Rattle.account_rule.specs.Kept.{kept_trip, kept_window}
 use Rattle.account_rule.specs.inside.Kept.{gives, open_window, window_at, with_ride}
 use Rattle.account_rule.specs.Stands.{KeepsOf, Stands, window_of}
@@ -65,7 +65,7 @@ same rules state taps tap stands none later = record {
   last = λ moment. stands.last moment ∙ sym (later moment);
   trip = rw (trip-same rules taps tap none) stands.trip;
   window = rw (windows-same rules taps tap none) stands.window;
-  terms = stands.terms;
+  class = stands.class;
   mode = stands.mode;
   ride_mode = stands.ride_mode;
   room = stands.room;
@@ -193,10 +193,10 @@ later_live state taps tap mode moment last known later =
     sym (is_later-push taps tap moment
     ∙ rw (known, ← last moment) (both state tap.moment moment later))
 
-keeps_terms : (rules : TokenRules) (state next : Kept) → Some state ≡ Some next
-    → KeepsTerms rules state → KeepsTerms rules next
-keeps_terms rules state next some keeps =
-    let same : state ≡ next = cc in subst (λ s. KeepsTerms rules s) same keeps
+keeps_class : (rules : TokenRules) (state next : Kept) → Some state ≡ Some next
+    → IsClass rules state.class → IsClass rules next.class
+keeps_class rules state next some keeps =
+    let same : state ≡ next = cc in subst (λ (k : Kept). IsClass rules k.class) same keeps
 
 -- the state after a transfer
 abbrev pub after_transfer : Kept → LiveTap → Kept
@@ -204,17 +204,17 @@ after_transfer state tap = record {
   last = tap;
   ride = state.ride;
   given = state.given + 1;
-  terms = state.terms;
+  class = state.class;
   window = state.window;
 }
 
 -- the state after a ride
-abbrev pub after_trip : LiveTap → Terms → Window → Kept
-after_trip ride terms window = record {
+abbrev pub after_trip : LiveTap → ℕ → Window → Kept
+after_trip ride class window = record {
   last = ride;
   ride = ride;
   given = 0;
-  terms = terms;
+  class = class;
   window = window;
 }
 
@@ -234,13 +234,6 @@ ride_mode_of_trip : (rules : TokenRules) (trip : TripEnd) (tap : LiveTap)
     → Some trip.ride ≡ Some tap → tap.mode.place < rules.modes → trip.ride.mode.place < rules.modes
 ride_mode_of_trip rules trip tap is listed =
     let same : tap ≡ trip.ride = cc in subst (λ t. t.mode.place < rules.modes) same listed
-
-same_terms : (rules : TokenRules) (state next : Kept) → state.terms ≡ next.terms
-    → KeepsTerms rules state → KeepsTerms rules next
-same_terms rules state next same keeps = record {
-  same = λ ride. keeps.same ride ∙ same;
-  bounds = subst (λ t. AreBoundedTerms t) same keeps.bounds;
-}
 
 -- a live tap to which the last trip gives a transfer
 transfer_at : (rules : TokenRules) (state : Kept) (taps : List TapIn) (tap : TapIn) (mode : Mode)
@@ -267,8 +260,7 @@ transfer_at rules state taps tap mode stands known listed after given =
             (lt-ltb state.last.moment tap.moment after);
         trip = rw (trip-push rules taps tap _ shown, gives_it, ← stands.trip) refl;
         window = rw (windows-transfer rules taps tap _ shown ends) stands.window;
-        terms = λ next some. keeps_terms rules _ next some (same_terms rules state _ refl
-            (stands.terms state refl));
+        class = λ next some. keeps_class rules _ next some (stands.class state refl);
         mode = λ trip some. let same : tap_of_trip (Some trip) ≡ Some (live_at tap.moment mode) =
             ap tap_of_trip (sym some) in mode_of_trip rules trip (live_at tap.moment mode) same listed;
         ride_mode = λ trip some.
@@ -292,18 +284,18 @@ transfer rules account state next taps tap mode same stands known listed after g
 
 -- a live tap to which no transfer is given
 ride_at : (rules : TokenRules) (state : Option Kept) (taps : List TapIn) (tap : TapIn) (mode : Mode)
-    (terms : Terms) (window : Window)
+    (class : ℕ) (terms : Terms) (window : Window)
     → KeepsOf rules state taps
     → tap.mode ≡ Some mode → mode.place < rules.modes → is_after state tap.moment ≡ true
     → gives rules.transfers (kept_trip state) (live_at tap.moment mode) ≡ false
     → window ≡ window_at (kept_window state) tap.moment (rules.until tap.moment)
-    → IsRoomy window
-    → ((ride : LiveTap) → rules.terms ride ≡ terms) → AreBoundedTerms terms
+    → IsRoomy window → IsClass rules class
+    → rules.terms (live_at tap.moment mode) ≡ terms → AreRideTerms terms
     → IsStep rules taps tap (ride_reply (paid_by (charge terms window.rides window.cents)))
-    (Some (after_trip (live_at tap.moment mode) terms (with_ride terms window)))
+    (Some (after_trip (live_at tap.moment mode) class (with_ride terms window)))
 unfolding is_after kept_trip kept_window live_at
-ride_at rules state taps tap mode terms window stands known listed after not_given at roomy same
-    bounds =
+ride_at rules state taps tap mode class terms window stands known listed after not_given at roomy its
+    same bounds =
     let later : is_later taps tap.moment ≡ true = sym (stands.last tap.moment) ∙ after in
     let shown : live_tap taps tap ≡ Some (live_at tap.moment mode) =
     is_live taps tap mode known later in
@@ -320,7 +312,7 @@ ride_at rules state taps tap mode terms window stands known listed after not_giv
           ∙ rw (
             last_window-ride rules taps tap _ shown ends,
             charge-after rules (last_block (windows rules taps)) (live_at tap.moment mode) terms
-                (same (live_at tap.moment mode)) bounds,
+                same bounds,
             ←
                 same_window,
           ) refl);
@@ -330,12 +322,11 @@ ride_at rules state taps tap mode terms window stands known listed after not_giv
         window = rw (
           last_window-ride rules taps tap _ shown ends,
           window_of-after rules (last_block (windows rules taps)) (live_at tap.moment mode) terms
-              (same (live_at tap.moment mode)) bounds,
+              same bounds,
           ←
               same_window,
         ) refl;
-        terms = λ next some. keeps_terms rules _ next some
-            (record { same = same; bounds = bounds });
+        class = λ next some. keeps_class rules _ next some its;
         mode = λ trip some. let is : tap_of_trip (Some trip) ≡ Some (live_at tap.moment mode) =
             ap tap_of_trip (sym some) in mode_of_trip rules trip (live_at tap.moment mode) is listed;
         ride_mode = λ trip some.
@@ -378,10 +369,10 @@ kept_room rules account state taps same stands =
     let kept : KeepsOf rules (Some state) taps = at_state rules account state taps same stands in
     kept.room state.window refl
 
--- what a token that has an account pays is what the account keeps
-pub kept_terms : (rules : TokenRules) (account : Option Kept) (state : Kept) (taps : List TapIn)
-    → account ≡ Some state → KeepsOf rules account taps → KeepsTerms rules state
-kept_terms rules account state taps same stands = stands.terms state same
+-- what an account keeps has the token's class
+pub kept_class : (rules : TokenRules) (account : Option Kept) (state : Kept) (taps : List TapIn)
+    → account ≡ Some state → KeepsOf rules account taps → IsClass rules state.class
+kept_class rules account state taps same stands = stands.class state same
 
 -- the window of a ride in an account that has a window, and of a first ride
 pub at_kept : (account : Option Kept) (state : Kept) (start until : ℕ) → account ≡ Some state
@@ -396,44 +387,46 @@ at_fresh account start until fresh = rw fresh refl
 
 -- a ride of an account that has a window
 pub next_ride : (rules : TokenRules) (account : Option Kept) (state next : Kept) (taps : List TapIn)
-    (tap : TapIn) (mode : Mode) (until : ℕ)
+    (tap : TapIn) (mode : Mode) (until : ℕ) (terms : Terms)
     → account ≡ Some state → KeepsOf rules account taps
     → tap.mode ≡ Some mode → mode.place < rules.modes → until ≡ rules.until tap.moment
     → GivesNone rules.transfers account tap mode
-    → next ≡ after_trip (live_at tap.moment mode) state.terms
-    (with_ride state.terms (window_at (Some state.window) tap.moment until))
-    → IsStep rules taps tap (ride_reply (paid_by (charge state.terms
+    → rules.terms (live_at tap.moment mode) ≡ terms → AreRideTerms terms
+    → next ≡ after_trip (live_at tap.moment mode) state.class
+    (with_ride terms (window_at (Some state.window) tap.moment until))
+    → IsStep rules taps tap (ride_reply (paid_by (charge terms
     (window_at (Some state.window) tap.moment until).rides
     (window_at (Some state.window) tap.moment until).cents))) (Some next)
-next_ride rules account state next taps tap mode until same stands known listed limit none is_next =
-    let kept = kept_terms rules account state taps same stands in
+next_ride rules account state next taps tap mode until terms same stands known listed limit none its
+    bounds is_next =
+    let class = kept_class rules account state taps same stands in
     let room = kept_room rules account state taps same stands in
-    subst (λ s. IsStep rules taps tap (ride_reply (paid_by (charge state.terms
+    subst (λ s. IsStep rules taps tap (ride_reply (paid_by (charge terms
     (window_at (Some state.window) tap.moment until).rides
     (window_at (Some state.window) tap.moment until).cents))) (Some s)) (sym is_next)
-    (ride_at rules account taps tap mode state.terms
+    (ride_at rules account taps tap mode state.class terms
     (window_at (Some state.window) tap.moment until) stands known listed none.after none.none
     (at_kept account state tap.moment until same
     ∙ ap (λ u. window_at (kept_window account) tap.moment u) limit)
-    (room-at state.window tap.moment until room) kept.same kept.bounds)
+    (room-at state.window tap.moment until room) class its bounds)
 
 -- the first ride of an account
 pub first_ride : (rules : TokenRules) (account next : Option Kept) (taps : List TapIn) (tap : TapIn)
-    (mode : Mode) (until : ℕ) (terms : Terms) (answered : Reply)
+    (mode : Mode) (until class : ℕ) (terms : Terms) (answered : Reply)
     → account ≡ None → KeepsOf rules account taps
     → tap.mode ≡ Some mode → mode.place < rules.modes → until ≡ rules.until tap.moment
-    → ((ride : LiveTap) → rules.terms ride ≡ terms) → AreBoundedTerms terms
+    → IsClass rules class → rules.terms (live_at tap.moment mode) ≡ terms → AreRideTerms terms
     → answered ≡ ride_reply (paid_by (charge terms (open_window tap.moment until).rides
     (open_window tap.moment until).cents))
-    → next ≡ Some (after_trip (live_at tap.moment mode) terms
+    → next ≡ Some (after_trip (live_at tap.moment mode) class
     (with_ride terms (open_window tap.moment until)))
     → IsStep rules taps tap answered next
-first_ride rules account next taps tap mode until terms answered fresh stands known listed limit same
-    bounds is_reply is_next =
+first_ride rules account next taps tap mode until class terms answered fresh stands known listed limit
+    its same bounds is_reply is_next =
     let none = gives_none-fresh rules.transfers account tap mode fresh in
     rw (is_reply, is_next)
-    (ride_at rules account taps tap mode terms (open_window tap.moment until) stands known listed
-    none.after none.none
+    (ride_at rules account taps tap mode class terms (open_window tap.moment until) stands known
+    listed none.after none.none
     (at_fresh account tap.moment until fresh
     ∙ ap (λ u. window_at (kept_window account) tap.moment u) limit)
-    (room-open tap.moment until) same bounds)
+    (room-open tap.moment until) its same bounds)

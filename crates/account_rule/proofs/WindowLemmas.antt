@@ -3,7 +3,7 @@ use Rattle.std.proofs.Common.{◌≡◌, ℕ, suc, ◌+◌, ◌≤◌, true, fal
 use Rattle.std.proofs.Common.{min, ltb, Some, None, option_map, IfSome, refl, ap, arith}
 use Rattle.std.proofs.Common.{inl, inr, All}
 use Rattle.std.specs.List.{last_or}
-use Rattle.fare_table.specs.Terms.{AreBoundedTerms}
+use Rattle.fare_table.specs.Terms.{AreRideTerms}
 use Rattle.fare_table.specs.declared.terms.Terms.{Terms}
 use Rattle.account_rule.specs.declared.window.Window.{Window}
 use Rattle.account_rule.specs.Kept.{IsRoomy}
@@ -42,7 +42,7 @@ none_yet rules start = refl
 
 -- one more ride is counted as the account counts it
 numbers-push : (rules : TokenRules) (start : ℕ) (window : List LiveTap) (ride : LiveTap)
-    (terms : Terms) → rules.terms ride ≡ terms → AreBoundedTerms terms
+    (terms : Terms) → rules.terms ride ≡ terms → AreRideTerms terms
     → numbers rules start (window ++ ride ∷ []) ≡ with_ride terms (numbers rules start window)
 unfolding with_ride
 numbers-push rules start window ride terms same bounds =
@@ -57,7 +57,7 @@ numbers-push rules start window ride terms same bounds =
 
 -- the numbers of the window after a ride are those before it with the ride counted
 pub window_of-after : (rules : TokenRules) (window : List LiveTap) (ride : LiveTap) (terms : Terms)
-    → rules.terms ride ≡ terms → AreBoundedTerms terms
+    → rules.terms ride ≡ terms → AreRideTerms terms
     → window_of rules (after_ride rules window ride)
     ≡ Some (with_ride terms
     (window_at (window_of rules window) ride.moment (rules.until ride.moment)))
@@ -78,7 +78,7 @@ window_of-after rules (first ∷ window) ride terms same bounds =
 
 -- the charge of a ride behind others
 charge-behind : (rules : TokenRules) (start : ℕ) (window : List LiveTap) (ride : LiveTap)
-    (terms : Terms) → rules.terms ride ≡ terms → AreBoundedTerms terms
+    (terms : Terms) → rules.terms ride ≡ terms → AreRideTerms terms
     → last_or None (charges rules.terms (window ++ ride ∷ []))
     ≡ Some (charge terms (numbers rules start window).rides (numbers rules start window).cents)
 charge-behind rules start window ride terms same bounds =
@@ -90,7 +90,7 @@ charge-behind rules start window ride terms same bounds =
 
 -- the ride costs what the counted rides say
 pub charge-after : (rules : TokenRules) (window : List LiveTap) (ride : LiveTap) (terms : Terms)
-    → rules.terms ride ≡ terms → AreBoundedTerms terms
+    → rules.terms ride ≡ terms → AreRideTerms terms
     → last_or None (charges rules.terms (after_ride rules window ride))
     ≡ Some (charge terms
     (window_at (window_of rules window) ride.moment (rules.until ride.moment)).rides
@@ -125,7 +125,7 @@ room-at window moment until room =
       | false ↦ room-open moment until
     ]
 
-pub room-ride : (terms : Terms) (window : Window) → AreBoundedTerms terms → IsRoomy window
+pub room-ride : (terms : Terms) (window : Window) → AreRideTerms terms → IsRoomy window
     → IsRoomy (with_ride terms window)
 unfolding with_ride
 room-ride terms window bounds room = elim (charged terms window.rides window.cents) [

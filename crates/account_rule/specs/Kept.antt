@@ -1,8 +1,6 @@
 -- What an account keeps, and what its private functions make of it.
-use Rattle.std.specs.Prelude.{◌≡◌, ℕ, ◌≤◌, Bool, true, if◌then◌else◌, nat_lt, Option, Some, None}
+use Rattle.std.specs.Prelude.{◌≡◌, ℕ, ◌<◌, ◌≤◌, Bool, true, if◌then◌else◌, nat_lt, Option, Some, None}
 use Rattle.std.specs.Prelude.{option_map}
-use Rattle.fare_table.specs.Terms.{AreBoundedTerms}
-use Rattle.fare_table.specs.declared.terms.Terms.{Terms}
 use Rattle.account_rule.specs.declared.account.Account.{Account}
 use Rattle.account_rule.specs.declared.window.Window.{Window}
 use Rattle.account_rule.specs.Taps.{LiveTap, live_at}
@@ -17,8 +15,8 @@ pub record Kept : Type 0 where
   pub ride : LiveTap
   -- how many transfers followed it
   pub given : ℕ
-  -- the token's terms
-  pub terms : Terms
+  -- the place of the token's class
+  pub class : ℕ
   pub window : Window
 
 -- what stands in the account's fields
@@ -28,7 +26,7 @@ kept_numbers account =
       last = live_at account.last account.mode;
       ride = live_at account.ride account.ride_mode;
       given = account.given;
-      terms = account.terms;
+      class = account.class;
       window = account.window;
     }
 
@@ -51,10 +49,10 @@ kept_trip (Some state) =
 unfoldable pub kept_window : Option Kept → Option Window
 kept_window state = option_map (λ s. s.window) state
 
--- the terms that are kept are the token's for each ride
-pub record KeepsTerms (rules : TokenRules) (state : Kept) : Type 0 where
-  pub same : (ride : LiveTap) → rules.terms ride ≡ state.terms
-  pub bounds : AreBoundedTerms state.terms
+-- the class at the place is the token's, and there is one
+pub record IsClass (rules : TokenRules) (class : ℕ) : Type 0 where
+  pub is : class ≡ rules.class
+  pub there : class < rules.classes
 
 -- the numbers of the window leave room for one more ride
 pub record IsRoomy (window : Window) : Type 0 where

@@ -10,7 +10,7 @@ use Rattle.account_rule.specs.declared.reason.Charge.{Charge}
 use Rattle.account_rule.specs.declared.reason.Reason.TheVariants.{Ride}
 use Rattle.account_rule.specs.declared.tap.TapIn.{TapIn}
 use Rattle.account_rule.specs.Reasons.{reason}
-use Rattle.account_rule.specs.TokenRules.{TokenRules}
+use Rattle.account_rule.specs.TokenRules.{TokenRules, TransferRules}
 use Rattle.account_rule.specs.Trips.{TripEnd, last_trip}
 use Rattle.account_rule.specs.Taps.{LiveTap, live, live_at}
 
@@ -19,20 +19,20 @@ abbrev pub spent_from : TripEnd → NoTransfer
 spent_from trip = if nat_eq trip.given 0 then NoneGiven else AfterTransfer trip.last.moment
 
 -- why the last trip, if there is one, gives no transfer to a ride
-unfoldable pub no_transfer_from : TokenRules → Option TripEnd → LiveTap → NoTransfer
+unfoldable pub no_transfer_from : TransferRules → Option TripEnd → LiveTap → NoTransfer
 no_transfer_from rules None ride = FirstTap
 no_transfer_from rules (Some trip) ride =
-    if nat_lt (rules.transfers.time ride) (ride.moment - trip.last.moment)
+    if nat_lt (rules.time ride) (ride.moment - trip.last.moment)
     then TooLate trip.last.moment
-    else (if nat_le (rules.transfers.count ride) trip.given then spent_from trip
-    else (if nat_lt (rules.transfers.time ride) (ride.moment - trip.ride.moment)
+    else (if nat_le (rules.count ride) trip.given then spent_from trip
+    else (if nat_lt (rules.time ride) (ride.moment - trip.ride.moment)
     then RideTooLate trip.ride.moment
     else NotPermitted trip.last.mode ride.mode))
 
 -- why a ride at the moment, on the mode, is no transfer after its token's earlier taps
 unfoldable pub no_transfer : TokenRules → List TapIn → ℕ → Mode → NoTransfer
 no_transfer rules earlier moment mode =
-    no_transfer_from rules (last_trip rules earlier) (live_at moment mode)
+    no_transfer_from rules.transfers (last_trip rules earlier) (live_at moment mode)
 
 -- what each says of the ride and of the last trip before it
 abbrev pub Lacks : TokenRules → List TapIn → LiveTap → NoTransfer → Type 0

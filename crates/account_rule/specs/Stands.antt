@@ -6,7 +6,7 @@ use Rattle.account_rule.specs.declared.tap.TapIn.{TapIn}
 use Rattle.account_rule.specs.declared.window.Window.{Window}
 use Rattle.account_rule.specs.Trips.{last_trip}
 use Rattle.account_rule.specs.Blocks.{last_block}
-use Rattle.account_rule.specs.Kept.{IsRoomy, KeepsTerms, Kept, is_after, kept_of, kept_trip, kept_window}
+use Rattle.account_rule.specs.Kept.{IsClass, IsRoomy, Kept, is_after, kept_of, kept_trip, kept_window}
 use Rattle.account_rule.specs.TokenRules.{TokenRules}
 use Rattle.account_rule.specs.Taps.{LiveTap, is_later}
 use Rattle.account_rule.specs.Windows.{paid_rides, window_cents, windows}
@@ -30,8 +30,8 @@ pub record KeepsOf (rules : TokenRules) (kept : Option Kept) (taps : List TapIn)
   pub trip : kept_trip kept ≡ last_trip rules taps
   -- its window is the last one
   pub window : kept_window kept ≡ window_of rules (last_block (windows rules taps))
-  -- its terms are the token's
-  pub terms : ForSome kept (KeepsTerms rules)
+  -- its class is the token's
+  pub class : ForSome kept (λ state. IsClass rules state.class)
   -- the modes that it keeps are the table's
   pub mode : ForSome (kept_trip kept) (λ trip. trip.last.mode.place < rules.modes)
   pub ride_mode : ForSome (kept_trip kept) (λ trip. trip.ride.mode.place < rules.modes)

@@ -2,7 +2,7 @@
 use Rattle.std.specs.Prelude.{ℕ, Bool, List, length}
 use Rattle.fare_table.specs.declared.mode.Mode.{Mode}
 use Rattle.fare_table.specs.declared.terms.Terms.{Terms}
-use Rattle.fare_table.specs.Fares.{Fares, is_permitted, terms_at}
+use Rattle.fare_table.specs.Fares.{Fares, class_of, is_permitted, ride_terms, transfer_terms}
 use Rattle.fare_table.specs.Until.{until}
 use Rattle.account_rule.specs.Taps.{LiveTap}
 
@@ -21,7 +21,11 @@ pub record TransferRules : Type 0 where
 pub record TokenRules : Type 0 where
   -- how many modes there are
   pub modes : ℕ
-  -- the terms of the token's rider class for a ride
+  -- how many rider classes there are
+  pub classes : ℕ
+  -- the place of the token's class
+  pub class : ℕ
+  -- the terms of the class for a ride
   pub terms : LiveTap → Terms
   -- which taps are transfers
   pub transfers : TransferRules
@@ -32,11 +36,11 @@ pub record TokenRules : Type 0 where
 unfoldable pub permits_of : Fares → Mode → LiveTap → Bool
 permits_of fares from tap = is_permitted fares from.place tap.mode.place
 
--- one transfer within two hours, where the table permits it
-unfoldable pub transfers_of : Fares → TransferRules
-transfers_of fares = record {
-  count = λ tap. 1;
-  time = λ tap. 7_200_000;
+-- as many transfers as the rides of the class give, within their time, where the table permits them
+unfoldable pub transfers_of : Fares → ℕ → TransferRules
+transfers_of fares class = record {
+  count = λ tap. (transfer_terms fares class).taps;
+  time = λ tap. (transfer_terms fares class).time;
   permits = permits_of fares;
 }
 
@@ -44,7 +48,9 @@ transfers_of fares = record {
 unfoldable pub rules_of : Fares → List ℕ → TokenRules
 rules_of fares token = record {
   modes = length fares.meaning.modes;
-  terms = λ ride. terms_at fares token;
-  transfers = transfers_of fares;
+  classes = length fares.meaning.classes;
+  class = class_of fares token;
+  terms = λ ride. ride_terms fares (class_of fares token) ride.mode.place;
+  transfers = transfers_of fares (class_of fares token);
   until = until fares;
 }

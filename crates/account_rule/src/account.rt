@@ -3,8 +3,8 @@
 ghost use Rattle.std.specs.Prelude.{◌≡◌, ℕ, ◌+◌, ◌<◌, ◌≤◌, List, [], ◌∷◌, ◌++◌, length, All, IfSome};
 ghost use Rattle.std.specs.Prelude.{IsTrue, Some};
 ghost use Rattle.std.specs.Option.{ForSome};
-ghost use Rattle.fare_table.specs.Terms.{AreBoundedTerms};
-ghost use Rattle.fare_table.specs.Fares.{terms_at};
+ghost use Rattle.fare_table.specs.Terms.{AreRideTerms};
+ghost use Rattle.fare_table.specs.Fares.{class_of, ride_terms};
 ghost use Rattle.fare_table.specs.Until.{window_end_in};
 ghost use Rattle.account_rule.specs.declared.tap.TapIn.{TapIn};
 ghost use Rattle.account_rule.specs.Replies.{reply, ride_reply};
@@ -21,14 +21,7 @@ mod explain;
 use crate::reply::{Answer, Reply};
 use crate::tap::TapIn;
 use crate::window::{Window, WindowView};
-use fare_table::{Clock, FareTable, Mode, Terms};
-
-/// How many transfers a ride gives (MTA, free transfers).
-const TRANSFERS: u8 = 1;
-
-/// For how long a ride gives transfers, in milliseconds: two hours (MTA, free transfers), the limit
-/// included (this project's choice).
-const TRANSFER_TIME_MS: u64 = 7_200_000;
+use fare_table::{Clock, FareTable, Mode};
 
 /// The account of one token under one table.
 ///
@@ -49,8 +42,8 @@ pub struct Account {
     mode: Mode,
     /// The mode of the last ride.
     ride_mode: Mode,
-    /// The token's terms, so that the table is asked for them once.
-    terms: Terms,
+    /// The place of the token's class, so that the table is asked for it once.
+    class: u32,
     /// The last window.
     window: Window,
 }
@@ -68,11 +61,7 @@ impl Account {
             given: 0,
             mode: Mode { place: 0 },
             ride_mode: Mode { place: 0 },
-            terms: Terms {
-                fare: 0,
-                rides: 0,
-                ceiling: 0,
-            },
+            class: 0,
             window: Window::open(0, 0),
         }
     }
@@ -82,7 +71,7 @@ impl Account {
     /// The table and the token are the same in all calls on an account, the clock is the table's,
     /// the tap's mode is one of the table's, and its moment lies before 2100-01-01T00:00Z. There is
     /// no order of moments to keep: a tap that comes too late is stale. The step takes no memory.
-    /// It asks the table for the token's terms at the first ride alone, and the clock for the
+    /// It asks the table for the token's class at the first ride alone, and the clock for the
     /// window's end where a ride opens a window. No reply costs more than the greatest fare of a
     /// table.
     #[inline(always)]
@@ -114,7 +103,7 @@ impl Account {
             self.take_transfer(mode, tap.moment);
             return Reply::free(Answer::Transfer);
         }
-        Reply::to_ride(self.take_ride(clock, mode, tap.moment))
+        Reply::to_ride(self.take_ride(table, clock, mode, tap.moment))
     }
 
     /// The last window, or `None` before the first ride: its paid rides and its cents are within
@@ -154,21 +143,25 @@ impl Account {
         moment: u64,
     ) -> Reply
         requires token { length token.now ≡ 16 }
+        requires mode { mode.place < length table.now.meaning.modes }
         requires early { moment < 4_102_444_800_000 }
-        ensures bounds { AreBoundedTerms self.new.terms }
-        ensures terms { self.new.terms ≡ terms_at table.now token.now }
+        ensures class { self.new.class ≡ class_of table.now token.now }
+        ensures there { self.new.class < length table.now.meaning.classes }
+        ensures bounds { AreRideTerms (ride_terms table.now self.new.class mode.place) }
         ensures reply { let window = open_window moment (window_end_in clock.now moment) in
-            result ≡ ride_reply (paid_by (charge self.new.terms window.rides window.cents)) }
+            result ≡ ride_reply (paid_by (charge (ride_terms table.now self.new.class mode.place)
+            window.rides window.cents)) }
         ensures state { kept_of self.new ≡ Some (record {
           last = live_at moment mode;
           ride = live_at moment mode;
           given = 0;
-          terms = self.new.terms;
-          window = with_ride self.new.terms
+          class = self.new.class;
+          window = with_ride (ride_terms table.now self.new.class mode.place)
               (open_window moment (window_end_in clock.now moment));
         }) }
     {
-        let terms = table.terms_of(token);
+        let class = table.class_of(token);
+        let terms = table.ride_terms(class, mode);
         let mut window = Window::opened(clock, moment);
         let cents = window.add_ride(terms);
         *self = Account {
@@ -178,7 +171,7 @@ impl Account {
             given: 0,
             mode,
             ride_mode: mode,
-            terms,
+            class,
             window,
         };
         Reply::to_ride(cents)
@@ -187,14 +180,16 @@ impl Account {
     /// Whether the last ride gives a transfer to a live tap at the moment, on the mode.
     #[tactic(auto, unfolding(crate::specs::TokenRules::transfers_of, crate::specs::TokenRules::permits_of, crate::specs::inside::Kept::gives, crate::specs::Kept::kept_trip, crate::specs::Taps::live_at))]
     fn gives_transfer(&self, table: &FareTable, moment: u64, mode: Mode) -> bool
+        requires class { self.now.class < length table.now.meaning.classes }
         requires from { self.now.mode.place < length table.now.meaning.modes }
         requires mode { mode.place < length table.now.meaning.modes }
-        ensures gives { result ≡ gives (transfers_of table.now)
+        ensures gives { result ≡ gives (transfers_of table.now self.now.class)
             (kept_trip (Some (kept_numbers self.now))) (live_at moment mode) }
         ensures few { IsTrue result → self.now.given < 9 }
     {
-        self.given < TRANSFERS
-            && moment.saturating_sub(self.ride) <= TRANSFER_TIME_MS
+        let gives = table.transfer_terms(self.class);
+        u32::from(self.given) < gives.taps
+            && moment.saturating_sub(self.ride) <= u64::from(gives.time)
             && table.permits(self.mode, mode)
     }
 
@@ -206,7 +201,7 @@ impl Account {
           last = live_at moment mode;
           ride = live_at self.old.ride self.old.ride_mode;
           given = self.old.given + 1;
-          terms = self.old.terms;
+          class = self.old.class;
           window = self.old.window;
         } }
     {
@@ -217,26 +212,35 @@ impl Account {
 
     /// Takes a live tap at the moment, on the mode, as a ride, and returns what it costs.
     #[tactic(auto, unfolding(crate::specs::inside::Kept::window_at, crate::specs::inside::Kept::open_window))]
-    fn take_ride(&mut self, clock: &Clock, mode: Mode, moment: u64) -> Option<u32>
+    fn take_ride(
+        &mut self,
+        table: &FareTable,
+        clock: &Clock,
+        mode: Mode,
+        moment: u64,
+    ) -> Option<u32>
+        requires class { self.old.class < length table.now.meaning.classes }
+        requires mode { mode.place < length table.now.meaning.modes }
         requires early { moment < 4_102_444_800_000 }
-        requires bounds { AreBoundedTerms self.old.terms }
         requires room { IsRoomy self.old.window }
+        ensures bounds { AreRideTerms (ride_terms table.now self.old.class mode.place) }
         ensures cost { let window = window_at (Some self.old.window) moment (window_end_in clock.now moment) in
-            result ≡ paid_by (charge self.old.terms window.rides window.cents) }
+            result ≡ paid_by (charge (ride_terms table.now self.old.class mode.place) window.rides
+            window.cents) }
         ensures has_window { self.new.has_window ≡ self.old.has_window }
         ensures state { kept_numbers self.new ≡ record {
           last = live_at moment mode;
           ride = live_at moment mode;
           given = 0;
-          terms = self.old.terms;
-          window = with_ride self.old.terms
+          class = self.old.class;
+          window = with_ride (ride_terms table.now self.old.class mode.place)
               (window_at (Some self.old.window) moment (window_end_in clock.now moment));
         } }
     {
         if moment >= self.window.until {
             self.window = Window::opened(clock, moment);
         }
-        let cents = self.window.add_ride(self.terms);
+        let cents = self.window.add_ride(table.ride_terms(self.class, mode));
         self.begin_trip(mode, moment);
         cents
     }
@@ -248,7 +252,7 @@ impl Account {
           last = live_at moment mode;
           ride = live_at moment mode;
           given = 0;
-          terms = self.old.terms;
+          class = self.old.class;
           window = self.old.window;
         } }
     {

@@ -1,7 +1,7 @@
 //! A window of rides, and what its next ride costs.
 
 ghost use Rattle.std.specs.Prelude.{◌≡◌, ◌+◌, ◌<◌, ◌≤◌, IfSome, is_some, unwrap_or};
-ghost use Rattle.fare_table.specs.Terms.{AreBoundedTerms};
+ghost use Rattle.fare_table.specs.Terms.{AreRideTerms};
 ghost use Rattle.fare_table.specs.Until.{window_end_in};
 ghost use Rattle.account_rule.specs.Kept.{IsRoomy};
 ghost use Rattle.account_rule.specs.inside.Kept.{next_reason, open_window, shown_of, with_ride};
@@ -85,7 +85,7 @@ impl Window {
     /// Counts one more ride, and returns what is paid for it, or `None` if a limit is reached.
     #[tactic(auto, unfolding(crate::specs::inside::Kept::with_ride, crate::specs::Windows::is_paid))]
     pub(crate) fn add_ride(&mut self, terms: Terms) -> Option<u32>
-        requires bounds { AreBoundedTerms terms }
+        requires bounds { AreRideTerms terms }
         requires room { IsRoomy self.old }
         ensures cost { result ≡ paid_by (charge terms self.old.rides self.old.cents) }
         ensures counts { self.new ≡ with_ride terms self.old }
@@ -102,7 +102,7 @@ impl Window {
     /// Why its next ride is answered as it is.
     #[tactic(auto, unfolding(crate::specs::inside::Kept::next_reason))]
     pub(crate) fn next_reason(self, terms: Terms) -> Reason
-        requires bounds { AreBoundedTerms terms }
+        requires bounds { AreRideTerms terms }
         requires room { IsRoomy self }
         ensures { result ≡ next_reason terms self }
     {
@@ -117,7 +117,7 @@ impl Window {
 /// What decides the cents of a ride, if its window has had `rides` rides, which cost `cents`.
 #[tactic(auto, unfolding(crate::specs::Windows::charge))]
 fn charge(terms: Terms, rides: u32, cents: u32) -> Charge
-    requires bounds { AreBoundedTerms terms }
+    requires bounds { AreRideTerms terms }
     requires low { cents ≤ 100_000_000 }
     ensures { result ≡ charge terms rides cents }
 {
@@ -142,7 +142,7 @@ fn charge(terms: Terms, rides: u32, cents: u32) -> Charge
 /// limit is reached. The numbers alone, since this runs at each ride.
 #[tactic(auto, unfolding(crate::specs::Windows::charge, crate::specs::Windows::is_paid))]
 fn paid(terms: Terms, rides: u32, cents: u32) -> Option<u32>
-    requires bounds { AreBoundedTerms terms }
+    requires bounds { AreRideTerms terms }
     requires low { cents ≤ 100_000_000 }
     ensures cost { result ≡ paid_by (charge terms rides cents) }
     ensures cents { unwrap_or result 0 ≡ charged_by (charge terms rides cents) }

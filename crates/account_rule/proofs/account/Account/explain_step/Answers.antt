@@ -1,20 +1,21 @@
 -- Each way out is one of the rule's four cases: unknown, stale, transfer, ride. The reason is that
 -- case's, and the account then stands for one tap more, as after a step.
-use Rattle.std.proofs.Common.{List, [], ◌∷◌, ◌++◌, Some, refl, sym, ap, ◌∙◌, arith}
+use Rattle.std.proofs.Common.{◌≡◌, List, [], ◌∷◌, ◌++◌, Some, refl, sym, ap, ◌∙◌, arith}
 use Rattle.account_rule.specs.declared.window.Window.{Window}
+use Rattle.fare_table.specs.Fares.{class_of, ride_terms}
 use Rattle.fare_table.specs.Until.{window_end_in}
 use Rattle.account_rule.specs.Replies.{reply_with, ride_reply}
 use Rattle.account_rule.specs.Windows.{charge, paid_by}
-use Rattle.account_rule.specs.inside.Kept.{window_at}
+use Rattle.account_rule.specs.inside.Kept.{gives, window_at}
 use Rattle.account_rule.specs.Kept.{kept_numbers, kept_of, kept_trip}
-use Rattle.account_rule.specs.TokenRules.{rules_of}
+use Rattle.account_rule.specs.TokenRules.{rules_of, transfers_of}
 use Rattle.account_rule.specs.Stands.{Stands, StandsForSome}
 use Rattle.account_rule.specs.Taps.{live_at}
 use Rattle.account_rule.specs.declared.tap.TapIn.{TapIn}
 use Rattle.account_rule.proofs.ReasonLemmas.{reason_unknown, why_ride, why_stale, why_transfer}
 use Rattle.account_rule.proofs.StepLemmas.{IsStep, at_fresh, at_kept, at_state, first_ride}
 use Rattle.account_rule.proofs.StepLemmas.{gives_none-fresh, gives_none-state, kept-fresh, kept-open}
-use Rattle.account_rule.proofs.StepLemmas.{kept_room, kept_terms, next_ride, stale, stands-open, transfer, unknown}
+use Rattle.account_rule.proofs.StepLemmas.{kept_class, kept_room, next_ride, stale, stands-open, transfer, unknown}
 use Rattle.account_rule.proofs.WindowLemmas.{room-open}
 use Rattle.account_rule.proofs.FareLemmas.{given-few, ride_reason-few}
 use Rattle.account_rule.proofs.account.Account.explain_step.Goals as goal
@@ -37,27 +38,31 @@ pub next_reason-first-requires-clause-room : goal.next_reason-first-requires-cla
 next_reason-first-requires-clause-room c = rw c.opened.ensures (room-open _ _)
 
 pub returns-then-not-self-clause-reason : goal.returns-then-not-self-clause-reason
-unfolding Stands rules_of
+unfolding Stands rules_of live_at
 returns-then-not-self-clause-reason c =
     λ taps stands. c.next_reason-first.ensures
     ∙ why_ride (rules_of c.args.table.now c.args.token.now) (kept_of c.args.self.now) taps
     c.args.tap c.in-Some.mode _ _ _ stands c.in-Some.is
     (ap (λ zone. window_end_in zone c.args.tap.moment) c.requires.clock)
     (gives_none-fresh _ _ c.args.tap c.in-Some.mode (kept-fresh _ c.if-not-self.true))
-    (λ ride. sym c.terms_of.ensures.terms) c.terms_of.ensures.bounds
+    (sym (c.ride_terms-terms.ensures.terms
+    ∙ ap (λ place. ride_terms c.args.table.now place c.in-Some.mode.place)
+    c.class_of.ensures.class)) c.ride_terms-terms.ensures.bounds
     (c.opened.ensures ∙ at_fresh _ _ _ (kept-fresh _ c.if-not-self.true))
 
 is_first_ride : (c : After-first_ride) (taps : List TapIn)
     → Stands (rules_of c.args.table.now c.args.token.now) c.args.self.now taps
     → IsStep (rules_of c.args.table.now c.args.token.now) taps c.args.tap c.first_ride.result
     (kept_of c.first_ride.new.self)
-unfolding rules_of Stands
+unfolding rules_of Stands live_at
 is_first_ride c taps stands =
     first_ride (rules_of c.args.table.now c.args.token.now) (kept_of c.args.self.now) _ taps
-    c.args.tap c.in-Some.mode _ _ _ (kept-fresh _ c.if-not-self.true) stands c.in-Some.is
+    c.args.tap c.in-Some.mode _ _ _ _ (kept-fresh _ c.if-not-self.true) stands c.in-Some.is
     (c.requires.mode _ c.in-Some.is)
     (ap (λ zone. window_end_in zone c.args.tap.moment) c.requires.clock)
-    (λ ride. sym c.first_ride.ensures.terms) c.first_ride.ensures.bounds
+    (record { is = c.first_ride.ensures.class; there = c.first_ride.ensures.there })
+    (ap (λ place. ride_terms c.args.table.now place c.in-Some.mode.place)
+    (sym c.first_ride.ensures.class)) c.first_ride.ensures.bounds
     c.first_ride.ensures.reply c.first_ride.ensures.state
 
 pub returns-then-not-self-clause-stands : goal.returns-then-not-self-clause-stands
@@ -88,6 +93,36 @@ returns-then-tap-self-clause-stands c =
 
 -- the last tap gives a transfer
 
+-- the account keeps the token's class
+
+has_class : (c : goal.After-gives_transfer) (taps : List TapIn)
+    → Stands (rules_of c.args.table.now c.args.token.now) c.args.self.now taps
+    → c.args.self.now.class ≡ class_of c.args.table.now c.args.token.now
+unfolding rules_of Stands
+has_class c taps stands =
+    (kept_class (rules_of c.args.table.now c.args.token.now) (kept_of c.args.self.now)
+    (kept_numbers c.args.self.now) taps (kept-open c.args.self.now c.if-not-self.false) stands).is
+
+-- the transfers that it gives are those that the token's rides give
+
+gives_same : (c : goal.After-gives_transfer) (taps : List TapIn)
+    → Stands (rules_of c.args.table.now c.args.token.now) c.args.self.now taps
+    → gives (transfers_of c.args.table.now (class_of c.args.table.now c.args.token.now))
+    (kept_trip (Some (kept_numbers c.args.self.now)))
+    (live_at c.args.tap.moment c.in-Some.mode) ≡ c.gives_transfer.result
+gives_same c taps stands =
+    ap (λ place. gives (transfers_of c.args.table.now place)
+    (kept_trip (Some (kept_numbers c.args.self.now)))
+    (live_at c.args.tap.moment c.in-Some.mode)) (sym (has_class c taps stands))
+    ∙ sym c.gives_transfer.ensures.gives
+
+pub gives_transfer-requires-clause-class : goal.gives_transfer-requires-clause-class
+unfolding StandsForSome Stands rules_of
+gives_transfer-requires-clause-class c =
+    (kept_class (rules_of c.args.table.now c.args.token.now) (kept_of c.args.self.now)
+    (kept_numbers c.args.self.now) c.requires.stands.0
+    (kept-open c.args.self.now c.if-not-self.false) c.requires.stands.1).there
+
 pub gives_transfer-requires-clause-from : goal.gives_transfer-requires-clause-from
 unfolding StandsForSome Stands kept_trip rules_of live_at
 gives_transfer-requires-clause-from c =
@@ -101,7 +136,7 @@ returns-then-gives_transfer-clause-reason c =
     λ taps stands. c.given-given.ensures
     ∙ why_transfer (rules_of c.args.table.now c.args.token.now) _ _ taps c.args.tap c.in-Some.mode
     (kept-open _ c.if-not-self.false) stands c.in-Some.is
-    c.if-tap-self.false (sym c.gives_transfer.ensures.gives ∙ c.if-gives_transfer.true)
+    c.if-tap-self.false (gives_same c taps stands ∙ c.if-gives_transfer.true)
 
 pub returns-then-gives_transfer-clause-stands : goal.returns-then-gives_transfer-clause-stands
 unfolding rules_of Stands live_at
@@ -110,7 +145,7 @@ returns-then-gives_transfer-clause-stands c =
     (transfer (rules_of c.args.table.now c.args.token.now) _ _ _ taps c.args.tap
     c.in-Some.mode (kept-open _ c.if-not-self.false) stands c.in-Some.is
     (c.requires.mode _ c.in-Some.is) c.if-tap-self.false
-    (sym c.gives_transfer.ensures.gives ∙ c.if-gives_transfer.true) c.take_transfer.ensures.state).stands
+    (gives_same c taps stands ∙ c.if-gives_transfer.true) c.take_transfer.ensures.state).stands
 
 pub returns-then-gives_transfer-clause-some : goal.returns-then-gives_transfer-clause-some
 unfolding StandsForSome
@@ -121,11 +156,12 @@ returns-then-gives_transfer-clause-some c = (
 
 -- the tap is a later ride
 
-pub explain_ride-requires-clause-bounds : goal.explain_ride-requires-clause-bounds
-unfolding StandsForSome Stands
-explain_ride-requires-clause-bounds c =
-    (kept_terms _ (kept_of c.args.self.now) _ c.requires.stands.0 (kept-open _ c.if-not-self.false)
-    c.requires.stands.1).bounds
+pub explain_ride-requires-clause-class : goal.explain_ride-requires-clause-class
+unfolding StandsForSome Stands rules_of
+explain_ride-requires-clause-class c =
+    (kept_class (rules_of c.args.table.now c.args.token.now) (kept_of c.args.self.now)
+    (kept_numbers c.args.self.now) c.requires.stands.0
+    (kept-open c.args.self.now c.if-not-self.false) c.requires.stands.1).there
 
 pub explain_ride-requires-clause-room : goal.explain_ride-requires-clause-room
 unfolding StandsForSome Stands
@@ -137,15 +173,14 @@ pub returns-clause-reason : goal.returns-clause-reason
 unfolding rules_of Stands live_at
 returns-clause-reason c =
     λ taps stands.
-    let kept = kept_terms (rules_of c.args.table.now c.args.token.now) (kept_of c.args.self.now) _
-    taps (kept-open _ c.if-not-self.false) stands in
     c.explain_ride.ensures.reason
     ∙ why_ride (rules_of c.args.table.now c.args.token.now) (kept_of c.args.self.now) taps
     c.args.tap c.in-Some.mode _ _ _ stands c.in-Some.is
     (ap (λ zone. window_end_in zone c.args.tap.moment) c.requires.clock)
     (gives_none-state _ _ _ c.args.tap _ (kept-open _ c.if-not-self.false) c.if-tap-self.false
-    (sym c.gives_transfer.ensures.gives ∙ c.if-gives_transfer.false))
-    kept.same kept.bounds
+    (gives_same c taps stands ∙ c.if-gives_transfer.false))
+    (ap (λ place. ride_terms c.args.table.now place c.in-Some.mode.place)
+    (sym (has_class c taps stands))) c.explain_ride.ensures.bounds
     (at_kept _ _ _ _ (kept-open _ c.if-not-self.false))
 
 next_window : (c : After-explain_ride) → Window
@@ -155,17 +190,20 @@ next_window c = window_at (Some c.args.self.now.window) c.args.tap.moment
 is_next_ride : (c : After-explain_ride) (taps : List TapIn)
     → Stands (rules_of c.args.table.now c.args.token.now) c.args.self.now taps
     → IsStep (rules_of c.args.table.now c.args.token.now) taps c.args.tap
-    (ride_reply (paid_by (charge c.args.self.now.terms (next_window c).rides (next_window c).cents)))
+    (ride_reply (paid_by (charge
+    (ride_terms c.args.table.now c.args.self.now.class c.in-Some.mode.place)
+    (next_window c).rides (next_window c).cents)))
     (Some (kept_numbers c.explain_ride.new.self))
 unfolding rules_of Stands next_window live_at
 is_next_ride c taps stands =
     next_ride (rules_of c.args.table.now c.args.token.now) (kept_of c.args.self.now) _ _ taps
-    c.args.tap c.in-Some.mode _ (kept-open _ c.if-not-self.false) stands c.in-Some.is
+    c.args.tap c.in-Some.mode _ _ (kept-open _ c.if-not-self.false) stands c.in-Some.is
     (c.requires.mode _ c.in-Some.is)
     (ap (λ zone. window_end_in zone c.args.tap.moment) c.requires.clock)
     (gives_none-state _ _ _ c.args.tap _ (kept-open _ c.if-not-self.false) c.if-tap-self.false
-    (sym c.gives_transfer.ensures.gives ∙ c.if-gives_transfer.false))
-    c.explain_ride.ensures.state
+    (gives_same c taps stands ∙ c.if-gives_transfer.false))
+    (ap (λ place. ride_terms c.args.table.now place c.in-Some.mode.place)
+    (sym (has_class c taps stands))) c.explain_ride.ensures.bounds c.explain_ride.ensures.state
 
 pub returns-clause-stands : goal.returns-clause-stands
 returns-clause-stands c =
@@ -187,7 +225,7 @@ returns-in_default-clause-few c = omega arith
 
 pub returns-then-not-self-clause-few : goal.returns-then-not-self-clause-few
 returns-then-not-self-clause-few c =
-    ride_reason-few _ _ _ c.terms_of.ensures.bounds c.next_reason-first.ensures
+    ride_reason-few _ _ _ c.ride_terms-terms.ensures.bounds c.next_reason-first.ensures
 
 pub returns-then-tap-self-clause-few : goal.returns-then-tap-self-clause-few
 unfolding reply_with
@@ -197,8 +235,5 @@ pub returns-then-gives_transfer-clause-few : goal.returns-then-gives_transfer-cl
 returns-then-gives_transfer-clause-few c = given-few _ _ c.given-given.ensures
 
 pub returns-clause-few : goal.returns-clause-few
-unfolding StandsForSome Stands
 returns-clause-few c =
-    let bounds = (kept_terms _ (kept_of c.args.self.now) _ c.requires.stands.0
-    (kept-open _ c.if-not-self.false) c.requires.stands.1).bounds in
-    ride_reason-few _ _ _ bounds c.explain_ride.ensures.reason
+    ride_reason-few _ _ _ c.explain_ride.ensures.bounds c.explain_ride.ensures.reason

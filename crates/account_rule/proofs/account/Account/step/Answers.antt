@@ -1,14 +1,16 @@
 -- Each way out of the step is one of the rule's four cases: unknown, stale, transfer, ride.
-use Rattle.std.proofs.Common.{List, [], ◌∷◌, ◌++◌, Some, refl, sym, ap, ◌∙◌}
+use Rattle.std.proofs.Common.{◌≡◌, List, [], ◌∷◌, ◌++◌, Some, refl, sym, ap, ◌∙◌}
+use Rattle.fare_table.specs.Fares.{class_of, ride_terms}
 use Rattle.fare_table.specs.Until.{window_end_in}
 use Rattle.account_rule.specs.Replies.{ride_reply}
-use Rattle.account_rule.specs.TokenRules.{rules_of}
+use Rattle.account_rule.specs.TokenRules.{rules_of, transfers_of}
+use Rattle.account_rule.specs.inside.Kept.{gives}
 use Rattle.account_rule.specs.Kept.{kept_numbers, kept_of, kept_trip}
 use Rattle.account_rule.specs.Stands.{StandsForSome, Stands}
 use Rattle.account_rule.specs.Taps.{live_at}
 use Rattle.account_rule.specs.declared.tap.TapIn.{TapIn}
 use Rattle.account_rule.proofs.StepLemmas.{IsStep, at_state, first_ride, gives_none-state}
-use Rattle.account_rule.proofs.StepLemmas.{kept-fresh, kept-open, kept_room, kept_terms, next_ride}
+use Rattle.account_rule.proofs.StepLemmas.{kept-fresh, kept-open, kept_class, kept_room, next_ride}
 use Rattle.account_rule.proofs.StepLemmas.{stale, stands-open, transfer, unknown}
 use Rattle.account_rule.proofs.FareLemmas.{free-few, ride-few}
 use Rattle.account_rule.proofs.account.Account.step.Goals as goal
@@ -34,13 +36,15 @@ is_first_ride : (c : After-first_ride) (taps : List TapIn)
     → Stands (rules_of c.args.table.now c.args.token.now) c.args.self.now taps
     → IsStep (rules_of c.args.table.now c.args.token.now) taps c.args.tap c.first_ride.result
     (kept_of c.first_ride.new.self)
-unfolding rules_of Stands
+unfolding rules_of Stands live_at
 is_first_ride c taps stands =
     first_ride (rules_of c.args.table.now c.args.token.now) (kept_of c.args.self.now) _ taps
-    c.args.tap c.in-Some.mode _ _ _ (kept-fresh _ c.if-not-self.true) stands c.in-Some.is
+    c.args.tap c.in-Some.mode _ _ _ _ (kept-fresh _ c.if-not-self.true) stands c.in-Some.is
     (c.requires.mode _ c.in-Some.is)
     (ap (λ zone. window_end_in zone c.args.tap.moment) c.requires.clock)
-    (λ ride. sym c.first_ride.ensures.terms) c.first_ride.ensures.bounds
+    (record { is = c.first_ride.ensures.class; there = c.first_ride.ensures.there })
+    (ap (λ place. ride_terms c.args.table.now place c.in-Some.mode.place)
+    (sym c.first_ride.ensures.class)) c.first_ride.ensures.bounds
     c.first_ride.ensures.reply c.first_ride.ensures.state
 
 pub returns-then-not-self-clause-reply : goal.returns-then-not-self-clause-reply
@@ -75,6 +79,36 @@ returns-then-tap-self-clause-stands c =
 
 -- the last tap gives a transfer
 
+-- the account keeps the token's class
+
+has_class : (c : goal.After-gives_transfer) (taps : List TapIn)
+    → Stands (rules_of c.args.table.now c.args.token.now) c.args.self.now taps
+    → c.args.self.now.class ≡ class_of c.args.table.now c.args.token.now
+unfolding rules_of Stands
+has_class c taps stands =
+    (kept_class (rules_of c.args.table.now c.args.token.now) (kept_of c.args.self.now)
+    (kept_numbers c.args.self.now) taps (kept-open c.args.self.now c.if-not-self.false) stands).is
+
+-- the transfers that it gives are those that the token's rides give
+
+gives_same : (c : goal.After-gives_transfer) (taps : List TapIn)
+    → Stands (rules_of c.args.table.now c.args.token.now) c.args.self.now taps
+    → gives (transfers_of c.args.table.now (class_of c.args.table.now c.args.token.now))
+    (kept_trip (Some (kept_numbers c.args.self.now)))
+    (live_at c.args.tap.moment c.in-Some.mode) ≡ c.gives_transfer.result
+gives_same c taps stands =
+    ap (λ place. gives (transfers_of c.args.table.now place)
+    (kept_trip (Some (kept_numbers c.args.self.now)))
+    (live_at c.args.tap.moment c.in-Some.mode)) (sym (has_class c taps stands))
+    ∙ sym c.gives_transfer.ensures.gives
+
+pub gives_transfer-requires-clause-class : goal.gives_transfer-requires-clause-class
+unfolding StandsForSome Stands rules_of
+gives_transfer-requires-clause-class c =
+    (kept_class (rules_of c.args.table.now c.args.token.now) (kept_of c.args.self.now)
+    (kept_numbers c.args.self.now) c.requires.stands.0
+    (kept-open c.args.self.now c.if-not-self.false) c.requires.stands.1).there
+
 pub gives_transfer-requires-clause-from : goal.gives_transfer-requires-clause-from
 unfolding StandsForSome Stands kept_trip rules_of live_at
 gives_transfer-requires-clause-from c =
@@ -89,7 +123,7 @@ returns-then-gives_transfer-clause-reply c =
     ∙ (transfer (rules_of c.args.table.now c.args.token.now) _ _ _ taps c.args.tap
     c.in-Some.mode (kept-open _ c.if-not-self.false) stands c.in-Some.is
     (c.requires.mode _ c.in-Some.is) c.if-tap-self.false
-    (sym c.gives_transfer.ensures.gives ∙ c.if-gives_transfer.true) c.take_transfer.ensures.state).reply
+    (gives_same c taps stands ∙ c.if-gives_transfer.true) c.take_transfer.ensures.state).reply
 
 pub returns-then-gives_transfer-clause-stands : goal.returns-then-gives_transfer-clause-stands
 unfolding rules_of Stands live_at
@@ -98,7 +132,7 @@ returns-then-gives_transfer-clause-stands c =
     (transfer (rules_of c.args.table.now c.args.token.now) _ _ _ taps c.args.tap
     c.in-Some.mode (kept-open _ c.if-not-self.false) stands c.in-Some.is
     (c.requires.mode _ c.in-Some.is) c.if-tap-self.false
-    (sym c.gives_transfer.ensures.gives ∙ c.if-gives_transfer.true) c.take_transfer.ensures.state).stands
+    (gives_same c taps stands ∙ c.if-gives_transfer.true) c.take_transfer.ensures.state).stands
 
 pub returns-then-gives_transfer-clause-some : goal.returns-then-gives_transfer-clause-some
 unfolding StandsForSome
@@ -109,11 +143,12 @@ returns-then-gives_transfer-clause-some c = (
 
 -- the tap is a later ride
 
-pub take_ride-requires-clause-bounds : goal.take_ride-requires-clause-bounds
-unfolding StandsForSome Stands
-take_ride-requires-clause-bounds c =
-    (kept_terms _ (kept_of c.args.self.now) _ c.requires.stands.0 (kept-open _ c.if-not-self.false)
-    c.requires.stands.1).bounds
+pub take_ride-requires-clause-class : goal.take_ride-requires-clause-class
+unfolding StandsForSome Stands rules_of
+take_ride-requires-clause-class c =
+    (kept_class (rules_of c.args.table.now c.args.token.now) (kept_of c.args.self.now)
+    (kept_numbers c.args.self.now) c.requires.stands.0
+    (kept-open c.args.self.now c.if-not-self.false) c.requires.stands.1).there
 
 pub take_ride-requires-clause-room : goal.take_ride-requires-clause-room
 unfolding StandsForSome Stands
@@ -129,12 +164,13 @@ unfolding rules_of Stands live_at
 is_next_ride c taps stands =
     rw c.take_ride.ensures.cost
     (next_ride (rules_of c.args.table.now c.args.token.now) (kept_of c.args.self.now) _ _ taps
-    c.args.tap c.in-Some.mode _ (kept-open _ c.if-not-self.false) stands c.in-Some.is
+    c.args.tap c.in-Some.mode _ _ (kept-open _ c.if-not-self.false) stands c.in-Some.is
     (c.requires.mode _ c.in-Some.is)
     (ap (λ zone. window_end_in zone c.args.tap.moment) c.requires.clock)
     (gives_none-state _ _ _ c.args.tap _ (kept-open _ c.if-not-self.false) c.if-tap-self.false
-    (sym c.gives_transfer.ensures.gives ∙ c.if-gives_transfer.false))
-    c.take_ride.ensures.state)
+    (gives_same c taps stands ∙ c.if-gives_transfer.false))
+    (ap (λ place. ride_terms c.args.table.now place c.in-Some.mode.place)
+    (sym (has_class c taps stands))) c.take_ride.ensures.bounds c.take_ride.ensures.state)
 
 pub returns-clause-reply : goal.returns-clause-reply
 returns-clause-reply c = λ taps stands. c.to_ride.ensures ∙ (is_next_ride c taps stands).reply
@@ -167,8 +203,6 @@ pub returns-then-gives_transfer-clause-few : goal.returns-then-gives_transfer-cl
 returns-then-gives_transfer-clause-few c = free-few _ _ c.free-then-gives_transfer.ensures
 
 pub returns-clause-few : goal.returns-clause-few
-unfolding StandsForSome Stands
 returns-clause-few c =
-    let bounds = (kept_terms _ (kept_of c.args.self.now) _ c.requires.stands.0 (kept-open _ c.if-not-self.false) c.requires.stands.1).bounds in
-    ride-few c.args.self.now.terms _ _ _ bounds
+    ride-few _ _ _ _ c.take_ride.ensures.bounds
     (c.to_ride.ensures ∙ ap ride_reply c.take_ride.ensures.cost)
