@@ -3,10 +3,11 @@
 -- for the longer list.
 use Rattle.std.proofs.Common.{◌≡◌, ℕ, ◌+◌, ◌<◌, ◌≤◌, true, false, ◌&&◌, cond, List, [], ◌∷◌}
 use Rattle.std.proofs.Common.{◌++◌, Option, Some, None, refl, sym, ap, ◌∙◌, subst, arith, ltb}
-use Rattle.std.proofs.Common.{is_some, option_map}
+use Rattle.std.proofs.Common.{Bool, is_some, length, option_map}
 use Rattle.std.specs.List.{last_or}
 use Rattle.std.specs.Option.{option_and_then}
 use Rattle.std.proofs.lemmas.Bool.{ltb-true, lt-ltb, le-ltb}
+use Rattle.fare_table.specs.Fares.{Fares, class_of, ride_terms}
 use Rattle.fare_table.specs.declared.mode.Mode.{Mode}
 use Rattle.fare_table.specs.Terms.{AreRideTerms}
 use Rattle.fare_table.specs.declared.terms.Terms.{Terms}
@@ -18,7 +19,7 @@ use Rattle.account_rule.specs.declared.window.Window.{Window}
 use Rattle.account_rule.specs.Trips.{TripEnd, ends_in_transfer, last_trip}
 use Rattle.account_rule.specs.Blocks.{last_block}
 use Rattle.account_rule.specs.Replies.{live_reply, reply, reply_with, ride_reply}
-use Rattle.account_rule.specs.TokenRules.{TokenRules, TransferRules}
+use Rattle.account_rule.specs.TokenRules.{TokenRules, TransferRules, rules_of, transfers_of}
 use Rattle.account_rule.specs.Kept.{IsClass, IsRoomy, Kept, kept_numbers, is_after, kept_of}
 use Rattle.account_rule.specs.Kept.{kept_trip, kept_window}
 use Rattle.account_rule.specs.inside.Kept.{gives, open_window, window_at, with_ride}
@@ -373,6 +374,40 @@ kept_room rules account state taps same stands =
 pub kept_class : (rules : TokenRules) (account : Option Kept) (state : Kept) (taps : List TapIn)
     → account ≡ Some state → KeepsOf rules account taps → IsClass rules state.class
 kept_class rules account state taps same stands = stands.class state same
+
+-- the class that an account with a window keeps is the token's, there is one, and it pays and gives
+-- what the token's class does
+pub class_is : (fares : Fares) (token : List ℕ) (account : Account) (taps : List TapIn)
+    → account.has_window ≡ true → Stands (rules_of fares token) account taps
+    → account.class ≡ class_of fares token
+unfolding rules_of Stands
+class_is fares token account taps there stands =
+    (kept_class (rules_of fares token) (kept_of account) (kept_numbers account) taps
+    (kept-open account there) stands).is
+
+pub class_there : (fares : Fares) (token : List ℕ) (account : Account) (taps : List TapIn)
+    → account.has_window ≡ true → Stands (rules_of fares token) account taps
+    → account.class < length fares.meaning.classes
+unfolding rules_of Stands
+class_there fares token account taps there stands =
+    (kept_class (rules_of fares token) (kept_of account) (kept_numbers account) taps
+    (kept-open account there) stands).there
+
+pub terms_same : (fares : Fares) (token : List ℕ) (account : Account) (taps : List TapIn) (mode : ℕ)
+    → account.has_window ≡ true → Stands (rules_of fares token) account taps
+    → ride_terms fares (class_of fares token) mode ≡ ride_terms fares account.class mode
+terms_same fares token account taps mode there stands =
+    ap (λ place. ride_terms fares place mode) (sym (class_is fares token account taps there stands))
+
+pub gives_same : (fares : Fares) (token : List ℕ) (account : Account) (taps : List TapIn)
+    (tap : LiveTap) (given : Bool)
+    → account.has_window ≡ true → Stands (rules_of fares token) account taps
+    → given ≡ gives (transfers_of fares account.class) (kept_trip (Some (kept_numbers account))) tap
+    → gives (transfers_of fares (class_of fares token)) (kept_trip (Some (kept_numbers account))) tap
+    ≡ given
+gives_same fares token account taps tap given there stands is =
+    ap (λ place. gives (transfers_of fares place) (kept_trip (Some (kept_numbers account))) tap)
+    (sym (class_is fares token account taps there stands)) ∙ sym is
 
 -- the window of a ride in an account that has a window, and of a first ride
 pub at_kept : (account : Option Kept) (state : Kept) (start until : ℕ) → account ≡ Some state

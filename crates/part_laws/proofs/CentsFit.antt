@@ -7,7 +7,7 @@ use Rattle.std.proofs.Common.{refl, sym, subst}
 use Rattle.std.proofs.lemmas.List.Elements.{All-cons, All-nil}
 use Rattle.tap_views.specs.Layout.{Tap}
 use Rattle.fare_table.specs.Fares.{Fares}
-use Rattle.fare_table.specs.Terms.{AreBoundedTerms}
+use Rattle.fare_table.specs.Terms.{AreRideTerms}
 use Rattle.fare_table.specs.declared.terms.Terms.{Terms}
 use Rattle.tap_views.specs.Token.{bytes_of}
 use Rattle.account_rule.specs.Trips.{ends_in_transfer}
@@ -45,7 +45,7 @@ none_few = free-few (reply_with Capped 0) Capped refl
 
 last_few : (terms : LiveTap → Terms) (rides cents : ℕ) (window : List LiveTap)
     (before : Option Charge)
-    → ((ride : LiveTap) → AreBoundedTerms (terms ride)) → IsFewFor before
+    → ((ride : LiveTap) → AreRideTerms (terms ride)) → IsFewFor before
     → IsFewFor (last_or before (charges_after terms rides cents window))
 unfolding charges_after
 last_few terms rides cents [] before bounds few = few
@@ -56,13 +56,13 @@ last_few terms rides cents (ride ∷ window) before bounds few =
     (ride_reply (paid_by (charge (terms ride) rides cents))) (bounds ride) refl)
 
 window_few : (terms : LiveTap → Terms) (window : List LiveTap)
-    → ((ride : LiveTap) → AreBoundedTerms (terms ride))
+    → ((ride : LiveTap) → AreRideTerms (terms ride))
     → IsFewFor (last_or None (charges terms window))
 unfolding charges
 window_few terms window bounds = last_few terms 0 0 window None bounds none_few
 
 reply_few : (rules : TokenRules) (earlier : List TapIn) (tap : TapIn)
-    → ((ride : LiveTap) → AreBoundedTerms (rules.terms ride)) → IsFew (reply rules earlier tap)
+    → ((ride : LiveTap) → AreRideTerms (rules.terms ride)) → IsFew (reply rules earlier tap)
 unfolding reply live_reply
 reply_few rules earlier tap bounds =
     let taps = earlier ++ tap ∷ [] in
@@ -88,7 +88,7 @@ plain_few fares bounds earlier (tap ∷ taps) =
     let made = answered fares earlier entry in
     All-cons CostsFew made (plain_after fares (earlier ++ made ∷ []) taps)
     (reply_few (rules_of fares (bytes_of entry.token)) (taps_of fares entry.token earlier)
-    (tap_of fares entry) (λ ride. bounds (bytes_of entry.token)))
+    (tap_of fares entry) (λ ride. bounds (bytes_of entry.token) ride.mode.place))
     (plain_few fares bounds (earlier ++ made ∷ []) taps)
 
 pub entries_few : (fares : Fares) (uploads : List (List ℕ)) (history : List Entry)

@@ -228,5 +228,5 @@ impl Accounts {
     }
 }
 
-/// A kept account takes little more than a line of the caches.
-const _: () = prove!(size_of::<KeptAccount>() == 72);
+/// A kept account fills a line of the caches.
+const _: () = prove!(size_of::<KeptAccount>() == 64);

@@ -1,21 +1,21 @@
 -- Each way out is one of the rule's four cases: unknown, stale, transfer, ride. The reason is that
 -- case's, and the account then stands for one tap more, as after a step.
-use Rattle.std.proofs.Common.{◌≡◌, List, [], ◌∷◌, ◌++◌, Some, refl, sym, ap, ◌∙◌, arith}
+use Rattle.std.proofs.Common.{List, [], ◌∷◌, ◌++◌, Some, refl, sym, ap, ◌∙◌, arith}
 use Rattle.account_rule.specs.declared.window.Window.{Window}
-use Rattle.fare_table.specs.Fares.{class_of, ride_terms}
+use Rattle.fare_table.specs.Fares.{ride_terms}
 use Rattle.fare_table.specs.Until.{window_end_in}
 use Rattle.account_rule.specs.Replies.{reply_with, ride_reply}
 use Rattle.account_rule.specs.Windows.{charge, paid_by}
-use Rattle.account_rule.specs.inside.Kept.{gives, window_at}
+use Rattle.account_rule.specs.inside.Kept.{window_at}
 use Rattle.account_rule.specs.Kept.{kept_numbers, kept_of, kept_trip}
-use Rattle.account_rule.specs.TokenRules.{rules_of, transfers_of}
+use Rattle.account_rule.specs.TokenRules.{rules_of}
 use Rattle.account_rule.specs.Stands.{Stands, StandsForSome}
 use Rattle.account_rule.specs.Taps.{live_at}
 use Rattle.account_rule.specs.declared.tap.TapIn.{TapIn}
 use Rattle.account_rule.proofs.ReasonLemmas.{reason_unknown, why_ride, why_stale, why_transfer}
 use Rattle.account_rule.proofs.StepLemmas.{IsStep, at_fresh, at_kept, at_state, first_ride}
 use Rattle.account_rule.proofs.StepLemmas.{gives_none-fresh, gives_none-state, kept-fresh, kept-open}
-use Rattle.account_rule.proofs.StepLemmas.{kept_class, kept_room, next_ride, stale, stands-open, transfer, unknown}
+use Rattle.account_rule.proofs.StepLemmas.{class_there, gives_same, kept_room, next_ride, terms_same, stale, stands-open, transfer, unknown}
 use Rattle.account_rule.proofs.WindowLemmas.{room-open}
 use Rattle.account_rule.proofs.FareLemmas.{given-few, ride_reason-few}
 use Rattle.account_rule.proofs.account.Account.explain_step.Goals as goal
@@ -93,35 +93,11 @@ returns-then-tap-self-clause-stands c =
 
 -- the last tap gives a transfer
 
--- the account keeps the token's class
-
-has_class : (c : goal.After-gives_transfer) (taps : List TapIn)
-    → Stands (rules_of c.args.table.now c.args.token.now) c.args.self.now taps
-    → c.args.self.now.class ≡ class_of c.args.table.now c.args.token.now
-unfolding rules_of Stands
-has_class c taps stands =
-    (kept_class (rules_of c.args.table.now c.args.token.now) (kept_of c.args.self.now)
-    (kept_numbers c.args.self.now) taps (kept-open c.args.self.now c.if-not-self.false) stands).is
-
--- the transfers that it gives are those that the token's rides give
-
-gives_same : (c : goal.After-gives_transfer) (taps : List TapIn)
-    → Stands (rules_of c.args.table.now c.args.token.now) c.args.self.now taps
-    → gives (transfers_of c.args.table.now (class_of c.args.table.now c.args.token.now))
-    (kept_trip (Some (kept_numbers c.args.self.now)))
-    (live_at c.args.tap.moment c.in-Some.mode) ≡ c.gives_transfer.result
-gives_same c taps stands =
-    ap (λ place. gives (transfers_of c.args.table.now place)
-    (kept_trip (Some (kept_numbers c.args.self.now)))
-    (live_at c.args.tap.moment c.in-Some.mode)) (sym (has_class c taps stands))
-    ∙ sym c.gives_transfer.ensures.gives
-
 pub gives_transfer-requires-clause-class : goal.gives_transfer-requires-clause-class
-unfolding StandsForSome Stands rules_of
+unfolding StandsForSome
 gives_transfer-requires-clause-class c =
-    (kept_class (rules_of c.args.table.now c.args.token.now) (kept_of c.args.self.now)
-    (kept_numbers c.args.self.now) c.requires.stands.0
-    (kept-open c.args.self.now c.if-not-self.false) c.requires.stands.1).there
+    class_there c.args.table.now c.args.token.now c.args.self.now c.requires.stands.0
+    c.if-not-self.false c.requires.stands.1
 
 pub gives_transfer-requires-clause-from : goal.gives_transfer-requires-clause-from
 unfolding StandsForSome Stands kept_trip rules_of live_at
@@ -136,7 +112,9 @@ returns-then-gives_transfer-clause-reason c =
     λ taps stands. c.given-given.ensures
     ∙ why_transfer (rules_of c.args.table.now c.args.token.now) _ _ taps c.args.tap c.in-Some.mode
     (kept-open _ c.if-not-self.false) stands c.in-Some.is
-    c.if-tap-self.false (gives_same c taps stands ∙ c.if-gives_transfer.true)
+    c.if-tap-self.false (gives_same c.args.table.now c.args.token.now c.args.self.now taps
+    (live_at c.args.tap.moment c.in-Some.mode) c.gives_transfer.result c.if-not-self.false stands
+    c.gives_transfer.ensures.gives ∙ c.if-gives_transfer.true)
 
 pub returns-then-gives_transfer-clause-stands : goal.returns-then-gives_transfer-clause-stands
 unfolding rules_of Stands live_at
@@ -145,7 +123,9 @@ returns-then-gives_transfer-clause-stands c =
     (transfer (rules_of c.args.table.now c.args.token.now) _ _ _ taps c.args.tap
     c.in-Some.mode (kept-open _ c.if-not-self.false) stands c.in-Some.is
     (c.requires.mode _ c.in-Some.is) c.if-tap-self.false
-    (gives_same c taps stands ∙ c.if-gives_transfer.true) c.take_transfer.ensures.state).stands
+    (gives_same c.args.table.now c.args.token.now c.args.self.now taps
+    (live_at c.args.tap.moment c.in-Some.mode) c.gives_transfer.result c.if-not-self.false stands
+    c.gives_transfer.ensures.gives ∙ c.if-gives_transfer.true) c.take_transfer.ensures.state).stands
 
 pub returns-then-gives_transfer-clause-some : goal.returns-then-gives_transfer-clause-some
 unfolding StandsForSome
@@ -157,11 +137,10 @@ returns-then-gives_transfer-clause-some c = (
 -- the tap is a later ride
 
 pub explain_ride-requires-clause-class : goal.explain_ride-requires-clause-class
-unfolding StandsForSome Stands rules_of
+unfolding StandsForSome
 explain_ride-requires-clause-class c =
-    (kept_class (rules_of c.args.table.now c.args.token.now) (kept_of c.args.self.now)
-    (kept_numbers c.args.self.now) c.requires.stands.0
-    (kept-open c.args.self.now c.if-not-self.false) c.requires.stands.1).there
+    class_there c.args.table.now c.args.token.now c.args.self.now c.requires.stands.0
+    c.if-not-self.false c.requires.stands.1
 
 pub explain_ride-requires-clause-room : goal.explain_ride-requires-clause-room
 unfolding StandsForSome Stands
@@ -178,9 +157,11 @@ returns-clause-reason c =
     c.args.tap c.in-Some.mode _ _ _ stands c.in-Some.is
     (ap (λ zone. window_end_in zone c.args.tap.moment) c.requires.clock)
     (gives_none-state _ _ _ c.args.tap _ (kept-open _ c.if-not-self.false) c.if-tap-self.false
-    (gives_same c taps stands ∙ c.if-gives_transfer.false))
-    (ap (λ place. ride_terms c.args.table.now place c.in-Some.mode.place)
-    (sym (has_class c taps stands))) c.explain_ride.ensures.bounds
+    (gives_same c.args.table.now c.args.token.now c.args.self.now taps
+    (live_at c.args.tap.moment c.in-Some.mode) c.gives_transfer.result c.if-not-self.false stands
+    c.gives_transfer.ensures.gives ∙ c.if-gives_transfer.false))
+    (terms_same c.args.table.now c.args.token.now c.args.self.now taps c.in-Some.mode.place
+    c.if-not-self.false stands) c.explain_ride.ensures.bounds
     (at_kept _ _ _ _ (kept-open _ c.if-not-self.false))
 
 next_window : (c : After-explain_ride) → Window
@@ -201,9 +182,11 @@ is_next_ride c taps stands =
     (c.requires.mode _ c.in-Some.is)
     (ap (λ zone. window_end_in zone c.args.tap.moment) c.requires.clock)
     (gives_none-state _ _ _ c.args.tap _ (kept-open _ c.if-not-self.false) c.if-tap-self.false
-    (gives_same c taps stands ∙ c.if-gives_transfer.false))
-    (ap (λ place. ride_terms c.args.table.now place c.in-Some.mode.place)
-    (sym (has_class c taps stands))) c.explain_ride.ensures.bounds c.explain_ride.ensures.state
+    (gives_same c.args.table.now c.args.token.now c.args.self.now taps
+    (live_at c.args.tap.moment c.in-Some.mode) c.gives_transfer.result c.if-not-self.false stands
+    c.gives_transfer.ensures.gives ∙ c.if-gives_transfer.false))
+    (terms_same c.args.table.now c.args.token.now c.args.self.now taps c.in-Some.mode.place
+    c.if-not-self.false stands) c.explain_ride.ensures.bounds c.explain_ride.ensures.state
 
 pub returns-clause-stands : goal.returns-clause-stands
 returns-clause-stands c =

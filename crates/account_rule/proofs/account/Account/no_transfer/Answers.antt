@@ -6,15 +6,15 @@ use Rattle.account_rule.specs.Stands.{Stands, StandsForSome}
 use Rattle.account_rule.specs.Taps.{live_at}
 use Rattle.account_rule.specs.TokenRules.{rules_of, transfers_of}
 use Rattle.account_rule.proofs.NoTransferLemmas.{none-first, none-kept}
-use Rattle.account_rule.proofs.StepLemmas.{at_state, kept-fresh, kept-open, kept_class}
+use Rattle.account_rule.proofs.StepLemmas.{at_state, class_is, class_there, kept-fresh, kept-open}
 use Rattle.account_rule.proofs.account.Account.no_transfer.Goals as goal
 
 pub spent-requires : goal.spent-requires
-unfolding StandsForSome Stands rules_of
-spent-requires c =
-    (kept_class (rules_of c.args.table.now c.requires.0) (kept_of c.args.self.now)
-    (kept_numbers c.args.self.now) c.requires.1.0
-    (kept-open c.args.self.now c.if-not-self.false) c.requires.1.1).there
+unfolding StandsForSome
+spent-requires c = record {
+  class = class_there c.args.table.now c.requires.stands.0 c.args.self.now c.requires.stands.1.0
+      c.if-not-self.false c.requires.stands.1.1;
+}
 
 pub returns-then-not-self-clause-lacks : goal.returns-then-not-self-clause-lacks
 unfolding Stands
@@ -28,8 +28,7 @@ returns-clause-lacks c =
     λ token taps stands. c.spent.ensures.lacks
     ∙ ap (λ place. no_transfer_from (transfers_of c.args.table.now place)
     (kept_trip (Some (kept_numbers c.args.self.now))) (live_at c.args.moment c.args.mode))
-    (kept_class (rules_of c.args.table.now token) (kept_of c.args.self.now)
-    (kept_numbers c.args.self.now) taps (kept-open c.args.self.now c.if-not-self.false) stands).is
+    (class_is c.args.table.now token c.args.self.now taps c.if-not-self.false stands)
     ∙ none-kept (rules_of c.args.table.now token) (kept_of c.args.self.now)
     (kept_numbers c.args.self.now) taps
     c.args.moment c.args.mode (kept-open _ c.if-not-self.false) stands
