@@ -12,11 +12,12 @@ use Rattle.reason_texts.proofs.teller.Teller.no_transfer.Goals as goal
 
 pub no_transfer-requires : goal.no_transfer-requires
 unfolding StandsForSome
-no_transfer-requires c = (
-  bytes_of c.args.self.now.token,
-  map (tap_of c.args.table.now) c.requires.told.0,
-  c.requires.told.1.stands,
-)
+no_transfer-requires c = record {
+  stands = (
+    bytes_of c.args.self.now.token,
+    (map (tap_of c.args.table.now) c.requires.told.0, c.requires.told.1.stands),
+  );
+}
 
 pub returns-in_err-mode-clause-lacks : goal.returns-in_err-mode-clause-lacks
 returns-in_err-mode-clause-lacks c = λ earlier told.
