@@ -27,7 +27,7 @@ from datetime import date, datetime, timedelta, timezone
 from functools import lru_cache
 from zoneinfo import ZoneInfo
 
-DAY_MS, TRANSFER_MS, MOMENT_LIMIT = 86_400_000, 7_200_000, 4_102_444_800_000
+MINUTE_MS, DAY_MS, MOMENT_LIMIT = 60_000, 86_400_000, 4_102_444_800_000
 HEAD = ("token,line,moment,validator,mode,answer,cents,"
         "window_start,window_end,ride,reason,points_at\n")
 TRACED_HEAD = HEAD[:-1] + ",class,upload,place\n"
@@ -90,7 +90,9 @@ class Fares:
     """A fare table, as the rules ask it."""
     def __init__(self, table):
         self.pairs = {tuple(pair) for pair in table["transfers"]}
-        self.terms = {name: (c["fare"], c["rides"], c.get("ceiling", c["fare"] * c["rides"]))
+        self.terms = {name: (c["fare"], c.get("fares", {}), c["rides"],
+                             c.get("ceiling", c["fare"] * c["rides"]), c.get("transfers", 1),
+                             c.get("transfer_minutes", 120) * MINUTE_MS)
                       for name, c in table["classes"].items()}
         self.usual_class = table["default_class"]
         self.usual = self.terms[self.usual_class]
@@ -123,8 +125,9 @@ class Account:
     """What the rules need of a token's earlier taps."""
     def __init__(self, fares, token):
         self.fares, self.terms, self.lines = fares, fares.riders.get(token, fares.usual), 0
-        self.last, self.last_text, self.ride_mode = -1, "", None  # the last live tap; if a ride
-        self.end, self.window, self.rides = -1, "", 0
+        self.last, self.last_text, self.mode = -1, "", None  # the last live tap
+        self.ride, self.ride_text, self.given = -1, "", 0  # the last ride, and its transfers
+        self.end, self.window, self.rides, self.cents = -1, "", 0, 0
 
     def post(self, moment, text, validator):
         """The fields that a tap gets, from its line's number on."""
@@ -134,26 +137,36 @@ class Account:
             rest = ",unknown,0,,,,unknown,"
         elif moment <= self.last:
             rest = f"{mode},stale,0,,,,stale,{self.last_text}"
-        elif moment - self.last <= TRANSFER_MS and (self.ride_mode, mode) in self.fares.pairs:
-            rest = f"{mode},transfer,0,,,,transfer,{self.last_text}"
-            self.last, self.last_text, self.ride_mode = moment, text, None
+        elif self.gives(moment, mode):
+            rest = f"{mode},transfer,0,,,,transfer,{self.ride_text}"
+            self.last, self.last_text, self.mode = moment, text, mode
+            self.given += 1
         else:
-            self.last, self.last_text, self.ride_mode = moment, text, mode
-            rest = f"{mode},{self.charge(moment, text)},"
+            self.last, self.last_text, self.mode = moment, text, mode
+            self.ride, self.ride_text, self.given = moment, text, 0
+            rest = f"{mode},{self.charge(moment, text, mode)},"
         return f"{self.lines},{text},{validator},{rest}\n"
 
-    def charge(self, moment, text):
+    def gives(self, moment, mode):
+        """Whether the last ride gives a transfer to a live tap."""
+        *_, transfers, time = self.terms
+        return (self.given < transfers and moment - self.ride <= time
+                and (self.mode, mode) in self.fares.pairs)
+
+    def charge(self, moment, text, mode):
         """Answer, cents, window, ride and reason of a ride."""
         if moment >= self.end:
             self.end = self.fares.window_end(moment)
-            self.window, self.rides = f"{text},{moment_text(self.end)}", 0
-        fare, limit, ceiling = self.terms
-        left, self.rides = ceiling - self.rides * fare, self.rides + 1
+            self.window, self.rides, self.cents = f"{text},{moment_text(self.end)}", 0, 0
+        fare, fares, limit, ceiling, *_ = self.terms
+        fare = fares.get(mode, fare)
+        left, self.rides = ceiling - self.cents, self.rides + 1
         if self.rides > limit:
             return f"capped,0,{self.window},,ride-limit"
         if left <= 0:
             return f"capped,0,{self.window},{self.rides},ceiling"
         cents, reason = (fare, "full") if left >= fare else (left, "ceiling-cut")
+        self.cents += cents
         return f"paid,{cents},{self.window},{self.rides},{reason}"
 
 class Sums:

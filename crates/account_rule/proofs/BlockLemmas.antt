@@ -1,8 +1,8 @@
 -- What one more element at the end of a list does to its blocks.
-use Rattle.std.proofs.Common.{◌≡◌, Bool, true, false, not, cond, List, [], ◌∷◌, ◌++◌, length, refl}
-use Rattle.std.proofs.Common.{sym, ap, ◌∙◌, append_assoc, append-nil}
+use Rattle.std.proofs.Common.{◌≡◌, suc, Bool, true, false, cond, List, [], ◌∷◌, ◌++◌, length, refl}
+use Rattle.std.proofs.Common.{sym, ap, ◌∙◌, append_assoc, append-nil, ltb, take, arith}
+use Rattle.std.proofs.lemmas.Bool.{lt-ltb}
 use Rattle.std.specs.List.{flat_map}
-use Rattle.account_rule.specs.Chains.{evens, is_even}
 use Rattle.account_rule.specs.Blocks.{blocks_by, blocks_from, last_block}
 
 -- the blocks with one more element: it joins the last block or opens one
@@ -74,47 +74,36 @@ last_block-extend joins (block ∷ []) x =
 last_block-extend joins (block ∷ next ∷ blocks) x =
     last_block-cons block joins next blocks x ∙ last_block-extend joins (next ∷ blocks) x
 
-pub not_not : (b : Bool) → not (not b) ≡ b
-not_not true = refl
-not_not false = refl
+pub length-push : {A : Type 0} (xs : List A) (x : A) → length (xs ++ x ∷ []) ≡ suc (length xs)
+length-push [] x = refl
+length-push (y ∷ ys) x = ap suc (length-push ys x)
 
-pub is_even-push : {A : Type 0} (xs : List A) (x : A)
-    → is_even (length (xs ++ x ∷ [])) ≡ not (is_even (length xs))
-unfolding is_even
-is_even-push [] x = refl
-is_even-push (y ∷ ys) x = ap not (is_even-push ys x)
+first-push : {A : Type 0} (block : List A) (x : A)
+    → take 1 (block ++ x ∷ []) ++ []
+    ≡ (take 1 block ++ []) ++ cond (ltb 1 (length (block ++ x ∷ []))) [] (x ∷ [])
+first-push [] x = refl
+first-push (y ∷ ys) x =
+    let long : ltb 1 (suc (length (ys ++ x ∷ []))) ≡ true =
+    lt-ltb 1 (suc (length (ys ++ x ∷ []))) (omega (arith, length-push ys x)) in
+    sym (ap (λ b. (y ∷ []) ++ cond b [] (x ∷ [])) long)
 
-pub evens-push : {A : Type 0} (xs : List A) (x : A)
-    → evens (xs ++ x ∷ []) ≡ evens xs ++ cond (is_even (length xs)) (x ∷ []) []
-unfolding evens is_even
-evens-push [] x = refl
-evens-push (y ∷ []) x = refl
-evens-push (y ∷ z ∷ xs) x =
-    rw (not_not (is_even (length xs))) (ap (λ ys. y ∷ ys) (evens-push xs x))
-
-either : {A : Type 0} (b : Bool) (xs : List A) → cond b xs [] ≡ cond (not b) [] xs
-either true xs = refl
-either false xs = refl
-
--- the elements at even places of the blocks: the new one is among them where its block is then of
--- odd length
-pub evens-extend : {A : Type 0} (joins : List A → A → Bool) (blocks : List (List A)) (x : A)
-    → flat_map evens (extend joins blocks x)
-    ≡ flat_map evens blocks
-    ++ cond (is_even (length (last_block (extend joins blocks x)))) [] (x ∷ [])
-unfolding last_block extend evens is_even
-evens-extend joins [] x = refl
-evens-extend joins (block ∷ []) x =
+-- the first elements of the blocks: the new one is among them where its block is then of no other
+pub firsts-extend : {A : Type 0} (joins : List A → A → Bool) (blocks : List (List A)) (x : A)
+    → flat_map (λ block. take 1 block) (extend joins blocks x)
+    ≡ flat_map (λ block. take 1 block) blocks
+    ++ cond (ltb 1 (length (last_block (extend joins blocks x)))) [] (x ∷ [])
+unfolding last_block extend
+firsts-extend joins [] x = refl
+firsts-extend joins (block ∷ []) x =
     elim (joins block x) as (λ v.
-    flat_map evens (cond v ((block ++ x ∷ []) ∷ []) (block ∷ (x ∷ []) ∷ []))
-    ≡ (evens block ++ [])
-    ++ cond (is_even (length
+    flat_map (λ b. take 1 b) (cond v ((block ++ x ∷ []) ∷ []) (block ∷ (x ∷ []) ∷ []))
+    ≡ (take 1 block ++ [])
+    ++ cond (ltb 1 (length
     (last_block (cond v ((block ++ x ∷ []) ∷ []) (block ∷ (x ∷ []) ∷ []))))) [] (x ∷ [])) [
-      | true ↦ rw (append-nil, append-nil, evens-push, is_even-push)
-          (ap (λ ys. evens block ++ ys) (either (is_even (length block)) (x ∷ [])))
-      | false ↦ rw (append-nil (evens block)) refl
+      | true ↦ first-push block x
+      | false ↦ rw (append-nil (take 1 block)) refl
     ]
-evens-extend joins (block ∷ next ∷ blocks) x =
+firsts-extend joins (block ∷ next ∷ blocks) x =
     rw (last_block-cons block joins next blocks x)
-    (ap (λ ys. evens block ++ ys) (evens-extend joins (next ∷ blocks) x)
-    ∙ sym (append_assoc (evens block) _ _))
+    (ap (λ ys. take 1 block ++ ys) (firsts-extend joins (next ∷ blocks) x)
+    ∙ sym (append_assoc (take 1 block) _ _))

@@ -1,61 +1,58 @@
 -- No reply costs more than the greatest fare of a table.
-use Rattle.std.proofs.Common.{◌≡◌, ℕ, ◌-◌, ◌*◌, ◌≤◌, Bool, true, false, ◌||◌, cond, min, nat_lt, nat_le, Option, Some, None, sym, ap, subst, ◌∙◌, arith}
-use Rattle.fare_table.specs.Terms.{AreBoundedTerms}
+use Rattle.std.proofs.Common.{◌≡◌, ℕ, ◌≤◌, Option, Some, None, sym, ap, subst, inl, inr, arith}
+use Rattle.fare_table.specs.Terms.{AreRideTerms}
 use Rattle.fare_table.specs.declared.terms.Terms.{Terms}
+use Rattle.account_rule.specs.declared.reason.Charge.{Charge}
+use Rattle.account_rule.specs.declared.reason.Charge.TheVariants.{CeilingCut, CeilingReached, Full}
+use Rattle.account_rule.specs.declared.reason.Charge.TheVariants.{RideLimitReached}
 use Rattle.account_rule.specs.declared.reason.Reason.{Reason}
 use Rattle.account_rule.specs.declared.reply.Answer.{Answer}
-use Rattle.account_rule.specs.declared.reply.Answer.TheVariants.{Paid, Capped}
 use Rattle.account_rule.specs.declared.reply.Reply.{Reply}
 use Rattle.account_rule.specs.declared.window.Window.{Window}
 use Rattle.account_rule.specs.inside.Kept.{next_reason}
 use Rattle.account_rule.specs.Reasons.{given_by, replied_by}
 use Rattle.account_rule.specs.Replies.{reply_with, ride_reply}
-use Rattle.account_rule.specs.Taps.{LiveTap}
-use Rattle.account_rule.specs.Windows.{charge}
-use Rattle.account_rule.proofs.ReasonLemmas.{charged-charge}
+use Rattle.account_rule.specs.Trips.{TripEnd}
+use Rattle.account_rule.specs.Windows.{charge, charged_by, paid_by}
+use Rattle.account_rule.proofs.LimitLemmas.{charged}
 
 -- what is free costs nothing
 pub free-few : (reply : Reply) (answer : Answer) → reply ≡ reply_with answer 0 → reply.cents ≤ 100_000
 unfolding reply_with
 free-few reply answer is = let none : reply.cents ≡ 0 = ap (λ (r : Reply). r.cents) is in omega arith
 
--- one of two numbers below a bound is below it
-either : (test : Bool) (bound a b : ℕ) → a ≤ bound → b ≤ bound → cond test a b ≤ bound
-either true bound a b low high = low
-either false bound a b low high = high
-
--- a charge is at most the fare
-charge-few : (terms : Terms) (place : ℕ) → AreBoundedTerms terms → charge terms place ≤ 100_000
-unfolding charge
-charge-few terms place bounds =
-    let most : terms.fare ≤ 100_000 = bounds.fare_high in
-    either (nat_le terms.rides place || nat_le terms.ceiling (place * terms.fare)) 100_000 0 (min terms.fare (terms.ceiling - place * terms.fare)) (omega arith) (omega arith)
-
--- the cents of a reply to a ride are at most those that it costs
-ride_cents-few : (cents bound : ℕ) → cents ≤ bound → (ride_reply cents).cents ≤ bound
+reply_cents-few : (one : Charge) (bound : ℕ) → charged_by one ≤ bound
+    → (ride_reply (paid_by one)).cents ≤ bound
 unfolding ride_reply reply_with
-ride_cents-few cents bound few =
-    elim (nat_lt 0 cents) as (λ b. (cond b (reply_with Paid cents) (reply_with Capped 0)).cents ≤ bound) [
-      | true ↦ few
-      | false ↦ omega arith
-    ]
+reply_cents-few (Full place cents) bound few = few
+reply_cents-few (CeilingCut place cents) bound few = few
+reply_cents-few (CeilingReached place) bound few = few
+reply_cents-few RideLimitReached bound few = few
+
+charge-few : (terms : Terms) (rides cents : ℕ) → AreRideTerms terms
+    → charged_by (charge terms rides cents) ≤ 100_000
+charge-few terms rides cents bounds = elim (charged terms rides cents) [
+  | inl free ↦ omega (arith, free.cost)
+  | inr paid ↦ omega (arith, paid.cost, bounds.fare)
+]
 
 -- what a ride costs is at most the fare
-pub ride-few : (terms : Terms) (place : ℕ) (reply : Reply) → AreBoundedTerms terms → reply ≡ ride_reply (charge terms place) → reply.cents ≤ 100_000
-ride-few terms place reply bounds is =
-    subst (λ (r : Reply). r.cents ≤ 100_000) (sym is) (ride_cents-few (charge terms place) 100_000 (charge-few terms place bounds))
+pub ride-few : (terms : Terms) (rides cents : ℕ) (reply : Reply) → AreRideTerms terms
+    → reply ≡ ride_reply (paid_by (charge terms rides cents)) → reply.cents ≤ 100_000
+ride-few terms rides cents reply bounds is =
+    subst (λ (r : Reply). r.cents ≤ 100_000) (sym is)
+    (reply_cents-few (charge terms rides cents) 100_000 (charge-few terms rides cents bounds))
 
 -- what a ride costs for its reason is at most the fare
-pub ride_reason-few : (terms : Terms) (window : Window) (why : Reason) → AreBoundedTerms terms
+pub ride_reason-few : (terms : Terms) (window : Window) (why : Reason) → AreRideTerms terms
     → why ≡ next_reason terms window → (replied_by why).cents ≤ 100_000
 unfolding next_reason
 ride_reason-few terms window why bounds is =
-    ride-few terms window.rides (replied_by why) bounds
-    (ap (λ w. replied_by w) is ∙ ap ride_reply (sym (charged-charge terms window.rides)))
+    ride-few terms window.rides window.cents (replied_by why) bounds (ap (λ w. replied_by w) is)
 
 -- a transfer costs nothing
-pub given-few : (giver : Option LiveTap) (why : Reason) → why ≡ given_by giver
+pub given-few : (trip : Option TripEnd) (why : Reason) → why ≡ given_by trip
     → (replied_by why).cents ≤ 100_000
 unfolding given_by
 given-few None why is = free-few _ _ (ap (λ w. replied_by w) is)
-given-few (Some giver) why is = free-few _ _ (ap (λ w. replied_by w) is)
+given-few (Some trip) why is = free-few _ _ (ap (λ w. replied_by w) is)

@@ -9,3 +9,4 @@ pub mod ShareLemmas
 pub mod ReasonLemmas
 pub mod PriceLemmas
 pub mod NoTransferLemmas
+pub mod OneTransferLemmas

@@ -1,90 +1,233 @@
--- What rides cost by their places in a window, and that no window exceeds its limits.
-use Rattle.std.proofs.Common.{◌≡◌, ℕ, zero, suc, ◌+◌, ◌-◌, ◌*◌, ◌<◌, ◌≤◌, true, false, ◌||◌, ◌⊎◌}
-use Rattle.std.proofs.Common.{cond, List, length, min, leb, ltb, refl, sym, ap, ◌∙◌, inl, inr}
-use Rattle.std.proofs.Common.{⊎_elim, arith, All}
-use Rattle.std.proofs.lemmas.Bool.{cases_Bool, cases_lt, leb-false, or_parts}
+-- What the rides of a window cost, one after the other, and that no window exceeds its limits.
+use Rattle.std.proofs.Common.{◌≡◌, ℕ, suc, ◌+◌, ◌-◌, ◌<◌, ◌≤◌, true, false, ◌⊎◌, cond, List}
+use Rattle.std.proofs.Common.{[], ◌∷◌, ◌++◌, length, min, leb, Some, None, refl, sym, ap, ◌∙◌, inl}
+use Rattle.std.proofs.Common.{inr, arith, All, sum_by, Option}
+use Rattle.std.specs.Prelude.{count_by}
+use Rattle.std.specs.List.{last_or}
+use Rattle.std.proofs.lemmas.Bool.{cases_Bool, cases_lt, le-leb, leb-false, leb-true}
+use Rattle.std.proofs.lemmas.List.Elements.{All-head, All-tail}
+use Rattle.std.proofs.lemmas.List.Sums.{sum_by-cons, sum_by_push}
 use Rattle.fare_table.specs.declared.terms.Terms.{Terms}
-use Rattle.account_rule.specs.Windows.{charge, paid_rides, ride_cents}
+use Rattle.account_rule.specs.declared.reason.Charge.{Charge}
+use Rattle.account_rule.specs.declared.reason.Charge.TheVariants.{RideLimitReached}
+use Rattle.account_rule.specs.Taps.{LiveTap}
+use Rattle.account_rule.specs.Windows.{charge, charged_by, charges, charges_after, is_paid}
+use Rattle.account_rule.specs.Windows.{paid_rides, window_cents}
 
--- a ride is below both limits, and costs what is left at most
-pub record IsCharged (terms : Terms) (place : ℕ) : Type 0 where
-  pub below_rides : place < terms.rides
-  pub below_ceiling : place * terms.fare < terms.ceiling
-  pub cost : charge terms place ≡ min terms.fare (terms.ceiling - place * terms.fare)
+-- a limit is reached, so the ride is free
+pub record IsFree (terms : Terms) (rides cents : ℕ) : Type 0 where
+  pub reached : (terms.rides ≤ rides) ⊎ (terms.ceiling ≤ cents)
+  pub paid : is_paid (charge terms rides cents) ≡ false
+  pub cost : charged_by (charge terms rides cents) ≡ 0
+
+-- the ride is below both limits, and costs what is left at most
+pub record IsCharged (terms : Terms) (rides cents : ℕ) : Type 0 where
+  pub below_rides : rides < terms.rides
+  pub below_ceiling : cents < terms.ceiling
+  pub paid : is_paid (charge terms rides cents) ≡ true
+  pub cost : charged_by (charge terms rides cents) ≡ min terms.fare (terms.ceiling - cents)
 
 -- a ride is free, or charged
-pub charged : (terms : Terms) (place : ℕ) → (charge terms place ≡ 0) ⊎ IsCharged terms place
-unfolding charge
-charged terms place =
-    ⊎_elim
-    (λ (h : (leb terms.rides place || leb terms.ceiling (place * terms.fare)) ≡ true).
-    inl (rw h refl))
-    (λ (h : (leb terms.rides place || leb terms.ceiling (place * terms.fare)) ≡ false).
-    let parts = or_parts _ _ h in inr (record {
-      below_rides = leb-false _ _ parts.0;
-      below_ceiling = leb-false _ _ parts.1;
-      cost = rw h refl;
-    }))
-    (cases_Bool (leb terms.rides place || leb terms.ceiling (place * terms.fare)))
-
-pub charge-le : (terms : Terms) (place : ℕ) → charge terms place ≤ terms.fare
-charge-le terms place = elim (charged terms place)
-    [ inl free ↦ omega arith | inr paid ↦ omega (arith, paid.cost) ]
-
--- at the ride limit and past it a ride is free
-pub free_from : (terms : Terms) (place : ℕ) → terms.rides ≤ place → charge terms place ≡ 0
-free_from terms place past =
-    elim (charged terms place)
-    [ inl free ↦ free | inr paid ↦ absurd (omega (arith, paid.below_rides)) ]
-
--- past the ride limit all places cost the same
-pub charge-min : (terms : Terms) (place : ℕ)
-    → charge terms (min place terms.rides) ≡ charge terms place
-charge-min terms place = elim (cases_lt place terms.rides) [
-  | inl below ↦ let same : min place terms.rides ≡ place = omega arith in
-      ap (λ n. charge terms n) same
-  | inr past ↦ free_from terms (min place terms.rides) (omega arith)
-      ∙ sym (free_from terms place past)
-]
-
-ride_cents-le_fares : (terms : Terms) (places : ℕ) → ride_cents terms places ≤ places * terms.fare
-unfolding ride_cents
-ride_cents-le_fares terms zero = omega arith
-ride_cents-le_fares terms (suc place) =
-    omega (arith, ride_cents-le_fares terms place, charge-le terms place)
-
-pub ride_cents-le_ceiling : (terms : Terms) (places : ℕ) → ride_cents terms places ≤ terms.ceiling
-unfolding ride_cents
-ride_cents-le_ceiling terms zero = omega arith
-ride_cents-le_ceiling terms (suc place) = elim (charged terms place) [
-  | inl free ↦ omega (arith, ride_cents-le_ceiling terms place)
-  | inr paid ↦ omega (arith, ride_cents-le_fares terms place, paid.cost, paid.below_ceiling)
-]
-
-paid_rides-le_places : (terms : Terms) (places : ℕ) → paid_rides terms places ≤ places
-unfolding paid_rides
-paid_rides-le_places terms zero = omega arith
-paid_rides-le_places terms (suc place) =
-    elim (ltb 0 (charge terms place)) as (λ v. paid_rides terms place + cond v 1 0 ≤ suc place) [
-      | true ↦ omega (arith, paid_rides-le_places terms place)
-      | false ↦ omega
-          (arith, paid_rides-le_places terms place)
+pub charged : (terms : Terms) (rides cents : ℕ)
+    → IsFree terms rides cents ⊎ IsCharged terms rides cents
+unfolding charge is_paid
+charged terms rides cents =
+    elim (cases_Bool (leb terms.rides rides)) [
+      | inl limit ↦ inl (record {
+        reached = inl (leb-true terms.rides rides limit);
+        paid = rw limit refl;
+        cost = rw limit refl;
+      })
+      | inr below ↦ elim (cases_Bool (leb terms.ceiling cents)) [
+        | inl ceiling ↦ inl (record {
+          reached = inr (leb-true terms.ceiling cents ceiling);
+          paid = rw (below, ceiling) refl;
+          cost = rw (below, ceiling) refl;
+        })
+        | inr left ↦ elim (cases_Bool (leb (cents + terms.fare) terms.ceiling)) [
+          | inl whole ↦ inr (record {
+            below_rides = leb-false terms.rides rides below;
+            below_ceiling = leb-false terms.ceiling cents left;
+            paid = rw (below, left, whole) refl;
+            cost = rw (below, left, whole)
+                (omega (arith, leb-true (cents + terms.fare) terms.ceiling whole));
+          })
+          | inr cut ↦ inr (record {
+            below_rides = leb-false terms.rides rides below;
+            below_ceiling = leb-false terms.ceiling cents left;
+            paid = rw (below, left, cut) refl;
+            cost = rw (below, left, cut)
+                (omega (arith, leb-false (cents + terms.fare) terms.ceiling cut));
+          })
+        ]
+      ]
     ]
 
-pub paid_rides-le_rides : (terms : Terms) (places : ℕ) → paid_rides terms places ≤ terms.rides
-unfolding paid_rides
-paid_rides-le_rides terms zero = omega arith
-paid_rides-le_rides terms (suc place) = elim (charged terms place) [
-  | inl free ↦ rw free (omega (arith, paid_rides-le_rides terms place))
-  | inr paid ↦
-      elim (ltb 0 (charge terms place)) as
-      (λ v. paid_rides terms place + cond v 1 0 ≤ terms.rides) [
-        | true ↦ omega (arith, paid_rides-le_places terms place, paid.below_rides)
-        | false ↦ omega (arith, paid_rides-le_rides terms place)
-      ]
+-- past the ride limit all rides are alike
+limit_from : (terms : Terms) (rides cents : ℕ) → terms.rides ≤ rides
+    → charge terms rides cents ≡ RideLimitReached
+unfolding charge
+limit_from terms rides cents past =
+    let reached : leb terms.rides rides ≡ true = le-leb terms.rides rides past in rw reached refl
+
+-- rides need to be counted up to a number that no ride limit is above
+pub charge-min : (terms : Terms) (rides cents : ℕ) → terms.rides ≤ 1_000
+    → charge terms (min rides 1_000) cents ≡ charge terms rides cents
+charge-min terms rides cents high = elim (cases_lt rides 1_000) [
+  | inl below ↦ let same : min rides 1_000 ≡ rides = omega arith in
+      ap (λ n. charge terms n cents) same
+  | inr past ↦ limit_from terms (min rides 1_000) cents (omega arith)
+      ∙ sym (limit_from terms rides cents (omega arith))
 ]
 
--- a fact of every number of rides holds of every window
-pub All-windows : {A : Type 0} (P : ℕ → Type 0) → ((n : ℕ) → P n) → (windows : List (List A))
-    → All (λ window. P (length window)) windows
-All-windows P every windows = λ k d _. every _
+-- ---- one more ride
+same_charge : (terms : Terms) (rides rides' cents cents' : ℕ) → rides ≡ rides' → cents ≡ cents'
+    → charge terms rides cents ≡ charge terms rides' cents'
+same_charge terms rides rides' cents cents' one two = cc
+
+charges_after-push : (terms : LiveTap → Terms) (rides cents : ℕ) (window : List LiveTap)
+    (ride : LiveTap)
+    → charges_after terms rides cents (window ++ ride ∷ [])
+    ≡ charges_after terms rides cents window
+    ++ charge (terms ride) (rides + length window)
+    (cents + sum_by charged_by (charges_after terms rides cents window)) ∷ []
+unfolding charges_after
+charges_after-push terms rides cents [] ride =
+    ap (λ (c : Charge). c ∷ [])
+    (same_charge (terms ride) rides (rides + 0) cents (cents + 0) (omega arith) (omega arith))
+charges_after-push terms rides cents (first ∷ window) ride =
+    let next = cents + charged_by (charge (terms first) rides cents) in
+    ap (λ (cs : List Charge). charge (terms first) rides cents ∷ cs)
+    (charges_after-push terms (suc rides) next window ride
+    ∙ ap (λ (c : Charge). charges_after terms (suc rides) next window ++ c ∷ [])
+    (same_charge (terms ride) (suc rides + length window) (rides + suc (length window))
+    (next + sum_by charged_by (charges_after terms (suc rides) next window))
+    (cents + sum_by charged_by (charge (terms first) rides cents
+    ∷ charges_after terms (suc rides) next window))
+    (omega arith)
+    (omega (
+      arith,
+      sum_by-cons charged_by (charge (terms first) rides cents)
+          (charges_after terms (suc rides) next window),
+    ))))
+
+pub charges-push : (terms : LiveTap → Terms) (window : List LiveTap) (ride : LiveTap)
+    → charges terms (window ++ ride ∷ [])
+    ≡ charges terms window
+    ++ charge (terms ride) (length window) (window_cents terms window) ∷ []
+unfolding charges window_cents
+charges-push terms window ride =
+    charges_after-push terms 0 0 window ride
+    ∙ ap (λ (c : Charge). charges_after terms 0 0 window ++ c ∷ [])
+    (same_charge (terms ride) (0 + length window) (length window)
+    (0 + sum_by charged_by (charges_after terms 0 0 window))
+    (sum_by charged_by (charges_after terms 0 0 window)) (omega arith) (omega arith))
+
+pub cents-push : (terms : LiveTap → Terms) (window : List LiveTap) (ride : LiveTap)
+    → window_cents terms (window ++ ride ∷ [])
+    ≡ window_cents terms window
+    + charged_by (charge (terms ride) (length window) (window_cents terms window))
+unfolding window_cents
+cents-push terms window ride =
+    ap (λ (cs : List Charge). sum_by charged_by cs) (charges-push terms window ride)
+    ∙ sum_by_push charged_by (charges terms window) _
+
+pub paid-push : (terms : LiveTap → Terms) (window : List LiveTap) (ride : LiveTap)
+    → paid_rides terms (window ++ ride ∷ [])
+    ≡ paid_rides terms window
+    + cond (is_paid (charge (terms ride) (length window) (window_cents terms window))) 1 0
+unfolding paid_rides
+paid-push terms window ride =
+    ap (λ (cs : List Charge). count_by is_paid cs) (charges-push terms window ride)
+    ∙ sum_by_push (λ c. cond (is_paid c) 1 0) (charges terms window) _
+
+last_or-push : {A : Type 0} (before : Option A) (xs : List A) (x : A)
+    → last_or before (xs ++ x ∷ []) ≡ Some x
+last_or-push before [] x = refl
+last_or-push before (first ∷ xs) x = last_or-push (Some first) xs x
+
+pub last_charge-push : (terms : LiveTap → Terms) (window : List LiveTap) (ride : LiveTap)
+    → last_or None (charges terms (window ++ ride ∷ []))
+    ≡ Some (charge (terms ride) (length window) (window_cents terms window))
+last_charge-push terms window ride =
+    rw (charges-push terms window ride) (last_or-push None (charges terms window) _)
+
+-- ---- the limits
+pub zero-plus : (n : ℕ) → 0 + n ≡ n
+zero-plus n = omega arith
+
+one-plus : (n : ℕ) → 1 + n ≡ suc n
+one-plus n = omega arith
+
+count-free : (first : Charge) (more : List Charge) → is_paid first ≡ false
+    → count_by is_paid (first ∷ more) ≡ count_by is_paid more
+count-free first more free =
+    sum_by-cons (λ c. cond (is_paid c) 1 0) first more
+    ∙ ap (λ b. cond b 1 0 + count_by is_paid more) free ∙ zero-plus (count_by is_paid more)
+
+count-paid : (first : Charge) (more : List Charge) → is_paid first ≡ true
+    → count_by is_paid (first ∷ more) ≡ suc (count_by is_paid more)
+count-paid first more paid =
+    sum_by-cons (λ c. cond (is_paid c) 1 0) first more
+    ∙ ap (λ b. cond b 1 0 + count_by is_paid more) paid ∙ one-plus (count_by is_paid more)
+
+paid_from : (terms : LiveTap → Terms) (rides cents limit : ℕ) (window : List LiveTap)
+    → All (λ ride. (terms ride).rides ≤ limit) window
+    → count_by is_paid (charges_after terms rides cents window) ≤ limit - rides
+unfolding charges_after
+paid_from terms rides cents limit [] all = omega arith
+paid_from terms rides cents limit (first ∷ window) all =
+    let next = cents + charged_by (charge (terms first) rides cents) in
+    let rest = paid_from terms (suc rides) next limit window
+    (All-tail (λ ride. (terms ride).rides ≤ limit) first window all) in
+    let high : (terms first).rides ≤ limit =
+    All-head (λ ride. (terms ride).rides ≤ limit) first window all in
+    elim (charged (terms first) rides cents) [
+      | inl free ↦ omega (
+        arith,
+        rest,
+        count-free (charge (terms first) rides cents)
+            (charges_after terms (suc rides) next window) free.paid,
+      )
+      | inr paid ↦ omega (
+        arith,
+        rest,
+        paid.below_rides,
+        high,
+        count-paid (charge (terms first) rides cents)
+            (charges_after terms (suc rides) next window) paid.paid,
+      )
+    ]
+
+pub paid_rides-le : (terms : LiveTap → Terms) (limit : ℕ) (window : List LiveTap)
+    → All (λ ride. (terms ride).rides ≤ limit) window → paid_rides terms window ≤ limit
+unfolding paid_rides charges
+paid_rides-le terms limit window all =
+    omega (arith, paid_from terms 0 0 limit window all)
+
+cents_from : (terms : LiveTap → Terms) (rides cents ceiling : ℕ) (window : List LiveTap)
+    → cents ≤ ceiling → All (λ ride. (terms ride).ceiling ≤ ceiling) window
+    → cents + sum_by charged_by (charges_after terms rides cents window) ≤ ceiling
+unfolding charges_after
+cents_from terms rides cents ceiling [] low all = omega (arith, low)
+cents_from terms rides cents ceiling (first ∷ window) low all =
+    let next = cents + charged_by (charge (terms first) rides cents) in
+    let high : (terms first).ceiling ≤ ceiling =
+    All-head (λ ride. (terms ride).ceiling ≤ ceiling) first window all in
+    let below : next ≤ ceiling = elim (charged (terms first) rides cents) [
+      | inl free ↦ omega (arith, free.cost, low)
+      | inr paid ↦ omega (arith, paid.cost, paid.below_ceiling, high)
+    ] in
+    omega (
+      arith,
+      cents_from terms (suc rides) next ceiling window below
+          (All-tail (λ ride. (terms ride).ceiling ≤ ceiling) first window all),
+      sum_by-cons charged_by (charge (terms first) rides cents)
+          (charges_after terms (suc rides) next window),
+    )
+
+pub window_cents-le : (terms : LiveTap → Terms) (ceiling : ℕ) (window : List LiveTap)
+    → All (λ ride. (terms ride).ceiling ≤ ceiling) window → window_cents terms window ≤ ceiling
+unfolding window_cents charges
+window_cents-le terms ceiling window all =
+    omega (arith, cents_from terms 0 0 ceiling window (omega arith) all)

@@ -1,100 +1,180 @@
--- What the rides of a window cost as one number, and that higher terms are never cheaper.
-use Rattle.std.proofs.Common.{◌≡◌, ℕ, zero, suc, ◌+◌, ◌-◌, ◌*◌, ◌<◌, ◌≤◌, true, false, ◌||◌, List}
-use Rattle.std.proofs.Common.{length, min, leb, refl, sym, ap, ◌∙◌, inl, inr, arith}
-use Rattle.std.specs.Prelude.{sum_by}
-use Rattle.std.proofs.Math.Nat.{mul-le-mul_left, mul-le-mul_right}
-use Rattle.std.proofs.lemmas.Bool.{cases_lt, lt-leb}
-use Rattle.std.proofs.lemmas.List.Sums.{sum_by-le-sum_by}
+-- That higher terms are never cheaper, and that equal fares are charged by their places.
+use Rattle.std.proofs.Common.{◌≡◌, ℕ, zero, suc, ◌+◌, ◌-◌, ◌*◌, ◌<◌, ◌≤◌, true, false}
+use Rattle.std.proofs.Common.{List, [], ◌∷◌, min, leb, ltb, Some, refl, sym, ap, ◌∙◌, inl, inr, arith}
+use Rattle.std.proofs.Common.{subst}
+use Rattle.std.specs.Prelude.{slice_get, sum_by}
+use Rattle.std.proofs.lemmas.Bool.{cases_lt, le-leb, lt-leb, lt-ltb}
+use Rattle.std.proofs.lemmas.List.Sums.{sum_by-cons, sum_by-le-sum_by}
 use Rattle.fare_table.specs.declared.terms.Terms.{Terms}
+use Rattle.account_rule.specs.declared.reason.Charge.{Charge}
 use Rattle.account_rule.specs.declared.tap.TapIn.{TapIn}
-use Rattle.account_rule.specs.Blocks.{blocks_by}
-use Rattle.account_rule.specs.Chains.{chains, rides}
-use Rattle.account_rule.specs.Laws.{AreNoHigher, with_terms}
+use Rattle.account_rule.specs.Laws.{AreNoHigher, IsOfPlace, place_cents, with_terms}
 use Rattle.account_rule.specs.Replies.{replies}
 use Rattle.account_rule.specs.TokenRules.{TokenRules}
 use Rattle.account_rule.specs.Taps.{LiveTap}
-use Rattle.account_rule.specs.Windows.{charge, ride_cents, windows}
-use Rattle.account_rule.proofs.LimitLemmas.{charged, charge-le, free_from}
+use Rattle.account_rule.specs.Trips.{rides, trips}
+use Rattle.account_rule.specs.Windows.{charge, charged_by, charges, charges_after}
+use Rattle.account_rule.specs.Windows.{window_cents, windows}
+use Rattle.account_rule.proofs.LimitLemmas.{charged, zero-plus}
 use Rattle.account_rule.proofs.ShareLemmas.{cents_measure, sum-replies}
 
--- where the ceiling is reached, a ride is free
-free_past : (terms : Terms) (place : ℕ) → terms.ceiling ≤ place * terms.fare
-    → charge terms place ≡ 0
-free_past terms place past = elim (charged terms place)
-    [ inl free ↦ free | inr paid ↦ absurd (omega (arith, paid.below_ceiling)) ]
-
--- else it costs a fare, or what is left
-costs : (terms : Terms) (place : ℕ) → place < terms.rides → place * terms.fare < terms.ceiling
-    → charge terms place ≡ min terms.fare (terms.ceiling - place * terms.fare)
-unfolding charge
-costs terms place below left =
-    let no_limit : leb terms.rides place ≡ false = lt-leb terms.rides place below in
-    let no_ceiling : leb terms.ceiling (place * terms.fare) ≡ false =
-    lt-leb terms.ceiling (place * terms.fare) left in
-    rw (no_limit, no_ceiling) refl
-
--- the rides of a window cost a fare each, up to the ride limit and to the ceiling
-pub ride_cents-is : (terms : Terms) (places : ℕ)
-    → ride_cents terms places ≡ min terms.ceiling (min places terms.rides * terms.fare)
-unfolding ride_cents
-ride_cents-is terms zero =
-    let none : min zero terms.rides ≡ zero = omega arith in
-    let free : zero ≡ min terms.ceiling (zero * terms.fare) = omega arith in
-    free ∙ sym (ap (λ n. min terms.ceiling (n * terms.fare)) none)
-ride_cents-is terms (suc place) =
-    let so_far = ride_cents-is terms place in
-    elim (cases_lt place terms.rides) [
-      | inl below ↦
-          let all : min (suc place) terms.rides ≡ suc place = omega arith in
-          let before : min place terms.rides ≡ place = omega arith in
-          let sum : ride_cents terms place ≡ min terms.ceiling (place * terms.fare) =
-          so_far ∙ ap (λ n. min terms.ceiling (n * terms.fare)) before in
-          ap (λ n. n + charge terms place) sum
-          ∙ elim (cases_lt (place * terms.fare) terms.ceiling) [
-            | inl left ↦ omega (arith, costs terms place below left)
-            | inr past ↦ omega (arith, free_past terms place past)
-          ]
-          ∙ sym (ap (λ n. min terms.ceiling (n * terms.fare)) all)
-      | inr over ↦
-          let all : min (suc place) terms.rides ≡ min place terms.rides = omega arith in
-          omega (arith, so_far, free_from terms place over)
-          ∙ sym (ap (λ n. min terms.ceiling (n * terms.fare)) all)
+-- ---- higher terms
+-- one ride: what was charged so far and it are no less under higher terms
+ride-rise : (low high : Terms) (rides cents more : ℕ) → AreNoHigher low high → cents ≤ more
+    → cents + charged_by (charge low rides cents) ≤ more + charged_by (charge high rides more)
+ride-rise low high rides cents more rise below = elim (charged low rides cents) [
+  | inl free ↦ omega (arith, free.cost, below)
+  | inr paid ↦ elim (charged high rides more) [
+    | inl free ↦ elim free.reached [
+      | inl limit ↦ absurd (omega (arith, limit, paid.below_rides, rise.rides))
+      | inr reached ↦ omega
+          (arith, reached, paid.cost, paid.below_ceiling, rise.ceiling, free.cost)
     ]
+    | inr also ↦ omega (
+      arith,
+      paid.cost,
+      paid.below_ceiling,
+      also.cost,
+      also.below_ceiling,
+      rise.fare,
+      rise.ceiling,
+      below,
+    )
+  ]
+]
 
--- terms that are no lower make no window cheaper
-ride_cents-rise : (terms higher : Terms) (places : ℕ) → AreNoHigher terms higher
-    → ride_cents terms places ≤ ride_cents higher places
-ride_cents-rise terms higher places rise =
-    let few : min places terms.rides ≤ min places higher.rides = omega (arith, rise.rides) in
-    let fares : min places terms.rides * terms.fare ≤ min places terms.rides * higher.fare =
-    mul-le-mul_left (min places terms.rides) rise.fare in
-    let rides : min places terms.rides * higher.fare ≤ min places higher.rides * higher.fare =
-    mul-le-mul_right higher.fare few in
+rise-from : (low high : LiveTap → Terms) (rides cents more : ℕ) (window : List LiveTap)
+    → ((ride : LiveTap) → AreNoHigher (low ride) (high ride)) → cents ≤ more
+    → cents + sum_by charged_by (charges_after low rides cents window)
+    ≤ more + sum_by charged_by (charges_after high rides more window)
+unfolding charges_after
+rise-from low high rides cents more [] rise below = omega (arith, below)
+rise-from low high rides cents more (first ∷ window) rise below =
+    let next = cents + charged_by (charge (low first) rides cents) in
+    let dear = more + charged_by (charge (high first) rides more) in
     omega (
       arith,
-      ride_cents-is terms places,
-      ride_cents-is higher places,
-      fares,
-      rides,
-      rise.ceiling,
+      rise-from low high (suc rides) next dear window rise
+          (ride-rise (low first) (high first) rides cents more (rise first) below),
+      sum_by-cons charged_by (charge (low first) rides cents)
+          (charges_after low (suc rides) next window),
+      sum_by-cons charged_by (charge (high first) rides more)
+          (charges_after high (suc rides) dear window),
     )
 
+window_cents-rise : (low high : LiveTap → Terms) (window : List LiveTap)
+    → ((ride : LiveTap) → AreNoHigher (low ride) (high ride))
+    → window_cents low window ≤ window_cents high window
+unfolding window_cents charges
+window_cents-rise low high window rise =
+    omega (arith, rise-from low high 0 0 0 window rise (omega arith))
+
 -- the windows do not depend on the terms
-same_windows : (rules : TokenRules) (higher : Terms) (taps : List TapIn)
+same_windows : (rules : TokenRules) (higher : LiveTap → Terms) (taps : List TapIn)
     → windows (with_terms rules higher) taps ≡ windows rules taps
-unfolding windows rides chains
+unfolding windows rides trips
 same_windows rules higher taps = refl
 
-pub higher-cost : (rules : TokenRules) (higher : Terms) (taps : List TapIn)
-    → AreNoHigher rules.terms higher
+pub higher-cost : (rules : TokenRules) (higher : LiveTap → Terms) (taps : List TapIn)
+    → ((ride : LiveTap) → AreNoHigher (rules.terms ride) (higher ride))
     → sum_by (λ reply. reply.cents) (replies rules taps)
     ≤ sum_by (λ reply. reply.cents) (replies (with_terms rules higher) taps)
 higher-cost rules higher taps rise =
     let low = sum-replies rules _ _ (cents_measure rules.terms) taps in
     let high = sum-replies (with_terms rules higher) _ _ (cents_measure higher) taps
-    ∙ ap (sum_by (λ (window : List LiveTap). ride_cents higher (length window)))
-    (same_windows rules higher taps) in
-    let rises = sum_by-le-sum_by (λ (window : List LiveTap). ride_cents rules.terms (length window))
-    (λ (window : List LiveTap). ride_cents higher (length window)) (windows rules taps)
-    (λ window. ride_cents-rise rules.terms higher (length window) rise) in
+    ∙ ap (sum_by (window_cents higher)) (same_windows rules higher taps) in
+    let rises = sum_by-le-sum_by (window_cents rules.terms) (window_cents higher)
+    (windows rules taps) (λ window. window_cents-rise rules.terms higher window rise) in
     omega (arith, low, high, rises)
+
+-- ---- equal fares
+-- the rides before a place have cost a fare each, up to the ceiling
+abbrev HasCost : Terms → ℕ → ℕ → Type 0
+HasCost terms place cents =
+    place < terms.rides → cents ≡ min terms.ceiling (place * terms.fare)
+
+of_place : (terms : Terms) (place cents : ℕ) → 1 ≤ terms.fare → HasCost terms place cents
+    → IsOfPlace terms place (charge terms place cents)
+unfolding place_cents
+of_place terms place cents low cost = elim (charged terms place cents) [
+  | inl free ↦ elim free.reached [
+    | inl limit ↦
+        let past : leb terms.rides place ≡ true = le-leb terms.rides place limit in record {
+          cents = rw past free.cost;
+          paid = rw past free.paid;
+        }
+    | inr reached ↦ elim (cases_lt place terms.rides) [
+      | inl below ↦
+          let room : leb terms.rides place ≡ false = lt-leb terms.rides place below in
+          let past : leb terms.ceiling (place * terms.fare) ≡ true =
+          le-leb terms.ceiling (place * terms.fare) (omega (arith, reached, cost below)) in record {
+            cents = rw (room, past) free.cost;
+            paid = rw (room, past) free.paid;
+          }
+      | inr limit ↦
+          let past : leb terms.rides place ≡ true = le-leb terms.rides place limit in record {
+            cents = rw past free.cost;
+            paid = rw past free.paid;
+          }
+    ]
+  ]
+  | inr paid ↦
+      let room : leb terms.rides place ≡ false = lt-leb terms.rides place paid.below_rides in
+      let same : cents ≡ place * terms.fare =
+      omega (arith, cost paid.below_rides, paid.below_ceiling) in
+      let left : leb terms.ceiling (place * terms.fare) ≡ false =
+      lt-leb terms.ceiling (place * terms.fare) (omega (arith, same, paid.below_ceiling)) in
+      let costs : charged_by (charge terms place cents)
+      ≡ min terms.fare (terms.ceiling - place * terms.fare) = omega (arith, paid.cost, same) in
+      let some : ltb 0 (min terms.fare (terms.ceiling - place * terms.fare)) ≡ true =
+      lt-ltb 0 (min terms.fare (terms.ceiling - place * terms.fare))
+      (omega (arith, low, same, paid.below_ceiling)) in record {
+        cents = rw (room, left) costs;
+        paid = paid.paid ∙ rw (room, left) (sym some);
+      }
+]
+
+next_cost : (terms : Terms) (place cents : ℕ) → HasCost terms place cents
+    → HasCost terms (suc place) (cents + charged_by (charge terms place cents))
+next_cost terms place cents cost below =
+    let so_far : cents ≡ min terms.ceiling (place * terms.fare) = cost (omega (arith, below)) in
+    elim (charged terms place cents) [
+      | inl free ↦ elim free.reached [
+        | inl limit ↦ absurd (omega (arith, limit, below))
+        | inr reached ↦ omega (arith, so_far, reached, free.cost)
+      ]
+      | inr paid ↦ omega (arith, so_far, paid.cost, paid.below_ceiling)
+    ]
+
+by_places : (terms : LiveTap → Terms) (same : Terms) (rides cents : ℕ) (window : List LiveTap)
+    → 1 ≤ same.fare → ((ride : LiveTap) → terms ride ≡ same) → HasCost same rides cents
+    → (place : ℕ) (one : Charge)
+    → slice_get (charges_after terms rides cents window) place ≡ Some one
+    → IsOfPlace same (rides + place) one
+unfolding charges_after
+by_places terms same rides cents [] low equal cost place one is = absurd (cc)
+by_places terms same rides cents (first ∷ window) low equal cost zero one is =
+    let it : charge same rides cents ≡ one =
+    ap (λ t. charge t rides cents) (sym (equal first)) ∙ the_same (charge (terms first) rides cents) one is in
+    let at : rides ≡ rides + 0 = omega arith in
+    subst (λ n. IsOfPlace same n one) at
+    (subst (λ c. IsOfPlace same rides c) it (of_place same rides cents low cost))
+  where
+    the_same : (a b : Charge) → Some a ≡ Some b → a ≡ b
+    the_same a b both = cc
+by_places terms same rides cents (first ∷ window) low equal cost (suc place) one is =
+    let next : HasCost same (suc rides) (cents + charged_by (charge (terms first) rides cents)) =
+    rw (equal first) (next_cost same rides cents cost) in
+    let at : suc rides + place ≡ rides + suc place = omega arith in
+    subst (λ n. IsOfPlace same n one) at
+    (by_places terms same (suc rides) (cents + charged_by (charge (terms first) rides cents))
+    window low equal next place one is)
+
+pub equal_by_places : (terms : LiveTap → Terms) (same : Terms) (window : List LiveTap)
+    → 1 ≤ same.fare → ((ride : LiveTap) → terms ride ≡ same)
+    → (place : ℕ) (one : Charge) → slice_get (charges terms window) place ≡ Some one
+    → IsOfPlace same place one
+unfolding charges
+equal_by_places terms same window low equal =
+    λ place one is. subst (λ n. IsOfPlace same n one) (zero-plus place)
+    (by_places terms same 0 0 window low equal (λ below. omega arith) place one is)

@@ -1,29 +1,34 @@
 -- What the replies to a list of taps add up to, window by window.
-use Rattle.std.proofs.Common.{◌≡◌, ℕ, suc, ◌+◌, ◌-◌, Bool, true, false, cond, List, [], ◌∷◌, ◌++◌}
-use Rattle.std.proofs.Common.{length, Some, None, refl, sym, ap, ◌∙◌, append_assoc, append-nil}
-use Rattle.std.proofs.Common.{arith, filter, ⊎_elim, ltb, sum_by}
-use Rattle.std.specs.List.{flat_map}
-use Rattle.std.proofs.lemmas.Bool.{cases_Bool, ltb-false}
+use Rattle.std.proofs.Common.{◌≡◌, ℕ, ◌+◌, Bool, true, false, cond, List, [], ◌∷◌, ◌++◌, Option}
+use Rattle.std.proofs.Common.{Some, None, refl, sym, ap, ◌∙◌, append_assoc, append-nil, arith, filter}
+use Rattle.std.proofs.Common.{map, ⊎_elim, sum_by}
+use Rattle.std.specs.List.{flat_map, last_or}
+use Rattle.std.specs.Option.{option_and_then}
+use Rattle.std.proofs.lemmas.Bool.{cases_Bool}
+use Rattle.std.proofs.lemmas.List.{map-append}
 use Rattle.std.proofs.lemmas.List.Elements.{filter-append}
 use Rattle.std.proofs.lemmas.List.Sums.{sum_by-cons, sum_by_push}
 use Rattle.fare_table.specs.declared.terms.Terms.{Terms}
-use Rattle.account_rule.specs.declared.reply.Answer.TheVariants.{Capped, Paid, Stale, Transfer}
-use Rattle.account_rule.specs.declared.reply.Answer.TheVariants.{Unknown}
+use Rattle.account_rule.specs.declared.reason.Charge.{Charge}
+use Rattle.account_rule.specs.declared.reason.Charge.TheVariants.{CeilingCut, CeilingReached, Full}
+use Rattle.account_rule.specs.declared.reason.Charge.TheVariants.{RideLimitReached}
+use Rattle.account_rule.specs.declared.reply.Answer.TheVariants.{Stale, Transfer, Unknown}
 use Rattle.account_rule.specs.declared.reply.Reply.{Reply}
 use Rattle.account_rule.specs.declared.tap.TapIn.{TapIn}
-use Rattle.account_rule.specs.Chains.{chains, ends_in_transfer, rides}
+use Rattle.account_rule.specs.Trips.{ends_in_transfer, rides, trips}
 use Rattle.account_rule.specs.Blocks.{blocks_by, last_block}
-use Rattle.account_rule.specs.Laws.{is_paid_reply, is_ride, place_replies}
+use Rattle.account_rule.specs.Laws.{charge_reply, is_paid_reply, is_ride}
 use Rattle.account_rule.specs.Replies.{live_reply, replies, replies_after, reply, reply_with}
 use Rattle.account_rule.specs.Replies.{ride_reply}
 use Rattle.account_rule.specs.TokenRules.{TokenRules}
 use Rattle.account_rule.specs.Taps.{LiveTap, is_later, live, live_after, live_at, live_tap}
-use Rattle.account_rule.specs.Windows.{charge, is_within, paid_rides, ride_cents, windows}
+use Rattle.account_rule.specs.Windows.{charged_by, charges, charges_after, is_paid, is_within}
+use Rattle.account_rule.specs.Windows.{paid_by, paid_rides, window_cents, windows}
 use Rattle.account_rule.proofs.BlockLemmas.{extend, last_block-cons}
+use Rattle.account_rule.proofs.LimitLemmas.{cents-push, charges-push, last_charge-push, paid-push}
 use Rattle.account_rule.proofs.StepLemmas.{is_live, not_known, not_later, reply_live, reply_ride}
 use Rattle.account_rule.proofs.StepLemmas.{reply_stale, reply_transfer, reply_unknown}
 use Rattle.account_rule.proofs.TapLemmas.{windows-ride, windows-same, windows-transfer}
-use Rattle.account_rule.proofs.WindowLemmas.{length-push}
 
 replies_after-push : (rules : TokenRules) (earlier taps : List TapIn) (tap : TapIn)
     → replies_after rules earlier (taps ++ tap ∷ []) ≡ replies_after rules earlier taps
@@ -40,6 +45,11 @@ replies-push : (rules : TokenRules) (taps : List TapIn) (tap : TapIn)
 unfolding replies
 replies-push rules taps tap = replies_after-push rules [] taps tap
 
+-- the reply to the last ride of a window
+abbrev last_reply : (LiveTap → Terms) → List LiveTap → Reply
+last_reply terms window =
+    ride_reply (option_and_then paid_by (last_or None (charges terms window)))
+
 -- what one more tap makes of the replies and the windows
 data Change (rules : TokenRules) (taps : List TapIn) (tap : TapIn) : Type 0 where
   is_unknown : reply rules taps tap ≡ reply_with Unknown 0
@@ -50,8 +60,8 @@ data Change (rules : TokenRules) (taps : List TapIn) (tap : TapIn) : Type 0 wher
       → windows rules (taps ++ tap ∷ []) ≡ windows rules taps → Change rules taps tap
   is_charged : (shown : LiveTap)
       → reply rules taps tap
-      ≡ ride_reply (charge rules.terms
-      (length (last_block (extend (is_within rules.until) (windows rules taps) shown)) - 1))
+      ≡ last_reply rules.terms
+      (last_block (extend (is_within rules.until) (windows rules taps) shown))
       → windows rules (taps ++ tap ∷ []) ≡ extend (is_within rules.until) (windows rules taps) shown
       → Change rules taps tap
 
@@ -82,70 +92,63 @@ change rules taps tap = elim tap.mode as (λ mode. tap.mode ≡ mode → Change 
       (cases_Bool (is_later taps tap.moment))
 ] refl
 
--- A measure of the replies, as their cents, and the same measure of the first rides of a window.
-pub record IsMeasure (terms : Terms) (of_reply : Reply → ℕ) (of_places : ℕ → ℕ) : Type 0 where
+-- A measure of the replies, as their cents, and the same measure of the rides of a window.
+pub record IsMeasure (terms : LiveTap → Terms) (of_reply : Reply → ℕ) (of_window : List LiveTap → ℕ)
+    : Type 0 where
   pub unknown : of_reply (reply_with Unknown 0) ≡ 0
   pub stale : of_reply (reply_with Stale 0) ≡ 0
   pub transfer : of_reply (reply_with Transfer 0) ≡ 0
-  pub none : of_places 0 ≡ 0
-  pub more : (place : ℕ)
-      → of_places (suc place) ≡ of_places place + of_reply (ride_reply (charge terms place))
-
-place-push : {A : Type 0} (block : List A) (x : A) → length (block ++ x ∷ []) - 1 ≡ length block
-place-push block x = omega (arith, length-push block x)
+  pub none : of_window [] ≡ 0
+  pub more : (window : List LiveTap) (ride : LiveTap)
+      → of_window (window ++ ride ∷ [])
+      ≡ of_window window + of_reply (last_reply terms (window ++ ride ∷ []))
 
 -- the measure of all windows
-total : {A : Type 0} → (ℕ → ℕ) → List (List A) → ℕ
-total of_places blocks = sum_by (λ block. of_places (length block)) blocks
+total : (List LiveTap → ℕ) → List (List LiveTap) → ℕ
+total of_window blocks = sum_by of_window blocks
 
-total-nil : (A : Type 0) (of_places : ℕ → ℕ) → total {A = A} of_places [] ≡ 0
+total-nil : (of_window : List LiveTap → ℕ) → total of_window [] ≡ 0
 unfolding total
-total-nil A of_places = refl
+total-nil of_window = refl
 
-total-cons : {A : Type 0} (of_places : ℕ → ℕ) (block : List A) (blocks : List (List A))
-    → total of_places (block ∷ blocks) ≡ of_places (length block) + total of_places blocks
+total-cons : (of_window : List LiveTap → ℕ) (block : List LiveTap) (blocks : List (List LiveTap))
+    → total of_window (block ∷ blocks) ≡ of_window block + total of_window blocks
 unfolding total
-total-cons of_places block blocks = sum_by-cons (λ b. of_places (length b)) block blocks
+total-cons of_window block blocks = sum_by-cons of_window block blocks
 
--- one more ride adds the measure of its place
-total-extend : {A : Type 0} (terms : Terms) (of_reply : Reply → ℕ) (of_places : ℕ → ℕ)
-    → IsMeasure terms of_reply of_places
-    → (joins : List A → A → Bool) (blocks : List (List A)) (x : A)
-    → total of_places (extend joins blocks x)
-    ≡ total of_places blocks
-    + of_reply (ride_reply (charge terms (length (last_block (extend joins blocks x)) - 1)))
+-- one more ride adds the measure of its charge
+total-extend : (terms : LiveTap → Terms) (of_reply : Reply → ℕ) (of_window : List LiveTap → ℕ)
+    → IsMeasure terms of_reply of_window
+    → (joins : List LiveTap → LiveTap → Bool) (blocks : List (List LiveTap)) (x : LiveTap)
+    → total of_window (extend joins blocks x)
+    ≡ total of_window blocks
+    + of_reply (last_reply terms (last_block (extend joins blocks x)))
 unfolding extend last_block
-total-extend {A} terms of_reply of_places measure joins [] x =
-    rw (total-cons of_places (x ∷ []) [], total-nil A of_places)
-    (omega (arith, measure.more 0, measure.none))
-total-extend {A} terms of_reply of_places measure joins (block ∷ []) x =
+total-extend terms of_reply of_window measure joins [] x =
+    rw (total-cons of_window (x ∷ []) [], total-nil of_window)
+    (omega (arith, measure.more [] x, measure.none))
+total-extend terms of_reply of_window measure joins (block ∷ []) x =
     elim (joins block x) as (λ v.
-    total of_places (cond v ((block ++ x ∷ []) ∷ []) (block ∷ (x ∷ []) ∷ []))
-    ≡ total of_places (block ∷ [])
-    + of_reply (ride_reply
-    (charge terms (length (last_block (cond v ((block ++ x ∷ []) ∷ []) (block ∷ (x ∷ []) ∷ [])))
-    - 1)))) [
-      | true ↦ rw (
-        total-cons of_places (block ++ x ∷ []) [],
-        total-cons of_places block [],
-        place-push block x,
-        length-push block x,
-      )
-          (omega (arith, measure.more (length block)))
+    total of_window (cond v ((block ++ x ∷ []) ∷ []) (block ∷ (x ∷ []) ∷ []))
+    ≡ total of_window (block ∷ [])
+    + of_reply (last_reply terms
+    (last_block (cond v ((block ++ x ∷ []) ∷ []) (block ∷ (x ∷ []) ∷ []))))) [
+      | true ↦ rw (total-cons of_window (block ++ x ∷ []) [], total-cons of_window block [])
+          (omega (arith, measure.more block x))
       | false ↦ rw (
-        total-cons of_places block ((x ∷ []) ∷ []),
-        total-cons of_places (x ∷ []) [],
-        total-cons of_places block [],
+        total-cons of_window block ((x ∷ []) ∷ []),
+        total-cons of_window (x ∷ []) [],
+        total-cons of_window block [],
       )
-          (omega (arith, measure.more 0, measure.none, total-nil A of_places))
+          (omega (arith, measure.more [] x, measure.none, total-nil of_window))
     ]
-total-extend {A} terms of_reply of_places measure joins (block ∷ next ∷ blocks) x =
+total-extend terms of_reply of_window measure joins (block ∷ next ∷ blocks) x =
     rw (
-      total-cons of_places block (extend joins (next ∷ blocks) x),
-      total-cons of_places block (next ∷ blocks),
+      total-cons of_window block (extend joins (next ∷ blocks) x),
+      total-cons of_window block (next ∷ blocks),
       last_block-cons block joins next blocks x,
     )
-    (omega (arith, total-extend terms of_reply of_places measure joins (next ∷ blocks) x))
+    (omega (arith, total-extend terms of_reply of_window measure joins (next ∷ blocks) x))
 
 -- a fact of the empty list that one more tap keeps
 push_all : (P : List TapIn → Type 0) → P []
@@ -156,18 +159,18 @@ push_all P none more earlier (tap ∷ taps) all =
     rw (← append_assoc earlier (tap ∷ []) taps)
     (push_all P none more (earlier ++ tap ∷ []) taps (more earlier tap all))
 
-first : (rules : TokenRules) (of_reply : Reply → ℕ) (of_places : ℕ → ℕ)
-    → sum_by of_reply (replies rules []) ≡ total of_places (windows rules [])
-unfolding replies replies_after windows rides chains live live_after blocks_by total
-first rules of_reply of_places = refl
+first : (rules : TokenRules) (of_reply : Reply → ℕ) (of_window : List LiveTap → ℕ)
+    → sum_by of_reply (replies rules []) ≡ total of_window (windows rules [])
+unfolding replies replies_after windows rides trips live live_after blocks_by total
+first rules of_reply of_window = refl
 
-sum-replies-total : (rules : TokenRules) (of_reply : Reply → ℕ) (of_places : ℕ → ℕ)
-    → IsMeasure rules.terms of_reply of_places
+sum-replies-total : (rules : TokenRules) (of_reply : Reply → ℕ) (of_window : List LiveTap → ℕ)
+    → IsMeasure rules.terms of_reply of_window
     → (taps : List TapIn)
-    → sum_by of_reply (replies rules taps) ≡ total of_places (windows rules taps)
-sum-replies-total rules of_reply of_places measure taps =
-    push_all (λ taps. sum_by of_reply (replies rules taps) ≡ total of_places (windows rules taps))
-    (first rules of_reply of_places)
+    → sum_by of_reply (replies rules taps) ≡ total of_window (windows rules taps)
+sum-replies-total rules of_reply of_window measure taps =
+    push_all (λ taps. sum_by of_reply (replies rules taps) ≡ total of_window (windows rules taps))
+    (first rules of_reply of_window)
     (λ taps tap all. rw (
       replies-push rules taps tap,
       sum_by_push of_reply (replies rules taps) (reply rules taps tap),
@@ -180,21 +183,21 @@ sum-replies-total rules of_reply of_places measure taps =
         answered,
         opens,
         all,
-        total-extend rules.terms of_reply of_places measure (is_within rules.until)
+        total-extend rules.terms of_reply of_window measure (is_within rules.until)
             (windows rules taps) shown,
       ) refl
     ]))
-    [] taps (first rules of_reply of_places)
+    [] taps (first rules of_reply of_window)
 
 -- the measure of the replies is that of the windows
-pub sum-replies : (rules : TokenRules) (of_reply : Reply → ℕ) (of_places : ℕ → ℕ)
-    → IsMeasure rules.terms of_reply of_places
+pub sum-replies : (rules : TokenRules) (of_reply : Reply → ℕ) (of_window : List LiveTap → ℕ)
+    → IsMeasure rules.terms of_reply of_window
     → (taps : List TapIn)
     → sum_by of_reply (replies rules taps)
-    ≡ sum_by (λ window. of_places (length window)) (windows rules taps)
+    ≡ sum_by of_window (windows rules taps)
 unfolding total
-sum-replies rules of_reply of_places measure taps =
-    sum-replies-total rules of_reply of_places measure taps
+sum-replies rules of_reply of_window measure taps =
+    sum-replies-total rules of_reply of_window measure taps
 
 -- The replies to rides, in order.
 ride_replies-free : (replies : List Reply) (reply : Reply) → is_ride reply ≡ false
@@ -202,46 +205,63 @@ ride_replies-free : (replies : List Reply) (reply : Reply) → is_ride reply ≡
 ride_replies-free replies reply none =
     rw (filter-append is_ride replies (reply ∷ [])) (rw none (append-nil (filter is_ride replies)))
 
-ride_replies-ride : (replies : List Reply) (cents : ℕ)
-    → filter is_ride (replies ++ ride_reply cents ∷ []) ≡ filter is_ride replies ++ ride_reply cents
-    ∷ []
+is_ride-reply : (paid : Option ℕ) → is_ride (ride_reply paid) ≡ true
 unfolding ride_reply reply_with
-ride_replies-ride replies cents = rw (filter-append is_ride replies (ride_reply cents ∷ []))
-    (elim (ltb 0 cents) as (λ v. filter is_ride replies
-    ++ filter is_ride (cond v (reply_with Paid cents) (reply_with Capped 0) ∷ [])
-    ≡ filter is_ride replies ++ cond v (reply_with Paid cents) (reply_with Capped 0) ∷ [])
-    [ true ↦ refl | false ↦ refl ])
+is_ride-reply None = refl
+is_ride-reply (Some cents) = refl
 
--- the replies of all windows, by the places of their rides
-unfoldable pub shares_of : {A : Type 0} → Terms → List (List A) → List Reply
-shares_of terms blocks = flat_map (λ block. place_replies terms (length block)) blocks
+ride_replies-ride : (replies : List Reply) (paid : Option ℕ)
+    → filter is_ride (replies ++ ride_reply paid ∷ []) ≡ filter is_ride replies ++ ride_reply paid
+    ∷ []
+ride_replies-ride replies paid =
+    rw (filter-append is_ride replies (ride_reply paid ∷ [])) (rw (is_ride-reply paid) refl)
 
-shares_of-extend : {A : Type 0} (terms : Terms) (joins : List A → A
-    → Bool) (blocks : List (List A)) (x : A)
+-- the replies of all windows, by their charges
+unfoldable pub shares_of : (LiveTap → Terms) → List (List LiveTap) → List Reply
+shares_of terms blocks = flat_map (λ block. map charge_reply (charges terms block)) blocks
+
+map-push : (terms : LiveTap → Terms) (window : List LiveTap) (ride : LiveTap)
+    → map charge_reply (charges terms (window ++ ride ∷ []))
+    ≡ map charge_reply (charges terms window) ++ last_reply terms (window ++ ride ∷ []) ∷ []
+map-push terms window ride =
+    rw (last_charge-push terms window ride, charges-push terms window ride)
+    (map-append charge_reply (charges terms window) _)
+
+none-mapped : (terms : LiveTap → Terms) → map charge_reply (charges terms []) ≡ []
+unfolding charges charges_after
+none-mapped terms = refl
+
+shares_of-extend : (terms : LiveTap → Terms) (joins : List LiveTap → LiveTap → Bool)
+    (blocks : List (List LiveTap)) (x : LiveTap)
     → shares_of terms (extend joins blocks x) ≡ shares_of terms blocks
-    ++ ride_reply (charge terms (length (last_block (extend joins blocks x)) - 1)) ∷ []
-unfolding shares_of extend last_block place_replies
-shares_of-extend terms joins [] x = refl
+    ++ last_reply terms (last_block (extend joins blocks x)) ∷ []
+unfolding shares_of extend last_block
+shares_of-extend terms joins [] x =
+    append-nil _ ∙ map-push terms [] x
+    ∙ ap (λ rs. rs ++ last_reply terms (x ∷ []) ∷ []) (none-mapped terms)
 shares_of-extend terms joins (block ∷ []) x =
     elim (joins block x) as (λ v.
     shares_of terms (cond v ((block ++ x ∷ []) ∷ []) (block ∷ (x ∷ []) ∷ []))
     ≡ shares_of terms (block ∷ [])
-    ++ ride_reply (charge terms
-    (length (last_block (cond v ((block ++ x ∷ []) ∷ []) (block ∷ (x ∷ []) ∷ []))) - 1)) ∷ []) [
-      | true ↦ rw (place-push block x, length-push block x) (append-nil _
-          ∙ sym (ap (λ rs. rs ++ ride_reply (charge terms (length block)) ∷ [])
-          (append-nil (place_replies terms (length block)))))
-      | false ↦ rw (append-nil (place_replies terms (length block))) refl
+    ++ last_reply terms
+    (last_block (cond v ((block ++ x ∷ []) ∷ []) (block ∷ (x ∷ []) ∷ []))) ∷ []) [
+      | true ↦ append-nil _ ∙ map-push terms block x
+          ∙ sym (ap (λ rs. rs ++ last_reply terms (block ++ x ∷ []) ∷ [])
+          (append-nil (map charge_reply (charges terms block))))
+      | false ↦ rw (append-nil (map charge_reply (charges terms block)))
+          (ap (λ rs. map charge_reply (charges terms block) ++ rs)
+          (append-nil _ ∙ map-push terms [] x
+          ∙ ap (λ rs. rs ++ last_reply terms (x ∷ []) ∷ []) (none-mapped terms)))
     ]
 shares_of-extend terms joins (block ∷ next ∷ blocks) x =
     rw (last_block-cons block joins next blocks x)
-    (ap (λ rs. place_replies terms (length block) ++ rs)
+    (ap (λ rs. map charge_reply (charges terms block) ++ rs)
     (shares_of-extend terms joins (next ∷ blocks) x)
-    ∙ sym (append_assoc (place_replies terms (length block)) _ _))
+    ∙ sym (append_assoc (map charge_reply (charges terms block)) _ _))
 
 no_shares : (rules : TokenRules)
     → filter is_ride (replies rules []) ≡ shares_of rules.terms (windows rules [])
-unfolding replies replies_after windows rides chains live live_after blocks_by shares_of
+unfolding replies replies_after windows rides trips live live_after blocks_by shares_of
 no_shares rules = refl
 
 free_unknown : is_ride (reply_with Unknown 0) ≡ false
@@ -278,38 +298,72 @@ ride_replies-shares rules taps =
     ]))
     [] taps (no_shares rules)
 
-cents_of : (cents : ℕ) → cents ≡ (ride_reply cents).cents
+reply_cents : (one : Charge) → (ride_reply (paid_by one)).cents ≡ charged_by one
 unfolding ride_reply reply_with
-cents_of cents =
-    elim (ltb 0 cents) as (λ v. ltb 0 cents ≡ v
-    → cents ≡ (cond v (reply_with Paid cents) (reply_with Capped 0)).cents)
-    [ true ↦ λ _. refl | false ↦ λ h. omega (arith, ltb-false 0 cents h) ] refl
+reply_cents (Full place cents) = refl
+reply_cents (CeilingCut place cents) = refl
+reply_cents (CeilingReached place) = refl
+reply_cents RideLimitReached = refl
 
-paid_of : (cents : ℕ)
-    → cond {A = ℕ} (ltb 0 cents) 1 0 ≡ cond {A = ℕ} (is_paid_reply (ride_reply cents)) 1 0
-unfolding ride_reply reply_with
-paid_of cents = elim (ltb 0 cents) as (λ v. cond {A = ℕ} v 1 0
-    ≡ cond {A = ℕ} (is_paid_reply (cond v (reply_with Paid cents) (reply_with Capped 0))) 1 0)
-    [ true ↦ refl | false ↦ refl ]
+reply_paid : (one : Charge) → is_paid_reply (ride_reply (paid_by one)) ≡ is_paid one
+unfolding ride_reply reply_with is_paid
+reply_paid (Full place cents) = refl
+reply_paid (CeilingCut place cents) = refl
+reply_paid (CeilingReached place) = refl
+reply_paid RideLimitReached = refl
 
-pub cents_measure : (terms : Terms)
-    → IsMeasure terms (λ reply. reply.cents) (λ n. ride_cents terms n)
-unfolding reply_with ride_reply ride_cents
+unknown-cents : (reply_with Unknown 0).cents ≡ 0
+unfolding reply_with
+unknown-cents = refl
+
+stale-cents : (reply_with Stale 0).cents ≡ 0
+unfolding reply_with
+stale-cents = refl
+
+transfer-cents : (reply_with Transfer 0).cents ≡ 0
+unfolding reply_with
+transfer-cents = refl
+
+none-cents : (terms : LiveTap → Terms) → window_cents terms [] ≡ 0
+unfolding window_cents charges charges_after
+none-cents terms = refl
+
+pub cents_measure : (terms : LiveTap → Terms)
+    → IsMeasure terms (λ reply. reply.cents) (window_cents terms)
 cents_measure terms = record {
-  unknown = refl;
-  stale = refl;
-  transfer = refl;
-  none = refl;
-  more = λ place. ap (λ n. ride_cents terms place + n) (cents_of (charge terms place));
+  unknown = unknown-cents;
+  stale = stale-cents;
+  transfer = transfer-cents;
+  none = none-cents terms;
+  more = λ window ride. rw (last_charge-push terms window ride)
+      (cents-push terms window ride
+      ∙ ap (λ n. window_cents terms window + n) (sym (reply_cents _)));
 }
 
-pub paid_measure : (terms : Terms)
-    → IsMeasure terms (λ reply. cond (is_paid_reply reply) 1 0) (λ n. paid_rides terms n)
-unfolding reply_with ride_reply paid_rides
+unknown-paid : is_paid_reply (reply_with Unknown 0) ≡ false
+unfolding reply_with
+unknown-paid = refl
+
+stale-paid : is_paid_reply (reply_with Stale 0) ≡ false
+unfolding reply_with
+stale-paid = refl
+
+transfer-paid : is_paid_reply (reply_with Transfer 0) ≡ false
+unfolding reply_with
+transfer-paid = refl
+
+none-paid : (terms : LiveTap → Terms) → paid_rides terms [] ≡ 0
+unfolding paid_rides charges charges_after
+none-paid terms = refl
+
+pub paid_measure : (terms : LiveTap → Terms)
+    → IsMeasure terms (λ reply. cond (is_paid_reply reply) 1 0) (paid_rides terms)
 paid_measure terms = record {
-  unknown = refl;
-  stale = refl;
-  transfer = refl;
-  none = refl;
-  more = λ place. ap (λ n. paid_rides terms place + n) (paid_of (charge terms place));
+  unknown = ap (λ b. cond b 1 0) unknown-paid;
+  stale = ap (λ b. cond b 1 0) stale-paid;
+  transfer = ap (λ b. cond b 1 0) transfer-paid;
+  none = none-paid terms;
+  more = λ window ride. rw (last_charge-push terms window ride)
+      (paid-push terms window ride
+      ∙ ap (λ b. paid_rides terms window + cond b 1 0) (sym (reply_paid _)));
 }

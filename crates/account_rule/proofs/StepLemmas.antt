@@ -1,32 +1,36 @@
 -- What each kind of tap does to the account and the rule alike: the reply is the rule's, and the
 -- account then stands
 -- for the longer list.
-use Rattle.std.proofs.Common.{◌≡◌, ℕ, ◌-◌, ◌<◌, ◌≤◌, Bool, true, false, ◌&&◌, cond, List, [], ◌∷◌}
-use Rattle.std.proofs.Common.{◌++◌, length, Option, Some, None, refl, sym, ap, ◌∙◌, subst, arith}
-use Rattle.std.proofs.Common.{ltb, is_some, option_map}
+use Rattle.std.proofs.Common.{◌≡◌, ℕ, ◌+◌, ◌<◌, ◌≤◌, true, false, ◌&&◌, cond, List, [], ◌∷◌}
+use Rattle.std.proofs.Common.{◌++◌, Option, Some, None, refl, sym, ap, ◌∙◌, subst, arith, ltb}
+use Rattle.std.proofs.Common.{Bool, is_some, length, option_map}
+use Rattle.std.specs.List.{last_or}
+use Rattle.std.specs.Option.{option_and_then}
 use Rattle.std.proofs.lemmas.Bool.{ltb-true, lt-ltb, le-ltb}
+use Rattle.fare_table.specs.Fares.{Fares, class_of, ride_terms}
 use Rattle.fare_table.specs.declared.mode.Mode.{Mode}
-use Rattle.fare_table.specs.Terms.{AreBoundedTerms}
+use Rattle.fare_table.specs.Terms.{AreRideTerms}
 use Rattle.fare_table.specs.declared.terms.Terms.{Terms}
 use Rattle.account_rule.specs.declared.account.Account.{Account}
 use Rattle.account_rule.specs.declared.reply.Answer.TheVariants.{Transfer, Stale, Unknown}
 use Rattle.account_rule.specs.declared.reply.Reply.{Reply}
 use Rattle.account_rule.specs.declared.tap.TapIn.{TapIn}
 use Rattle.account_rule.specs.declared.window.Window.{Window}
-use Rattle.account_rule.specs.Chains.{chains, ends_in_transfer}
+use Rattle.account_rule.specs.Trips.{TripEnd, ends_in_transfer, last_trip}
 use Rattle.account_rule.specs.Blocks.{last_block}
 use Rattle.account_rule.specs.Replies.{live_reply, reply, reply_with, ride_reply}
-use Rattle.account_rule.specs.TokenRules.{TokenRules}
-use Rattle.account_rule.specs.Kept.{KeepsTerms, Kept, kept_numbers, is_after, kept_giver, kept_of}
-use Rattle.account_rule.specs.Kept.{kept_window}
-use Rattle.account_rule.specs.inside.Kept.{IsRoomy, gives, open_window, window_at, with_ride}
-use Rattle.account_rule.specs.Stands.{KeepsOf, Stands, giver_of, window_of}
-use Rattle.account_rule.specs.Taps.{is_later, live_at, live_tap}
-use Rattle.account_rule.specs.Windows.{charge, windows}
-use Rattle.account_rule.proofs.TapLemmas.{and-true, chains-same, ends_in_transfer-push, giver-push}
-use Rattle.account_rule.proofs.TapLemmas.{is_later-push, last_window-ride, windows-same}
+use Rattle.account_rule.specs.TokenRules.{TokenRules, TransferRules, rules_of, transfers_of}
+use Rattle.account_rule.specs.Kept.{IsClass, IsRoomy, Kept, kept_numbers, is_after, kept_of}
+use Rattle.account_rule.specs.Kept.{kept_trip, kept_window}
+use Rattle.account_rule.specs.inside.Kept.{gives, open_window, window_at, with_ride}
+use Rattle.account_rule.specs.Stands.{KeepsOf, Stands, window_of}
+use Rattle.account_rule.specs.Taps.{LiveTap, is_later, live_at, live_tap}
+use Rattle.account_rule.specs.Windows.{charge, charges, paid_by, windows}
+use Rattle.account_rule.proofs.TapLemmas.{and-true, ends_in_transfer-push, is_later-push}
+use Rattle.account_rule.proofs.TapLemmas.{last_window-ride, trip-push, trip-same, windows-same}
 use Rattle.account_rule.proofs.TapLemmas.{windows-transfer}
-use Rattle.account_rule.proofs.WindowLemmas.{charge-after, roomy, window_of-after}
+use Rattle.account_rule.proofs.WindowLemmas.{charge-after, room-at, room-open, room-ride}
+use Rattle.account_rule.proofs.WindowLemmas.{window_of-after}
 
 -- an account with a window keeps what stands in its fields
 pub kept-open : (account : Account) → account.has_window ≡ true
@@ -60,10 +64,12 @@ same : (rules : TokenRules) (state : Option Kept) (taps : List TapIn) (tap : Tap
     → KeepsOf rules state (taps ++ tap ∷ [])
 same rules state taps tap stands none later = record {
   last = λ moment. stands.last moment ∙ sym (later moment);
-  giver = rw (chains-same rules taps tap none) stands.giver;
+  trip = rw (trip-same rules taps tap none) stands.trip;
   window = rw (windows-same rules taps tap none) stands.window;
-  terms = stands.terms;
+  class = stands.class;
   mode = stands.mode;
+  ride_mode = stands.ride_mode;
+  room = stands.room;
 }
 
 pub not_known : (taps : List TapIn) (tap : TapIn) → tap.mode ≡ None → live_tap taps tap ≡ None
@@ -112,7 +118,8 @@ reply_transfer rules taps ends = rw ends refl
 
 pub reply_ride : (rules : TokenRules) (taps : List TapIn) → ends_in_transfer rules taps ≡ false
     → live_reply rules taps
-    ≡ ride_reply (charge rules.terms (length (last_block (windows rules taps)) - 1))
+    ≡ ride_reply (option_and_then paid_by
+    (last_or None (charges rules.terms (last_block (windows rules taps)))))
 unfolding live_reply
 reply_ride rules taps ends = rw ends refl
 
@@ -126,7 +133,7 @@ unknown rules state taps tap stands none = record {
       (λ moment. is_later-push taps tap moment ∙ rw none (and-true (is_later taps moment)));
 }
 
-at_state : (rules : TokenRules) (account : Option Kept) (state : Kept) (taps : List TapIn)
+pub at_state : (rules : TokenRules) (account : Option Kept) (state : Kept) (taps : List TapIn)
     → account ≡ Some state
     → KeepsOf rules account taps → KeepsOf rules (Some state) taps
 at_state rules account state taps same stands = rw same at stands
@@ -144,17 +151,17 @@ later_stale last moment earlier before =
 -- a known tap that is not later than all known taps before it
 stale_at : (rules : TokenRules) (state : Kept) (taps : List TapIn) (tap : TapIn) (mode : Mode)
     → KeepsOf rules (Some state) taps
-    → tap.mode ≡ Some mode → tap.moment ≤ state.last
+    → tap.mode ≡ Some mode → tap.moment ≤ state.last.moment
     → IsStep rules taps tap (reply_with Stale 0) (Some state)
 unfolding is_after
 stale_at rules state taps tap mode stands known before =
     let not_after : is_later taps tap.moment ≡ false =
-    sym (stands.last tap.moment) ∙ le-ltb state.last tap.moment before in
+    sym (stands.last tap.moment) ∙ le-ltb state.last.moment tap.moment before in
     record {
       reply = sym (reply_stale rules taps tap mode known not_after);
       stands = same rules (Some state) taps tap stands (not_later taps tap not_after)
           (λ moment. is_later-push taps tap moment
-          ∙ rw (known, ← stands.last moment) (later_stale state.last moment tap.moment before));
+          ∙ rw (known, ← stands.last moment) (later_stale state.last.moment moment tap.moment before));
     }
 
 both : (state : Option Kept) (tapped moment : ℕ) → is_after state tapped ≡ true
@@ -162,17 +169,17 @@ both : (state : Option Kept) (tapped moment : ℕ) → is_after state tapped ≡
 unfolding is_after
 both None tapped moment later = refl
 both (Some state) tapped moment later =
-    elim (ltb tapped moment) as (λ v. ltb tapped moment ≡ v → (ltb state.last moment && v) ≡ v) [
-      | true ↦ λ h. rw (lt-ltb state.last moment
-          (omega (arith, ltb-true tapped moment h, ltb-true state.last tapped later))) refl
-      | false ↦ λ h. elim (ltb state.last moment) as (λ w. (w && false) ≡ false)
+    elim (ltb tapped moment) as (λ v. ltb tapped moment ≡ v → (ltb state.last.moment moment && v) ≡ v) [
+      | true ↦ λ h. rw (lt-ltb state.last.moment moment
+          (omega (arith, ltb-true tapped moment h, ltb-true state.last.moment tapped later))) refl
+      | false ↦ λ h. elim (ltb state.last.moment moment) as (λ w. (w && false) ≡ false)
           [ true ↦ refl | false ↦ refl ]
     ] refl
 
 pub stale : (rules : TokenRules) (account : Option Kept) (state : Kept) (taps : List TapIn)
     (tap : TapIn) (mode : Mode)
     → account ≡ Some state → KeepsOf rules account taps → tap.mode ≡ Some mode
-    → tap.moment ≤ state.last
+    → tap.moment ≤ state.last.moment
     → IsStep rules taps tap (reply_with Stale 0) (Some state)
 stale rules account state taps tap mode same stands known before =
     stale_at rules state taps tap mode (at_state rules account state taps same stands) known before
@@ -187,32 +194,63 @@ later_live state taps tap mode moment last known later =
     sym (is_later-push taps tap moment
     ∙ rw (known, ← last moment) (both state tap.moment moment later))
 
-keeps_terms : (terms : Terms) (state next : Kept) → Some state ≡ Some next → state.terms ≡ terms
-    → AreBoundedTerms state.terms → KeepsTerms terms next
-keeps_terms terms state next some kept bounds =
-    let same : state ≡ next = cc in
-    let keeps : KeepsTerms terms state = record { same = kept; bounds = bounds } in
-    subst (λ s. KeepsTerms terms s) same keeps
+keeps_class : (rules : TokenRules) (state next : Kept) → Some state ≡ Some next
+    → IsClass rules state.class → IsClass rules next.class
+keeps_class rules state next some keeps =
+    let same : state ≡ next = cc in subst (λ (k : Kept). IsClass rules k.class) same keeps
 
--- a live tap to which the last one gives a transfer
+-- the state after a transfer
+abbrev pub after_transfer : Kept → LiveTap → Kept
+after_transfer state tap = record {
+  last = tap;
+  ride = state.ride;
+  given = state.given + 1;
+  class = state.class;
+  window = state.window;
+}
+
+-- the state after a ride
+abbrev pub after_trip : LiveTap → ℕ → Window → Kept
+after_trip ride class window = record {
+  last = ride;
+  ride = ride;
+  given = 0;
+  class = class;
+  window = window;
+}
+
+-- the taps of a trip's end
+abbrev tap_of_trip : Option TripEnd → Option LiveTap
+tap_of_trip trip = option_map (λ t. t.last) trip
+
+abbrev ride_of_trip : Option TripEnd → Option LiveTap
+ride_of_trip trip = option_map (λ t. t.ride) trip
+
+mode_of_trip : (rules : TokenRules) (trip : TripEnd) (tap : LiveTap)
+    → Some trip.last ≡ Some tap → tap.mode.place < rules.modes → trip.last.mode.place < rules.modes
+mode_of_trip rules trip tap is listed =
+    let same : tap ≡ trip.last = cc in subst (λ t. t.mode.place < rules.modes) same listed
+
+ride_mode_of_trip : (rules : TokenRules) (trip : TripEnd) (tap : LiveTap)
+    → Some trip.ride ≡ Some tap → tap.mode.place < rules.modes → trip.ride.mode.place < rules.modes
+ride_mode_of_trip rules trip tap is listed =
+    let same : tap ≡ trip.ride = cc in subst (λ t. t.mode.place < rules.modes) same listed
+
+-- a live tap to which the last trip gives a transfer
 transfer_at : (rules : TokenRules) (state : Kept) (taps : List TapIn) (tap : TapIn) (mode : Mode)
     → KeepsOf rules (Some state) taps
-    → tap.mode ≡ Some mode → state.last < tap.moment
-    → gives rules.permits (kept_giver (Some state)) (live_at tap.moment mode) ≡ true
-    → IsStep rules taps tap (reply_with Transfer 0) (Some (record {
-      last = tap.moment;
-      giver = None;
-      terms = state.terms;
-      window = state.window;
-    }))
-unfolding is_after kept_giver kept_window
-transfer_at rules state taps tap mode stands known after given =
+    → tap.mode ≡ Some mode → mode.place < rules.modes → state.last.moment < tap.moment
+    → gives rules.transfers (kept_trip (Some state)) (live_at tap.moment mode) ≡ true
+    → IsStep rules taps tap (reply_with Transfer 0)
+    (Some (after_transfer state (live_at tap.moment mode)))
+unfolding is_after kept_trip kept_window live_at
+transfer_at rules state taps tap mode stands known listed after given =
     let later : is_later taps tap.moment ≡ true =
-    sym (stands.last tap.moment) ∙ lt-ltb state.last tap.moment after in
+    sym (stands.last tap.moment) ∙ lt-ltb state.last.moment tap.moment after in
     let shown : live_tap taps tap ≡ Some (live_at tap.moment mode) =
     is_live taps tap mode known later in
-    let gives_it : gives rules.permits (giver_of (last_block (chains rules taps)))
-    (live_at tap.moment mode) ≡ true = rw (← stands.giver) given in
+    let gives_it : gives rules.transfers (last_trip rules taps) (live_at tap.moment mode) ≡ true =
+    rw (← stands.trip) given in
     let ends : ends_in_transfer rules (taps ++ tap ∷ []) ≡ true =
     ends_in_transfer-push rules taps tap _ shown ∙ gives_it in
     record {
@@ -220,54 +258,50 @@ transfer_at rules state taps tap mode stands known after given =
           ∙ reply_transfer rules (taps ++ tap ∷ []) ends);
       stands = record {
         last = λ moment. later_live (Some state) taps tap mode moment stands.last known
-            (lt-ltb state.last tap.moment after);
-        giver = rw (giver-push rules taps tap _ shown, gives_it) refl;
+            (lt-ltb state.last.moment tap.moment after);
+        trip = rw (trip-push rules taps tap _ shown, gives_it, ← stands.trip) refl;
         window = rw (windows-transfer rules taps tap _ shown ends) stands.window;
-        terms = λ next some. let kept = stands.terms state refl in
-            keeps_terms rules.terms _ next some kept.same kept.bounds;
-        mode = λ giver none. cc;
+        class = λ next some. keeps_class rules _ next some (stands.class state refl);
+        mode = λ trip some. let same : tap_of_trip (Some trip) ≡ Some (live_at tap.moment mode) =
+            ap tap_of_trip (sym some) in mode_of_trip rules trip (live_at tap.moment mode) same listed;
+        ride_mode = λ trip some.
+            let same : ride_of_trip (Some trip) ≡ Some state.ride = ap ride_of_trip (sym some) in
+            ride_mode_of_trip rules trip state.ride same (stands.ride_mode _ refl);
+        room = stands.room;
       };
     }
 
-pub transfer : (rules : TokenRules) (account : Option Kept) (state : Kept) (taps : List TapIn)
+pub transfer : (rules : TokenRules) (account : Option Kept) (state next : Kept) (taps : List TapIn)
     (tap : TapIn) (mode : Mode)
     → account ≡ Some state → KeepsOf rules account taps → tap.mode ≡ Some mode
-    → state.last < tap.moment
-    → gives rules.permits (option_map (live_at state.last) state.giver) (live_at tap.moment mode)
-    ≡ true
-    → IsStep rules taps tap (reply_with Transfer 0) (Some (record {
-      last = tap.moment;
-      giver = None;
-      terms = state.terms;
-      window = state.window;
-    }))
-unfolding kept_giver
-transfer rules account state taps tap mode same stands known after given =
-    transfer_at rules state taps tap mode (at_state rules account state taps same stands) known
-    after given
+    → mode.place < rules.modes → state.last.moment < tap.moment
+    → gives rules.transfers (kept_trip (Some state)) (live_at tap.moment mode) ≡ true
+    → next ≡ after_transfer state (live_at tap.moment mode)
+    → IsStep rules taps tap (reply_with Transfer 0) (Some next)
+transfer rules account state next taps tap mode same stands known listed after given is_next =
+    subst (λ s. IsStep rules taps tap (reply_with Transfer 0) (Some s)) (sym is_next)
+    (transfer_at rules state taps tap mode (at_state rules account state taps same stands) known
+    listed after given)
 
 -- a live tap to which no transfer is given
 ride_at : (rules : TokenRules) (state : Option Kept) (taps : List TapIn) (tap : TapIn) (mode : Mode)
-    (window : Window)
+    (class : ℕ) (terms : Terms) (window : Window)
     → KeepsOf rules state taps
     → tap.mode ≡ Some mode → mode.place < rules.modes → is_after state tap.moment ≡ true
-    → gives rules.permits (kept_giver state) (live_at tap.moment mode) ≡ false
+    → gives rules.transfers (kept_trip state) (live_at tap.moment mode) ≡ false
     → window ≡ window_at (kept_window state) tap.moment (rules.until tap.moment)
-    → AreBoundedTerms rules.terms
-    → IsStep rules taps tap (ride_reply (charge rules.terms window.rides))
-    (Some (record {
-      last = tap.moment;
-      giver = Some mode;
-      terms = rules.terms;
-      window = with_ride rules.terms window;
-    }))
-unfolding is_after kept_giver kept_window live_at
-ride_at rules state taps tap mode window stands known listed after not_given at bounds =
+    → IsRoomy window → IsClass rules class
+    → rules.terms (live_at tap.moment mode) ≡ terms → AreRideTerms terms
+    → IsStep rules taps tap (ride_reply (paid_by (charge terms window.rides window.cents)))
+    (Some (after_trip (live_at tap.moment mode) class (with_ride terms window)))
+unfolding is_after kept_trip kept_window live_at
+ride_at rules state taps tap mode class terms window stands known listed after not_given at roomy its
+    same bounds =
     let later : is_later taps tap.moment ≡ true = sym (stands.last tap.moment) ∙ after in
     let shown : live_tap taps tap ≡ Some (live_at tap.moment mode) =
     is_live taps tap mode known later in
-    let gives_none : gives rules.permits (giver_of (last_block (chains rules taps)))
-    (live_at tap.moment mode) ≡ false = rw (← stands.giver) not_given in
+    let gives_none : gives rules.transfers (last_trip rules taps) (live_at tap.moment mode) ≡ false =
+    rw (← stands.trip) not_given in
     let ends : ends_in_transfer rules (taps ++ tap ∷ []) ≡ false =
     ends_in_transfer-push rules taps tap _ shown ∙ gives_none in
     let same_window : window
@@ -278,82 +312,102 @@ ride_at rules state taps tap mode window stands known listed after not_given at 
           ∙ reply_ride rules (taps ++ tap ∷ []) ends
           ∙ rw (
             last_window-ride rules taps tap _ shown ends,
-            charge-after rules (last_block (windows rules taps)) (live_at tap.moment mode),
+            charge-after rules (last_block (windows rules taps)) (live_at tap.moment mode) terms
+                same bounds,
             ←
                 same_window,
           ) refl);
       stands = record {
         last = λ moment. later_live state taps tap mode moment stands.last known after;
-        giver = rw (giver-push rules taps tap _ shown, gives_none) refl;
+        trip = rw (trip-push rules taps tap _ shown, gives_none) refl;
         window = rw (
           last_window-ride rules taps tap _ shown ends,
-          window_of-after rules (last_block (windows rules taps)) (live_at tap.moment mode),
+          window_of-after rules (last_block (windows rules taps)) (live_at tap.moment mode) terms
+              same bounds,
           ←
               same_window,
         ) refl;
-        terms = λ next some. keeps_terms rules.terms _ next some refl bounds;
-        mode = λ giver some. let same_giver : live_at tap.moment mode ≡ giver = cc in
-            subst (λ g. g.mode.place < rules.modes) same_giver listed;
+        class = λ next some. keeps_class rules _ next some its;
+        mode = λ trip some. let is : tap_of_trip (Some trip) ≡ Some (live_at tap.moment mode) =
+            ap tap_of_trip (sym some) in mode_of_trip rules trip (live_at tap.moment mode) is listed;
+        ride_mode = λ trip some.
+            let is : ride_of_trip (Some trip) ≡ Some (live_at tap.moment mode) =
+            ap ride_of_trip (sym some) in
+            ride_mode_of_trip rules trip (live_at tap.moment mode) is listed;
+        room = λ next some. let is : with_ride terms window ≡ next = cc in
+            subst (λ w. IsRoomy w) is (room-ride terms window bounds roomy);
       };
     }
 
--- what an account does not give: it has no last tap, or one that gives no transfer
-pub record GivesNone (permits : Mode → Mode
-    → Bool) (account : Option Kept) (tap : TapIn) (mode : Mode) : Type 0 where
+-- what an account does not give: it has no last trip, or one that gives no transfer
+pub record GivesNone (rules : TransferRules) (account : Option Kept) (tap : TapIn) (mode : Mode)
+    : Type 0 where
   pub after : is_after account tap.moment ≡ true
-  pub none : gives permits (kept_giver account) (live_at tap.moment mode) ≡ false
+  pub none : gives rules (kept_trip account) (live_at tap.moment mode) ≡ false
 
-pub gives_none-fresh : (permits : Mode → Mode
-    → Bool) (account : Option Kept) (tap : TapIn) (mode : Mode)
-    → account ≡ None → GivesNone permits account tap mode
-unfolding is_after kept_giver gives
-gives_none-fresh permits account tap mode fresh = record {
+pub gives_none-fresh : (rules : TransferRules) (account : Option Kept) (tap : TapIn) (mode : Mode)
+    → account ≡ None → GivesNone rules account tap mode
+unfolding is_after kept_trip gives
+gives_none-fresh rules account tap mode fresh = record {
   after = rw fresh refl;
   none = rw fresh refl;
 }
 
-pub gives_none-state : (permits : Mode → Mode
-    → Bool) (account : Option Kept) (state : Kept) (tap : TapIn) (mode : Mode)
-    → account ≡ Some state → state.last < tap.moment
-    → gives permits (option_map (live_at state.last) state.giver) (live_at tap.moment mode) ≡ false
-    → GivesNone permits account tap mode
-unfolding is_after kept_giver
-gives_none-state permits account state tap mode same after none =
-    record { after = rw same (lt-ltb state.last tap.moment after); none = rw same none }
+pub gives_none-state : (rules : TransferRules) (account : Option Kept) (state : Kept) (tap : TapIn)
+    (mode : Mode)
+    → account ≡ Some state → state.last.moment < tap.moment
+    → gives rules (kept_trip (Some state)) (live_at tap.moment mode) ≡ false
+    → GivesNone rules account tap mode
+unfolding is_after
+gives_none-state rules account state tap mode same after none =
+    record { after = rw same (lt-ltb state.last.moment tap.moment after); none = rw same none }
 
--- the window to which the ride belongs has room for it
-pub room : (rules : TokenRules) (account : Option Kept) (taps : List TapIn) (start until : ℕ)
-    (terms : Terms) (window : Window)
-    → KeepsOf rules account taps → window ≡ window_at (kept_window account) start until
-    → terms ≡ rules.terms → AreBoundedTerms terms → IsRoomy terms window
-room rules account taps start until terms window stands at same_terms bounds =
-    rw (same_terms, at, stands.window)
-    (roomy rules (last_block (windows rules taps)) start until (rw same_terms at bounds))
+-- what an account keeps has room for one more ride
+pub kept_room : (rules : TokenRules) (account : Option Kept) (state : Kept) (taps : List TapIn)
+    → account ≡ Some state → KeepsOf rules account taps → IsRoomy state.window
+unfolding kept_window
+kept_room rules account state taps same stands =
+    let kept : KeepsOf rules (Some state) taps = at_state rules account state taps same stands in
+    kept.room state.window refl
 
-pub ride : (rules : TokenRules) (account : Option Kept) (taps : List TapIn) (tap : TapIn) (mode : Mode)
-    (until : ℕ) (terms : Terms) (window counted : Window) (cents : ℕ)
-    → KeepsOf rules account taps
-    → tap.mode ≡ Some mode → mode.place < rules.modes → until ≡ rules.until tap.moment
-    → GivesNone rules.permits account tap mode
-    → terms ≡ rules.terms → AreBoundedTerms terms
-    → window ≡ window_at (kept_window account) tap.moment until
-    → cents ≡ charge terms window.rides → counted ≡ with_ride terms window
-    → IsStep rules taps tap (ride_reply cents) (Some (record {
-      last = tap.moment;
-      giver = Some mode;
-      terms = terms;
-      window = counted;
-    }))
-ride rules account taps tap mode until terms window counted cents stands known listed limit none
-    same_terms bounds at cost counts =
-    rw (cost, counts, same_terms)
-    (ride_at rules account taps tap mode window stands known listed none.after none.none
-    (rw limit at at) (rw same_terms at bounds))
+-- what an account keeps has the token's class
+pub kept_class : (rules : TokenRules) (account : Option Kept) (state : Kept) (taps : List TapIn)
+    → account ≡ Some state → KeepsOf rules account taps → IsClass rules state.class
+kept_class rules account state taps same stands = stands.class state same
 
--- what a token that has an account pays is what the account keeps
-pub kept_terms : (rules : TokenRules) (account : Option Kept) (state : Kept) (taps : List TapIn)
-    → account ≡ Some state → KeepsOf rules account taps → KeepsTerms rules.terms state
-kept_terms rules account state taps same stands = stands.terms state same
+-- the class that an account with a window keeps is the token's, there is one, and it pays and gives
+-- what the token's class does
+pub class_is : (fares : Fares) (token : List ℕ) (account : Account) (taps : List TapIn)
+    → account.has_window ≡ true → Stands (rules_of fares token) account taps
+    → account.class ≡ class_of fares token
+unfolding rules_of Stands
+class_is fares token account taps there stands =
+    (kept_class (rules_of fares token) (kept_of account) (kept_numbers account) taps
+    (kept-open account there) stands).is
+
+pub class_there : (fares : Fares) (token : List ℕ) (account : Account) (taps : List TapIn)
+    → account.has_window ≡ true → Stands (rules_of fares token) account taps
+    → account.class < length fares.meaning.classes
+unfolding rules_of Stands
+class_there fares token account taps there stands =
+    (kept_class (rules_of fares token) (kept_of account) (kept_numbers account) taps
+    (kept-open account there) stands).there
+
+pub terms_same : (fares : Fares) (token : List ℕ) (account : Account) (taps : List TapIn) (mode : ℕ)
+    → account.has_window ≡ true → Stands (rules_of fares token) account taps
+    → ride_terms fares (class_of fares token) mode ≡ ride_terms fares account.class mode
+terms_same fares token account taps mode there stands =
+    ap (λ place. ride_terms fares place mode) (sym (class_is fares token account taps there stands))
+
+pub gives_same : (fares : Fares) (token : List ℕ) (account : Account) (taps : List TapIn)
+    (tap : LiveTap) (given : Bool)
+    → account.has_window ≡ true → Stands (rules_of fares token) account taps
+    → given ≡ gives (transfers_of fares account.class) (kept_trip (Some (kept_numbers account))) tap
+    → gives (transfers_of fares (class_of fares token)) (kept_trip (Some (kept_numbers account))) tap
+    ≡ given
+gives_same fares token account taps tap given there stands is =
+    ap (λ place. gives (transfers_of fares place) (kept_trip (Some (kept_numbers account))) tap)
+    (sym (class_is fares token account taps there stands)) ∙ sym is
 
 -- the window of a ride in an account that has a window, and of a first ride
 pub at_kept : (account : Option Kept) (state : Kept) (start until : ℕ) → account ≡ Some state
@@ -368,49 +422,46 @@ at_fresh account start until fresh = rw fresh refl
 
 -- a ride of an account that has a window
 pub next_ride : (rules : TokenRules) (account : Option Kept) (state next : Kept) (taps : List TapIn)
-    (tap : TapIn) (mode : Mode) (until cents : ℕ)
+    (tap : TapIn) (mode : Mode) (until : ℕ) (terms : Terms)
     → account ≡ Some state → KeepsOf rules account taps
     → tap.mode ≡ Some mode → mode.place < rules.modes → until ≡ rules.until tap.moment
-    → GivesNone rules.permits account tap mode
-    → cents ≡ charge state.terms (window_at (Some state.window) tap.moment until).rides
-    → next.last ≡ tap.moment → next.giver ≡ Some mode → next.terms ≡ state.terms
-    → next.window ≡ with_ride state.terms (window_at (Some state.window) tap.moment until)
-    → IsStep rules taps tap (ride_reply cents) (Some next)
-next_ride rules account state next taps tap mode until cents same stands known listed limit none cost last
-    giver terms window =
-    let kept = kept_terms rules account state taps same stands in
-    let is_next : next ≡ record {
-      last = tap.moment;
-      giver = Some mode;
-      terms = state.terms;
-      window = with_ride state.terms (window_at (Some state.window) tap.moment until);
-    } =
-    rw (← window, ← terms, ← giver, ← last) refl in
-    subst (λ s. IsStep rules taps tap (ride_reply cents) (Some s)) (sym is_next)
-    (ride rules account taps tap mode until state.terms
-    (window_at (Some state.window) tap.moment until)
-    (with_ride state.terms (window_at (Some state.window) tap.moment until)) cents
-    stands known listed limit none kept.same kept.bounds
-    (at_kept account state tap.moment until same) cost refl)
+    → GivesNone rules.transfers account tap mode
+    → rules.terms (live_at tap.moment mode) ≡ terms → AreRideTerms terms
+    → next ≡ after_trip (live_at tap.moment mode) state.class
+    (with_ride terms (window_at (Some state.window) tap.moment until))
+    → IsStep rules taps tap (ride_reply (paid_by (charge terms
+    (window_at (Some state.window) tap.moment until).rides
+    (window_at (Some state.window) tap.moment until).cents))) (Some next)
+next_ride rules account state next taps tap mode until terms same stands known listed limit none its
+    bounds is_next =
+    let class = kept_class rules account state taps same stands in
+    let room = kept_room rules account state taps same stands in
+    subst (λ s. IsStep rules taps tap (ride_reply (paid_by (charge terms
+    (window_at (Some state.window) tap.moment until).rides
+    (window_at (Some state.window) tap.moment until).cents))) (Some s)) (sym is_next)
+    (ride_at rules account taps tap mode state.class terms
+    (window_at (Some state.window) tap.moment until) stands known listed none.after none.none
+    (at_kept account state tap.moment until same
+    ∙ ap (λ u. window_at (kept_window account) tap.moment u) limit)
+    (room-at state.window tap.moment until room) class its bounds)
 
 -- the first ride of an account
 pub first_ride : (rules : TokenRules) (account next : Option Kept) (taps : List TapIn) (tap : TapIn)
-    (mode : Mode) (until : ℕ) (answered : Reply)
+    (mode : Mode) (until class : ℕ) (terms : Terms) (answered : Reply)
     → account ≡ None → KeepsOf rules account taps
     → tap.mode ≡ Some mode → mode.place < rules.modes → until ≡ rules.until tap.moment
-    → AreBoundedTerms rules.terms
-    → answered ≡ ride_reply (charge rules.terms (open_window tap.moment until).rides)
-    → next ≡ Some (record {
-      last = tap.moment;
-      giver = Some mode;
-      terms = rules.terms;
-      window = with_ride rules.terms (open_window tap.moment until);
-    })
+    → IsClass rules class → rules.terms (live_at tap.moment mode) ≡ terms → AreRideTerms terms
+    → answered ≡ ride_reply (paid_by (charge terms (open_window tap.moment until).rides
+    (open_window tap.moment until).cents))
+    → next ≡ Some (after_trip (live_at tap.moment mode) class
+    (with_ride terms (open_window tap.moment until)))
     → IsStep rules taps tap answered next
-first_ride rules account next taps tap mode until answered fresh stands known listed limit bounds is_reply
-    is_next =
+first_ride rules account next taps tap mode until class terms answered fresh stands known listed limit
+    its same bounds is_reply is_next =
+    let none = gives_none-fresh rules.transfers account tap mode fresh in
     rw (is_reply, is_next)
-    (ride rules account taps tap mode until rules.terms (open_window tap.moment until)
-    (with_ride rules.terms (open_window tap.moment until)) _
-    stands known listed limit (gives_none-fresh rules.permits account tap mode fresh) refl bounds
-    (at_fresh account tap.moment until fresh) refl refl)
+    (ride_at rules account taps tap mode class terms (open_window tap.moment until) stands known
+    listed none.after none.none
+    (at_fresh account tap.moment until fresh
+    ∙ ap (λ u. window_at (kept_window account) tap.moment u) limit)
+    (room-open tap.moment until) its same bounds)

@@ -1,23 +1,22 @@
 -- What one more tap does to the live taps, the rides and the windows of a list.
-use Rattle.std.proofs.Common.{◌≡◌, ℕ, Bool, true, false, not, ◌&&◌, ◌||◌, cond, List, [], ◌∷◌, ◌++◌}
-use Rattle.std.proofs.Common.{length, Some, None, refl, sym, ap, ◌∙◌, append_assoc, append-nil}
-use Rattle.std.proofs.Common.{nat_lt, is_some, filter}
+use Rattle.std.proofs.Common.{◌≡◌, ℕ, suc, ◌+◌, Bool, true, false, not, ◌&&◌, ◌||◌, cond, List, [], ◌∷◌}
+use Rattle.std.proofs.Common.{◌++◌, length, Option, Some, None, refl, sym, ap, ◌∙◌, append_assoc}
+use Rattle.std.proofs.Common.{append-nil, nat_lt, is_some, filter, arith}
 use Rattle.std.specs.List.{list_all}
 use Rattle.std.specs.Option.{option_to_list}
+use Rattle.std.proofs.lemmas.Bool.{lt-ltb}
 use Rattle.std.proofs.lemmas.List.Elements.{filter-append}
 use Rattle.std.proofs.lemmas.List.Folds.{list_all-append}
-use Rattle.fare_table.specs.declared.mode.Mode.{Mode}
 use Rattle.account_rule.specs.declared.tap.TapIn.{TapIn}
-use Rattle.account_rule.specs.Chains.{chains, continues, ends_in_transfer, is_even, is_linked}
-use Rattle.account_rule.specs.Chains.{rides}
+use Rattle.account_rule.specs.Trips.{TripEnd, continues, ends_in_transfer, last_tap, last_trip}
+use Rattle.account_rule.specs.Trips.{rides, trip_of, trips}
 use Rattle.account_rule.specs.Blocks.{last_block}
 use Rattle.account_rule.specs.TokenRules.{TokenRules}
 use Rattle.account_rule.specs.inside.Kept.{gives}
-use Rattle.account_rule.specs.Stands.{giver_of}
 use Rattle.account_rule.specs.Taps.{LiveTap, is_later, live, live_after, live_tap}
 use Rattle.account_rule.specs.Windows.{is_within, windows}
-use Rattle.account_rule.proofs.BlockLemmas.{blocks_by-push, evens-extend, extend, is_even-push}
-use Rattle.account_rule.proofs.BlockLemmas.{last_block-extend, not_not}
+use Rattle.account_rule.proofs.BlockLemmas.{blocks_by-push, extend, firsts-extend}
+use Rattle.account_rule.proofs.BlockLemmas.{last_block-extend, length-push}
 
 pub and-true : (b : Bool) → (b && true) ≡ b
 and-true true = refl
@@ -57,33 +56,38 @@ pub live-push : (taps : List TapIn) (tap : TapIn)
 unfolding live
 live-push taps tap = live_after-push [] taps tap
 
--- a tap that is not live changes no chain
-pub chains-same : (rules : TokenRules) (taps : List TapIn) (tap : TapIn) → live_tap taps tap ≡ None
-    → chains rules (taps ++ tap ∷ []) ≡ chains rules taps
-unfolding chains
-chains-same rules taps tap none = rw (live-push taps tap, none, append-nil) refl
+-- a tap that is not live changes no trip
+trips-same : (rules : TokenRules) (taps : List TapIn) (tap : TapIn) → live_tap taps tap ≡ None
+    → trips rules (taps ++ tap ∷ []) ≡ trips rules taps
+unfolding trips
+trips-same rules taps tap none = rw (live-push taps tap, none, append-nil) refl
 
-pub chains-push : (rules : TokenRules) (taps : List TapIn) (tap : TapIn) (shown : LiveTap)
+pub trip-same : (rules : TokenRules) (taps : List TapIn) (tap : TapIn) → live_tap taps tap ≡ None
+    → last_trip rules (taps ++ tap ∷ []) ≡ last_trip rules taps
+unfolding last_trip
+trip-same rules taps tap none = rw (trips-same rules taps tap none) refl
+
+trips-push : (rules : TokenRules) (taps : List TapIn) (tap : TapIn) (shown : LiveTap)
     → live_tap taps tap ≡ Some shown
-    → chains rules (taps ++ tap ∷ []) ≡ extend (continues rules.permits) (chains rules taps) shown
-unfolding chains
-chains-push rules taps tap shown some =
-    rw (live-push taps tap, some) (blocks_by-push (continues rules.permits) (live taps) shown)
+    → trips rules (taps ++ tap ∷ []) ≡ extend (continues rules.transfers) (trips rules taps) shown
+unfolding trips
+trips-push rules taps tap shown some =
+    rw (live-push taps tap, some) (blocks_by-push (continues rules.transfers) (live taps) shown)
 
-pub rides-same : (rules : TokenRules) (taps : List TapIn) (tap : TapIn) → live_tap taps tap ≡ None
+rides-same : (rules : TokenRules) (taps : List TapIn) (tap : TapIn) → live_tap taps tap ≡ None
     → rides rules (taps ++ tap ∷ []) ≡ rides rules taps
 unfolding rides
-rides-same rules taps tap none = rw (chains-same rules taps tap none) refl
+rides-same rules taps tap none = rw (trips-same rules taps tap none) refl
 
--- a live tap is a ride, unless it makes the last chain of even length
+-- a live tap is a ride, unless it is a further tap of its trip
 pub rides-push : (rules : TokenRules) (taps : List TapIn) (tap : TapIn) (shown : LiveTap)
     → live_tap taps tap ≡ Some shown
     → rides rules (taps ++ tap ∷ []) ≡ rides rules taps
     ++ cond (ends_in_transfer rules (taps ++ tap ∷ [])) [] (shown ∷ [])
 unfolding rides ends_in_transfer
 rides-push rules taps tap shown some =
-    rw (chains-push rules taps tap shown some)
-    (evens-extend (continues rules.permits) (chains rules taps) shown)
+    rw (trips-push rules taps tap shown some)
+    (firsts-extend (continues rules.transfers) (trips rules taps) shown)
 
 pub windows-same : (rules : TokenRules) (taps : List TapIn) (tap : TapIn) → live_tap taps tap ≡ None
     → windows rules (taps ++ tap ∷ []) ≡ windows rules taps
@@ -108,87 +112,74 @@ windows-ride rules taps tap shown some ride =
     rw (rides-push rules taps tap shown some, ride)
     (blocks_by-push (is_within rules.until) (rides rules taps) shown)
 
--- what the giver of a chain tells of a next tap
-data Ends (permits : Mode → Mode → Bool) (chain : List LiveTap) : Type 0 where
-  in_transfer : giver_of chain ≡ None → is_even (length chain) ≡ true → Ends permits chain
-  in_ride : (giver : LiveTap) → giver_of chain ≡ Some giver → is_even (length chain) ≡ false
-      → ((tap : LiveTap) → continues permits chain tap ≡ is_linked permits giver tap)
-      → Ends permits chain
+-- the end of the trip with one more tap, or of a trip of the tap alone
+abbrev pub after_tap : Bool → Option TripEnd → LiveTap → Option TripEnd
+after_tap false trip tap = Some (record { ride = tap; last = tap; given = 0 })
+after_tap true None tap = None
+after_tap true (Some trip) tap =
+    Some (record { ride = trip.ride; last = tap; given = trip.given + 1 })
 
-ends : (permits : Mode → Mode → Bool) (chain : List LiveTap) → Ends permits chain
-unfolding giver_of is_even continues
-ends permits [] = in_transfer refl refl
-ends permits (tap ∷ []) = in_ride tap refl refl (λ _. refl)
-ends permits (first ∷ second ∷ []) = in_transfer refl refl
-ends permits (first ∷ second ∷ third ∷ chain) = elim (ends permits (third ∷ chain)) [
-  | in_transfer none even ↦ in_transfer none (rw even refl)
-  | in_ride giver some odd linked ↦ in_ride giver some (rw odd refl) linked
-]
+last_tap-push : (first : LiveTap) (taps : List LiveTap) (tap : LiveTap)
+    → last_tap first (taps ++ tap ∷ []) ≡ tap
+unfolding last_tap
+last_tap-push first [] tap = refl
+last_tap-push first (next ∷ taps) tap = last_tap-push next taps tap
 
-giver_of-push : (chain : List LiveTap) (tap : LiveTap)
-    → giver_of (chain ++ tap ∷ []) ≡ cond (is_even (length chain)) (Some tap) None
-unfolding giver_of is_even
-giver_of-push [] tap = refl
-giver_of-push (first ∷ []) tap = refl
-giver_of-push (first ∷ second ∷ chain) tap =
-    rw (not_not (is_even (length chain))) (giver_of-push chain tap)
+trip_of-if : (b : Bool) (ride : LiveTap) (given : List LiveTap) (tap : LiveTap)
+    → trip_of (cond b (ride ∷ (given ++ tap ∷ [])) (tap ∷ []))
+    ≡ after_tap b (trip_of (ride ∷ given)) tap
+unfolding trip_of last_tap
+trip_of-if true ride given tap =
+    let long : length (given ++ tap ∷ []) ≡ length given + 1 =
+    omega (arith, length-push given tap) in
+    rw (last_tap-push ride given tap, long) refl
+trip_of-if false ride given tap = refl
 
--- a chain with the tap, or the tap alone, is of even length exactly where the giver gives a
--- transfer to the tap
-is_even_after : (permits : Mode → Mode → Bool) (chain : List LiveTap) (tap : LiveTap)
-    → is_even (length (cond (continues permits chain tap) (chain ++ tap ∷ []) (tap ∷ [])))
-    ≡ gives permits (giver_of chain) tap
-unfolding gives is_even
-is_even_after permits chain tap = elim (ends permits chain) [
-  | in_transfer none even ↦ rw none
-      (elim (continues permits chain tap) as (λ v.
-      is_even (length (cond v (chain ++ tap ∷ []) (tap ∷ []))) ≡ false)
-      [ true ↦ is_even-push chain tap ∙ ap not even | false ↦ refl ])
-  | in_ride giver some odd linked ↦ rw (some, linked tap)
-      (elim (is_linked permits giver tap) as (λ v.
-      is_even (length (cond v (chain ++ tap ∷ []) (tap ∷ []))) ≡ v)
-      [ true ↦ is_even-push chain tap ∙ ap not odd | false ↦ refl ])
-]
+trip_of-after : (rules : TokenRules) (trip : List LiveTap) (tap : LiveTap)
+    → trip_of (cond (continues rules.transfers trip tap) (trip ++ tap ∷ []) (tap ∷ []))
+    ≡ after_tap (gives rules.transfers (trip_of trip) tap) (trip_of trip) tap
+unfolding continues gives trip_of last_tap
+trip_of-after rules [] tap = refl
+trip_of-after rules (ride ∷ given) tap = trip_of-if _ ride given tap
 
-giver_of_after : (permits : Mode → Mode → Bool) (chain : List LiveTap) (tap : LiveTap)
-    → giver_of (cond (continues permits chain tap) (chain ++ tap ∷ []) (tap ∷ []))
-    ≡ cond (gives permits (giver_of chain) tap) None (Some tap)
-unfolding gives giver_of
-giver_of_after permits chain tap = elim (ends permits chain) [
-  | in_transfer none even ↦ rw none
-      (elim (continues permits chain tap) as (λ v. giver_of (cond v (chain ++ tap ∷ []) (tap ∷ []))
-      ≡ Some tap)
-      [ true ↦ giver_of-push chain tap ∙ ap (λ b. cond b (Some tap) None) even | false ↦ refl ])
-  | in_ride giver some odd linked ↦ rw (some, linked tap)
-      (elim (is_linked permits giver tap) as (λ v. giver_of (cond v (chain ++ tap ∷ []) (tap ∷ []))
-      ≡ cond v None (Some tap))
-      [ true ↦ giver_of-push chain tap ∙ ap (λ b. cond b (Some tap) None) odd | false ↦ refl ])
-]
+longer-if : (b : Bool) (ride : LiveTap) (given : List LiveTap) (tap : LiveTap)
+    → nat_lt 1 (length (cond b (ride ∷ (given ++ tap ∷ [])) (tap ∷ []))) ≡ b
+longer-if true ride given tap =
+    lt-ltb 1 (suc (length (given ++ tap ∷ []))) (omega (arith, length-push given tap))
+longer-if false ride given tap = refl
 
--- a live tap is a transfer exactly where the giver gives it one
+-- a trip with the tap, or the tap alone, has a transfer exactly where the trip gives it one
+longer-after : (rules : TokenRules) (trip : List LiveTap) (tap : LiveTap)
+    → nat_lt 1 (length (cond (continues rules.transfers trip tap) (trip ++ tap ∷ []) (tap ∷ [])))
+    ≡ gives rules.transfers (trip_of trip) tap
+unfolding continues gives trip_of
+longer-after rules [] tap = refl
+longer-after rules (ride ∷ given) tap = longer-if _ ride given tap
+
+-- a live tap is a transfer exactly where the last trip gives it one
 pub ends_in_transfer-push : (rules : TokenRules) (taps : List TapIn) (tap : TapIn) (shown : LiveTap)
     → live_tap taps tap ≡ Some shown
-    → ends_in_transfer rules (taps ++ tap ∷ [])
-    ≡ gives rules.permits (giver_of (last_block (chains rules taps))) shown
-unfolding ends_in_transfer
+    → ends_in_transfer rules (taps ++ tap ∷ []) ≡ gives rules.transfers (last_trip rules taps) shown
+unfolding ends_in_transfer last_trip
 ends_in_transfer-push rules taps tap shown some =
     rw (
-      chains-push rules taps tap shown some,
-      last_block-extend (continues rules.permits) (chains rules taps) shown,
+      trips-push rules taps tap shown some,
+      last_block-extend (continues rules.transfers) (trips rules taps) shown,
     )
-    (is_even_after rules.permits (last_block (chains rules taps)) shown)
+    (longer-after rules (last_block (trips rules taps)) shown)
 
--- and then it gives none itself
-pub giver-push : (rules : TokenRules) (taps : List TapIn) (tap : TapIn) (shown : LiveTap)
+-- and then it is the last one of that trip
+pub trip-push : (rules : TokenRules) (taps : List TapIn) (tap : TapIn) (shown : LiveTap)
     → live_tap taps tap ≡ Some shown
-    → giver_of (last_block (chains rules (taps ++ tap ∷ [])))
-    ≡ cond (gives rules.permits (giver_of (last_block (chains rules taps))) shown) None (Some shown)
-giver-push rules taps tap shown some =
+    → last_trip rules (taps ++ tap ∷ [])
+    ≡ after_tap (gives rules.transfers (last_trip rules taps) shown) (last_trip rules taps) shown
+unfolding last_trip
+trip-push rules taps tap shown some =
     rw (
-      chains-push rules taps tap shown some,
-      last_block-extend (continues rules.permits) (chains rules taps) shown,
+      trips-push rules taps tap shown some,
+      last_block-extend (continues rules.transfers) (trips rules taps) shown,
     )
-    (giver_of_after rules.permits (last_block (chains rules taps)) shown)
+    (trip_of-after rules (last_block (trips rules taps)) shown)
 
 -- the last window, once the list has one more ride
 pub last_window-ride : (rules : TokenRules) (taps : List TapIn) (tap : TapIn) (shown : LiveTap)

@@ -1,103 +1,145 @@
 -- The window that an account keeps, and the window of the rule.
-use Rattle.std.proofs.Common.{◌≡◌, ℕ, suc, ◌+◌, ◌-◌, ◌≤◌, true, false, cond, List, [], ◌∷◌, ◌++◌}
-use Rattle.std.proofs.Common.{length, min, ltb, Some, option_map, IfSome, refl, ap, arith}
-use Rattle.fare_table.specs.Terms.{AreBoundedTerms}
+use Rattle.std.proofs.Common.{◌≡◌, ℕ, suc, ◌+◌, ◌≤◌, true, false, cond, List, [], ◌∷◌, ◌++◌, length}
+use Rattle.std.proofs.Common.{min, ltb, Some, None, option_map, IfSome, refl, ap, arith}
+use Rattle.std.proofs.Common.{inl, inr, All}
+use Rattle.std.specs.List.{last_or}
+use Rattle.fare_table.specs.Terms.{AreRideTerms}
+use Rattle.fare_table.specs.declared.terms.Terms.{Terms}
+use Rattle.account_rule.specs.declared.window.Window.{Window}
+use Rattle.account_rule.specs.Kept.{IsRoomy}
 use Rattle.account_rule.specs.TokenRules.{TokenRules}
-use Rattle.account_rule.specs.inside.Kept.{IsRoomy, open_window, shown_of, window_at, with_ride}
+use Rattle.account_rule.specs.inside.Kept.{open_window, shown_of, window_at, with_ride}
 use Rattle.account_rule.specs.Stands.{window_of}
 use Rattle.account_rule.specs.Taps.{LiveTap}
-use Rattle.account_rule.specs.Windows.{charge, is_within, paid_rides, ride_cents, shown_window}
-use Rattle.account_rule.proofs.LimitLemmas.{charge-min, paid_rides-le_rides, ride_cents-le_ceiling}
+use Rattle.account_rule.specs.Windows.{charge, charges, charges_after, is_within, paid_rides}
+use Rattle.account_rule.specs.Windows.{shown_window, window_cents}
+use Rattle.account_rule.proofs.BlockLemmas.{length-push}
+use Rattle.account_rule.proofs.LimitLemmas.{cents-push, charge-min, charged, last_charge-push}
+use Rattle.account_rule.proofs.LimitLemmas.{paid-push, paid_rides-le, window_cents-le}
 
-pub length-push : {A : Type 0} (xs : List A) (x : A) → length (xs ++ x ∷ []) ≡ suc (length xs)
-length-push [] x = refl
-length-push (y ∷ ys) x = ap suc (length-push ys x)
-
-counted : (rides limit : ℕ) → min (min rides limit + 1) limit ≡ min (suc rides) limit
-counted rides limit = omega arith
+counted : (rides : ℕ) → min (min rides 1_000 + 1) 1_000 ≡ min (suc rides) 1_000
+counted rides = omega arith
 
 -- a window with one more ride, or a window of that ride alone
 abbrev pub after_ride : TokenRules → List LiveTap → LiveTap → List LiveTap
 after_ride rules window ride =
     cond (is_within rules.until window ride) (window ++ ride ∷ []) (ride ∷ [])
 
+-- the numbers of rides that opened a window at a moment
+abbrev pub numbers : TokenRules → ℕ → List LiveTap → Window
+numbers rules start window = record {
+  start = start;
+  until = rules.until start;
+  rides = min (length window) 1_000;
+  paid = paid_rides rules.terms window;
+  cents = window_cents rules.terms window;
+}
+
+none_yet : (rules : TokenRules) (start : ℕ)
+    → open_window start (rules.until start) ≡ numbers rules start []
+unfolding open_window paid_rides window_cents charges charges_after
+none_yet rules start = refl
+
+-- one more ride is counted as the account counts it
+numbers-push : (rules : TokenRules) (start : ℕ) (window : List LiveTap) (ride : LiveTap)
+    (terms : Terms) → rules.terms ride ≡ terms → AreRideTerms terms
+    → numbers rules start (window ++ ride ∷ []) ≡ with_ride terms (numbers rules start window)
+unfolding with_ride
+numbers-push rules start window ride terms same bounds =
+    rw (
+      paid-push rules.terms window ride,
+      cents-push rules.terms window ride,
+      same,
+      charge-min terms (length window) (window_cents rules.terms window) bounds.rides_high,
+      length-push window ride,
+      counted (length window),
+    ) refl
+
 -- the numbers of the window after a ride are those before it with the ride counted
-pub window_of-after : (rules : TokenRules) (window : List LiveTap) (ride : LiveTap)
+pub window_of-after : (rules : TokenRules) (window : List LiveTap) (ride : LiveTap) (terms : Terms)
+    → rules.terms ride ≡ terms → AreRideTerms terms
     → window_of rules (after_ride rules window ride)
-    ≡ Some (with_ride rules.terms
+    ≡ Some (with_ride terms
     (window_at (window_of rules window) ride.moment (rules.until ride.moment)))
-unfolding window_of window_at with_ride open_window is_within paid_rides ride_cents
-window_of-after rules [] ride = refl
-window_of-after rules (first ∷ window) ride =
+unfolding window_of window_at is_within
+window_of-after rules [] ride terms same bounds =
+    rw (none_yet rules ride.moment)
+    (ap (λ (w : Window). Some w) (numbers-push rules ride.moment [] ride terms same bounds))
+window_of-after rules (first ∷ window) ride terms same bounds =
     elim (ltb ride.moment (rules.until first.moment)) as (λ v.
     window_of rules (cond v (first ∷ (window ++ ride ∷ [])) (ride ∷ []))
-    ≡ Some (with_ride rules.terms (cond v (record {
-      start = first.moment;
-      until = rules.until first.moment;
-      rides = min (suc (length window)) rules.terms.rides;
-      paid = paid_rides rules.terms (suc (length window));
-      cents = ride_cents rules.terms (suc (length window));
-    }) (open_window ride.moment (rules.until ride.moment))))) [
-      | true ↦ rw (
-        length-push window ride,
-        charge-min rules.terms (suc (length window)),
-        counted (suc (length window)) rules.terms.rides,
-      ) refl
-      | false ↦ refl
+    ≡ Some (with_ride terms (cond v (numbers rules first.moment (first ∷ window))
+    (open_window ride.moment (rules.until ride.moment))))) [
+      | true ↦ ap (λ (w : Window). Some w)
+          (numbers-push rules first.moment (first ∷ window) ride terms same bounds)
+      | false ↦ rw (none_yet rules ride.moment)
+          (ap (λ (w : Window). Some w) (numbers-push rules ride.moment [] ride terms same bounds))
     ]
 
--- the ride's place in its window costs what the counted rides say
-pub charge-after : (rules : TokenRules) (window : List LiveTap) (ride : LiveTap)
-    → charge rules.terms (length (after_ride rules window ride) - 1)
-    ≡ charge rules.terms
+-- the charge of a ride behind others
+charge-behind : (rules : TokenRules) (start : ℕ) (window : List LiveTap) (ride : LiveTap)
+    (terms : Terms) → rules.terms ride ≡ terms → AreRideTerms terms
+    → last_or None (charges rules.terms (window ++ ride ∷ []))
+    ≡ Some (charge terms (numbers rules start window).rides (numbers rules start window).cents)
+charge-behind rules start window ride terms same bounds =
+    rw (
+      last_charge-push rules.terms window ride,
+      same,
+      charge-min terms (length window) (window_cents rules.terms window) bounds.rides_high,
+    ) refl
+
+-- the ride costs what the counted rides say
+pub charge-after : (rules : TokenRules) (window : List LiveTap) (ride : LiveTap) (terms : Terms)
+    → rules.terms ride ≡ terms → AreRideTerms terms
+    → last_or None (charges rules.terms (after_ride rules window ride))
+    ≡ Some (charge terms
     (window_at (window_of rules window) ride.moment (rules.until ride.moment)).rides
-unfolding window_of window_at open_window is_within
-charge-after rules [] ride = refl
-charge-after rules (first ∷ window) ride =
+    (window_at (window_of rules window) ride.moment (rules.until ride.moment)).cents)
+unfolding window_of window_at is_within
+charge-after rules [] ride terms same bounds =
+    rw (none_yet rules ride.moment) (charge-behind rules ride.moment [] ride terms same bounds)
+charge-after rules (first ∷ window) ride terms same bounds =
     elim (ltb ride.moment (rules.until first.moment)) as (λ v.
-    charge rules.terms (length (cond v (first ∷ (window ++ ride ∷ [])) (ride ∷ [])) - 1)
-    ≡ charge rules.terms (cond v (record {
-      start = first.moment;
-      until = rules.until first.moment;
-      rides = min (suc (length window)) rules.terms.rides;
-      paid = paid_rides rules.terms (suc (length window));
-      cents = ride_cents rules.terms (suc (length window));
-    }) (open_window ride.moment (rules.until ride.moment))).rides) [
-      | true ↦ rw (charge-min rules.terms (suc (length window)))
-          (let place : suc (length (window ++ ride ∷ [])) - 1
-          ≡ suc (length window) = omega (arith, length-push window ride) in
-          ap (λ n. charge rules.terms n) place)
-      | false ↦ refl
+    last_or None (charges rules.terms (cond v (first ∷ (window ++ ride ∷ [])) (ride ∷ [])))
+    ≡ Some (charge terms (cond v (numbers rules first.moment (first ∷ window))
+    (open_window ride.moment (rules.until ride.moment))).rides
+    (cond v (numbers rules first.moment (first ∷ window))
+    (open_window ride.moment (rules.until ride.moment))).cents)) [
+      | true ↦ charge-behind rules first.moment (first ∷ window) ride terms same bounds
+      | false ↦ rw (none_yet rules ride.moment)
+          (charge-behind rules ride.moment [] ride terms same bounds)
     ]
 
--- the limits of the terms leave room for one more ride
-pub roomy : (rules : TokenRules) (window : List LiveTap) (moment until : ℕ)
-    → AreBoundedTerms rules.terms → IsRoomy rules.terms (window_at (window_of rules window) moment until)
-unfolding window_of window_at open_window
-roomy rules [] moment until bounds = record {
-  paid = omega arith;
-  cents = omega arith;
-  rides = omega arith;
-}
-roomy rules (first ∷ window) moment until bounds =
-    elim (ltb moment (rules.until first.moment)) as (λ v. IsRoomy rules.terms (cond v (record {
-      start = first.moment;
-      until = rules.until first.moment;
-      rides = min (suc (length window)) rules.terms.rides;
-      paid = paid_rides rules.terms (suc (length window));
-      cents = ride_cents rules.terms (suc (length window));
-    }) (open_window moment until))) [
-      | true ↦ record {
-        paid = omega (arith, paid_rides-le_rides rules.terms (suc (length window)));
-        cents = omega (arith, ride_cents-le_ceiling rules.terms (suc (length window)));
-        rides = omega arith;
-      }
-      | false ↦ record {
-        paid = omega arith;
-        cents = omega arith;
-        rides = omega arith;
-      }
+-- a window without rides leaves room for one, and one more ride leaves room for the next
+pub room-open : (start until : ℕ) → IsRoomy (open_window start until)
+unfolding open_window
+room-open start until =
+    record { rides = omega arith; paid = omega arith; cents = omega arith }
+
+pub room-at : (window : Window) (moment until : ℕ) → IsRoomy window
+    → IsRoomy (window_at (Some window) moment until)
+unfolding window_at
+room-at window moment until room =
+    elim (ltb moment window.until) as (λ v. IsRoomy (cond v window (open_window moment until))) [
+      | true ↦ room
+      | false ↦ room-open moment until
     ]
+
+pub room-ride : (terms : Terms) (window : Window) → AreRideTerms terms → IsRoomy window
+    → IsRoomy (with_ride terms window)
+unfolding with_ride
+room-ride terms window bounds room = elim (charged terms window.rides window.cents) [
+  | inl free ↦ record {
+    rides = omega arith;
+    paid = rw free.paid (omega (arith, room.paid, room.rides));
+    cents = omega (arith, free.cost, room.cents);
+  }
+  | inr paid ↦ record {
+    rides = omega arith;
+    paid = rw paid.paid (omega (arith, room.paid, paid.below_rides, bounds.rides_high));
+    cents = omega (arith, paid.cost, paid.below_ceiling, bounds.ceiling_high);
+  }
+]
 
 -- what is seen of the kept window is what the rule shows, within both limits
 pub shown_window-of : (rules : TokenRules) (window : List LiveTap)
@@ -106,14 +148,18 @@ unfolding window_of shown_of shown_window
 shown_window-of rules [] = refl
 shown_window-of rules (first ∷ window) = refl
 
-pub paid-shown : (rules : TokenRules) (window : List LiveTap)
-    → IfSome (shown_window rules window) (λ shown. shown.paid ≤ rules.terms.rides)
+pub paid-shown : (rules : TokenRules) (limit : ℕ) (window : List LiveTap)
+    → All (λ ride. (rules.terms ride).rides ≤ limit) window
+    → IfSome (shown_window rules window) (λ shown. shown.paid ≤ limit)
 unfolding shown_window
-paid-shown rules [] = tt
-paid-shown rules (first ∷ window) = paid_rides-le_rides rules.terms (suc (length window))
+paid-shown rules limit [] all = tt
+paid-shown rules limit (first ∷ window) all =
+    paid_rides-le rules.terms limit (first ∷ window) all
 
-pub cents-shown : (rules : TokenRules) (window : List LiveTap)
-    → IfSome (shown_window rules window) (λ shown. shown.cents ≤ rules.terms.ceiling)
+pub cents-shown : (rules : TokenRules) (ceiling : ℕ) (window : List LiveTap)
+    → All (λ ride. (rules.terms ride).ceiling ≤ ceiling) window
+    → IfSome (shown_window rules window) (λ shown. shown.cents ≤ ceiling)
 unfolding shown_window
-cents-shown rules [] = tt
-cents-shown rules (first ∷ window) = ride_cents-le_ceiling rules.terms (suc (length window))
+cents-shown rules ceiling [] all = tt
+cents-shown rules ceiling (first ∷ window) all =
+    window_cents-le rules.terms ceiling (first ∷ window) all

@@ -1,25 +1,28 @@
--- What holds of the chains and the windows of every list of taps.
-use Rattle.std.specs.Prelude.{◌≡◌, ◌↔◌, ℕ, zero, suc, ◌≤◌, Bool, true, false, List, [], ◌∷◌, ◌++◌}
-use Rattle.std.specs.Prelude.{length, filter, All, sum_by, count_by}
+-- What holds of the trips and the windows of every list of taps.
+use Rattle.std.specs.Prelude.{◌≡◌, ◌↔◌, ℕ, ◌-◌, ◌*◌, ◌≤◌, Bool, true, false, ◌||◌, List, Some, min}
+use Rattle.std.specs.Prelude.{nat_le, nat_lt, if◌then◌else◌, filter, map, All, sum_by, count_by}
+use Rattle.std.specs.Prelude.{slice_get}
 use Rattle.std.specs.List.{flat_map}
 use Rattle.fare_table.specs.declared.terms.Terms.{Terms}
+use Rattle.account_rule.specs.declared.reason.Charge.{Charge}
 use Rattle.account_rule.specs.declared.reply.Answer.{Answer}
 use Rattle.account_rule.specs.declared.reply.Answer.TheVariants.{Paid, Transfer, Capped, Stale}
 use Rattle.account_rule.specs.declared.reply.Answer.TheVariants.{Unknown}
 use Rattle.account_rule.specs.declared.reply.Reply.{Reply}
 use Rattle.account_rule.specs.declared.tap.TapIn.{TapIn}
-use Rattle.account_rule.specs.Chains.{continues, chains, rides}
+use Rattle.account_rule.specs.Trips.{continues, rides, trips}
 use Rattle.account_rule.specs.Blocks.{AreBlocksOf}
 use Rattle.account_rule.specs.Replies.{replies, ride_reply}
 use Rattle.account_rule.specs.TokenRules.{TokenRules}
 use Rattle.account_rule.specs.Taps.{LiveTap, live}
-use Rattle.account_rule.specs.Windows.{charge, is_within, windows, paid_rides, ride_cents}
+use Rattle.account_rule.specs.Windows.{charged_by, charges, is_paid, is_within, paid_by, paid_rides}
+use Rattle.account_rule.specs.Windows.{window_cents, windows}
 
--- the chains are the only blocks into which links divide the live taps
-abbrev pub ChainsAreTheOnlyBlocks : Type 0
-ChainsAreTheOnlyBlocks =
+-- the trips are the only blocks into which transfers divide the live taps
+abbrev pub TripsAreTheOnlyBlocks : Type 0
+TripsAreTheOnlyBlocks =
     (rules : TokenRules) (taps : List TapIn) (blocks : List (List LiveTap))
-    → AreBlocksOf (continues rules.permits) (live taps) blocks ↔ (blocks ≡ chains rules taps)
+    → AreBlocksOf (continues rules.transfers) (live taps) blocks ↔ (blocks ≡ trips rules taps)
 
 -- the windows are the only blocks into which window ends divide the rides
 abbrev pub WindowsAreTheOnlyBlocks : Type 0
@@ -27,21 +30,21 @@ WindowsAreTheOnlyBlocks =
     (rules : TokenRules) (taps : List TapIn) (blocks : List (List LiveTap))
     → AreBlocksOf (is_within rules.until) (rides rules taps) blocks ↔ (blocks ≡ windows rules taps)
 
--- no window has more paid rides than the terms allow
+-- no window has more paid rides than the highest ride limit of its rides
 abbrev pub WindowsKeepTheRideLimit : Type 0
 WindowsKeepTheRideLimit =
-    (rules : TokenRules) (taps : List TapIn)
-    → All (λ window. paid_rides rules.terms (length window) ≤ rules.terms.rides)
-    (windows rules taps)
+    (rules : TokenRules) (taps : List TapIn) (limit : ℕ)
+    → All (λ window. All (λ ride. (rules.terms ride).rides ≤ limit) window
+    → paid_rides rules.terms window ≤ limit) (windows rules taps)
 
--- no window costs more than the ceiling
+-- no window costs more than the highest ceiling of its rides
 abbrev pub WindowsKeepTheCeiling : Type 0
 WindowsKeepTheCeiling =
-    (rules : TokenRules) (taps : List TapIn)
-    → All (λ window. ride_cents rules.terms (length window) ≤ rules.terms.ceiling)
-    (windows rules taps)
+    (rules : TokenRules) (taps : List TapIn) (ceiling : ℕ)
+    → All (λ window. All (λ ride. (rules.terms ride).ceiling ≤ ceiling) window
+    → window_cents rules.terms window ≤ ceiling) (windows rules taps)
 
--- whether the reply is to a ride that costs something
+-- whether the reply is to a ride that is paid
 abbrev pub is_paid_reply : Reply → Bool
 is_paid_reply reply = is_paid_answer reply.answer
   where
@@ -63,24 +66,30 @@ is_ride reply = is_ride_answer reply.answer
     is_ride_answer Stale = false
     is_ride_answer Unknown = false
 
--- the replies to the first rides of a window, by their places
-unfoldable pub place_replies : Terms → ℕ → List Reply
-place_replies terms zero = []
-place_replies terms (suc place) = place_replies terms place ++ ride_reply (charge terms place) ∷ []
+-- the reply to a ride, by what decides its cents
+abbrev pub charge_reply : Charge → Reply
+charge_reply charge = ride_reply (paid_by charge)
 
--- the replies to rides are, window by window, those of the places
+-- the replies to rides are, window by window, those of its charges
 abbrev pub WindowsShareTheRides : Type 0
 WindowsShareTheRides =
     (rules : TokenRules) (taps : List TapIn)
     → filter is_ride (replies rules taps)
-    ≡ flat_map (λ window. place_replies rules.terms (length window)) (windows rules taps)
+    ≡ flat_map (λ window. map charge_reply (charges rules.terms window)) (windows rules taps)
 
 -- the cents of all replies are the cents of all windows
 abbrev pub WindowsShareTheCents : Type 0
 WindowsShareTheCents =
     (rules : TokenRules) (taps : List TapIn)
     → sum_by (λ reply. reply.cents) (replies rules taps)
-    ≡ sum_by (λ window. ride_cents rules.terms (length window)) (windows rules taps)
+    ≡ sum_by (window_cents rules.terms) (windows rules taps)
+
+-- the Paid replies are the paid rides of all windows
+abbrev pub WindowsShareThePaidRides : Type 0
+WindowsShareThePaidRides =
+    (rules : TokenRules) (taps : List TapIn)
+    → count_by is_paid_reply (replies rules taps)
+    ≡ sum_by (paid_rides rules.terms) (windows rules taps)
 
 -- no number of the terms is above the other terms' one
 pub record AreNoHigher (terms higher : Terms) : Type 0 where
@@ -89,20 +98,34 @@ pub record AreNoHigher (terms higher : Terms) : Type 0 where
   pub ceiling : terms.ceiling ≤ higher.ceiling
 
 -- the rules under other terms
-abbrev pub with_terms : TokenRules → Terms → TokenRules
+abbrev pub with_terms : TokenRules → (LiveTap → Terms) → TokenRules
 with_terms rules terms = record rules { terms = terms }
 
--- under a higher fare, ride limit or ceiling, the same taps cost as much or more
+-- under a higher fare, ride limit or ceiling of rides, the same taps cost as much or more
 abbrev pub HigherTermsAreNeverCheaper : Type 0
 HigherTermsAreNeverCheaper =
-    (rules : TokenRules) (higher : Terms) (taps : List TapIn)
-    → AreNoHigher rules.terms higher
+    (rules : TokenRules) (higher : LiveTap → Terms) (taps : List TapIn)
+    → ((ride : LiveTap) → AreNoHigher (rules.terms ride) (higher ride))
     → sum_by (λ reply. reply.cents) (replies rules taps)
     ≤ sum_by (λ reply. reply.cents) (replies (with_terms rules higher) taps)
 
--- the Paid replies are the paid rides of all windows
-abbrev pub WindowsShareThePaidRides : Type 0
-WindowsShareThePaidRides =
-    (rules : TokenRules) (taps : List TapIn)
-    → count_by is_paid_reply (replies rules taps)
-    ≡ sum_by (λ window. paid_rides rules.terms (length window)) (windows rules taps)
+-- the cents of a ride by its place in a window in which all rides have these terms: the rides before
+-- it cost a fare each, up to the ceiling
+unfoldable pub place_cents : Terms → ℕ → ℕ
+place_cents terms place =
+    if nat_le terms.rides place || nat_le terms.ceiling (place * terms.fare)
+    then 0
+    else min terms.fare (terms.ceiling - place * terms.fare)
+
+-- what the ride at the place costs is what its place says, and it is paid if that is above 0
+pub record IsOfPlace (terms : Terms) (place : ℕ) (charge : Charge) : Type 0 where
+  pub cents : charged_by charge ≡ place_cents terms place
+  pub paid : is_paid charge ≡ nat_lt 0 (place_cents terms place)
+
+-- where all rides of a window have the same terms, each costs what its place says
+abbrev pub EqualFaresAreChargedByPlaces : Type 0
+EqualFaresAreChargedByPlaces =
+    (terms : LiveTap → Terms) (same : Terms) (window : List LiveTap)
+    → 1 ≤ same.fare → ((ride : LiveTap) → terms ride ≡ same)
+    → (place : ℕ) (charge : Charge) → slice_get (charges terms window) place ≡ Some charge
+    → IsOfPlace same place charge

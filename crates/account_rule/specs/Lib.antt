@@ -1,12 +1,13 @@
 pub mod Blocks
-pub mod Chains
 pub mod Kept
 pub mod Laws
 pub mod NoTransfers
+pub mod OneTransfer
 pub mod Reasons
 pub mod Replies
 pub mod Stands
 pub mod Taps
 pub mod TokenRules
+pub mod Trips
 pub mod Windows
 pub mod inside

@@ -1,30 +1,34 @@
 -- The reply to each tap of a token, after the taps before it.
-use Rattle.std.specs.Prelude.{ℕ, ◌-◌, if◌then◌else◌, List, [], ◌∷◌, ◌++◌, length, is_some, nat_lt}
+use Rattle.std.specs.Prelude.{ℕ, if◌then◌else◌, List, [], ◌∷◌, ◌++◌, is_some, Option, Some, None}
+use Rattle.std.specs.List.{last_or}
+use Rattle.std.specs.Option.{option_and_then}
 use Rattle.account_rule.specs.declared.reply.Answer.{Answer}
 use Rattle.account_rule.specs.declared.reply.Answer.TheVariants.{Paid, Transfer, Capped, Stale}
 use Rattle.account_rule.specs.declared.reply.Answer.TheVariants.{Unknown}
 use Rattle.account_rule.specs.declared.reply.Reply.{Reply}
 use Rattle.account_rule.specs.declared.tap.TapIn.{TapIn}
-use Rattle.account_rule.specs.Chains.{ends_in_transfer}
+use Rattle.account_rule.specs.Trips.{ends_in_transfer}
 use Rattle.account_rule.specs.Blocks.{last_block}
 use Rattle.account_rule.specs.TokenRules.{TokenRules}
 use Rattle.account_rule.specs.Taps.{is_later}
-use Rattle.account_rule.specs.Windows.{windows, charge}
+use Rattle.account_rule.specs.Windows.{charges, paid_by, windows}
 
 -- the reply of this answer and these cents
 unfoldable pub reply_with : Answer → ℕ → Reply
 reply_with answer cents = record { answer = answer; cents = cents }
 
--- the reply to a ride of so many cents
-unfoldable pub ride_reply : ℕ → Reply
-ride_reply cents = if nat_lt 0 cents then reply_with Paid cents else reply_with Capped 0
+-- the reply to a ride that is paid with these cents, if no limit is reached
+unfoldable pub ride_reply : Option ℕ → Reply
+ride_reply None = reply_with Capped 0
+ride_reply (Some cents) = reply_with Paid cents
 
--- the reply to the last of the taps, which is live
+-- the reply to the last of the taps, which is live: a transfer, or the last ride of its window
 unfoldable pub live_reply : TokenRules → List TapIn → Reply
 live_reply rules taps =
     if ends_in_transfer rules taps
     then reply_with Transfer 0
-    else ride_reply (charge rules.terms (length (last_block (windows rules taps)) - 1))
+    else ride_reply (option_and_then paid_by
+    (last_or None (charges rules.terms (last_block (windows rules taps)))))
 
 -- the reply to a tap after the earlier ones of its token
 unfoldable pub reply : TokenRules → List TapIn → TapIn → Reply

@@ -1,10 +1,13 @@
 -- The windows of a token's rides, and what the rides of a window cost.
-use Rattle.std.specs.Prelude.{ℕ, zero, suc, ◌+◌, ◌-◌, ◌*◌, Bool, false, ◌||◌, if◌then◌else◌, List}
-use Rattle.std.specs.Prelude.{[], ◌∷◌, length, min, nat_lt, nat_le, Option, Some, None}
+use Rattle.std.specs.Prelude.{ℕ, suc, ◌+◌, ◌-◌, Bool, false, if◌then◌else◌, List, [], ◌∷◌}
+use Rattle.std.specs.Prelude.{is_some, nat_lt, nat_le, Option, Some, None, sum_by, count_by}
 use Rattle.fare_table.specs.declared.terms.Terms.{Terms}
+use Rattle.account_rule.specs.declared.reason.Charge.{Charge}
+use Rattle.account_rule.specs.declared.reason.Charge.TheVariants.{Full, CeilingCut, CeilingReached}
+use Rattle.account_rule.specs.declared.reason.Charge.TheVariants.{RideLimitReached}
 use Rattle.account_rule.specs.declared.tap.TapIn.{TapIn}
 use Rattle.account_rule.specs.declared.window.WindowView.{WindowView}
-use Rattle.account_rule.specs.Chains.{rides}
+use Rattle.account_rule.specs.Trips.{rides}
 use Rattle.account_rule.specs.Blocks.{blocks_by, last_block}
 use Rattle.account_rule.specs.TokenRules.{TokenRules}
 use Rattle.account_rule.specs.Taps.{LiveTap}
@@ -18,23 +21,52 @@ is_within until (first ∷ _) ride = nat_lt ride.moment (until first.moment)
 unfoldable pub windows : TokenRules → List TapIn → List (List LiveTap)
 windows rules taps = blocks_by (is_within rules.until) (rides rules taps)
 
--- the cents of the ride at the place of its window, from place 0 on
-unfoldable pub charge : Terms → ℕ → ℕ
-charge terms place =
-    if nat_le terms.rides place || nat_le terms.ceiling (place * terms.fare)
-    then 0
-    else min terms.fare (terms.ceiling - place * terms.fare)
+-- what decides the cents of a ride, by its terms: its window has had so many rides, which cost so
+-- many cents
+unfoldable pub charge : Terms → ℕ → ℕ → Charge
+charge terms rides cents =
+    if nat_le terms.rides rides then RideLimitReached
+    else (if nat_le terms.ceiling cents then CeilingReached rides
+    else (if nat_le (cents + terms.fare) terms.ceiling then Full rides terms.fare
+    else CeilingCut rides (terms.ceiling - cents)))
 
--- how many of a window's first rides are charged
-unfoldable pub paid_rides : Terms → ℕ → ℕ
-paid_rides terms zero = 0
-paid_rides terms (suc place) =
-    paid_rides terms place + (if nat_lt 0 (charge terms place) then 1 else 0)
+-- the cents that follow from what decides them
+abbrev pub charged_by : Charge → ℕ
+charged_by (Full place cents) = cents
+charged_by (CeilingCut place cents) = cents
+charged_by (CeilingReached place) = 0
+charged_by RideLimitReached = 0
 
--- the cents of a window's first rides
-unfoldable pub ride_cents : Terms → ℕ → ℕ
-ride_cents terms zero = 0
-ride_cents terms (suc place) = ride_cents terms place + charge terms place
+-- the cents that are paid, if no limit is reached
+abbrev pub paid_by : Charge → Option ℕ
+paid_by (Full place cents) = Some cents
+paid_by (CeilingCut place cents) = Some cents
+paid_by (CeilingReached place) = None
+paid_by RideLimitReached = None
+
+-- what decides the cents of each of the rides, which follow so many of their window, which cost so
+-- many cents
+unfoldable pub charges_after : (LiveTap → Terms) → ℕ → ℕ → List LiveTap → List Charge
+charges_after terms rides cents [] = []
+charges_after terms rides cents (ride ∷ more) =
+    charge (terms ride) rides cents
+    ∷ charges_after terms (suc rides) (cents + charged_by (charge (terms ride) rides cents)) more
+
+-- what decides the cents of each ride of a window
+unfoldable pub charges : (LiveTap → Terms) → List LiveTap → List Charge
+charges terms window = charges_after terms 0 0 window
+
+-- whether the ride is paid: no limit is reached
+unfoldable pub is_paid : Charge → Bool
+is_paid charge = is_some (paid_by charge)
+
+-- how many rides of a window are paid
+unfoldable pub paid_rides : (LiveTap → Terms) → List LiveTap → ℕ
+paid_rides terms window = count_by is_paid (charges terms window)
+
+-- the cents of a window
+unfoldable pub window_cents : (LiveTap → Terms) → List LiveTap → ℕ
+window_cents terms window = sum_by charged_by (charges terms window)
 
 -- what a window shows
 unfoldable pub shown_window : TokenRules → List LiveTap → Option WindowView
@@ -42,8 +74,8 @@ shown_window rules [] = None
 shown_window rules (first ∷ window) = Some (record {
   start = first.moment;
   until = rules.until first.moment;
-  paid = paid_rides rules.terms (length (first ∷ window));
-  cents = ride_cents rules.terms (length (first ∷ window));
+  paid = paid_rides rules.terms (first ∷ window);
+  cents = window_cents rules.terms (first ∷ window);
 })
 
 -- the last window of the taps

@@ -1,29 +1,27 @@
 //! The account of one token: what it keeps, and its step.
 
-ghost use Rattle.std.specs.Prelude.{◌≡◌, ℕ, ◌<◌, ◌≤◌, List, [], ◌∷◌, ◌++◌, length, option_map};
-ghost use Rattle.std.specs.Prelude.{IfSome, Some};
+ghost use Rattle.std.specs.Prelude.{◌≡◌, ℕ, ◌+◌, ◌<◌, ◌≤◌, List, [], ◌∷◌, ◌++◌, length, All, IfSome};
+ghost use Rattle.std.specs.Prelude.{IsTrue, Some};
 ghost use Rattle.std.specs.Option.{ForSome};
-ghost use Rattle.fare_table.specs.Terms.{AreBoundedTerms};
+ghost use Rattle.fare_table.specs.Terms.{AreRideTerms};
+ghost use Rattle.fare_table.specs.Fares.{class_of, ride_terms};
 ghost use Rattle.fare_table.specs.Until.{window_end_in};
 ghost use Rattle.account_rule.specs.declared.tap.TapIn.{TapIn};
 ghost use Rattle.account_rule.specs.Replies.{reply, ride_reply};
-ghost use Rattle.account_rule.specs.TokenRules.{TokenRules, permits_of, rules_of};
-ghost use Rattle.account_rule.specs.Kept.{kept_of};
-ghost use Rattle.account_rule.specs.inside.Kept.{IsRoomy, gives, open_window, window_at, with_ride};
+ghost use Rattle.account_rule.specs.TokenRules.{TokenRules, rules_of, transfers_of};
+ghost use Rattle.account_rule.specs.Kept.{IsRoomy, kept_numbers, kept_of, kept_trip};
+ghost use Rattle.account_rule.specs.inside.Kept.{gives, open_window, window_at, with_ride};
 ghost use Rattle.account_rule.specs.Stands.{Stands, StandsForSome};
+ghost use Rattle.account_rule.specs.Blocks.{last_block};
 ghost use Rattle.account_rule.specs.Taps.{live_at};
-ghost use Rattle.account_rule.specs.Windows.{charge, last_window};
+ghost use Rattle.account_rule.specs.Windows.{charge, last_window, paid_by, windows};
 
 mod explain;
 
 use crate::reply::{Answer, Reply};
 use crate::tap::TapIn;
 use crate::window::{Window, WindowView};
-use fare_table::{Clock, FareTable, Mode, Terms};
-
-/// For how long a ride includes a transfer, in milliseconds: two hours (MTA, free transfers), the
-/// limit included (this project's choice).
-const TRANSFER_TIME_MS: u64 = 7_200_000;
+use fare_table::{Clock, FareTable, Mode};
 
 /// The account of one token under one table.
 ///
@@ -33,13 +31,19 @@ const TRANSFER_TIME_MS: u64 = 7_200_000;
 pub struct Account {
     /// The moment of the last live tap.
     last: u64,
+    /// The moment of the last ride.
+    ride: u64,
     /// Whether there was a live tap: the first one is a ride and so opens a window. Before it, no
     /// other field says anything.
     has_window: bool,
-    /// The mode of the last live tap, where that is a ride and so can give a transfer.
-    giver: Option<Mode>,
-    /// The token's terms, so that the table is asked for them once.
-    terms: Terms,
+    /// How many transfers followed the last ride.
+    given: u8,
+    /// The mode of the last live tap.
+    mode: Mode,
+    /// The mode of the last ride.
+    ride_mode: Mode,
+    /// The place of the token's class, so that the table is asked for it once.
+    class: u32,
     /// The last window.
     window: Window,
 }
@@ -53,12 +57,11 @@ impl Account {
         Account {
             last: 0,
             has_window: false,
-            giver: None,
-            terms: Terms {
-                fare: 0,
-                rides: 0,
-                ceiling: 0,
-            },
+            ride: 0,
+            given: 0,
+            mode: Mode { place: 0 },
+            ride_mode: Mode { place: 0 },
+            class: 0,
             window: Window::open(0, 0),
         }
     }
@@ -68,7 +71,7 @@ impl Account {
     /// The table and the token are the same in all calls on an account, the clock is the table's,
     /// the tap's mode is one of the table's, and its moment lies before 2100-01-01T00:00Z. There is
     /// no order of moments to keep: a tap that comes too late is stale. The step takes no memory.
-    /// It asks the table for the token's terms at the first ride alone, and the clock for the
+    /// It asks the table for the token's class at the first ride alone, and the clock for the
     /// window's end where a ride opens a window. No reply costs more than the greatest fare of a
     /// table.
     #[inline(always)]
@@ -97,22 +100,25 @@ impl Account {
             return Reply::free(Answer::Stale);
         }
         if self.gives_transfer(table, tap.moment, mode) {
-            self.last = tap.moment;
-            self.giver = None;
+            self.take_transfer(mode, tap.moment);
             return Reply::free(Answer::Transfer);
         }
-        Reply::to_ride(self.take_ride(clock, mode, tap.moment))
+        Reply::to_ride(self.take_ride(table, clock, mode, tap.moment))
     }
 
     /// The last window, or `None` before the first ride: its paid rides and its cents are within
-    /// the limits of the token's terms (MTA, fare capping).
+    /// the highest limits of the terms of its rides (MTA, fare capping).
     pub fn window(&self) -> Option<WindowView>
         ensures window { (rules : TokenRules) (taps : List TapIn) → Stands rules self.now taps
             → result ≡ last_window rules taps }
-        ensures paid { (rules : TokenRules) (taps : List TapIn) → Stands rules self.now taps
-            → IfSome result (λ window. window.paid ≤ rules.terms.rides) }
-        ensures cents { (rules : TokenRules) (taps : List TapIn) → Stands rules self.now taps
-            → IfSome result (λ window. window.cents ≤ rules.terms.ceiling) }
+        ensures paid { (rules : TokenRules) (taps : List TapIn) (limit : ℕ)
+            → Stands rules self.now taps
+            → All (λ ride. (rules.terms ride).rides ≤ limit) (last_block (windows rules taps))
+            → IfSome result (λ window. window.paid ≤ limit) }
+        ensures cents { (rules : TokenRules) (taps : List TapIn) (ceiling : ℕ)
+            → Stands rules self.now taps
+            → All (λ ride. (rules.terms ride).ceiling ≤ ceiling) (last_block (windows rules taps))
+            → IfSome result (λ window. window.cents ≤ ceiling) }
     {
         if self.has_window {
             Some(self.window.shown())
@@ -137,70 +143,123 @@ impl Account {
         moment: u64,
     ) -> Reply
         requires token { length token.now ≡ 16 }
+        requires mode { mode.place < length table.now.meaning.modes }
         requires early { moment < 4_102_444_800_000 }
-        ensures bounds { let terms = (rules_of table.now token.now).terms in AreBoundedTerms terms }
-        ensures reply { let terms = (rules_of table.now token.now).terms in
-            let window = open_window moment (window_end_in clock.now moment) in
-            result ≡ ride_reply (charge terms window.rides) }
-        ensures state { let terms = (rules_of table.now token.now).terms in
-            kept_of self.new ≡ Some (record {
-              last = moment;
-              giver = Some mode;
-              terms = terms;
-              window = with_ride terms (open_window moment (window_end_in clock.now moment));
-            }) }
+        ensures class { self.new.class ≡ class_of table.now token.now }
+        ensures there { self.new.class < length table.now.meaning.classes }
+        ensures bounds { AreRideTerms (ride_terms table.now self.new.class mode.place) }
+        ensures reply { let window = open_window moment (window_end_in clock.now moment) in
+            result ≡ ride_reply (paid_by (charge (ride_terms table.now self.new.class mode.place)
+            window.rides window.cents)) }
+        ensures state { kept_of self.new ≡ Some (record {
+          last = live_at moment mode;
+          ride = live_at moment mode;
+          given = 0;
+          class = self.new.class;
+          window = with_ride (ride_terms table.now self.new.class mode.place)
+              (open_window moment (window_end_in clock.now moment));
+        }) }
     {
-        let terms = table.terms_of(token);
+        let class = table.class_of(token);
+        let terms = table.ride_terms(class, mode);
         let mut window = Window::opened(clock, moment);
         let cents = window.add_ride(terms);
         *self = Account {
             last: moment,
             has_window: true,
-            giver: Some(mode),
-            terms,
+            ride: moment,
+            given: 0,
+            mode,
+            ride_mode: mode,
+            class,
             window,
         };
         Reply::to_ride(cents)
     }
 
-    /// Whether the last live tap gives a transfer to a live tap at the moment, on the mode.
-    #[tactic(auto, unfolding(crate::specs::Chains::is_linked, crate::specs::TokenRules::permits_of, crate::specs::inside::Kept::gives, crate::specs::Taps::live_at))]
+    /// Whether the last ride gives a transfer to a live tap at the moment, on the mode.
+    #[tactic(auto, unfolding(crate::specs::TokenRules::transfers_of, crate::specs::TokenRules::permits_of, crate::specs::inside::Kept::gives, crate::specs::Kept::kept_trip, crate::specs::Taps::live_at))]
     fn gives_transfer(&self, table: &FareTable, moment: u64, mode: Mode) -> bool
-        requires giver { ForSome self.now.giver
-            (λ giver. giver.place < length table.now.meaning.modes) }
+        requires class { self.now.class < length table.now.meaning.classes }
+        requires from { self.now.mode.place < length table.now.meaning.modes }
         requires mode { mode.place < length table.now.meaning.modes }
-        ensures { result ≡ gives (permits_of table.now)
-            (option_map (live_at self.now.last) self.now.giver) (live_at moment mode) }
+        ensures gives { result ≡ gives (transfers_of table.now self.now.class)
+            (kept_trip (Some (kept_numbers self.now))) (live_at moment mode) }
+        ensures few { IsTrue result → self.now.given < 9 }
     {
-        match self.giver {
-            Some(giver) => moment.saturating_sub(self.last) <= TRANSFER_TIME_MS
-                && table.permits(giver, mode),
-            None => false,
-        }
+        let gives = table.transfer_terms(self.class);
+        u32::from(self.given) < gives.taps
+            && moment.saturating_sub(self.ride) <= u64::from(gives.time)
+            && table.permits(self.mode, mode)
+    }
+
+    /// Takes a live tap at the moment, on the mode, as a transfer.
+    fn take_transfer(&mut self, mode: Mode, moment: u64)
+        requires few { self.old.given < 9 }
+        ensures has_window { self.new.has_window ≡ self.old.has_window }
+        ensures state { kept_numbers self.new ≡ record {
+          last = live_at moment mode;
+          ride = live_at self.old.ride self.old.ride_mode;
+          given = self.old.given + 1;
+          class = self.old.class;
+          window = self.old.window;
+        } }
+    {
+        self.last = moment;
+        self.mode = mode;
+        self.given += 1;
     }
 
     /// Takes a live tap at the moment, on the mode, as a ride, and returns what it costs.
-    #[tactic(auto, unfolding(crate::specs::inside::Kept::window_at))]
-    fn take_ride(&mut self, clock: &Clock, mode: Mode, moment: u64) -> u32
+    #[tactic(auto, unfolding(crate::specs::inside::Kept::window_at, crate::specs::inside::Kept::open_window))]
+    fn take_ride(
+        &mut self,
+        table: &FareTable,
+        clock: &Clock,
+        mode: Mode,
+        moment: u64,
+    ) -> Option<u32>
+        requires class { self.old.class < length table.now.meaning.classes }
+        requires mode { mode.place < length table.now.meaning.modes }
         requires early { moment < 4_102_444_800_000 }
-        requires bounds { AreBoundedTerms self.old.terms }
-        requires room { IsRoomy self.old.terms
-            (window_at (Some self.old.window) moment (window_end_in clock.now moment)) }
-        ensures cost { result ≡ charge self.old.terms
-            (window_at (Some self.old.window) moment (window_end_in clock.now moment)).rides }
-        ensures last { self.new.last ≡ moment }
+        requires room { IsRoomy self.old.window }
+        ensures bounds { AreRideTerms (ride_terms table.now self.old.class mode.place) }
+        ensures cost { let window = window_at (Some self.old.window) moment (window_end_in clock.now moment) in
+            result ≡ paid_by (charge (ride_terms table.now self.old.class mode.place) window.rides
+            window.cents) }
         ensures has_window { self.new.has_window ≡ self.old.has_window }
-        ensures giver { self.new.giver ≡ Some mode }
-        ensures terms { self.new.terms ≡ self.old.terms }
-        ensures window { self.new.window ≡ with_ride self.old.terms
-            (window_at (Some self.old.window) moment (window_end_in clock.now moment)) }
+        ensures state { kept_numbers self.new ≡ record {
+          last = live_at moment mode;
+          ride = live_at moment mode;
+          given = 0;
+          class = self.old.class;
+          window = with_ride (ride_terms table.now self.old.class mode.place)
+              (window_at (Some self.old.window) moment (window_end_in clock.now moment));
+        } }
     {
         if moment >= self.window.until {
             self.window = Window::opened(clock, moment);
         }
-        let cents = self.window.add_ride(self.terms);
-        self.last = moment;
-        self.giver = Some(mode);
+        let cents = self.window.add_ride(table.ride_terms(self.class, mode));
+        self.begin_trip(mode, moment);
         cents
+    }
+
+    /// Keeps a live tap at the moment, on the mode, as the last ride.
+    fn begin_trip(&mut self, mode: Mode, moment: u64)
+        ensures has_window { self.new.has_window ≡ self.old.has_window }
+        ensures state { kept_numbers self.new ≡ record {
+          last = live_at moment mode;
+          ride = live_at moment mode;
+          given = 0;
+          class = self.old.class;
+          window = self.old.window;
+        } }
+    {
+        self.last = moment;
+        self.ride = moment;
+        self.given = 0;
+        self.mode = mode;
+        self.ride_mode = mode;
     }
 }

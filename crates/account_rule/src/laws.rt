@@ -2,28 +2,29 @@
 //! a function that does nothing.
 
 ghost use Rattle.account_rule.specs.Reasons.{GiversAreRides, RepliesFollow};
-ghost use Rattle.account_rule.specs.Laws.{ChainsAreTheOnlyBlocks, HigherTermsAreNeverCheaper};
-ghost use Rattle.account_rule.specs.Laws.{WindowsAreTheOnlyBlocks};
+ghost use Rattle.account_rule.specs.Laws.{EqualFaresAreChargedByPlaces, HigherTermsAreNeverCheaper};
+ghost use Rattle.account_rule.specs.Laws.{TripsAreTheOnlyBlocks, WindowsAreTheOnlyBlocks};
 ghost use Rattle.account_rule.specs.Laws.{WindowsKeepTheCeiling, WindowsKeepTheRideLimit};
 ghost use Rattle.account_rule.specs.Laws.{WindowsShareTheCents, WindowsShareThePaidRides};
 ghost use Rattle.account_rule.specs.Laws.{WindowsShareTheRides};
 ghost use Rattle.account_rule.specs.NoTransfers.{RidesLackTransfers};
+ghost use Rattle.account_rule.specs.OneTransfer.{TripsOfOneTransfer};
 
-/// The chains are the only blocks into which links divide live taps, and the windows the only ones
+/// The trips are the only blocks into which transfers divide live taps, and the windows the only ones
 /// into which window ends divide rides.
 pub fn only_blocks()
-    ensures chains { ChainsAreTheOnlyBlocks }
+    ensures trips { TripsAreTheOnlyBlocks }
     ensures windows { WindowsAreTheOnlyBlocks }
 {}
 
-/// No window of any list has more paid rides than the terms allow, or costs more than their ceiling
-/// (MTA, fare capping).
+/// No window of any list has more paid rides than the terms of its rides allow, or costs more than
+/// their ceiling (MTA, fare capping).
 pub fn windows_keep_limits()
     ensures rides { WindowsKeepTheRideLimit }
     ensures ceiling { WindowsKeepTheCeiling }
 {}
 
-/// What was charged is shared out among the windows: each reply to a ride is that of its place in
+/// What was charged is shared out among the windows: each reply to a ride is that of its charge in
 /// its window, and the windows' cents and paid rides add up to those of all replies.
 pub fn windows_add_up()
     ensures rides { WindowsShareTheRides }
@@ -34,6 +35,18 @@ pub fn windows_add_up()
 /// No fare, ride limit or ceiling that is raised makes a token's taps cheaper.
 pub fn higher_terms_are_never_cheaper()
     ensures { HigherTermsAreNeverCheaper }
+{}
+
+/// Where all rides of a window have the same terms, with a fare above 0, each costs what its place in
+/// the window says: the rides before it cost a fare each, up to the ceiling.
+pub fn equal_fares_are_charged_by_places()
+    ensures { EqualFaresAreChargedByPlaces }
+{}
+
+/// Where each ride gives one transfer, rides and transfers take turns in each longest row of taps of
+/// which the next is in time and permitted after the one before it.
+pub fn trips_of_one_transfer()
+    ensures { TripsOfOneTransfer }
 {}
 
 /// Of each ride, `Account::no_transfer` names a condition of a transfer that fails.

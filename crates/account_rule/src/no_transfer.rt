@@ -7,15 +7,23 @@ use fare_table::Mode;
 pub enum NoTransfer {
     /// The token has no known tap before it.
     FirstTap,
-    /// More than two hours passed since the last live tap.
+    /// More than the time for transfers passed since the last live tap.
     TooLate {
         /// The moment of that tap, in milliseconds since 1970-01-01T00:00Z.
         last: u64,
     },
-    /// The last live tap was a transfer itself, and a ride includes one transfer.
+    /// The table's rides give no transfers.
+    NoneGiven,
+    /// The last live tap was the last transfer that its ride gives.
     AfterTransfer {
         /// The moment of that tap, in milliseconds since 1970-01-01T00:00Z.
         last: u64,
+    },
+    /// More than the time for transfers passed since the last ride, which gave the last live tap a
+    /// transfer.
+    RideTooLate {
+        /// The moment of that ride, in milliseconds since 1970-01-01T00:00Z.
+        ride: u64,
     },
     /// The table permits no transfer between the modes of the last live tap and of the ride.
     NotPermitted {

@@ -1,7 +1,8 @@
 //! Why a tap is answered as it is.
 
 ghost use Rattle.std.specs.Prelude.{◌≡◌};
-ghost use Rattle.account_rule.specs.Reasons.{charged_by, replied_by};
+ghost use Rattle.account_rule.specs.Reasons.{replied_by};
+ghost use Rattle.account_rule.specs.Windows.{charged_by, paid_by};
 
 use crate::reply::{Answer, Reply};
 use fare_table::Mode;
@@ -16,7 +17,7 @@ pub enum Reason {
         /// That moment, in milliseconds since 1970-01-01T00:00Z.
         latest: u64,
     },
-    /// The ride at this moment, on this mode, includes it: it is the last live tap before it.
+    /// The ride at this moment, on this mode, gives it: it is the last ride before it.
     Transfer {
         /// The moment of the ride, in milliseconds since 1970-01-01T00:00Z.
         moment: u64,
@@ -51,7 +52,7 @@ pub enum Charge {
         /// What the ceiling leaves.
         cents: u32,
     },
-    /// As many fares as there are rides before it reach the ceiling.
+    /// The rides before it have cost the ceiling or more.
     CeilingReached {
         /// The place of the ride in its window.
         place: u32,
@@ -72,6 +73,18 @@ impl Charge {
             Charge::RideLimitReached => 0,
         }
     }
+
+    /// What is paid for the ride, in cents, or `None` if a limit is reached.
+    pub fn paid(self) -> Option<u32>
+        ensures { result ≡ paid_by self }
+    {
+        match self {
+            Charge::Full { place: _, cents } => Some(cents),
+            Charge::CeilingCut { place: _, cents } => Some(cents),
+            Charge::CeilingReached { place: _ } => None,
+            Charge::RideLimitReached => None,
+        }
+    }
 }
 
 impl Reason {
@@ -88,7 +101,7 @@ impl Reason {
                 start: _,
                 until: _,
                 charge,
-            } => Reply::to_ride(charge.cents()),
+            } => Reply::to_ride(charge.paid()),
         }
     }
 }

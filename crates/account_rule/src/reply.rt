@@ -6,7 +6,7 @@ ghost use Rattle.account_rule.specs.Replies.{reply_with, ride_reply};
 /// What became of a tap.
 #[derive(Clone, Copy, Debug, PartialEq, Eq)]
 pub enum Answer {
-    /// A ride that is charged.
+    /// A ride below the limits of its window. It costs its fare, which may be 0.
     Paid,
     /// A free transfer from the ride before it (MTA, free transfers).
     Transfer,
@@ -23,7 +23,7 @@ pub enum Answer {
 pub struct Reply {
     /// What became of the tap.
     pub answer: Answer,
-    /// What it costs in cents: above 0 where the answer is `Paid`, and else 0.
+    /// What it costs in cents: 0 unless the answer is `Paid`.
     pub cents: u32,
 }
 
@@ -36,18 +36,17 @@ impl Reply {
         Reply { answer, cents: 0 }
     }
 
-    /// The reply to a ride that costs so much.
+    /// The reply to a ride for which this is paid, or for which a limit is reached.
     #[tactic(auto, unfolding(crate::specs::Replies::ride_reply, crate::specs::Replies::reply_with))]
-    pub(crate) fn to_ride(cents: u32) -> Self
-        ensures { result ≡ ride_reply cents }
+    pub(crate) fn to_ride(paid: Option<u32>) -> Self
+        ensures { result ≡ ride_reply paid }
     {
-        if cents > 0 {
-            Reply {
+        match paid {
+            Some(cents) => Reply {
                 answer: Answer::Paid,
                 cents,
-            }
-        } else {
-            Reply::free(Answer::Capped)
+            },
+            None => Reply::free(Answer::Capped),
         }
     }
 }

@@ -1,17 +1,19 @@
 //! A window of rides, and what its next ride costs.
 
-ghost use Rattle.std.specs.Prelude.{◌≡◌, ◌+◌, ◌*◌, ◌^◌, ◌<◌, ◌≤◌};
-ghost use Rattle.fare_table.specs.Terms.{AreBoundedTerms};
+ghost use Rattle.std.specs.Prelude.{◌≡◌, ◌+◌, ◌<◌, ◌≤◌, IfSome, is_some, unwrap_or};
+ghost use Rattle.fare_table.specs.Terms.{AreRideTerms};
 ghost use Rattle.fare_table.specs.Until.{window_end_in};
-ghost use Rattle.account_rule.specs.inside.Kept.{IsRoomy, next_reason, open_window, shown_of};
-ghost use Rattle.account_rule.specs.inside.Kept.{with_ride};
-ghost use Rattle.account_rule.specs.Reasons.{charge_by};
-ghost use Rattle.account_rule.specs.Windows.{charge};
+ghost use Rattle.account_rule.specs.Kept.{IsRoomy};
+ghost use Rattle.account_rule.specs.inside.Kept.{next_reason, open_window, shown_of, with_ride};
+ghost use Rattle.account_rule.specs.Windows.{charge, charged_by, is_paid, paid_by};
 
 use crate::reason::{Charge, Reason};
 use fare_table::{Clock, Terms};
 
-/// A window as its owner sees it: the rides of a week, and what they cost together.
+/// The highest ride limit of a table's classes. A window counts its rides up to it.
+const MAX_RIDES: u16 = 1_000;
+
+/// A window as its owner sees it: its rides, and what they cost together.
 #[derive(Clone, Copy, Debug, PartialEq, Eq)]
 pub struct WindowView {
     /// The moment of its first ride, in milliseconds since 1970-01-01T00:00Z.
@@ -19,7 +21,7 @@ pub struct WindowView {
     /// The moment from which on a ride opens the next window, in milliseconds since
     /// 1970-01-01T00:00Z.
     pub until: u64,
-    /// How many of its rides were charged.
+    /// How many of its rides were paid.
     pub paid: u32,
     /// What they cost together, in cents.
     pub cents: u32,
@@ -34,9 +36,9 @@ pub(crate) struct Window {
     pub(crate) until: u64,
     /// What its rides cost together.
     pub(crate) cents: u32,
-    /// How many rides it has, counted up to the limit of the terms and no further.
+    /// How many rides it has, counted up to `MAX_RIDES` and no further.
     pub(crate) rides: u16,
-    /// How many of them were charged.
+    /// How many of them were paid.
     pub(crate) paid: u16,
 }
 
@@ -57,7 +59,7 @@ impl Window {
 
     /// A window with no ride yet, for a first ride at `start`, with its end by the clock.
     ///
-    /// Kept out of its callers: a token opens a window once in seven days.
+    /// Kept out of its callers: a token opens few windows.
     #[cold]
     #[inline(never)]
     pub(crate) fn opened(clock: &Clock, start: u64) -> Self
@@ -80,74 +82,80 @@ impl Window {
         }
     }
 
-    /// Counts one more ride, and returns what it costs.
-    #[tactic(auto, unfolding(crate::specs::inside::Kept::with_ride, crate::specs::Windows::charge))]
-    pub(crate) fn add_ride(&mut self, terms: Terms) -> u32
-        requires bounds { AreBoundedTerms terms }
-        requires room { IsRoomy terms self.old }
-        ensures cost { result ≡ charge terms self.old.rides }
+    /// Counts one more ride, and returns what is paid for it, or `None` if a limit is reached.
+    #[tactic(auto, unfolding(crate::specs::inside::Kept::with_ride, crate::specs::Windows::is_paid))]
+    pub(crate) fn add_ride(&mut self, terms: Terms) -> Option<u32>
+        requires bounds { AreRideTerms terms }
+        requires room { IsRoomy self.old }
+        ensures cost { result ≡ paid_by (charge terms self.old.rides self.old.cents) }
         ensures counts { self.new ≡ with_ride terms self.old }
     {
-        if u32::from(self.rides) >= terms.rides {
-            return 0;
+        let cents = paid(terms, u32::from(self.rides), self.cents);
+        if let Some(cents) = cents {
+            self.cents += cents;
+            self.paid += 1;
         }
-        let cents = charge(terms, u32::from(self.rides));
-        self.cents += cents;
-        self.rides += 1;
-        self.paid += u16::from(cents > 0);
+        self.rides = (self.rides + 1).min(MAX_RIDES);
         cents
     }
 
     /// Why its next ride is answered as it is.
     #[tactic(auto, unfolding(crate::specs::inside::Kept::next_reason))]
     pub(crate) fn next_reason(self, terms: Terms) -> Reason
-        requires bounds { AreBoundedTerms terms }
-        requires room { IsRoomy terms self }
+        requires bounds { AreRideTerms terms }
+        requires room { IsRoomy self }
         ensures { result ≡ next_reason terms self }
     {
         Reason::Ride {
             start: self.start,
             until: self.until,
-            charge: charge_by(terms, u32::from(self.rides)),
+            charge: charge(terms, u32::from(self.rides), self.cents),
         }
     }
 }
 
-/// What decides the cents of a ride at its place in its window, counted from 0.
-#[tactic(auto, unfolding(crate::specs::Reasons::charge_by))]
-fn charge_by(terms: Terms, place: u32) -> Charge
-    requires fits { place * terms.fare + terms.fare < 2 ^ 32 }
-    ensures { result ≡ charge_by terms place }
+/// What decides the cents of a ride, if its window has had `rides` rides, which cost `cents`.
+#[tactic(auto, unfolding(crate::specs::Windows::charge))]
+fn charge(terms: Terms, rides: u32, cents: u32) -> Charge
+    requires bounds { AreRideTerms terms }
+    requires low { cents ≤ 100_000_000 }
+    ensures { result ≡ charge terms rides cents }
 {
-    let before = place * terms.fare;
-    if place >= terms.rides {
+    if rides >= terms.rides {
         Charge::RideLimitReached
-    } else if before >= terms.ceiling {
-        Charge::CeilingReached { place }
-    } else if before + terms.fare <= terms.ceiling {
+    } else if cents >= terms.ceiling {
+        Charge::CeilingReached { place: rides }
+    } else if cents + terms.fare <= terms.ceiling {
         Charge::Full {
-            place,
+            place: rides,
             cents: terms.fare,
         }
     } else {
         Charge::CeilingCut {
-            place,
-            cents: terms.ceiling - before,
+            place: rides,
+            cents: terms.ceiling - cents,
         }
     }
 }
 
-/// What a ride costs at its place in its window, counted from 0.
-#[tactic(auto, unfolding(crate::specs::Windows::charge))]
-fn charge(terms: Terms, place: u32) -> u32
-    requires fits { place * terms.fare < 2 ^ 32 }
-    ensures cost { result ≡ charge terms place }
-    ensures at_most { result ≤ terms.fare }
+/// What is paid for a ride, if its window has had `rides` rides, which cost `cents`; `None` if a
+/// limit is reached. The numbers alone, since this runs at each ride.
+#[tactic(auto, unfolding(crate::specs::Windows::charge, crate::specs::Windows::is_paid))]
+fn paid(terms: Terms, rides: u32, cents: u32) -> Option<u32>
+    requires bounds { AreRideTerms terms }
+    requires low { cents ≤ 100_000_000 }
+    ensures cost { result ≡ paid_by (charge terms rides cents) }
+    ensures cents { unwrap_or result 0 ≡ charged_by (charge terms rides cents) }
+    ensures some { is_some result ≡ is_paid (charge terms rides cents) }
+    ensures below { IfSome result (λ paid. (rides < terms.rides) × (cents + paid ≤ terms.ceiling)) }
 {
-    let before = place * terms.fare;
-    if place >= terms.rides || before >= terms.ceiling {
-        0
+    if terms.rides <= rides {
+        None
+    } else if terms.ceiling <= cents {
+        None
+    } else if terms.ceiling >= cents + terms.fare {
+        Some(terms.fare)
     } else {
-        terms.fare.min(terms.ceiling - before)
+        Some(terms.ceiling - cents)
     }
 }

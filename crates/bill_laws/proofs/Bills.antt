@@ -1,6 +1,7 @@
 -- Settled histories of uploads with the same set of taps bill alike.
 use Rattle.std.proofs.Common.{◌≡◌, ℕ, ◌+◌, Bool, true, false, cond, List, [], ◌∷◌, ◌++◌, map}
-use Rattle.std.proofs.Common.{filter, refl, sym, ap, subst, ◌∙◌, arith, All, nat_lt, is_some}
+use Rattle.std.proofs.Common.{Option, Some, None, filter, refl, sym, ap, subst, ◌∙◌, arith, All}
+use Rattle.std.proofs.Common.{is_some}
 use Rattle.std.specs.Prelude.{Contains, sum_by}
 use Rattle.std.proofs.lemmas.List.{map-append}
 use Rattle.std.proofs.lemmas.List.Concat.{flat_map-append}
@@ -16,7 +17,7 @@ use Rattle.tap_views.specs.Layout.{Tap}
 use Rattle.tap_views.specs.declared.encoder.TapFields.{TapFields}
 use Rattle.fare_table.specs.Fares.{Fares}
 use Rattle.tap_views.specs.Token.{bytes_of}
-use Rattle.account_rule.specs.Chains.{ends_in_transfer}
+use Rattle.account_rule.specs.Trips.{ends_in_transfer}
 use Rattle.account_rule.specs.Replies.{live_reply, reply, reply_with, ride_reply}
 use Rattle.account_rule.specs.TokenRules.{TokenRules, rules_of}
 use Rattle.account_rule.specs.Taps.{is_later}
@@ -46,28 +47,28 @@ use Rattle.bill_laws.proofs.States.{same_windows}
 abbrev Free : Entry → Type 0
 Free entry = is_live entry ≡ false → entry.cents ≡ 0
 
--- the reply that these tests choose
-abbrev chosen : Bool → Bool → Bool → Bool → ℕ → Reply
-chosen known later transfer some cents =
-    cond known (cond later (cond transfer (record { answer = Transfer; cents = 0 })
-    (cond some (record { answer = Paid; cents = cents }) (record { answer = Capped; cents = 0 })))
-    (record { answer = Stale; cents = 0 })) (record { answer = Unknown; cents = 0 })
+-- the reply that these tests choose, to a ride for which this is paid
+abbrev chosen : Bool → Bool → Bool → Option ℕ → Reply
+chosen known later transfer paid =
+    cond known (cond later (cond transfer (reply_with Transfer 0) (ride_reply paid))
+    (reply_with Stale 0)) (reply_with Unknown 0)
 
-free_chosen : (known later transfer some : Bool) (cents : ℕ)
-    → is_live_answer (chosen known later transfer some cents).answer ≡ false
-    → (chosen known later transfer some cents).cents ≡ 0
-free_chosen false later transfer some cents e = refl
-free_chosen true false transfer some cents e = refl
-free_chosen true true true some cents e = refl
-free_chosen true true false false cents e = refl
-free_chosen true true false true cents e = absurd (let h : true ≡ false = e in cc)
+free_chosen : (known later transfer : Bool) (paid : Option ℕ)
+    → is_live_answer (chosen known later transfer paid).answer ≡ false
+    → (chosen known later transfer paid).cents ≡ 0
+unfolding reply_with ride_reply
+free_chosen false later transfer paid e = refl
+free_chosen true false transfer paid e = refl
+free_chosen true true true paid e = refl
+free_chosen true true false None e = refl
+free_chosen true true false (Some cents) e = absurd (let h : true ≡ false = e in cc)
 
 free_reply : (rules : TokenRules) (earlier : List TapIn) (tap : TapIn)
     → is_live_answer (reply rules earlier tap).answer ≡ false → (reply rules earlier tap).cents ≡ 0
-unfolding reply reply_with live_reply ride_reply
+unfolding reply live_reply
 free_reply rules earlier tap e =
     free_chosen (is_some tap.mode) (is_later earlier tap.moment)
-    (ends_in_transfer rules (earlier ++ tap ∷ [])) (nat_lt 0 _) _ e
+    (ends_in_transfer rules (earlier ++ tap ∷ [])) _ e
 
 free_after : (fares : Fares) (earlier : List Entry) (fs : List TapFields)
     → All Free (after fares earlier fs)

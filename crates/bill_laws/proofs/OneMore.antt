@@ -22,7 +22,7 @@ use Rattle.tap_views.proofs.ReadingLemmas.{one_list}
 use Rattle.fare_table.specs.Fares.{Fares, mode_at}
 use Rattle.account_rule.specs.Laws.{is_ride}
 use Rattle.account_rule.specs.Replies.{replies}
-use Rattle.account_rule.specs.TokenRules.{rules_of}
+use Rattle.account_rule.specs.TokenRules.{rules_of, transfers_of}
 use Rattle.account_rule.specs.declared.tap.TapIn.{TapIn}
 use Rattle.shard_book.specs.Entry.{mode_of_place, tap_of, taps_of}
 use Rattle.shard_book.specs.declared.entry.Entry.{Entry}
@@ -38,14 +38,20 @@ use Rattle.settlement.proofs.Placed.{NotLess, Pairs, no_earlier, sorted_pairs}
 use Rattle.settlement.proofs.Settlings.{legal_history}
 use Rattle.settlement.proofs.Sorting.{sorted_by_pairs}
 use Rattle.settlement.proofs.Unique.{AreAlike, same_sorted}
-use Rattle.bill_laws.specs.Bills.{rides_of}
+use Rattle.bill_laws.specs.Bills.{GivesOneAtMost, rides_of}
 use Rattle.bill_laws.specs.TapSets.{HaveOneMoreTap, fields_of_uploads, is_known_tap, is_tap_of}
 use Rattle.bill_laws.specs.TapSets.{own_taps}
 use Rattle.bill_laws.proofs.Alike.{alike-filter, alike-without, moved_all, moved_kept}
 use Rattle.bill_laws.proofs.Alike.{pairs_behind, pairs_without, permuted_alike, split_at}
 use Rattle.bill_laws.proofs.OwnTaps.{own_after, tap_in, taps_after}
 use Rattle.bill_laws.proofs.Posts.{after, plain_is_after}
-use Rattle.bill_laws.proofs.Rides.{IsBehind, no_fewer_rides}
+use Rattle.bill_laws.proofs.Rides.{GiveOneAtMost, IsBehind, no_fewer_rides}
+
+-- what the class gives is what the rules of the token give
+gives_one : (fares : Fares) (token : Token) → GivesOneAtMost fares token
+    → GiveOneAtMost (rules_of fares (bytes_of token)).transfers
+unfolding rules_of transfers_of
+gives_one fares token few tap = few
 
 -- the number of rides of a token, by the fields of its taps
 rides_by : Fares → Token → List TapFields → ℕ
@@ -108,9 +114,10 @@ module _ (fares : Fares) (token : Token) (x : TapFields) where
   -- the sorted taps of a token, and one more among them
   more_rides : (xs ys : List TapFields) → AreAlike (x ∷ xs) ys → Pairs NotLess xs
       → Pairs NotLess ys → All IsNamedBy ys → All (λ f. is_tap_of token f ≡ true) ys → Contains ys x
-      → All Apart xs → rides_by fares token xs ≤ rides_by fares token ys
+      → All Apart xs → GivesOneAtMost fares token
+      → rides_by fares token xs ≤ rides_by fares token ys
   unfolding rides_by
-  more_rides xs ys alike up again names are there apart =
+  more_rides xs ys alike up again names are there apart few =
       let P : TapFields → Type 0 = λ g. is_tap_of token g ≡ true in
       let (front, back, is) = split_at x ys there in
       let Ups : List TapFields → Type 0 = λ fs. Pairs NotLess fs in
@@ -128,7 +135,8 @@ module _ (fares : Fares) (token : Token) (x : TapFields) where
       let rules = rules_of fares (bytes_of token) in
       let t = map (tap_in fares) in
       let rides : List TapIn → ℕ = λ ts. count_by is_ride (replies rules ts) in
-      let least = no_fewer_rides rules (tap_in fares x) (t front) (t back) behind in
+      let least = no_fewer_rides rules (gives_one fares token few) (tap_in fares x) (t front)
+      (t back) behind in
       let fewer : rides (t xs) ≡ rides (t front ++ t back) =
       ap (λ fs. rides (t fs)) list ∙ ap rides (map-append (tap_in fares) front back) in
       let rest : rides (t ys) ≡ rides (t front ++ tap_in fares x ∷ t back) =
@@ -138,11 +146,11 @@ module _ (fares : Fares) (token : Token) (x : TapFields) where
 -- ---- the law
 pub one_more : (fares : Fares) (token : Token) (uploads others : List (List ℕ))
     (history again : List Entry) → All HasOneReading uploads → All HasOneReading others
-    → HaveOneMoreTap fares token uploads others
+    → GivesOneAtMost fares token → HaveOneMoreTap fares token uploads others
     → (one : IsSettledHistory fares uploads history) (two : IsSettledHistory fares others again)
     → All IsNamedBy (map fields_of two.order)
     → rides_of token history ≤ rides_of token again
-one_more fares token uploads others history again cuts other_cuts same one two names =
+one_more fares token uploads others history again cuts other_cuts few same one two names =
     let here = one_list uploads same.taps one.taps cuts same.of_uploads one.of_uploads in
     let there = one_list others same.other_taps two.taps other_cuts same.of_others two.of_uploads in
     let x = same.added in
@@ -177,7 +185,7 @@ one_more fares token uploads others history again cuts other_cuts same one two n
     (sorted_pairs (filter p ys)
     (IsSortedBy-filter (λ a b. is_lt (tap_cmp a b)) rank p ys two.canonical.sorted))
     (All-filter p IsNamedBy ys names) (filter_passes p ys) is_there
-    (moved_all p (Apart fares token x) mine xs one.canonical.moved apart) in
+    (moved_all p (Apart fares token x) mine xs one.canonical.moved apart) few in
     let fewer = rides_by_taps fares token uploads history one in
     let rest = rides_by_taps fares token others again two in
     omega (arith, least, fewer, rest)

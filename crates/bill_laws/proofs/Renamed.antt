@@ -1,6 +1,6 @@
 -- A token that has another's taps has its lines.
 use Rattle.std.proofs.Common.{◌≡◌, ℕ, true, cond, List, [], ◌∷◌, ◌++◌, map, filter, refl}
-use Rattle.std.proofs.Common.{sym, ap, subst, ◌∙◌, All}
+use Rattle.std.proofs.Common.{sym, ap, subst, ◌∙◌, All, is_some}
 use Rattle.std.specs.Cmp.{tied_itself}
 use Rattle.std.specs.Cmp.Lexicographic.{slice_cmp}
 use Rattle.std.specs.List.Sorted.{IsPermutation, IsSorted}
@@ -18,12 +18,18 @@ use Rattle.tap_views.specs.declared.encoder.TapFields.{TapFields}
 use Rattle.tap_views.specs.Token.{bytes_of, token_eq}
 use Rattle.tap_views.specs.declared.token.Token.{Token}
 use Rattle.tap_views.proofs.ReadingLemmas.{one_list}
-use Rattle.fare_table.specs.Fares.{Fares}
-use Rattle.fare_table.specs.declared.terms.Terms.{Terms}
-use Rattle.account_rule.specs.Reasons.{reason}
-use Rattle.account_rule.specs.Replies.{reply}
-use Rattle.account_rule.specs.TokenRules.{TokenRules, rules_of}
+use Rattle.fare_table.specs.Fares.{Fares, class_of, terms_on}
+use Rattle.fare_table.specs.declared.class.Class.{Class}
+use Rattle.account_rule.specs.Blocks.{last_block}
+use Rattle.account_rule.specs.Reasons.{given_by, latest, live_reason, reason, ride_of}
+use Rattle.account_rule.specs.Replies.{live_reply, reply}
+use Rattle.account_rule.specs.Taps.{LiveTap, is_later}
+use Rattle.account_rule.specs.TokenRules.{TokenRules, permits_of, rules_of, transfers_of}
+use Rattle.account_rule.specs.Trips.{ends_in_transfer, last_trip, rides, trips}
 use Rattle.account_rule.specs.Windows.{windows}
+use Rattle.account_rule.specs.declared.reason.Reason.{Reason}
+use Rattle.account_rule.specs.declared.reason.Reason.TheVariants.{Stale, Unknown}
+use Rattle.account_rule.specs.declared.tap.TapIn.{TapIn}
 use Rattle.account_rule.specs.declared.reply.Reply.{Reply}
 use Rattle.shard_book.specs.Entry.{is_of, own, tap_of, taps_of}
 use Rattle.shard_book.specs.Keys.{same_token}
@@ -92,16 +98,58 @@ have_bytes token (f ∷ fs) names are =
     (All-tail (λ g. is_tap_of token g ≡ true) f fs are))
 
 -- ---- the same terms, the same rules
-with_terms_of : Fares → Terms → TokenRules
-with_terms_of fares terms = record (rules_of fares []) { terms = terms }
+-- the second rules answer and explain each tap, and divide each list into windows, as the first do
+record AnswerAlike (one other : TokenRules) : Type 0 where
+  replies : (earlier : List TapIn) (tap : TapIn) → reply other earlier tap ≡ reply one earlier tap
+  reasons : (earlier : List TapIn) (tap : TapIn) → reason other earlier tap ≡ reason one earlier tap
+  windows : (taps : List TapIn) → windows other taps ≡ windows one taps
+
+-- the place of a class matters to what is kept alone
+of_class : TokenRules → ℕ → TokenRules
+of_class rules place = record rules { class = place }
+
+same_ride_of : (rules : TokenRules) (place : ℕ) (window : List LiveTap)
+    → ride_of (of_class rules place) window ≡ ride_of rules window
+unfolding ride_of of_class
+same_ride_of rules place [] = refl
+same_ride_of rules place (first ∷ window) = refl
+
+answer_alike : (rules : TokenRules) (place : ℕ) → AnswerAlike rules (of_class rules place)
+unfolding reply live_reply reason live_reason ends_in_transfer last_trip trips windows rides of_class
+answer_alike rules place = record {
+  replies = λ earlier tap. refl;
+  reasons = λ earlier tap.
+      ap (λ (r : Reason). cond (is_some tap.mode)
+      (cond (is_later earlier tap.moment) (cond (ends_in_transfer rules (earlier ++ tap ∷ []))
+      (given_by (last_trip rules earlier)) r) (Stale (latest earlier))) Unknown)
+      (same_ride_of rules place (last_block (windows rules (earlier ++ tap ∷ []))));
+  windows = λ taps. refl;
+}
+
+-- the rules of a class, at a place
+rules_by : Fares → ℕ → Class → TokenRules
+rules_by fares place class = record (rules_of fares []) {
+  class = place;
+  terms = λ ride. terms_on class ride.mode.place;
+  transfers = record {
+    count = λ tap. class.transfers.taps;
+    time = λ tap. class.transfers.time;
+    permits = permits_of fares;
+  };
+}
 
 same_rules : (fares : Fares) (token other : Token) → HaveSameTerms fares token other
-    → rules_of fares (bytes_of token) ≡ rules_of fares (bytes_of other)
-unfolding rules_of with_terms_of
-same_rules fares token other same = ap (with_terms_of fares) same
+    → AnswerAlike (rules_of fares (bytes_of token)) (rules_of fares (bytes_of other))
+unfolding rules_of transfers_of rules_by of_class
+same_rules fares token other same =
+    let place = class_of fares (bytes_of other) in
+    let is : rules_of fares (bytes_of other) ≡ of_class (rules_of fares (bytes_of token)) place =
+    ap (rules_by fares place) (sym same) in
+    subst (λ (rules : TokenRules). AnswerAlike (rules_of fares (bytes_of token)) rules) (sym is)
+    (answer_alike (rules_of fares (bytes_of token)) place)
 
 module _ (fares : Fares) (token other : Token) (bytes : List ℕ)
-    (rules : rules_of fares (bytes_of token) ≡ rules_of fares (bytes_of other)) where
+    (rules : AnswerAlike (rules_of fares (bytes_of token)) (rules_of fares (bytes_of other))) where
   -- the entry of a tap, by its token and its reply
   entry_by : TapFields → Token → Reply → Entry
   entry_by f t replied = record {
@@ -120,7 +168,7 @@ module _ (fares : Fares) (token other : Token) (bytes : List ℕ)
   renamed_entry one two f mine yours same =
       let tap = tap_of fares (entry_of f) in
       ap (λ t. entry_by f t (reply (rules_of fares (bytes_of t)) (taps_of fares t two) tap)) yours
-      ∙ ap (entry_by f other) (ap (λ r. reply r (taps_of fares other two) tap) (sym rules)
+      ∙ ap (entry_by f other) (rules.replies (taps_of fares other two) tap
       ∙ ap (λ ts. reply (rules_of fares (bytes_of token)) ts tap) (sym same)
       ∙ ap (λ t. reply (rules_of fares (bytes_of t)) (taps_of fares t one) tap) (sym mine))
 
@@ -170,7 +218,7 @@ taps_for fares token (entry ∷ entries) =
     ap (λ ts. tap_of fares entry ∷ ts) (taps_for fares token entries)
 
 charged : (fares : Fares) (token other : Token) (history again : List Entry)
-    → rules_of fares (bytes_of token) ≡ rules_of fares (bytes_of other)
+    → AnswerAlike (rules_of fares (bytes_of token)) (rules_of fares (bytes_of other))
     → own other again ≡ map (entry_for other) (own token history)
     → ChargedAlike fares token other history again
 unfolding taps_of
@@ -180,8 +228,8 @@ charged fares token other history again rules lines =
     record {
       lines = lines;
       taps = taps;
-      reasons = λ earlier tap. ap (λ r. reason r earlier tap) (sym rules);
-      windows = ap (λ r. windows r (taps_of fares other again)) (sym rules)
+      reasons = rules.reasons;
+      windows = rules.windows (taps_of fares other again)
           ∙ ap (windows (rules_of fares (bytes_of token))) taps;
     }
 

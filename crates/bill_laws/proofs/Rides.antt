@@ -1,60 +1,58 @@
 -- One more tap of a token and its number of rides.
-use Rattle.std.proofs.Common.{◌≡◌, ℕ, suc, ◌+◌, ◌≤◌, ◌<◌, Bool, true, false, not, ◌&&◌, ◌||◌, cond}
+use Rattle.std.proofs.Common.{◌≡◌, ℕ, zero, suc, ◌+◌, ◌-◌, ◌≤◌, ◌<◌, Bool, true, false, not, ◌&&◌, ◌||◌, cond}
 use Rattle.std.proofs.Common.{List, [], ◌∷◌, ◌++◌, Option, Some, None, refl, sym, ap, subst, ◌∙◌}
-use Rattle.std.proofs.Common.{arith, is_some, nat_lt, option_map, All, inl, inr, count_by}
+use Rattle.std.proofs.Common.{arith, is_some, nat_le, nat_lt, option_map, All, inl, inr, count_by}
 use Rattle.std.specs.Prelude.{◌⊎◌}
-use Rattle.std.proofs.lemmas.Bool.{lt-ltb}
+use Rattle.std.proofs.lemmas.Bool.{le-ltb, lt-ltb}
 use Rattle.std.proofs.lemmas.List.Elements.{All-head, All-tail}
 use Rattle.std.proofs.lemmas.List.Sums.{sum_by-cons}
 use Rattle.fare_table.specs.declared.mode.Mode.{Mode}
-use Rattle.account_rule.specs.declared.reply.Answer.TheVariants.{Paid, Capped}
 use Rattle.account_rule.specs.declared.reply.Reply.{Reply}
 use Rattle.account_rule.specs.declared.tap.TapIn.{TapIn}
-use Rattle.account_rule.specs.Blocks.{last_block}
-use Rattle.account_rule.specs.Chains.{chains, ends_in_transfer}
+use Rattle.account_rule.specs.Trips.{TripEnd, ends_in_transfer, last_trip}
 use Rattle.account_rule.specs.Laws.{is_ride}
 use Rattle.account_rule.specs.Replies.{live_reply, replies, replies_after, reply, reply_with}
 use Rattle.account_rule.specs.Replies.{ride_reply}
-use Rattle.account_rule.specs.Stands.{giver_of}
 use Rattle.account_rule.specs.Taps.{LiveTap, is_later, live_at, live_tap}
-use Rattle.account_rule.specs.TokenRules.{TokenRules}
+use Rattle.account_rule.specs.TokenRules.{TokenRules, TransferRules}
 use Rattle.account_rule.specs.inside.Kept.{gives}
 use Rattle.account_rule.proofs.StepLemmas.{is_live, not_known, not_later, reply_live, reply_ride}
 use Rattle.account_rule.proofs.StepLemmas.{reply_stale, reply_transfer, reply_unknown}
-use Rattle.account_rule.proofs.TapLemmas.{chains-same, ends_in_transfer-push, giver-push}
-use Rattle.account_rule.proofs.TapLemmas.{is_later-push}
+use Rattle.account_rule.proofs.TapLemmas.{after_tap, ends_in_transfer-push, is_later-push}
+use Rattle.account_rule.proofs.TapLemmas.{trip-push, trip-same}
 
--- ---- how far the second of two walks over taps is ahead of the first, by who can give a transfer in
--- each, and how many rides each has had: it never falls behind again
-pub data Ahead (giver other : Option LiveTap) (rides others : ℕ) : Type 0 where
+-- ---- how far the second of two walks over taps is ahead of the first, by the trip that can give a
+-- transfer in each, and how many rides each has had: it never falls behind again
+pub data Ahead (giver other : Option TripEnd) (rides others : ℕ) : Type 0 where
   by_one : suc rides ≤ others → Ahead giver other rides others
   free : other ≡ None → rides ≤ others → Ahead giver other rides others
   same : giver ≡ other → rides ≤ others → Ahead giver other rides others
 
-not_behind : (giver other : Option LiveTap) (n m : ℕ) → Ahead giver other n m → n ≤ m
+not_behind : (giver other : Option TripEnd) (n m : ℕ) → Ahead giver other n m → n ≤ m
 not_behind giver other n m (by_one more) = omega (arith, more)
 not_behind giver other n m (free none more) = more
 not_behind giver other n m (same alike more) = more
 
--- who can give a transfer behind a live tap, and the ride that it is, by whether it got a transfer
-abbrev giver_by : Bool → LiveTap → Option LiveTap
-giver_by given shown = cond given None (Some shown)
+-- the trip that can give a transfer behind a live tap, and the ride that it is, by whether it got a
+-- transfer
+abbrev giver_by : Bool → LiveTap → Option TripEnd
+giver_by given shown = cond given None (Some (record { ride = shown; last = shown; given = 0 }))
 
 abbrev ride_by : Bool → ℕ
 ride_by given = cond (not given) 1 0
 
-none_gives : (permits : Mode → Mode → Bool) (giver : Option LiveTap) (shown : LiveTap)
-    → giver ≡ None → gives permits giver shown ≡ false
+none_gives : (rules : TransferRules) (giver : Option TripEnd) (shown : LiveTap)
+    → giver ≡ None → gives rules giver shown ≡ false
 unfolding gives
-none_gives permits giver shown none = ap (λ g. gives permits g shown) none
+none_gives rules giver shown none = ap (λ g. gives rules g shown) none
 
 -- a live tap that both walks take
-step_both : (permits : Mode → Mode → Bool) (giver other : Option LiveTap) (shown : LiveTap) (n m : ℕ)
+step_both : (rules : TransferRules) (giver other : Option TripEnd) (shown : LiveTap) (n m : ℕ)
     → Ahead giver other n m
-    → Ahead (giver_by (gives permits giver shown) shown) (giver_by (gives permits other shown) shown)
-    (n + ride_by (gives permits giver shown)) (m + ride_by (gives permits other shown))
-step_both permits giver other shown n m (by_one more) =
-    at (gives permits giver shown) (gives permits other shown)
+    → Ahead (giver_by (gives rules giver shown) shown) (giver_by (gives rules other shown) shown)
+    (n + ride_by (gives rules giver shown)) (m + ride_by (gives rules other shown))
+step_both rules giver other shown n m (by_one more) =
+    at (gives rules giver shown) (gives rules other shown)
   where
     at : (x y : Bool)
         → Ahead (giver_by x shown) (giver_by y shown) (n + ride_by x) (m + ride_by y)
@@ -62,18 +60,18 @@ step_both permits giver other shown n m (by_one more) =
     at true false = by_one (omega (arith, more))
     at false true = free refl (omega (arith, more))
     at false false = by_one (omega (arith, more))
-step_both permits giver other shown n m (free none more) =
-    at (gives permits giver shown) (gives permits other shown)
-    (none_gives permits other shown none)
+step_both rules giver other shown n m (free none more) =
+    at (gives rules giver shown) (gives rules other shown)
+    (none_gives rules other shown none)
   where
     at : (x y : Bool) → y ≡ false
         → Ahead (giver_by x shown) (giver_by y shown) (n + ride_by x) (m + ride_by y)
     at x true e = absurd (let t : true ≡ false = e in cc)
     at true false e = by_one (omega (arith, more))
     at false false e = same refl (omega (arith, more))
-step_both permits giver other shown n m (same alike more) =
-    at (gives permits giver shown) (gives permits other shown)
-    (ap (λ g. gives permits g shown) alike)
+step_both rules giver other shown n m (same alike more) =
+    at (gives rules giver shown) (gives rules other shown)
+    (ap (λ g. gives rules g shown) alike)
   where
     at : (x y : Bool) → x ≡ y
         → Ahead (giver_by x shown) (giver_by y shown) (n + ride_by x) (m + ride_by y)
@@ -83,22 +81,22 @@ step_both permits giver other shown n m (same alike more) =
     at false true e = absurd (let t : true ≡ false = sym e in cc)
 
 -- a live tap that the second walk alone takes
-step_more : (permits : Mode → Mode → Bool) (giver other : Option LiveTap) (shown : LiveTap) (n m : ℕ)
+step_more : (rules : TransferRules) (giver other : Option TripEnd) (shown : LiveTap) (n m : ℕ)
     → Ahead giver other n m
-    → Ahead giver (giver_by (gives permits other shown) shown) n
-    (m + ride_by (gives permits other shown))
-step_more permits giver other shown n m (by_one more) = at (gives permits other shown)
+    → Ahead giver (giver_by (gives rules other shown) shown) n
+    (m + ride_by (gives rules other shown))
+step_more rules giver other shown n m (by_one more) = at (gives rules other shown)
   where
     at : (y : Bool) → Ahead giver (giver_by y shown) n (m + ride_by y)
     at true = by_one (omega (arith, more))
     at false = by_one (omega (arith, more))
-step_more permits giver other shown n m (free none more) =
-    at (gives permits other shown) (none_gives permits other shown none)
+step_more rules giver other shown n m (free none more) =
+    at (gives rules other shown) (none_gives rules other shown none)
   where
     at : (y : Bool) → y ≡ false → Ahead giver (giver_by y shown) n (m + ride_by y)
     at true e = absurd (let t : true ≡ false = e in cc)
     at false e = by_one (omega (arith, more))
-step_more permits giver other shown n m (same alike more) = at (gives permits other shown)
+step_more rules giver other shown n m (same alike more) = at (gives rules other shown)
   where
     at : (y : Bool) → Ahead giver (giver_by y shown) n (m + ride_by y)
     at true = free refl (omega (arith, more))
@@ -154,28 +152,65 @@ same_live added one other tap follows behind = by_mode tap.mode refl
         ap (λ b. cond b (option_map (live_at tap.moment) tap.mode) None)
         (sym (follows tap.moment (behind (ap (λ (m : Option Mode). is_some m) known))))
 
--- ---- what a tap does to the number of rides and to who can give a transfer
+-- ---- what a tap does to the number of rides and to the trip that can give a transfer
 abbrev ride_of : Reply → ℕ
 ride_of replied = cond (is_ride replied) 1 0
 
-is_ride_reply : (cents : ℕ) → is_ride (ride_reply cents) ≡ true
+is_ride_reply : (paid : Option ℕ) → is_ride (ride_reply paid) ≡ true
 unfolding ride_reply reply_with
-is_ride_reply cents = by_test (nat_lt 0 cents)
-  where
-    by_test : (b : Bool) → is_ride (cond b (reply_with Paid cents) (reply_with Capped 0)) ≡ true
-    by_test true = refl
-    by_test false = refl
+is_ride_reply None = refl
+is_ride_reply (Some cents) = refl
 
-module _ (rules : TokenRules) where
-  -- who can give a transfer behind these taps
-  giver : List TapIn → Option LiveTap
-  giver taps = giver_of (last_block (chains rules taps))
+-- the trip, if it has given no transfer yet
+abbrev unspent : ℕ → TripEnd → Option TripEnd
+unspent zero trip = Some trip
+unspent (suc given) trip = None
+
+abbrev can_give : Option TripEnd → Option TripEnd
+can_give None = None
+can_give (Some trip) = unspent trip.given trip
+
+-- each ride gives one transfer at most
+abbrev pub GiveOneAtMost : TransferRules → Type 0
+GiveOneAtMost rules = (tap : LiveTap) → rules.count tap ≤ 1
+
+unspent_gives : (rules : TransferRules) (given : ℕ) (trip : TripEnd) (shown : LiveTap)
+    → GiveOneAtMost rules → trip.given ≡ given
+    → gives rules (Some trip) shown ≡ gives rules (unspent given trip) shown
+unfolding gives
+unspent_gives rules zero trip shown one is = refl
+unspent_gives rules (suc given) trip shown one is =
+    let spent : nat_lt trip.given (rules.count shown) ≡ false =
+    le-ltb trip.given (rules.count shown) (omega (arith, one shown, is)) in
+    ap (λ b. b && nat_le (shown.moment - trip.ride.moment) (rules.time shown)
+    && rules.permits trip.last.mode shown) spent
+
+same_gives : (rules : TransferRules) (trip : Option TripEnd) (shown : LiveTap)
+    → GiveOneAtMost rules → gives rules trip shown ≡ gives rules (can_give trip) shown
+same_gives rules None shown one = refl
+same_gives rules (Some trip) shown one = unspent_gives rules trip.given trip shown one refl
+
+unspent_more : (given : ℕ) (trip : TripEnd) → unspent (given + 1) trip ≡ None
+unspent_more given trip =
+    let more : given + 1 ≡ suc given = omega arith in rw more refl
+
+can_give-after : (b : Bool) (trip : Option TripEnd) (shown : LiveTap)
+    → can_give (after_tap b trip shown) ≡ giver_by b shown
+can_give-after false None shown = refl
+can_give-after false (Some trip) shown = refl
+can_give-after true None shown = refl
+can_give-after true (Some trip) shown = unspent_more trip.given _
+
+module _ (rules : TokenRules) (few : GiveOneAtMost rules.transfers) where
+  -- the trip that can give a transfer behind these taps
+  giver : List TapIn → Option TripEnd
+  giver taps = can_give (last_trip rules taps)
 
   -- it is not live, and no ride; or it is live, and a ride unless it gets a transfer
   data View (taps : List TapIn) (tap : TapIn) : Type 0 where
     is_dead : live_tap taps tap ≡ None → is_ride (reply rules taps tap) ≡ false → View taps tap
     is_shown : (shown : LiveTap) → live_tap taps tap ≡ Some shown
-        → is_ride (reply rules taps tap) ≡ not (gives rules.permits (giver taps) shown)
+        → is_ride (reply rules taps tap) ≡ not (gives rules.transfers (giver taps) shown)
         → View taps tap
 
   view_live : (taps : List TapIn) (tap : TapIn) (shown : LiveTap) → live_tap taps tap ≡ Some shown
@@ -184,8 +219,10 @@ module _ (rules : TokenRules) where
   view_live taps tap shown some replied =
       by_test (ends_in_transfer rules (taps ++ tap ∷ [])) refl
     where
-      ends : ends_in_transfer rules (taps ++ tap ∷ []) ≡ gives rules.permits (giver taps) shown
-      ends = ends_in_transfer-push rules taps tap shown some
+      ends : ends_in_transfer rules (taps ++ tap ∷ []) ≡ gives rules.transfers (giver taps) shown
+      ends =
+          ends_in_transfer-push rules taps tap shown some
+          ∙ same_gives rules.transfers (last_trip rules taps) shown few
 
       by_test : (b : Bool) → ends_in_transfer rules (taps ++ tap ∷ []) ≡ b → View taps tap
       by_test true e =
@@ -214,13 +251,15 @@ module _ (rules : TokenRules) where
   giver_dead : (taps : List TapIn) (tap : TapIn) → live_tap taps tap ≡ None
       → giver (taps ++ tap ∷ []) ≡ giver taps
   unfolding giver
-  giver_dead taps tap none =
-      ap (λ blocks. giver_of (last_block blocks)) (chains-same rules taps tap none)
+  giver_dead taps tap none = ap can_give (trip-same rules taps tap none)
 
   giver_shown : (taps : List TapIn) (tap : TapIn) (shown : LiveTap) → live_tap taps tap ≡ Some shown
-      → giver (taps ++ tap ∷ []) ≡ giver_by (gives rules.permits (giver taps) shown) shown
+      → giver (taps ++ tap ∷ []) ≡ giver_by (gives rules.transfers (giver taps) shown) shown
   unfolding giver
-  giver_shown taps tap shown some = giver-push rules taps tap shown some
+  giver_shown taps tap shown some =
+      ap can_give (trip-push rules taps tap shown some)
+      ∙ can_give-after (gives rules.transfers (last_trip rules taps) shown) (last_trip rules taps) shown
+      ∙ ap (λ b. giver_by b shown) (same_gives rules.transfers (last_trip rules taps) shown few)
 
   -- a tap that both take, live in both or in none
   both : (one other : List TapIn) (tap : TapIn) (n m : ℕ) → Ahead (giver one) (giver other) n m
@@ -250,7 +289,7 @@ module _ (rules : TokenRules) where
             ride_too,
             ← is,
           )
-          (step_both rules.permits (giver one) (giver other) shown n m ahead)
+          (step_both rules.transfers (giver one) (giver other) shown n m ahead)
 
   -- a tap that the second alone takes
   more : (one other : List TapIn) (tap : TapIn) (n m : ℕ) → Ahead (giver one) (giver other) n m
@@ -264,7 +303,7 @@ module _ (rules : TokenRules) where
           (subst (λ l. Ahead (giver one) (giver other) n l) (omega arith) ahead)
       by_view (is_shown shown some ride) =
           rw (giver_shown other tap shown some, ride)
-          (step_more rules.permits (giver one) (giver other) shown n m ahead)
+          (step_more rules.transfers (giver one) (giver other) shown n m ahead)
 
   -- ---- the walk
   -- the rides among the taps that follow earlier ones

@@ -1,21 +1,21 @@
 -- Lists of taps that the account rule cannot tell apart.
-use Rattle.std.proofs.Common.{◌≡◌, ℕ, ◌-◌, Bool, true, false, not, ◌&&◌, ◌||◌, cond, List, [], ◌∷◌}
+use Rattle.std.proofs.Common.{◌≡◌, ℕ, Bool, true, false, not, ◌&&◌, ◌||◌, cond, List, [], ◌∷◌}
 use Rattle.std.proofs.Common.{◌++◌, length, Option, Some, None, refl, sym, ap, ◌∙◌, append-nil}
-use Rattle.std.proofs.Common.{nat_lt, is_some, arith}
-use Rattle.std.specs.List.{flat_map}
+use Rattle.std.proofs.Common.{nat_lt, is_some, arith, take}
+use Rattle.std.specs.List.{flat_map, last_or}
 use Rattle.std.specs.Prelude.{option_map}
-use Rattle.std.specs.Option.{option_to_list}
+use Rattle.std.specs.Option.{option_and_then, option_to_list}
 use Rattle.std.proofs.lemmas.Bool.{le-ltb, and_right}
 use Rattle.fare_table.specs.declared.mode.Mode.{Mode}
 use Rattle.account_rule.specs.declared.reply.Answer.TheVariants.{Transfer, Stale, Unknown}
 use Rattle.account_rule.specs.declared.reply.Reply.{Reply}
 use Rattle.account_rule.specs.declared.tap.TapIn.{TapIn}
 use Rattle.account_rule.specs.Blocks.{blocks_by, last_block}
-use Rattle.account_rule.specs.Chains.{chains, continues, ends_in_transfer, evens, is_even, rides}
-use Rattle.account_rule.specs.Replies.{reply, live_reply, reply_with, ride_reply}
+use Rattle.account_rule.specs.Trips.{continues, ends_in_transfer, rides, trips}
+use Rattle.account_rule.specs.Replies.{live_reply, reply, reply_with, ride_reply}
 use Rattle.account_rule.specs.TokenRules.{TokenRules}
 use Rattle.account_rule.specs.Taps.{LiveTap, is_later, live, live_at, live_tap}
-use Rattle.account_rule.specs.Windows.{charge, is_within, windows}
+use Rattle.account_rule.specs.Windows.{charges, is_within, paid_by, windows}
 use Rattle.account_rule.proofs.StepLemmas.{not_known, not_later, reply_stale, reply_unknown}
 use Rattle.account_rule.proofs.TapLemmas.{is_later-push, live-push}
 use Rattle.bill_laws.specs.Bills.{is_live_answer}
@@ -111,17 +111,23 @@ not_live_again rules taps tap = by_mode tap.mode refl
         (not_later_itself taps tap (ap (λ (m : Option Mode). is_some m) e)))
 
 -- ---- the same state, the same reply
+-- the windows of the live taps
+windows_by : TokenRules → List LiveTap → List (List LiveTap)
+windows_by rules shown =
+    blocks_by (is_within rules.until)
+    (flat_map (λ trip. take 1 trip) (blocks_by (continues rules.transfers) shown))
+
 -- the reply to the last of the live taps
 reply_by : TokenRules → List LiveTap → Reply
 reply_by rules shown =
-    cond (is_even (length (last_block (blocks_by (continues rules.permits) shown))))
+    cond (nat_lt 1 (length (last_block (blocks_by (continues rules.transfers) shown))))
     (reply_with Transfer 0)
-    (ride_reply (charge rules.terms (length (last_block (blocks_by (is_within rules.until)
-    (flat_map evens (blocks_by (continues rules.permits) shown)))) - 1)))
+    (ride_reply (option_and_then paid_by
+    (last_or None (charges rules.terms (last_block (windows_by rules shown))))))
 
 by_live_taps : (rules : TokenRules) (taps : List TapIn)
     → live_reply rules taps ≡ reply_by rules (live taps)
-unfolding live_reply ends_in_transfer chains windows rides reply_by
+unfolding live_reply ends_in_transfer trips windows rides reply_by windows_by
 by_live_taps rules taps = refl
 
 pub same_reply : (rules : TokenRules) (one other : List TapIn) (tap : TapIn) → SameState one other
@@ -139,13 +145,9 @@ same_reply rules one other tap same =
     (same.later tap.moment)
     ∙ ap (λ r. cond k (cond (is_later other tap.moment) r stale) unknown) live_same
 
-windows_by : TokenRules → List LiveTap → List (List LiveTap)
-windows_by rules shown =
-    blocks_by (is_within rules.until) (flat_map evens (blocks_by (continues rules.permits) shown))
-
 by_live_rides : (rules : TokenRules) (taps : List TapIn)
     → windows rules taps ≡ windows_by rules (live taps)
-unfolding chains windows rides windows_by
+unfolding trips windows rides windows_by
 by_live_rides rules taps = refl
 
 pub same_windows : (rules : TokenRules) (one other : List TapIn) → SameState one other

@@ -5,14 +5,14 @@ use Rattle.std.proofs.Common.{flat_map, ⊎_elim}
 use Rattle.std.specs.Option.{option_to_list}
 use Rattle.std.proofs.lemmas.Bool.{cases_Bool}
 use Rattle.fare_table.specs.declared.mode.Mode.{Mode}
-use Rattle.account_rule.specs.Chains.{ends_in_transfer}
+use Rattle.account_rule.specs.Trips.{ends_in_transfer}
 use Rattle.account_rule.specs.Blocks.{last_block}
 use Rattle.account_rule.specs.Laws.{is_ride}
 use Rattle.account_rule.specs.Replies.{reply, reply_with, ride_reply}
 use Rattle.account_rule.specs.TokenRules.{TokenRules}
 use Rattle.account_rule.specs.Taps.{LiveTap, is_later, live_at, live_tap}
 use Rattle.account_rule.specs.Windows.{is_within, last_window, shown_window, windows}
-use Rattle.account_rule.specs.declared.reply.Answer.TheVariants.{Capped, Paid, Stale, Transfer}
+use Rattle.account_rule.specs.declared.reply.Answer.TheVariants.{Stale, Transfer}
 use Rattle.account_rule.specs.declared.reply.Answer.TheVariants.{Unknown}
 use Rattle.account_rule.specs.declared.reply.Reply.{Reply}
 use Rattle.account_rule.specs.declared.tap.TapIn.{TapIn}
@@ -82,11 +82,10 @@ free rules taps tap none same =
     rw (none, same, ended-free (last_window rules taps) tap.moment)
     (sym (append-nil (shown_in rules (but_last (windows rules taps)))))
 
-rides : (cents : ℕ) → is_ride (ride_reply cents) ≡ true
+rides : (paid : Option ℕ) → is_ride (ride_reply paid) ≡ true
 unfolding ride_reply reply_with
-rides cents = elim (ltb 0 cents) as (λ v.
-    is_ride (cond v (reply_with Paid cents) (reply_with Capped 0))
-    ≡ true) [ true ↦ refl | false ↦ refl ]
+rides None = refl
+rides (Some cents) = refl
 
 free_unknown : is_ride (reply_with Unknown 0) ≡ false
 unfolding reply_with
@@ -152,8 +151,8 @@ earlier-push rules taps tap =
 
 -- there is no window before the first tap
 pub earlier-none : (rules : TokenRules) → earlier_windows rules [] ≡ []
-unfolding earlier_windows windows but_last Rattle.account_rule.specs.Chains.rides
-    Rattle.account_rule.specs.Chains.chains Rattle.account_rule.specs.Taps.live
+unfolding earlier_windows windows but_last Rattle.account_rule.specs.Trips.rides
+    Rattle.account_rule.specs.Trips.trips Rattle.account_rule.specs.Taps.live
     Rattle.account_rule.specs.Taps.live_after Rattle.account_rule.specs.Blocks.blocks_by
 earlier-none rules = refl
 

@@ -1,12 +1,14 @@
 -- What can be told in numbers of 64 bits.
 use Rattle.std.specs.Prelude.{ℕ, ◌<◌, ◌^◌, List, length, All}
-use Rattle.fare_table.specs.Fares.{Fares, terms_at}
-use Rattle.fare_table.specs.Terms.{AreBoundedTerms}
+use Rattle.fare_table.specs.Fares.{Fares, class_of, ride_terms}
+use Rattle.fare_table.specs.Terms.{AreRideTerms}
 use Rattle.part_laws.specs.Split.{Part}
 
--- the terms of each token are within their bounds, so that no tap costs more than 100,000 cents
+-- the terms of each token are within their bounds on each mode, so that no tap costs more than
+-- 100,000 cents
 abbrev pub HaveBoundedTerms : Fares → Type 0
-HaveBoundedTerms fares = (token : List ℕ) → AreBoundedTerms (terms_at fares token)
+HaveBoundedTerms fares =
+    (token : List ℕ) (mode : ℕ) → AreRideTerms (ride_terms fares (class_of fares token) mode)
 
 -- the file has fewer than 2 ^ 64 bytes
 abbrev pub HasSize : List ℕ → Type 0

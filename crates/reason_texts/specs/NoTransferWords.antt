@@ -7,8 +7,8 @@ use Rattle.account_rule.specs.NoTransfers.{no_transfer}
 use Rattle.account_rule.specs.TokenRules.{rules_of}
 use Rattle.account_rule.specs.declared.no_transfer.NoTransfer.{NoTransfer}
 use Rattle.account_rule.specs.declared.no_transfer.NoTransfer.TheVariants.{FirstTap, TooLate}
-use Rattle.account_rule.specs.declared.no_transfer.NoTransfer.TheVariants.{AfterTransfer}
-use Rattle.account_rule.specs.declared.no_transfer.NoTransfer.TheVariants.{NotPermitted}
+use Rattle.account_rule.specs.declared.no_transfer.NoTransfer.TheVariants.{AfterTransfer, NoneGiven}
+use Rattle.account_rule.specs.declared.no_transfer.NoTransfer.TheVariants.{NotPermitted, RideTooLate}
 use Rattle.account_rule.specs.declared.reason.Reason.{Reason}
 use Rattle.account_rule.specs.declared.reason.Reason.TheVariants.{Unknown, Stale, Transfer, Ride}
 use Rattle.shard_book.specs.Entry.{tap_of}
@@ -35,6 +35,12 @@ pub record IsAfterTransferText (last : ℕ) (text : List ℕ) : Type 0 where
   pub is : IsMomentText last moment
   pub shown : text ≡ codes ", no transfer since the tap of " ++ (moment ++ codes " is one")
 
+-- `, no transfer since the ride of 2024-03-08T17:00:00.000Z is 2 h 3 min 10 s earlier`
+pub record IsRideTooLateText (ride gap : ℕ) (text : List ℕ) : Type 0 where
+  pub moment : List ℕ
+  pub is : IsMomentText ride moment
+  pub shown : text ≡ codes ", no transfer since the ride of " ++ (moment ++ gap_words gap)
+
 -- `, no transfer since there is none from subway to subway`
 unfoldable pub pair_words : List ℕ → List ℕ → List ℕ
 pair_words from to =
@@ -45,7 +51,10 @@ abbrev pub IsNoTransferText : Fares → ℕ → NoTransfer → List ℕ → Type
 IsNoTransferText fares moment FirstTap text =
     text ≡ codes ", no transfer since it is the first known tap"
 IsNoTransferText fares moment (TooLate last) text = IsTooLateText last (moment - last) text
+IsNoTransferText fares moment NoneGiven text = text ≡ codes ", no transfer since rides give none"
 IsNoTransferText fares moment (AfterTransfer last) text = IsAfterTransferText last text
+IsNoTransferText fares moment (RideTooLate ride) text =
+    IsRideTooLateText ride (moment - ride) text
 IsNoTransferText fares moment (NotPermitted from to) text =
     text ≡ pair_words (slice_index_or fares.meaning.modes from.place [])
     (slice_index_or fares.meaning.modes to.place [])

@@ -4,8 +4,8 @@ ghost use Rattle.std.specs.Prelude.{◌≡◌, ◌-◌, ◌++◌, List, ℕ, OnO
 ghost use Rattle.std.specs.Option.{ForSome};
 ghost use Rattle.account_rule.specs.NoTransfers.{HasModesBelow};
 ghost use Rattle.reason_texts.specs.NoTransferWords.{IsAfterTransferText, IsNoTransferEnd};
-ghost use Rattle.reason_texts.specs.NoTransferWords.{IsNoTransferText, IsTooLateText, gap_words};
-ghost use Rattle.reason_texts.specs.NoTransferWords.{pair_words};
+ghost use Rattle.reason_texts.specs.NoTransferWords.{IsNoTransferText, IsRideTooLateText};
+ghost use Rattle.reason_texts.specs.NoTransferWords.{IsTooLateText, gap_words, pair_words};
 
 use account_rule::{NoTransfer, Reason};
 use fare_table::FareTable;
@@ -49,7 +49,11 @@ fn write_words(
     match none {
         NoTransfer::FirstTap => text.push_str(", no transfer since it is the first known tap"),
         NoTransfer::TooLate { last } => write_too_late(text, last, moment.saturating_sub(last)),
+        NoTransfer::NoneGiven => text.push_str(", no transfer since rides give none"),
         NoTransfer::AfterTransfer { last } => write_after_transfer(text, last),
+        NoTransfer::RideTooLate { ride } => {
+            write_ride_too_late(text, ride, moment.saturating_sub(ride))
+        }
         NoTransfer::NotPermitted { from, to } => {
             write_pair(text, table.mode_name(from), table.mode_name(to))
         }
@@ -63,6 +67,16 @@ fn write_too_late(text: &mut String, last: u64, gap: u64) -> Result<(), AllocErr
 {
     text.push_str(", no transfer since the tap of ")?;
     write_moment(text, last)?;
+    write_gap(text, gap)
+}
+
+/// Appends `, no transfer since the ride of 2024-03-08T17:00:00.000Z is 2 h 3 min 10 s earlier`.
+fn write_ride_too_late(text: &mut String, ride: u64, gap: u64) -> Result<(), AllocError>
+    ensures { OnOk result ((written : List ℕ) × IsRideTooLateText ride gap written
+        × (string_bytes text.new ≡ string_bytes text.old ++ written)) }
+{
+    text.push_str(", no transfer since the ride of ")?;
+    write_moment(text, ride)?;
     write_gap(text, gap)
 }
 

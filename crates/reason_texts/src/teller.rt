@@ -85,7 +85,7 @@ impl Teller {
         ensures modes { ForSome result (HasModesBelow (length table.now.meaning.modes)) }
     {
         let mode = table.mode_of(entry.validator)?;
-        Some(self.account.no_transfer(entry.moment, mode))
+        Some(self.account.no_transfer(table, entry.moment, mode))
     }
 
     /// Takes the token's next entry, and returns the account rule's reason for it after those told

@@ -95,7 +95,7 @@ impl ReferenceAccount {
         Ok(live)
     }
 
-    /// The moments of the rides: in each chain of linked live taps every second one, from the first
+    /// The moments of the rides: in each row of linked live taps every second one, from the first
     /// on.
     fn rides(&self) -> Result<Vec<u64>, AllocError> {
         let mut rides = Vec::new(self.alloc);

@@ -1,12 +1,12 @@
 -- What holds of the windows of a token's taps.
-use Rattle.std.specs.Prelude.{◌≡◌, ◌≤◌, List, length, map, filter, flat_map, All, sum_by}
-use Rattle.fare_table.specs.Fares.{Fares}
+use Rattle.std.specs.Prelude.{◌≡◌, ◌≤◌, List, map, filter, flat_map, All, sum_by}
+use Rattle.fare_table.specs.Fares.{Fares, terms_at}
 use Rattle.fare_table.specs.declared.terms.Terms.{Terms}
 use Rattle.account_rule.specs.declared.reply.Reply.{Reply}
-use Rattle.account_rule.specs.Laws.{is_ride, place_replies}
+use Rattle.account_rule.specs.Laws.{charge_reply, is_ride}
 use Rattle.account_rule.specs.TokenRules.{rules_of}
 use Rattle.account_rule.specs.Taps.{LiveTap}
-use Rattle.account_rule.specs.Windows.{windows, paid_rides, ride_cents}
+use Rattle.account_rule.specs.Windows.{charges, paid_rides, window_cents, windows}
 use Rattle.shard_book.specs.declared.entry.Entry.{Entry}
 use Rattle.tap_views.specs.declared.token.Token.{Token}
 use Rattle.shard_book.specs.Entry.{own, taps_of, reply_of}
@@ -14,23 +14,21 @@ use Rattle.shard_book.specs.Sums.{sums_of_replies}
 use Rattle.tap_views.specs.Token.{bytes_of}
 
 -- No window has more paid rides than the ride limit or costs more than the ceiling. The replies to
--- rides are, window by window, those of their places, so that the windows' paid rides and cents add
--- up to those of all replies.
-pub record BlocksKeepLimits (terms : Terms) (blocks : List (List LiveTap)) (replied : List Reply)
-    : Type 0 where
-  pub rides : All (λ window. paid_rides terms (length window) ≤ terms.rides) blocks
-  pub ceiling : All (λ window. ride_cents terms (length window) ≤ terms.ceiling) blocks
+-- rides are, window by window, those of its charges, so that the windows' paid rides and cents add up
+-- to those of all replies.
+pub record BlocksKeepLimits (terms : LiveTap → Terms) (limits : Terms)
+    (blocks : List (List LiveTap)) (replied : List Reply) : Type 0 where
+  pub rides : All (λ window. paid_rides terms window ≤ limits.rides) blocks
+  pub ceiling : All (λ window. window_cents terms window ≤ limits.ceiling) blocks
   pub shared : filter is_ride replied
-      ≡ flat_map (λ window. place_replies terms (length window)) blocks
-  pub paid : (sums_of_replies replied).paid
-      ≡ sum_by (λ window. paid_rides terms (length window)) blocks
-  pub cents : (sums_of_replies replied).cents
-      ≡ sum_by (λ window. ride_cents terms (length window)) blocks
+      ≡ flat_map (λ window. map charge_reply (charges terms window)) blocks
+  pub paid : (sums_of_replies replied).paid ≡ sum_by (paid_rides terms) blocks
+  pub cents : (sums_of_replies replied).cents ≡ sum_by (window_cents terms) blocks
 
 -- the windows of the token's taps keep the limits of its terms, and share what its entries were
 -- charged
 abbrev pub WindowsKeepLimits : Fares → List Entry → Token → Type 0
 WindowsKeepLimits table entries token =
     let rules = rules_of table (bytes_of token) in
-    BlocksKeepLimits rules.terms (windows rules (taps_of table token entries))
-    (map reply_of (own token entries))
+    BlocksKeepLimits rules.terms (terms_at table (bytes_of token))
+    (windows rules (taps_of table token entries)) (map reply_of (own token entries))

@@ -35,10 +35,11 @@ use Rattle.fare_texts.specs.StatementText.{IsWindowLine, entry_words, statement_
 use Rattle.reason_texts.specs.Ledger.{AreLedgerLinesAfter, head_text, reason_after}
 use Rattle.account_rule.specs.declared.no_transfer.NoTransfer.{NoTransfer}
 use Rattle.account_rule.specs.declared.no_transfer.NoTransfer.TheVariants.{FirstTap, TooLate}
-use Rattle.account_rule.specs.declared.no_transfer.NoTransfer.TheVariants.{AfterTransfer}
-use Rattle.account_rule.specs.declared.no_transfer.NoTransfer.TheVariants.{NotPermitted}
+use Rattle.account_rule.specs.declared.no_transfer.NoTransfer.TheVariants.{AfterTransfer, NoneGiven}
+use Rattle.account_rule.specs.declared.no_transfer.NoTransfer.TheVariants.{NotPermitted, RideTooLate}
 use Rattle.reason_texts.specs.NoTransferWords.{IsAfterTransferText, IsNoTransferEnd}
-use Rattle.reason_texts.specs.NoTransferWords.{IsNoTransferText, IsTooLateText, gap_words}
+use Rattle.reason_texts.specs.NoTransferWords.{IsNoTransferText, IsRideTooLateText, IsTooLateText}
+use Rattle.reason_texts.specs.NoTransferWords.{gap_words}
 use Rattle.reason_texts.specs.NoTransferWords.{no_transfer_after}
 use Rattle.reason_texts.specs.ReasonWords.{IsReasonWords, IsRideText, IsStaleText, IsTransferText}
 use Rattle.reason_texts.specs.ReasonWords.{IsWindowText, charge_end, charge_start, giver_start}
@@ -257,6 +258,12 @@ too_late_same last gap a b is also =
     is.shown ∙ ap (λ m. codes ", no transfer since the tap of " ++ (m ++ gap_words gap))
     (moment_same last is.moment also.moment is.is also.is) ∙ sym also.shown
 
+ride_too_late_same : (ride gap : ℕ) (a b : List ℕ) → IsRideTooLateText ride gap a
+    → IsRideTooLateText ride gap b → a ≡ b
+ride_too_late_same ride gap a b is also =
+    is.shown ∙ ap (λ m. codes ", no transfer since the ride of " ++ (m ++ gap_words gap))
+    (moment_same ride is.moment also.moment is.is also.is) ∙ sym also.shown
+
 after_transfer_same : (last : ℕ) (a b : List ℕ) → IsAfterTransferText last a
     → IsAfterTransferText last b → a ≡ b
 after_transfer_same last a b is also =
@@ -267,7 +274,9 @@ lack_same : (fares : Fares) (moment : ℕ) (none : NoTransfer) (a b : List ℕ)
     → IsNoTransferText fares moment none a → IsNoTransferText fares moment none b → a ≡ b
 lack_same fares moment FirstTap a b is also = is ∙ sym also
 lack_same fares moment (TooLate last) a b is also = too_late_same last _ a b is also
+lack_same fares moment NoneGiven a b is also = is ∙ sym also
 lack_same fares moment (AfterTransfer last) a b is also = after_transfer_same last a b is also
+lack_same fares moment (RideTooLate ride) a b is also = ride_too_late_same ride _ a b is also
 lack_same fares moment (NotPermitted from to) a b is also = is ∙ sym also
 
 lack_end_same : (fares : Fares) (moment : ℕ) (why : Reason) (none : Option NoTransfer)

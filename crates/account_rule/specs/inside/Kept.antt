@@ -1,21 +1,23 @@
 -- Kept: what private functions alone cite.
-use Rattle.std.specs.Prelude.{ℕ, ◌+◌, ◌^◌, ◌<◌, ◌≤◌, Bool, false, if◌then◌else◌, min, nat_lt}
+use Rattle.std.specs.Prelude.{ℕ, ◌+◌, ◌-◌, Bool, false, ◌&&◌, if◌then◌else◌, min, nat_le, nat_lt}
 use Rattle.std.specs.Prelude.{Option, Some, None}
-use Rattle.fare_table.specs.declared.mode.Mode.{Mode}
 use Rattle.fare_table.specs.declared.terms.Terms.{Terms}
 use Rattle.account_rule.specs.declared.window.Window.{Window}
 use Rattle.account_rule.specs.declared.window.WindowView.{WindowView}
 use Rattle.account_rule.specs.declared.reason.Reason.{Reason}
 use Rattle.account_rule.specs.declared.reason.Reason.TheVariants.{Ride}
-use Rattle.account_rule.specs.Chains.{is_linked}
-use Rattle.account_rule.specs.Reasons.{charge_by}
 use Rattle.account_rule.specs.Taps.{LiveTap}
-use Rattle.account_rule.specs.Windows.{charge}
+use Rattle.account_rule.specs.TokenRules.{TransferRules}
+use Rattle.account_rule.specs.Trips.{TripEnd}
+use Rattle.account_rule.specs.Windows.{charge, charged_by, is_paid}
 
--- whether the giver, if there is one, gives a transfer to the tap
-unfoldable pub gives : (Mode → Mode → Bool) → Option LiveTap → LiveTap → Bool
-gives permits None tap = false
-gives permits (Some giver) tap = is_linked permits giver tap
+-- whether the trip, if there is one, gives a transfer to the tap
+unfoldable pub gives : TransferRules → Option TripEnd → LiveTap → Bool
+gives rules None tap = false
+gives rules (Some trip) tap =
+    nat_lt trip.given (rules.count tap)
+    && nat_le (tap.moment - trip.ride.moment) (rules.time tap)
+    && rules.permits trip.last.mode tap
 
 -- what its owner sees of a window
 unfoldable pub shown_of : Window → WindowView
@@ -35,17 +37,11 @@ window_at (Some window) moment until =
 -- the window with one more ride
 unfoldable pub with_ride : Terms → Window → Window
 with_ride terms window = record window {
-  rides = min (window.rides + 1) terms.rides;
-  paid = window.paid + (if nat_lt 0 (charge terms window.rides) then 1 else 0);
-  cents = window.cents + charge terms window.rides;
+  rides = min (window.rides + 1) 1_000;
+  paid = window.paid + (if is_paid (charge terms window.rides window.cents) then 1 else 0);
+  cents = window.cents + charged_by (charge terms window.rides window.cents);
 }
 
 -- why the window's next ride is answered as it is
 unfoldable pub next_reason : Terms → Window → Reason
-next_reason terms window = Ride window.start window.until (charge_by terms window.rides)
-
--- the numbers of the window are within the limits of the terms, and leave room for one more ride
-pub record IsRoomy (terms : Terms) (window : Window) : Type 0 where
-  pub rides : window.rides ≤ terms.rides
-  pub paid : window.paid ≤ 1_000
-  pub cents : window.cents + terms.fare < 2 ^ 32
+next_reason terms window = Ride window.start window.until (charge terms window.rides window.cents)

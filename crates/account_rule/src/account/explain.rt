@@ -1,18 +1,20 @@
 //! Why an account answers a tap as it does.
 
-ghost use Rattle.std.specs.Prelude.{◌≡◌, ◌<◌, ◌≤◌, ◌++◌, ◌∷◌, [], List, length, option_map, Some};
+ghost use Rattle.std.specs.Prelude.{◌≡◌, ℕ, ◌<◌, ◌≤◌, ◌++◌, ◌∷◌, [], List, length, Some};
 ghost use Rattle.std.specs.Option.{ForSome};
-ghost use Rattle.fare_table.specs.Terms.{AreBoundedTerms};
+ghost use Rattle.fare_table.specs.Terms.{AreRideTerms};
+ghost use Rattle.fare_table.specs.Fares.{ride_terms};
 ghost use Rattle.fare_table.specs.Until.{window_end_in};
 ghost use Rattle.account_rule.specs.declared.tap.TapIn.{TapIn};
-ghost use Rattle.account_rule.specs.inside.Kept.{IsRoomy, next_reason, window_at, with_ride};
-ghost use Rattle.account_rule.specs.NoTransfers.{HasModesBelow, no_transfer};
+ghost use Rattle.account_rule.specs.Kept.{IsRoomy, kept_numbers, kept_trip};
+ghost use Rattle.account_rule.specs.inside.Kept.{next_reason, window_at, with_ride};
+ghost use Rattle.account_rule.specs.NoTransfers.{HasModesBelow, no_transfer, no_transfer_from};
 ghost use Rattle.account_rule.specs.Reasons.{given_by, reason, replied_by};
-ghost use Rattle.account_rule.specs.TokenRules.{TokenRules, rules_of};
+ghost use Rattle.account_rule.specs.TokenRules.{TokenRules, rules_of, transfers_of};
 ghost use Rattle.account_rule.specs.Stands.{Stands, StandsForSome};
 ghost use Rattle.account_rule.specs.Taps.{live_at};
 
-use super::{Account, TRANSFER_TIME_MS};
+use super::Account;
 use crate::no_transfer::NoTransfer;
 use crate::reason::Reason;
 use crate::tap::TapIn;
@@ -49,7 +51,8 @@ impl Account {
             return Reason::Unknown;
         };
         if !self.has_window {
-            let first = Window::opened(clock, tap.moment).next_reason(table.terms_of(token));
+            let terms = table.ride_terms(table.class_of(token), mode);
+            let first = Window::opened(clock, tap.moment).next_reason(terms);
             self.first_ride(table, clock, token, mode, tap.moment);
             return first;
         }
@@ -58,74 +61,107 @@ impl Account {
         }
         if self.gives_transfer(table, tap.moment, mode) {
             let given = self.given();
-            self.last = tap.moment;
-            self.giver = None;
+            self.take_transfer(mode, tap.moment);
             return given;
         }
-        self.explain_ride(clock, mode, tap.moment)
+        self.explain_ride(table, clock, mode, tap.moment)
     }
 
     /// Why a ride at the moment, on the mode, would be no transfer after the taps that the account
     /// has seen.
     ///
-    /// It says so of rides alone: of a tap that is a transfer, its answer has no meaning.
-    pub fn no_transfer(&self, moment: u64, mode: Mode) -> NoTransfer
-        // Of every list for which the account stands.
-        ensures lacks { (rules : TokenRules) (taps : List TapIn) → Stands rules self.now taps
-            → result ≡ no_transfer rules taps moment mode }
+    /// The table is that of `step`. It says so of rides alone: of a tap that is a transfer, its
+    /// answer has no meaning.
+    pub fn no_transfer(&self, table: &FareTable, moment: u64, mode: Mode) -> NoTransfer
+        requires stands { (token : List ℕ) × StandsForSome (rules_of table.now token) self.now }
+
+        // Of every token and list for which the account stands.
+        ensures lacks { (token : List ℕ) (taps : List TapIn)
+            → Stands (rules_of table.now token) self.now taps
+            → result ≡ no_transfer (rules_of table.now token) taps moment mode }
         ensures modes { (rules : TokenRules) (taps : List TapIn) → Stands rules self.now taps
             → mode.place < rules.modes → HasModesBelow rules.modes result }
     {
         if !self.has_window {
             return NoTransfer::FirstTap;
         }
-        if moment.saturating_sub(self.last) > TRANSFER_TIME_MS {
+        self.spent(table, moment, mode)
+    }
+
+    /// Why the last trip gives no transfer to a ride at the moment, on the mode.
+    #[tactic(auto, unfolding(crate::specs::TokenRules::transfers_of, crate::specs::NoTransfers::no_transfer_from, crate::specs::Kept::kept_trip, crate::specs::Taps::live_at))]
+    fn spent(&self, table: &FareTable, moment: u64, mode: Mode) -> NoTransfer
+        requires class { self.now.class < length table.now.meaning.classes }
+        ensures lacks { result ≡ no_transfer_from (transfers_of table.now self.now.class)
+            (kept_trip (Some (kept_numbers self.now))) (live_at moment mode) }
+        ensures modes { (modes : ℕ) → self.now.mode.place < modes → mode.place < modes
+            → HasModesBelow modes result }
+    {
+        let gives = table.transfer_terms(self.class);
+        let time = u64::from(gives.time);
+        if moment.saturating_sub(self.last) > time {
             return NoTransfer::TooLate { last: self.last };
         }
-        match self.giver {
-            Some(from) => NoTransfer::NotPermitted { from, to: mode },
-            None => NoTransfer::AfterTransfer { last: self.last },
+        if u32::from(self.given) >= gives.taps {
+            if self.given == 0 {
+                return NoTransfer::NoneGiven;
+            }
+            return NoTransfer::AfterTransfer { last: self.last };
+        }
+        if moment.saturating_sub(self.ride) > time {
+            return NoTransfer::RideTooLate { ride: self.ride };
+        }
+        NoTransfer::NotPermitted {
+            from: self.mode,
+            to: mode,
         }
     }
 
-    /// Why a tap is a transfer: the last live tap gives it.
-    #[tactic(auto, unfolding(crate::specs::Reasons::given_by, crate::specs::Taps::live_at))]
+    /// Why a tap is a transfer: the last ride gives it.
+    #[tactic(auto, unfolding(crate::specs::Reasons::given_by, crate::specs::Kept::kept_trip, crate::specs::Taps::live_at))]
     fn given(&self) -> Reason
-        ensures { result ≡ given_by (option_map (live_at self.now.last) self.now.giver) }
+        ensures { result ≡ given_by (kept_trip (Some (kept_numbers self.now))) }
     {
-        match self.giver {
-            Some(mode) => Reason::Transfer {
-                moment: self.last,
-                mode,
-            },
-            None => Reason::Unknown,
+        Reason::Transfer {
+            moment: self.ride,
+            mode: self.ride_mode,
         }
     }
 
     /// Takes a live tap at the moment, on the mode, as a ride, and returns why it costs what it
     /// costs.
-    #[tactic(auto, unfolding(crate::specs::inside::Kept::window_at))]
-    fn explain_ride(&mut self, clock: &Clock, mode: Mode, moment: u64) -> Reason
+    #[tactic(auto, unfolding(crate::specs::inside::Kept::window_at, crate::specs::inside::Kept::open_window))]
+    fn explain_ride(
+        &mut self,
+        table: &FareTable,
+        clock: &Clock,
+        mode: Mode,
+        moment: u64,
+    ) -> Reason
+        requires class { self.old.class < length table.now.meaning.classes }
+        requires mode { mode.place < length table.now.meaning.modes }
         requires early { moment < 4_102_444_800_000 }
-        requires bounds { AreBoundedTerms self.old.terms }
-        requires room { IsRoomy self.old.terms
+        requires room { IsRoomy self.old.window }
+        ensures bounds { AreRideTerms (ride_terms table.now self.old.class mode.place) }
+        ensures reason { result ≡ next_reason (ride_terms table.now self.old.class mode.place)
             (window_at (Some self.old.window) moment (window_end_in clock.now moment)) }
-        ensures reason { result ≡ next_reason self.old.terms
-            (window_at (Some self.old.window) moment (window_end_in clock.now moment)) }
-        ensures last { self.new.last ≡ moment }
         ensures has_window { self.new.has_window ≡ self.old.has_window }
-        ensures giver { self.new.giver ≡ Some mode }
-        ensures terms { self.new.terms ≡ self.old.terms }
-        ensures window { self.new.window ≡ with_ride self.old.terms
-            (window_at (Some self.old.window) moment (window_end_in clock.now moment)) }
+        ensures state { kept_numbers self.new ≡ record {
+          last = live_at moment mode;
+          ride = live_at moment mode;
+          given = 0;
+          class = self.old.class;
+          window = with_ride (ride_terms table.now self.old.class mode.place)
+              (window_at (Some self.old.window) moment (window_end_in clock.now moment));
+        } }
     {
         if moment >= self.window.until {
             self.window = Window::opened(clock, moment);
         }
-        let reason = self.window.next_reason(self.terms);
-        self.window.add_ride(self.terms);
-        self.last = moment;
-        self.giver = Some(mode);
+        let terms = table.ride_terms(self.class, mode);
+        let reason = self.window.next_reason(terms);
+        self.window.add_ride(terms);
+        self.begin_trip(mode, moment);
         reason
     }
 }

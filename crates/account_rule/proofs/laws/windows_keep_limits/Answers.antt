@@ -1,9 +1,11 @@
--- Any number of rides keeps both limits, so each window does.
-use Rattle.account_rule.proofs.LimitLemmas.{paid_rides-le_rides, ride_cents-le_ceiling}
+-- No list of rides exceeds the limits, so no window does.
+use Rattle.account_rule.proofs.LimitLemmas.{paid_rides-le, window_cents-le}
 use Rattle.account_rule.proofs.laws.windows_keep_limits.Goals as goal
 
 pub returns-clause-rides : goal.returns-clause-rides
-returns-clause-rides c = λ rules taps place window _. paid_rides-le_rides rules.terms _
+returns-clause-rides c =
+    λ rules taps limit place window _ all. paid_rides-le rules.terms limit _ all
 
 pub returns-clause-ceiling : goal.returns-clause-ceiling
-returns-clause-ceiling c = λ rules taps place window _. ride_cents-le_ceiling rules.terms _
+returns-clause-ceiling c =
+    λ rules taps ceiling place window _ all. window_cents-le rules.terms ceiling _ all

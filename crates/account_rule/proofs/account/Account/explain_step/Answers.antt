@@ -1,19 +1,22 @@
 -- Each way out is one of the rule's four cases: unknown, stale, transfer, ride. The reason is that
 -- case's, and the account then stands for one tap more, as after a step.
 use Rattle.std.proofs.Common.{List, [], ◌∷◌, ◌++◌, Some, refl, sym, ap, ◌∙◌, arith}
+use Rattle.account_rule.specs.declared.window.Window.{Window}
+use Rattle.fare_table.specs.Fares.{ride_terms}
 use Rattle.fare_table.specs.Until.{window_end_in}
 use Rattle.account_rule.specs.Replies.{reply_with, ride_reply}
-use Rattle.account_rule.specs.Windows.{charge}
+use Rattle.account_rule.specs.Windows.{charge, paid_by}
 use Rattle.account_rule.specs.inside.Kept.{window_at}
-use Rattle.account_rule.specs.Kept.{kept_giver, kept_numbers, kept_of}
+use Rattle.account_rule.specs.Kept.{kept_numbers, kept_of, kept_trip}
 use Rattle.account_rule.specs.TokenRules.{rules_of}
 use Rattle.account_rule.specs.Stands.{Stands, StandsForSome}
 use Rattle.account_rule.specs.Taps.{live_at}
 use Rattle.account_rule.specs.declared.tap.TapIn.{TapIn}
 use Rattle.account_rule.proofs.ReasonLemmas.{reason_unknown, why_ride, why_stale, why_transfer}
-use Rattle.account_rule.proofs.StepLemmas.{IsStep, at_fresh, at_kept, first_ride, gives_none-fresh}
-use Rattle.account_rule.proofs.StepLemmas.{gives_none-state, kept-fresh, kept-open, kept_terms}
-use Rattle.account_rule.proofs.StepLemmas.{next_ride, room, stale, stands-open, transfer, unknown}
+use Rattle.account_rule.proofs.StepLemmas.{IsStep, at_fresh, at_kept, at_state, first_ride}
+use Rattle.account_rule.proofs.StepLemmas.{gives_none-fresh, gives_none-state, kept-fresh, kept-open}
+use Rattle.account_rule.proofs.StepLemmas.{class_there, gives_same, kept_room, next_ride, terms_same, stale, stands-open, transfer, unknown}
+use Rattle.account_rule.proofs.WindowLemmas.{room-open}
 use Rattle.account_rule.proofs.FareLemmas.{given-few, ride_reason-few}
 use Rattle.account_rule.proofs.account.Account.explain_step.Goals as goal
 use Rattle.account_rule.proofs.account.Account.explain_step.Goals.{After-explain_ride, After-first_ride}
@@ -32,33 +35,34 @@ returns-in_default-clause-stands c =
 -- the tap is the first ride
 
 pub next_reason-first-requires-clause-room : goal.next_reason-first-requires-clause-room
-unfolding StandsForSome Stands rules_of
-next_reason-first-requires-clause-room c =
-    room (rules_of c.args.table.now c.args.token.now) (kept_of c.args.self.now) c.requires.stands.0
-    _ _ _ _ c.requires.stands.1
-    (c.opened.ensures ∙ at_fresh _ _ _ (kept-fresh _ c.if-not-self.true)) c.terms_of.ensures.terms c.terms_of.ensures.bounds
+next_reason-first-requires-clause-room c = rw c.opened.ensures (room-open _ _)
 
 pub returns-then-not-self-clause-reason : goal.returns-then-not-self-clause-reason
-unfolding Stands rules_of
+unfolding Stands rules_of live_at
 returns-then-not-self-clause-reason c =
     λ taps stands. c.next_reason-first.ensures
     ∙ why_ride (rules_of c.args.table.now c.args.token.now) (kept_of c.args.self.now) taps
     c.args.tap c.in-Some.mode _ _ _ stands c.in-Some.is
     (ap (λ zone. window_end_in zone c.args.tap.moment) c.requires.clock)
     (gives_none-fresh _ _ c.args.tap c.in-Some.mode (kept-fresh _ c.if-not-self.true))
-    c.terms_of.ensures.terms
+    (sym (c.ride_terms-terms.ensures.terms
+    ∙ ap (λ place. ride_terms c.args.table.now place c.in-Some.mode.place)
+    c.class_of.ensures.class)) c.ride_terms-terms.ensures.bounds
     (c.opened.ensures ∙ at_fresh _ _ _ (kept-fresh _ c.if-not-self.true))
 
 is_first_ride : (c : After-first_ride) (taps : List TapIn)
     → Stands (rules_of c.args.table.now c.args.token.now) c.args.self.now taps
     → IsStep (rules_of c.args.table.now c.args.token.now) taps c.args.tap c.first_ride.result
     (kept_of c.first_ride.new.self)
-unfolding rules_of Stands
+unfolding rules_of Stands live_at
 is_first_ride c taps stands =
     first_ride (rules_of c.args.table.now c.args.token.now) (kept_of c.args.self.now) _ taps
-    c.args.tap c.in-Some.mode _ _ (kept-fresh _ c.if-not-self.true) stands c.in-Some.is
+    c.args.tap c.in-Some.mode _ _ _ _ (kept-fresh _ c.if-not-self.true) stands c.in-Some.is
     (c.requires.mode _ c.in-Some.is)
-    (ap (λ zone. window_end_in zone c.args.tap.moment) c.requires.clock) c.first_ride.ensures.bounds
+    (ap (λ zone. window_end_in zone c.args.tap.moment) c.requires.clock)
+    (record { is = c.first_ride.ensures.class; there = c.first_ride.ensures.there })
+    (ap (λ place. ride_terms c.args.table.now place c.in-Some.mode.place)
+    (sym c.first_ride.ensures.class)) c.first_ride.ensures.bounds
     c.first_ride.ensures.reply c.first_ride.ensures.state
 
 pub returns-then-not-self-clause-stands : goal.returns-then-not-self-clause-stands
@@ -75,13 +79,13 @@ returns-then-not-self-clause-some c = (
 -- the tap is not later than the last
 
 pub returns-then-tap-self-clause-reason : goal.returns-then-tap-self-clause-reason
-unfolding Stands
+unfolding Stands live_at
 returns-then-tap-self-clause-reason c =
     λ taps stands. why_stale _ _ _ taps c.args.tap _ (kept-open _ c.if-not-self.false) stands
     c.in-Some.is c.if-tap-self.true
 
 pub returns-then-tap-self-clause-stands : goal.returns-then-tap-self-clause-stands
-unfolding Stands
+unfolding Stands live_at
 returns-then-tap-self-clause-stands c =
     λ taps stands. stands-open _ _ _ c.if-not-self.false
     (stale _ _ _ taps c.args.tap _ (kept-open _ c.if-not-self.false) stands c.in-Some.is
@@ -89,27 +93,39 @@ returns-then-tap-self-clause-stands c =
 
 -- the last tap gives a transfer
 
-pub gives_transfer-requires-clause-giver : goal.gives_transfer-requires-clause-giver
-unfolding StandsForSome Stands kept_giver rules_of live_at
-gives_transfer-requires-clause-giver c =
-    λ giver kept. c.requires.stands.1.mode (live_at c.args.self.now.last giver)
-    (rw (kept-open c.args.self.now c.if-not-self.false, kept) refl)
+pub gives_transfer-requires-clause-class : goal.gives_transfer-requires-clause-class
+unfolding StandsForSome
+gives_transfer-requires-clause-class c =
+    class_there c.args.table.now c.args.token.now c.args.self.now c.requires.stands.0
+    c.if-not-self.false c.requires.stands.1
+
+pub gives_transfer-requires-clause-from : goal.gives_transfer-requires-clause-from
+unfolding StandsForSome Stands kept_trip rules_of live_at
+gives_transfer-requires-clause-from c =
+    (at_state (rules_of c.args.table.now c.args.token.now) (kept_of c.args.self.now)
+    (kept_numbers c.args.self.now) c.requires.stands.0
+    (kept-open c.args.self.now c.if-not-self.false) c.requires.stands.1).mode _ refl
 
 pub returns-then-gives_transfer-clause-reason : goal.returns-then-gives_transfer-clause-reason
-unfolding rules_of Stands
+unfolding rules_of Stands live_at
 returns-then-gives_transfer-clause-reason c =
     λ taps stands. c.given-given.ensures
     ∙ why_transfer (rules_of c.args.table.now c.args.token.now) _ _ taps c.args.tap c.in-Some.mode
     (kept-open _ c.if-not-self.false) stands c.in-Some.is
-    c.if-tap-self.false (sym c.gives_transfer.ensures ∙ c.if-gives_transfer.true)
+    c.if-tap-self.false (gives_same c.args.table.now c.args.token.now c.args.self.now taps
+    (live_at c.args.tap.moment c.in-Some.mode) c.gives_transfer.result c.if-not-self.false stands
+    c.gives_transfer.ensures.gives ∙ c.if-gives_transfer.true)
 
 pub returns-then-gives_transfer-clause-stands : goal.returns-then-gives_transfer-clause-stands
-unfolding rules_of Stands
+unfolding rules_of Stands live_at
 returns-then-gives_transfer-clause-stands c =
-    λ taps stands. stands-open _ _ _ c.if-not-self.false
-    (transfer (rules_of c.args.table.now c.args.token.now) _ _ taps c.args.tap c.in-Some.mode
-    (kept-open _ c.if-not-self.false) stands c.in-Some.is
-    c.if-tap-self.false (sym c.gives_transfer.ensures ∙ c.if-gives_transfer.true)).stands
+    λ taps stands. stands-open _ _ _ (c.take_transfer.ensures.has_window ∙ c.if-not-self.false)
+    (transfer (rules_of c.args.table.now c.args.token.now) _ _ _ taps c.args.tap
+    c.in-Some.mode (kept-open _ c.if-not-self.false) stands c.in-Some.is
+    (c.requires.mode _ c.in-Some.is) c.if-tap-self.false
+    (gives_same c.args.table.now c.args.token.now c.args.self.now taps
+    (live_at c.args.tap.moment c.in-Some.mode) c.gives_transfer.result c.if-not-self.false stands
+    c.gives_transfer.ensures.gives ∙ c.if-gives_transfer.true) c.take_transfer.ensures.state).stands
 
 pub returns-then-gives_transfer-clause-some : goal.returns-then-gives_transfer-clause-some
 unfolding StandsForSome
@@ -120,49 +136,57 @@ returns-then-gives_transfer-clause-some c = (
 
 -- the tap is a later ride
 
-pub explain_ride-requires-clause-bounds : goal.explain_ride-requires-clause-bounds
-unfolding StandsForSome Stands
-explain_ride-requires-clause-bounds c =
-    (kept_terms _ (kept_of c.args.self.now) _ c.requires.stands.0 (kept-open _ c.if-not-self.false)
-    c.requires.stands.1).bounds
+pub explain_ride-requires-clause-class : goal.explain_ride-requires-clause-class
+unfolding StandsForSome
+explain_ride-requires-clause-class c =
+    class_there c.args.table.now c.args.token.now c.args.self.now c.requires.stands.0
+    c.if-not-self.false c.requires.stands.1
 
 pub explain_ride-requires-clause-room : goal.explain_ride-requires-clause-room
-unfolding StandsForSome Stands rules_of
+unfolding StandsForSome Stands
 explain_ride-requires-clause-room c =
-    let kept = kept_terms _ (kept_of c.args.self.now) _ c.requires.stands.0
-    (kept-open _ c.if-not-self.false) c.requires.stands.1 in
-    room (rules_of c.args.table.now c.args.token.now) (kept_of c.args.self.now) c.requires.stands.0
-    _ _ _ _ c.requires.stands.1 (at_kept _ _ _ _ (kept-open _ c.if-not-self.false)) kept.same
-    kept.bounds
+    kept_room _ (kept_of c.args.self.now) _ c.requires.stands.0 (kept-open _ c.if-not-self.false)
+    c.requires.stands.1
 
 pub returns-clause-reason : goal.returns-clause-reason
-unfolding rules_of Stands
+unfolding rules_of Stands live_at
 returns-clause-reason c =
-    λ taps stands. c.explain_ride.ensures.reason
+    λ taps stands.
+    c.explain_ride.ensures.reason
     ∙ why_ride (rules_of c.args.table.now c.args.token.now) (kept_of c.args.self.now) taps
     c.args.tap c.in-Some.mode _ _ _ stands c.in-Some.is
     (ap (λ zone. window_end_in zone c.args.tap.moment) c.requires.clock)
     (gives_none-state _ _ _ c.args.tap _ (kept-open _ c.if-not-self.false) c.if-tap-self.false
-    (sym c.gives_transfer.ensures ∙ c.if-gives_transfer.false))
-    (kept_terms _ (kept_of c.args.self.now) _ taps (kept-open _ c.if-not-self.false) stands).same
+    (gives_same c.args.table.now c.args.token.now c.args.self.now taps
+    (live_at c.args.tap.moment c.in-Some.mode) c.gives_transfer.result c.if-not-self.false stands
+    c.gives_transfer.ensures.gives ∙ c.if-gives_transfer.false))
+    (terms_same c.args.table.now c.args.token.now c.args.self.now taps c.in-Some.mode.place
+    c.if-not-self.false stands) c.explain_ride.ensures.bounds
     (at_kept _ _ _ _ (kept-open _ c.if-not-self.false))
+
+next_window : (c : After-explain_ride) → Window
+next_window c = window_at (Some c.args.self.now.window) c.args.tap.moment
+    (window_end_in c.args.clock.now c.args.tap.moment)
 
 is_next_ride : (c : After-explain_ride) (taps : List TapIn)
     → Stands (rules_of c.args.table.now c.args.token.now) c.args.self.now taps
     → IsStep (rules_of c.args.table.now c.args.token.now) taps c.args.tap
-    (ride_reply (charge c.args.self.now.terms (window_at (Some c.args.self.now.window)
-    c.args.tap.moment (window_end_in c.args.clock.now c.args.tap.moment)).rides))
+    (ride_reply (paid_by (charge
+    (ride_terms c.args.table.now c.args.self.now.class c.in-Some.mode.place)
+    (next_window c).rides (next_window c).cents)))
     (Some (kept_numbers c.explain_ride.new.self))
-unfolding rules_of Stands
+unfolding rules_of Stands next_window live_at
 is_next_ride c taps stands =
     next_ride (rules_of c.args.table.now c.args.token.now) (kept_of c.args.self.now) _ _ taps
     c.args.tap c.in-Some.mode _ _ (kept-open _ c.if-not-self.false) stands c.in-Some.is
     (c.requires.mode _ c.in-Some.is)
     (ap (λ zone. window_end_in zone c.args.tap.moment) c.requires.clock)
     (gives_none-state _ _ _ c.args.tap _ (kept-open _ c.if-not-self.false) c.if-tap-self.false
-    (sym c.gives_transfer.ensures ∙ c.if-gives_transfer.false))
-    refl c.explain_ride.ensures.last c.explain_ride.ensures.giver
-    c.explain_ride.ensures.terms c.explain_ride.ensures.window
+    (gives_same c.args.table.now c.args.token.now c.args.self.now taps
+    (live_at c.args.tap.moment c.in-Some.mode) c.gives_transfer.result c.if-not-self.false stands
+    c.gives_transfer.ensures.gives ∙ c.if-gives_transfer.false))
+    (terms_same c.args.table.now c.args.token.now c.args.self.now taps c.in-Some.mode.place
+    c.if-not-self.false stands) c.explain_ride.ensures.bounds c.explain_ride.ensures.state
 
 pub returns-clause-stands : goal.returns-clause-stands
 returns-clause-stands c =
@@ -184,7 +208,7 @@ returns-in_default-clause-few c = omega arith
 
 pub returns-then-not-self-clause-few : goal.returns-then-not-self-clause-few
 returns-then-not-self-clause-few c =
-    ride_reason-few _ _ _ c.terms_of.ensures.bounds c.next_reason-first.ensures
+    ride_reason-few _ _ _ c.ride_terms-terms.ensures.bounds c.next_reason-first.ensures
 
 pub returns-then-tap-self-clause-few : goal.returns-then-tap-self-clause-few
 unfolding reply_with
@@ -194,8 +218,5 @@ pub returns-then-gives_transfer-clause-few : goal.returns-then-gives_transfer-cl
 returns-then-gives_transfer-clause-few c = given-few _ _ c.given-given.ensures
 
 pub returns-clause-few : goal.returns-clause-few
-unfolding StandsForSome Stands
 returns-clause-few c =
-    let bounds = (kept_terms _ (kept_of c.args.self.now) _ c.requires.stands.0
-    (kept-open _ c.if-not-self.false) c.requires.stands.1).bounds in
-    ride_reason-few _ _ _ bounds c.explain_ride.ensures.reason
+    ride_reason-few _ _ _ c.explain_ride.ensures.bounds c.explain_ride.ensures.reason

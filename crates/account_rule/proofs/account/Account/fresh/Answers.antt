@@ -1,22 +1,24 @@
 -- A fresh account stands for no taps, under whatever rules.
 use Rattle.std.proofs.Common.{[], refl}
-use Rattle.account_rule.specs.Chains.{chains, rides}
+use Rattle.account_rule.specs.Trips.{last_trip, rides, trip_of, trips}
 use Rattle.account_rule.specs.Blocks.{blocks_by, last_block}
-use Rattle.account_rule.specs.Kept.{is_after, kept_giver, kept_of, kept_window}
-use Rattle.account_rule.specs.Stands.{Stands, StandsForSome, giver_of, window_of}
+use Rattle.account_rule.specs.Kept.{is_after, kept_of, kept_trip, kept_window}
+use Rattle.account_rule.specs.Stands.{Stands, StandsForSome, window_of}
 use Rattle.account_rule.specs.Taps.{is_later, live, live_after}
 use Rattle.account_rule.specs.Windows.{windows}
 use Rattle.account_rule.proofs.account.Account.fresh.Goals as goal
 
 pub returns-clause-stands : goal.returns-clause-stands
-unfolding Stands is_after is_later kept_of kept_giver giver_of kept_window window_of windows rides
-    chains live live_after blocks_by last_block
+unfolding Stands is_after is_later kept_of kept_trip last_trip trip_of kept_window window_of windows
+    rides trips live live_after blocks_by last_block
 returns-clause-stands c = λ rules. record {
   last = λ moment. refl;
-  giver = refl;
+  trip = refl;
   window = refl;
-  terms = λ state some. cc;
-  mode = λ giver some. cc;
+  class = λ state some. cc;
+  mode = λ trip some. cc;
+  ride_mode = λ trip some. cc;
+  room = λ window some. cc;
 }
 
 pub returns-clause-some : goal.returns-clause-some

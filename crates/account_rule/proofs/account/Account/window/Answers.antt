@@ -32,16 +32,16 @@ returns-then-self-clause-window c =
 pub returns-then-self-clause-paid : goal.returns-then-self-clause-paid
 unfolding last_window
 returns-then-self-clause-paid c =
-    λ of taps stands. subst (λ shown. IfSome shown (λ window. window.paid ≤ of.terms.rides))
+    λ of taps limit stands all. subst (λ shown. IfSome shown (λ window. window.paid ≤ limit))
     (sym (returns-then-self-clause-window c of taps stands))
-    (paid-shown of (last_block (windows of taps)))
+    (paid-shown of limit (last_block (windows of taps)) all)
 
 pub returns-then-self-clause-cents : goal.returns-then-self-clause-cents
 unfolding last_window
 returns-then-self-clause-cents c =
-    λ of taps stands. subst (λ shown. IfSome shown (λ window. window.cents ≤ of.terms.ceiling))
+    λ of taps ceiling stands all. subst (λ shown. IfSome shown (λ window. window.cents ≤ ceiling))
     (sym (returns-then-self-clause-window c of taps stands))
-    (cents-shown of (last_block (windows of taps)))
+    (cents-shown of ceiling (last_block (windows of taps)) all)
 
 -- with none
 
