@@ -14,7 +14,6 @@ use crate::charging::charge;
 use crate::counting::{count, ends_of};
 use crate::fault::BillFault;
 use crate::open_bill::OpenBill;
-use crate::stamps::{have_stamps, stamps_of};
 use crate::taking::Taker;
 use fare_table::FareTable;
 use placed_files::Placed;

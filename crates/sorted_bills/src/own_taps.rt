@@ -18,7 +18,6 @@ ghost use Rattle.sorted_bills.specs.inside.OwnTaps.{AreOwnAdded, AreOwnOf, AreSo
 use crate::counting::ends_of;
 use crate::fault::BillFault;
 use crate::own_by_threads::{OwnTaps, own_by_threads};
-use crate::stamps::{have_stamps, stamps_of};
 use crate::taking::{is_early, name_of};
 use placed_files::Placed;
 use settlement::TokenTaps;
