@@ -6,9 +6,6 @@ use Rattle.jiff_core.specs.Calendar.{IsDate, IsYear, days_in_month}
 use Rattle.jiff_core.proofs.CalendarLemmas.{days_in_month_bounds}
 use Rattle.jiff_core.proofs.SignedLemmas.{signed_arith}
 
-pub some_same : (a b : ℕ) → Some a ≡ Some b → a ≡ b
-some_same a b is = cc
-
 pub clock_number : (ms hour minute second hundreds rest : ℕ) → hour ≡ ms / 3_600_000 → minute ≡ ms / 60_000 % 60 → second ≡ ms / 1_000 % 60
     → hundreds ≡ ms % 1_000 / 100 → rest ≡ ms % 1_000 % 100
     → hour * 3_600_000 + minute * 60_000 + second * 1_000 + hundreds * 100 + rest ≡ ms

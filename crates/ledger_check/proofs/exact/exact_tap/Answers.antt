@@ -5,7 +5,7 @@ use Rattle.hex.specs.Hex.{encode_lower}
 use Rattle.fare_texts.specs.Moments.{IsMomentText}
 use Rattle.tap_views.specs.Token.{bytes_of}
 use Rattle.ledger_check.proofs.FrontLemmas.{front_same, tap_front}
-use Rattle.ledger_check.proofs.MomentLemmas.{some_same}
+use Rattle.std.proofs.lemmas.Option.{same_Some}
 use Rattle.ledger_check.proofs.exact.exact_tap.Goals as goal
 
 pub returns-in_default : goal.returns-in_default
@@ -33,7 +33,7 @@ returns-then-not-is_exact c = λ token validator moment rest is.
     let same = front_same c.args.line.now _ _ _ _ _ _ _ _ _ _ c.in-Some.ensures.some.1 (tap_front c.args.line.now token validator moment rest is) in
     let text = subst (IsMomentText moment) (sym same.moment_is) is.is in
     let read : Some c.in-Some-read_moment.moment ≡ Some moment = c.in-Some-read_moment.ensures.found moment is.early text in
-    let number = some_same c.in-Some-read_moment.moment moment read in
+    let number = same_Some c.in-Some-read_moment.moment moment read in
     let yes : c.in_ok-is_exact.is_exact ≡ true = c.in_ok-is_exact.ensures.1 (subst (λ (m : ℕ). IsMomentText m c.in-Some.front.moment.now) (sym number) text) in
     let no : c.in_ok-is_exact.is_exact ≡ false = first_of (cc, search (rules, tests)) in
     absurd (false≢true (sym no ∙ yes))

@@ -1,6 +1,7 @@
 use Rattle.std.proofs.Common.{◌≡◌, ◌+◌, ◌*◌, ◌/◌, ◌%◌, ◌<◌, ℕ, List, Some, length, ap, sym, ◌∙◌, arith}
 use Rattle.ledger_check.proofs.FieldLemmas.{clock_length, moment_length, moment_parts}
-use Rattle.ledger_check.proofs.MomentLemmas.{moment_number, some_same}
+use Rattle.std.proofs.lemmas.Option.{same_Some}
+use Rattle.ledger_check.proofs.MomentLemmas.{moment_number}
 use Rattle.ledger_check.proofs.moment.read_any_moment.Goals as goal
 
 pub returns-in_default : goal.returns-in_default
@@ -41,5 +42,5 @@ returns c = record {
       let parts = moment_parts moment c.args.text.now small is in
       let day = c.in_ok-day.ensures.found parts.date (moment / 86_400_000) parts.day (c.in-Some.ensures.cases.0 ∙ parts.date_is) in
       let ms = c.in_ok-ms.ensures.found (moment % 86_400_000) (omega arith) (c.in-Some-whole_clock.ensures.some ∙ c.in-Some.ensures.cases.1 ∙ parts.clock_is) in
-      ap Some (moment_number moment c.in_ok-day.day c.in_ok-ms.ms (some_same _ _ day) (some_same _ _ ms));
+      ap Some (moment_number moment c.in_ok-day.day c.in_ok-ms.ms (same_Some _ _ day) (same_Some _ _ ms));
 }
