@@ -1,5 +1,5 @@
 -- The fault that the meaning of a tree tells is that of the first row that holds.
-use Rattle.std.proofs.Common.{◌≡◌, ⊎_elim, ℕ, zero, suc, ◌+◌, ◌*◌, ◌&&◌, ◌||◌, not, Bool, true}
+use Rattle.std.proofs.Common.{◌≡◌, ℕ, zero, suc, ◌+◌, ◌*◌, ◌&&◌, ◌||◌, not, Bool, true}
 use Rattle.std.proofs.Common.{false, List, [], ◌∷◌, ◌++◌, Option, Some, None, Ok, Err, cond}
 use Rattle.std.proofs.Common.{option_map, refl, sym, ap, ◌∙◌, subst, arith, codes, append_assoc}
 use Rattle.std.proofs.lemmas.Bool.{false≢true}
@@ -7,22 +7,27 @@ use Rattle.std.proofs.lemmas.List.Folds.{find-append}
 use Rattle.std.specs.Cmp.Lexicographic.{slice_cmp}
 use Rattle.std.specs.List.{cons_option, find, list_any}
 use Rattle.std.specs.Option.{is_none, is_some, ok_or, option_or}
-use Rattle.std.specs.Ordering.{is_eq, nat_cmp}
+use Rattle.std.specs.Ordering.{is_eq, match_ordering, nat_cmp}
+use Rattle.std.specs.declared.cmp.Ordering.TheVariants.{Less, Equal, Greater}
+use Rattle.std.proofs.lemmas.Map.Text.{is_eq-slice_cmp}
+use Rattle.std.proofs.Common.{Ordering}
 use Rattle.std.specs.Prelude.{pos, int_le, position, unsigned_abs, if◌then◌else◌}
 use Rattle.std.specs.Result.{result_err}
 use Rattle.toml.specs.Data.{Data, Items, no_items, item, Members, no_members, member, string}
 use Rattle.toml.specs.Data.{integer, array, table, get_member, as_str, as_integer, as_array}
 use Rattle.toml.specs.Data.{as_table}
 use Rattle.fare_table.proofs.PartLemmas.{bind_ok}
-use Rattle.fare_table.proofs.PayLemmas.{by_some, by_table, member-found, terms_by}
-use Rattle.fare_table.specs.Classes.{ceiling_of, checked, class_in, class_named, class_of}
-use Rattle.fare_table.specs.Classes.{classes_of, default_of, is_empty}
+use Rattle.fare_table.proofs.PayLemmas.{by_table, by_tables, if_else, same_ok, terms_by}
+use Rattle.fare_table.proofs.ElementLemmas.{if_ok}
+use Rattle.fare_table.specs.Classes.{ceiling_of, class_named, class_of, classes_from, classes_of}
+use Rattle.fare_table.specs.Classes.{default_of, is_empty, place_of, plain_class}
+use Rattle.fare_table.specs.declared.class.Class.{Class}
 use Rattle.fare_table.specs.Faults.{FaultRow, Where, top, class, a_row, are_pairs, are_texts, class_rows}
 use Rattle.fare_table.specs.Faults.{classes_in, first_row, holds, is_from, is_kind, is_mode}
 use Rattle.fare_table.specs.Faults.{is_in_bounds, is_wrong, items_of, member_at, members_at}
 use Rattle.fare_table.specs.Faults.{members_of, mode_names, needed_rows, pairs, holds_of_some}
 use Rattle.fare_table.specs.Faults.{rows_of_class, texts, value_at, string_of}
-use Rattle.fare_table.specs.Members.{hold_tables, number_at, number_in, of_kind, within}
+use Rattle.fare_table.specs.Members.{hold_tables, table_at, number_at, number_in, of_kind, within}
 use Rattle.fare_table.specs.Modes.{are_mode_names, modes_of, same_name, strings_from}
 use Rattle.fare_table.specs.OrFault.{OrFault, ◌>>=◌}
 use Rattle.fare_table.specs.Transfers.{name_pair, pairs_from, transfers_from, transfers_of}
@@ -345,113 +350,144 @@ class-told tree n =
     (λ rides is'. ceiling_tells (rides * fare) fare rides (value_at at the_key.Ceiling tree)
     ∙ sym (told_two tree at (Kind the_key.Ceiling) (Range the_key.Ceiling))))
 
-checked-told : (tree : Members) (n : ℕ) (part : Members) → Stand (classes_in tree) n part
-    → hold_tables part ≡ true → fault_in (checked part) ≡ first_row tree (class_rows n part)
-checked-told tree n no_members stand tables = refl
-checked-told tree n (member name (table inner) more) stand tables =
+pub list-from-told : (tree : Members) (n : ℕ) (earlier : List Class) (part : Members)
+    → Stand (classes_in tree) n part → hold_tables part ≡ true
+    → fault_in (classes_from earlier part) ≡ first_row tree (class_rows n part)
+list-from-told tree n earlier no_members stand tables = refl
+list-from-told tree n earlier (member name (table inner) more) stand tables =
     let here : members_at (class n) tree ≡ inner =
     ap (λ (o : Option (List ℕ × Data)).
     members_of (option_map (λ (one : List ℕ × Data). one.1) o))
     (stand_here (classes_in tree) n name (table inner) more stand) in
-    steps tree (class_of inner) (λ terms. checked more) (rows_of_class n) (class_rows (suc n) more)
+    plainly (class_of inner) (λ one. classes_from (earlier ++ one ∷ []) more)
+    ∙ steps tree (class_of inner) (λ terms. classes_from (earlier ++ plain_class terms ∷ []) more)
+    (rows_of_class n) (class_rows (suc n) more)
     (ap (λ (m : Members). fault_in (class_of m)) (sym here) ∙ class-told tree n)
-    (λ terms is. checked-told tree (suc n) more
+    (λ terms is. list-from-told tree (suc n) (earlier ++ plain_class terms ∷ []) more
     (stand_next (classes_in tree) n name (table inner) more stand) tables)
-checked-told tree n (member name _ more) stand tables = absurd (false≢true tables)
+  where
+    plainly : (o : OrFault Terms) (f : Class → OrFault (List Class))
+        → fault_in ((o >>= (λ terms. Ok (plain_class terms))) >>= f)
+        ≡ fault_in (o >>= (λ terms. f (plain_class terms)))
+    plainly (Ok terms) f = refl
+    plainly (Err e) f = refl
+list-from-told tree n earlier (member name _ more) stand tables = absurd (false≢true tables)
+
+pub list-told : (tree part : Members) (earlier : List Class) → classes_in tree ≡ part
+    → hold_tables part ≡ true
+    → fault_in (classes_from earlier part) ≡ first_row tree (class_rows 0 (classes_in tree))
+list-told tree part earlier same tables =
+    list-from-told tree 0 earlier part
+    (subst (λ (m : Members). Stand (classes_in tree) 0 m) same (stand_all (classes_in tree))) tables
+    ∙ ap (λ (m : Members). first_row tree (class_rows 0 m)) (sym same)
 
 class_need : Option Data → Option TableFault
 class_need o = needs o (is_kind the_key.Classes) (is_in_bounds the_key.Classes no_members)
     the_key.Classes
 
-empty_if : (b : Bool) (inner : Members) (rest : Option TableFault) → fault_in (checked inner) ≡ rest
-    → fault_in ((if b then Err (Range the_key.Classes) else Ok inner) >>= by_some)
-    ≡ option_or (cond (not (not b)) (Some (Range the_key.Classes)) None) rest
-empty_if true inner rest same = refl
-empty_if false inner rest same = done (checked inner) (λ sound. inner) ∙ same
+empty_if : (b : Bool) (inner : Members)
+    → fault_in (if b then Err (Range the_key.Classes) else Ok inner)
+    ≡ cond (not (not b)) (Some (Range the_key.Classes)) None
+empty_if true inner = refl
+empty_if false inner = refl
 
-tables_if : (b : Bool) (tree inner : Members) (rest : Option TableFault)
-    → (b ≡ true → fault_in (checked inner) ≡ rest)
-    → fault_in ((if b then Ok inner else Err (Kind the_key.Classes))
-    >>= (λ tables. (if is_empty tables then Err (Range the_key.Classes) else Ok tables)
-    >>= by_some))
-    ≡ option_or (cond (not b) (Some (Kind the_key.Classes))
-    (cond (not (not (is_empty inner))) (Some (Range the_key.Classes)) None)) rest
-tables_if true tree inner rest same = empty_if (is_empty inner) inner rest (same refl)
-tables_if false tree inner rest same = refl
+tables_if : (b : Bool) (tree inner : Members)
+    → fault_in ((if b then Ok inner else Err (Kind the_key.Classes)) >>= by_tables tree)
+    ≡ cond (not b) (Some (Kind the_key.Classes))
+    (cond (not (not (is_empty inner))) (Some (Range the_key.Classes)) None)
+tables_if true tree inner = empty_if (is_empty inner) inner
+tables_if false tree inner = refl
 
-classes_steps : (o : Option Data) (tree : Members) (rest : Option TableFault)
-    → ((inner : Members) → o ≡ Some (table inner) → hold_tables inner ≡ true
-    → fault_in (checked inner) ≡ rest)
+classes_steps : (o : Option Data) (tree : Members)
     → fault_in ((ok_or o (Missing the_key.Classes)
-    >>= (λ value. of_kind the_key.Classes (as_table value))) >>= by_table tree)
-    ≡ option_or (class_need o) rest
+    >>= (λ value. of_kind the_key.Classes (as_table value))) >>= by_table tree) ≡ class_need o
 unfolding class_need
-classes_steps None tree rest same = refl
-classes_steps (Some (table inner)) tree rest same =
-    tables_if (hold_tables inner) tree inner rest (λ tables. same inner refl tables)
-classes_steps (Some _) tree rest same = refl
+classes_steps None tree = refl
+classes_steps (Some (table inner)) tree = tables_if (hold_tables inner) tree inner
+classes_steps (Some _) tree = refl
 
 pub classes-told : (tree : Members)
-    → fault_in (classes_of tree)
-    ≡ first_row tree (needed_rows top the_key.Classes ++ class_rows 0 (classes_in tree))
+    → fault_in (classes_of tree) ≡ first_row tree (needed_rows top the_key.Classes)
 unfolding classes_of class_need
 classes-told tree =
     classes_steps (get_member (codes "classes") tree) tree
-    (first_row tree (class_rows 0 (classes_in tree))) (λ inner is tables.
-    let same : classes_in tree ≡ inner = ap members_of is in
-    let stand : Stand (classes_in tree) 0 inner =
-    subst (λ (m : Members). Stand (classes_in tree) 0 m) same (stand_all (classes_in tree)) in
-    checked-told tree 0 inner stand tables
-    ∙ ap (λ (m : Members). first_row tree (class_rows 0 m)) (sym same))
-    ∙ ap (λ (x : Option TableFault). option_or x (first_row tree (class_rows 0 (classes_in tree))))
-    (sym (told_needed tree top the_key.Classes))
-    ∙ sym (told_append tree (needed_rows top the_key.Classes) (class_rows 0 (classes_in tree)))
+    ∙ sym (told_needed tree top the_key.Classes)
+
+-- the classes that are read are all tables
+pub classes_tables : (tree classes : Members) → classes_of tree ≡ Ok classes
+    → hold_tables classes ≡ true
+unfolding classes_of
+classes_tables tree classes is =
+    let read = bind_ok (table_at (codes "classes") the_key.Classes tree) (by_table tree) classes
+    is in
+    let tables = bind_ok (if hold_tables read.0 then Ok read.0 else Err (Kind the_key.Classes))
+    (by_tables tree) classes read.2 in
+    let one : read.0 ≡ tables.0 =
+    same_ok read.0 tables.0
+    (if_ok (hold_tables read.0) (Ok read.0) (Kind the_key.Classes) tables.0 tables.1) in
+    let two : tables.0 ≡ classes =
+    same_ok tables.0 classes
+    (if_else (is_empty tables.0) (Ok tables.0) (Range the_key.Classes) classes tables.2) in
+    subst (λ (m : Members). hold_tables m ≡ true) (one ∙ two)
+    (held (hold_tables read.0) read.0 tables.0 tables.1)
+  where
+    held : (b : Bool) (m n : Members)
+        → (if b then Ok m else Err (Kind the_key.Classes)) ≡ Ok n → b ≡ true
+    held true m n is = refl
+    held false m n is = absurd (cc)
 
 -- ---- the default class
--- a class that was found sound has no fault where it is looked up
-named_fine : (part : Members) (name : List ℕ) (value : Data) → checked part ≡ Ok tt
-    → get_member name part ≡ Some value → fault_in (class_in value) ≡ None
-named_fine no_members name value sound at = absurd (cc)
-named_fine (member first one more) name value sound at =
-    let terms = bind_ok (class_in one) (λ terms. checked more) tt sound in
-    ⊎_elim
-    (λ (same : (name ≡ first) × (one ≡ value)).
-    subst (λ (v : Data). fault_in (class_in v) ≡ None) same.1
-    (ap (λ (x : OrFault Terms). fault_in x) terms.1))
-    (λ (later : (is_eq (slice_cmp nat_cmp name first) ≡ false)
-    × (get_member name more ≡ Some value)). named_fine more name value terms.2 later.1)
-    (member-found name first one value more at)
+-- a class has a place where its name has a value
+some-place : (name : List ℕ) (classes : Members)
+    → is_none (place_of name classes) ≡ is_none (get_member name classes)
+some-place name no_members = refl
+some-place name (member key value more) =
+    let same : same_name name key ≡ is_eq (slice_cmp nat_cmp name key) =
+    sym (is_eq-slice_cmp name key) in
+    rw same (placed (slice_cmp nat_cmp name key) (place_of name more) (get_member name more) value
+    (some-place name more))
+  where
+    none_of : (o : Option ℕ) → is_none (option_map suc o) ≡ is_none o
+    none_of None = refl
+    none_of (Some n) = refl
 
-found_fine : (o : Option Data)
-    → ((value : Data) → o ≡ Some value → fault_in (class_in value) ≡ None)
-    → fault_in (ok_or o Rider >>= class_in) ≡ cond (is_none o) (Some Rider) None
-found_fine None fine = refl
-found_fine (Some value) fine = fine value refl
+    placed : (order : Ordering) (place : Option ℕ) (found : Option Data) (value : Data)
+        → is_none place ≡ is_none found
+        → is_none (if is_eq order then Some 0 else option_map suc place)
+        ≡ is_none (match_ordering order found (Some value) found)
+    placed Less place found value same = none_of place ∙ same
+    placed Equal place found value same = refl
+    placed Greater place found value same = none_of place ∙ same
 
-pub named-told : (classes : Members) (name : List ℕ) → checked classes ≡ Ok tt
+place_tells : (o : Option ℕ) → fault_in (ok_or o Rider) ≡ cond (is_none o) (Some Rider) None
+place_tells None = refl
+place_tells (Some place) = refl
+
+pub named-told : (classes : Members) (name : List ℕ)
     → fault_in (class_named classes name)
     ≡ cond (is_none (get_member name classes)) (Some Rider) None
-named-told classes name sound =
-    found_fine (get_member name classes) (λ value at. named_fine classes name value sound at)
+named-told classes name =
+    place_tells (place_of name classes)
+    ∙ ap (λ b. cond b (Some Rider) None) (some-place name classes)
 
-default_steps : (o : Option Data) (classes : Members) → checked classes ≡ Ok tt
+default_steps : (o : Option Data) (classes : Members)
     → fault_in ((ok_or o (Missing the_key.DefaultClass)
     >>= (λ value. of_kind the_key.DefaultClass (as_str value)))
     >>= (λ name. class_named classes name))
     ≡ cond (is_none o) (Some (Missing the_key.DefaultClass))
     (cond (fails (is_kind the_key.DefaultClass) o) (Some (Kind the_key.DefaultClass))
     (cond (is_none (get_member (string_of o) classes)) (Some Rider) None))
-default_steps None classes sound = refl
-default_steps (Some (string s)) classes sound = named-told classes s sound
-default_steps (Some _) classes sound = refl
+default_steps None classes = refl
+default_steps (Some (string s)) classes = named-told classes s
+default_steps (Some _) classes = refl
 
-pub default-told : (tree classes : Members) → classes_in tree ≡ classes → checked classes ≡ Ok tt
+pub default-told : (tree classes : Members) → classes_in tree ≡ classes
     → fault_in (default_of classes tree)
     ≡ first_row tree (a_row top (Missing the_key.DefaultClass)
     ∷ a_row top (Kind the_key.DefaultClass) ∷ a_row top Rider ∷ [])
 unfolding default_of
-default-told tree classes same sound =
-    default_steps o classes sound
+default-told tree classes same =
+    default_steps o classes
     ∙ ap (λ (m : Members).
     cond (is_none o) (Some (Missing the_key.DefaultClass))
     (cond (fails (is_kind the_key.DefaultClass) o) (Some (Kind the_key.DefaultClass))

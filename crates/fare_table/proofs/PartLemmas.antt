@@ -1,7 +1,7 @@
 -- Rules that were read, taken apart into what each key of the text gives.
-use Rattle.std.proofs.Common.{◌≡◌, ℕ, List, Option, Ok, Err, refl, subst}
+use Rattle.std.proofs.Common.{◌≡◌, ℕ, List, [], Option, Ok, Err, refl, subst}
 use Rattle.toml.specs.Data.{Members}
-use Rattle.fare_table.specs.Classes.{classes_of, default_of}
+use Rattle.fare_table.specs.Classes.{classes_from, classes_of, default_of}
 use Rattle.fare_table.specs.Modes.{modes_of}
 use Rattle.fare_table.specs.OrFault.{OrFault, ◌>>=◌}
 use Rattle.fare_table.specs.Riders.{riders_of}
@@ -9,7 +9,7 @@ use Rattle.fare_table.specs.TableMeaning.{TableMeaning, meaning_of_tree}
 use Rattle.fare_table.specs.Transfers.{transfers_of}
 use Rattle.fare_table.specs.Validators.{ranges_of}
 use Rattle.fare_table.specs.Zone.{zone_of}
-use Rattle.fare_table.specs.declared.terms.Terms.{Terms}
+use Rattle.fare_table.specs.declared.class.Class.{Class}
 use Rattle.fare_table.specs.declared.validators.RangeRest.{RangeRest}
 
 -- two steps that came to an end: the first gave a value, and the second went on with it
@@ -23,43 +23,50 @@ pub record AreParts (tree : Members) (meaning : TableMeaning) : Type 0 where
   pub modes : modes_of tree ≡ Ok meaning.modes
   pub transfers : transfers_of meaning.modes tree ≡ Ok meaning.transfers
   pub table : Members
-  pub classes : classes_of tree ≡ Ok table
+  pub members : classes_of tree ≡ Ok table
+  pub classes : classes_from [] table ≡ Ok meaning.classes
   pub standard : default_of table tree ≡ Ok meaning.standard
   pub ranges : ranges_of meaning.modes tree ≡ Ok meaning.ranges
   pub riders : riders_of table tree ≡ Ok meaning.riders
   pub zone : zone_of tree ≡ Ok meaning.zone
 
-abbrev by_zone : Members → List (List ℕ) → List (ℕ × ℕ) → Terms → List (ℕ × RangeRest)
-    → List (List ℕ × Terms) → Option (List ℕ) → OrFault TableMeaning
-by_zone tree modes transfers standard ranges riders zone = Ok (record {
+abbrev by_zone : Members → List (List ℕ) → List (ℕ × ℕ) → List Class → ℕ → List (ℕ × RangeRest)
+    → List (List ℕ × ℕ) → Option (List ℕ) → OrFault TableMeaning
+by_zone tree modes transfers classes standard ranges riders zone = Ok (record {
   modes = modes;
   transfers = transfers;
+  classes = classes;
   standard = standard;
   ranges = ranges;
   riders = riders;
   zone = zone;
 })
 
-abbrev by_riders : Members → List (List ℕ) → List (ℕ × ℕ) → Terms → List (ℕ × RangeRest)
-    → List (List ℕ × Terms) → OrFault TableMeaning
-by_riders tree modes transfers standard ranges riders =
-    zone_of tree >>= by_zone tree modes transfers standard ranges riders
+abbrev by_riders : Members → List (List ℕ) → List (ℕ × ℕ) → List Class → ℕ → List (ℕ × RangeRest)
+    → List (List ℕ × ℕ) → OrFault TableMeaning
+by_riders tree modes transfers classes standard ranges riders =
+    zone_of tree >>= by_zone tree modes transfers classes standard ranges riders
 
-abbrev by_ranges : Members → List (List ℕ) → List (ℕ × ℕ) → Members → Terms → List (ℕ × RangeRest)
+abbrev by_ranges : Members → List (List ℕ) → List (ℕ × ℕ) → Members → List Class → ℕ
+    → List (ℕ × RangeRest) → OrFault TableMeaning
+by_ranges tree modes transfers table classes standard ranges =
+    riders_of table tree >>= by_riders tree modes transfers classes standard ranges
+
+abbrev by_default : Members → List (List ℕ) → List (ℕ × ℕ) → Members → List Class → ℕ
     → OrFault TableMeaning
-by_ranges tree modes transfers classes standard ranges =
-    riders_of classes tree >>= by_riders tree modes transfers standard ranges
+by_default tree modes transfers table classes standard =
+    ranges_of modes tree >>= by_ranges tree modes transfers table classes standard
 
-abbrev by_default : Members → List (List ℕ) → List (ℕ × ℕ) → Members → Terms → OrFault TableMeaning
-by_default tree modes transfers classes standard =
-    ranges_of modes tree >>= by_ranges tree modes transfers classes standard
+abbrev by_classes : Members → List (List ℕ) → List (ℕ × ℕ) → Members → List Class
+    → OrFault TableMeaning
+by_classes tree modes transfers table classes =
+    default_of table tree >>= by_default tree modes transfers table classes
 
-abbrev by_classes : Members → List (List ℕ) → List (ℕ × ℕ) → Members → OrFault TableMeaning
-by_classes tree modes transfers classes =
-    default_of classes tree >>= by_default tree modes transfers classes
+abbrev by_table : Members → List (List ℕ) → List (ℕ × ℕ) → Members → OrFault TableMeaning
+by_table tree modes transfers table = classes_from [] table >>= by_classes tree modes transfers table
 
 abbrev by_transfers : Members → List (List ℕ) → List (ℕ × ℕ) → OrFault TableMeaning
-by_transfers tree modes transfers = classes_of tree >>= by_classes tree modes transfers
+by_transfers tree modes transfers = classes_of tree >>= by_table tree modes transfers
 
 abbrev by_modes : Members → List (List ℕ) → OrFault TableMeaning
 by_modes tree modes = transfers_of modes tree >>= by_transfers tree modes
@@ -81,19 +88,22 @@ unfolding meaning_of_tree
 parts tree meaning is =
     let modes = bind_ok (modes_of tree) (by_modes tree) meaning is in
     let transfers = bind_ok (transfers_of modes.0 tree) (by_transfers tree modes.0) meaning modes.2 in
-    let classes = bind_ok (classes_of tree) (by_classes tree modes.0 transfers.0) meaning
+    let table = bind_ok (classes_of tree) (by_table tree modes.0 transfers.0) meaning
     transfers.2 in
-    let standard = bind_ok (default_of classes.0 tree)
-    (by_default tree modes.0 transfers.0 classes.0) meaning classes.2 in
+    let classes = bind_ok (classes_from [] table.0) (by_classes tree modes.0 transfers.0 table.0)
+    meaning table.2 in
+    let standard = bind_ok (default_of table.0 tree)
+    (by_default tree modes.0 transfers.0 table.0 classes.0) meaning classes.2 in
     let ranges = bind_ok (ranges_of modes.0 tree)
-    (by_ranges tree modes.0 transfers.0 classes.0 standard.0) meaning standard.2 in
-    let riders = bind_ok (riders_of classes.0 tree)
-    (by_riders tree modes.0 transfers.0 standard.0 ranges.0) meaning ranges.2 in
+    (by_ranges tree modes.0 transfers.0 table.0 classes.0 standard.0) meaning standard.2 in
+    let riders = bind_ok (riders_of table.0 tree)
+    (by_riders tree modes.0 transfers.0 classes.0 standard.0 ranges.0) meaning ranges.2 in
     let zone = bind_ok (zone_of tree)
-    (by_zone tree modes.0 transfers.0 standard.0 ranges.0 riders.0) meaning riders.2 in
+    (by_zone tree modes.0 transfers.0 classes.0 standard.0 ranges.0 riders.0) meaning riders.2 in
     let whole : TableMeaning = record {
       modes = modes.0;
       transfers = transfers.0;
+      classes = classes.0;
       standard = standard.0;
       ranges = ranges.0;
       riders = riders.0;
@@ -103,7 +113,8 @@ parts tree meaning is =
     (record {
       modes = modes.1;
       transfers = transfers.1;
-      table = classes.0;
+      table = table.0;
+      members = table.1;
       classes = classes.1;
       standard = standard.1;
       ranges = ranges.1;

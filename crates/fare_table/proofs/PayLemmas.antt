@@ -1,7 +1,7 @@
 -- What a token pays is what the text's class of the key that names it says, else the default class.
 use Rattle.std.proofs.Common.{◌≡◌, ◌⊎◌, ◌↔◌, ℕ, ◌*◌, Bool, true, false, List, [], ◌∷◌, Option, Some}
 use Rattle.std.proofs.Common.{None, Ok, Err, cond, refl, sym, ap, ◌∙◌, subst, inl, inr, ⊎_elim}
-use Rattle.std.proofs.Common.{codes, Ordering, Less, Equal, Greater}
+use Rattle.std.proofs.Common.{codes, Ordering, Less, Equal, Greater, zero-add}
 use Rattle.std.proofs.lemmas.Bool.{cases_Bool, false≢true}
 use Rattle.std.proofs.lemmas.Map.Lookups.{exact_bytes}
 use Rattle.std.specs.BTreeMap.{insert_entry, is_at}
@@ -17,9 +17,15 @@ use Rattle.fare_table.proofs.ElementLemmas.{if_ok}
 use Rattle.fare_table.proofs.PartLemmas.{bind_ok, parts}
 use Rattle.fare_table.proofs.ReadLemmas.{is_number, is_table, is_text, number-read, table-read}
 use Rattle.fare_table.proofs.ReadLemmas.{text-read}
-use Rattle.fare_table.specs.Classes.{ceiling_of, checked, class_in, class_named, class_of}
-use Rattle.fare_table.specs.Classes.{classes_of, default_of, is_empty}
-use Rattle.fare_table.specs.Fares.{Fares, terms_at}
+use Rattle.fare_table.specs.Classes.{ceiling_of, class_in, class_named, class_of, classes_from}
+use Rattle.fare_table.specs.Classes.{classes_of, default_of, is_empty, place_of, plain_class}
+use Rattle.fare_table.specs.Modes.{same_name}
+use Rattle.fare_table.specs.declared.class.Class.{Class}
+use Rattle.std.specs.Prelude.{slice_get, slice_index_or}
+use Rattle.std.proofs.lemmas.Map.Text.{is_eq-slice_cmp}
+use Rattle.fare_table.specs.Fares.{Fares, no_class, terms_at}
+use Rattle.std.proofs.lemmas.Option.{get_or_from_slice_get}
+use Rattle.std.proofs.Common.{◌++◌, ◌+◌, length, suc, zero, option_map, arith}
 use Rattle.fare_table.specs.Members.{hold_strings, hold_tables, number_at, of_kind, table_at}
 use Rattle.fare_table.specs.Members.{text_at}
 use Rattle.fare_table.specs.OrFault.{OrFault, ◌>>=◌}
@@ -87,7 +93,7 @@ member-found key first value found more is =
     (sym (choice (slice_cmp nat_cmp key first) (get_member key more) value) ∙ is)
 
 -- ---- riders, and one more
-abbrev pub Named : List ℕ → List (List ℕ × Terms) → Option Terms
+abbrev pub Named : List ℕ → List (List ℕ × ℕ) → Option ℕ
 Named token riders = lookup (is_at (slice_cmp nat_cmp token)) riders
 
 swap : {A : Type 0} (a b : Bool) (x y z : A) → (a ≡ true → b ≡ false)
@@ -96,8 +102,8 @@ swap true true x y z apart = absurd (false≢true (sym (apart refl)))
 swap true false x y z apart = refl
 swap false b x y z apart = refl
 
-one_of : (r : Ordering) (token other : List ℕ) (terms : Terms) (first : List ℕ
-    × Terms) (more : List (List ℕ × Terms)) → slice_cmp nat_cmp token first.0 ≡ r
+one_of : (r : Ordering) (token other : List ℕ) (terms : ℕ) (first : List ℕ
+    × ℕ) (more : List (List ℕ × ℕ)) → slice_cmp nat_cmp token first.0 ≡ r
     → is_some (cond (is_eq r) (Some first.1) (Named token more)) ≡ false
     → (is_some (Named token more) ≡ false
     → Named other (insert_entry (slice_cmp nat_cmp) more token terms)
@@ -122,7 +128,7 @@ one_of Greater token other terms first more is free ih =
     ])
 
 -- one more rider of another token has its terms, and the others keep theirs
-pub named_with : (token other : List ℕ) (terms : Terms) (riders : List (List ℕ × Terms))
+pub named_with : (token other : List ℕ) (terms : ℕ) (riders : List (List ℕ × ℕ))
     → is_rider riders token ≡ false
     → Named other (insert_entry (slice_cmp nat_cmp) riders token terms)
     ≡ cond (is_eq (slice_cmp nat_cmp other token)) (Some terms) (Named other riders)
@@ -131,53 +137,53 @@ named_with token other terms (first ∷ more) free =
     one_of (slice_cmp nat_cmp token first.0) token other terms first more refl free
     (named_with token other terms more)
 
-pub record AddsRider (earlier : List (List ℕ × Terms)) (token : List ℕ) (terms : Terms)
-    (riders : List (List ℕ × Terms)) : Type 0 where
+pub record AddsRider (earlier : List (List ℕ × ℕ)) (token : List ℕ) (terms : ℕ)
+    (riders : List (List ℕ × ℕ)) : Type 0 where
   pub free : is_rider earlier token ≡ false
   pub one : riders ≡ insert_entry (slice_cmp nat_cmp) earlier token terms
 
-added_if : (b : Bool) (earlier riders : List (List ℕ × Terms)) (token : List ℕ) (terms : Terms)
+added_if : (b : Bool) (earlier riders : List (List ℕ × ℕ)) (token : List ℕ) (terms : ℕ)
     → is_rider earlier token ≡ b
     → (if b then Err Rider else Ok (insert_entry (slice_cmp nat_cmp) earlier token terms))
     ≡ Ok riders → AddsRider earlier token terms riders
 added_if true earlier riders token terms is at = absurd (cc)
 added_if false earlier riders token terms is at = record { free = is; one = cc }
 
-pub adds_rider : (earlier riders : List (List ℕ × Terms)) (token : List ℕ) (terms : Terms)
+pub adds_rider : (earlier riders : List (List ℕ × ℕ)) (token : List ℕ) (terms : ℕ)
     → with_rider earlier token terms ≡ Ok riders → AddsRider earlier token terms riders
 adds_rider earlier riders token terms is =
     added_if (is_rider earlier token) earlier riders token terms refl is
 
 -- what a key of the riders reads as
 pub record ReadsRider (classes : Members) (key : List ℕ) (value : Data) (rider : List ℕ
-    × Terms) : Type 0 where
+    × ℕ) : Type 0 where
   pub token : token_of_digits key ≡ Ok rider.0
   pub class : List ℕ
   pub is : value ≡ string class
   pub terms : class_named classes class ≡ Ok rider.1
 
-abbrev pub by_class : List ℕ → Terms → OrFault (List ℕ × Terms)
+abbrev pub by_class : List ℕ → ℕ → OrFault (List ℕ × ℕ)
 by_class token terms = Ok (token, terms)
 
-abbrev by_text : Members → List ℕ → List ℕ → OrFault (List ℕ × Terms)
+abbrev by_text : Members → List ℕ → List ℕ → OrFault (List ℕ × ℕ)
 by_text classes token name = class_named classes name >>= by_class token
 
-abbrev by_token : Members → Data → List ℕ → OrFault (List ℕ × Terms)
+abbrev by_token : Members → Data → List ℕ → OrFault (List ℕ × ℕ)
 by_token classes value token = of_kind the_key.Riders (as_str value) >>= by_text classes token
 
-same_rider : (token : List ℕ) (terms : Terms) (rider : List ℕ × Terms)
+same_rider : (token : List ℕ) (terms : ℕ) (rider : List ℕ × ℕ)
     → by_class token terms ≡ Ok rider → (token ≡ rider.0) × (terms ≡ rider.1)
 same_rider token terms rider is = (ap (token_in token) is, ap (terms_in terms) is)
   where
-    token_in : List ℕ → OrFault (List ℕ × Terms) → List ℕ
+    token_in : List ℕ → OrFault (List ℕ × ℕ) → List ℕ
     token_in d (Ok r) = r.0
     token_in d (Err e) = d
 
-    terms_in : Terms → OrFault (List ℕ × Terms) → Terms
+    terms_in : ℕ → OrFault (List ℕ × ℕ) → ℕ
     terms_in d (Ok r) = r.1
     terms_in d (Err e) = d
 
-pub reads_rider : (classes : Members) (key : List ℕ) (value : Data) (rider : List ℕ × Terms)
+pub reads_rider : (classes : Members) (key : List ℕ) (value : Data) (rider : List ℕ × ℕ)
     → rider_of classes key value ≡ Ok rider → ReadsRider classes key value rider
 reads_rider classes key value rider is =
     let token = bind_ok (token_of_digits key) (by_token classes value) rider is in
@@ -192,24 +198,24 @@ reads_rider classes key value rider is =
       terms = terms.1 ∙ ap (λ t. Ok t) same.1;
     }
 
-pub record StepsRider (classes : Members) (earlier : List (List ℕ × Terms)) (key : List ℕ)
-    (value : Data) (more : Members) (riders : List (List ℕ × Terms)) : Type 0 where
-  pub rider : List ℕ × Terms
+pub record StepsRider (classes : Members) (earlier : List (List ℕ × ℕ)) (key : List ℕ)
+    (value : Data) (more : Members) (riders : List (List ℕ × ℕ)) : Type 0 where
+  pub rider : List ℕ × ℕ
   pub read : ReadsRider classes key value rider
-  pub next : List (List ℕ × Terms)
+  pub next : List (List ℕ × ℕ)
   pub free : is_rider earlier rider.0 ≡ false
   pub found : (token : List ℕ)
       → Named token next ≡ cond (is_eq (slice_cmp nat_cmp token rider.0)) (Some rider.1)
       (Named token earlier)
   pub rest : riders_from classes next more ≡ Ok riders
 
-abbrev pub after_rider : Members → List (List ℕ × Terms) → Members → List ℕ × Terms
-    → OrFault (List (List ℕ × Terms))
+abbrev pub after_rider : Members → List (List ℕ × ℕ) → Members → List ℕ × ℕ
+    → OrFault (List (List ℕ × ℕ))
 after_rider classes earlier more rider =
     with_rider earlier rider.0 rider.1 >>= (λ riders. riders_from classes riders more)
 
-step : (classes : Members) (earlier : List (List ℕ × Terms)) (key : List ℕ) (value : Data)
-    (more : Members) (riders : List (List ℕ × Terms))
+step : (classes : Members) (earlier : List (List ℕ × ℕ)) (key : List ℕ) (value : Data)
+    (more : Members) (riders : List (List ℕ × ℕ))
     → riders_from classes earlier (member key value more) ≡ Ok riders
     → StepsRider classes earlier key value more riders
 step classes earlier key value more riders is =
@@ -228,22 +234,22 @@ step classes earlier key value more riders is =
     }
 
 -- a rider is found by its own token
-here : (classes : Members) (earlier : List (List ℕ × Terms)) (key : List ℕ) (value : Data)
-    (more : Members) (riders : List (List ℕ × Terms))
+here : (classes : Members) (earlier : List (List ℕ × ℕ)) (key : List ℕ) (value : Data)
+    (more : Members) (riders : List (List ℕ × ℕ))
     (s : StepsRider classes earlier key value more riders) (token : List ℕ)
     → token ≡ s.rider.0 → Named token s.next ≡ Some s.rider.1
 here classes earlier key value more riders s token same =
     s.found token ∙ ap (λ b. cond b (Some s.rider.1) (Named token earlier))
     (ap (λ k. is_eq (slice_cmp nat_cmp token k)) (sym same) ∙ is_itself token)
 
-not_free : (earlier : List (List ℕ × Terms)) (token other : List ℕ) (terms : Terms)
+not_free : (earlier : List (List ℕ × ℕ)) (token other : List ℕ) (terms : ℕ)
     → is_rider earlier other ≡ false → token ≡ other → Named token earlier ≡ Some terms → ⊥
 not_free earlier token other terms free same at =
     false≢true (sym free ∙ ap (λ k. is_rider earlier k) (sym same) ∙ ap is_some at)
 
 -- an earlier rider is kept
-still : (classes : Members) (token : List ℕ) (earlier : List (List ℕ × Terms)) (text : Members)
-    (riders : List (List ℕ × Terms)) (terms : Terms) → riders_from classes earlier text ≡ Ok riders
+still : (classes : Members) (token : List ℕ) (earlier : List (List ℕ × ℕ)) (text : Members)
+    (riders : List (List ℕ × ℕ)) (terms : ℕ) → riders_from classes earlier text ≡ Ok riders
     → Named token earlier ≡ Some terms → Named token riders ≡ Some terms
 still classes token earlier no_members riders terms is at = let same : earlier ≡ riders = cc in
     ap (Named token) (sym same) ∙ at
@@ -266,10 +272,10 @@ same_class : (value : Data) (class other : List ℕ) → value ≡ string class 
 same_class value class other one two = let both : string class ≡ string other = sym one ∙ two in cc
 
 -- the terms of the class of a key that names the token are found
-pub there : (classes : Members) (token : List ℕ) (earlier : List (List ℕ × Terms)) (text : Members)
-    (riders : List (List ℕ × Terms)) (key class : List ℕ)
+pub there : (classes : Members) (token : List ℕ) (earlier : List (List ℕ × ℕ)) (text : Members)
+    (riders : List (List ℕ × ℕ)) (key class : List ℕ)
     → riders_from classes earlier text ≡ Ok riders
-    → get_member key text ≡ Some (string class) → token_of_digits key ≡ Ok token → (terms : Terms)
+    → get_member key text ≡ Some (string class) → token_of_digits key ≡ Ok token → (terms : ℕ)
     × (class_named classes class ≡ Ok terms) × (Named token riders ≡ Some terms)
 there classes token earlier no_members riders key class is at named = absurd (cc)
 there classes token earlier (member first value more) riders key class is at named =
@@ -289,8 +295,8 @@ there classes token earlier (member first value more) riders key class is at nam
     (member-found key first value (string class) more at)
 
 -- no key names the token of an earlier rider
-again : (classes : Members) (token : List ℕ) (earlier : List (List ℕ × Terms)) (text : Members)
-    (riders : List (List ℕ × Terms)) (terms : Terms) (key class : List ℕ)
+again : (classes : Members) (token : List ℕ) (earlier : List (List ℕ × ℕ)) (text : Members)
+    (riders : List (List ℕ × ℕ)) (terms : ℕ) (key class : List ℕ)
     → riders_from classes earlier text ≡ Ok riders
     → Named token earlier ≡ Some terms → get_member key text ≡ Some (string class)
     → token_of_digits key ≡ Ok token → ⊥
@@ -312,15 +318,15 @@ again classes token earlier (member first value more) riders terms key class is 
     (member-found key first value (string class) more at)
 
 -- a key that names the token and the class of which it pays the terms
-pub record Came (classes : Members) (token : List ℕ) (text : Members) (terms : Terms) : Type 0 where
+pub record Came (classes : Members) (token : List ℕ) (text : Members) (terms : ℕ) : Type 0 where
   pub key : List ℕ
   pub class : List ℕ
   pub at : get_member key text ≡ Some (string class)
   pub named : token_of_digits key ≡ Ok token
   pub has : class_named classes class ≡ Ok terms
 
-came_first : (classes : Members) (token : List ℕ) (earlier : List (List ℕ × Terms)) (key : List ℕ)
-    (value : Data) (more : Members) (riders : List (List ℕ × Terms)) (terms : Terms)
+came_first : (classes : Members) (token : List ℕ) (earlier : List (List ℕ × ℕ)) (key : List ℕ)
+    (value : Data) (more : Members) (riders : List (List ℕ × ℕ)) (terms : ℕ)
     (s : StepsRider classes earlier key value more riders) (b : Bool)
     → is_eq (slice_cmp nat_cmp token s.rider.0) ≡ b
     → cond b (Some s.rider.1) (Named token earlier) ≡ Some terms
@@ -332,12 +338,12 @@ came_first classes token earlier key value more riders terms s true same is =
       class = s.read.class;
       at = member-here key value more ∙ ap (λ (v : Data). Some v) s.read.is;
       named = s.read.token ∙ ap (λ (t : List ℕ). Ok t) (sym (same_bytes token s.rider.0 same));
-      has = s.read.terms ∙ ap (λ (t : Terms). Ok t) one;
+      has = s.read.terms ∙ ap (λ (t : ℕ). Ok t) one;
     })
 came_first classes token earlier key value more riders terms s false other is = inl is
 
-came_later : (classes : Members) (token : List ℕ) (earlier : List (List ℕ × Terms)) (key : List ℕ)
-    (value : Data) (more : Members) (riders : List (List ℕ × Terms)) (terms : Terms)
+came_later : (classes : Members) (token : List ℕ) (earlier : List (List ℕ × ℕ)) (key : List ℕ)
+    (value : Data) (more : Members) (riders : List (List ℕ × ℕ)) (terms : ℕ)
     (s : StepsRider classes earlier key value more riders) (c : Came classes token more terms)
     → Came classes token (member key value more) terms
 came_later classes token earlier key value more riders terms s c =
@@ -356,8 +362,8 @@ came_later classes token earlier key value more riders terms s c =
       }
     ]
 
-came : (classes : Members) (token : List ℕ) (earlier : List (List ℕ × Terms)) (text : Members)
-    (riders : List (List ℕ × Terms)) (terms : Terms) → riders_from classes earlier text ≡ Ok riders
+came : (classes : Members) (token : List ℕ) (earlier : List (List ℕ × ℕ)) (text : Members)
+    (riders : List (List ℕ × ℕ)) (terms : ℕ) → riders_from classes earlier text ≡ Ok riders
     → Named token riders ≡ Some terms → (Named token earlier ≡ Some terms)
     ⊎ Came classes token text terms
 came classes token earlier no_members riders terms is at = let same : earlier ≡ riders = cc in
@@ -371,8 +377,8 @@ came classes token earlier (member key value more) riders terms is at =
     (came classes token s.next more riders terms s.rest at)
 
 -- two keys that name one token are one key
-one_key : (classes : Members) (token : List ℕ) (earlier : List (List ℕ × Terms)) (text : Members)
-    (riders : List (List ℕ × Terms)) (key key' class class' : List ℕ)
+one_key : (classes : Members) (token : List ℕ) (earlier : List (List ℕ × ℕ)) (text : Members)
+    (riders : List (List ℕ × ℕ)) (key key' class class' : List ℕ)
     → riders_from classes earlier text ≡ Ok riders
     → get_member key text ≡ Some (string class) → token_of_digits key ≡ Ok token
     → get_member key' text ≡ Some (string class') → token_of_digits key' ≡ Ok token → key ≡ key'
@@ -466,29 +472,40 @@ value_found : (o : Option Data) (value : Data) → ok_or o Rider ≡ Ok value �
 value_found None value is = absurd (cc)
 value_found (Some v) value is = let same : v ≡ value = cc in ap (λ (d : Data). Some d) same
 
-named_terms : (classes : Members) (class : List ℕ) (terms : Terms)
-    → class_named classes class ≡ Ok terms → IsNamed classes class terms
-named_terms classes class terms is =
-    let value = bind_ok (ok_or (get_member class classes) Rider) class_in terms is in
-    let element = bind_ok (of_kind the_key.Classes (as_table value.0)) class_of terms value.2 in
-    entry_terms classes element.0 class terms (value_found (get_member class classes) value.0 value.1
-    ∙ ap (λ (d : Data). Some d) (is_table value.0 the_key.Classes element.0 element.1)) element.2
+-- the class at a place of the list is that of the member at the place
+pub record HasClass (classes : Members) (name : List ℕ) (one : Class) : Type 0 where
+  pub value : Data
+  pub stands : get_member name classes ≡ Some value
+  pub read : class_in value ≡ Ok one
 
-abbrev pub by_check : Members → Unit {0} → OrFault Members
-by_check some sound = Ok some
+by_element : Members → OrFault Class
+by_element element = class_of element >>= (λ terms. Ok (plain_class terms))
 
-abbrev pub by_some : Members → OrFault Members
-by_some some = checked some >>= by_check some
+named_terms : (classes : Members) (name : List ℕ) (one : Class) → HasClass classes name one
+    → IsNamed classes name one.terms
+unfolding by_element
+named_terms classes name one has =
+    let element = bind_ok (of_kind the_key.Classes (as_table has.value)) by_element one has.read in
+    let terms = bind_ok (class_of element.0) (λ terms. Ok (plain_class terms)) one element.2 in
+    let same : terms.0 ≡ one.terms = terms_in (plain_class terms.0) one terms.2 in
+    subst (λ (t : Terms). IsNamed classes name t) same
+    (entry_terms classes element.0 name terms.0 (has.stands
+    ∙ ap (λ (d : Data). Some d) (is_table has.value the_key.Classes element.0 element.1)) terms.1)
+  where
+    ok_class : Class → OrFault Class
+    ok_class c = Ok c
+
+    terms_in : (a b : Class) → ok_class a ≡ ok_class b → a.terms ≡ b.terms
+    terms_in a b is = let same : a ≡ b = cc in ap (λ (c : Class). c.terms) same
 
 abbrev pub by_tables : Members → Members → OrFault Members
-by_tables tree tables = (if is_empty tables then Err (Range the_key.Classes) else Ok tables)
-    >>= by_some
+by_tables tree tables = if is_empty tables then Err (Range the_key.Classes) else Ok tables
 
 abbrev pub by_table : Members → Members → OrFault Members
 by_table tree classes = (if hold_tables classes then Ok classes else Err (Kind the_key.Classes))
     >>= by_tables tree
 
-if_else : {A : Type 0} (b : Bool) (o : OrFault A) (e : TableFault) (a : A)
+pub if_else : {A : Type 0} (b : Bool) (o : OrFault A) (e : TableFault) (a : A)
     → (if b then Err e else o) ≡ Ok a → o ≡ Ok a
 if_else true o e a is = absurd (cc)
 if_else false o e a is = is
@@ -496,7 +513,7 @@ if_else false o e a is = is
 abbrev sound : Members → OrFault Members
 sound classes = Ok classes
 
-same_ok : (one other : Members) → sound one ≡ sound other → one ≡ other
+pub same_ok : (one other : Members) → sound one ≡ sound other → one ≡ other
 same_ok one other is = cc
 
 pub classes_read : (tree classes : Members) → classes_of tree ≡ Ok classes
@@ -507,39 +524,107 @@ classes_read tree classes is =
     is in
     let tables = bind_ok (if hold_tables read.0 then Ok read.0 else Err (Kind the_key.Classes))
     (by_tables tree) classes read.2 in
-    let some = bind_ok (if is_empty tables.0 then Err (Range the_key.Classes) else Ok tables.0)
-    by_some classes tables.2 in
-    let sound = bind_ok (checked some.0) (by_check some.0) classes some.2 in
     let one : read.0 ≡ tables.0 =
     same_ok read.0 tables.0
     (if_ok (hold_tables read.0) (Ok read.0) (Kind the_key.Classes) tables.0 tables.1) in
-    let two : tables.0 ≡ some.0 =
-    same_ok tables.0 some.0
-    (if_else (is_empty tables.0) (Ok tables.0) (Range the_key.Classes) some.0 some.1) in
-    let three : some.0 ≡ classes = same_ok some.0 classes sound.2 in
+    let two : tables.0 ≡ classes =
+    same_ok tables.0 classes
+    (if_else (is_empty tables.0) (Ok tables.0) (Range the_key.Classes) classes tables.2) in
     table-read (codes "classes") the_key.Classes tree read.0 read.1
-    ∙ ap (λ (m : Members). Some (table m)) (one ∙ two ∙ three)
+    ∙ ap (λ (m : Members). Some (table m)) (one ∙ two)
 
--- and each of them was found sound
-pub classes_sound : (tree classes : Members) → classes_of tree ≡ Ok classes
-    → checked classes ≡ Ok tt
-unfolding classes_of
-classes_sound tree classes is =
-    let read = bind_ok (table_at (codes "classes") the_key.Classes tree) (by_table tree) classes
-    is in
-    let tables = bind_ok (if hold_tables read.0 then Ok read.0 else Err (Kind the_key.Classes))
-    (by_tables tree) classes read.2 in
-    let some = bind_ok (if is_empty tables.0 then Err (Range the_key.Classes) else Ok tables.0)
-    by_some classes tables.2 in
-    let sounds = bind_ok (checked some.0) (by_check some.0) classes some.2 in
-    ap checked (sym (same_ok some.0 classes sounds.2)) ∙ sounds.1
+-- the classes of the list, each of its member
+kept-class : (n : ℕ) (earlier list : List Class) (one : Class) (part : Members)
+    → classes_from earlier part ≡ Ok list → slice_get earlier n ≡ Some one
+    → slice_get list n ≡ Some one
+kept-class n earlier list one no_members is at =
+    let same : earlier ≡ list = cc in ap (λ l. slice_get l n) (sym same) ∙ at
+kept-class n earlier list one (member key value more) is at =
+    let first = bind_ok (class_in value) (λ c. classes_from (earlier ++ c ∷ []) more) list is in
+    kept-class n (earlier ++ first.0 ∷ []) list one more first.2 (within n earlier first.0 one at)
+  where
+    within : (n : ℕ) (xs : List Class) (x one : Class) → slice_get xs n ≡ Some one
+        → slice_get (xs ++ x ∷ []) n ≡ Some one
+    within n [] x one at = absurd (cc)
+    within zero (y ∷ ys) x one at = at
+    within (suc n) (y ∷ ys) x one at = within n ys x one at
+
+at_end : (earlier : List Class) (one : Class) (n : ℕ) → n ≡ length earlier
+    → slice_get (earlier ++ one ∷ []) n ≡ Some one
+at_end [] one n is = rw is refl
+at_end (first ∷ earlier) one n is = rw is (at_end earlier one (length earlier) refl)
+
+-- where the class of a name stands in the list
+pub record IsPlaced (list : List Class) (place : ℕ) (classes : Members) (name : List ℕ) : Type 0 where
+  pub one : Class
+  pub at : slice_get list place ≡ Some one
+  pub has : HasClass classes name one
+
+placed : (earlier list : List Class) (name : List ℕ) (part : Members) (place there : ℕ)
+    → classes_from earlier part ≡ Ok list → place_of name part ≡ Some place
+    → there ≡ length earlier + place → IsPlaced list there part name
+placed earlier list name no_members place there is at same = absurd (cc)
+placed earlier list name (member key value more) place there is at same =
+    let first = bind_ok (class_in value) (λ c. classes_from (earlier ++ c ∷ []) more) list is in
+    elim (cases_Bool (same_name name key)) [
+      | inl here ↦
+          let zero_place : place ≡ 0 = first_place (rw here at at) in
+          record {
+            one = first.0;
+            at = kept-class there (earlier ++ first.0 ∷ []) list first.0 more first.2
+                (at_end earlier first.0 there (omega (arith, same, zero_place)));
+            has = record {
+              value = value;
+              stands = choice (slice_cmp nat_cmp name key) (get_member name more) value
+                  ∙ ap (λ b. cond b (Some value) (get_member name more))
+                  (is_eq-slice_cmp name key ∙ here);
+              read = first.1;
+            };
+          }
+      | inr other ↦
+          let next = later_place (place_of name more) place (rw other at at) in
+          let rest = placed (earlier ++ first.0 ∷ []) list name more next.0 there first.2 next.1
+          (omega (arith, same, next.2, length-append-one earlier first.0)) in
+          record {
+            one = rest.one;
+            at = rest.at;
+            has = record {
+              value = rest.has.value;
+              stands = member-later name key value more (is_eq-slice_cmp name key ∙ other)
+                  ∙ rest.has.stands;
+              read = rest.has.read;
+            };
+          }
+    ]
+  where
+    first_place : {p : ℕ} → Some 0 ≡ Some p → p ≡ 0
+    first_place is = cc
+
+    later_place : (o : Option ℕ) (p : ℕ) → option_map suc o ≡ Some p
+        → (n : ℕ) × (o ≡ Some n) × (p ≡ suc n)
+    later_place None p is = absurd (cc)
+    later_place (Some n) p is = (n, refl, cc)
+
+    length-append-one : (xs : List Class) (x : Class) → length (xs ++ x ∷ []) ≡ suc (length xs)
+    length-append-one [] x = refl
+    length-append-one (y ∷ ys) x = ap suc (length-append-one ys x)
+
+place_found : (o : Option ℕ) (place : ℕ) → ok_or o Rider ≡ Ok place → o ≡ Some place
+place_found None place is = absurd (cc)
+place_found (Some p) place is = let same : p ≡ place = cc in ap (λ n. Some n) same
 
 -- the class of this name has the terms in the text too
-has_terms : (tree classes : Members) (class : List ℕ) (terms : Terms) → classes_of tree ≡ Ok classes
-    → class_named classes class ≡ Ok terms → HasTerms tree class terms
-has_terms tree classes class terms read is =
-    let n = named_terms classes class terms is in
-    record {
+has_terms : (tree classes : Members) (list : List Class) (class : List ℕ) (place : ℕ)
+    → classes_of tree ≡ Ok classes → classes_from [] classes ≡ Ok list
+    → class_named classes class ≡ Ok place
+    → HasTerms tree class (slice_index_or list place no_class).terms
+has_terms tree classes list class place read listed is =
+    let p = placed [] list class classes place place listed
+    (place_found (place_of class classes) place is) (sym (zero-add place)) in
+    let n = named_terms classes class p.one p.has in
+    let same : p.one ≡ slice_index_or list place no_class =
+    sym (get_or_from_slice_get list place p.one no_class p.at) in
+    subst (λ (c : Class). HasTerms tree class c.terms) same (record {
       classes = classes;
       listed = classes_read tree classes read;
       element = n.element;
@@ -547,7 +632,7 @@ has_terms tree classes class terms read is =
       fare = n.fare;
       rides = n.rides;
       ceiling = n.ceiling;
-    }
+    })
 
 -- ---- one class has one terms
 number_of : (o : Option Data) (n m : ℕ) → o ≡ Some (integer (pos n)) → o ≡ Some (integer (pos m))
@@ -594,17 +679,17 @@ one_terms tree class terms terms' one two =
     ceiling
 
 -- ---- the laws
-abbrev pub by_strings : Members → Members → OrFault (List (List ℕ × Terms))
+abbrev pub by_strings : Members → Members → OrFault (List (List ℕ × ℕ))
 by_strings classes text =
     if hold_strings text then riders_from classes [] text else Err (Kind the_key.Riders)
 
 -- the riders are those of the text's key, or none where it has no such key
-unfoldable pub AreRiders : Members → Option Data → List (List ℕ × Terms) → Type 0
+unfoldable pub AreRiders : Members → Option Data → List (List ℕ × ℕ) → Type 0
 AreRiders classes o riders =
     ((o ≡ None) × (riders ≡ []))
     ⊎ ((text : Members) × (o ≡ Some (table text)) × (riders_from classes [] text ≡ Ok riders))
 
-are_riders : (classes : Members) (o : Option Data) (riders : List (List ℕ × Terms))
+are_riders : (classes : Members) (o : Option Data) (riders : List (List ℕ × ℕ))
     → riders_at classes o ≡ Ok riders → AreRiders classes o riders
 unfolding AreRiders
 are_riders classes None riders is = let same : [] ≡ riders = cc in inl (refl, sym same)
@@ -617,14 +702,14 @@ are_riders classes (Some value) riders is =
           text.2,
     )
 
-pub riders_read : (classes tree : Members) (riders : List (List ℕ × Terms))
+pub riders_read : (classes tree : Members) (riders : List (List ℕ × ℕ))
     → riders_of classes tree ≡ Ok riders
     → AreRiders classes (get_member (codes "riders") tree) riders
 unfolding riders_of
 riders_read classes tree riders is = are_riders classes (get_member (codes "riders") tree) riders is
 
 -- of a key that names a token, the riders are read from its table
-named_from : (classes tree : Members) (riders : List (List ℕ × Terms)) (token key class : List ℕ)
+named_from : (classes tree : Members) (riders : List (List ℕ × ℕ)) (token key class : List ℕ)
     → AreRiders classes (get_member (codes "riders") tree) riders
     → (n : NamesRider tree token key class)
     → riders_from classes [] n.riders ≡ Ok riders
@@ -638,8 +723,8 @@ named_from classes tree riders token key class are n = ⊎_elim
     are
 
 -- a key names the token of a rider that is found
-came_from : (classes tree : Members) (riders : List (List ℕ × Terms)) (token : List ℕ)
-    (terms : Terms) → AreRiders classes (get_member (codes "riders") tree) riders
+came_from : (classes tree : Members) (riders : List (List ℕ × ℕ)) (token : List ℕ)
+    (terms : ℕ) → AreRiders classes (get_member (codes "riders") tree) riders
     → Named token riders ≡ Some terms
     → (key : List ℕ) × (class : List ℕ) × NamesRider tree token key class
     × (class_named classes class ≡ Ok terms)
@@ -662,10 +747,10 @@ came_from classes tree riders token terms are at = ⊎_elim
     (came classes token [] some.0 riders terms some.2 at))
     are
 
-abbrev by_name : Members → List ℕ → OrFault Terms
+abbrev by_name : Members → List ℕ → OrFault ℕ
 by_name classes name = class_named classes name
 
-default_named : (classes tree : Members) (terms : Terms) → default_of classes tree ≡ Ok terms
+default_named : (classes tree : Members) (terms : ℕ) → default_of classes tree ≡ Ok terms
     → (class : List ℕ) × (get_member (codes "default_class") tree ≡ Some (string class))
     × (class_named classes class ≡ Ok terms)
 unfolding default_of
@@ -674,11 +759,14 @@ default_named classes tree terms is =
     terms is in
     (name.0, text-read (codes "default_class") the_key.DefaultClass tree name.0 name.1, name.2)
 
-pays_if : (tree classes : Members) (meaning : TableMeaning) (token : List ℕ) (o : Option Terms)
-    → classes_of tree ≡ Ok classes → default_of classes tree ≡ Ok meaning.standard
+pays_if : (tree classes : Members) (meaning : TableMeaning) (token : List ℕ) (o : Option ℕ)
+    → classes_of tree ≡ Ok classes → classes_from [] classes ≡ Ok meaning.classes
+    → default_of classes tree ≡ Ok meaning.standard
     → AreRiders classes (get_member (codes "riders") tree) meaning.riders
-    → Named token meaning.riders ≡ o → Pays tree token (unwrap_or o meaning.standard)
-pays_if tree classes meaning token None read standard are at =
+    → Named token meaning.riders ≡ o
+    → Pays tree token
+    (slice_index_or meaning.classes (unwrap_or o meaning.standard) no_class).terms
+pays_if tree classes meaning token None read listed standard are at =
     let d = default_named classes tree meaning.standard standard in
     record {
       class = d.0;
@@ -690,18 +778,22 @@ pays_if tree classes meaning token None read standard are at =
             let no : None ≡ Some t.0 = sym at ∙ t.2 in
             absurd (cc (no)),
       );
-      has = has_terms tree classes d.0 meaning.standard read d.2;
+      has = has_terms tree classes meaning.classes d.0 meaning.standard read listed d.2;
     }
-pays_if tree classes meaning token (Some terms) read standard are at =
-    let c = came_from classes tree meaning.riders token terms are at in
-    record { class = c.1; is = inl (c.0, c.2); has = has_terms tree classes c.1 terms read c.3 }
+pays_if tree classes meaning token (Some place) read listed standard are at =
+    let c = came_from classes tree meaning.riders token place are at in
+    record {
+      class = c.1;
+      is = inl (c.0, c.2);
+      has = has_terms tree classes meaning.classes c.1 place read listed c.3;
+    }
 
 pays : (tree : Members) (fares : Fares) (token : List ℕ) → meaning_of_tree tree ≡ Ok fares.meaning
     → Pays tree token (terms_at fares token)
 pays tree fares token is =
     let p = parts tree fares.meaning is in
-    pays_if tree p.table fares.meaning token (Named token fares.meaning.riders) p.classes p.standard
-    (riders_read p.table tree fares.meaning.riders p.riders) refl
+    pays_if tree p.table fares.meaning token (Named token fares.meaning.riders) p.members p.classes
+    p.standard (riders_read p.table tree fares.meaning.riders p.riders) refl
 
 pub one-key : (tree : Members) (meaning : TableMeaning) (token key key' class class' : List ℕ)
     → meaning_of_tree tree ≡ Ok meaning

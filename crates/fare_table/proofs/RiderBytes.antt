@@ -7,13 +7,12 @@ use Rattle.std.specs.Map.{keys_of, lookup}
 use Rattle.std.specs.declared.cmp.Ordering.TheVariants.{Less, Equal, Greater}
 use Rattle.std.proofs.lemmas.List.Elements.{All-head, All-tail}
 use Rattle.fare_table.specs.Riders.{by_bytes}
-use Rattle.fare_table.specs.declared.terms.Terms.{Terms}
 use Rattle.tap_views.proofs.TokenBytes.{token-order}
 use Rattle.tap_views.specs.Token.{Fits, bytes_of, token_cmp}
 use Rattle.tap_views.specs.declared.token.Token.{Token}
 
 -- a look-up by numbers finds what one by bytes finds
-lookup-by_bytes : (token : Token) (entries : List (Token × Terms)) → Fits token
+lookup-by_bytes : (token : Token) (entries : List (Token × ℕ)) → Fits token
     → All Fits (keys_of entries)
     → lookup (is_at (token_cmp token)) entries
     ≡ lookup (is_at (slice_cmp nat_cmp (bytes_of token))) (by_bytes entries)
@@ -26,8 +25,8 @@ lookup-by_bytes token (entry ∷ entries) fits all =
     (Some entry.1) found) rest
 
 -- the same, where the bytes are known by other names
-pub found-by_bytes : (token : Token) (entries : List (Token × Terms)) (bytes : List ℕ)
-    (riders : List (List ℕ × Terms))
+pub found-by_bytes : (token : Token) (entries : List (Token × ℕ)) (bytes : List ℕ)
+    (riders : List (List ℕ × ℕ))
     → Fits token → All Fits (keys_of entries) → bytes_of token ≡ bytes → by_bytes entries ≡ riders
     → lookup (is_at (token_cmp token)) entries ≡ lookup (is_at (slice_cmp nat_cmp bytes)) riders
 found-by_bytes token entries bytes riders fits all same_bytes same_riders =
@@ -36,7 +35,7 @@ found-by_bytes token entries bytes riders fits all same_bytes same_riders =
     ∙ ap (λ known. lookup (is_at (slice_cmp nat_cmp bytes)) known) same_riders
 
 -- what is put at its place by numbers stands at its place by bytes
-pub insert-by_bytes : (token : Token) (terms : Terms) (entries : List (Token × Terms)) → Fits token
+pub insert-by_bytes : (token : Token) (terms : ℕ) (entries : List (Token × ℕ)) → Fits token
     → All Fits (keys_of entries)
     → by_bytes (insert_entry token_cmp entries token terms)
     ≡ insert_entry (slice_cmp nat_cmp) (by_bytes entries) (bytes_of token) terms

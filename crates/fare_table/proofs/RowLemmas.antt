@@ -2,7 +2,7 @@
 use Rattle.std.proofs.Common.{◌≡◌, ◌↔◌, ℕ, zero, suc, ◌+◌, ◌≤◌, ◌&&◌, ◌||◌, not, Bool, true, false}
 use Rattle.std.proofs.Common.{List, [], ◌∷◌, ◌++◌, Option, Some, None, Ok, Err, cond, option_map}
 use Rattle.std.proofs.Common.{refl, sym, ap, ◌∙◌, subst, arith, codes, inl, inr, ◌≢◌, Result, IfErr}
-use Rattle.std.proofs.Common.{IfOk}
+use Rattle.std.proofs.Common.{IfOk, append_assoc}
 use Rattle.std.proofs.lemmas.Bool.{false≢true, or_parts}
 use Rattle.std.specs.BTreeMap.{insert_entry}
 use Rattle.std.specs.Cmp.Lexicographic.{slice_cmp}
@@ -17,16 +17,16 @@ use Rattle.toml.specs.Data.{Data, Items, no_items, item, Members, no_members, me
 use Rattle.toml.specs.Data.{integer, array, table, get_member, get_item, as_str, as_array}
 use Rattle.toml.specs.Parse.{parse_document}
 use Rattle.fare_table.proofs.ElementLemmas.{Reads, by_mode, by_tables, reads}
-use Rattle.fare_table.proofs.FaultLemmas.{Stand, classes-told, default-told, done, fails, fault_in}
+use Rattle.fare_table.proofs.FaultLemmas.{Stand, classes-told, classes_tables, default-told, done, fails, fault_in, list-told}
 use Rattle.fare_table.proofs.FaultLemmas.{modes-known, modes-told, named-told, needs, number_tells}
 use Rattle.fare_table.proofs.FaultLemmas.{stand_all, stand_here, stand_next, steps, told}
 use Rattle.fare_table.proofs.FaultLemmas.{told_needed, told_two, transfers-told}
 use Rattle.fare_table.proofs.OverlapLemmas.{stands-insert, comes_after, comes_before, ends_after}
 use Rattle.fare_table.proofs.OverlapLemmas.{free_apart, rest_stands}
-use Rattle.fare_table.proofs.PayLemmas.{Named, by_class, classes_read, classes_sound, named_with}
+use Rattle.fare_table.proofs.PayLemmas.{Named, by_class, classes_read, named_with}
 use Rattle.fare_table.proofs.ReadLemmas.{number-read}
-use Rattle.fare_table.specs.Classes.{checked, class_named, classes_of, default_of}
-use Rattle.fare_table.specs.Faults.{Where, classes_step, default_step, riders_step, transfers_step}
+use Rattle.fare_table.specs.Classes.{class_named, classes_from, classes_of, default_of}
+use Rattle.fare_table.specs.Faults.{FaultRow, Where, class_rows, classes_step, default_step, riders_step, transfers_step}
 use Rattle.fare_table.specs.Faults.{validators_step, zone_step, top, range, rider, a_row, amount_of}
 use Rattle.fare_table.specs.Faults.{classes_in, elements_in, first_at, first_fault, first_row}
 use Rattle.fare_table.specs.Faults.{is_again, is_earlier, is_from, is_kind, is_mode, is_no_zone}
@@ -50,7 +50,6 @@ use Rattle.fare_table.specs.declared.fault.TableFault.{TableFault}
 use Rattle.fare_table.specs.declared.fault.TableFault.TheVariants as the_fault
 use Rattle.fare_table.specs.declared.fault.TableFault.TheVariants.{Missing, Kind, Range, Mode}
 use Rattle.fare_table.specs.declared.fault.TableFault.TheVariants.{Overlap, Rider}
-use Rattle.fare_table.specs.declared.terms.Terms.{Terms}
 use Rattle.fare_table.specs.declared.validators.RangeRest.{RangeRest}
 
 -- ---- one element of `validators`
@@ -277,18 +276,18 @@ entries-told tree modes known =
 
 -- ---- the riders
 -- the riders are those of the keys before a place
-abbrev AreBefore : Members → ℕ → List (List ℕ × Terms) → Type 0
+abbrev AreBefore : Members → ℕ → List (List ℕ × ℕ) → Type 0
 AreBefore tree n earlier =
     (token : List ℕ) → is_rider earlier token
     ≡ is_earlier (λ place. is_token token (token_at tree place)) n
 
-some_cond : (b : Bool) (terms : Terms) (o : Option Terms)
+some_cond : (b : Bool) (terms : ℕ) (o : Option ℕ)
     → is_some (cond b (Some terms) o) ≡ (b || is_some o)
 some_cond true terms o = refl
 some_cond false terms o = refl
 
-before_next : (tree : Members) (n : ℕ) (earlier : List (List ℕ × Terms)) (token : List ℕ)
-    (terms : Terms) → token_at tree n ≡ Some token → is_rider earlier token ≡ false
+before_next : (tree : Members) (n : ℕ) (earlier : List (List ℕ × ℕ)) (token : List ℕ)
+    (terms : ℕ) → token_at tree n ≡ Some token → is_rider earlier token ≡ false
     → AreBefore tree n earlier
     → AreBefore tree (suc n) (insert_entry (slice_cmp nat_cmp) earlier token terms)
 before_next tree n earlier token terms at free are other =
@@ -298,25 +297,25 @@ before_next tree n earlier token terms at free are other =
     ∙ ap (λ (o : Option (List ℕ)).
     is_token other o || is_earlier (λ place. is_token other (token_at tree place)) n) (sym at)
 
-again_if : (b : Bool) (next : List (List ℕ × Terms)) (f : List (List ℕ × Terms)
-    → OrFault (List (List ℕ × Terms))) (rest : Option TableFault)
+again_if : (b : Bool) (next : List (List ℕ × ℕ)) (f : List (List ℕ × ℕ)
+    → OrFault (List (List ℕ × ℕ))) (rest : Option TableFault)
     → (b ≡ false → fault_in (f next) ≡ rest)
     → fault_in ((if b then Err Rider else Ok next) >>= f) ≡ cond b (Some Rider) rest
 again_if true next f rest same = refl
 again_if false next f rest same = same refl
 
 -- a class that is there, and then the rest
-class_if : (o : OrFault Terms) (b c : Bool) (f : Terms
-    → OrFault (List (List ℕ × Terms))) (rest : Option TableFault)
+class_if : (o : OrFault ℕ) (b c : Bool) (f : ℕ
+    → OrFault (List (List ℕ × ℕ))) (rest : Option TableFault)
     → fault_in o ≡ cond b (Some Rider) None
-    → ((terms : Terms) → fault_in (f terms) ≡ cond c (Some Rider) rest)
+    → ((terms : ℕ) → fault_in (f terms) ≡ cond c (Some Rider) rest)
     → fault_in (o >>= f) ≡ cond (b || c) (Some Rider) rest
 class_if (Ok terms) true c f rest first same = absurd (cc)
 class_if (Ok terms) false c f rest first same = same terms
 class_if (Err e) true c f rest first same = first
 class_if (Err e) false c f rest first same = absurd (cc)
 
-assoc : (o : OrFault Terms) (token : List ℕ) (f : List ℕ × Terms → OrFault (List (List ℕ × Terms)))
+assoc : (o : OrFault ℕ) (token : List ℕ) (f : List ℕ × ℕ → OrFault (List (List ℕ × ℕ)))
     → fault_in ((o >>= (λ terms. Ok (token, terms))) >>= f)
     ≡ fault_in (o >>= (λ terms. f (token, terms)))
 assoc (Ok terms) token f = refl
@@ -324,32 +323,31 @@ assoc (Err e) token f = refl
 
 -- the token, then the class, then whether an earlier key names it
 rider_if : (o : Option (List ℕ)) (classes : Members) (name : List ℕ) (earlier : List (List ℕ
-    × Terms)) (again : List ℕ → Bool) (f : List (List ℕ × Terms)
-    → OrFault (List (List ℕ × Terms))) (rest : Option TableFault)
-    → checked classes ≡ Ok tt
-    → ((token : List ℕ) (terms : Terms) → o ≡ Some token → is_rider earlier token ≡ false
+    × ℕ)) (again : List ℕ → Bool) (f : List (List ℕ × ℕ)
+    → OrFault (List (List ℕ × ℕ))) (rest : Option TableFault)
+    → ((token : List ℕ) (terms : ℕ) → o ≡ Some token → is_rider earlier token ≡ false
     → fault_in (f (insert_entry (slice_cmp nat_cmp) earlier token terms)) ≡ rest)
     → ((token : List ℕ) → o ≡ Some token → is_rider earlier token ≡ again token)
     → fault_in ((ok_or o Rider >>= (λ token. class_named classes name >>= by_class token))
     >>= (λ rider. with_rider earlier rider.0 rider.1 >>= f))
     ≡ cond (is_none o || (is_none (get_member name classes) || holds_of_some again o)) (Some Rider) rest
-rider_if None classes name earlier again f rest sound later are = refl
-rider_if (Some token) classes name earlier again f rest sound later are =
+rider_if None classes name earlier again f rest later are = refl
+rider_if (Some token) classes name earlier again f rest later are =
     assoc (class_named classes name) token (λ rider. with_rider earlier rider.0 rider.1 >>= f)
     ∙ class_if (class_named classes name) (is_none (get_member name classes)) (again token)
-    (λ terms. with_rider earlier token terms >>= f) rest (named-told classes name sound)
+    (λ terms. with_rider earlier token terms >>= f) rest (named-told classes name)
     (λ terms. again_if (is_rider earlier token)
     (insert_entry (slice_cmp nat_cmp) earlier token terms) f rest (λ free.
     later token terms refl free)
     ∙ ap (λ (b : Bool). cond b (Some Rider) rest) (are token refl))
 
-riders-told : (tree classes : Members) (n : ℕ) (earlier : List (List ℕ × Terms)) (part : Members)
-    → classes_in tree ≡ classes → checked classes ≡ Ok tt → Stand (riders_in tree) n part
+riders-told : (tree classes : Members) (n : ℕ) (earlier : List (List ℕ × ℕ)) (part : Members)
+    → classes_in tree ≡ classes → Stand (riders_in tree) n part
     → hold_strings part ≡ true
     → AreBefore tree n earlier
     → fault_in (riders_from classes earlier part) ≡ first_row tree (rider_rows n part)
-riders-told tree classes n earlier no_members known sound stand strings are = refl
-riders-told tree classes n earlier (member key (string name) more) known sound stand strings are =
+riders-told tree classes n earlier no_members known stand strings are = refl
+riders-told tree classes n earlier (member key (string name) more) known stand strings are =
     let at : member_at n (riders_in tree) ≡ Some (key, string name) =
     stand_here (riders_in tree) n key (string name) more stand in
     let token : token_at tree n ≡ result_ok (decode_sized key 16) =
@@ -361,9 +359,9 @@ riders-told tree classes n earlier (member key (string name) more) known sound s
     string_of (option_map (λ (one : List ℕ × Data). one.1) o)) at in
     rider_if (result_ok (decode_sized key 16)) classes name earlier (λ t.
     is_earlier (λ place. is_token t (token_at tree place)) n) (λ next.
-    riders_from classes next more) (first_row tree (rider_rows (suc n) more)) sound
+    riders_from classes next more) (first_row tree (rider_rows (suc n) more))
     (λ t terms is free. riders-told tree classes (suc n)
-    (insert_entry (slice_cmp nat_cmp) earlier t terms) more known sound
+    (insert_entry (slice_cmp nat_cmp) earlier t terms) more known
     (stand_next (riders_in tree) n key (string name) more stand) strings
     (before_next tree n earlier t terms (token ∙ is) free are))
     (λ t is. are t)
@@ -380,7 +378,7 @@ riders-told tree classes n earlier (member key (string name) more) known sound s
     (string_of (option_map (λ (one : List ℕ × Data). one.1) (member_at n (riders_in tree)))) m)
     || is_again tree n)) (Some Rider) (first_row tree (rider_rows (suc n) more))) (sym known)
     ∙ sym (told tree (rider n) Rider (rider_rows (suc n) more))
-riders-told tree classes n earlier (member key _ more) known sound stand strings are =
+riders-told tree classes n earlier (member key _ more) known stand strings are =
     absurd (false≢true strings)
 
 strings_if : (b : Bool) (classes part : Members) (rest : Option TableFault)
@@ -404,15 +402,15 @@ riders_steps (Some _) tree classes rest none same = refl
 stand_members : (whole part : Members) → whole ≡ part → Stand whole 0 part
 stand_members whole part same = subst (λ (m : Members). Stand whole 0 m) same (stand_all whole)
 
-keys-told : (tree classes : Members) → classes_in tree ≡ classes → checked classes ≡ Ok tt
+keys-told : (tree classes : Members) → classes_in tree ≡ classes
     → fault_in (riders_of classes tree)
     ≡ first_row tree (a_row top (Kind the_key.Riders) ∷ rider_rows 0 (riders_in tree))
 unfolding riders_of
-keys-told tree classes known sound =
+keys-told tree classes known =
     let o = get_member (codes "riders") tree in
     riders_steps o tree classes (λ part. first_row tree (rider_rows 0 part)) refl
     (λ part is strings.
-    riders-told tree classes 0 [] part known sound
+    riders-told tree classes 0 [] part known
     (stand_members (riders_in tree) part (ap members_of is)) strings (λ token. refl))
     ∙ sym (told tree top (Kind the_key.Riders) (rider_rows 0 (riders_in tree)))
 
@@ -439,29 +437,42 @@ zone-told tree = zone_steps (get_member (codes "zone") tree)
     ∙ sym (told_two tree top (Kind the_key.Zone) the_fault.Zone)
 
 -- ---- the whole
+-- the rows of the classes stand behind those of their table
+regroup : (tree : Members) (rest : List FaultRow) {o : Option TableFault}
+    → o ≡ first_row tree (needed_rows top the_key.Classes
+    ++ (class_rows 0 (classes_in tree) ++ rest))
+    → o ≡ first_row tree (classes_step tree ++ rest)
+regroup tree rest is =
+    is ∙ ap (λ (rows : List FaultRow). first_row tree rows)
+    (sym (append_assoc (needed_rows top the_key.Classes) (class_rows 0 (classes_in tree)) rest))
+
 meaning-told : (tree : Members) → fault_in (meaning_of_tree tree) ≡ first_row tree (rows tree)
 unfolding meaning_of_tree
 meaning-told tree =
     let key_rows = riders_step tree ++ zone_step in
     let entry_rows = validators_step tree ++ key_rows in
     let default_rows = default_step ++ entry_rows in
-    let class_rows = classes_step tree ++ default_rows in
-    steps tree (modes_of tree) _ (needed_rows top the_key.Modes) (transfers_step ++ class_rows)
+    let class_step_rows = classes_step tree ++ default_rows in
+    steps tree (modes_of tree) _ (needed_rows top the_key.Modes) (transfers_step ++ class_step_rows)
     (modes-told tree) (λ modes is_modes.
     let known = modes-known tree modes is_modes in
-    steps tree (transfers_of modes tree) _ transfers_step class_rows
+    steps tree (transfers_of modes tree) _ transfers_step class_step_rows
     (transfers-told tree modes known) (λ transfers is_transfers.
-    steps tree (classes_of tree) _ (classes_step tree) default_rows (classes-told tree)
+    let rest_rows = class_rows 0 (classes_in tree) ++ default_rows in
+    regroup tree default_rows
+    (steps tree (classes_of tree) _ (needed_rows top the_key.Classes) rest_rows (classes-told tree)
     (λ classes is_classes.
     let same : classes_in tree ≡ classes = ap members_of (classes_read tree classes is_classes) in
-    let sound = classes_sound tree classes is_classes in
+    let tables = classes_tables tree classes is_classes in
+    steps tree (classes_from [] classes) _ (class_rows 0 (classes_in tree)) default_rows
+    (list-told tree classes [] same tables) (λ list is_list.
     steps tree (default_of classes tree) _ default_step entry_rows
-    (default-told tree classes same sound) (λ standard is_standard.
+    (default-told tree classes same) (λ standard is_standard.
     steps tree (ranges_of modes tree) _ (validators_step tree) key_rows
     (entries-told tree modes known) (λ ranges is_ranges.
     steps tree (riders_of classes tree) _ (riders_step tree) zone_step
-    (keys-told tree classes same sound) (λ riders is_riders.
-    done (zone_of tree) _ ∙ zone-told tree))))))
+    (keys-told tree classes same) (λ riders is_riders.
+    done (zone_of tree) _ ∙ zone-told tree))))))))
 
 text_tells : (o : Option Members)
     → fault_in (ok_or o the_fault.Text >>= meaning_of_tree) ≡ first_fault o

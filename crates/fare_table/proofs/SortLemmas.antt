@@ -15,13 +15,12 @@ use Rattle.fare_table.proofs.PayLemmas.{AreRiders, adds_rider, after_rider, ride
 use Rattle.fare_table.specs.Riders.{rider_of, riders_from, with_rider}
 use Rattle.fare_table.specs.TableMeaning.{TableMeaning, meaning_of_tree}
 use Rattle.fare_table.specs.Validators.{stand_apart, ranges_from}
-use Rattle.fare_table.specs.declared.terms.Terms.{Terms}
 use Rattle.fare_table.specs.declared.validators.RangeRest.{RangeRest}
 
 abbrev Riders : Type 0
-Riders = List (List ℕ × Terms)
+Riders = List (List ℕ × ℕ)
 
-abbrev with_one : List ℕ → Terms → Riders → Riders
+abbrev with_one : List ℕ → ℕ → Riders → Riders
 with_one token terms riders = insert_entry (slice_cmp nat_cmp) riders token terms
 
 -- each token of the riders is above this one
@@ -31,8 +30,8 @@ Above low riders = AllByRecursion (λ token. slice_cmp nat_cmp low token ≡ Les
 abbrev Rise : Riders → Type 0
 Rise riders = IsStrictlySortedBy (slice_cmp nat_cmp) (keys_of riders)
 
-above_if : (r : Ordering) (low token : List ℕ) (terms : Terms) (first : List ℕ
-    × Terms) (more : Riders) → slice_cmp nat_cmp low token ≡ Less → Above low (first ∷ more)
+above_if : (r : Ordering) (low token : List ℕ) (terms : ℕ) (first : List ℕ
+    × ℕ) (more : Riders) → slice_cmp nat_cmp low token ≡ Less → Above low (first ∷ more)
     → Above low (with_one token terms more)
     → Above low (match_ordering r ((token, terms) ∷ first ∷ more) ((first.0, terms) ∷ more) (first
     ∷ with_one token terms more))
@@ -40,7 +39,7 @@ above_if Less low token terms first more below all later = (below, all)
 above_if Equal low token terms first more below all later = all
 above_if Greater low token terms first more below all later = (all.0, later)
 
-above_with : (low token : List ℕ) (terms : Terms) (riders : Riders)
+above_with : (low token : List ℕ) (terms : ℕ) (riders : Riders)
     → slice_cmp nat_cmp low token ≡ Less → Above low riders
     → Above low (with_one token terms riders)
 above_with low token terms [] below all = (below, tt)
@@ -54,7 +53,7 @@ lower low token [] below all = tt
 lower low token (first ∷ more) below all =
     ((nat_list_cmp_total).trans low token first.0 below all.0, lower low token more below all.1)
 
-rise_if : (r : Ordering) (token : List ℕ) (terms : Terms) (first : List ℕ × Terms) (more : Riders)
+rise_if : (r : Ordering) (token : List ℕ) (terms : ℕ) (first : List ℕ × ℕ) (more : Riders)
     → slice_cmp nat_cmp token first.0 ≡ r → Rise (first ∷ more) → Rise (with_one token terms more)
     → Rise (match_ordering r ((token, terms) ∷ first ∷ more) ((first.0, terms) ∷ more) (first
     ∷ with_one token terms more))
@@ -67,7 +66,7 @@ rise_if Greater token terms first more is rise later = (
   later,
 )
 
-rise_with : (token : List ℕ) (terms : Terms) (riders : Riders) → Rise riders
+rise_with : (token : List ℕ) (terms : ℕ) (riders : Riders) → Rise riders
     → Rise (with_one token terms riders)
 unfolding IsStrictlySortedBy
 rise_with token terms [] rise = (tt, tt)

@@ -8,8 +8,9 @@ use Rattle.hex.specs.Hex.{decode_sized}
 use Rattle.jiff.specs.Words.{read_whole}
 use Rattle.toml.specs.Data.{Data, Items, no_items, item, Members, no_members, member, get_member}
 use Rattle.toml.specs.Data.{as_str, as_integer, as_array, as_table}
-use Rattle.fare_table.specs.Classes.{ceiling_of, checked, class_in, class_named, class_of}
-use Rattle.fare_table.specs.Classes.{classes_of, default_of, is_empty}
+use Rattle.fare_table.specs.Classes.{ceiling_of, class_in, class_named, class_of, classes_from}
+use Rattle.fare_table.specs.Classes.{classes_of, default_of, is_empty, place_of}
+use Rattle.fare_table.specs.declared.class.Class.{Class}
 use Rattle.fare_table.specs.Members.{are_tables, array_at, hold_strings, hold_tables, needed}
 use Rattle.fare_table.specs.Members.{number_at, number_in, of_kind, table_at, text_at, within}
 use Rattle.fare_table.specs.Modes.{are_mode_names, mode_named, modes_of, strings_from}
@@ -25,7 +26,6 @@ use Rattle.fare_table.specs.declared.fault.Key.{Key}
 use Rattle.fare_table.specs.declared.fault.Key.TheVariants as the_key
 use Rattle.fare_table.specs.declared.fault.TableFault.{TableFault}
 use Rattle.fare_table.specs.declared.fault.TableFault.TheVariants as the_fault
-use Rattle.fare_table.specs.declared.terms.Terms.{Terms}
 use Rattle.fare_table.specs.declared.validators.RangeRest.{RangeRest}
 
 -- the outcome is not the text fault
@@ -152,14 +152,15 @@ class_of-text element = steps (number_at (codes "fare") the_key.Fare 1 100_000 e
 
 class_in-text : (value : Data) → NotText (class_in value)
 class_in-text value =
-    steps (of_kind the_key.Classes (as_table value)) (λ element. class_of element)
-    (of_kind-text the_key.Classes (as_table value)) class_of-text
+    steps (of_kind the_key.Classes (as_table value)) _ (of_kind-text the_key.Classes (as_table value))
+    (λ element. steps (class_of element) _ (class_of-text element) (λ terms. an_ok _))
 
-checked-text : (classes : Members) → NotText (checked classes)
-checked-text no_members = an_ok tt
-checked-text (member name value more) =
-    steps (class_in value) (λ terms. checked more) (class_in-text value) (λ terms.
-    checked-text more)
+classes_from-text : (earlier : List Class) (classes : Members)
+    → NotText (classes_from earlier classes)
+classes_from-text earlier no_members = an_ok earlier
+classes_from-text earlier (member name value more) =
+    steps (class_in value) _ (class_in-text value) (λ one.
+    classes_from-text (earlier ++ one ∷ []) more)
 
 classes_of-text : (tree : Members) → NotText (classes_of tree)
 unfolding classes_of
@@ -169,17 +170,12 @@ classes_of-text tree = steps (table_at (codes "classes") the_key.Classes tree) _
     (the_fault.Kind the_key.Classes)) _
     (a_choice (hold_tables classes) (Ok classes) (Err (the_fault.Kind the_key.Classes))
     (an_ok classes) (another (the_fault.Kind the_key.Classes) (λ is. cc)))
-    (λ tables. steps (if is_empty tables then Err (the_fault.Range the_key.Classes) else Ok tables)
-    _
-    (a_choice (is_empty tables) (Err (the_fault.Range the_key.Classes)) (Ok tables)
-    (another (the_fault.Range the_key.Classes) (λ is. cc)) (an_ok tables))
-    (λ some. steps (checked some) _ (checked-text some) (λ sound. an_ok some))))
+    (λ tables. a_choice (is_empty tables) (Err (the_fault.Range the_key.Classes)) (Ok tables)
+    (another (the_fault.Range the_key.Classes) (λ is. cc)) (an_ok tables)))
 
 class_named-text : (classes : Members) (name : List ℕ) → NotText (class_named classes name)
 class_named-text classes name =
-    steps (ok_or (get_member name classes) the_fault.Rider) _
-    (a_part (get_member name classes) the_fault.Rider (λ is. cc))
-    class_in-text
+    a_part (place_of name classes) the_fault.Rider (λ is. cc)
 
 default_of-text : (classes tree : Members) → NotText (default_of classes tree)
 unfolding default_of
@@ -232,7 +228,7 @@ rider_of-text classes key value =
     (λ name. steps (class_named classes name) _ (class_named-text classes name) (λ terms.
     an_ok (token, terms))))
 
-riders_from-text : (classes : Members) (earlier : List (List ℕ × Terms)) (members : Members)
+riders_from-text : (classes : Members) (earlier : List (List ℕ × ℕ)) (members : Members)
     → NotText (riders_from classes earlier members)
 riders_from-text classes earlier no_members = an_ok earlier
 riders_from-text classes earlier (member key value more) =
@@ -269,8 +265,9 @@ unfolding meaning_of_tree
 rules_of-text tree =
     steps (modes_of tree) _ (modes_of-text tree) (λ modes.
     steps (transfers_of modes tree) _ (transfers_of-text modes tree) (λ transfers.
-    steps (classes_of tree) _ (classes_of-text tree) (λ classes.
-    steps (default_of classes tree) _ (default_of-text classes tree) (λ standard.
+    steps (classes_of tree) _ (classes_of-text tree) (λ table.
+    steps (classes_from [] table) _ (classes_from-text [] table) (λ classes.
+    steps (default_of table tree) _ (default_of-text table tree) (λ standard.
     steps (ranges_of modes tree) _ (ranges_of-text modes tree) (λ ranges.
-    steps (riders_of classes tree) _ (riders_of-text classes tree) (λ riders.
-    steps (zone_of tree) _ (zone_of-text tree) (λ zone. an_ok _)))))))
+    steps (riders_of table tree) _ (riders_of-text table tree) (λ riders.
+    steps (zone_of tree) _ (zone_of-text tree) (λ zone. an_ok _))))))))

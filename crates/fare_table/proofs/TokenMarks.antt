@@ -10,7 +10,6 @@ use Rattle.std.specs.Map.{keys_of, lookup}
 use Rattle.std.specs.Ordering.{is_eq}
 use Rattle.fare_table.specs.RiderMarks.{is_marked, mark_place}
 use Rattle.tap_views.specs.Token.{token_cmp}
-use Rattle.fare_table.specs.declared.terms.Terms.{Terms}
 use Rattle.tap_views.specs.declared.token.Token.{Token}
 
 -- a further mark takes none away
@@ -39,7 +38,7 @@ same_low : (a b : Token) → is_eq (token_cmp a b) ≡ true → a.low ≡ b.low
 same_low a b same = grind (arith, nat_tests)
 
 -- a token without a mark is not found among those that are marked
-pub lookup-unmarked : (marks : List Bool) (token : Token) (entries : List (Token × Terms))
+pub lookup-unmarked : (marks : List Bool) (token : Token) (entries : List (Token × ℕ))
     → All (λ key. is_marked marks key ≡ true) (keys_of entries)
     → is_marked marks token ≡ false → lookup (is_at (token_cmp token)) entries ≡ None
 lookup-unmarked marks token [] all free = refl

@@ -1,4 +1,4 @@
--- The key `riders`: the terms of single riders by their tokens.
+-- The key `riders`: the classes of single riders by their tokens.
 use Rattle.std.specs.Prelude.{ℕ, Bool, List, [], Option, Some, None, Ok, Err, codes, map}
 use Rattle.std.specs.Prelude.{if◌then◌else◌}
 use Rattle.std.specs.BTreeMap.{insert_entry, is_at}
@@ -15,7 +15,6 @@ use Rattle.fare_table.specs.Members.{of_kind, hold_strings}
 use Rattle.fare_table.specs.OrFault.{OrFault, ◌>>=◌}
 use Rattle.fare_table.specs.declared.fault.Key.TheVariants as the_key
 use Rattle.fare_table.specs.declared.fault.TableFault.TheVariants.{Kind, Rider}
-use Rattle.fare_table.specs.declared.terms.Terms.{Terms}
 use Rattle.tap_views.specs.Token.{bytes_of}
 use Rattle.tap_views.specs.declared.token.Token.{Token}
 
@@ -24,25 +23,25 @@ abbrev pub token_of_digits : List ℕ → OrFault (List ℕ)
 token_of_digits digits = ok_or (result_ok (decode_sized digits 16)) Rider
 
 -- the token is one of the riders'
-abbrev pub is_rider : List (List ℕ × Terms) → List ℕ → Bool
+abbrev pub is_rider : List (List ℕ × ℕ) → List ℕ → Bool
 is_rider riders token = is_some (lookup (is_at (slice_cmp nat_cmp token)) riders)
 
 -- the riders and one more, at its place in the order of tokens
-abbrev pub with_rider : List (List ℕ × Terms) → List ℕ → Terms → OrFault (List (List ℕ × Terms))
-with_rider riders token terms =
+abbrev pub with_rider : List (List ℕ × ℕ) → List ℕ → ℕ → OrFault (List (List ℕ × ℕ))
+with_rider riders token class =
     if is_rider riders token then Err Rider
-    else Ok (insert_entry (slice_cmp nat_cmp) riders token terms)
+    else Ok (insert_entry (slice_cmp nat_cmp) riders token class)
 
--- the token and the terms of one key
-abbrev pub rider_of : Members → List ℕ → Data → OrFault (List ℕ × Terms)
+-- the token of one key, and the place of its class
+abbrev pub rider_of : Members → List ℕ → Data → OrFault (List ℕ × ℕ)
 rider_of classes key value = do
   token ← token_of_digits key
   name ← of_kind the_key.Riders (as_str value)
-  terms ← class_named classes name
-  Ok (token, terms)
+  class ← class_named classes name
+  Ok (token, class)
 
 -- the earlier riders and those of the members
-abbrev pub riders_from : Members → List (List ℕ × Terms) → Members → OrFault (List (List ℕ × Terms))
+abbrev pub riders_from : Members → List (List ℕ × ℕ) → Members → OrFault (List (List ℕ × ℕ))
 riders_from classes earlier no_members = Ok earlier
 riders_from classes earlier (member key value more) = do
   rider ← rider_of classes key value
@@ -50,16 +49,16 @@ riders_from classes earlier (member key value more) = do
   riders_from classes riders more
 
 -- the riders of a value, which is a table of strings; none where there is no value
-abbrev pub riders_at : Members → Option Data → OrFault (List (List ℕ × Terms))
+abbrev pub riders_at : Members → Option Data → OrFault (List (List ℕ × ℕ))
 riders_at classes None = Ok []
 riders_at classes (Some value) = do
   riders ← of_kind the_key.Riders (as_table value)
   if hold_strings riders then riders_from classes [] riders else Err (Kind the_key.Riders)
 
 -- the riders that the text names, in the order of their tokens
-unfoldable pub riders_of : Members → Members → OrFault (List (List ℕ × Terms))
+unfoldable pub riders_of : Members → Members → OrFault (List (List ℕ × ℕ))
 riders_of classes tree = riders_at classes (get_member (codes "riders") tree)
 
--- terms by tokens, as terms by the tokens' bytes
-abbrev pub by_bytes : List (Token × Terms) → List (List ℕ × Terms)
+-- places of classes by tokens, as places by the tokens' bytes
+abbrev pub by_bytes : List (Token × ℕ) → List (List ℕ × ℕ)
 by_bytes entries = map (λ entry. (bytes_of entry.0, entry.1)) entries

@@ -1,9 +1,9 @@
 -- What the keys of a table's text mean.
-use Rattle.std.specs.Prelude.{ℕ, List, Option, Ok}
+use Rattle.std.specs.Prelude.{ℕ, List, [], Option, Ok}
 use Rattle.std.specs.Option.{ok_or}
 use Rattle.toml.specs.Data.{Members}
 use Rattle.toml.specs.Parse.{parse_document}
-use Rattle.fare_table.specs.Classes.{classes_of, default_of}
+use Rattle.fare_table.specs.Classes.{classes_from, classes_of, default_of}
 use Rattle.fare_table.specs.Modes.{modes_of}
 use Rattle.fare_table.specs.OrFault.{OrFault, ◌>>=◌}
 use Rattle.fare_table.specs.Riders.{riders_of}
@@ -11,18 +11,19 @@ use Rattle.fare_table.specs.Transfers.{transfers_of}
 use Rattle.fare_table.specs.Validators.{ranges_of}
 use Rattle.fare_table.specs.Zone.{zone_of}
 use Rattle.fare_table.specs.declared.fault.TableFault.TheVariants.{Text}
-use Rattle.fare_table.specs.declared.terms.Terms.{Terms}
+use Rattle.fare_table.specs.declared.class.Class.{Class}
 use Rattle.fare_table.specs.declared.validators.RangeRest.{RangeRest}
 
--- the modes' names by their places, the pairs of places with a transfer, each once, the terms of
--- the default class, the ranges of validators by their first numbers, rising, the terms of the
--- riders by their tokens, rising, and the text of the zone
+-- the modes' names by their places, the pairs of places with a transfer, each once, the classes by
+-- their places, the place of the default class, the ranges of validators by their first numbers,
+-- rising, the places of the riders' classes by their tokens, rising, and the text of the zone
 pub record TableMeaning : Type 0 where
   pub modes : List (List ℕ)
   pub transfers : List (ℕ × ℕ)
-  pub standard : Terms
+  pub classes : List Class
+  pub standard : ℕ
   pub ranges : List (ℕ × RangeRest)
-  pub riders : List (List ℕ × Terms)
+  pub riders : List (List ℕ × ℕ)
   pub zone : Option (List ℕ)
 
 -- the meaning of a table's tree, or the fault of the first key that has one
@@ -30,14 +31,16 @@ unfoldable pub meaning_of_tree : Members → OrFault TableMeaning
 meaning_of_tree tree = do
   modes ← modes_of tree
   transfers ← transfers_of modes tree
-  classes ← classes_of tree
-  standard ← default_of classes tree
+  table ← classes_of tree
+  classes ← classes_from [] table
+  standard ← default_of table tree
   ranges ← ranges_of modes tree
-  riders ← riders_of classes tree
+  riders ← riders_of table tree
   zone ← zone_of tree
   Ok (record {
     modes = modes;
     transfers = transfers;
+    classes = classes;
     standard = standard;
     ranges = ranges;
     riders = riders;

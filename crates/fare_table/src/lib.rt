@@ -6,6 +6,7 @@
 //! project's.
 #![tactic(auto)]
 
+mod class;
 mod clock;
 mod fault;
 pub mod laws;
@@ -14,6 +15,7 @@ mod read;
 mod riders;
 mod table;
 mod terms;
+mod transfer_terms;
 mod transfers;
 mod validators;
 mod zone;
@@ -23,3 +25,4 @@ pub use fault::{Key, TableFault};
 pub use mode::Mode;
 pub use table::FareTable;
 pub use terms::Terms;
+pub use transfer_terms::TransferTerms;

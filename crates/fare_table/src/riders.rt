@@ -1,11 +1,10 @@
-//! The terms of single riders by their tokens.
+//! The classes of single riders by their tokens.
 ghost use Rattle.std.specs.Prelude.{◌≡◌, All, IfOk, length};
 ghost use Rattle.std.specs.Map.{keys_of};
 ghost use Rattle.tap_views.specs.Token.{Fits};
 ghost use Rattle.fare_table.specs.Riders.{by_bytes};
 
 use crate::riders::marks::RiderMarks;
-use crate::terms::Terms;
 use std::alloc::Global;
 use std::collections::BTreeMap;
 use std::marker::Model;
@@ -13,26 +12,25 @@ use tap_views::{NoMemory, Token};
 
 mod marks;
 
-/// The terms of riders, by the bytes of their tokens.
+/// The places of riders' classes, by the bytes of their tokens.
 #[derive(Drop)]
 pub struct Riders {
-    /// The terms of each rider.
-    terms: BTreeMap<Token, Terms>,
+    /// The place of each rider's class.
+    classes: BTreeMap<Token, u32>,
     /// Most tokens are no rider's. That they have no mark says so at once, without a search.
     marks: RiderMarks,
 }
 
 impl Model for Riders {
     ghost use Rattle.std.specs.Prelude.{ℕ, List};
-    ghost use Rattle.fare_table.specs.declared.terms.Terms.{Terms};
     ghost use Rattle.fare_table.specs.inside.RiderMarks.{AreMarked};
     ghost use Rattle.fare_table.specs.Riders.{by_bytes};
 
-    ghost Value = { List (List ℕ × Terms) };
+    ghost Value = { List (List ℕ × ℕ) };
 
-    ghost view = { λ r. by_bytes r.terms.entries };
+    ghost view = { λ r. by_bytes r.classes.entries };
 
-    ghost invariant = { λ r. AreMarked r.terms.entries r.marks };
+    ghost invariant = { λ r. AreMarked r.classes.entries r.marks };
 }
 
 impl Riders {
@@ -45,16 +43,16 @@ impl Riders {
     ghost use Rattle.fare_table.specs.Riders.{by_bytes};
 
     /// The riders of a map by their tokens. `NoMemory` is answered where a growth is refused.
-    pub(crate) fn new(alloc: Global, terms: BTreeMap<Token, Terms>) -> Result<Riders, NoMemory>
-        requires { All Fits (keys_of terms.entries) }
-        ensures { IfOk result (λ r. r ≡ by_bytes terms.entries) }
+    pub(crate) fn new(alloc: Global, classes: BTreeMap<Token, u32>) -> Result<Riders, NoMemory>
+        requires { All Fits (keys_of classes.entries) }
+        ensures { IfOk result (λ r. r ≡ by_bytes classes.entries) }
     {
-        let marks = RiderMarks::new(alloc, &terms)?;
-        Ok(Riders { terms, marks })
+        let marks = RiderMarks::new(alloc, &classes)?;
+        Ok(Riders { classes, marks })
     }
 
-    /// The terms of the rider with this token, if there is one.
-    pub(crate) fn terms_of(&self, token: &[u8]) -> Option<Terms>
+    /// The place of the class of the rider with this token, if there is one.
+    pub(crate) fn class_of(&self, token: &[u8]) -> Option<u32>
         requires { length token.now ≡ 16 }
         ensures { result ≡ lookup (is_at (slice_cmp nat_cmp token.now)) self.now }
     {
@@ -62,8 +60,8 @@ impl Riders {
         if !self.marks.has(token) {
             return None;
         }
-        match self.terms.get(&token) {
-            Some(terms) => Some(*terms),
+        match self.classes.get(&token) {
+            Some(class) => Some(*class),
             None => None,
         }
     }

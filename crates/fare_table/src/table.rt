@@ -4,18 +4,20 @@ ghost use Rattle.std.specs.Prelude.{IfOk, IsErrOf, IsUtf8, IsOk, Err, Ok, None, 
 ghost use Rattle.std.specs.Prelude.{slice_get, string_bytes};
 ghost use Rattle.toml.specs.Parse.{parse_document};
 ghost use Rattle.toml.specs.View.{table_view};
-ghost use Rattle.fare_table.specs.Fares.{mode_at, is_permitted, terms_at};
+ghost use Rattle.fare_table.specs.Fares.{class_of, is_permitted, mode_at, ride_terms, terms_at};
+ghost use Rattle.fare_table.specs.Fares.{transfer_terms};
 ghost use Rattle.fare_table.specs.inside.OrFault.{Answers};
 ghost use Rattle.fare_table.specs.inside.PosixRule.{HasRule, rule_of};
 ghost use Rattle.fare_table.specs.declared.fault.TableFault.{TableFault};
 ghost use Rattle.fare_table.specs.TableMeaning.{meaning_in, meaning_of_tree};
 ghost use Rattle.fare_table.specs.Zone.{IsZoneOf, zone_rule, zone_text};
-ghost use Rattle.fare_table.specs.Terms.{AreBoundedTerms};
+ghost use Rattle.fare_table.specs.Terms.{AreBoundedTerms, AreRideTerms};
 
+use crate::class::Class;
 use crate::clock::Clock;
 use crate::fault::TableFault;
 use crate::mode::Mode;
-use crate::read::classes::{classes_of, default_of};
+use crate::read::classes::{classes_from, classes_of, default_of};
 use crate::read::modes::modes_of;
 use crate::read::riders::riders_of;
 use crate::read::transfers::transfers_of;
@@ -23,6 +25,7 @@ use crate::read::validators::ranges_of;
 use crate::read::zone::zone_of;
 use crate::riders::Riders;
 use crate::terms::Terms;
+use crate::transfer_terms::TransferTerms;
 use crate::transfers::Transfers;
 use crate::validators::Ranges;
 use crate::zone::Zone;
@@ -61,11 +64,13 @@ struct TableData {
     modes: Vec<String>,
     /// The permitted transfers.
     transfers: Transfers,
-    /// The terms of the default class.
-    standard: Terms,
+    /// The classes by their places.
+    classes: Vec<Class>,
+    /// The place of the default class.
+    standard: u32,
     /// The ranges of validators and their modes.
     ranges: Ranges,
-    /// The terms of single riders.
+    /// The classes of single riders.
     riders: Riders,
     /// The zone, if the table names one.
     zone: Option<Zone>,
@@ -151,16 +156,53 @@ impl FareTable {
         self.parts.modes[mode.place as usize].as_str()
     }
 
-    /// What the rider of a token pays: the terms of the rider's class, else of the default class.
+    /// The place of the class of a token's rider: of the rider's own class, else of the default
+    /// one. `ride_terms` and `transfer_terms` say what the class pays and gives, so that the token
+    /// is looked up once.
+    pub fn class_of(&self, token: &[u8]) -> u32
+        requires { length token.now ≡ 16 }
+        ensures class { result ≡ class_of self.now token.now }
+        ensures there { result < length self.now.meaning.classes }
+    {
+        match self.parts.riders.class_of(token) {
+            Some(class) => class,
+            None => self.parts.standard,
+        }
+    }
+
+    /// What the class at the place pays for a ride on the mode, in cents.
+    pub fn ride_terms(&self, class: u32, mode: Mode) -> Terms
+        requires class { class < length self.now.meaning.classes }
+        requires mode { mode.place < length self.now.meaning.modes }
+        ensures terms { result ≡ ride_terms self.now class mode.place }
+        ensures bounds { AreRideTerms result }
+    {
+        let class = &self.parts.classes[class as usize];
+        Terms {
+            fare: class.fares[mode.place as usize],
+            rides: class.terms.rides,
+            ceiling: class.terms.ceiling,
+        }
+    }
+
+    /// What the rides of the class at the place give: a number of taps, and a time in milliseconds.
+    pub fn transfer_terms(&self, class: u32) -> TransferTerms
+        requires { class < length self.now.meaning.classes }
+        ensures terms { result ≡ transfer_terms self.now class }
+        ensures taps { result.taps ≤ 9 }
+        ensures time { result.time ≤ 86_400_000 }
+    {
+        self.parts.classes[class as usize].transfers
+    }
+
+    /// What the rider of a token pays, in cents: the terms of the rider's class, else of the default
+    /// class.
     pub fn terms_of(&self, token: &[u8]) -> Terms
         requires { length token.now ≡ 16 }
         ensures terms { result ≡ terms_at self.now token.now }
         ensures bounds { AreBoundedTerms result }
     {
-        match self.parts.riders.terms_of(token) {
-            Some(terms) => terms,
-            None => self.parts.standard,
-        }
+        self.parts.classes[self.class_of(token) as usize].terms
     }
 }
 
@@ -172,14 +214,16 @@ fn table_of(alloc: Global, table: &Table) -> Result<FareTable, TableFault>
 {
     let modes = modes_of(alloc, table)?;
     let transfers = transfers_of(alloc, &modes, table)?;
-    let classes = classes_of(table)?;
-    let standard = default_of(classes, table)?;
+    let members = classes_of(table)?;
+    let classes = classes_from(alloc, members)?;
+    let standard = default_of(members, table)?;
     let ranges = ranges_of(alloc, &modes, table)?;
-    let riders = riders_of(alloc, classes, table)?;
+    let riders = riders_of(alloc, members, table)?;
     let zone = zone_of(alloc, table)?;
     let parts = TableData {
         modes,
         transfers,
+        classes,
         standard,
         ranges,
         riders,

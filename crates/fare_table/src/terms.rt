@@ -4,7 +4,7 @@
 /// capping); the ceiling on what they cost together is this project's.
 #[derive(Clone, Copy, Debug, PartialEq, Eq)]
 pub struct Terms {
-    /// The price of one ride in cents, 1 to 100,000.
+    /// The price of one ride in cents, at most 100,000.
     pub fare: u32,
     /// How many rides are paid for, 1 to 1,000; further ones are free.
     pub rides: u32,

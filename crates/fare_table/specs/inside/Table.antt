@@ -1,8 +1,8 @@
 -- What holds of the parts of every fare table, and what contracts see of them.
-use Rattle.std.specs.Prelude.{◌≡◌, ◌≤◌, true, All, length, map, string_bytes}
+use Rattle.std.specs.Prelude.{◌≡◌, ◌<◌, ◌≤◌, true, All, length, map, string_bytes}
 use Rattle.std.specs.Map.{values_of}
 use Rattle.fare_table.specs.Fares.{Fares}
-use Rattle.fare_table.specs.Terms.{AreBoundedTerms}
+use Rattle.fare_table.specs.Terms.{IsBoundedClass}
 use Rattle.fare_table.specs.Zone.{zone_rule, zone_text}
 use Rattle.fare_table.specs.declared.table.TableData.{TableData}
 use Rattle.fare_table.specs.Validators.{are_modes_below}
@@ -13,6 +13,7 @@ fares_of parts = record {
   meaning = record {
     modes = map string_bytes parts.modes.items;
     transfers = parts.transfers;
+    classes = parts.classes.items;
     standard = parts.standard;
     ranges = parts.ranges;
     riders = parts.riders;
@@ -21,9 +22,11 @@ fares_of parts = record {
   zone = zone_rule parts.zone;
 }
 
--- at most 32 modes, ranges of modes of the table, and terms within their bounds
+-- at most 32 modes, ranges of modes of the table, classes within their bounds, and places that have
+-- a class
 pub record AreSound (parts : TableData) : Type 0 where
   pub few : length parts.modes.items ≤ 32
   pub known : are_modes_below (length parts.modes.items) parts.ranges ≡ true
-  pub standard : AreBoundedTerms parts.standard
-  pub riders : All AreBoundedTerms (values_of parts.riders)
+  pub classes : All IsBoundedClass parts.classes.items
+  pub standard : parts.standard < length parts.classes.items
+  pub riders : All (λ place. place < length parts.classes.items) (values_of parts.riders)

@@ -1,16 +1,26 @@
-//! The keys `classes` and `default_class`: what rider classes pay.
-ghost use Rattle.std.specs.Prelude.{◌≡◌, ◌≤◌, IfOk, option_map};
+//! The keys `classes` and `default_class`: what rider classes pay, and what their rides give.
+ghost use Rattle.std.specs.Prelude.{◌≡◌, ◌+◌, ◌<◌, ◌≤◌, [], All, IfErr, IfOk, option_map};
+ghost use Rattle.std.specs.Prelude.{vec_len};
 ghost use Rattle.toml.specs.View.{view, table_view};
+ghost use Rattle.fare_table.specs.Classes.{count_of};
 ghost use Rattle.fare_table.specs.Classes as spec;
-ghost use Rattle.fare_table.specs.inside.OrFault.{seen_through};
-ghost use Rattle.fare_table.specs.Terms.{AreBoundedTerms};
+ghost use Rattle.fare_table.specs.declared.fault.TableFault.{TableFault};
+ghost use Rattle.fare_table.specs.inside.OrFault.{Answers, seen_through};
+ghost use Rattle.fare_table.specs.Terms.{AreBoundedTerms, IsBoundedClass};
 
 use super::members::{hold_tables, number_at, number_in, of_kind, optional, table_at, text_at};
+use crate::class::Class;
 use crate::fault::{Key, TableFault};
+use crate::mode::MAX_MODES;
 use crate::terms::Terms;
+use crate::transfer_terms::TransferTerms;
+use std::alloc::Global;
 use toml::{Table, Value};
 
-/// The classes of the text, each with terms.
+/// For how long a ride gives transfers, in milliseconds: two hours.
+const TWO_HOURS_MS: u32 = 7_200_000;
+
+/// The classes of the text, at least one.
 #[tactic(auto, unfolding(crate::specs::Classes::classes_of))]
 pub(crate) fn classes_of(table: &Table) -> Result<&Table, TableFault>
     ensures { seen_through (λ m. table_view m.now) result ≡ spec.classes_of (table_view table.now) }
@@ -22,7 +32,6 @@ pub(crate) fn classes_of(table: &Table) -> Result<&Table, TableFault>
     if is_empty(classes) {
         return Err(TableFault::Range { key: Key::Classes });
     }
-    checked(classes)?;
     Ok(classes)
 }
 
@@ -33,22 +42,43 @@ fn is_empty(classes: &Table) -> bool
     classes.is_empty()
 }
 
-/// The first fault of the classes, class by class.
-fn checked(classes: &Table) -> Result<(), TableFault>
-    ensures { result ≡ spec.checked (table_view classes.now) }
+/// The classes of these members, each at its place.
+pub(crate) fn classes_from(alloc: Global, classes: &Table) -> Result<Vec<Class>, TableFault>
+    ensures answer { Answers (λ v. v.items) result (spec.classes_from [] (table_view classes.now)) }
+    ensures bounds { IfOk result (λ v. All IsBoundedClass v.items) }
+    ensures count { IfOk result (λ v. vec_len v ≡ count_of (table_view classes.now)) }
 {
+    let mut found = Vec::new(alloc);
     for (_name, value) in classes {
-        class_in(value)?;
+        let class = class_in(value)?;
+        found.push(class)?;
     }
-    Ok(())
+    Ok(found)
 }
 
-/// The terms of a value, where it is a table.
-fn class_in(value: &Value) -> Result<Terms, TableFault>
-    ensures terms { result ≡ spec.class_in (view value.now) }
-    ensures bounds { IfOk result AreBoundedTerms }
+/// The class of a value, where it is a table.
+fn class_in(value: &Value) -> Result<Class, TableFault>
+    ensures class { result ≡ spec.class_in (view value.now) }
+    ensures bounds { IfOk result IsBoundedClass }
 {
-    class_of(of_kind(value.as_table(), Key::Classes)?)
+    let terms = class_of(of_kind(value.as_table(), Key::Classes)?)?;
+    Ok(plain_class(terms))
+}
+
+/// The class of these terms: one fare on all modes, and one transfer within two hours.
+fn plain_class(terms: Terms) -> Class
+    requires { AreBoundedTerms terms }
+    ensures class { result ≡ spec.plain_class terms }
+    ensures bounds { IsBoundedClass result }
+{
+    Class {
+        terms,
+        fares: [terms.fare; MAX_MODES],
+        transfers: TransferTerms {
+            taps: 1,
+            time: TWO_HOURS_MS,
+        },
+    }
 }
 
 /// The terms of a class: its fare, its rides and its ceiling.
@@ -81,22 +111,40 @@ fn ceiling_of(price: u32, value: Option<&Value>) -> Result<u32, TableFault>
     }
 }
 
-/// The terms of the class of this name.
-pub(crate) fn class_named(classes: &Table, name: &str) -> Result<Terms, TableFault>
-    ensures terms { result ≡ spec.class_named (table_view classes.now) name.now }
-    ensures bounds { IfOk result AreBoundedTerms }
+/// The place of the class of this name. A place that `u32` does not hold is answered as refused
+/// memory, since no memory holds so many classes.
+pub(crate) fn class_named(classes: &Table, name: &str) -> Result<u32, TableFault>
+    ensures place { Answers (λ place. place) result
+        (spec.class_named (table_view classes.now) name.now) }
+    ensures there { IfOk result (λ place. place < count_of (table_view classes.now)) }
 {
-    let Some(value) = optional(classes, name) else {
-        return Err(TableFault::Rider);
-    };
-    class_in(value)
+    let mut place = 0u32;
+    for (key, _value) in classes {
+        if name == key.as_str() {
+            return Ok(place);
+        }
+        place = next_place(place)?;
+    }
+    Err(TableFault::Rider)
 }
 
-/// The terms of the default class.
+/// The place behind this one.
+fn next_place(place: u32) -> Result<u32, TableFault>
+    ensures next { IfOk result (λ next. next ≡ place + 1) }
+    ensures refused { IfErr result (λ e. e ≡ TableFault.NoMemory) }
+{
+    match place.checked_add(1) {
+        Some(next) => Ok(next),
+        None => Err(TableFault::NoMemory),
+    }
+}
+
+/// The place of the default class.
 #[tactic(auto, unfolding(crate::specs::Classes::default_of))]
-pub(crate) fn default_of(classes: &Table, table: &Table) -> Result<Terms, TableFault>
-    ensures terms { result ≡ spec.default_of (table_view classes.now) (table_view table.now) }
-    ensures bounds { IfOk result AreBoundedTerms }
+pub(crate) fn default_of(classes: &Table, table: &Table) -> Result<u32, TableFault>
+    ensures place { Answers (λ place. place) result
+        (spec.default_of (table_view classes.now) (table_view table.now)) }
+    ensures there { IfOk result (λ place. place < count_of (table_view classes.now)) }
 {
     class_named(classes, text_at(table, "default_class", Key::DefaultClass)?)
 }

@@ -1,10 +1,10 @@
-//! The key `riders`: the terms of single riders by their tokens.
-ghost use Rattle.std.specs.Prelude.{◌≡◌, [], All, IfOk};
+//! The key `riders`: the classes of single riders by their tokens.
+ghost use Rattle.std.specs.Prelude.{◌≡◌, ◌<◌, [], All, IfOk};
 ghost use Rattle.std.specs.Map.{keys_of, values_of};
 ghost use Rattle.toml.specs.View.{view, table_view};
 ghost use Rattle.fare_table.specs.inside.OrFault.{Answers};
 ghost use Rattle.fare_table.specs.Riders as spec;
-ghost use Rattle.fare_table.specs.Terms.{AreBoundedTerms};
+ghost use Rattle.fare_table.specs.Classes.{count_of};
 ghost use Rattle.tap_views.specs.Token.{Fits};
 ghost use Rattle.fare_table.specs.Riders.{by_bytes};
 
@@ -12,19 +12,20 @@ use super::classes::class_named;
 use super::members::{hold_strings, of_kind, optional};
 use crate::fault::{Key, TableFault};
 use crate::riders::Riders;
-use crate::terms::Terms;
 use hex::FromHex;
 use std::alloc::Global;
 use std::collections::BTreeMap;
 use tap_views::Token;
 use toml::{Table, Value};
 
-/// The terms of the riders that the text names, by their tokens; none where it has no such key.
+/// The places of the classes of the riders that the text names, by their tokens; none where it has
+/// no such key.
 #[tactic(auto, unfolding(crate::specs::Riders::riders_of))]
 pub(crate) fn riders_of(alloc: Global, classes: &Table, table: &Table) -> Result<Riders, TableFault>
     ensures answer { Answers (λ r. r) result
         (spec.riders_of (table_view classes.now) (table_view table.now)) }
-    ensures bounds { IfOk result (λ r. All AreBoundedTerms (values_of r)) }
+    ensures there { IfOk result
+        (λ r. All (λ place. place < count_of (table_view classes.now)) (values_of r)) }
 {
     let Some(value) = optional(table, "riders") else {
         return Ok(Riders::new(alloc, BTreeMap::new(alloc))?);
@@ -37,33 +38,35 @@ pub(crate) fn riders_of(alloc: Global, classes: &Table, table: &Table) -> Result
     Ok(Riders::new(alloc, riders)?)
 }
 
-/// The terms of the riders of these members, each a token in hexadecimal digits and a class.
+/// The places of the classes of these members, each a token in hexadecimal digits and a class.
 fn riders_from(
     alloc: Global,
     classes: &Table,
     members: &Table,
-) -> Result<BTreeMap<Token, Terms>, TableFault>
+) -> Result<BTreeMap<Token, u32>, TableFault>
     ensures answer { Answers (λ m. by_bytes m.entries) result
         (spec.riders_from (table_view classes.now) [] (table_view members.now)) }
     ensures fits { IfOk result (λ m. All Fits (keys_of m.entries)) }
-    ensures bounds { IfOk result (λ m. All AreBoundedTerms (values_of (by_bytes m.entries))) }
+    ensures there { IfOk result (λ m. All (λ place. place < count_of (table_view classes.now))
+        (values_of (by_bytes m.entries))) }
 {
     let mut riders = BTreeMap::new(alloc);
     for (key, value) in members {
-        let (bytes, terms) = rider_of(classes, key.as_str(), value)?;
+        let (bytes, class) = rider_of(classes, key.as_str(), value)?;
         let token = Token::of(&bytes);
         if riders.contains_key(&token) {
             return Err(TableFault::Rider);
         }
-        riders.insert(token, terms)?;
+        riders.insert(token, class)?;
     }
     Ok(riders)
 }
 
-/// The token of a rider and the terms of the class that the value names.
-fn rider_of(classes: &Table, key: &str, value: &Value) -> Result<([u8; 16], Terms), TableFault>
-    ensures rider { result ≡ spec.rider_of (table_view classes.now) key.now (view value.now) }
-    ensures bounds { IfOk result (λ rider. AreBoundedTerms rider.1) }
+/// The token of a rider and the place of the class that the value names.
+fn rider_of(classes: &Table, key: &str, value: &Value) -> Result<([u8; 16], u32), TableFault>
+    ensures rider { Answers (λ rider. rider) result
+        (spec.rider_of (table_view classes.now) key.now (view value.now)) }
+    ensures there { IfOk result (λ rider. rider.1 < count_of (table_view classes.now)) }
 {
     let token = token_of_digits(key)?;
     let name = of_kind(value.as_str(), Key::Riders)?;

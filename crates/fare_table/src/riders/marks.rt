@@ -5,7 +5,6 @@ ghost use Rattle.std.specs.Prelude.{◌≡◌, ◌<◌, ◌≤◌, ◌*◌, true
 ghost use Rattle.std.specs.Map.{keys_of};
 ghost use Rattle.fare_table.specs.RiderMarks.{is_marked, mark_place};
 
-use crate::terms::Terms;
 use std::alloc::Global;
 use std::collections::BTreeMap;
 use std::marker::Model;
@@ -36,13 +35,13 @@ impl Model for RiderMarks {
 
 impl RiderMarks {
     /// The marks of a map's tokens. `NoMemory` is answered where a growth is refused.
-    pub(crate) fn new(alloc: Global, terms: &BTreeMap<Token, Terms>) -> Result<RiderMarks, NoMemory>
+    pub(crate) fn new(alloc: Global, riders: &BTreeMap<Token, u32>) -> Result<RiderMarks, NoMemory>
         ensures marked { IfOk result
-            (λ marks. All (λ token. is_marked marks token ≡ true) (keys_of terms.now.entries)) }
-        ensures few { IfOk result (λ marks. length marks ≤ 16 * length terms.now.entries) }
+            (λ marks. All (λ token. is_marked marks token ≡ true) (keys_of riders.now.entries)) }
+        ensures few { IfOk result (λ marks. length marks ≤ 16 * length riders.now.entries) }
     {
-        let mut marks = vec![in alloc; false; marks_for(terms.len())?]?;
-        for token in terms.keys() {
+        let mut marks = vec![in alloc; false; marks_for(riders.len())?]?;
+        for token in riders.keys() {
             let place = mark_place(*token, marks.len());
             marks[place] = true;
         }

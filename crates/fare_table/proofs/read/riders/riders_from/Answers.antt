@@ -1,4 +1,4 @@
-use Rattle.std.proofs.Common.{◌≡◌, ◌∙◌, ℕ, true, false, List, Err, Ok, ap, refl, sym, subst}
+use Rattle.std.proofs.Common.{◌≡◌, ◌∙◌, ◌<◌, ℕ, true, false, List, Err, Ok, ap, refl, sym, subst}
 use Rattle.std.proofs.Common.{string_bytes}
 use Rattle.std.proofs.lemmas.Map.Views.{All-keys-insert_entry, All-values-insert_entry}
 use Rattle.std.specs.BTreeMap.{insert_entry}
@@ -9,21 +9,20 @@ use Rattle.toml.specs.View.{members_view, view}
 use Rattle.fare_table.proofs.RiderBytes.{found-by_bytes, insert-by_bytes}
 use Rattle.fare_table.specs.Riders.{is_rider, rider_of, riders_from}
 use Rattle.fare_table.specs.declared.fault.TableFault.TheVariants.{Rider}
-use Rattle.fare_table.specs.Terms.{AreBoundedTerms}
+use Rattle.fare_table.specs.Classes.{count_of}
 use Rattle.tap_views.specs.Token.{Fits, token_cmp}
 use Rattle.fare_table.specs.Riders.{by_bytes}
-use Rattle.fare_table.specs.declared.terms.Terms.{Terms}
 use Rattle.fare_table.proofs.read.riders.riders_from.Goals as goal
 
-riders-step : (classes : Members) (earlier riders : List (List ℕ × Terms)) (key : List ℕ)
-    (value : Data) (more : Members) (token : List ℕ) (terms : Terms)
+riders-step : (classes : Members) (earlier riders : List (List ℕ × ℕ)) (key : List ℕ)
+    (value : Data) (more : Members) (token : List ℕ) (terms : ℕ)
     → rider_of classes key value ≡ Ok (token, terms) → is_rider earlier token ≡ false
     → riders ≡ insert_entry (slice_cmp nat_cmp) earlier token terms
     → riders_from classes earlier (member key value more) ≡ riders_from classes riders more
 riders-step classes earlier riders key value more token terms is free one = rw (is, free, one)
 
-rider-again : (classes : Members) (earlier : List (List ℕ × Terms)) (key : List ℕ) (value : Data)
-    (more : Members) (token : List ℕ) (terms : Terms)
+rider-again : (classes : Members) (earlier : List (List ℕ × ℕ)) (key : List ℕ) (value : Data)
+    (more : Members) (token : List ℕ) (terms : ℕ)
     → rider_of classes key value ≡ Ok (token, terms) → is_rider earlier token ≡ true
     → riders_from classes earlier (member key value more) ≡ Err Rider
 rider-again classes earlier key value more token terms is again = rw (is, again)
@@ -36,10 +35,10 @@ returns-then-contains_key-clause-answer c =
     let key = string_bytes c.in-Some.key.now in
     let value = view c.in-Some.value.now in
     let bytes = c.in_ok-bytes.bytes in
-    let terms = c.in_ok-bytes.terms in
+    let terms = c.in_ok-bytes.class in
     let is : rider_of classes key value ≡ Ok (bytes, terms) =
     let P : List ℕ → Type 0 = λ text. rider_of classes text value ≡ Ok (bytes, terms) in
-    subst P c.as_str.ensures.value (sym c.in_ok-bytes.ensures.rider) in
+    subst P c.as_str.ensures.value c.in_ok-bytes.ensures.rider in
     let again : is_rider earlier bytes ≡ true =
     rw (← found-by_bytes c.of-token.result entries bytes earlier c.of-token.ensures.fits
     c.loop-key.invariant.fits c.of-token.ensures.bytes refl) (sym c.contains_key.ensures
@@ -58,10 +57,10 @@ loop-key-preserved c =
     let key = string_bytes c.in-Some.key.now in
     let value = view c.in-Some.value.now in
     let bytes = c.in_ok-bytes.bytes in
-    let terms = c.in_ok-bytes.terms in
+    let terms = c.in_ok-bytes.class in
     let is : rider_of classes key value ≡ Ok (bytes, terms) =
     let P : List ℕ → Type 0 = λ text. rider_of classes text value ≡ Ok (bytes, terms) in
-    subst P c.as_str.ensures.value (sym c.in_ok-bytes.ensures.rider) in
+    subst P c.as_str.ensures.value c.in_ok-bytes.ensures.rider in
     let fits = c.loop-key.invariant.fits in
     let free : is_rider earlier bytes ≡ false =
     rw (← found-by_bytes c.of-token.result entries bytes earlier c.of-token.ensures.fits fits
@@ -79,6 +78,7 @@ loop-key-preserved c =
       fits = rw c.in_ok-insert.ensures.entries
           (All-keys-insert_entry token_cmp c.of-token.result terms Fits entries fits
           c.of-token.ensures.fits);
-      bounds = rw one (All-values-insert_entry (slice_cmp nat_cmp) bytes terms AreBoundedTerms earlier
-          c.loop-key.invariant.bounds c.in_ok-bytes.ensures.bounds);
+      there = rw one (All-values-insert_entry (slice_cmp nat_cmp) bytes terms
+          (λ place. place < count_of classes) earlier c.loop-key.invariant.there
+          c.in_ok-bytes.ensures.there);
     }

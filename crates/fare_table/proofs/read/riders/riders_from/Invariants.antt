@@ -1,8 +1,8 @@
-use Rattle.std.proofs.Common.{◌≡◌, [], All}
+use Rattle.std.proofs.Common.{◌≡◌, ◌<◌, [], All}
 use Rattle.std.specs.Map.{keys_of, values_of}
 use Rattle.toml.specs.View.{members_view}
 use Rattle.fare_table.specs.Riders.{riders_from}
-use Rattle.fare_table.specs.Terms.{AreBoundedTerms}
+use Rattle.fare_table.specs.Classes.{count_of}
 use Rattle.tap_views.specs.Token.{Fits}
 use Rattle.fare_table.specs.Riders.{by_bytes}
 use Rattle.fare_table.proofs.read.riders.riders_from.Given as goal
@@ -14,5 +14,6 @@ invariant-loop-key l = record {
       ≡ riders_from (members_view l.classes.entries) (by_bytes l.riders.entries)
       (members_view l.key-iterator);
   fits : All Fits (keys_of l.riders.entries);
-  bounds : All AreBoundedTerms (values_of (by_bytes l.riders.entries));
+  there : All (λ place. place < count_of (members_view l.classes.entries))
+      (values_of (by_bytes l.riders.entries));
 }

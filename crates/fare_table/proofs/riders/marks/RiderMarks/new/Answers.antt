@@ -11,7 +11,7 @@ use Rattle.fare_table.proofs.riders.marks.RiderMarks.new.Goals as goal
 
 pub mark_place-place-requires : goal.mark_place-place-requires
 mark_place-place-requires c =
-    let entries = c.args.terms.now.entries in
+    let entries = c.args.riders.now.entries in
     let turn = iter_turn (deref {X = Token}) (keys_of entries) c.loop-token.yielded _ _ _ _
     (c.into_iter-token-iterator.ensures.into_iter_gives ∙ c.keys-token-items.ensures.rest)
     c.loop-token.yielded_by c.in-Some.token c.in-Some.is c.next.ensures.steps in

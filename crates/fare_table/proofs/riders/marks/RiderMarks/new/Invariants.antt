@@ -5,6 +5,6 @@ use Rattle.fare_table.proofs.riders.marks.RiderMarks.new.Given as goal
 abbrev pub invariant-loop-token : goal.invariant-loop-token
 invariant-loop-token l = record {
   marked : All (λ token. is_marked l.marks.items token.now ≡ true) l.yielded;
-  few : length l.marks.items ≤ 16 * length l.terms.entries;
-  some : 0 < length l.terms.entries → 0 < length l.marks.items;
+  few : length l.marks.items ≤ 16 * length l.riders.entries;
+  some : 0 < length l.riders.entries → 0 < length l.marks.items;
 }

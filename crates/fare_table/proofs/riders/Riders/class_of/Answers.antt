@@ -1,11 +1,11 @@
 use Rattle.std.proofs.Common.{◌∙◌, rules, sym}
 use Rattle.fare_table.proofs.TokenMarks.{lookup-unmarked}
 use Rattle.fare_table.proofs.RiderBytes.{found-by_bytes}
-use Rattle.fare_table.proofs.riders.Riders.terms_of.Goals as goal
+use Rattle.fare_table.proofs.riders.Riders.class_of.Goals as goal
 
 pub returns-then-not-has : goal.returns-then-not-has
 returns-then-not-has c =
-    let entries = c.self.inside.terms.entries in
+    let entries = c.self.inside.classes.entries in
     sym (lookup-unmarked c.self.inside.marks c.of-token.result entries c.self.invariant.marked
     (search rules))
     ∙ found-by_bytes c.of-token.result entries _ _ c.of-token.ensures.fits c.self.invariant.fits
@@ -14,11 +14,11 @@ returns-then-not-has c =
 pub returns-in-Some : goal.returns-in-Some
 returns-in-Some c =
     c.in-Some.ensures.value
-    ∙ found-by_bytes c.of-token.result c.self.inside.terms.entries _ _ c.of-token.ensures.fits
+    ∙ found-by_bytes c.of-token.result c.self.inside.classes.entries _ _ c.of-token.ensures.fits
     c.self.invariant.fits c.of-token.ensures.bytes c.self.view_is
 
 pub returns-in-None : goal.returns-in-None
 returns-in-None c =
     c.in-None.ensures.value
-    ∙ found-by_bytes c.of-token.result c.self.inside.terms.entries _ _ c.of-token.ensures.fits
+    ∙ found-by_bytes c.of-token.result c.self.inside.classes.entries _ _ c.of-token.ensures.fits
     c.self.invariant.fits c.of-token.ensures.bytes c.self.view_is

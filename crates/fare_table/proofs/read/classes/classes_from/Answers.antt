@@ -1,0 +1,46 @@
+use Rattle.std.proofs.Common.{◌≡◌, ◌∙◌, ◌+◌, ℕ, List, [], ◌∷◌, ◌++◌, All, Ok, ap, arith, length}
+use Rattle.std.proofs.Common.{length-append, sym, string_bytes}
+use Rattle.std.proofs.lemmas.Grind.{common_steps}
+use Rattle.toml.specs.Data.{Data, Members, member}
+use Rattle.toml.specs.View.{members_view, view}
+use Rattle.fare_table.specs.Classes.{class_in, classes_from, count_of}
+use Rattle.fare_table.specs.Terms.{IsBoundedClass}
+use Rattle.fare_table.specs.declared.class.Class.{Class}
+use Rattle.fare_table.proofs.read.classes.classes_from.Goals as goal
+
+classes-step : (earlier found : List Class) (key : List ℕ) (value : Data) (more : Members)
+    (one : Class) → class_in value ≡ Ok one → found ≡ earlier ++ one ∷ []
+    → classes_from earlier (member key value more) ≡ classes_from found more
+classes-step earlier found key value more one is same = rw (is, same)
+
+all_with : (earlier found : List Class) (one : Class) → All IsBoundedClass earlier
+    → IsBoundedClass one → found ≡ earlier ++ one ∷ [] → All IsBoundedClass found
+all_with earlier found one all bounded same = grind (arith, common_steps)
+
+count-step : (whole : ℕ) (earlier found : List Class) (one : Class) (key : List ℕ) (value : Data)
+    (more : Members) → whole ≡ length earlier + count_of (member key value more)
+    → found ≡ earlier ++ one ∷ [] → whole ≡ length found + count_of more
+count-step whole earlier found one key value more is same =
+    let longer : length found ≡ length earlier + 1 = ap length same ∙ length-append earlier (one ∷ []) in
+    omega (arith, is, longer)
+
+pub loop-name-preserved : goal.loop-name-preserved
+loop-name-preserved c =
+    let classes = members_view c.args.classes.now.entries in
+    let earlier = c.loop-name.found.items in
+    let found = c.push.new.self.items in
+    let key = string_bytes c.in-Some._name.now in
+    let value = view c.in-Some.value.now in
+    let more = members_view c.next.new.self in
+    let one = c.in_ok-class.class in
+    let same : found ≡ earlier ++ one ∷ [] = c.in_ok-push.ensures.items in
+    record {
+      same =
+          c.loop-name.invariant.same
+          ∙ ap (λ more. classes_from earlier (members_view more)) c.in-Some.ensures.steps
+          ∙ classes-step earlier found key value more one (sym c.in_ok-class.ensures.class) same;
+      bounds = all_with earlier found one c.loop-name.invariant.bounds c.in_ok-class.ensures.bounds same;
+      count = count-step (count_of classes) earlier found one key value more
+          (c.loop-name.invariant.count
+          ∙ ap (λ more. length earlier + count_of (members_view more)) c.in-Some.ensures.steps) same;
+    }

@@ -1,0 +1,16 @@
+//! A rider class of a table.
+
+use crate::mode::MAX_MODES;
+use crate::terms::Terms;
+use crate::transfer_terms::TransferTerms;
+
+/// What a rider class pays, and what its rides give.
+#[derive(Clone, Copy)]
+pub struct Class {
+    /// What it pays for the rides of one window.
+    pub terms: Terms,
+    /// The price of one ride in cents by the place of its mode, at most 100,000.
+    pub fares: [u32; MAX_MODES],
+    /// What its rides give.
+    pub transfers: TransferTerms,
+}

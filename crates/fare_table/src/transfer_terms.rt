@@ -1,0 +1,11 @@
+//! What a ride gives.
+
+/// How many taps a ride gives for nothing, and for how long. That a ride includes one transfer
+/// within two hours is the MTA's rule (free transfers).
+#[derive(Clone, Copy, Debug, PartialEq, Eq)]
+pub struct TransferTerms {
+    /// How many taps a ride gives, 0 to 9.
+    pub taps: u32,
+    /// For how long from the ride on, in milliseconds, the limit included (this project's choice).
+    pub time: u32,
+}
