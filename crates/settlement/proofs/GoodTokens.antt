@@ -22,7 +22,8 @@ some_fares = record {
   meaning = record {
     modes = [];
     transfers = [];
-    standard = record { fare = 0; rides = 0; ceiling = 0 };
+    classes = [];
+    standard = 0;
     ranges = [];
     riders = [];
     zone = None;

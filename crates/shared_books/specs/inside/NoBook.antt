@@ -11,7 +11,8 @@ no_fares = record {
       record {
         modes = [];
         transfers = [];
-        standard = record { fare = 0; rides = 0; ceiling = 0 };
+        classes = [];
+        standard = 0;
         ranges = [];
         riders = [];
         zone = None;
