@@ -11,7 +11,8 @@ use Rattle.std.specs.Ordering.{is_eq, match_ordering, nat_cmp}
 use Rattle.std.specs.declared.cmp.Ordering.TheVariants.{Less, Equal, Greater}
 use Rattle.std.proofs.lemmas.Map.Text.{is_eq-slice_cmp}
 use Rattle.std.proofs.Common.{Ordering}
-use Rattle.std.specs.Prelude.{pos, int_le, position, unsigned_abs, if◌then◌else◌}
+use Rattle.std.specs.Prelude.{pos, int_le, position, replicate, slice_set, unsigned_abs}
+use Rattle.std.specs.Prelude.{if◌then◌else◌}
 use Rattle.std.specs.Result.{result_err}
 use Rattle.toml.specs.Data.{Data, Items, no_items, item, Members, no_members, member, string}
 use Rattle.toml.specs.Data.{integer, array, table, get_member, as_str, as_integer, as_array}
@@ -20,14 +21,18 @@ use Rattle.fare_table.proofs.PartLemmas.{bind_ok}
 use Rattle.fare_table.proofs.PayLemmas.{by_table, by_tables, if_else, same_ok, terms_by}
 use Rattle.fare_table.proofs.ElementLemmas.{if_ok}
 use Rattle.fare_table.specs.Classes.{ceiling_of, class_named, class_of, classes_from, classes_of}
-use Rattle.fare_table.specs.Classes.{default_of, is_empty, place_of, plain_class}
+use Rattle.fare_table.specs.Classes.{default_of, fares_from, fares_of, is_empty, place_of}
+use Rattle.fare_table.specs.Classes.{ride_transfers_of, terms_of}
 use Rattle.fare_table.specs.declared.class.Class.{Class}
-use Rattle.fare_table.specs.Faults.{FaultRow, Where, top, class, a_row, are_pairs, are_texts, class_rows}
+use Rattle.fare_table.specs.Faults.{FaultRow, Where, top, class, mode_fare, a_row, are_pairs}
+use Rattle.fare_table.specs.Faults.{are_texts, class_rows, fare_at, fare_rows, fares_in}
+use Rattle.fare_table.specs.Faults.{optional_rows, rows_of_fares, rows_of_terms, rows_of_transfers}
 use Rattle.fare_table.specs.Faults.{classes_in, first_row, holds, is_from, is_kind, is_mode}
 use Rattle.fare_table.specs.Faults.{is_in_bounds, is_wrong, items_of, member_at, members_at}
 use Rattle.fare_table.specs.Faults.{members_of, mode_names, needed_rows, pairs, holds_of_some}
 use Rattle.fare_table.specs.Faults.{rows_of_class, texts, value_at, string_of}
-use Rattle.fare_table.specs.Members.{hold_tables, table_at, number_at, number_in, of_kind, within}
+use Rattle.fare_table.specs.Members.{hold_numbers, hold_tables, table_at, number_at, number_in}
+use Rattle.fare_table.specs.Members.{number_or, of_kind, within}
 use Rattle.fare_table.specs.Modes.{are_mode_names, modes_of, same_name, strings_from}
 use Rattle.fare_table.specs.OrFault.{OrFault, ◌>>=◌}
 use Rattle.fare_table.specs.Transfers.{name_pair, pairs_from, transfers_from, transfers_of}
@@ -37,7 +42,6 @@ use Rattle.fare_table.specs.declared.fault.Key.TheVariants as the_key
 use Rattle.fare_table.specs.declared.fault.TableFault.{TableFault}
 use Rattle.fare_table.specs.declared.fault.TableFault.TheVariants.{Missing, Kind, Range, Mode}
 use Rattle.fare_table.specs.declared.fault.TableFault.TheVariants.{Rider}
-use Rattle.fare_table.specs.declared.terms.Terms.{Terms}
 
 -- ---- rows, one after the other
 abbrev pub fault_in : {A : Type 0} → OrFault A → Option TableFault
@@ -331,55 +335,165 @@ told_two tree at one two =
     told tree at one (a_row at two ∷ [])
     ∙ ap (λ (x : Option TableFault). cond (is_wrong tree at one) (Some one) x) (told tree at two [])
 
-class-told : (tree : Members) (n : ℕ)
-    → fault_in (class_of (members_at (class n) tree)) ≡ first_row tree (rows_of_class n)
-unfolding class_of
-class-told tree n =
+terms-told : (tree : Members) (n : ℕ)
+    → fault_in (terms_of (members_at (class n) tree)) ≡ first_row tree (rows_of_terms n)
+unfolding terms_of
+terms-told tree n =
     let at = class n in
     let inner = members_at at tree in
     steps tree (number_at (codes "fare") the_key.Fare 1 100_000 inner) _
     (needed_rows at the_key.Fare) (needed_rows at the_key.Rides
-    ++ (a_row at (Kind the_key.Ceiling) ∷ a_row at (Range the_key.Ceiling) ∷ []))
+    ++ optional_rows at the_key.Ceiling)
     (number_tells (value_at at the_key.Fare tree) the_key.Fare 1 100_000
     ∙ sym (told_needed tree at the_key.Fare))
     (λ fare is. steps tree (number_at (codes "rides") the_key.Rides 1 1_000 inner) _
-    (needed_rows at the_key.Rides) (a_row at (Kind the_key.Ceiling)
-    ∷ a_row at (Range the_key.Ceiling) ∷ [])
+    (needed_rows at the_key.Rides) (optional_rows at the_key.Ceiling)
     (number_tells (value_at at the_key.Rides tree) the_key.Rides 1 1_000
     ∙ sym (told_needed tree at the_key.Rides))
     (λ rides is'. ceiling_tells (rides * fare) fare rides (value_at at the_key.Ceiling tree)
     ∙ sym (told_two tree at (Kind the_key.Ceiling) (Range the_key.Ceiling))))
 
-pub list-from-told : (tree : Members) (n : ℕ) (earlier : List Class) (part : Members)
-    → Stand (classes_in tree) n part → hold_tables part ≡ true
-    → fault_in (classes_from earlier part) ≡ first_row tree (class_rows n part)
-list-from-told tree n earlier no_members stand tables = refl
-list-from-told tree n earlier (member name (table inner) more) stand tables =
+-- ---- the fares of a class by mode
+mode_if : (o : Option ℕ) (f : ℕ → OrFault (List ℕ)) (rest : Option TableFault)
+    → ((place : ℕ) → fault_in (f place) ≡ rest)
+    → fault_in (ok_or o Mode >>= f) ≡ cond (not (is_some o)) (Some Mode) rest
+mode_if None f rest same = refl
+mode_if (Some place) f rest same = same place
+
+cents_if : (b : Bool) (n : ℕ) (f : ℕ → OrFault (List ℕ)) (rest : Option TableFault)
+    → ((cents : ℕ) → fault_in (f cents) ≡ rest)
+    → fault_in ((if b then Ok n else Err (Range the_key.Fares)) >>= f)
+    ≡ cond (not b) (Some (Range the_key.Fares)) rest
+cents_if true n f rest same = same n
+cents_if false n f rest same = refl
+
+-- what the rows of one of the fares tell, of its name and number, and then the rest
+abbrev fare_tells : List (List ℕ) → Option (List ℕ × Data) → Option TableFault → Option TableFault
+fare_tells modes o rest =
+    cond (holds_of_some (λ (one : List ℕ × Data). not (is_mode modes one.0)) o) (Some Mode)
+    (cond (holds_of_some (λ (value : Data). not (is_from 0 100_000 value))
+    (option_map (λ (one : List ℕ × Data). one.1) o)) (Some (Range the_key.Fares)) rest)
+
+fares-from-told : (tree : Members) (modes : List (List ℕ)) (n k : ℕ) (fares : List ℕ)
+    (part : Members) → mode_names tree ≡ modes → Stand (fares_in tree n) k part
+    → hold_numbers part ≡ true
+    → fault_in (fares_from modes fares part) ≡ first_row tree (fare_rows n k part)
+fares-from-told tree modes n k fares no_members known stand numbers = refl
+fares-from-told tree modes n k fares (member name (integer z) more) known stand numbers =
+    let at : fare_at tree n k ≡ Some (name, integer z) =
+    stand_here (fares_in tree n) k name (integer z) more stand in
+    let rest = first_row tree (fare_rows n (suc k) more) in
+    mode_if (position (same_name name) modes)
+    (λ place. number_in the_key.Fares 0 100_000 (integer z)
+    >>= (λ cents. fares_from modes (slice_set fares place cents) more))
+    (cond (not (int_le (pos 0) z && int_le z (pos 100_000))) (Some (Range the_key.Fares)) rest)
+    (λ place. cents_if (int_le (pos 0) z && int_le z (pos 100_000)) (unsigned_abs z)
+    (λ cents. fares_from modes (slice_set fares place cents) more) rest
+    (λ cents. fares-from-told tree modes n (suc k) (slice_set fares place cents) more known
+    (stand_next (fares_in tree n) k name (integer z) more stand) numbers))
+    ∙ ap (λ (names : List (List ℕ)). fare_tells names (Some (name, integer z)) rest) (sym known)
+    ∙ ap (λ (o : Option (List ℕ × Data)). fare_tells (mode_names tree) o rest) (sym at)
+    ∙ sym (told tree (mode_fare n k) Mode (a_row (mode_fare n k) (Range the_key.Fares)
+    ∷ fare_rows n (suc k) more)
+    ∙ ap (λ (x : Option TableFault).
+    cond (is_wrong tree (mode_fare n k) Mode) (Some Mode) x)
+    (told tree (mode_fare n k) (Range the_key.Fares) (fare_rows n (suc k) more)))
+fares-from-told tree modes n k fares (member name _ more) known stand numbers =
+    absurd (false≢true numbers)
+
+numbers_if : (b : Bool) (modes : List (List ℕ)) (fares : List ℕ) (part : Members)
+    (rest : Option TableFault) → (b ≡ true → fault_in (fares_from modes fares part) ≡ rest)
+    → fault_in ((if b then Ok part else Err (Kind the_key.Fares)) >>= fares_from modes fares)
+    ≡ cond (not b) (Some (Kind the_key.Fares)) rest
+numbers_if true modes fares part rest same = same refl
+numbers_if false modes fares part rest same = refl
+
+fares_steps : (o : Option Data) (modes : List (List ℕ)) (fare : ℕ)
+    (rest : Members → Option TableFault) → rest no_members ≡ None
+    → ((part : Members) → o ≡ Some (table part) → hold_numbers part ≡ true
+    → fault_in (fares_from modes (replicate 32 fare) part) ≡ rest part)
+    → fault_in (fares_of modes fare o)
+    ≡ cond (fails (is_kind the_key.Fares) o) (Some (Kind the_key.Fares)) (rest (members_of o))
+fares_steps None modes fare rest none same = sym none
+fares_steps (Some (table part)) modes fare rest none same =
+    numbers_if (hold_numbers part) modes (replicate 32 fare) part (rest part)
+    (λ numbers. same part refl numbers)
+fares_steps (Some _) modes fare rest none same = refl
+
+fares-told : (tree : Members) (modes : List (List ℕ)) (n fare : ℕ) → mode_names tree ≡ modes
+    → fault_in (fares_of modes fare (get_member (codes "fares") (members_at (class n) tree)))
+    ≡ first_row tree (rows_of_fares tree n)
+fares-told tree modes n fare known =
+    let o = get_member (codes "fares") (members_at (class n) tree) in
+    fares_steps o modes fare (λ part. first_row tree (fare_rows n 0 part)) refl
+    (λ part is numbers.
+    fares-from-told tree modes n 0 (replicate 32 fare) part known
+    (subst (λ (m : Members). Stand (fares_in tree n) 0 m) (ap members_of is)
+    (stand_all (fares_in tree n))) numbers)
+    ∙ sym (told tree (class n) (Kind the_key.Fares) (fare_rows n 0 (fares_in tree n)))
+
+-- ---- what the rides of a class give
+number_or_tells : (o : Option Data) (key : Key) (default low high : ℕ)
+    → fault_in (number_or default key low high o)
+    ≡ cond (fails (λ value. is_some (as_integer value)) o) (Some (Kind key))
+    (cond (fails (is_from low high) o) (Some (Range key)) None)
+number_or_tells None key default low high = refl
+number_or_tells (Some (integer z)) key default low high =
+    within_tells (int_le (pos low) z && int_le z (pos high)) (unsigned_abs z) key
+number_or_tells (Some _) key default low high = refl
+
+ride_transfers-told : (tree : Members) (n : ℕ)
+    → fault_in (ride_transfers_of (members_at (class n) tree)) ≡ first_row tree (rows_of_transfers n)
+unfolding ride_transfers_of
+ride_transfers-told tree n =
+    let at = class n in
+    let taps = value_at at the_key.RideTransfers tree in
+    let minutes = value_at at the_key.TransferMinutes tree in
+    steps tree (number_or 1 the_key.RideTransfers 0 9 taps) _
+    (optional_rows at the_key.RideTransfers) (optional_rows at the_key.TransferMinutes)
+    (number_or_tells taps the_key.RideTransfers 1 0 9
+    ∙ sym (told_two tree at (Kind the_key.RideTransfers) (Range the_key.RideTransfers)))
+    (λ count is. done (number_or 120 the_key.TransferMinutes 1 1_440 minutes) _
+    ∙ number_or_tells minutes the_key.TransferMinutes 120 1 1_440
+    ∙ sym (told_two tree at (Kind the_key.TransferMinutes) (Range the_key.TransferMinutes)))
+
+class-told : (tree : Members) (modes : List (List ℕ)) (n : ℕ) → mode_names tree ≡ modes
+    → fault_in (class_of modes (members_at (class n) tree)) ≡ first_row tree (rows_of_class tree n)
+unfolding class_of
+class-told tree modes n known =
+    let inner = members_at (class n) tree in
+    steps tree (terms_of inner) _ (rows_of_terms n) (rows_of_fares tree n ++ rows_of_transfers n)
+    (terms-told tree n)
+    (λ terms is. steps tree (fares_of modes terms.fare (get_member (codes "fares") inner)) _
+    (rows_of_fares tree n) (rows_of_transfers n) (fares-told tree modes n terms.fare known)
+    (λ fares is'. done (ride_transfers_of inner) _ ∙ ride_transfers-told tree n))
+
+pub list-from-told : (tree : Members) (modes : List (List ℕ)) (n : ℕ) (earlier : List Class)
+    (part : Members) → mode_names tree ≡ modes → Stand (classes_in tree) n part
+    → hold_tables part ≡ true
+    → fault_in (classes_from modes earlier part) ≡ first_row tree (class_rows tree n part)
+list-from-told tree modes n earlier no_members known stand tables = refl
+list-from-told tree modes n earlier (member name (table inner) more) known stand tables =
     let here : members_at (class n) tree ≡ inner =
     ap (λ (o : Option (List ℕ × Data)).
     members_of (option_map (λ (one : List ℕ × Data). one.1) o))
     (stand_here (classes_in tree) n name (table inner) more stand) in
-    plainly (class_of inner) (λ one. classes_from (earlier ++ one ∷ []) more)
-    ∙ steps tree (class_of inner) (λ terms. classes_from (earlier ++ plain_class terms ∷ []) more)
-    (rows_of_class n) (class_rows (suc n) more)
-    (ap (λ (m : Members). fault_in (class_of m)) (sym here) ∙ class-told tree n)
-    (λ terms is. list-from-told tree (suc n) (earlier ++ plain_class terms ∷ []) more
+    steps tree (class_of modes inner) (λ one. classes_from modes (earlier ++ one ∷ []) more)
+    (rows_of_class tree n) (class_rows tree (suc n) more)
+    (ap (λ (m : Members). fault_in (class_of modes m)) (sym here) ∙ class-told tree modes n known)
+    (λ one is. list-from-told tree modes (suc n) (earlier ++ one ∷ []) more known
     (stand_next (classes_in tree) n name (table inner) more stand) tables)
-  where
-    plainly : (o : OrFault Terms) (f : Class → OrFault (List Class))
-        → fault_in ((o >>= (λ terms. Ok (plain_class terms))) >>= f)
-        ≡ fault_in (o >>= (λ terms. f (plain_class terms)))
-    plainly (Ok terms) f = refl
-    plainly (Err e) f = refl
-list-from-told tree n earlier (member name _ more) stand tables = absurd (false≢true tables)
+list-from-told tree modes n earlier (member name _ more) known stand tables =
+    absurd (false≢true tables)
 
-pub list-told : (tree part : Members) (earlier : List Class) → classes_in tree ≡ part
-    → hold_tables part ≡ true
-    → fault_in (classes_from earlier part) ≡ first_row tree (class_rows 0 (classes_in tree))
-list-told tree part earlier same tables =
-    list-from-told tree 0 earlier part
+pub list-told : (tree : Members) (modes : List (List ℕ)) (part : Members) (earlier : List Class)
+    → mode_names tree ≡ modes → classes_in tree ≡ part → hold_tables part ≡ true
+    → fault_in (classes_from modes earlier part)
+    ≡ first_row tree (class_rows tree 0 (classes_in tree))
+list-told tree modes part earlier known same tables =
+    list-from-told tree modes 0 earlier part known
     (subst (λ (m : Members). Stand (classes_in tree) 0 m) same (stand_all (classes_in tree))) tables
-    ∙ ap (λ (m : Members). first_row tree (class_rows 0 m)) (sym same)
+    ∙ ap (λ (m : Members). first_row tree (class_rows tree 0 m)) (sym same)
 
 class_need : Option Data → Option TableFault
 class_need o = needs o (is_kind the_key.Classes) (is_in_bounds the_key.Classes no_members)

@@ -3,17 +3,20 @@ use Rattle.std.proofs.Common.{◌≡◌, ◌&&◌, List, [], ◌∷◌, String, 
 use Rattle.std.specs.List.{list_all}
 use Rattle.std.specs.Map.{values_of}
 use Rattle.std.specs.Option.{is_some}
-use Rattle.toml.specs.Data.{as_str, as_table}
+use Rattle.toml.specs.Data.{as_integer, as_str, as_table}
 use Rattle.toml.specs.View.{items_view, members_view, view}
 use Rattle.toml.specs.declared.value.Value.{Value}
-use Rattle.fare_table.specs.Members.{are_tables, hold_strings, hold_tables}
+use Rattle.fare_table.specs.Members.{are_tables, hold_numbers, hold_strings, hold_tables}
 
--- the value is a table, and a string
+-- the value is a table, a string, and a number
 abbrev pub is_table : Value → Bool
 is_table value = is_some (as_table (view value))
 
 abbrev pub is_string : Value → Bool
 is_string value = is_some (as_str (view value))
+
+abbrev pub is_number : Value → Bool
+is_number value = is_some (as_integer (view value))
 
 pub each_item_is_table : (values : List Value)
     → list_all is_table values ≡ are_tables (items_view values)
@@ -29,3 +32,8 @@ pub each_is_string : (entries : List (String Global × Value))
     → list_all is_string (values_of entries) ≡ hold_strings (members_view entries)
 each_is_string [] = refl
 each_is_string (element ∷ more) = ap (λ rest. is_string element.1 && rest) (each_is_string more)
+
+pub each_is_number : (entries : List (String Global × Value))
+    → list_all is_number (values_of entries) ≡ hold_numbers (members_view entries)
+each_is_number [] = refl
+each_is_number (element ∷ more) = ap (λ rest. is_number element.1 && rest) (each_is_number more)

@@ -24,7 +24,7 @@ pub record AreParts (tree : Members) (meaning : TableMeaning) : Type 0 where
   pub transfers : transfers_of meaning.modes tree ≡ Ok meaning.transfers
   pub table : Members
   pub members : classes_of tree ≡ Ok table
-  pub classes : classes_from [] table ≡ Ok meaning.classes
+  pub classes : classes_from meaning.modes [] table ≡ Ok meaning.classes
   pub standard : default_of table tree ≡ Ok meaning.standard
   pub ranges : ranges_of meaning.modes tree ≡ Ok meaning.ranges
   pub riders : riders_of table tree ≡ Ok meaning.riders
@@ -63,7 +63,8 @@ by_classes tree modes transfers table classes =
     default_of table tree >>= by_default tree modes transfers table classes
 
 abbrev by_table : Members → List (List ℕ) → List (ℕ × ℕ) → Members → OrFault TableMeaning
-by_table tree modes transfers table = classes_from [] table >>= by_classes tree modes transfers table
+by_table tree modes transfers table =
+    classes_from modes [] table >>= by_classes tree modes transfers table
 
 abbrev by_transfers : Members → List (List ℕ) → List (ℕ × ℕ) → OrFault TableMeaning
 by_transfers tree modes transfers = classes_of tree >>= by_table tree modes transfers
@@ -90,7 +91,7 @@ parts tree meaning is =
     let transfers = bind_ok (transfers_of modes.0 tree) (by_transfers tree modes.0) meaning modes.2 in
     let table = bind_ok (classes_of tree) (by_table tree modes.0 transfers.0) meaning
     transfers.2 in
-    let classes = bind_ok (classes_from [] table.0) (by_classes tree modes.0 transfers.0 table.0)
+    let classes = bind_ok (classes_from modes.0 [] table.0) (by_classes tree modes.0 transfers.0 table.0)
     meaning table.2 in
     let standard = bind_ok (default_of table.0 tree)
     (by_default tree modes.0 transfers.0 table.0 classes.0) meaning classes.2 in

@@ -18,7 +18,8 @@ use Rattle.fare_table.proofs.PartLemmas.{bind_ok, parts}
 use Rattle.fare_table.proofs.ReadLemmas.{is_number, is_table, is_text, number-read, table-read}
 use Rattle.fare_table.proofs.ReadLemmas.{text-read}
 use Rattle.fare_table.specs.Classes.{ceiling_of, class_in, class_named, class_of, classes_from}
-use Rattle.fare_table.specs.Classes.{classes_of, default_of, is_empty, place_of, plain_class}
+use Rattle.fare_table.specs.Classes.{classes_of, default_of, fares_of, is_empty, place_of, terms_of}
+use Rattle.fare_table.specs.Classes.{ride_transfers_of}
 use Rattle.fare_table.specs.Modes.{same_name}
 use Rattle.fare_table.specs.declared.class.Class.{Class}
 use Rattle.std.specs.Prelude.{slice_get, slice_index_or}
@@ -37,6 +38,7 @@ use Rattle.fare_table.specs.declared.fault.Key.TheVariants as the_key
 use Rattle.fare_table.specs.declared.fault.TableFault.{TableFault}
 use Rattle.fare_table.specs.declared.fault.TableFault.TheVariants.{Kind, Range, Rider}
 use Rattle.fare_table.specs.declared.terms.Terms.{Terms}
+use Rattle.fare_table.specs.declared.transfer_terms.TransferTerms.{TransferTerms}
 
 -- ---- keys of a table of the text
 pub is_itself : (key : List ℕ) → is_eq (slice_cmp nat_cmp key key) ≡ true
@@ -448,9 +450,9 @@ moved classes class fare rides ceiling terms is has =
     subst (λ (t : Terms). IsNamed classes class t) same has
 
 entry_terms : (classes element : Members) (class : List ℕ) (terms : Terms)
-    → get_member class classes ≡ Some (table element) → class_of element ≡ Ok terms
+    → get_member class classes ≡ Some (table element) → terms_of element ≡ Ok terms
     → IsNamed classes class terms
-unfolding class_of
+unfolding terms_of
 entry_terms classes element class terms stands is =
     let fare = bind_ok (number_at (codes "fare") the_key.Fare 1 100_000 element) (by_fare element) terms
     is in
@@ -472,31 +474,57 @@ value_found : (o : Option Data) (value : Data) → ok_or o Rider ≡ Ok value �
 value_found None value is = absurd (cc)
 value_found (Some v) value is = let same : v ≡ value = cc in ap (λ (d : Data). Some d) same
 
--- the class at a place of the list is that of the member at the place
-pub record HasClass (classes : Members) (name : List ℕ) (one : Class) : Type 0 where
+-- the member of this name reads as the class
+pub record HasClass (modes : List (List ℕ)) (classes : Members) (name : List ℕ) (one : Class) : Type 0 where
   pub value : Data
   pub stands : get_member name classes ≡ Some value
-  pub read : class_in value ≡ Ok one
+  pub read : class_in modes value ≡ Ok one
 
-by_element : Members → OrFault Class
-by_element element = class_of element >>= (λ terms. Ok (plain_class terms))
+abbrev class_by : Terms → List ℕ → TransferTerms → Class
+class_by terms fares transfers = record { terms = terms; fares = fares; transfers = transfers }
 
-named_terms : (classes : Members) (name : List ℕ) (one : Class) → HasClass classes name one
-    → IsNamed classes name one.terms
-unfolding by_element
-named_terms classes name one has =
-    let element = bind_ok (of_kind the_key.Classes (as_table has.value)) by_element one has.read in
-    let terms = bind_ok (class_of element.0) (λ terms. Ok (plain_class terms)) one element.2 in
-    let same : terms.0 ≡ one.terms = terms_in (plain_class terms.0) one terms.2 in
-    subst (λ (t : Terms). IsNamed classes name t) same
-    (entry_terms classes element.0 name terms.0 (has.stands
-    ∙ ap (λ (d : Data). Some d) (is_table has.value the_key.Classes element.0 element.1)) terms.1)
-  where
-    ok_class : Class → OrFault Class
-    ok_class c = Ok c
+abbrev by_transfers : Terms → List ℕ → TransferTerms → OrFault Class
+by_transfers terms fares transfers = Ok (class_by terms fares transfers)
 
-    terms_in : (a b : Class) → ok_class a ≡ ok_class b → a.terms ≡ b.terms
-    terms_in a b is = let same : a ≡ b = cc in ap (λ (c : Class). c.terms) same
+abbrev by_fares : Members → Terms → List ℕ → OrFault Class
+by_fares element terms fares = ride_transfers_of element >>= by_transfers terms fares
+
+abbrev by_terms : List (List ℕ) → Members → Terms → OrFault Class
+by_terms modes element terms =
+    fares_of modes terms.fare (get_member (codes "fares") element) >>= by_fares element terms
+
+-- the parts of a class, as each key of its element gives them
+pub record AreClassParts (modes : List (List ℕ)) (element : Members) (one : Class) : Type 0 where
+  pub terms : terms_of element ≡ Ok one.terms
+  pub fares : fares_of modes one.terms.fare (get_member (codes "fares") element) ≡ Ok one.fares
+  pub transfers : ride_transfers_of element ≡ Ok one.transfers
+
+same_class_parts : (modes : List (List ℕ)) (element : Members) (one other : Class)
+    → by_transfers one.terms one.fares one.transfers ≡ Ok other → AreClassParts modes element one
+    → AreClassParts modes element other
+same_class_parts modes element one other is has =
+    let same : one ≡ other = cc in
+    subst (λ (c : Class). AreClassParts modes element c) same has
+
+pub class_parts : (modes : List (List ℕ)) (element : Members) (one : Class)
+    → class_of modes element ≡ Ok one → AreClassParts modes element one
+unfolding class_of
+class_parts modes element one is =
+    let terms = bind_ok (terms_of element) (by_terms modes element) one is in
+    let fares = bind_ok (fares_of modes terms.0.fare (get_member (codes "fares") element))
+    (by_fares element terms.0) one terms.2 in
+    let transfers = bind_ok (ride_transfers_of element) (by_transfers terms.0 fares.0) one fares.2 in
+    same_class_parts modes element (class_by terms.0 fares.0 transfers.0) one transfers.2
+    (record { terms = terms.1; fares = fares.1; transfers = transfers.1 })
+
+named_terms : (modes : List (List ℕ)) (classes : Members) (name : List ℕ) (one : Class)
+    → HasClass modes classes name one → IsNamed classes name one.terms
+named_terms modes classes name one has =
+    let element = bind_ok (of_kind the_key.Classes (as_table has.value)) (class_of modes) one
+    has.read in
+    entry_terms classes element.0 name one.terms (has.stands
+    ∙ ap (λ (d : Data). Some d) (is_table has.value the_key.Classes element.0 element.1))
+    (class_parts modes element.0 one element.2).terms
 
 abbrev pub by_tables : Members → Members → OrFault Members
 by_tables tree tables = if is_empty tables then Err (Range the_key.Classes) else Ok tables
@@ -534,14 +562,16 @@ classes_read tree classes is =
     ∙ ap (λ (m : Members). Some (table m)) (one ∙ two)
 
 -- the classes of the list, each of its member
-kept-class : (n : ℕ) (earlier list : List Class) (one : Class) (part : Members)
-    → classes_from earlier part ≡ Ok list → slice_get earlier n ≡ Some one
-    → slice_get list n ≡ Some one
-kept-class n earlier list one no_members is at =
+kept-class : (modes : List (List ℕ)) (n : ℕ) (earlier list : List Class) (one : Class)
+    (part : Members) → classes_from modes earlier part ≡ Ok list
+    → slice_get earlier n ≡ Some one → slice_get list n ≡ Some one
+kept-class modes n earlier list one no_members is at =
     let same : earlier ≡ list = cc in ap (λ l. slice_get l n) (sym same) ∙ at
-kept-class n earlier list one (member key value more) is at =
-    let first = bind_ok (class_in value) (λ c. classes_from (earlier ++ c ∷ []) more) list is in
-    kept-class n (earlier ++ first.0 ∷ []) list one more first.2 (within n earlier first.0 one at)
+kept-class modes n earlier list one (member key value more) is at =
+    let first = bind_ok (class_in modes value) (λ c. classes_from modes (earlier ++ c ∷ []) more)
+    list is in
+    kept-class modes n (earlier ++ first.0 ∷ []) list one more first.2
+    (within n earlier first.0 one at)
   where
     within : (n : ℕ) (xs : List Class) (x one : Class) → slice_get xs n ≡ Some one
         → slice_get (xs ++ x ∷ []) n ≡ Some one
@@ -555,23 +585,26 @@ at_end [] one n is = rw is refl
 at_end (first ∷ earlier) one n is = rw is (at_end earlier one (length earlier) refl)
 
 -- where the class of a name stands in the list
-pub record IsPlaced (list : List Class) (place : ℕ) (classes : Members) (name : List ℕ) : Type 0 where
+pub record IsPlaced (modes : List (List ℕ)) (list : List Class) (place : ℕ) (classes : Members)
+    (name : List ℕ) : Type 0 where
   pub one : Class
   pub at : slice_get list place ≡ Some one
-  pub has : HasClass classes name one
+  pub has : HasClass modes classes name one
 
-placed : (earlier list : List Class) (name : List ℕ) (part : Members) (place there : ℕ)
-    → classes_from earlier part ≡ Ok list → place_of name part ≡ Some place
-    → there ≡ length earlier + place → IsPlaced list there part name
-placed earlier list name no_members place there is at same = absurd (cc)
-placed earlier list name (member key value more) place there is at same =
-    let first = bind_ok (class_in value) (λ c. classes_from (earlier ++ c ∷ []) more) list is in
+placed : (modes : List (List ℕ)) (earlier list : List Class) (name : List ℕ) (part : Members)
+    (place there : ℕ) → classes_from modes earlier part ≡ Ok list
+    → place_of name part ≡ Some place → there ≡ length earlier + place
+    → IsPlaced modes list there part name
+placed modes earlier list name no_members place there is at same = absurd (cc)
+placed modes earlier list name (member key value more) place there is at same =
+    let first = bind_ok (class_in modes value) (λ c. classes_from modes (earlier ++ c ∷ []) more)
+    list is in
     elim (cases_Bool (same_name name key)) [
       | inl here ↦
           let zero_place : place ≡ 0 = first_place (rw here at at) in
           record {
             one = first.0;
-            at = kept-class there (earlier ++ first.0 ∷ []) list first.0 more first.2
+            at = kept-class modes there (earlier ++ first.0 ∷ []) list first.0 more first.2
                 (at_end earlier first.0 there (omega (arith, same, zero_place)));
             has = record {
               value = value;
@@ -583,7 +616,7 @@ placed earlier list name (member key value more) place there is at same =
           }
       | inr other ↦
           let next = later_place (place_of name more) place (rw other at at) in
-          let rest = placed (earlier ++ first.0 ∷ []) list name more next.0 there first.2 next.1
+          let rest = placed modes (earlier ++ first.0 ∷ []) list name more next.0 there first.2 next.1
           (omega (arith, same, next.2, length-append-one earlier first.0)) in
           record {
             one = rest.one;
@@ -614,14 +647,14 @@ place_found None place is = absurd (cc)
 place_found (Some p) place is = let same : p ≡ place = cc in ap (λ n. Some n) same
 
 -- the class of this name has the terms in the text too
-has_terms : (tree classes : Members) (list : List Class) (class : List ℕ) (place : ℕ)
-    → classes_of tree ≡ Ok classes → classes_from [] classes ≡ Ok list
+has_terms : (modes : List (List ℕ)) (tree classes : Members) (list : List Class) (class : List ℕ)
+    (place : ℕ) → classes_of tree ≡ Ok classes → classes_from modes [] classes ≡ Ok list
     → class_named classes class ≡ Ok place
     → HasTerms tree class (slice_index_or list place no_class).terms
-has_terms tree classes list class place read listed is =
-    let p = placed [] list class classes place place listed
+has_terms modes tree classes list class place read listed is =
+    let p = placed modes [] list class classes place place listed
     (place_found (place_of class classes) place is) (sym (zero-add place)) in
-    let n = named_terms classes class p.one p.has in
+    let n = named_terms modes classes class p.one p.has in
     let same : p.one ≡ slice_index_or list place no_class =
     sym (get_or_from_slice_get list place p.one no_class p.at) in
     subst (λ (c : Class). HasTerms tree class c.terms) same (record {
@@ -760,7 +793,7 @@ default_named classes tree terms is =
     (name.0, text-read (codes "default_class") the_key.DefaultClass tree name.0 name.1, name.2)
 
 pays_if : (tree classes : Members) (meaning : TableMeaning) (token : List ℕ) (o : Option ℕ)
-    → classes_of tree ≡ Ok classes → classes_from [] classes ≡ Ok meaning.classes
+    → classes_of tree ≡ Ok classes → classes_from meaning.modes [] classes ≡ Ok meaning.classes
     → default_of classes tree ≡ Ok meaning.standard
     → AreRiders classes (get_member (codes "riders") tree) meaning.riders
     → Named token meaning.riders ≡ o
@@ -778,14 +811,14 @@ pays_if tree classes meaning token None read listed standard are at =
             let no : None ≡ Some t.0 = sym at ∙ t.2 in
             absurd (cc (no)),
       );
-      has = has_terms tree classes meaning.classes d.0 meaning.standard read listed d.2;
+      has = has_terms meaning.modes tree classes meaning.classes d.0 meaning.standard read listed d.2;
     }
 pays_if tree classes meaning token (Some place) read listed standard are at =
     let c = came_from classes tree meaning.riders token place are at in
     record {
       class = c.1;
       is = inl (c.0, c.2);
-      has = has_terms tree classes meaning.classes c.1 place read listed c.3;
+      has = has_terms meaning.modes tree classes meaning.classes c.1 place read listed c.3;
     }
 
 pays : (tree : Members) (fares : Fares) (token : List ℕ) → meaning_of_tree tree ≡ Ok fares.meaning

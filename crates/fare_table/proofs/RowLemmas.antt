@@ -440,11 +440,11 @@ zone-told tree = zone_steps (get_member (codes "zone") tree)
 -- the rows of the classes stand behind those of their table
 regroup : (tree : Members) (rest : List FaultRow) {o : Option TableFault}
     → o ≡ first_row tree (needed_rows top the_key.Classes
-    ++ (class_rows 0 (classes_in tree) ++ rest))
+    ++ (class_rows tree 0 (classes_in tree) ++ rest))
     → o ≡ first_row tree (classes_step tree ++ rest)
 regroup tree rest is =
     is ∙ ap (λ (rows : List FaultRow). first_row tree rows)
-    (sym (append_assoc (needed_rows top the_key.Classes) (class_rows 0 (classes_in tree)) rest))
+    (sym (append_assoc (needed_rows top the_key.Classes) (class_rows tree 0 (classes_in tree)) rest))
 
 meaning-told : (tree : Members) → fault_in (meaning_of_tree tree) ≡ first_row tree (rows tree)
 unfolding meaning_of_tree
@@ -458,14 +458,14 @@ meaning-told tree =
     let known = modes-known tree modes is_modes in
     steps tree (transfers_of modes tree) _ transfers_step class_step_rows
     (transfers-told tree modes known) (λ transfers is_transfers.
-    let rest_rows = class_rows 0 (classes_in tree) ++ default_rows in
+    let rest_rows = class_rows tree 0 (classes_in tree) ++ default_rows in
     regroup tree default_rows
     (steps tree (classes_of tree) _ (needed_rows top the_key.Classes) rest_rows (classes-told tree)
     (λ classes is_classes.
     let same : classes_in tree ≡ classes = ap members_of (classes_read tree classes is_classes) in
     let tables = classes_tables tree classes is_classes in
-    steps tree (classes_from [] classes) _ (class_rows 0 (classes_in tree)) default_rows
-    (list-told tree classes [] same tables) (λ list is_list.
+    steps tree (classes_from modes [] classes) _ (class_rows tree 0 (classes_in tree)) default_rows
+    (list-told tree modes classes [] known same tables) (λ list is_list.
     steps tree (default_of classes tree) _ default_step entry_rows
     (default-told tree classes same) (λ standard is_standard.
     steps tree (ranges_of modes tree) _ (validators_step tree) key_rows

@@ -2,17 +2,18 @@
 use Rattle.std.proofs.Common.{◌≡◌, ◌≢◌, ℕ, Bool, true, false, List, [], ◌∷◌, ◌++◌, Option, Some}
 use Rattle.std.proofs.Common.{None, Ok, Err, ap, codes}
 use Rattle.std.specs.Option.{ok_or, is_some}
-use Rattle.std.specs.Prelude.{if◌then◌else◌, ◌*◌}
+use Rattle.std.specs.Prelude.{if◌then◌else◌, ◌*◌, replicate, slice_set}
 use Rattle.std.specs.Result.{result_ok}
 use Rattle.hex.specs.Hex.{decode_sized}
 use Rattle.jiff.specs.Words.{read_whole}
 use Rattle.toml.specs.Data.{Data, Items, no_items, item, Members, no_members, member, get_member}
 use Rattle.toml.specs.Data.{as_str, as_integer, as_array, as_table}
 use Rattle.fare_table.specs.Classes.{ceiling_of, class_in, class_named, class_of, classes_from}
-use Rattle.fare_table.specs.Classes.{classes_of, default_of, is_empty, place_of}
+use Rattle.fare_table.specs.Classes.{classes_of, default_of, fares_from, fares_of, is_empty, place_of}
+use Rattle.fare_table.specs.Classes.{ride_transfers_of, terms_of}
 use Rattle.fare_table.specs.declared.class.Class.{Class}
-use Rattle.fare_table.specs.Members.{are_tables, array_at, hold_strings, hold_tables, needed}
-use Rattle.fare_table.specs.Members.{number_at, number_in, of_kind, table_at, text_at, within}
+use Rattle.fare_table.specs.Members.{are_tables, array_at, hold_numbers, hold_strings, hold_tables, needed}
+use Rattle.fare_table.specs.Members.{number_at, number_in, number_or, of_kind, table_at, text_at, within}
 use Rattle.fare_table.specs.Modes.{are_mode_names, mode_named, modes_of, strings_from}
 use Rattle.fare_table.specs.OrFault.{OrFault, ◌>>=◌}
 use Rattle.fare_table.specs.Riders.{rider_of, riders_from, riders_at, riders_of, token_of_digits}
@@ -141,26 +142,68 @@ ceiling_of-text : (price : ℕ) (value : Option Data) → NotText (ceiling_of pr
 ceiling_of-text price None = an_ok price
 ceiling_of-text price (Some value) = number_in-text the_key.Ceiling 1 100_000_000 value
 
-class_of-text : (element : Members) → NotText (class_of element)
-unfolding class_of
-class_of-text element = steps (number_at (codes "fare") the_key.Fare 1 100_000 element) _
+terms_of-text : (element : Members) → NotText (terms_of element)
+unfolding terms_of
+terms_of-text element = steps (number_at (codes "fare") the_key.Fare 1 100_000 element) _
     (number_at-text (codes "fare") the_key.Fare 1 100_000 element)
     (λ fare. steps (number_at (codes "rides") the_key.Rides 1 1_000 element) _
     (number_at-text (codes "rides") the_key.Rides 1 1_000 element)
     (λ rides. steps (ceiling_of (rides * fare) (get_member (codes "ceiling") element)) _
     (ceiling_of-text (rides * fare) (get_member (codes "ceiling") element)) (λ ceiling. an_ok _)))
 
-class_in-text : (value : Data) → NotText (class_in value)
-class_in-text value =
-    steps (of_kind the_key.Classes (as_table value)) _ (of_kind-text the_key.Classes (as_table value))
-    (λ element. steps (class_of element) _ (class_of-text element) (λ terms. an_ok _))
+fares_from-text : (modes : List (List ℕ)) (fares : List ℕ) (members : Members)
+    → NotText (fares_from modes fares members)
+fares_from-text modes fares no_members = an_ok fares
+fares_from-text modes fares (member name value more) =
+    steps (mode_named modes name) _ (mode_named-text modes name) (λ place.
+    steps (number_in the_key.Fares 0 100_000 value) _
+    (number_in-text the_key.Fares 0 100_000 value) (λ cents.
+    fares_from-text modes (slice_set fares place cents) more))
 
-classes_from-text : (earlier : List Class) (classes : Members)
-    → NotText (classes_from earlier classes)
-classes_from-text earlier no_members = an_ok earlier
-classes_from-text earlier (member name value more) =
-    steps (class_in value) _ (class_in-text value) (λ one.
-    classes_from-text (earlier ++ one ∷ []) more)
+fares_of-text : (modes : List (List ℕ)) (fare : ℕ) (value : Option Data)
+    → NotText (fares_of modes fare value)
+fares_of-text modes fare None = an_ok (replicate 32 fare)
+fares_of-text modes fare (Some value) =
+    steps (of_kind the_key.Fares (as_table value)) _ (of_kind-text the_key.Fares (as_table value))
+    (λ named. steps (if hold_numbers named then Ok named else Err (the_fault.Kind the_key.Fares)) _
+    (a_choice (hold_numbers named) (Ok named) (Err (the_fault.Kind the_key.Fares)) (an_ok named)
+    (another (the_fault.Kind the_key.Fares) (λ is. cc)))
+    (λ numbers. fares_from-text modes (replicate 32 fare) numbers))
+
+number_or-text : (default : ℕ) (key : Key) (low high : ℕ) (value : Option Data)
+    → NotText (number_or default key low high value)
+number_or-text default key low high None = an_ok default
+number_or-text default key low high (Some value) = number_in-text key low high value
+
+ride_transfers_of-text : (element : Members) → NotText (ride_transfers_of element)
+unfolding ride_transfers_of
+ride_transfers_of-text element =
+    steps (number_or 1 the_key.RideTransfers 0 9 (get_member (codes "transfers") element)) _
+    (number_or-text 1 the_key.RideTransfers 0 9 (get_member (codes "transfers") element))
+    (λ taps. steps (number_or 120 the_key.TransferMinutes 1 1_440
+    (get_member (codes "transfer_minutes") element)) _
+    (number_or-text 120 the_key.TransferMinutes 1 1_440
+    (get_member (codes "transfer_minutes") element)) (λ minutes. an_ok _))
+
+class_of-text : (modes : List (List ℕ)) (element : Members) → NotText (class_of modes element)
+unfolding class_of
+class_of-text modes element =
+    steps (terms_of element) _ (terms_of-text element) (λ terms.
+    steps (fares_of modes terms.fare (get_member (codes "fares") element)) _
+    (fares_of-text modes terms.fare (get_member (codes "fares") element)) (λ fares.
+    steps (ride_transfers_of element) _ (ride_transfers_of-text element) (λ transfers. an_ok _)))
+
+class_in-text : (modes : List (List ℕ)) (value : Data) → NotText (class_in modes value)
+class_in-text modes value =
+    steps (of_kind the_key.Classes (as_table value)) _ (of_kind-text the_key.Classes (as_table value))
+    (class_of-text modes)
+
+classes_from-text : (modes : List (List ℕ)) (earlier : List Class) (classes : Members)
+    → NotText (classes_from modes earlier classes)
+classes_from-text modes earlier no_members = an_ok earlier
+classes_from-text modes earlier (member name value more) =
+    steps (class_in modes value) _ (class_in-text modes value) (λ one.
+    classes_from-text modes (earlier ++ one ∷ []) more)
 
 classes_of-text : (tree : Members) → NotText (classes_of tree)
 unfolding classes_of
@@ -266,7 +309,7 @@ rules_of-text tree =
     steps (modes_of tree) _ (modes_of-text tree) (λ modes.
     steps (transfers_of modes tree) _ (transfers_of-text modes tree) (λ transfers.
     steps (classes_of tree) _ (classes_of-text tree) (λ table.
-    steps (classes_from [] table) _ (classes_from-text [] table) (λ classes.
+    steps (classes_from modes [] table) _ (classes_from-text modes [] table) (λ classes.
     steps (default_of table tree) _ (default_of-text table tree) (λ standard.
     steps (ranges_of modes tree) _ (ranges_of-text modes tree) (λ ranges.
     steps (riders_of table tree) _ (riders_of-text table tree) (λ riders.

@@ -1,15 +1,17 @@
 -- The keys `classes` and `default_class`: what rider classes pay, and what their rides give.
 use Rattle.std.specs.Prelude.{ℕ, suc, ◌*◌, Bool, true, false, List, [], ◌∷◌, ◌++◌, Option, Some}
-use Rattle.std.specs.Prelude.{None, Ok, Err, codes, if◌then◌else◌, option_map, replicate}
+use Rattle.std.specs.Prelude.{None, Ok, Err, codes, if◌then◌else◌, option_map, replicate, slice_set}
 use Rattle.std.specs.Option.{ok_or}
 use Rattle.toml.specs.Data.{Data, Members, no_members, member, get_member, as_table}
-use Rattle.fare_table.specs.Members.{number_at, number_in, of_kind, table_at, text_at, hold_tables}
-use Rattle.fare_table.specs.Modes.{same_name}
+use Rattle.fare_table.specs.Members.{hold_numbers, hold_tables, number_at, number_in, number_or}
+use Rattle.fare_table.specs.Members.{of_kind, table_at, text_at}
+use Rattle.fare_table.specs.Modes.{mode_named, same_name}
 use Rattle.fare_table.specs.OrFault.{OrFault, ◌>>=◌}
 use Rattle.fare_table.specs.declared.fault.Key.TheVariants as the_key
 use Rattle.fare_table.specs.declared.fault.TableFault.TheVariants.{Kind, Range, Rider}
 use Rattle.fare_table.specs.declared.class.Class.{Class}
 use Rattle.fare_table.specs.declared.terms.Terms.{Terms}
+use Rattle.fare_table.specs.declared.transfer_terms.TransferTerms.{TransferTerms}
 
 -- the ceiling that is named, else the price of all rides
 abbrev pub ceiling_of : ℕ → Option Data → OrFault ℕ
@@ -17,8 +19,8 @@ ceiling_of price None = Ok price
 ceiling_of price (Some value) = number_in the_key.Ceiling 1 100_000_000 value
 
 -- the terms of a class: its fare, its rides and its ceiling, within their bounds
-unfoldable pub class_of : Members → OrFault Terms
-class_of element = do
+unfoldable pub terms_of : Members → OrFault Terms
+terms_of element = do
   fare ← number_at (codes "fare") the_key.Fare 1 100_000 element
   rides ← number_at (codes "rides") the_key.Rides 1 1_000 element
   ceiling ← ceiling_of (rides * fare) (get_member (codes "ceiling") element)
@@ -28,27 +30,54 @@ class_of element = do
     ceiling = ceiling;
   })
 
--- the class of these terms: one fare on all modes, and one transfer within two hours
-abbrev pub plain_class : Terms → Class
-plain_class terms = record {
-  terms = terms;
-  fares = replicate 32 terms.fare;
-  transfers = record { taps = 1; time = 7_200_000 };
-}
+-- the fares by the places of the modes, with those that the members name
+abbrev pub fares_from : List (List ℕ) → List ℕ → Members → OrFault (List ℕ)
+fares_from modes fares no_members = Ok fares
+fares_from modes fares (member name value more) = do
+  place ← mode_named modes name
+  cents ← number_in the_key.Fares 0 100_000 value
+  fares_from modes (slice_set fares place cents) more
+
+-- the fares by the places of the modes: the class's own, where none is named
+abbrev pub fares_of : List (List ℕ) → ℕ → Option Data → OrFault (List ℕ)
+fares_of modes fare None = Ok (replicate 32 fare)
+fares_of modes fare (Some value) = do
+  named ← of_kind the_key.Fares (as_table value)
+  numbers ← if hold_numbers named then Ok named else Err (Kind the_key.Fares)
+  fares_from modes (replicate 32 fare) numbers
+
+-- what the rides of a class give: one transfer within two hours, where it does not say otherwise
+unfoldable pub ride_transfers_of : Members → OrFault TransferTerms
+ride_transfers_of element = do
+  taps ← number_or 1 the_key.RideTransfers 0 9 (get_member (codes "transfers") element)
+  minutes ← number_or 120 the_key.TransferMinutes 1 1_440
+      (get_member (codes "transfer_minutes") element)
+  Ok (record { taps = taps; time = minutes * 60_000 })
+
+-- a class: its terms, its fares by mode, and what its rides give
+unfoldable pub class_of : List (List ℕ) → Members → OrFault Class
+class_of modes element = do
+  terms ← terms_of element
+  fares ← fares_of modes terms.fare (get_member (codes "fares") element)
+  transfers ← ride_transfers_of element
+  Ok (record {
+    terms = terms;
+    fares = fares;
+    transfers = transfers;
+  })
 
 -- the class of a value that is a table
-abbrev pub class_in : Data → OrFault Class
-class_in value = do
+abbrev pub class_in : List (List ℕ) → Data → OrFault Class
+class_in modes value = do
   element ← of_kind the_key.Classes (as_table value)
-  terms ← class_of element
-  Ok (plain_class terms)
+  class_of modes element
 
 -- the earlier classes and those of the members, class by class
-abbrev pub classes_from : List Class → Members → OrFault (List Class)
-classes_from earlier no_members = Ok earlier
-classes_from earlier (member name value more) = do
-  class ← class_in value
-  classes_from (earlier ++ class ∷ []) more
+abbrev pub classes_from : List (List ℕ) → List Class → Members → OrFault (List Class)
+classes_from modes earlier no_members = Ok earlier
+classes_from modes earlier (member name value more) = do
+  class ← class_in modes value
+  classes_from modes (earlier ++ class ∷ []) more
 
 -- how many there are
 abbrev pub count_of : Members → ℕ

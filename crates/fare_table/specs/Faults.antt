@@ -13,7 +13,7 @@ use Rattle.jiff.specs.Words.{read_whole}
 use Rattle.toml.specs.Data.{Data, Items, no_items, item, Members, no_members, member, get_member}
 use Rattle.toml.specs.Data.{get_item, as_str, as_integer, as_array, as_table}
 use Rattle.fare_table.specs.Classes.{is_empty}
-use Rattle.fare_table.specs.Members.{are_tables, hold_strings, hold_tables}
+use Rattle.fare_table.specs.Members.{are_tables, hold_numbers, hold_strings, hold_tables}
 use Rattle.fare_table.specs.Modes.{are_mode_names, same_name}
 use Rattle.fare_table.specs.Transfers.{name_pair}
 use Rattle.fare_table.specs.declared.fault.Key.{Key}
@@ -23,11 +23,13 @@ use Rattle.fare_table.specs.declared.fault.TableFault.TheVariants.{Text, Missing
 use Rattle.fare_table.specs.declared.fault.TableFault.TheVariants.{Overlap, Rider, NoMemory, Zone}
 
 -- where a row looks: at the keys of the text, at those of one of its classes or of one element of
--- its `validators`, or at one key of its `riders`, each by its place. Classes and keys have the
--- places of their byte order (`laws::keys_come_in_byte_order`).
+-- its `validators`, at one key of the `fares` of a class (first comes the place of the class), or at
+-- one key of its `riders`, each by its place. Classes and keys have the places of their byte order
+-- (`laws::keys_come_in_byte_order`).
 pub data Where : Type 0 where
   top : Where
   class : ℕ → Where
+  mode_fare : ℕ → ℕ → Where
   range : ℕ → Where
   rider : ℕ → Where
 
@@ -45,6 +47,9 @@ key_word the_key.Classes = codes "classes"
 key_word the_key.Fare = codes "fare"
 key_word the_key.Rides = codes "rides"
 key_word the_key.Ceiling = codes "ceiling"
+key_word the_key.Fares = codes "fares"
+key_word the_key.RideTransfers = codes "transfers"
+key_word the_key.TransferMinutes = codes "transfer_minutes"
 key_word the_key.DefaultClass = codes "default_class"
 key_word the_key.Validators = codes "validators"
 key_word the_key.First = codes "first"
@@ -106,11 +111,21 @@ abbrev pub members_at : Where → Members → Members
 members_at top tree = tree
 members_at (class place) tree =
     members_of (option_map (λ one. one.1) (member_at place (classes_in tree)))
+members_at (mode_fare place key) tree = no_members
 members_at (range place) tree = members_of (get_item place (elements_in tree))
 members_at (rider place) tree = no_members
 
--- the value at a key
+-- the `fares` of the class at a place
+abbrev pub fares_in : Members → ℕ → Members
+fares_in tree place = members_of (get_member (codes "fares") (members_at (class place) tree))
+
+-- the name and the number at a place of the `fares` of a class
+abbrev pub fare_at : Members → ℕ → ℕ → Option (List ℕ × Data)
+fare_at tree place key = member_at key (fares_in tree place)
+
+-- the value at a key; of one fare by mode its own value
 abbrev pub value_at : Where → Key → Members → Option Data
+value_at (mode_fare place at) key tree = option_map (λ one. one.1) (fare_at tree place at)
 value_at at key tree = get_member (key_word key) (members_at at tree)
 
 -- ---- what is wrong with it
@@ -132,6 +147,9 @@ is_kind the_key.Classes value = holds_of_some hold_tables (as_table value)
 is_kind the_key.Fare value = is_some (as_integer value)
 is_kind the_key.Rides value = is_some (as_integer value)
 is_kind the_key.Ceiling value = is_some (as_integer value)
+is_kind the_key.Fares value = holds_of_some hold_numbers (as_table value)
+is_kind the_key.RideTransfers value = is_some (as_integer value)
+is_kind the_key.TransferMinutes value = is_some (as_integer value)
 is_kind the_key.DefaultClass value = is_some (as_str value)
 is_kind the_key.Validators value = holds_of_some are_tables (as_array value)
 is_kind the_key.First value = is_some (as_integer value)
@@ -155,6 +173,9 @@ is_in_bounds the_key.Classes beside value =
 is_in_bounds the_key.Fare beside value = is_from 1 100_000 value
 is_in_bounds the_key.Rides beside value = is_from 1 1_000 value
 is_in_bounds the_key.Ceiling beside value = is_from 1 100_000_000 value
+is_in_bounds the_key.Fares beside value = is_from 0 100_000 value
+is_in_bounds the_key.RideTransfers beside value = is_from 0 9 value
+is_in_bounds the_key.TransferMinutes beside value = is_from 1 1_440 value
 is_in_bounds the_key.DefaultClass beside value = true
 is_in_bounds the_key.Validators beside value = true
 is_in_bounds the_key.First beside value = is_from 0 4_294_967_295 value
@@ -174,6 +195,8 @@ names_no_mode top tree =
     list_any (λ pair. not (is_mode (mode_names tree) pair.0 && is_mode (mode_names tree) pair.1))
     (pairs (items_of (get_member (codes "transfers") tree)))
 names_no_mode (class place) tree = false
+names_no_mode (mode_fare place key) tree =
+    holds_of_some (λ one. not (is_mode (mode_names tree) one.0)) (fare_at tree place key)
 names_no_mode (range place) tree =
     not (is_mode (mode_names tree) (string_of (value_at (range place) the_key.ModeName tree)))
 names_no_mode (rider place) tree = false
@@ -195,6 +218,7 @@ last_at tree place = amount_of (value_at (range place) the_key.Last tree)
 abbrev pub shares_validator : Where → Members → Bool
 shares_validator top tree = false
 shares_validator (class place) tree = false
+shares_validator (mode_fare place key) tree = false
 shares_validator (range place) tree =
     is_earlier (λ earlier. nat_le (first_at tree place) (last_at tree earlier)
     && nat_le (first_at tree earlier) (last_at tree place)) place
@@ -224,6 +248,7 @@ is_no_class tree name = is_none (get_member name (classes_in tree))
 abbrev pub names_no_rider : Where → Members → Bool
 names_no_rider top tree = is_no_class tree (string_of (get_member (codes "default_class") tree))
 names_no_rider (class place) tree = false
+names_no_rider (mode_fare place key) tree = false
 names_no_rider (range place) tree = false
 names_no_rider (rider place) tree =
     is_none (token_at tree place)
@@ -266,13 +291,39 @@ holds tree one = is_wrong tree one.0 one.1
 abbrev pub needed_rows : Where → Key → List FaultRow
 needed_rows at key = a_row at (Missing key) ∷ a_row at (Kind key) ∷ a_row at (Range key) ∷ []
 
--- of one class: `fare`, `rides`, `ceiling`
-abbrev pub rows_of_class : ℕ → List FaultRow
-rows_of_class place =
+-- a value that may be there, of its kind and within its bounds
+abbrev pub optional_rows : Where → Key → List FaultRow
+optional_rows at key = a_row at (Kind key) ∷ a_row at (Range key) ∷ []
+
+-- key by key of the `fares` of a class: a mode, and its number
+abbrev pub fare_rows : ℕ → ℕ → Members → List FaultRow
+fare_rows place key no_members = []
+fare_rows place key (member name value more) =
+    a_row (mode_fare place key) Mode ∷ a_row (mode_fare place key) (Range the_key.Fares)
+    ∷ fare_rows place (suc key) more
+
+-- of the terms of one class: `fare`, `rides`, `ceiling`
+abbrev pub rows_of_terms : ℕ → List FaultRow
+rows_of_terms place =
     needed_rows (class place) the_key.Fare
     ++ (needed_rows (class place) the_key.Rides
-    ++ (a_row (class place) (Kind the_key.Ceiling) ∷ a_row (class place) (Range the_key.Ceiling)
-    ∷ []))
+    ++ optional_rows (class place) the_key.Ceiling)
+
+-- of its `fares`: their kind, and then key by key
+abbrev pub rows_of_fares : Members → ℕ → List FaultRow
+rows_of_fares tree place =
+    a_row (class place) (Kind the_key.Fares) ∷ fare_rows place 0 (fares_in tree place)
+
+-- of what its rides give: `transfers`, `transfer_minutes`
+abbrev pub rows_of_transfers : ℕ → List FaultRow
+rows_of_transfers place =
+    optional_rows (class place) the_key.RideTransfers
+    ++ optional_rows (class place) the_key.TransferMinutes
+
+-- of one class: its terms, its `fares`, and what its rides give
+abbrev pub rows_of_class : Members → ℕ → List FaultRow
+rows_of_class tree place =
+    rows_of_terms place ++ (rows_of_fares tree place ++ rows_of_transfers place)
 
 -- of one element of `validators`: `first`, `last`, `mode`
 abbrev pub rows_of_range : ℕ → List FaultRow
@@ -283,9 +334,10 @@ rows_of_range place =
     ∷ a_row (range place) Mode ∷ []))
 
 -- class by class, from this place on
-abbrev pub class_rows : ℕ → Members → List FaultRow
-class_rows place no_members = []
-class_rows place (member name value more) = rows_of_class place ++ class_rows (suc place) more
+abbrev pub class_rows : Members → ℕ → Members → List FaultRow
+class_rows tree place no_members = []
+class_rows tree place (member name value more) =
+    rows_of_class tree place ++ class_rows tree (suc place) more
 
 -- element by element, each with the elements before it
 abbrev pub range_rows : ℕ → Items → List FaultRow
@@ -305,7 +357,7 @@ transfers_step =
 
 -- the step `classes`
 abbrev pub classes_step : Members → List FaultRow
-classes_step tree = needed_rows top the_key.Classes ++ class_rows 0 (classes_in tree)
+classes_step tree = needed_rows top the_key.Classes ++ class_rows tree 0 (classes_in tree)
 
 -- the step `default_class`
 abbrev pub default_step : List FaultRow

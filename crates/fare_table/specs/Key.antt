@@ -2,7 +2,9 @@
 use Rattle.std.specs.Prelude.{ℕ, List, codes}
 use Rattle.fare_table.specs.declared.fault.Key.{Key}
 use Rattle.fare_table.specs.declared.fault.Key.TheVariants.{Modes, Transfers, Classes, Fare, Rides}
-use Rattle.fare_table.specs.declared.fault.Key.TheVariants.{Ceiling, DefaultClass, Validators}
+use Rattle.fare_table.specs.declared.fault.Key.TheVariants.{Ceiling, Fares, RideTransfers}
+use Rattle.fare_table.specs.declared.fault.Key.TheVariants.{TransferMinutes, DefaultClass}
+use Rattle.fare_table.specs.declared.fault.Key.TheVariants.{Validators}
 use Rattle.fare_table.specs.declared.fault.Key.TheVariants.{First, Last, ModeName, Riders, Zone}
 
 -- the bytes of the variant's name
@@ -13,6 +15,9 @@ key_name Classes = codes "Classes"
 key_name Fare = codes "Fare"
 key_name Rides = codes "Rides"
 key_name Ceiling = codes "Ceiling"
+key_name Fares = codes "Fares"
+key_name RideTransfers = codes "RideTransfers"
+key_name TransferMinutes = codes "TransferMinutes"
 key_name DefaultClass = codes "DefaultClass"
 key_name Validators = codes "Validators"
 key_name First = codes "First"

@@ -1,6 +1,6 @@
 -- The values at the keys of a TOML table.
-use Rattle.std.specs.Prelude.{ℕ, ℤ, pos, ◌&&◌, Bool, true, List, Option, Ok, Err, int_le}
-use Rattle.std.specs.Prelude.{unsigned_abs, if◌then◌else◌}
+use Rattle.std.specs.Prelude.{ℕ, ℤ, pos, ◌&&◌, Bool, true, List, Option, None, Some, Ok, Err}
+use Rattle.std.specs.Prelude.{int_le, unsigned_abs, if◌then◌else◌}
 use Rattle.std.specs.Option.{is_some}
 use Rattle.std.specs.Option.{ok_or}
 use Rattle.toml.specs.Data.{Data, Items, no_items, item, Members, no_members, member, get_member}
@@ -67,3 +67,13 @@ hold_tables (member key value more) = is_some (as_table value) && hold_tables mo
 abbrev pub hold_strings : Members → Bool
 hold_strings no_members = true
 hold_strings (member key value more) = is_some (as_str value) && hold_strings more
+
+-- each value is a number
+abbrev pub hold_numbers : Members → Bool
+hold_numbers no_members = true
+hold_numbers (member key value more) = is_some (as_integer value) && hold_numbers more
+
+-- the value as a number from `low` to `high`, else the default if there is none
+abbrev pub number_or : ℕ → Key → ℕ → ℕ → Option Data → OrFault ℕ
+number_or default key low high None = Ok default
+number_or default key low high (Some value) = number_in key low high value

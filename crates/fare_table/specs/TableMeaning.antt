@@ -32,7 +32,7 @@ meaning_of_tree tree = do
   modes ← modes_of tree
   transfers ← transfers_of modes tree
   table ← classes_of tree
-  classes ← classes_from [] table
+  classes ← classes_from modes [] table
   standard ← default_of table tree
   ranges ← ranges_of modes tree
   riders ← riders_of table tree

@@ -22,6 +22,12 @@ pub enum Key {
     Rides,
     /// `ceiling` of a class
     Ceiling,
+    /// `fares` of a class
+    Fares,
+    /// `transfers` of a class
+    RideTransfers,
+    /// `transfer_minutes` of a class
+    TransferMinutes,
     /// `default_class`
     DefaultClass,
     /// `validators`
@@ -50,6 +56,9 @@ impl Key {
             Key::Fare => "Fare",
             Key::Rides => "Rides",
             Key::Ceiling => "Ceiling",
+            Key::Fares => "Fares",
+            Key::RideTransfers => "RideTransfers",
+            Key::TransferMinutes => "TransferMinutes",
             Key::DefaultClass => "DefaultClass",
             Key::Validators => "Validators",
             Key::First => "First",
@@ -70,7 +79,8 @@ impl fmt::Display for Key {
 }
 
 /// The first fault of a table's text, in the order in which its keys are read: `modes`,
-/// `transfers`, `classes` (class by class in the order of the names: `fare`, `rides`, `ceiling`),
+/// `transfers`, `classes` (class by class in the order of the names: `fare`, `rides`, `ceiling`,
+/// `fares` and in it key by key the mode and the number, `transfers`, `transfer_minutes`),
 /// `default_class`, `validators` (element by element: `first`, `last`, `mode`, the range),
 /// `riders` (in the order of the tokens), `zone`. Of an array or table the kind of all its elements
 /// comes first.

@@ -195,8 +195,8 @@ impl FareTable {
         self.parts.classes[class as usize].transfers
     }
 
-    /// What the rider of a token pays, in cents: the terms of the rider's class, else of the default
-    /// class.
+    /// What the rider of a token pays, in cents, on a mode of which the rider's class, else the
+    /// default class, names no fare.
     pub fn terms_of(&self, token: &[u8]) -> Terms
         requires { length token.now ≡ 16 }
         ensures terms { result ≡ terms_at self.now token.now }
@@ -215,7 +215,7 @@ fn table_of(alloc: Global, table: &Table) -> Result<FareTable, TableFault>
     let modes = modes_of(alloc, table)?;
     let transfers = transfers_of(alloc, &modes, table)?;
     let members = classes_of(table)?;
-    let classes = classes_from(alloc, members)?;
+    let classes = classes_from(alloc, &modes, members)?;
     let standard = default_of(members, table)?;
     let ranges = ranges_of(alloc, &modes, table)?;
     let riders = riders_of(alloc, members, table)?;

@@ -1,6 +1,6 @@
 //! The keys `classes` and `default_class`: what rider classes pay, and what their rides give.
-ghost use Rattle.std.specs.Prelude.{◌≡◌, ◌+◌, ◌<◌, ◌≤◌, [], All, IfErr, IfOk, option_map};
-ghost use Rattle.std.specs.Prelude.{vec_len};
+ghost use Rattle.std.specs.Prelude.{◌≡◌, ◌+◌, ◌<◌, ◌≤◌, [], All, IfErr, IfOk, length, map};
+ghost use Rattle.std.specs.Prelude.{option_map, replicate, string_bytes, vec_len};
 ghost use Rattle.toml.specs.View.{view, table_view};
 ghost use Rattle.fare_table.specs.Classes.{count_of};
 ghost use Rattle.fare_table.specs.Classes as spec;
@@ -8,7 +8,11 @@ ghost use Rattle.fare_table.specs.declared.fault.TableFault.{TableFault};
 ghost use Rattle.fare_table.specs.inside.OrFault.{Answers, seen_through};
 ghost use Rattle.fare_table.specs.Terms.{AreBoundedTerms, IsBoundedClass};
 
-use super::members::{hold_tables, number_at, number_in, of_kind, optional, table_at, text_at};
+use super::members::{
+    hold_numbers, hold_tables, number_at, number_in, number_or, of_kind, optional, table_at,
+    text_at,
+};
+use super::modes::mode_named;
 use crate::class::Class;
 use crate::fault::{Key, TableFault};
 use crate::mode::MAX_MODES;
@@ -17,8 +21,8 @@ use crate::transfer_terms::TransferTerms;
 use std::alloc::Global;
 use toml::{Table, Value};
 
-/// For how long a ride gives transfers, in milliseconds: two hours.
-const TWO_HOURS_MS: u32 = 7_200_000;
+/// A minute in milliseconds.
+const MINUTE_MS: u32 = 60_000;
 
 /// The classes of the text, at least one.
 #[tactic(auto, unfolding(crate::specs::Classes::classes_of))]
@@ -43,48 +47,55 @@ fn is_empty(classes: &Table) -> bool
 }
 
 /// The classes of these members, each at its place.
-pub(crate) fn classes_from(alloc: Global, classes: &Table) -> Result<Vec<Class>, TableFault>
-    ensures answer { Answers (λ v. v.items) result (spec.classes_from [] (table_view classes.now)) }
+pub(crate) fn classes_from(
+    alloc: Global,
+    modes: &[String],
+    classes: &Table,
+) -> Result<Vec<Class>, TableFault>
+    requires { length modes.now ≤ 32 }
+    ensures answer { Answers (λ v. v.items) result
+        (spec.classes_from (map string_bytes modes.now) [] (table_view classes.now)) }
     ensures bounds { IfOk result (λ v. All IsBoundedClass v.items) }
     ensures count { IfOk result (λ v. vec_len v ≡ count_of (table_view classes.now)) }
 {
     let mut found = Vec::new(alloc);
     for (_name, value) in classes {
-        let class = class_in(value)?;
+        let class = class_in(modes, value)?;
         found.push(class)?;
     }
     Ok(found)
 }
 
 /// The class of a value, where it is a table.
-fn class_in(value: &Value) -> Result<Class, TableFault>
-    ensures class { result ≡ spec.class_in (view value.now) }
+fn class_in(modes: &[String], value: &Value) -> Result<Class, TableFault>
+    requires { length modes.now ≤ 32 }
+    ensures class { result ≡ spec.class_in (map string_bytes modes.now) (view value.now) }
     ensures bounds { IfOk result IsBoundedClass }
 {
-    let terms = class_of(of_kind(value.as_table(), Key::Classes)?)?;
-    Ok(plain_class(terms))
+    class_of(modes, of_kind(value.as_table(), Key::Classes)?)
 }
 
-/// The class of these terms: one fare on all modes, and one transfer within two hours.
-fn plain_class(terms: Terms) -> Class
-    requires { AreBoundedTerms terms }
-    ensures class { result ≡ spec.plain_class terms }
-    ensures bounds { IsBoundedClass result }
+/// A class: its terms, its fares by mode, and what its rides give.
+#[tactic(auto, unfolding(crate::specs::Classes::class_of))]
+fn class_of(modes: &[String], element: &Table) -> Result<Class, TableFault>
+    requires { length modes.now ≤ 32 }
+    ensures class { result ≡ spec.class_of (map string_bytes modes.now) (table_view element.now) }
+    ensures bounds { IfOk result IsBoundedClass }
 {
-    Class {
+    let terms = terms_of(element)?;
+    let fares = fares_of(modes, terms.fare, optional(element, "fares"))?;
+    let transfers = ride_transfers_of(element)?;
+    Ok(Class {
         terms,
-        fares: [terms.fare; MAX_MODES],
-        transfers: TransferTerms {
-            taps: 1,
-            time: TWO_HOURS_MS,
-        },
-    }
+        fares,
+        transfers,
+    })
 }
 
 /// The terms of a class: its fare, its rides and its ceiling.
-#[tactic(auto, unfolding(crate::specs::Classes::class_of))]
-fn class_of(element: &Table) -> Result<Terms, TableFault>
-    ensures terms { result ≡ spec.class_of (table_view element.now) }
+#[tactic(auto, unfolding(crate::specs::Classes::terms_of))]
+fn terms_of(element: &Table) -> Result<Terms, TableFault>
+    ensures terms { result ≡ spec.terms_of (table_view element.now) }
     ensures bounds { IfOk result AreBoundedTerms }
 {
     let fare = number_at(element, "fare", Key::Fare, 1, 100_000)?;
@@ -94,6 +105,73 @@ fn class_of(element: &Table) -> Result<Terms, TableFault>
         fare,
         rides,
         ceiling,
+    })
+}
+
+/// The fares by the places of the modes: the class's own, if it names none.
+fn fares_of(
+    modes: &[String],
+    fare: u32,
+    value: Option<&Value>,
+) -> Result<[u32; MAX_MODES], TableFault>
+    requires modes { length modes.now ≤ 32 }
+    requires fare { fare ≤ 100_000 }
+    ensures fares { result ≡ spec.fares_of (map string_bytes modes.now) fare
+        (option_map (λ v. view v.now) value.entry) }
+    ensures bounds { IfOk result (λ fares. All (λ cents. cents ≤ 100_000) fares) }
+    ensures modes { IfOk result (λ fares. length fares ≡ 32) }
+{
+    let Some(value) = value else {
+        return Ok(equal_fares(fare));
+    };
+    let named = of_kind(value.as_table(), Key::Fares)?;
+    if !hold_numbers(named) {
+        return Err(TableFault::Kind { key: Key::Fares });
+    }
+    fares_from(modes, fare, named)
+}
+
+/// The class's own fare at the place of each mode.
+fn equal_fares(fare: u32) -> [u32; MAX_MODES]
+    requires { fare ≤ 100_000 }
+    ensures fares { result ≡ replicate 32 fare }
+    ensures bounds { All (λ cents. cents ≤ 100_000) result }
+    ensures modes { length result ≡ 32 }
+{
+    [fare; MAX_MODES]
+}
+
+/// The fares by the places of the modes: those that the members name, else the class's own.
+fn fares_from(modes: &[String], fare: u32, members: &Table) -> Result<[u32; MAX_MODES], TableFault>
+    requires modes { length modes.now ≤ 32 }
+    requires fare { fare ≤ 100_000 }
+    ensures fares { result ≡ spec.fares_from (map string_bytes modes.now) (replicate 32 fare)
+        (table_view members.now) }
+    ensures bounds { IfOk result (λ fares. All (λ cents. cents ≤ 100_000) fares) }
+    ensures modes { IfOk result (λ fares. length fares ≡ 32) }
+{
+    let mut fares = equal_fares(fare);
+    for (name, value) in members {
+        let place = mode_named(modes, name.as_str())?;
+        let cents = number_in(value, Key::Fares, 0, 100_000)?;
+        fares[place as usize] = cents;
+    }
+    Ok(fares)
+}
+
+/// What the rides of a class give: one transfer within two hours, if it does not say otherwise.
+#[tactic(auto, unfolding(crate::specs::Classes::ride_transfers_of))]
+fn ride_transfers_of(element: &Table) -> Result<TransferTerms, TableFault>
+    ensures terms { result ≡ spec.ride_transfers_of (table_view element.now) }
+    ensures taps { IfOk result (λ terms. terms.taps ≤ 9) }
+    ensures time { IfOk result (λ terms. terms.time ≤ 86_400_000) }
+{
+    let taps = number_or(1, optional(element, "transfers"), Key::RideTransfers, 0, 9)?;
+    let minutes = optional(element, "transfer_minutes");
+    let minutes = number_or(120, minutes, Key::TransferMinutes, 1, 1_440)?;
+    Ok(TransferTerms {
+        taps,
+        time: minutes * MINUTE_MS,
     })
 }
 

@@ -93,6 +93,27 @@ pub(crate) fn number_at(
     number_in(needed(table, name, key)?, key, low, high)
 }
 
+/// The value as a number from `low` to `high`, or the default if there is none.
+pub(crate) fn number_or(
+    default: u32,
+    value: Option<&Value>,
+    key: Key,
+    low: u32,
+    high: u32,
+) -> Result<u32, TableFault>
+    requires low { low ≤ default }
+    requires high { default ≤ high }
+    ensures number { result
+        ≡ spec.number_or default key low high (option_map (λ v. view v.now) value.entry) }
+    ensures low { IfOk result (λ n. low ≤ n) }
+    ensures high { IfOk result (λ n. n ≤ high) }
+{
+    match value {
+        Some(value) => number_in(value, key, low, high),
+        None => Ok(default),
+    }
+}
+
 /// Whether each value of an array is a table.
 pub(crate) fn are_tables(array: &Array) -> bool
     ensures { result ≡ spec.are_tables (array_view array.now) }
@@ -112,4 +133,11 @@ pub(crate) fn hold_strings(table: &Table) -> bool
     ensures { result ≡ spec.hold_strings (table_view table.now) }
 {
     table.values().all(Value::is_str)
+}
+
+/// Whether each value of a table is a number.
+pub(crate) fn hold_numbers(table: &Table) -> bool
+    ensures { result ≡ spec.hold_numbers (table_view table.now) }
+{
+    table.values().all(Value::is_integer)
 }

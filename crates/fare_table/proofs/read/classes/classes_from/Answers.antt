@@ -1,4 +1,4 @@
-use Rattle.std.proofs.Common.{◌≡◌, ◌∙◌, ◌+◌, ℕ, List, [], ◌∷◌, ◌++◌, All, Ok, ap, arith, length}
+use Rattle.std.proofs.Common.{◌≡◌, ◌∙◌, ◌+◌, ℕ, List, [], ◌∷◌, ◌++◌, All, Ok, ap, arith, length, map}
 use Rattle.std.proofs.Common.{length-append, sym, string_bytes}
 use Rattle.std.proofs.lemmas.Grind.{common_steps}
 use Rattle.toml.specs.Data.{Data, Members, member}
@@ -8,10 +8,10 @@ use Rattle.fare_table.specs.Terms.{IsBoundedClass}
 use Rattle.fare_table.specs.declared.class.Class.{Class}
 use Rattle.fare_table.proofs.read.classes.classes_from.Goals as goal
 
-classes-step : (earlier found : List Class) (key : List ℕ) (value : Data) (more : Members)
-    (one : Class) → class_in value ≡ Ok one → found ≡ earlier ++ one ∷ []
-    → classes_from earlier (member key value more) ≡ classes_from found more
-classes-step earlier found key value more one is same = rw (is, same)
+classes-step : (modes : List (List ℕ)) (earlier found : List Class) (key : List ℕ) (value : Data)
+    (more : Members) (one : Class) → class_in modes value ≡ Ok one → found ≡ earlier ++ one ∷ []
+    → classes_from modes earlier (member key value more) ≡ classes_from modes found more
+classes-step modes earlier found key value more one is same = rw (is, same)
 
 all_with : (earlier found : List Class) (one : Class) → All IsBoundedClass earlier
     → IsBoundedClass one → found ≡ earlier ++ one ∷ [] → All IsBoundedClass found
@@ -26,6 +26,7 @@ count-step whole earlier found one key value more is same =
 
 pub loop-name-preserved : goal.loop-name-preserved
 loop-name-preserved c =
+    let modes = map string_bytes c.args.modes.now in
     let classes = members_view c.args.classes.now.entries in
     let earlier = c.loop-name.found.items in
     let found = c.push.new.self.items in
@@ -37,8 +38,8 @@ loop-name-preserved c =
     record {
       same =
           c.loop-name.invariant.same
-          ∙ ap (λ more. classes_from earlier (members_view more)) c.in-Some.ensures.steps
-          ∙ classes-step earlier found key value more one (sym c.in_ok-class.ensures.class) same;
+          ∙ ap (λ more. classes_from modes earlier (members_view more)) c.in-Some.ensures.steps
+          ∙ classes-step modes earlier found key value more one (sym c.in_ok-class.ensures.class) same;
       bounds = all_with earlier found one c.loop-name.invariant.bounds c.in_ok-class.ensures.bounds same;
       count = count-step (count_of classes) earlier found one key value more
           (c.loop-name.invariant.count
