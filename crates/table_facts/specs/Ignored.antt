@@ -17,7 +17,8 @@ has_meaning Top key =
     || same_name key (codes "zone")
 has_meaning (Class place) key =
     same_name key (codes "fare") || same_name key (codes "rides")
-    || same_name key (codes "ceiling")
+    || same_name key (codes "ceiling") || same_name key (codes "fares")
+    || same_name key (codes "transfers") || same_name key (codes "transfer_minutes")
 has_meaning (Range place) key =
     same_name key (codes "first") || same_name key (codes "last") || same_name key (codes "mode")
 

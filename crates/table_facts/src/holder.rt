@@ -28,7 +28,14 @@ pub(crate) fn has_meaning(holder: KeyHolder, key: &str) -> bool
                 || key == "riders"
                 || key == "zone"
         }
-        KeyHolder::Class(_) => key == "fare" || key == "rides" || key == "ceiling",
+        KeyHolder::Class(_) => {
+            key == "fare"
+                || key == "rides"
+                || key == "ceiling"
+                || key == "fares"
+                || key == "transfers"
+                || key == "transfer_minutes"
+        }
         KeyHolder::Range(_) => key == "first" || key == "last" || key == "mode",
     }
 }

@@ -30,6 +30,9 @@ const CLASSES: &str = "a table of at least one rider class, each with fare and r
 /// What a class has to be.
 const CLASS: &str = "a table with fare, rides and, if it has one, ceiling";
 
+/// What `fares` of a class has to be.
+const FARES: &str = "a table from modes to numbers from 0 to 100000, in cents";
+
 /// What `zone` has to be.
 const ZONE: &str = "a POSIX rule, as \"EST5EDT,M3.2.0,M11.1.0\", not a place";
 
@@ -221,18 +224,88 @@ pub(super) fn check_number(
     Ok(None)
 }
 
+/// Looks at the name of a mode that is a key of the `fares` at a path.
+fn check_fare_mode(
+    wrongs: &mut Wrongs,
+    path: &str,
+    name: &str,
+    modes: &[&str],
+) -> Result<(), AllocError> {
+    if modes.iter().any(|other| *other == name) {
+        return Ok(());
+    }
+    let wanted = one_of(wrongs.alloc, "a mode of the table", modes)?;
+    let key = key_path(wrongs.alloc, path, name)?;
+    wrongs.key(key, wanted.as_str())
+}
+
+/// Looks at `fares` of the class at a path.
+fn check_fares(
+    wrongs: &mut Wrongs,
+    path: &str,
+    class: &Table,
+    modes: &Option<Vec<&str>>,
+) -> Result<(), AllocError> {
+    let Some(value) = class.get("fares") else {
+        return Ok(());
+    };
+    let path = key_path(wrongs.alloc, path, "fares")?;
+    let Some(fares) = value.as_table() else {
+        return wrongs.value(path, value, FARES);
+    };
+    for (name, _cents) in fares {
+        if let Some(modes) = modes {
+            check_fare_mode(wrongs, path.as_str(), name.as_str(), modes)?;
+        }
+        check_number(
+            wrongs,
+            path.as_str(),
+            fares,
+            name.as_str(),
+            0,
+            100_000,
+            ", in cents",
+        )?;
+    }
+    Ok(())
+}
+
 /// Looks at the keys of a class.
-fn check_class(wrongs: &mut Wrongs, path: &str, class: &Table) -> Result<(), AllocError> {
+fn check_class(
+    wrongs: &mut Wrongs,
+    path: &str,
+    class: &Table,
+    modes: &Option<Vec<&str>>,
+) -> Result<(), AllocError> {
     check_number(wrongs, path, class, "fare", 1, 100_000, ", in cents")?;
     check_number(wrongs, path, class, "rides", 1, 1_000, "")?;
     if class.contains_key("ceiling") {
         check_number(wrongs, path, class, "ceiling", 1, 100_000_000, ", in cents")?;
     }
+    check_fares(wrongs, path, class, modes)?;
+    if class.contains_key("transfers") {
+        check_number(wrongs, path, class, "transfers", 0, 9, "")?;
+    }
+    if class.contains_key("transfer_minutes") {
+        check_number(
+            wrongs,
+            path,
+            class,
+            "transfer_minutes",
+            1,
+            1_440,
+            ", in minutes",
+        )?;
+    }
     Ok(())
 }
 
 /// Looks at the classes of a table of classes.
-fn check_classes(wrongs: &mut Wrongs, classes: &Table) -> Result<(), AllocError> {
+fn check_classes(
+    wrongs: &mut Wrongs,
+    classes: &Table,
+    modes: &Option<Vec<&str>>,
+) -> Result<(), AllocError> {
     let mut is_well = true;
     for (name, value) in classes {
         if !value.is_table() {
@@ -247,14 +320,18 @@ fn check_classes(wrongs: &mut Wrongs, classes: &Table) -> Result<(), AllocError>
     for (name, value) in classes {
         let path = key_path(wrongs.alloc, "classes", name.as_str())?;
         if let Some(class) = value.as_table() {
-            check_class(wrongs, path.as_str(), class)?;
+            check_class(wrongs, path.as_str(), class, modes)?;
         }
     }
     Ok(())
 }
 
 /// Looks at `classes`. Gives them, where they can be had.
-fn classes_of<'t>(wrongs: &mut Wrongs, tree: &'t Table) -> Result<Option<&'t Table>, AllocError> {
+fn classes_of<'t>(
+    wrongs: &mut Wrongs,
+    tree: &'t Table,
+    modes: &Option<Vec<&str>>,
+) -> Result<Option<&'t Table>, AllocError> {
     let Some(value) = tree.get("classes") else {
         wrongs.missing("", "classes", CLASSES)?;
         return Ok(None);
@@ -266,7 +343,7 @@ fn classes_of<'t>(wrongs: &mut Wrongs, tree: &'t Table) -> Result<Option<&'t Tab
     if classes.is_empty() {
         wrongs.value(top(wrongs.alloc, "classes")?, value, CLASSES)?;
     }
-    check_classes(wrongs, classes)?;
+    check_classes(wrongs, classes, modes)?;
     Ok(Some(classes))
 }
 
@@ -288,7 +365,7 @@ pub(super) fn wrongs_of(alloc: Global, tree: &Table) -> Result<Vec<Wrong>, Alloc
     let mut wrongs = Wrongs::new(alloc);
     let modes = modes_of(&mut wrongs, tree)?;
     check_transfers(&mut wrongs, tree, &modes)?;
-    let classes = classes_of(&mut wrongs, tree)?;
+    let classes = classes_of(&mut wrongs, tree, &modes)?;
     check_default(&mut wrongs, tree, classes)?;
     check_ranges(&mut wrongs, tree, &modes)?;
     check_riders(&mut wrongs, tree, classes)?;

@@ -16,7 +16,14 @@ const TOP: [&str; 7] = [
 ];
 
 /// The keys that have a meaning in a class.
-const CLASS: [&str; 3] = ["fare", "rides", "ceiling"];
+const CLASS: [&str; 6] = [
+    "fare",
+    "rides",
+    "ceiling",
+    "fares",
+    "transfers",
+    "transfer_minutes",
+];
 
 /// The keys that have a meaning in an entry of `validators`.
 const RANGE: [&str; 3] = ["first", "last", "mode"];

@@ -3,7 +3,7 @@
 use super::Question;
 use super::clocks::push_changes;
 use super::paths::Key;
-use super::prices::Prices;
+use super::prices::{Prices, push_fares, push_ride_transfers};
 use fare_table::FareTable;
 use jiff::Timestamp;
 use std::alloc::{AllocError, Global};
@@ -167,7 +167,11 @@ fn push_class(text: &mut String, riders: u64, name: &str, class: &Table) -> Resu
         text,
         "class {name} fare {fare} rides {rides} ceiling {ceiling} riders {riders}\n"
     )?;
-    prices.push(text, name)
+    match table_at(class, "fares") {
+        Some(fares) => push_fares(text, name, fares)?,
+        None => prices.push(text, name)?,
+    }
+    push_ride_transfers(text, name, class)
 }
 
 /// Appends the lines of the classes.

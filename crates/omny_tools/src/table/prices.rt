@@ -4,15 +4,48 @@ use super::paths::Key;
 use std::alloc::AllocError;
 use toml::Table;
 
-/// A number of a class; 0 where there is none.
-fn number(class: &Table, key: &str) -> u64 {
+/// A number of a class; the default where there is none.
+fn number_or(class: &Table, key: &str, default: u64) -> u64 {
     match class.get(key) {
         Some(value) => match value.as_integer() {
-            Some(number) => u64::try_from(number).unwrap_or(0),
-            None => 0,
+            Some(number) => u64::try_from(number).unwrap_or(default),
+            None => default,
         },
-        None => 0,
+        None => default,
     }
+}
+
+/// A number of a class; 0 where there is none.
+fn number(class: &Table, key: &str) -> u64 {
+    number_or(class, key, 0)
+}
+
+/// Appends a line for each mode of which the class names a fare.
+pub(super) fn push_fares(
+    text: &mut String,
+    name: Key<'_>,
+    fares: &Table,
+) -> Result<(), AllocError> {
+    for (mode, _cents) in fares {
+        let cents = number(fares, mode.as_str());
+        write!(text, "fare {name} {mode} cents {cents}\n")?;
+    }
+    Ok(())
+}
+
+/// Appends a line of how many transfers a ride of the class gives, and for how many minutes, where
+/// the class says it.
+pub(super) fn push_ride_transfers(
+    text: &mut String,
+    name: Key<'_>,
+    class: &Table,
+) -> Result<(), AllocError> {
+    if !class.contains_key("transfers") && !class.contains_key("transfer_minutes") {
+        return Ok(());
+    }
+    let taps = number_or(class, "transfers", 1);
+    let minutes = number_or(class, "transfer_minutes", 120);
+    write!(text, "gives {name} transfers {taps} minutes {minutes}\n")
 }
 
 /// What a class pays.
