@@ -9,6 +9,7 @@ pub mod PairLemmas
 pub mod PartLemmas
 pub mod PayLemmas
 pub mod ReadLemmas
+pub mod RideLemmas
 pub mod RowLemmas
 pub mod SortLemmas
 pub mod UntilLemmas

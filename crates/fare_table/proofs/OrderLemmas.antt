@@ -560,3 +560,13 @@ pub keys-ordered : (text key : List ℕ) (tree inner : Members) → parse_docume
     → get_member key tree ≡ Some (table inner) → in_byte_order inner ≡ true
 keys-ordered text key tree inner is at =
     ordered inner (value_sorted key tree (table inner) at (document_sorted text tree is))
+
+-- the same of a table inside of a table of a table of the text
+pub nested-ordered : (text first second third : List ℕ) (tree one two three : Members)
+    → parse_document text ≡ Some tree → get_member first tree ≡ Some (table one)
+    → get_member second one ≡ Some (table two) → get_member third two ≡ Some (table three)
+    → in_byte_order three ≡ true
+nested-ordered text first second third tree one two three is at at' at'' =
+    ordered three (value_sorted third two (table three) at''
+    (value_sorted second one (table two) at'
+    (value_sorted first tree (table one) at (document_sorted text tree is))))

@@ -24,7 +24,7 @@ use Rattle.fare_table.specs.Modes.{same_name}
 use Rattle.fare_table.specs.declared.class.Class.{Class}
 use Rattle.std.specs.Prelude.{slice_get, slice_index_or}
 use Rattle.std.proofs.lemmas.Map.Text.{is_eq-slice_cmp}
-use Rattle.fare_table.specs.Fares.{Fares, no_class, terms_at}
+use Rattle.fare_table.specs.Fares.{Fares, class_of as class_of_token, no_class, terms_at}
 use Rattle.std.proofs.lemmas.Option.{get_or_from_slice_get}
 use Rattle.std.proofs.Common.{◌++◌, ◌+◌, length, suc, zero, option_map, arith}
 use Rattle.fare_table.specs.Members.{hold_strings, hold_tables, number_at, of_kind, table_at}
@@ -591,7 +591,7 @@ pub record IsPlaced (modes : List (List ℕ)) (list : List Class) (place : ℕ) 
   pub at : slice_get list place ≡ Some one
   pub has : HasClass modes classes name one
 
-placed : (modes : List (List ℕ)) (earlier list : List Class) (name : List ℕ) (part : Members)
+pub placed : (modes : List (List ℕ)) (earlier list : List Class) (name : List ℕ) (part : Members)
     (place there : ℕ) → classes_from modes earlier part ≡ Ok list
     → place_of name part ≡ Some place → there ≡ length earlier + place
     → IsPlaced modes list there part name
@@ -642,12 +642,12 @@ placed modes earlier list name (member key value more) place there is at same =
     length-append-one [] x = refl
     length-append-one (y ∷ ys) x = ap suc (length-append-one ys x)
 
-place_found : (o : Option ℕ) (place : ℕ) → ok_or o Rider ≡ Ok place → o ≡ Some place
+pub place_found : (o : Option ℕ) (place : ℕ) → ok_or o Rider ≡ Ok place → o ≡ Some place
 place_found None place is = absurd (cc)
 place_found (Some p) place is = let same : p ≡ place = cc in ap (λ n. Some n) same
 
 -- the class of this name has the terms in the text too
-has_terms : (modes : List (List ℕ)) (tree classes : Members) (list : List Class) (class : List ℕ)
+pub has_terms : (modes : List (List ℕ)) (tree classes : Members) (list : List Class) (class : List ℕ)
     (place : ℕ) → classes_of tree ≡ Ok classes → classes_from modes [] classes ≡ Ok list
     → class_named classes class ≡ Ok place
     → HasTerms tree class (slice_index_or list place no_class).terms
@@ -792,14 +792,18 @@ default_named classes tree terms is =
     terms is in
     (name.0, text-read (codes "default_class") the_key.DefaultClass tree name.0 name.1, name.2)
 
-pays_if : (tree classes : Members) (meaning : TableMeaning) (token : List ℕ) (o : Option ℕ)
-    → classes_of tree ≡ Ok classes → classes_from meaning.modes [] classes ≡ Ok meaning.classes
+-- the class by which a token pays, and its place
+pub record HasClassOf (tree classes : Members) (token : List ℕ) (place : ℕ) : Type 0 where
+  pub class : List ℕ
+  pub is : IsClassOf tree token class
+  pub named : class_named classes class ≡ Ok place
+
+pub class_if : (tree classes : Members) (meaning : TableMeaning) (token : List ℕ) (o : Option ℕ)
     → default_of classes tree ≡ Ok meaning.standard
     → AreRiders classes (get_member (codes "riders") tree) meaning.riders
     → Named token meaning.riders ≡ o
-    → Pays tree token
-    (slice_index_or meaning.classes (unwrap_or o meaning.standard) no_class).terms
-pays_if tree classes meaning token None read listed standard are at =
+    → HasClassOf tree classes token (unwrap_or o meaning.standard)
+class_if tree classes meaning token None standard are at =
     let d = default_named classes tree meaning.standard standard in
     record {
       class = d.0;
@@ -811,22 +815,25 @@ pays_if tree classes meaning token None read listed standard are at =
             let no : None ≡ Some t.0 = sym at ∙ t.2 in
             absurd (cc (no)),
       );
-      has = has_terms meaning.modes tree classes meaning.classes d.0 meaning.standard read listed d.2;
+      named = d.2;
     }
-pays_if tree classes meaning token (Some place) read listed standard are at =
+class_if tree classes meaning token (Some place) standard are at =
     let c = came_from classes tree meaning.riders token place are at in
-    record {
-      class = c.1;
-      is = inl (c.0, c.2);
-      has = has_terms meaning.modes tree classes meaning.classes c.1 place read listed c.3;
-    }
+    record { class = c.1; is = inl (c.0, c.2); named = c.3 }
 
 pays : (tree : Members) (fares : Fares) (token : List ℕ) → meaning_of_tree tree ≡ Ok fares.meaning
     → Pays tree token (terms_at fares token)
 pays tree fares token is =
-    let p = parts tree fares.meaning is in
-    pays_if tree p.table fares.meaning token (Named token fares.meaning.riders) p.members p.classes
-    p.standard (riders_read p.table tree fares.meaning.riders p.riders) refl
+    let meaning = fares.meaning in
+    let p = parts tree meaning is in
+    let h = class_if tree p.table meaning token (Named token meaning.riders) p.standard
+    (riders_read p.table tree meaning.riders p.riders) refl in
+    record {
+      class = h.class;
+      is = h.is;
+      has = has_terms meaning.modes tree p.table meaning.classes h.class
+          (class_of_token fares token) p.members p.classes h.named;
+    }
 
 pub one-key : (tree : Members) (meaning : TableMeaning) (token key key' class class' : List ℕ)
     → meaning_of_tree tree ≡ Ok meaning

@@ -23,7 +23,7 @@ use Rattle.fare_table.specs.declared.fault.TableFault.TheVariants.{Text, Missing
 use Rattle.fare_table.specs.declared.fault.TableFault.TheVariants.{Overlap, Rider, NoMemory, Zone}
 
 -- where a row looks: at the keys of the text, at those of one of its classes or of one element of
--- its `validators`, at one key of the `fares` of a class (first comes the place of the class), or at
+-- its `validators`, at one key of the `fares` of a class (the class first, then the key), or at
 -- one key of its `riders`, each by its place. Classes and keys have the places of their byte order
 -- (`laws::keys_come_in_byte_order`).
 pub data Where : Type 0 where

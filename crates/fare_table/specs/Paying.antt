@@ -1,8 +1,9 @@
--- What a token pays by the text: its class, and the terms of the class.
+-- What a token pays by the text: its class, the terms of the class, and what its rides give.
 use Rattle.std.specs.Prelude.{◌≡◌, ◌⊎◌, ℕ, ◌*◌, pos, List, Option, None, Some, Ok, codes}
 use Rattle.toml.specs.Data.{Data, Members, string, integer, table, get_member}
 use Rattle.fare_table.specs.Riders.{token_of_digits}
 use Rattle.fare_table.specs.declared.terms.Terms.{Terms}
+use Rattle.fare_table.specs.declared.transfer_terms.TransferTerms.{TransferTerms}
 
 -- this key of the text's `riders` names the token, and its value is the name of this class
 pub record NamesRider (tree : Members) (token key class : List ℕ) : Type 0 where
@@ -39,3 +40,46 @@ pub record Pays (tree : Members) (token : List ℕ) (terms : Terms) : Type 0 whe
   pub class : List ℕ
   pub is : IsClassOf tree token class
   pub has : HasTerms tree class terms
+
+-- these are the keys of the text's class of this name
+pub record IsElementOf (tree : Members) (class : List ℕ) (element : Members) : Type 0 where
+  pub classes : Members
+  pub listed : get_member (codes "classes") tree ≡ Some (table classes)
+  pub stands : get_member class classes ≡ Some (table element)
+
+-- the number that stands there, else the one that holds where none stands
+abbrev pub IsNumberOr : ℕ → Option Data → ℕ → Type 0
+IsNumberOr default None number = number ≡ default
+IsNumberOr default (Some value) number = value ≡ integer (pos number)
+
+-- the fare of the mode of this name: the one that the key `fares` of a class has for it, else the
+-- class's own
+abbrev pub IsFareOn : ℕ → Option Data → List ℕ → ℕ → Type 0
+IsFareOn own None name fare = fare ≡ own
+IsFareOn own (Some value) name fare =
+    (fares : Members) × (value ≡ table fares) × IsNumberOr own (get_member name fares) fare
+
+-- the terms of a ride of the token on the mode of this name: the mode's fare, under the limits of
+-- the class that the token pays by
+pub record PaysOn (tree : Members) (token name : List ℕ) (terms : Terms) : Type 0 where
+  pub class : List ℕ
+  pub is : IsClassOf tree token class
+  pub element : Members
+  pub keys : IsElementOf tree class element
+  pub own : Terms
+  pub has : HasTerms tree class own
+  pub fare : IsFareOn own.fare (get_member (codes "fares") element) name terms.fare
+  pub rides : terms.rides ≡ own.rides
+  pub ceiling : terms.ceiling ≡ own.ceiling
+
+-- what a ride of the token gives: the transfers and the minutes of the class that it pays by, else
+-- one transfer and 120 minutes
+pub record Gives (tree : Members) (token : List ℕ) (given : TransferTerms) : Type 0 where
+  pub class : List ℕ
+  pub is : IsClassOf tree token class
+  pub element : Members
+  pub keys : IsElementOf tree class element
+  pub taps : IsNumberOr 1 (get_member (codes "transfers") element) given.taps
+  pub minutes : ℕ
+  pub counted : IsNumberOr 120 (get_member (codes "transfer_minutes") element) minutes
+  pub time : given.time ≡ minutes * 60_000

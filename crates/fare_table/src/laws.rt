@@ -1,7 +1,7 @@
 //! Laws of fare tables. Each function's contract is the law; it has nothing to do, but for
 //! `read_tells_the_first_row`, which reads.
 ghost use Rattle.std.specs.Prelude.{◌≡◌, ◌≢◌, ◌⊎◌, ◌↔◌, ℕ, ◌<◌, true, List, Err, None, Ok, Some};
-ghost use Rattle.std.specs.Prelude.{IfErr, IfOk, IsErrOf, IsUtf8};
+ghost use Rattle.std.specs.Prelude.{IfErr, IfOk, IsErrOf, IsUtf8, position};
 ghost use Rattle.std.specs.Cmp.Lexicographic.{slice_cmp};
 ghost use Rattle.std.specs.List.Sorted.{IsStrictlySortedBy};
 ghost use Rattle.std.specs.Map.{keys_of};
@@ -10,9 +10,11 @@ ghost use Rattle.toml.specs.Data.{Members, table, get_member};
 ghost use Rattle.toml.specs.Parse.{parse_document};
 ghost use Rattle.fare_table.specs.ByteOrder.{in_byte_order};
 ghost use Rattle.fare_table.specs.TextRanges.{RangeGives, RangeHas};
-ghost use Rattle.fare_table.specs.Fares.{Fares, mode_at, terms_at};
+ghost use Rattle.fare_table.specs.Fares.{Fares, class_of, mode_at, ride_terms, terms_at};
+ghost use Rattle.fare_table.specs.Fares.{transfer_terms};
 ghost use Rattle.fare_table.specs.Faults.{first_fault};
-ghost use Rattle.fare_table.specs.Paying.{NamesRider, Pays};
+ghost use Rattle.fare_table.specs.Modes.{same_name};
+ghost use Rattle.fare_table.specs.Paying.{Gives, NamesRider, Pays, PaysOn};
 ghost use Rattle.fare_table.specs.TableMeaning.{TableMeaning, meaning_in, meaning_of_tree};
 ghost use Rattle.fare_table.specs.Transfers.{has_pair, ListsPair};
 ghost use Rattle.fare_table.specs.Until.{IsWindowEnd, until};
@@ -69,6 +71,19 @@ pub fn terms_are_of_classes()
     ensures one { (tree : Members) (meaning : TableMeaning) (token key key' class class' : List ℕ)
         → meaning_of_tree tree ≡ Ok meaning → NamesRider tree token key class
         → NamesRider tree token key' class' → key ≡ key' }
+{}
+
+/// A ride of a token on a mode costs what the `fares` of the token's class say of the mode's name,
+/// else the class's own fare, under the limits of the class. It gives the transfers, for the
+/// minutes, that the class says, else one within two hours.
+pub fn rides_are_of_classes()
+    ensures pays { (text : List ℕ) (tree : Members) (fares : Fares) (token name : List ℕ) (mode : ℕ)
+        → parse_document text ≡ Some tree → meaning_of_tree tree ≡ Ok fares.meaning
+        → position (same_name name) fares.meaning.modes ≡ Some mode
+        → PaysOn tree token name (ride_terms fares (class_of fares token) mode) }
+    ensures gives { (tree : Members) (fares : Fares) (token : List ℕ)
+        → meaning_of_tree tree ≡ Ok fares.meaning
+        → Gives tree token (transfer_terms fares (class_of fares token)) }
 {}
 
 /// The keys of the tables of a text, as of `classes` and `riders`, stand in the byte order in which

@@ -1,0 +1,351 @@
+-- What a token pays for a ride on a mode, and what its rides give, is what its class of the text
+-- says.
+use Rattle.std.proofs.Common.{◌≡◌, ◌≢◌, ℕ, ◌*◌, ◌<◌, ◌≤◌, ◌&&◌, Bool, true, false, List, []}
+use Rattle.std.proofs.Common.{Option, Some, None, Ok, Err, cond, refl, sym, ap, ◌∙◌, subst, inl, inr}
+use Rattle.std.proofs.Common.{arith, codes, get_or, get_or-set_other, length, length-set, set}
+use Rattle.std.proofs.Common.{Ordering, Less, Equal, Greater, replicate, zero-add}
+use Rattle.std.proofs.lemmas.Bool.{and_parts, cases_Bool, false≢true, leb-true, ltb-true}
+use Rattle.std.proofs.lemmas.Grind.{get_or-set_at}
+use Rattle.std.proofs.lemmas.List.{get_or-replicate, length-replicate}
+use Rattle.std.proofs.lemmas.List.Sums.{passes_at_first}
+use Rattle.std.proofs.lemmas.Map.Text.{is_eq-slice_cmp}
+use Rattle.std.proofs.lemmas.Option.{get_or_from_slice_get}
+use Rattle.std.specs.Cmp.Lexicographic.{nat_list_cmp_total, slice_cmp}
+use Rattle.std.specs.List.{list_all, position_or_len}
+use Rattle.std.specs.Option.{ok_or}
+use Rattle.std.specs.Ordering.{is_eq, is_lt, nat_cmp}
+use Rattle.std.specs.Prelude.{nat_le, nat_lt, pos, position, if◌then◌else◌}
+use Rattle.toml.specs.Data.{Data, Items, Members, no_members, member, integer, table, as_table}
+use Rattle.toml.specs.Data.{get_member, is_before}
+use Rattle.toml.specs.Parse.{parse_document}
+use Rattle.fare_table.proofs.ElementLemmas.{if_ok}
+use Rattle.fare_table.proofs.OrderLemmas.{nested-ordered}
+use Rattle.fare_table.proofs.PartLemmas.{bind_ok, parts}
+use Rattle.fare_table.proofs.PayLemmas.{AreClassParts, Named, class_if, class_parts, classes_read}
+use Rattle.fare_table.proofs.PayLemmas.{has_terms, is_itself, member-here, member-later}
+use Rattle.fare_table.proofs.PayLemmas.{place_found, placed, riders_read, same_bytes, same_ok}
+use Rattle.fare_table.proofs.ReadLemmas.{is_number, is_table}
+use Rattle.fare_table.specs.ByteOrder.{in_byte_order}
+use Rattle.fare_table.specs.Classes.{class_of as class_by, fares_from, fares_of, place_of}
+use Rattle.fare_table.specs.Classes.{ride_transfers_of}
+use Rattle.fare_table.specs.Fares.{Fares, class_at, class_of, no_class, ride_terms}
+use Rattle.fare_table.specs.Fares.{transfer_terms}
+use Rattle.fare_table.specs.Members.{array_at, hold_numbers, number_in, number_or, of_kind}
+use Rattle.fare_table.specs.Modes.{are_distinct, are_mode_names, is_mode_name, mode_named, modes_of}
+use Rattle.fare_table.specs.Modes.{same_name, strings_from}
+use Rattle.fare_table.specs.OrFault.{OrFault, ◌>>=◌}
+use Rattle.fare_table.specs.Paying.{Gives, HasTerms, IsClassOf, IsElementOf, IsFareOn, IsNumberOr}
+use Rattle.fare_table.specs.Paying.{PaysOn}
+use Rattle.fare_table.specs.TableMeaning.{meaning_of_tree}
+use Rattle.fare_table.specs.declared.class.Class.{Class}
+use Rattle.fare_table.specs.declared.fault.Key.{Key}
+use Rattle.fare_table.specs.declared.fault.Key.TheVariants as the_key
+use Rattle.fare_table.specs.declared.fault.TableFault.TheVariants.{Kind, Mode, Range}
+use Rattle.fare_table.specs.declared.transfer_terms.TransferTerms.{TransferTerms}
+
+-- ---- names of modes
+same_by : (name key other : List ℕ) → same_name name other ≡ true → same_name key other ≡ true
+    → name ≡ key
+same_by name key other one two =
+    same_bytes name other (is_eq-slice_cmp name other ∙ one)
+    ∙ sym (same_bytes key other (is_eq-slice_cmp key other ∙ two))
+
+-- the first name that passes the test stands at the place
+record IsAt (test : List ℕ → Bool) (names : List (List ℕ)) (place : ℕ) : Type 0 where
+  below : place < length names
+  passes : test (get_or names place []) ≡ true
+
+found_if : (b : Bool) (n place : ℕ) → cond b (Some n) None ≡ Some place → (b ≡ true) × (n ≡ place)
+found_if true n place is = (refl, cc)
+found_if false n place is = absurd (cc)
+
+is_at : (test : List ℕ → Bool) (names : List (List ℕ)) (place : ℕ)
+    → position test names ≡ Some place → IsAt test names place
+is_at test names place is =
+    let first = position_or_len test names in
+    let found = found_if (nat_lt first (length names)) first place is in
+    let below : first < length names = ltb-true first (length names) found.0 in
+    record {
+      below = subst (λ n. n < length names) found.1 below;
+      passes = subst (λ n. test (get_or names n []) ≡ true) found.1
+          (passes_at_first test names [] below);
+    }
+
+one_name : (names : List (List ℕ)) (name key : List ℕ) (place : ℕ)
+    → position (same_name name) names ≡ Some place → position (same_name key) names ≡ Some place
+    → name ≡ key
+one_name names name key place one two =
+    same_by name key (get_or names place []) (is_at (same_name name) names place one).passes
+    (is_at (same_name key) names place two).passes
+
+-- ---- keys in byte order
+less_of : (r : Ordering) → is_lt r ≡ true → r ≡ Less
+less_of Less is = refl
+less_of Equal is = absurd (false≢true is)
+less_of Greater is = absurd (false≢true is)
+
+before_rest : (key first : List ℕ) (rest : Members) → slice_cmp nat_cmp key first ≡ Less
+    → is_before first rest ≡ true → is_before key rest ≡ true
+before_rest key first no_members less before = refl
+before_rest key first (member next value rest) less before =
+    ap is_lt ((nat_list_cmp_total).trans key first next less
+    (less_of (slice_cmp nat_cmp first next) before))
+
+-- a key does not come again behind itself
+not_later : (key : List ℕ) (more : Members) → is_before key more ≡ true → in_byte_order more ≡ true
+    → get_member key more ≡ None
+not_later key no_members before order = refl
+not_later key (member first value rest) before order =
+    let less = less_of (slice_cmp nat_cmp key first) before in
+    let parts = and_parts (is_before first rest) (in_byte_order rest) order in
+    member-later key first value rest (ap is_eq less)
+    ∙ not_later key rest (before_rest key first rest less parts.0) parts.1
+
+-- ---- the fares of a class
+mode_found : (o : Option ℕ) (place : ℕ) → ok_or o Mode ≡ Ok place → o ≡ Some place
+mode_found None place is = absurd (cc)
+mode_found (Some p) place is = let same : p ≡ place = cc in ap (λ n. Some n) same
+
+some_place : (one other : ℕ) → Some one ≡ Some other → one ≡ other
+some_place one other is = cc
+
+abbrev by_cents : List (List ℕ) → List ℕ → Members → ℕ → ℕ → OrFault (List ℕ)
+by_cents modes fares more place cents = fares_from modes (set fares place cents) more
+
+abbrev by_place : List (List ℕ) → List ℕ → Data → Members → ℕ → OrFault (List ℕ)
+by_place modes fares value more place =
+    number_in the_key.Fares 0 100_000 value >>= by_cents modes fares more place
+
+fare_named : (modes : List (List ℕ)) (name : List ℕ) (mode : ℕ) (fares list : List ℕ)
+    (named : Members) (own : ℕ) → position (same_name name) modes ≡ Some mode
+    → mode < length fares → in_byte_order named ≡ true → fares_from modes fares named ≡ Ok list
+    → get_or fares mode 0 ≡ own → IsNumberOr own (get_member name named) (get_or list mode 0)
+fare_named modes name mode fares list no_members own at below order is has =
+    let same : fares ≡ list = cc in ap (λ (l : List ℕ). get_or l mode 0) (sym same) ∙ has
+fare_named modes name mode fares list (member key value more) own at below order is has =
+    let parts = and_parts (is_before key more) (in_byte_order more) order in
+    let place = bind_ok (mode_named modes key) (by_place modes fares value more) list is in
+    let cents = bind_ok (number_in the_key.Fares 0 100_000 value) (by_cents modes fares more place.0)
+    list place.2 in
+    let found = mode_found (position (same_name key) modes) place.0 place.1 in
+    let next = set fares place.0 cents.0 in
+    let long : mode < length next = omega (arith, below, length-set fares place.0 cents.0) in
+    elim (cases_Bool (is_eq (slice_cmp nat_cmp name key))) [
+      | inl same ↦
+          let one : name ≡ key = same_bytes name key same in
+          let here : mode ≡ place.0 =
+          some_place mode place.0 (sym at ∙ ap (λ (n : List ℕ). position (same_name n) modes) one
+          ∙ found) in
+          let room : place.0 < length fares = omega (arith, below, here) in
+          let rest = fare_named modes name mode next list more cents.0 at long parts.1 cents.2
+          (get_or-set_at fares place.0 mode cents.0 0 here room) in
+          let none : get_member name more ≡ None =
+          ap (λ (n : List ℕ). get_member n more) one ∙ not_later key more parts.0 parts.1 in
+          let fare : get_or list mode 0 ≡ cents.0 =
+          subst (λ (o : Option Data). IsNumberOr cents.0 o (get_or list mode 0)) none rest in
+          let first : get_member name (member key value more) ≡ Some value =
+          ap (λ (n : List ℕ). get_member n (member key value more)) one
+          ∙ member-here key value more in
+          subst (λ (o : Option Data). IsNumberOr own o (get_or list mode 0)) (sym first)
+          ((is_number value the_key.Fares 0 100_000 cents.0 cents.1).is
+          ∙ ap (λ (n : ℕ). integer (pos n)) (sym fare))
+      | inr other ↦
+          let apart : mode ≢ place.0 =
+          λ same. false≢true (sym other
+          ∙ ap (λ (k : List ℕ). is_eq (slice_cmp nat_cmp name k))
+          (sym (one_name modes name key mode at (found ∙ ap (λ (n : ℕ). Some n) (sym same))))
+          ∙ is_itself name) in
+          let rest = fare_named modes name mode next list more own at long parts.1 cents.2
+          (get_or-set_other fares place.0 mode cents.0 0 apart ∙ has) in
+          subst (λ (o : Option Data). IsNumberOr own o (get_or list mode 0))
+          (sym (member-later name key value more other)) rest
+    ]
+
+abbrev by_numbers : List (List ℕ) → ℕ → Members → OrFault (List ℕ)
+by_numbers modes own numbers = fares_from modes (replicate 32 own) numbers
+
+abbrev by_named : List (List ℕ) → ℕ → Members → OrFault (List ℕ)
+by_named modes own named =
+    (if hold_numbers named then Ok named else Err (Kind the_key.Fares)) >>= by_numbers modes own
+
+fare_on : (modes : List (List ℕ)) (name : List ℕ) (mode own : ℕ) (o : Option Data)
+    (list : List ℕ) → position (same_name name) modes ≡ Some mode → mode < 32
+    → ((named : Members) → o ≡ Some (table named) → in_byte_order named ≡ true)
+    → fares_of modes own o ≡ Ok list → IsFareOn own o name (get_or list mode 0)
+fare_on modes name mode own None list at below order is =
+    let same : replicate 32 own ≡ list = cc in
+    ap (λ (l : List ℕ). get_or l mode 0) (sym same) ∙ get_or-replicate 32 mode own 0 below
+fare_on modes name mode own (Some value) list at below order is =
+    let named = bind_ok (of_kind the_key.Fares (as_table value)) (by_named modes own) list is in
+    let numbers = bind_ok (if hold_numbers named.0 then Ok named.0 else Err (Kind the_key.Fares))
+    (by_numbers modes own) list named.2 in
+    let same : named.0 ≡ numbers.0 =
+    same_ok named.0 numbers.0
+    (if_ok (hold_numbers named.0) (Ok named.0) (Kind the_key.Fares) numbers.0 numbers.1) in
+    let read = is_table value the_key.Fares named.0 named.1 in
+    let long : mode < length (replicate 32 own) = omega (arith, below, length-replicate 32 own) in (
+      named.0,
+      read,
+      fare_named modes name mode (replicate 32 own) list named.0 own at long
+          (order named.0 (ap (λ (d : Data). Some d) read))
+          (ap (fares_from modes (replicate 32 own)) same ∙ numbers.2)
+          (get_or-replicate 32 mode own 0 below),
+    )
+
+-- ---- how many modes there are
+names_if : (b : Bool) (names modes : List (List ℕ))
+    → (if b then Ok names else Err (Range the_key.Modes)) ≡ Ok modes → (b ≡ true) × (names ≡ modes)
+names_if true names modes is = (refl, cc)
+names_if false names modes is = absurd (cc)
+
+abbrev by_names : List (List ℕ) → OrFault (List (List ℕ))
+by_names names = if are_mode_names names then Ok names else Err (Range the_key.Modes)
+
+abbrev by_items : Items → OrFault (List (List ℕ))
+by_items items = strings_from [] items >>= by_names
+
+modes_few : (tree : Members) (modes : List (List ℕ)) → modes_of tree ≡ Ok modes
+    → length modes ≤ 32
+unfolding modes_of
+modes_few tree modes is =
+    let items = bind_ok (array_at (codes "modes") the_key.Modes tree) by_items modes is in
+    let names = bind_ok (strings_from [] items.0) by_names modes items.2 in
+    let good = names_if (are_mode_names names.0) names.0 modes names.2 in
+    let low = nat_le 1 (length names.0) in
+    let high = nat_le (length names.0) 32 in
+    let words = list_all is_mode_name names.0 in
+    let front = and_parts (low && high && words) (are_distinct names.0) good.0 in
+    let counts = and_parts (low && high) words front.0 in
+    let few : length names.0 ≤ 32 = leb-true (length names.0) 32 (and_parts low high counts.0).1 in
+    subst (λ (n : List (List ℕ)). length n ≤ 32) good.1 few
+
+-- ---- what rides give
+is_number_or : (o : Option Data) (key : Key) (default low high n : ℕ)
+    → number_or default key low high o ≡ Ok n → IsNumberOr default o n
+is_number_or None key default low high n is = let same : default ≡ n = cc in sym same
+is_number_or (Some value) key default low high n is = (is_number value key low high n is).is
+
+abbrev given_by : ℕ → ℕ → TransferTerms
+given_by taps minutes = record { taps = taps; time = minutes * 60_000 }
+
+abbrev by_minutes : ℕ → ℕ → OrFault TransferTerms
+by_minutes taps minutes = Ok (given_by taps minutes)
+
+abbrev by_taps : Members → ℕ → OrFault TransferTerms
+by_taps element taps =
+    number_or 120 the_key.TransferMinutes 1 1_440 (get_member (codes "transfer_minutes") element)
+    >>= by_minutes taps
+
+-- the number of taps and of minutes that the keys of a class say
+record AreGiven (element : Members) (given : TransferTerms) : Type 0 where
+  taps : IsNumberOr 1 (get_member (codes "transfers") element) given.taps
+  minutes : ℕ
+  counted : IsNumberOr 120 (get_member (codes "transfer_minutes") element) minutes
+  time : given.time ≡ minutes * 60_000
+
+same_given : (element : Members) (taps minutes : ℕ) (given : TransferTerms)
+    → by_minutes taps minutes ≡ Ok given → AreGiven element (given_by taps minutes)
+    → AreGiven element given
+same_given element taps minutes given is has =
+    let same : given_by taps minutes ≡ given = cc in
+    subst (λ (t : TransferTerms). AreGiven element t) same has
+
+are_given : (element : Members) (given : TransferTerms) → ride_transfers_of element ≡ Ok given
+    → AreGiven element given
+unfolding ride_transfers_of
+are_given element given is =
+    let o = get_member (codes "transfers") element in
+    let o' = get_member (codes "transfer_minutes") element in
+    let taps = bind_ok (number_or 1 the_key.RideTransfers 0 9 o) (by_taps element) given is in
+    let minutes = bind_ok (number_or 120 the_key.TransferMinutes 1 1_440 o') (by_minutes taps.0)
+    given taps.2 in
+    same_given element taps.0 minutes.0 given minutes.2
+    (record {
+      taps = is_number_or o the_key.RideTransfers 1 0 9 taps.0 taps.1;
+      minutes = minutes.0;
+      counted = is_number_or o' the_key.TransferMinutes 120 1 1_440 minutes.0 minutes.1;
+      time = refl;
+    })
+
+-- ---- the class of a token
+record IsTokenClass (tree : Members) (fares : Fares) (token : List ℕ) : Type 0 where
+  class : List ℕ
+  is : IsClassOf tree token class
+  element : Members
+  keys : IsElementOf tree class element
+  reads : AreClassParts fares.meaning.modes element (class_at fares (class_of fares token))
+  has : HasTerms tree class (class_at fares (class_of fares token)).terms
+
+token_class : (tree : Members) (fares : Fares) (token : List ℕ)
+    → meaning_of_tree tree ≡ Ok fares.meaning → IsTokenClass tree fares token
+token_class tree fares token is =
+    let meaning = fares.meaning in
+    let p = parts tree meaning is in
+    let place = class_of fares token in
+    let h = class_if tree p.table meaning token (Named token meaning.riders) p.standard
+    (riders_read p.table tree meaning.riders p.riders) refl in
+    let there = placed meaning.modes [] meaning.classes h.class p.table place place p.classes
+    (place_found (place_of h.class p.table) place h.named) (sym (zero-add place)) in
+    let element = bind_ok (of_kind the_key.Classes (as_table there.has.value))
+    (class_by meaning.modes) there.one there.has.read in
+    let same : there.one ≡ class_at fares place =
+    sym (get_or_from_slice_get meaning.classes place there.one no_class there.at) in
+    record {
+      class = h.class;
+      is = h.is;
+      element = element.0;
+      keys = record {
+        classes = p.table;
+        listed = classes_read tree p.table p.members;
+        stands = there.has.stands ∙ ap (λ (d : Data). Some d)
+            (is_table there.has.value the_key.Classes element.0 element.1);
+      };
+      reads = subst (λ (c : Class). AreClassParts meaning.modes element.0 c) same
+          (class_parts meaning.modes element.0 there.one element.2);
+      has = has_terms meaning.modes tree p.table meaning.classes h.class place p.members p.classes
+          h.named;
+    }
+
+-- ---- the laws
+pub pays-on : (text : List ℕ) (tree : Members) (fares : Fares) (token name : List ℕ) (mode : ℕ)
+    → parse_document text ≡ Some tree → meaning_of_tree tree ≡ Ok fares.meaning
+    → position (same_name name) fares.meaning.modes ≡ Some mode
+    → PaysOn tree token name (ride_terms fares (class_of fares token) mode)
+pays-on text tree fares token name mode written is at =
+    let modes = fares.meaning.modes in
+    let t = token_class tree fares token is in
+    let one = class_at fares (class_of fares token) in
+    let first = (is_at (same_name name) modes mode at).below in
+    let few = modes_few tree modes (parts tree fares.meaning is).modes in
+    let below : mode < 32 = omega (arith, first, few) in
+    record {
+      class = t.class;
+      is = t.is;
+      element = t.element;
+      keys = t.keys;
+      own = one.terms;
+      has = t.has;
+      fare = fare_on modes name mode one.terms.fare (get_member (codes "fares") t.element) one.fares
+          at below
+          (λ named here. nested-ordered text (codes "classes") t.class (codes "fares") tree
+          t.keys.classes t.element named written t.keys.listed t.keys.stands here) t.reads.fares;
+      rides = refl;
+      ceiling = refl;
+    }
+
+pub rides-give : (tree : Members) (fares : Fares) (token : List ℕ)
+    → meaning_of_tree tree ≡ Ok fares.meaning
+    → Gives tree token (transfer_terms fares (class_of fares token))
+rides-give tree fares token is =
+    let t = token_class tree fares token is in
+    let g = are_given t.element (transfer_terms fares (class_of fares token)) t.reads.transfers in
+    record {
+      class = t.class;
+      is = t.is;
+      element = t.element;
+      keys = t.keys;
+      taps = g.taps;
+      minutes = g.minutes;
+      counted = g.counted;
+      time = g.time;
+    }
