@@ -42,9 +42,6 @@ fits_of verdicts fares ledger (Some report) false rest fits entries told line of
 fits_of verdicts fares ledger (Some report) true rest fits entries told line of own =
     line.told ∙ (verdicts entries report line.verdict (line.true_of entries of)).1 own
 
-both_are : (a b : Bool) → a ≡ true → b ≡ true → (a && b) ≡ true
-both_are a b is also = ap (λ (c : Bool). c && b) is ∙ also
-
 pub decides : FindingsDecide → FullFindingsDecide → ReportVerdictsDecide → (all : Bool) (fares : Fares)
     (ledger : List ℕ) (good : Option (List TapFields)) (report : Option (List ℕ)) (text : List ℕ)
     (well : Bool) → IsAudit all fares ledger good report text well
@@ -57,6 +54,6 @@ decides some full verdicts all fares ledger good report text well audit =
           (right.0, right.1, right.2, own_of verdicts fares ledger report audit.legal audit.rest audit.fits right.0 audit.report_line parts.1 right.1),
       λ right.
           let legal = audit.is_legal.1 (right.0, right.1) in
-          audit.both ∙ both_are audit.sound audit.fits (sound.1 (right.0, right.1, right.2))
-          (fits_of verdicts fares ledger report audit.legal audit.rest audit.fits right.0 legal audit.report_line right.1 right.3),
+          audit.both ∙ ap (λ (x : Bool). x && audit.fits) (sound.1 (right.0, right.1, right.2))
+          ∙ (fits_of verdicts fares ledger report audit.legal audit.rest audit.fits right.0 legal audit.report_line right.1 right.3),
     )

@@ -10,7 +10,8 @@ use Rattle.std.proofs.lemmas.List.{append_cancel_left}
 use Rattle.std.proofs.lemmas.List.Elements.{recursion_from_All}
 use Rattle.std.specs.Str.Parse.{AllDigits}
 use Rattle.fare_texts.specs.ReportLines.{number_line}
-use Rattle.ledger_check.proofs.LineLemmas.{lacks-append, lacks-tested}
+use Rattle.ledger_check.proofs.LineLemmas.{lacks-tested}
+use Rattle.ledger_check.proofs.RecountLemmas.{line_ends}
 use Rattle.ledger_check.specs.Lines.{IsLine, Lacks}
 use Rattle.part_reports.proofs.Unique.{end_line_unique, number_line_unique}
 use Rattle.report_check.specs.Reports.{IsReportEnd}
@@ -182,29 +183,22 @@ digits_lack (c ∷ text) digits =
 decimal_lacks : (n : ℕ) → n < 2 ^ 64 → Lacks 10 (decimal n)
 decimal_lacks n small = digits_lack (decimal n) (decimal_is_IsNumeral n small).0.1
 
-after : (text line : List ℕ) → Lacks 10 text → IsLine line → IsLine (text ++ line)
-after text line lacks is = record {
-  front = text ++ is.front;
-  lacks = lacks-append 10 text is.front lacks is.lacks;
-  shown = ap (λ (t : List ℕ). text ++ t) is.shown ∙ sym (append_assoc text is.front (10 ∷ []));
-}
-
 feed : IsLine (codes "\n")
 feed = record { front = []; lacks = tt; shown = refl }
 
 pub number_line_is : (word : List ℕ) (number : ℕ) → Lacks 10 word → number < 2 ^ 64
     → IsLine (number_line word number)
 number_line_is word number lacks small =
-    after word _ lacks (after (decimal number) _ (decimal_lacks number small) feed)
+    line_ends word _ lacks (line_ends (decimal number) _ (decimal_lacks number small) feed)
 
 words_are : (end : UploadEnd) → IsReportEnd end → IsLine (end_words end)
 words_are (Posted taps) fits = number_line_is (codes " posted ") taps (lacks-tested 10 (codes " posted ") refl) fits
 words_are (Refused taps offset fault) fits =
     subst_line (sym (refused_spelt taps offset fault))
-    (after (codes " refused ") _ (lacks-tested 10 (codes " refused ") refl)
-    (after (decimal taps) _ (decimal_lacks taps fits.0)
-    (after (codes " at ") _ (lacks-tested 10 (codes " at ") refl)
-    (after (decimal offset) _ (decimal_lacks offset fits.1)
+    (line_ends (codes " refused ") _ (lacks-tested 10 (codes " refused ") refl)
+    (line_ends (decimal taps) _ (decimal_lacks taps fits.0)
+    (line_ends (codes " at ") _ (lacks-tested 10 (codes " at ") refl)
+    (line_ends (decimal offset) _ (decimal_lacks offset fits.1)
     (number_line_is (codes " L") (fault_number fault) (lacks-tested 10 (codes " L") refl)
     (small_number fault))))))
   where
@@ -221,5 +215,5 @@ pub upload_line_is : (number : ℕ) (end : UploadEnd) → number < 2 ^ 64 → Is
     → IsLine (upload_line number end)
 upload_line_is number end small fits =
     subst IsLine (sym (line_words number end))
-    (after (codes "upload ") _ (lacks-tested 10 (codes "upload ") refl)
-    (after (decimal number) _ (decimal_lacks number small) (words_are end fits)))
+    (line_ends (codes "upload ") _ (lacks-tested 10 (codes "upload ") refl)
+    (line_ends (decimal number) _ (decimal_lacks number small) (words_are end fits)))
