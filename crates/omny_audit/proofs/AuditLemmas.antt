@@ -54,6 +54,6 @@ decides some full verdicts all fares ledger good report text well audit =
           (right.0, right.1, right.2, own_of verdicts fares ledger report audit.legal audit.rest audit.fits right.0 audit.report_line parts.1 right.1),
       λ right.
           let legal = audit.is_legal.1 (right.0, right.1) in
-          audit.both ∙ ap (λ (sound : Bool). sound && audit.fits) (sound.1 (right.0, right.1, right.2))
+          audit.both ∙ ap (λ (x : Bool). x && audit.fits) (sound.1 (right.0, right.1, right.2))
           ∙ (fits_of verdicts fares ledger report audit.legal audit.rest audit.fits right.0 legal audit.report_line right.1 right.3),
     )
