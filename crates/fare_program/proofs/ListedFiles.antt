@@ -219,7 +219,7 @@ itself a = (bytes_eq-Decides a a).1 refl
 
 others_kept : (id : Text) (how : Reading) (source : ValueSource) (values : List Text) (other : Text) → bytes_eq id other ≡ false
     → (rows : List Row) → row_at other (with_values id how source values rows) ≡ row_at other rows
-others_kept id how source values other apart [] = ap (λ (b : Bool). cond b (Some _) None) apart
+others_kept id how source values other apart [] = ap (λ (b : Bool). cond b (Some (merged id how source values None)) None) apart
 others_kept id how source values other apart (r ∷ rows) =
     at_first (bytes_eq r.id id) refl (others_kept id how source values other apart rows)
   where
@@ -228,7 +228,7 @@ others_kept id how source values other apart (r ∷ rows) =
     at_first true is behind =
         let away : bytes_eq r.id other ≡ false = ap (λ (t : Text). bytes_eq t other) (same_id r.id id is) ∙ apart in
         ap (λ (b : Bool). row_at other (cond b (more_values source values r ++ rows) (r ∷ with_values id how source values rows))) is
-        ∙ ap (λ (b : Bool). cond b (Some _) (row_at other rows)) away
+        ∙ ap (λ (b : Bool). cond b (Some (merged id how source values (Some r))) (row_at other rows)) away
         ∙ sym (ap (λ (b : Bool). cond b (Some r) (row_at other rows)) away)
     at_first false is behind =
         ap (λ (b : Bool). row_at other (cond b (more_values source values r ++ rows) (r ∷ with_values id how source values rows))) is
