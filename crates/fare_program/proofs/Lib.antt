@@ -3,6 +3,7 @@ pub mod Billed
 pub mod Defaults
 pub mod Going
 pub mod LastMoments
+pub mod ListedFiles
 pub mod Loads
 pub mod PostedTexts
 pub mod Ledgers
