@@ -4,6 +4,7 @@ pub mod Causes
 pub mod Defaults
 pub mod Going
 pub mod LastMoments
+pub mod ListedFiles
 pub mod Loads
 pub mod PostedTexts
 pub mod Ledgers

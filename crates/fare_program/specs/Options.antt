@@ -1,6 +1,6 @@
 -- The command line, and what its words ask for.
-use Rattle.std.specs.Prelude.{◌≡◌, ◌⊎◌, ℕ, Bool, false, ◌||◌, not, List, [], Option, codes}
-use Rattle.std.specs.Prelude.{is_some, pos, unwrap_or}
+use Rattle.std.specs.Prelude.{◌≡◌, ◌⊎◌, ℕ, Bool, false, ◌||◌, not, List, [], ◌∷◌, ◌++◌, Option}
+use Rattle.std.specs.Prelude.{codes, is_some, pos, unwrap_or}
 use Rattle.std.specs.Option.{option_map_or}
 use Rattle.std.specs.Str.{bytes_eq}
 use Rattle.std.specs.Str.Parse.{digits_value, without_leading_plus}
@@ -8,6 +8,7 @@ use Rattle.clap.specs.Words.{App, IsAmong, Row, Rule, Text, all_of, fault_of, fi
 use Rattle.clap.specs.Words.{one_of, with_rule}
 use Rattle.clap.specs.declared.builder.action.ArgAction.TheVariants.{Append}
 use Rattle.clap.specs.declared.error.kind.ErrorKind.TheVariants.{DisplayHelp, DisplayVersion}
+use Rattle.program_manners.specs.ListedWords.{with_files}
 use Rattle.program_manners.specs.Words.{flag_rule, list_option, named_app, null_flag, number_rule}
 use Rattle.program_manners.specs.Words.{option_rule, positional_rule}
 
@@ -129,6 +130,18 @@ asked_by words = record {
   traced = is_given (codes "traced") (matches_of program words);
   files = files_named words;
 }
+
+-- Words with these files of a list ask for what they ask for without, and for these files behind
+-- theirs. The first word is the program's name.
+abbrev pub AddsFiles : List Text → List Text → Type 0
+AddsFiles words names = asked_by (with_files words names) ≡ record (asked_by words) {
+  files = files_named words ++ names;
+}
+
+-- all words do
+abbrev pub ListsAddFiles : Type 0
+ListsAddFiles = (program_name : Text) (words names : List Text)
+    → AddsFiles (program_name ∷ words) names
 
 -- The taps are listed by the flag, or where there is no table. Else the service runs.
 abbrev pub lists : Asked → Bool

@@ -5,7 +5,7 @@
 //! | module | what it does |
 //! |---|---|
 //! | `command_line`, `options` | what a command line asks for; its words, as `clap` reads them |
-//! | `named_list` | the list of files that the words name |
+//! | `named_list`, `laws` | the list of files that the words name, and what it adds to them |
 //! | `source`, `files_ahead` | whole files from a source; those that are read before their turns |
 //! | `host`, `sampling` | the system's files and standard input as a source; a sample of a file's tokens |
 //! | `named_files` | files that are read while their taps are settled |
@@ -29,6 +29,7 @@ mod command_line;
 mod fault;
 mod files_ahead;
 mod host;
+pub mod laws;
 mod lines;
 mod listing;
 mod named_files;

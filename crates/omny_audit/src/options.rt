@@ -192,7 +192,11 @@ fn list_in<'a>(matches: &ArgMatches<'a>) -> Result<Option<ListWords<'a>>, ListFa
     ensures right { IfOk result (λ _. IsRightList (rows_of (found_of matches.now))) }
     ensures wrong { IfErr result (λ fault. IsWrongList fault (rows_of (found_of matches.now))) }
 {
-    match ListWords::of(matches)? {
+    let named = match ListWords::of(matches) {
+        Ok(named) => named,
+        Err(fault) => return Err(fault),
+    };
+    match named {
         None => Ok(None),
         Some(list) => unless_both_input(list, ledger_in(matches.get_str("LEDGER"))),
     }

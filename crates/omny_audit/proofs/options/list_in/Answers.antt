@@ -18,7 +18,7 @@ name_given end None view is = let bad : None ≡ Some view = sym is in absurd (c
 name_given end (Some name) view is = let same : ◌≡◌ {A = Option (Text × NameEnd)} (Some (name, end)) (Some view) = sym is in ap (option_map (λ (v : Text × NameEnd). v.0)) same
 
 -- no name of a list is given
-none_given : (end : NameEnd) (o : Option Text) → None ≡ option_map (λ name. (name, end)) o → o ≡ None
+none_given : (end : NameEnd) (o : Option Text) → ◌≡◌ {A = Option (Text × NameEnd)} None (option_map (λ name. (name, end)) o) → o ≡ None
 none_given end None is = refl
 none_given end (Some name) is = let bad : ◌≡◌ {A = Option (Text × NameEnd)} None (Some (name, end)) = is in absurd (cc)
 
@@ -45,31 +45,31 @@ twice rows list named ledger asked is without =
     ap (twice_of _) (name_given _ (first_of (codes "files-from") rows) (view_of list) asked)
     ∙ ap (are_input list.name.now) (sym (ledger_named rows named ledger is without))
 
-pub returns-in_err-of-clause-wrong : goal.returns-in_err-of-clause-wrong
-returns-in_err-of-clause-wrong c =
-    let is = c.in_err-of.ensures.wrong in
-    rw c.from_residual.ensures (subst (λ (fault : ListFault). IsWrongList fault (rows_of (found_of c.args.matches.now))) (sym is.0) is.1)
+pub returns-in-Err-clause-wrong : goal.returns-in-Err-clause-wrong
+returns-in-Err-clause-wrong c =
+    let is = c.in-Err.ensures.wrong in
+    subst (λ (fault : ListFault). IsWrongList fault (rows_of (found_of c.args.matches.now))) (sym is.0) is.1
 
 pub returns-in-None-clause-right : goal.returns-in-None-clause-right
 returns-in-None-clause-right c =
     let rows = rows_of (found_of c.args.matches.now) in
-    (c.in_ok-of.ensures.right, ap (twice_of _) (none_given _ (first_of (codes "files-from") rows) (ap (option_map view_of) (sym c.in-None.is) ∙ c.in_ok-of.ensures.list)))
+    (c.in-Ok.ensures.right, ap (twice_of _) (none_given _ (first_of (codes "files-from") rows) (ap (option_map view_of) (sym c.in-None.is) ∙ c.in-Ok.ensures.list)))
 
 pub returns-in-Some-clause-list : goal.returns-in-Some-clause-list
 returns-in-Some-clause-list c =
-    IfOk-weaker c.unless_both_input.result _ _ (λ list is. ap (option_map view_of) (is ∙ sym c.in-Some.is) ∙ c.in_ok-of.ensures.list) c.unless_both_input.ensures.list
+    IfOk-weaker c.unless_both_input.result _ _ (λ list is. ap (option_map view_of) (is ∙ sym c.in-Some.is) ∙ c.in-Ok.ensures.list) c.unless_both_input.ensures.list
 
 pub returns-in-Some-clause-right : goal.returns-in-Some-clause-right
 returns-in-Some-clause-right c =
     let found = found_of c.args.matches.now in
-    let is = twice (rows_of found) c.in-Some.list c.get_str.result c.ledger_in.result (ap (option_map view_of) (sym c.in-Some.is) ∙ c.in_ok-of.ensures.list)
+    let is = twice (rows_of found) c.in-Some.list c.get_str.result c.ledger_in.result (ap (option_map view_of) (sym c.in-Some.is) ∙ c.in-Ok.ensures.list)
     (c.get_str.ensures ∙ first_value-rows found (codes "LEDGER")) c.ledger_in.ensures in
-    IfOk-weaker c.unless_both_input.result _ _ (λ _ right. (c.in_ok-of.ensures.right, is ∙ right)) c.unless_both_input.ensures.right
+    IfOk-weaker c.unless_both_input.result _ _ (λ _ right. (c.in-Ok.ensures.right, is ∙ right)) c.unless_both_input.ensures.right
 
 pub returns-in-Some-clause-wrong : goal.returns-in-Some-clause-wrong
 returns-in-Some-clause-wrong c =
     let found = found_of c.args.matches.now in
-    let is = twice (rows_of found) c.in-Some.list c.get_str.result c.ledger_in.result (ap (option_map view_of) (sym c.in-Some.is) ∙ c.in_ok-of.ensures.list)
+    let is = twice (rows_of found) c.in-Some.list c.get_str.result c.ledger_in.result (ap (option_map view_of) (sym c.in-Some.is) ∙ c.in-Ok.ensures.list)
     (c.get_str.ensures ∙ first_value-rows found (codes "LEDGER")) c.ledger_in.ensures in
     IfErr-weaker c.unless_both_input.result _ _
     (λ fault wrong. subst (λ (f : ListFault). IsWrongList f (rows_of found)) (sym wrong.0) (is ∙ wrong.1))
