@@ -2,4 +2,5 @@
 pub mod Differences
 pub mod LedgerSums
 pub mod OpenSums
+pub mod RideTerms
 pub mod UploadLines

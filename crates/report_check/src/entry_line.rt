@@ -12,9 +12,10 @@ ghost use Rattle.shard_book.specs.declared.entry.Entry.{Entry as AnEntry};
 ghost use Rattle.tap_views.specs.Token.{Fits, bytes_of};
 ghost use Rattle.tap_views.specs.declared.token.Token.{Token as AToken};
 ghost use Rattle.report_check.specs.EntryLines.{without_moment};
+ghost use Rattle.report_check.specs.inside.RideTerms.{HasRideTerms};
 
 use account_rule::Answer;
-use fare_table::FareTable;
+use fare_table::{FareTable, Terms};
 use ledger_check::{field, read_small_number};
 use report_texts::{after_word, token_before};
 use shard_book::Entry;
@@ -28,6 +29,15 @@ fn mode_field(table: &FareTable, validator: u32) -> &[u8]
         Some(mode) => table.mode_name(mode).as_bytes(),
         None => "".as_bytes(),
     }
+}
+
+/// The terms of the token for a ride at the validator, if the table knows it.
+fn ride_terms_at(table: &FareTable, token: &Token, validator: u32) -> Option<Terms>
+    ensures { HasRideTerms table.now token.now validator }
+{
+    let mode = table.mode_of(validator)?;
+    let class = table.class_of(&token.bytes());
+    Some(table.ride_terms(class, mode))
 }
 
 /// The answer of this name.
@@ -93,9 +103,9 @@ pub(crate) fn entry_of(table: &FareTable, line: &[u8]) -> Option<Entry>
         → result ≡ Some (without_moment entry) }
 {
     let (token, rest) = token_of(line)?;
-    // proof: no reply has more cents than the fare, which 32 bits hold
-    let _terms = table.terms_of(&token.bytes());
     let (validator, rest) = validator_of(rest)?;
+    // proof: no reply has more cents than the fare on the tap's mode, which 32 bits hold
+    let _terms = ride_terms_at(table, &token, validator);
     let (answer, cents) = reply_of(rest, mode_field(table, validator))?;
     Some(Entry {
         token,

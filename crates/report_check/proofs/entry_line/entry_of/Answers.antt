@@ -1,10 +1,9 @@
-use Rattle.std.proofs.Common.{◌<◌, ◌≤◌, ◌^◌, ◌+◌, ◌∙◌, ℕ, ap, arith}
-use Rattle.fare_table.specs.Fares.{terms_at}
-use Rattle.fare_table.specs.declared.terms.Terms.{Terms}
+use Rattle.std.proofs.Common.{◌<◌, ◌≤◌, ◌^◌, ◌+◌, ◌∙◌, ℕ, ap, arith, subst}
 use Rattle.reason_texts.specs.Ledger.{mode_field}
 use Rattle.ledger_check.proofs.FieldLemmas.{decimal_lacks, moment_lacks}
 use Rattle.ledger_check.proofs.TokenOrder.{own-few}
-use Rattle.tap_views.specs.Token.{bytes_of}
+use Rattle.tap_views.specs.declared.token.Token.{Token}
+use Rattle.report_check.specs.inside.RideTerms.{HasRideTerms}
 use Rattle.report_check.proofs.EntryLines.{cents_fields, cents_most, shown_by}
 use Rattle.report_check.proofs.entry_line.entry_of.Goals as goal
 
@@ -33,12 +32,12 @@ returns-in_err-answer-clause-found c = λ earlier entry is.
     (decimal_lacks _ (few _ _ (own-few entry.token earlier) is.few))
     (moment_lacks entry.moment line.moment is.postable.moment line.is) is.postable.validator one.1 in
     let mode = c.mode_field.ensures ∙ ap (mode_field fares) two.0 in
-    let most = cents_most fares earlier entry is.replied in
-    let named = c.bytes.ensures ∙ ap bytes_of one.0 in
-    let terms = c.terms_of-terms.ensures.terms ∙ ap (terms_at fares) named in
-    let fare = ap (λ (t : Terms). t.fare) terms in
+    let terms : HasRideTerms fares entry.token entry.validator =
+    subst (λ (n : ℕ). HasRideTerms fares entry.token n) two.0
+    (subst (λ (t : Token). HasRideTerms fares t c.in_ok-validator.validator) one.0 c.ride_terms_at-terms.ensures) in
+    let most = cents_most fares earlier entry terms is.replied in
     absurd (c.in_err-answer.ensures entry.answer entry.cents line.behind
-    (omega (arith, most, fare, c.terms_of-terms.ensures.bounds.fare_high))
+    (omega (arith, most))
     (shown_by _ _ _ _ two.1 mode))
 
 pub returns-clause-found : goal.returns-clause-found
@@ -50,11 +49,11 @@ returns-clause-found c = λ earlier entry is.
     (decimal_lacks _ (few _ _ (own-few entry.token earlier) is.few))
     (moment_lacks entry.moment line.moment is.postable.moment line.is) is.postable.validator one.1 in
     let mode = c.mode_field.ensures ∙ ap (mode_field fares) two.0 in
-    let most = cents_most fares earlier entry is.replied in
-    let named = c.bytes.ensures ∙ ap bytes_of one.0 in
-    let terms = c.terms_of-terms.ensures.terms ∙ ap (terms_at fares) named in
-    let fare = ap (λ (t : Terms). t.fare) terms in
+    let terms : HasRideTerms fares entry.token entry.validator =
+    subst (λ (n : ℕ). HasRideTerms fares entry.token n) two.0
+    (subst (λ (t : Token). HasRideTerms fares t c.in_ok-validator.validator) one.0 c.ride_terms_at-terms.ensures) in
+    let most = cents_most fares earlier entry terms is.replied in
     let three = c.in_ok-answer.ensures entry.answer entry.cents line.behind
-    (omega (arith, most, fare, c.terms_of-terms.ensures.bounds.fare_high))
+    (omega (arith, most))
     (shown_by _ _ _ _ two.1 mode) in
     (cc)
