@@ -1,5 +1,6 @@
 //! Counts of work that is done by some threads while another reads them.
 
+use fare_program::Amount;
 use std::sync::atomic::{AtomicU64, Ordering};
 
 /// How much work is done, and of how much.
@@ -96,6 +97,14 @@ pub(crate) struct Readings {
 }
 
 impl Meters {
+    /// The meter of what is counted so, and how much it is.
+    pub(crate) fn of(&self, amount: Amount) -> (&Meter, u64) {
+        match amount {
+            Amount::Taps(taps) => (&self.taps, taps),
+            Amount::Bytes(bytes) => (&self.posted, bytes),
+        }
+    }
+
     /// Nothing is done, and there is nothing to do.
     pub(crate) fn new() -> Meters {
         Meters {

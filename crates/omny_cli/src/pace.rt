@@ -40,21 +40,20 @@ impl Pace {
             self.first = None;
             return Left(None);
         };
-        match self.first {
-            Some(first) if is_later(&first.reading, &reading) => {
-                let passed = at_ms.saturating_sub(first.at_ms);
-                Left(seconds_left(passed, first.reading.done, reading))
-            }
-            _ => {
-                self.first = Some(First { at_ms, reading });
-                Left(None)
-            }
+        let seen = self.first;
+        if let Some(first) = seen
+            && is_later(first.reading, reading)
+        {
+            let passed = at_ms.saturating_sub(first.at_ms);
+            return Left(seconds_left(passed, first.reading.done, reading));
         }
+        self.first = Some(First { at_ms, reading });
+        Left(None)
     }
 }
 
 /// Whether it is the same work, seen later.
-fn is_later(first: &Reading, reading: &Reading) -> bool {
+fn is_later(first: Reading, reading: Reading) -> bool {
     first.all == reading.all && first.done <= reading.done
 }
 

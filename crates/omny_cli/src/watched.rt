@@ -65,16 +65,6 @@ impl<F: Placed + Drop> Placed for WatchedFile<'_, F> {
     }
 }
 
-impl<'a, R: Disk + Wait> WatchedDisk<'a, R> {
-    /// The meter of what is counted so, and how much it is.
-    fn metered(&self, amount: Amount) -> (&'a Meter, u64) {
-        match amount {
-            Amount::Taps(taps) => (&self.ticker.meters.taps, taps),
-            Amount::Bytes(bytes) => (&self.ticker.meters.posted, bytes),
-        }
-    }
-}
-
 impl<'a, R: Disk + Wait> Disk for WatchedDisk<'a, R> {
     type File = WatchedFile<'a, R::File>;
 
@@ -120,12 +110,12 @@ impl<'a, R: Disk + Wait> Disk for WatchedDisk<'a, R> {
     }
 
     fn note_all(&self, all: Amount) {
-        let (meter, all) = self.metered(all);
+        let (meter, all) = self.ticker.meters.of(all);
         meter.begin(all);
     }
 
     fn note_charged(&self, more: Amount) {
-        let (meter, more) = self.metered(more);
+        let (meter, more) = self.ticker.meters.of(more);
         meter.add(more);
     }
 }
