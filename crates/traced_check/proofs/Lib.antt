@@ -1,0 +1,2 @@
+pub mod LastFields
+pub mod Lines
