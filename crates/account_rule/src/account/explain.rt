@@ -131,13 +131,7 @@ impl Account {
     /// Takes a live tap at the moment, on the mode, as a ride, and returns why it costs what it
     /// costs.
     #[tactic(auto, unfolding(crate::specs::inside::Kept::window_at, crate::specs::inside::Kept::open_window))]
-    fn explain_ride(
-        &mut self,
-        table: &FareTable,
-        clock: &Clock,
-        mode: Mode,
-        moment: u64,
-    ) -> Reason
+    fn explain_ride(&mut self, table: &FareTable, clock: &Clock, mode: Mode, moment: u64) -> Reason
         requires class { self.old.class < length table.now.meaning.classes }
         requires mode { mode.place < length table.now.meaning.modes }
         requires early { moment < 4_102_444_800_000 }
