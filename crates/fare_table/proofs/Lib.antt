@@ -3,6 +3,7 @@ pub mod ElementLemmas
 pub mod FaultLemmas
 pub mod MaskLemmas
 pub mod MemberLemmas
+pub mod NameLemmas
 pub mod OrderLemmas
 pub mod OverlapLemmas
 pub mod PairLemmas

@@ -8,7 +8,7 @@ ghost use Rattle.fare_table.specs.Classes.{count_of};
 ghost use Rattle.tap_views.specs.Token.{Fits};
 ghost use Rattle.fare_table.specs.Riders.{by_bytes};
 
-use super::classes::class_named;
+use super::class_names::ClassNames;
 use super::members::{hold_strings, of_kind, optional};
 use crate::fault::{Key, TableFault};
 use crate::riders::Riders;
@@ -50,9 +50,10 @@ fn riders_from(
     ensures there { IfOk result (λ m. All (λ place. place < count_of (table_view classes.now))
         (values_of (by_bytes m.entries))) }
 {
+    let names = ClassNames::new(alloc, classes)?;
     let mut riders = BTreeMap::new(alloc);
     for (key, value) in members {
-        let (bytes, class) = rider_of(classes, key.as_str(), value)?;
+        let (bytes, class) = rider_of(&names, key.as_str(), value)?;
         let token = Token::of(&bytes);
         if riders.contains_key(&token) {
             return Err(TableFault::Rider);
@@ -63,14 +64,14 @@ fn riders_from(
 }
 
 /// The token of a rider and the place of the class that the value names.
-fn rider_of(classes: &Table, key: &str, value: &Value) -> Result<([u8; 16], u32), TableFault>
+fn rider_of(names: &ClassNames<'_>, key: &str, value: &Value) -> Result<([u8; 16], u32), TableFault>
     ensures rider { Answers (λ rider. rider) result
-        (spec.rider_of (table_view classes.now) key.now (view value.now)) }
-    ensures there { IfOk result (λ rider. rider.1 < count_of (table_view classes.now)) }
+        (spec.rider_of (table_view names.now.classes.now) key.now (view value.now)) }
+    ensures there { IfOk result (λ rider. rider.1 < count_of (table_view names.now.classes.now)) }
 {
     let token = token_of_digits(key)?;
     let name = of_kind(value.as_str(), Key::Riders)?;
-    Ok((token, class_named(classes, name)?))
+    Ok((token, names.place_of(name)?))
 }
 
 /// The token of 32 hexadecimal digits of either case.

@@ -1,0 +1,65 @@
+//! The names of the classes by their places.
+ghost use Rattle.std.specs.Prelude.{◌≡◌, ◌<◌, true, IfErr, IfOk, map};
+ghost use Rattle.toml.specs.View.{table_view};
+ghost use Rattle.fare_table.specs.ByteOrder.{in_byte_order};
+ghost use Rattle.fare_table.specs.Classes as spec;
+ghost use Rattle.fare_table.specs.Classes.{count_of, names_in};
+ghost use Rattle.fare_table.specs.inside.OrFault.{Answers};
+ghost use Rattle.fare_table.specs.declared.fault.TableFault.{TableFault};
+
+use super::classes::class_named;
+use crate::fault::TableFault;
+use std::alloc::Global;
+use toml::Table;
+
+/// The names of the classes by their places, in which a name is found by halves.
+#[derive(Drop)]
+pub(crate) struct ClassNames<'t> {
+    /// The classes, as the text has them.
+    pub classes: &'t Table,
+    /// Their names, rising.
+    pub names: Vec<&'t str>,
+    pub ghost listed: { map (λ name. name.now) names.items ≡ names_in (table_view classes.now) },
+    pub ghost rising: { in_byte_order (table_view classes.now) ≡ true },
+}
+
+impl<'t> ClassNames<'t> {
+    /// The names of these classes. `NoMemory` is answered where a growth is refused.
+    pub(crate) fn new(alloc: Global, classes: &'t Table) -> Result<ClassNames<'t>, TableFault>
+        ensures same { IfOk result (λ c. table_view c.classes.now ≡ table_view classes.now) }
+        ensures refused { IfErr result (λ e. e ≡ TableFault.NoMemory) }
+    {
+        let mut names = Vec::with_capacity(alloc, classes.len())?;
+        for (name, _value) in classes {
+            names.push(name.as_str())?;
+        }
+        Ok(ClassNames { classes, names })
+    }
+
+    /// The place of the class of this name. A place that `u32` does not hold is answered as refused
+    /// memory, since no memory holds so many classes.
+    pub(crate) fn place_of(&self, name: &str) -> Result<u32, TableFault>
+        ensures place { Answers (λ place. place) result
+            (spec.class_named (table_view self.now.classes.now) name.now) }
+        ensures there { IfOk result
+            (λ place. place < count_of (table_view self.now.classes.now)) }
+    {
+        match self.names.as_slice().binary_search(&name) {
+            Ok(place) => short_place(place),
+            // proof: no class has the name, which ends the reading. It is looked for one by one, so
+            // that it need not be proved that a search by halves finds each name.
+            Err(_) => class_named(self.classes, name),
+        }
+    }
+}
+
+/// The place in 32 bits.
+fn short_place(place: usize) -> Result<u32, TableFault>
+    ensures same { IfOk result (λ short. short ≡ place) }
+    ensures refused { IfErr result (λ e. e ≡ TableFault.NoMemory) }
+{
+    if place > u32::MAX as usize {
+        return Err(TableFault::NoMemory);
+    }
+    Ok(place as u32)
+}
