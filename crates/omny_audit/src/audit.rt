@@ -5,7 +5,7 @@ ghost use Rattle.std.specs.Prelude.{Bool, ◌↔◌, if◌then◌else◌, string
 ghost use Rattle.std.specs.Io.KnownBytes.{Appends, Keeps};
 ghost use Rattle.fare_table.specs.Fares.{Fares};
 ghost use Rattle.shard_book.specs.declared.entry.Entry.{Entry};
-ghost use Rattle.tap_balance.specs.Balances.{IsBalance};
+ghost use Rattle.ledger_check.specs.Balances.{IsBalance};
 ghost use Rattle.tap_views.specs.declared.encoder.TapFields.{TapFields};
 ghost use Rattle.ledger_check.specs.Ledger.{IsLedger, IsLedgerOf};
 ghost use Rattle.ledger_check.specs.Struck.{tap_of_entry};
@@ -28,7 +28,7 @@ use ledger_check::laws::verdicts_decide;
 use ledger_check::{Checker, Verdict};
 use std::alloc::{AllocError, Global};
 use std::io::{Read, Write};
-use tap_balance::{Balance, Difference};
+use ledger_check::{Balance, Difference};
 use tap_views::NoMemory;
 
 /// How many bytes one read asks for.

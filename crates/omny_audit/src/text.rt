@@ -9,7 +9,7 @@ ghost use Rattle.omny_audit.specs.Text.{verdict_text};
 use fare_texts::{Digits, write_moment};
 use ledger_check::Verdict;
 use std::alloc::{AllocError, Global};
-use tap_balance::Difference;
+use ledger_check::Difference;
 use tap_views::{TapFields, Token};
 
 /// The line of the verdict, with its line feed.

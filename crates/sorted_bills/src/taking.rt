@@ -2,7 +2,7 @@
 
 ghost use Rattle.std.specs.Prelude.{◌≡◌, ◌≤◌, ◌<◌, [], true, ℕ, List, IfOk, IsTrue, OnOk, None, Some};
 ghost use Rattle.std.specs.Prelude.{length, map};
-ghost use Rattle.ledger_texts.specs.Lines.{IsUpTo};
+ghost use Rattle.fare_texts.specs.Lines.{IsUpTo};
 ghost use Rattle.settlement.specs.Posted.{HasName, token_of_tap};
 ghost use Rattle.settled_texts.specs.Telling.{NoTapFallsFrom};
 ghost use Rattle.sorted_taps.specs.Heads.{IsRanked};

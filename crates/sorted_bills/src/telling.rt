@@ -14,7 +14,7 @@ use crate::fault::BillFault;
 use crate::taking::Taker;
 use fare_table::{Clock, FareTable};
 use placed_files::Placed;
-use reason_texts::Teller;
+use fare_texts::Teller;
 use settled_texts::write_taps;
 use std::io::Write;
 use tap_views::Token;

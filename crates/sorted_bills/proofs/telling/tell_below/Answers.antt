@@ -6,8 +6,8 @@ use Rattle.std.proofs.lemmas.List.{nil_from_length}
 use Rattle.std.proofs.lemmas.Result.{err_from_is_err_and}
 use Rattle.tap_views.specs.declared.encoder.TapFields.{TapFields}
 use Rattle.tap_views.specs.declared.token.Token.{Token}
-use Rattle.ledger_texts.specs.Lines.{IsUpTo}
-use Rattle.ledger_texts.proofs.Rising.{up_itself}
+use Rattle.fare_texts.specs.Lines.{IsUpTo}
+use Rattle.fare_texts.proofs.Rising.{up_itself}
 use Rattle.settlement.specs.Posted.{posted_after}
 use Rattle.settled_texts.specs.Telling.{AreTold, NoTapFallsFrom, last_token}
 use Rattle.sorted_taps.proofs.Spans.{come_further}
