@@ -25,10 +25,9 @@ use crate::report::{ReportWithSums, add_piece, are_both, write_report_line};
 use crate::text::{verdict_line, write_difference};
 use fare_table::{Clock, FareTable};
 use ledger_check::laws::verdicts_decide;
-use ledger_check::{Checker, Verdict};
+use ledger_check::{Balance, Checker, Difference, Verdict};
 use std::alloc::{AllocError, Global};
 use std::io::{Read, Write};
-use ledger_check::{Balance, Difference};
 use tap_views::NoMemory;
 
 /// How many bytes one read asks for.

@@ -21,11 +21,10 @@ use crate::output::{write_piece, write_text};
 use crate::report::{ReportWithSums, add_piece, are_both, write_report_line};
 use crate::text::{are_none, write_differences};
 use fare_table::{Clock, FareTable};
-use ledger_check::Recount;
 use ledger_check::laws::recounts_decide;
+use ledger_check::{Balance, FullBalance, Recount};
 use std::alloc::{AllocError, Global};
 use std::io::{Read, Write};
-use ledger_check::{Balance, FullBalance};
 use tap_views::{NoMemory, TapFields};
 
 /// How many bytes one read asks for.

@@ -31,12 +31,12 @@ use crate::source::Source;
 use clap::Error;
 use clap::error::ErrorKind;
 use fare_table::FareTable;
+use ledger_check::Balance;
 use program_manners::{Complaints, STANDARD_INPUT, show_answer};
 use shard_book::HashSeed;
 use std::alloc::Global;
 use std::io::Write;
 use std::random::RandomSource;
-use ledger_check::Balance;
 
 /// All bytes of the file of this name.
 fn load_named<'a, S: Source>(source: &mut S, name: &'a str) -> Result<Vec<u8>, Fault<'a>>
