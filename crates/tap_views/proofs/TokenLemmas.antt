@@ -1,8 +1,8 @@
 -- The order of tokens is total, and only equal tokens tie; `==` of tokens is an equivalence.
-use Rattle.std.proofs.Common.{◌≡◌, ℕ, true, List, take, drop, refl, sym, ap, ◌∙◌, arith, w64}
+use Rattle.std.proofs.Common.{◌≡◌, ℕ, true, false, List, take, drop, refl, sym, ap, ◌∙◌, arith, w64}
 use Rattle.std.specs.Int.{to_be_bytes, from_be_bytes}
 use Rattle.std.specs.Cmp.{IsEquivalence, IsTotalOrder}
-use Rattle.std.specs.declared.cmp.Ordering.TheVariants.{Equal}
+use Rattle.std.specs.declared.cmp.Ordering.TheVariants.{Less, Equal}
 use Rattle.std.proofs.lemmas.Bool.Decides.{nat_tests}
 use Rattle.std.proofs.lemmas.Cmp.{then_total, on_total, nat_cmp_total}
 use Rattle.std.proofs.lemmas.List.{take_at, drop_at}
@@ -26,6 +26,10 @@ token_cmp-total = then_total (on_total (λ (token : Token). token.high) nat_cmp_
 
 pub token_cmp-ties : (a b : Token) → token_cmp a b ≡ Equal → a ≡ b
 token_cmp-ties a b tied = grind (arith, nat_tests)
+
+-- tokens of which one is less are not equal
+pub less_apart : (a b : Token) → token_cmp a b ≡ Less → token_eq b a ≡ false
+less_apart a b less = grind (arith, nat_tests)
 
 pub token_eq-laws : IsEquivalence token_eq
 token_eq-laws = record { refl = token_eq-refl; symm = token_eq-sym; congr = λ a b c same. ap (λ (t : Token). token_eq t c) (same_token a b same) }
