@@ -69,8 +69,8 @@ found n (range ∷ next ∷ more) stands =
     (leb_tells next.0 n)
 
 -- the first of ranges that stand apart begins no later than it ends
-begins_first : (range : ℕ × RangeRest) (more : List (ℕ × RangeRest)) → stand_apart (range ∷ more) ≡ true
-    → range.0 ≤ range.1.last
+pub begins_first : (range : ℕ × RangeRest) (more : List (ℕ × RangeRest))
+    → stand_apart (range ∷ more) ≡ true → range.0 ≤ range.1.last
 begins_first range [] stands = leb-true _ _ stands
 begins_first range (next ∷ more) stands = (apart range next more stands).begins
 

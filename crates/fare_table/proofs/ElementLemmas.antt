@@ -9,7 +9,7 @@ use Rattle.std.specs.Ordering.{nat_cmp}
 use Rattle.std.specs.Prelude.{pos, nat_le, if◌then◌else◌}
 use Rattle.toml.specs.Data.{Data, Items, no_items, item, Members, string, integer, array, table}
 use Rattle.toml.specs.Data.{as_table, get_member, get_item}
-use Rattle.fare_table.proofs.OverlapLemmas.{stands-insert, comes_after, comes_before, ends_after}
+use Rattle.fare_table.proofs.OverlapLemmas.{stands-insert, comes_after, comes_before}
 use Rattle.fare_table.proofs.OverlapLemmas.{free_apart, rest_stands}
 use Rattle.fare_table.proofs.PartLemmas.{bind_ok, parts}
 use Rattle.fare_table.proofs.ReadLemmas.{array-read, is_table, number-read, text-read}
@@ -25,14 +25,10 @@ use Rattle.fare_table.specs.declared.fault.Key.TheVariants as the_key
 use Rattle.fare_table.specs.declared.fault.TableFault.{TableFault}
 use Rattle.fare_table.specs.declared.fault.TableFault.TheVariants.{Kind, Overlap}
 use Rattle.fare_table.specs.declared.validators.RangeRest.{RangeRest}
+use Rattle.fare_table.proofs.ApartLemmas.{begins_first}
+use Rattle.tap_views.proofs.Choices.{cond_swap}
 
 -- ---- ranges that stand apart, and one more
--- of two choices that exclude each other the order is free
-swap : {A : Type 0} (a b : Bool) (x y z : A) → (a ≡ true → b ≡ false)
-    → cond a x (cond b y z) ≡ cond b y (cond a x z)
-swap true true x y z apart = absurd (false≢true (sym (apart refl)))
-swap true false x y z apart = refl
-swap false b x y z apart = refl
 
 -- ranges that stand apart have no number both
 other_has : (n : ℕ) (one other : ℕ × RangeRest) → one.1.last < other.0 → has_number n one ≡ true
@@ -58,7 +54,7 @@ unfolding with_one
 found_step n range other more order further free ih = elim (free_apart range other free) [
   | inl a ↦ rw (comes_before range other order a) refl
   | inr a ↦ rw (comes_after range other further a, ih)
-      (swap (has_number n other) (has_number n range) (Some other) (Some range)
+      (cond_swap (has_number n other) (has_number n range) (Some other) (Some range)
       (find (has_number n) more) (other_has n other range a))
 ]
 
@@ -72,7 +68,7 @@ unfolding with_one
 found_with n range [] order stands free = refl
 found_with n range (other ∷ more) order stands free =
     let apart = or_parts (share_number range other) (list_any (share_number range) more) free in
-    found_step n range other more order (ends_after other more stands) apart.0
+    found_step n range other more order (begins_first other more stands) apart.0
     (found_with n range more order (rest_stands other more stands) apart.1)
 
 -- ranges that both have a number share it

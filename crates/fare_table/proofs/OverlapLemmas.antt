@@ -1,10 +1,10 @@
 -- Where a new range shares a number with ranges that stand apart, and that they stay apart without.
-use Rattle.std.proofs.Common.{◌≡◌, ◌⊎◌, ℕ, ◌<◌, ◌≤◌, ◌&&◌, not, Bool, true, false, List, [], ◌∷◌}
+use Rattle.std.proofs.Common.{◌≡◌, ◌⊎◌, ℕ, ◌<◌, ◌≤◌, not, Bool, true, false, List, [], ◌∷◌}
 use Rattle.std.proofs.Common.{◌++◌, refl, sym, ap, ◌∙◌, arith, Option, Some, None, cond, inl, inr}
 use Rattle.std.proofs.Common.{le-leb, Ordering, Less, Equal, Greater}
-use Rattle.std.proofs.lemmas.Bool.{and_parts, false≢true, leb-true, or_parts}
+use Rattle.std.proofs.lemmas.Bool.{and_parts, false≢true, or_parts}
 use Rattle.std.proofs.lemmas.Bool.Decides.{leb_tells, nat_tests}
-use Rattle.std.proofs.Math.Bool.{or-false}
+use Rattle.std.proofs.Math.Bool.{or-false, and-false, and-true}
 use Rattle.std.specs.BTreeMap.{insert_entry}
 use Rattle.std.specs.BTreeMap.Range.{entries_between}
 use Rattle.std.specs.List.{list_any}
@@ -13,7 +13,7 @@ use Rattle.std.specs.Cmp.{nat_cmp_is}
 use Rattle.std.specs.Ordering.{nat_cmp, is_lt, match_ordering}
 use Rattle.std.specs.Prelude.{nat_le, nat_lt}
 use Rattle.std.specs.declared.ops.Bound.TheVariants.{Unbounded, Included}
-use Rattle.fare_table.proofs.ApartLemmas.{AreApart, apart, or_twice}
+use Rattle.fare_table.proofs.ApartLemmas.{AreApart, apart, or_twice, begins_first}
 use Rattle.fare_table.specs.Validators.{are_modes_below, stand_apart, share_number}
 use Rattle.fare_table.specs.inside.Validators.{last_begun}
 use Rattle.fare_table.specs.declared.validators.RangeRest.{RangeRest}
@@ -33,9 +33,6 @@ last_of-append (y ∷ ys) x = rw (last_of-append ys x)
 -- the ranges that begin at the number or before it
 abbrev pub begun : ℕ → List (ℕ × RangeRest) → List (ℕ × RangeRest)
 begun n ranges = entries_between nat_cmp Unbounded (Included n) ranges
-
-alone : (range : ℕ × RangeRest) → stand_apart (range ∷ []) ≡ true → range.0 ≤ range.1.last
-alone range stands = leb-true _ _ stands
 
 not_past : (n q : ℕ) → not (is_lt (nat_cmp n q)) ≡ nat_le q n
 not_past n q = grind (arith, nat_tests)
@@ -59,14 +56,6 @@ begun_none n range (next ∷ more) stands after =
     let later : n < next.0 = omega (arith, two.begins, two.ends) in
     begun_step n range (next ∷ more) after (begun_none n next more two.rest later)
 
-and_false : (b : Bool) → (b && false) ≡ false
-and_false true = refl
-and_false false = refl
-
-and_true : (b : Bool) → (b && true) ≡ b
-and_true true = refl
-and_true false = refl
-
 pub rest_stands : (range : ℕ × RangeRest) (more : List (ℕ × RangeRest)) → stand_apart (range ∷ more) ≡ true
     → stand_apart more ≡ true
 rest_stands range [] stands = refl
@@ -80,11 +69,6 @@ last_begun-begun n (range ∷ more) stands = elim (leb_tells range.0 n) [
   | inl a ↦ rw (begun_cons n range more, a.0, last_begun-begun n more (rest_stands range more stands))
   | inr a ↦ rw (begun_none n range more stands a.1, a.0)
 ]
-
-pub ends_after : (range : ℕ × RangeRest) (more : List (ℕ × RangeRest)) → stand_apart (range ∷ more) ≡ true
-    → range.0 ≤ range.1.last
-ends_after range [] stands = alone range stands
-ends_after range (next ∷ more) stands = (apart range next more stands).begins
 
 -- the range reaches back to the number
 abbrev pub reaches : ℕ → Option (ℕ × RangeRest) → Bool
@@ -100,7 +84,7 @@ reached x n range (next ∷ more) stands here back =
     let two = apart range next more stands in
     elim (leb_tells next.0 n) [
       | inl a ↦
-          let further : next.0 ≤ next.1.last = ends_after next more two.rest in
+          let further : next.0 ≤ next.1.last = begins_first next more two.rest in
           let past : x ≤ next.1.last = omega (arith, two.ends) in
           rw (here, a.0, or_twice (last_begun n more) next range)
           (rw a.0 at (reached x n next more two.rest a.0 past))
@@ -123,11 +107,11 @@ shares_step range other next more order two ih back (inr a) nexts =
     let later : nat_le next.0 range.1.last ≡ false =
     grind (arith, nat_tests, two.begins, two.ends) in
     let none : list_any (share_number range) (next ∷ more) ≡ false = ih ∙ rw later in
-    rw (a.0, none, and_false (nat_le range.0 other.1.last))
+    rw (a.0, none, and-false (nat_le range.0 other.1.last))
 shares_step range other next more order two ih (inl b) (inl a) (inl d) =
     let all : reaches range.0 (last_begun range.1.last (next ∷ more)) ≡ true =
     reached range.0 range.1.last next more two.rest d.0
-    (omega (arith, two.ends, ends_after next more two.rest)) in
+    (omega (arith, two.ends, begins_first next more two.rest)) in
     let same : reaches range.0 (option_or (last_begun range.1.last more) (Some next)) ≡ true =
     rw d.0 at all in
     rw (a.0, b.0, d.0, or_twice (last_begun range.1.last more) next other) (sym same)
@@ -145,7 +129,7 @@ shares_step range other next more order two ih back (inl a) (inr d) =
       none,
       a.0,
       d.0,
-      and_true (nat_le range.0 other.1.last),
+      and-true (nat_le range.0 other.1.last),
       or-false (nat_le range.0 other.1.last),
     )
 
@@ -156,8 +140,8 @@ pub shares-last_begun : (range : ℕ × RangeRest) (ranges : List (ℕ × RangeR
     → list_any (share_number range) ranges ≡ reaches range.0 (last_begun range.1.last ranges)
 shares-last_begun range [] order stands = refl
 shares-last_begun range (other ∷ []) order stands = elim (leb_tells other.0 range.1.last) [
-  | inl a ↦ rw (a.0, and_true (nat_le range.0 other.1.last), or-false (nat_le range.0 other.1.last))
-  | inr a ↦ rw (a.0, and_false (nat_le range.0 other.1.last))
+  | inl a ↦ rw (a.0, and-true (nat_le range.0 other.1.last), or-false (nat_le range.0 other.1.last))
+  | inr a ↦ rw (a.0, and-false (nat_le range.0 other.1.last))
 ]
 shares-last_begun range (other ∷ next ∷ more) order stands =
     shares_step range other next more order (apart other next more stands)
@@ -227,7 +211,7 @@ stands-with_one : (range other : ℕ × RangeRest) (more : List (ℕ × RangeRes
     → stand_apart (with_one range (other ∷ more)) ≡ true
 unfolding with_one
 stands-with_one range other [] order stands free =
-    let begins : other.0 ≤ other.1.last = alone other stands in
+    let begins : other.0 ≤ other.1.last = begins_first other [] stands in
     elim (free_apart range other (or_parts (share_number range other) false free).0) [
       | inl a ↦ rw (one_before range other [] (comes_before range other order a))
           (cons_stands range other [] order a stands)
@@ -245,7 +229,7 @@ stands-with_one range other (next ∷ more) order stands free =
           (cons_stands range other (next ∷ more) order a stands)
       | inr a ↦ rw (one_after range other (next ∷ more) (comes_after range other two.begins a))
           (cons_with_one other range next more two.begins a two.ends order
-          (ends_after next more two.rest) later.0
+          (begins_first next more two.rest) later.0
           (stands-with_one range next more order two.rest apart_from.1))
     ]
 

@@ -21,9 +21,9 @@ use Rattle.fare_table.proofs.FaultLemmas.{Stand, classes-told, classes_tables, d
 use Rattle.fare_table.proofs.FaultLemmas.{modes-known, modes-told, named-told, needs, number_tells}
 use Rattle.fare_table.proofs.FaultLemmas.{stand_all, stand_here, stand_next, steps, told}
 use Rattle.fare_table.proofs.FaultLemmas.{told_needed, told_two, transfers-told}
-use Rattle.fare_table.proofs.OverlapLemmas.{stands-insert, comes_after, comes_before, ends_after}
+use Rattle.fare_table.proofs.OverlapLemmas.{stands-insert, comes_after, comes_before}
 use Rattle.fare_table.proofs.OverlapLemmas.{free_apart, rest_stands}
-use Rattle.fare_table.proofs.PayLemmas.{Named, by_class, classes_read, named_with}
+use Rattle.fare_table.proofs.PayLemmas.{classes_read}
 use Rattle.fare_table.proofs.ReadLemmas.{number-read}
 use Rattle.fare_table.specs.Classes.{class_named, classes_from, classes_of, default_of}
 use Rattle.fare_table.specs.Faults.{FaultRow, Where, class_rows, classes_step, default_step, riders_step, transfers_step}
@@ -37,7 +37,7 @@ use Rattle.fare_table.specs.Faults.{token_at, value_at, string_of}
 use Rattle.fare_table.specs.Members.{are_tables, hold_strings, number_at, of_kind}
 use Rattle.fare_table.specs.Modes.{mode_named, modes_of, same_name}
 use Rattle.fare_table.specs.OrFault.{OrFault, ◌>>=◌}
-use Rattle.fare_table.specs.Riders.{is_rider, rider_of, riders_from, riders_of, token_of_digits}
+use Rattle.fare_table.specs.Riders.{is_rider, riders_from, riders_of}
 use Rattle.fare_table.specs.Riders.{with_rider}
 use Rattle.fare_table.specs.Riders as riders
 use Rattle.fare_table.specs.TableMeaning.{TableMeaning, meaning_in, meaning_of_tree}
@@ -48,9 +48,12 @@ use Rattle.fare_table.specs.Zone.{zone_in, zone_of}
 use Rattle.fare_table.specs.declared.fault.Key.TheVariants as the_key
 use Rattle.fare_table.specs.declared.fault.TableFault.{TableFault}
 use Rattle.fare_table.specs.declared.fault.TableFault.TheVariants as the_fault
-use Rattle.fare_table.specs.declared.fault.TableFault.TheVariants.{Missing, Kind, Range, Mode}
+use Rattle.fare_table.specs.declared.fault.TableFault.TheVariants.{Missing, Kind, Mode}
 use Rattle.fare_table.specs.declared.fault.TableFault.TheVariants.{Overlap, Rider}
 use Rattle.fare_table.specs.declared.validators.RangeRest.{RangeRest}
+use Rattle.fare_table.proofs.ApartLemmas.{begins_first}
+use Rattle.fare_table.proofs.RiderLemmas.{Named, by_class, named_with}
+use Rattle.tap_views.proofs.Choices.{or_swap}
 
 -- ---- one element of `validators`
 told_three : (tree : Members) (at : Where) (one two three : TableFault)
@@ -115,10 +118,6 @@ range-told tree modes n known =
     ∙ sym (told_three tree at (Missing the_key.ModeName) (Kind the_key.ModeName) Mode)))
 
 -- ---- the elements, each with those before it
-swap_or : (a b c : Bool) → (a || (b || c)) ≡ (b || (a || c))
-swap_or true true c = refl
-swap_or true false c = refl
-swap_or false b c = refl
 
 with_one : ℕ × RangeRest → List (ℕ × RangeRest) → List (ℕ × RangeRest)
 with_one one ranges = insert_entry nat_cmp ranges one.0 one.1
@@ -131,7 +130,7 @@ unfolding with_one
 any_step test one other more order further free ih = elim (free_apart one other free) [
   | inl a ↦ rw (comes_before one other order a) refl
   | inr a ↦ rw (comes_after one other further a, ih)
-      (swap_or (test other) (test one) (list_any test more))
+      (or_swap (test other) (test one) (list_any test more))
 ]
 
 -- a test of ranges holds of one more range or of the others
@@ -142,7 +141,7 @@ unfolding with_one
 any_with test one [] order stands free = refl
 any_with test one (other ∷ more) order stands free =
     let apart = or_parts (share_number one other) (list_any (share_number one) more) free in
-    any_step test one other more order (ends_after other more stands) apart.0
+    any_step test one other more order (begins_first other more stands) apart.0
     (any_with test one more order (rest_stands other more stands) apart.1)
 
 -- the range shares a number with the element at a place

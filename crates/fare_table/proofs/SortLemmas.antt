@@ -11,11 +11,12 @@ use Rattle.std.specs.Ordering.{match_ordering, nat_cmp, ordering_reverse}
 use Rattle.toml.specs.Data.{Data, Items, no_items, item, Members, no_members, member, get_member}
 use Rattle.fare_table.proofs.ElementLemmas.{ranges_read, step}
 use Rattle.fare_table.proofs.PartLemmas.{bind_ok, parts}
-use Rattle.fare_table.proofs.PayLemmas.{AreRiders, adds_rider, after_rider, riders_read}
+use Rattle.fare_table.proofs.PayLemmas.{AreRiders, riders_read}
 use Rattle.fare_table.specs.Riders.{rider_of, riders_from, with_rider}
 use Rattle.fare_table.specs.TableMeaning.{TableMeaning, meaning_of_tree}
 use Rattle.fare_table.specs.Validators.{stand_apart, ranges_from}
 use Rattle.fare_table.specs.declared.validators.RangeRest.{RangeRest}
+use Rattle.fare_table.proofs.RiderLemmas.{adds_rider, after_rider}
 
 abbrev Riders : Type 0
 Riders = List (List ℕ × ℕ)

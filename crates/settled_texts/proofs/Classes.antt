@@ -7,9 +7,9 @@ use Rattle.std.specs.Map.{lookup}
 use Rattle.std.specs.Ordering.{nat_cmp}
 use Rattle.std.specs.declared.alloc.Global.{Global}
 use Rattle.toml.specs.Data.{Members, same_key}
-use Rattle.fare_table.proofs.PayLemmas.{same_bytes}
 use Rattle.settled_texts.specs.Classes.{class_among, class_of_token, default_in, first_class, riders_in}
 use Rattle.settled_texts.specs.Names.{rider_by}
+use Rattle.fare_table.proofs.KeyLemmas.{same_bytes}
 
 pub first_none : (o : Option (List ℕ)) → o ≡ first_class o None
 first_none None = refl

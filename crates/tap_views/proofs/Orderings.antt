@@ -1,9 +1,10 @@
 -- Numbers by their order, and what one order and then another gives.
-use Rattle.std.proofs.Common.{◌≡◌, ℕ, ◌<◌, false, refl, arith}
+use Rattle.std.proofs.Common.{◌≡◌, ℕ, ◌<◌, true, false, refl, arith}
 use Rattle.std.specs.Ordering.{is_lt, nat_cmp, ordering_then}
 use Rattle.std.specs.declared.cmp.Ordering.{Ordering}
 use Rattle.std.specs.declared.cmp.Ordering.TheVariants.{Less, Equal, Greater}
 use Rattle.std.proofs.lemmas.Bool.Decides.{nat_tests}
+use Rattle.std.proofs.lemmas.Bool.{false≢true}
 
 -- ---- two numbers
 pub less : (a b : ℕ) → a < b → nat_cmp a b ≡ Less
@@ -14,6 +15,11 @@ equal a b h = grind (arith, nat_tests)
 
 pub greater : (a b : ℕ) → b < a → nat_cmp a b ≡ Greater
 greater a b h = grind (arith, nat_tests)
+
+pub less_of : (r : Ordering) → is_lt r ≡ true → r ≡ Less
+less_of Less is = refl
+less_of Equal is = absurd (false≢true is)
+less_of Greater is = absurd (false≢true is)
 
 -- ---- one order, and another if they tie
 pub first_equal : (r s : Ordering) → ordering_then r s ≡ Equal → r ≡ Equal
