@@ -5,6 +5,7 @@ use Rattle.std.proofs.Common.{subst}
 use Rattle.std.specs.Prelude.{slice_get, sum_by}
 use Rattle.std.proofs.lemmas.Bool.{cases_lt, le-leb, lt-leb, lt-ltb}
 use Rattle.std.proofs.lemmas.List.Sums.{sum_by-cons, sum_by-le-sum_by}
+use Rattle.std.proofs.Math.Nat.{zero-add}
 use Rattle.fare_table.specs.declared.terms.Terms.{Terms}
 use Rattle.account_rule.specs.declared.reason.Charge.{Charge}
 use Rattle.account_rule.specs.declared.tap.TapIn.{TapIn}
@@ -15,7 +16,7 @@ use Rattle.account_rule.specs.Taps.{LiveTap}
 use Rattle.account_rule.specs.Trips.{rides, trips}
 use Rattle.account_rule.specs.Windows.{charge, charged_by, charges, charges_after}
 use Rattle.account_rule.specs.Windows.{window_cents, windows}
-use Rattle.account_rule.proofs.LimitLemmas.{charged, zero-plus}
+use Rattle.account_rule.proofs.LimitLemmas.{charged}
 use Rattle.account_rule.proofs.ShareLemmas.{cents_measure, sum-replies}
 
 -- ---- higher terms
@@ -176,5 +177,5 @@ pub equal_by_places : (terms : LiveTap → Terms) (same : Terms) (window : List 
     → IsOfPlace same place one
 unfolding charges
 equal_by_places terms same window low equal =
-    λ place one is. subst (λ n. IsOfPlace same n one) (zero-plus place)
+    λ place one is. subst (λ n. IsOfPlace same n one) (zero-add place)
     (by_places terms same 0 0 window low equal (λ below. omega arith) place one is)

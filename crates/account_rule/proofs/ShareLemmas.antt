@@ -205,7 +205,8 @@ ride_replies-free : (replies : List Reply) (reply : Reply) → is_ride reply ≡
 ride_replies-free replies reply none =
     rw (filter-append is_ride replies (reply ∷ [])) (rw none (append-nil (filter is_ride replies)))
 
-is_ride-reply : (paid : Option ℕ) → is_ride (ride_reply paid) ≡ true
+-- a ride's reply is one of a ride
+pub is_ride-reply : (paid : Option ℕ) → is_ride (ride_reply paid) ≡ true
 unfolding ride_reply reply_with
 is_ride-reply None = refl
 is_ride-reply (Some cents) = refl

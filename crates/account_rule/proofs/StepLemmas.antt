@@ -7,6 +7,7 @@ use Rattle.std.proofs.Common.{Bool, is_some, length, option_map}
 use Rattle.std.specs.List.{last_or}
 use Rattle.std.specs.Option.{option_and_then}
 use Rattle.std.proofs.lemmas.Bool.{ltb-true, lt-ltb, le-ltb}
+use Rattle.std.proofs.Math.Bool.{and-true}
 use Rattle.fare_table.specs.Fares.{Fares, class_of, ride_terms}
 use Rattle.fare_table.specs.declared.mode.Mode.{Mode}
 use Rattle.fare_table.specs.Terms.{AreRideTerms}
@@ -26,7 +27,7 @@ use Rattle.account_rule.specs.inside.Kept.{gives, open_window, window_at, with_r
 use Rattle.account_rule.specs.Stands.{KeepsOf, Stands, window_of}
 use Rattle.account_rule.specs.Taps.{LiveTap, is_later, live_at, live_tap}
 use Rattle.account_rule.specs.Windows.{charge, charges, paid_by, windows}
-use Rattle.account_rule.proofs.TapLemmas.{and-true, ends_in_transfer-push, is_later-push}
+use Rattle.account_rule.proofs.TapLemmas.{ends_in_transfer-push, is_later-push}
 use Rattle.account_rule.proofs.TapLemmas.{last_window-ride, trip-push, trip-same, windows-same}
 use Rattle.account_rule.proofs.TapLemmas.{windows-transfer}
 use Rattle.account_rule.proofs.WindowLemmas.{charge-after, room-at, room-open, room-ride}

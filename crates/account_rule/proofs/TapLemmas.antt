@@ -7,6 +7,7 @@ use Rattle.std.specs.Option.{option_to_list}
 use Rattle.std.proofs.lemmas.Bool.{lt-ltb}
 use Rattle.std.proofs.lemmas.List.Elements.{filter-append}
 use Rattle.std.proofs.lemmas.List.Folds.{list_all-append}
+use Rattle.std.proofs.Math.Bool.{and-true}
 use Rattle.account_rule.specs.declared.tap.TapIn.{TapIn}
 use Rattle.account_rule.specs.Trips.{TripEnd, continues, ends_in_transfer, last_tap, last_trip}
 use Rattle.account_rule.specs.Trips.{rides, trip_of, trips}
@@ -17,10 +18,6 @@ use Rattle.account_rule.specs.Taps.{LiveTap, is_later, live, live_after, live_ta
 use Rattle.account_rule.specs.Windows.{is_within, windows}
 use Rattle.account_rule.proofs.BlockLemmas.{blocks_by-push, extend, firsts-extend}
 use Rattle.account_rule.proofs.BlockLemmas.{last_block-extend, length-push}
-
-pub and-true : (b : Bool) → (b && true) ≡ b
-and-true true = refl
-and-true false = refl
 
 -- a tap bounds what is later, if it is known
 pub is_later-push : (taps : List TapIn) (tap : TapIn) (moment : ℕ)

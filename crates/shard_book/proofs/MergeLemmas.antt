@@ -11,6 +11,7 @@ use Rattle.std.proofs.lemmas.List.Elements.{filter-append}
 use Rattle.std.proofs.lemmas.List.Sums.{length-filter, count_by-le-length}
 use Rattle.std.proofs.lemmas.List.Folds.{list_any-append}
 use Rattle.std.proofs.lemmas.Grind.{flat_map-append}
+use Rattle.std.proofs.Math.Bool.{or-false, or-true}
 use Rattle.shard_book.specs.declared.entry.Entry.{Entry}
 use Rattle.shard_book.specs.declared.sums.tally.Tally.{Tally}
 use Rattle.shard_book.specs.Book.{Book}
@@ -58,14 +59,6 @@ add-none s = λ i. record {
     plus-none : (n : ℕ) → n + 0 ≡ n
     plus-none n = omega arith
 
-or-none : (a : Bool) → (a || false) ≡ a
-or-none true = refl
-or-none false = refl
-
-or-some : (a : Bool) → (a || true) ≡ true
-or-some true = refl
-or-some false = refl
-
 module _ {K : Type 0} {eq : K → K → Bool} (laws : IsEquivalence eq) (same : (a b : K) → eq a b ≡ true → a ≡ b) where
   -- a key that is apart from all others is not found among them
   not-found : (key : K) (rest : List (K × Tally)) → IsDistinct eq (key ∷ keys_of rest) → lookup (eq key) rest ≡ None
@@ -104,7 +97,7 @@ module _ {K : Type 0} {eq : K → K → Bool} (laws : IsEquivalence eq) (same : 
         (λ (here : eq key q ≡ true).
         ap (λ (o : Option Tally). is_some o || is_some (lookup (eq q) rest)) (updates q)
         ∙ ap (λ (b : Bool). is_some (cond b (Some sum) (lookup (eq q) now)) || is_some (lookup (eq q) rest)) here
-        ∙ sym (or-some (is_some (lookup (eq q) now)))
+        ∙ sym (or-true (is_some (lookup (eq q) now)))
         ∙ ap (λ (b : Bool). is_some (lookup (eq q) now) || is_some (cond b (Some tally) (lookup (eq q) rest))) (sym (laws.symm q key ∙ here))
         ∙ before.keys q)
         (λ (apart : eq key q ≡ false).
@@ -143,7 +136,7 @@ module _ {K : Type 0} {eq : K → K → Bool} (laws : IsEquivalence eq) (same : 
         ∙ sym (sums-append (with_key eq key_of q before) (with_key eq key_of q after))
         ∙ ap sums (sym (filter-append (λ e. eq (key_of e) q) before after));
     keys = λ q.
-        sym (or-none (is_some (lookup (eq q) now)))
+        sym (or-false (is_some (lookup (eq q) now)))
         ∙ adding.keys q
         ∙ (λ i. front.keys q i || back.keys q i)
         ∙ sym (list_any-append (eq q) (map key_of before) (map key_of after))

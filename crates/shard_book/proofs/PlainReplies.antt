@@ -1,6 +1,6 @@
 -- Two legal histories in which the taps of a token are the same have the same entries of that token.
-use Rattle.std.specs.Prelude.{◌≡◌, ◌⊎◌, Bool, true, false, cond, List, [], ◌∷◌, ◌++◌, length, map, filter}
-use Rattle.std.proofs.Common.{refl, sym, ◌∙◌, ap, inl, inr, subst, arith, append-nil, append_assoc, length-append}
+use Rattle.std.specs.Prelude.{◌≡◌, Bool, true, false, cond, List, [], ◌∷◌, ◌++◌, length, map, filter}
+use Rattle.std.proofs.Common.{refl, sym, ◌∙◌, ap, subst, arith, append-nil, append_assoc, length-append}
 use Rattle.std.proofs.lemmas.List.{map-append}
 use Rattle.std.proofs.lemmas.List.Elements.{filter-append}
 use Rattle.fare_table.specs.Fares.{Fares}
@@ -16,6 +16,8 @@ use Rattle.shard_book.specs.History.{IsReplied, IsLegal}
 use Rattle.shard_book.specs.Keys.{same_token}
 use Rattle.tap_views.specs.Token.{bytes_of}
 use Rattle.shard_book.specs.Plain.{with_reply, answered, unanswered, plain_after, plain}
+use Rattle.shard_book.proofs.Histories.{legal-push}
+use Rattle.shard_book.proofs.OwnEntries.{own_other, own_same}
 
 -- an entry without its reply
 abbrev pub bare : Entry → Entry
@@ -44,14 +46,6 @@ taps_other : (fares : Fares) (token : Token) (entries : List Entry) (entry : Ent
 unfolding taps_of own
 taps_other fares token entries entry is =
     ap (map (tap_of fares)) (filter-append (is_of token) entries (entry ∷ []) ∙ ap (λ b. filter (is_of token) entries ++ cond b (entry ∷ []) []) is ∙ append-nil (filter (is_of token) entries))
-
-own_same : (token : Token) (entry : Entry) (entries : List Entry) → is_of token entry ≡ true → own token (entry ∷ entries) ≡ entry ∷ own token entries
-unfolding own
-own_same token entry entries is = ap (λ b. cond b (entry ∷ filter (is_of token) entries) (filter (is_of token) entries)) is
-
-own_other : (token : Token) (entry : Entry) (entries : List Entry) → is_of token entry ≡ false → own token (entry ∷ entries) ≡ own token entries
-unfolding own
-own_other token entry entries is = ap (λ b. cond b (entry ∷ filter (is_of token) entries) (filter (is_of token) entries)) is
 
 -- the entry of a legal history is its taps' fields with the rule's reply
 replied_again : (fares : Fares) (token : Token) (front : List Entry) (entry : Entry) → entry.token ≡ token → IsReplied fares front entry
@@ -97,28 +91,6 @@ same_replies fares token one other legal legal' same =
     ∙ sym (legal_again fares token [] other legal')
 
 -- ---- the plain history is legal, and has the fields of the taps
-abbrev Snoc : {X : Type 0} → List X → X → List X → X → List X → Type 0
-Snoc {X = X} xs x before y after = ((xs ≡ before) × (x ≡ y)) ⊎ ((rest : List X) × (xs ≡ before ++ y ∷ rest))
-
-snoc_cases : {X : Type 0} (xs : List X) (x : X) (before : List X) (y : X) (after : List X) → xs ++ x ∷ [] ≡ before ++ y ∷ after → Snoc xs x before y after
-snoc_cases [] x [] y after e = inl (refl, cc)
-snoc_cases [] x (b ∷ before) y after e = absurd (omega (arith, ap length e, length-append before (y ∷ after)))
-snoc_cases (z ∷ xs) x [] y after e = let same : z ≡ y = cc in inr (xs, ap (λ w. w ∷ xs) same)
-snoc_cases {X = X} (z ∷ xs) x (b ∷ before) y after e =
-    let same : z ≡ b = cc in
-    let rest : xs ++ x ∷ [] ≡ before ++ y ∷ after = cc in
-    more same (snoc_cases xs x before y after rest)
-  where
-    more : z ≡ b → Snoc xs x before y after → Snoc (z ∷ xs) x (b ∷ before) y after
-    more same (inl (is, last)) = inl (ap (λ w. w ∷ xs) same ∙ ap (λ ws. b ∷ ws) is, last)
-    more same (inr (rest, is)) = inr (rest, ap (λ w. w ∷ xs) same ∙ ap (λ ws. b ∷ ws) is)
-
-legal_push : (fares : Fares) (entries : List Entry) (entry : Entry) → IsLegal fares entries → IsReplied fares entries entry → IsLegal fares (entries ++ entry ∷ [])
-legal_push fares entries entry legal replied = record { each = λ before other after e. by_place before other after (snoc_cases entries entry before other after e) }
-  where
-    by_place : (before : List Entry) (other : Entry) (after : List Entry) → Snoc entries entry before other after → IsReplied fares before other
-    by_place before other after (inl (is, last)) = subst (λ es. IsReplied fares es other) is (subst (λ x. IsReplied fares entries x) last replied)
-    by_place before other after (inr (rest, is)) = legal.each before other rest is
 
 is_replied : (fares : Fares) (earlier : List Entry) (tap : Tap) → IsReplied fares earlier (answered fares earlier (unanswered tap))
 unfolding IsReplied answered tap_of
@@ -130,7 +102,7 @@ plain_legal_after fares earlier [] legal = subst (λ es. IsLegal fares es) (sym 
 plain_legal_after fares earlier (tap ∷ taps) legal =
     let entry = answered fares earlier (unanswered tap) in
     subst (λ es. IsLegal fares es) (append_assoc earlier (entry ∷ []) (plain_after fares (earlier ++ entry ∷ []) taps))
-    (plain_legal_after fares (earlier ++ entry ∷ []) taps (legal_push fares earlier entry legal (is_replied fares earlier tap)))
+    (plain_legal_after fares (earlier ++ entry ∷ []) taps (legal-push fares earlier entry legal (is_replied fares earlier tap)))
 
 pub plain_legal : (fares : Fares) (taps : List Tap) → IsLegal fares (plain fares taps)
 plain_legal fares taps =

@@ -5,11 +5,57 @@ use Rattle.std.proofs.lemmas.Grind.{flat_map-append}
 use Rattle.shard_book.specs.Book.{Book}
 use Rattle.shard_book.specs.SumsByKey.{all_entries}
 use Rattle.std.proofs.lemmas.List.Sums.{sum_by-append}
+use Rattle.std.proofs.Math.Nat.{add-zero, add_assoc as plus_assoc, zero-add}
 use Rattle.account_rule.specs.declared.reply.Reply.{Reply}
 use Rattle.shard_book.specs.declared.entry.Entry.{Entry}
 use Rattle.shard_book.specs.Entry.{reply_of}
 use Rattle.shard_book.specs.Sums.{Sums, sums, sums_of_replies, add_sums, is_paid, is_transfer, is_capped, is_stale, is_unknown}
 
+-- sums are their seven numbers
+abbrev pub seven : ℕ → ℕ → ℕ → ℕ → ℕ → ℕ → ℕ → Sums
+seven a b c d e f g = record {
+  taps = a;
+  paid = b;
+  transfers = c;
+  capped = d;
+  stale = e;
+  unknown = f;
+  cents = g;
+}
+
+pub same_seven : (a a' b b' c c' d d' e e' f f' g g' : ℕ) → a ≡ a' → b ≡ b' → c ≡ c' → d ≡ d'
+    → e ≡ e' → f ≡ f' → g ≡ g' → seven a b c d e f g ≡ seven a' b' c' d' e' f' g'
+same_seven a a' b b' c c' d d' e e' f f' g g' p q r s t u v = cc
+
+-- ---- sums are added in any order, and those of nothing change none
+pub add_none : (s : Sums) → add_sums s (sums []) ≡ s
+unfolding sums_of_replies
+add_none s =
+    same_seven (s.taps + 0) s.taps (s.paid + 0) s.paid (s.transfers + 0) s.transfers (s.capped + 0)
+    s.capped (s.stale + 0) s.stale (s.unknown + 0) s.unknown (s.cents + 0) s.cents
+    (add-zero s.taps) (add-zero s.paid) (add-zero s.transfers) (add-zero s.capped)
+    (add-zero s.stale) (add-zero s.unknown) (add-zero s.cents)
+
+pub none_add : (s : Sums) → add_sums (sums []) s ≡ s
+unfolding sums_of_replies
+none_add s =
+    same_seven (0 + s.taps) s.taps (0 + s.paid) s.paid (0 + s.transfers) s.transfers (0 + s.capped)
+    s.capped (0 + s.stale) s.stale (0 + s.unknown) s.unknown (0 + s.cents) s.cents
+    (zero-add s.taps) (zero-add s.paid) (zero-add s.transfers) (zero-add s.capped)
+    (zero-add s.stale) (zero-add s.unknown) (zero-add s.cents)
+
+pub add_assoc : (a b c : Sums) → add_sums (add_sums a b) c ≡ add_sums a (add_sums b c)
+add_assoc a b c = λ i. record {
+  taps = plus_assoc a.taps b.taps c.taps i;
+  paid = plus_assoc a.paid b.paid c.paid i;
+  transfers = plus_assoc a.transfers b.transfers c.transfers i;
+  capped = plus_assoc a.capped b.capped c.capped i;
+  stale = plus_assoc a.stale b.stale c.stale i;
+  unknown = plus_assoc a.unknown b.unknown c.unknown i;
+  cents = plus_assoc a.cents b.cents c.cents i;
+}
+
+-- ---- sums of two lists
 pub replies-append : (xs ys : List Reply) → sums_of_replies (xs ++ ys) ≡ add_sums (sums_of_replies xs) (sums_of_replies ys)
 unfolding sums_of_replies
 replies-append xs ys = λ i. record {

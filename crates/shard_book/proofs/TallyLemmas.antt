@@ -5,14 +5,9 @@ use Rattle.account_rule.specs.declared.reply.Answer.{Answer}
 use Rattle.account_rule.specs.declared.reply.Answer.TheVariants.{Paid, Transfer, Capped, Stale, Unknown}
 use Rattle.account_rule.specs.declared.reply.Reply.{Reply}
 use Rattle.shard_book.specs.inside.Places.{count_place}
-use Rattle.shard_book.specs.Sums.{Sums, sums_of_replies, add_sums}
+use Rattle.shard_book.specs.Sums.{sums_of_replies, add_sums}
 use Rattle.shard_book.specs.Tally.{sums_of_places}
-
-abbrev seven : ℕ → ℕ → ℕ → ℕ → ℕ → ℕ → ℕ → Sums
-seven a b c d e f g = record { taps = a; paid = b; transfers = c; capped = d; stale = e; unknown = f; cents = g }
-
-same_seven : (a a' b b' c c' d d' e e' f f' g g' : ℕ) → a ≡ a' → b ≡ b' → c ≡ c' → d ≡ d' → e ≡ e' → f ≡ f' → g ≡ g' → seven a b c d e f g ≡ seven a' b' c' d' e' f' g'
-same_seven a a' b b' c c' d d' e e' f f' g g' p q r s t u v = cc
+use Rattle.shard_book.proofs.SumsLemmas.{same_seven}
 
 -- the count at the answer's place is one more, and the cents are the reply's more
 pub tallied : (counts : List ℕ) (cents : ℕ) (reply : Reply) → length counts ≡ 5

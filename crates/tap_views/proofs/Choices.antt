@@ -1,7 +1,7 @@
 -- Tests and choices in another order, and what is said of an `Option` or a `Result` by cases.
 use Rattle.std.proofs.Common.{◌≡◌, Bool, true, false, cond, ◌||◌, Option, None, Result, Ok, Err}
 use Rattle.std.proofs.Common.{refl, sym, subst}
-use Rattle.std.specs.Prelude.{IfErr, IsErrAnd, MatchOption}
+use Rattle.std.specs.Prelude.{IfErr, IsErrAnd, MatchOption, OnErr}
 use Rattle.std.proofs.lemmas.Bool.{false≢true}
 
 pub or_swap : (a b c : Bool) → (a || (b || c)) ≡ (b || (a || c))
@@ -25,6 +25,11 @@ pub MatchOption_none : {T : Type 0} (P : Type 0) (Q : T → Type 0) (result : Op
     → result ≡ None → P → MatchOption result P Q
 MatchOption_none {T} P Q result none holds =
     subst (λ (r : Option T). MatchOption r P Q) (sym none) holds
+
+-- what holds anyway is what is to be said of an error
+pub OnErr_any : {T E : Type 0} (r : Result T E) (P : Type 0) → P → OnErr r P
+OnErr_any (Ok x) P holds = tt
+OnErr_any (Err e) P holds = holds
 
 -- what is to be said of the error that was returned
 pub IfErr_handed_on : {T E : Type 0} (r : Result T E) (fault : E) (P : E → Type 0)

@@ -1,4 +1,4 @@
-use Rattle.std.proofs.Common.{Result, Ok, Err, OnErr, refl, ◌≡◌, ℕ, List, [], ◌∷◌, ◌++◌, Some, slice_get, subst, sym, ap, ◌∙◌, arith}
+use Rattle.std.proofs.Common.{refl, ◌≡◌, ℕ, List, [], ◌∷◌, ◌++◌, Some, slice_get, subst, sym, ap, ◌∙◌, arith}
 use Rattle.fare_table.specs.Fares.{Fares}
 use Rattle.shard_book.specs.Book.{Book, with_entries}
 use Rattle.tap_views.specs.Shards.{shard_of_token}
@@ -7,6 +7,7 @@ use Rattle.shard_book.specs.declared.packed.PackedEntry.{PackedEntry}
 use Rattle.shard_book.specs.inside.Packed.{history_of, tokens_of}
 use Rattle.shard_book.specs.inside.Sound.{AreKept, IsSound}
 use Rattle.tap_views.specs.Token.{bytes_of}
+use Rattle.tap_views.proofs.Choices.{OnErr_any}
 use Rattle.shard_book.proofs.PackedLemmas.{history-push, history-same, placed-push}
 use Rattle.shard_book.proofs.SoundLemmas.{book-same, sound-post}
 use Rattle.shard_book.proofs.book.ShardBook.post_at.Goals as goal
@@ -25,14 +26,9 @@ book_of table shard shards entries = record { table = table; shard = shard; shar
 pub invariant_of-self-in_err-place : goal.invariant_of-self-in_err-place
 invariant_of-self-in_err-place c = book-same c.reserve.ensures.items c.in_err-place.ensures.places c.in_err-place.ensures.err c.in_err-place.ensures.counting c.self.invariant
 
--- what holds holds of an `Err`
-on_err : {A E : Type 0} (r : Result A E) (P : Type 0) → P → OnErr r P
-on_err (Ok value) P holds = tt
-on_err (Err error) P holds = holds
-
 pub returns-in_err-place-clause-err : goal.returns-in_err-place-clause-err
 returns-in_err-place-clause-err c =
-    on_err _ _
+    OnErr_any _ _
     (ap (λ (entries : List Entry). book_of c.self.inside.table c.self.inside.shard c.self.inside.shards entries)
     (history-same (tokens_of c.self.inside.accounts) (tokens_of c.step.new.self) c.self.inside.history.items c.reserve.new.self.items c.reserve.ensures.items c.self.invariant.placed c.in_err-place.ensures.places)
     ∙ c.self.view_is)
