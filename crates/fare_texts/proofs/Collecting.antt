@@ -7,15 +7,11 @@ use Rattle.shard_book.specs.Book.{Book}
 use Rattle.shard_book.specs.Entry.{own}
 use Rattle.shard_book.specs.SumsByKey.{all_entries}
 use Rattle.shard_book.specs.declared.entry.Entry.{Entry}
+use Rattle.shard_book.proofs.OwnEntries.{own-append}
 use Rattle.tap_views.specs.declared.token.Token.{Token}
+use Rattle.tap_views.proofs.Lists.{take_next}
 use Rattle.fare_texts.specs.inside.Spots.{book_at, entry_in, entry_at_spot, no_entry, place_at, entries_at_spots}
 use Rattle.fare_texts.specs.declared.spot.Spot.{Spot}
-use Rattle.fare_texts.proofs.Rising.{own_both}
-
--- the entries before a place, and the one there
-taken_at : (entries : List Entry) (i : ℕ) (entry : Entry) → slice_get entries i ≡ Some entry → take i entries ++ entry ∷ [] ≡ take (i + 1) entries
-taken_at entries i entry at =
-    ap (λ (e : Entry). take i entries ++ e ∷ []) (sym (get_or_from_slice_get entries i entry entry at)) ∙ sym (take_more entries i entry (slice_get_within entries i entry at))
 
 -- the entry at a spot
 pub spot_entry : (books : List Book) (spot : Spot) (index place : ℕ) (book : Book) (entry : Entry) → book_at spot ≡ index → place_at spot ≡ place → slice_get books index ≡ Some book
@@ -41,7 +37,7 @@ seen_more books first old new one index i book is so_far at_book at_place there 
     ∙ ap (λ (es : List Entry). es ++ entry_at_spot books one ∷ []) so_far
     ∙ ap (λ (e : Entry). (entries_at_spots books first ++ take i book.entries) ++ e ∷ []) (spot_entry books one index i book entry at_book at_place there at)
     ∙ append_assoc (entries_at_spots books first) (take i book.entries) (entry ∷ [])
-    ∙ ap (λ (es : List Entry). entries_at_spots books first ++ es) (taken_at book.entries i entry at)
+    ∙ ap (λ (es : List Entry). entries_at_spots books first ++ es) (take_next book.entries i entry at)
 
 -- the spots of one book more
 pub seen_books : (books : List Book) (old new : List Spot) (i : ℕ) (book : Book) → slice_get books i ≡ Some book → entries_at_spots books old ≡ all_entries (take i books)
@@ -55,5 +51,5 @@ pub own_books : (books : List Book) (i : ℕ) (book : Book) (token : Token) (old
     → old ≡ own token (all_entries (take i books)) → new ≡ old ++ own token book.entries → new ≡ own token (all_entries (take (i + 1) books))
 own_books books i book token old new within same so_far is =
     let more : take i books ++ book ∷ [] ≡ take (i + 1) books = ap (λ (b : Book). take i books ++ b ∷ []) same ∙ sym (take_more books i book within) in
-    is ∙ ap (λ (es : List Entry). es ++ own token book.entries) so_far ∙ sym (own_both token (all_entries (take i books)) book.entries)
+    is ∙ ap (λ (es : List Entry). es ++ own token book.entries) so_far ∙ sym (own-append token (all_entries (take i books)) book.entries)
     ∙ ap (own token) (flat_map_more (λ (b : Book). b.entries) [] (take i books) book ∙ ap all_entries more)

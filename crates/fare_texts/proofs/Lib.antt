@@ -13,3 +13,4 @@ pub mod Sorting
 pub mod StatementLines
 pub mod Whole
 pub mod Writing
+pub mod Years

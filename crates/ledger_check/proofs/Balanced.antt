@@ -1,6 +1,6 @@
 -- What a balance is after one tap more, and what it tells.
 use Rattle.std.proofs.Common.{◌≡◌, ℕ, ◌+◌, ◌<◌, Bool, true, false, List, [], ◌∷◌, ◌++◌, cond}
-use Rattle.std.proofs.Common.{Option, Some, None, is_some, refl, sym, ap, subst, ◌∙◌, arith}
+use Rattle.std.proofs.Common.{Option, Some, None, is_some, refl, sym, ap, ◌∙◌, arith}
 use Rattle.std.proofs.Common.{append_assoc}
 use Rattle.std.proofs.lemmas.List.Sums.{sum_by-append, sum_by-cons}
 use Rattle.std.specs.Prelude.{IfSome, MatchOption}
@@ -27,7 +27,8 @@ abbrev pub HasOneMore : BTreeMap TapFields ℕ → BTreeMap TapFields ℕ → Ta
 HasOneMore more less key =
     (other : TapFields) → left_at more other ≡ left_at less other + cond (is_eq (tap_cmp key other)) 1 0
 
-nowhere : (before after : List TapFields) (tap : TapFields) → [] ≡ before ++ tap ∷ after → ⊥
+-- no tap stands in a list of none
+pub nowhere : (before after : List TapFields) (tap : TapFields) → [] ≡ before ++ tap ∷ after → ⊥
 nowhere [] after tap is = absurd cc
 nowhere (other ∷ before) after tap is = absurd cc
 

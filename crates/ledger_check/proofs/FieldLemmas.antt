@@ -1,19 +1,13 @@
 -- The fields with which a line begins: what they lack, and what they say.
-use Rattle.std.proofs.Common.{◌≡◌, ◌≢◌, ℕ, ◌+◌, ◌*◌, ◌/◌, ◌%◌, ◌^◌, ◌<◌, ◌≤◌, ℤ, pos, negsuc, ◌-ℤ◌, ◌<ℤ◌, ◌≤ℤ◌, Bool, true, false, List, [], ◌∷◌, ◌++◌, length, get_or, take, drop, length-drop, append_assoc, refl, sym, ap, subst, ◌∙◌, arith, zero, suc, w64, Some, None, ⊎_elim}
-use Rattle.std.proofs.lemmas.Bool.{cases_lt}
+use Rattle.std.proofs.Common.{◌≡◌, ◌≢◌, ℕ, ◌+◌, ◌/◌, ◌%◌, ◌^◌, ◌<◌, ℤ, pos, negsuc, List, [], ◌∷◌, ◌++◌, length, take, drop, length-drop, append_assoc, refl, sym, ap, subst, ◌∙◌, arith, suc}
 use Rattle.std.proofs.lemmas.Bool.Decides.{nat_tests}
-use Rattle.std.proofs.lemmas.Int.{by_lt_z}
 use Rattle.std.proofs.lemmas.Fmt.{decimal_is_IsNumeral}
 use Rattle.std.specs.Fmt.{decimal}
-use Rattle.std.specs.Int.{byte_at, bytes_high_first, to_be_bytes}
 use Rattle.std.specs.Str.Parse.{AllDigits}
-use Rattle.hex.specs.Hex.{IsBytes, encode_lower, encode_with, lower_digits}
+use Rattle.hex.specs.Hex.{encode_lower, encode_with, lower_digits}
 use Rattle.jiff_core.specs.declared.civil.date.Date.{Date}
-use Rattle.jiff_core.specs.Calendar.{day_count, days_from_civil}
 use Rattle.jiff_core.specs.Date.{epoch_day}
-use Rattle.jiff_core.proofs.CalendarLemmas.{day_count-epoch, day_count-lt_year, days_from_civil-day_count}
 use Rattle.jiff_core.proofs.DateLemmas.{civil}
-use Rattle.jiff_core.proofs.SignedLemmas.{signed_arith}
 use Rattle.jiff_fmt.specs.Text.{date_text, pad2, pad4, year_text}
 use Rattle.fare_texts.specs.Moments.{IsMomentText, clock_text}
 use Rattle.tap_views.specs.Token.{bytes_of}
@@ -23,6 +17,7 @@ use Rattle.account_rule.specs.declared.reason.Reason.{Reason}
 use Rattle.fare_texts.specs.StatementText.{answer_text}
 use Rattle.shard_book.specs.declared.entry.Entry.{Entry}
 use Rattle.fare_texts.specs.LedgerLines.{IsLedgerLine, entry_fields, line_head, mode_field}
+use Rattle.fare_texts.proofs.Years.{year_of}
 use Rattle.ledger_check.specs.Lines.{Lacks}
 use Rattle.ledger_check.proofs.LineLemmas.{lacks-append, lacks-at, lacks-tested}
 
@@ -47,38 +42,6 @@ encoded_lacks (b ∷ bytes) =
 
 pub token_lacks : (token : Token) → Lacks 44 (encode_lower (bytes_of token))
 token_lacks token = encoded_lacks (bytes_of token)
-
--- the bytes of a token are bytes, sixteen of them
-abbrev AreBytes : List ℕ → Type 0
-AreBytes [] = Unit {0}
-AreBytes (b ∷ bytes) = (b < 256) × AreBytes bytes
-
-bytes_read : (bytes : List ℕ) → AreBytes bytes → IsBytes bytes
-bytes_read [] are i = omega arith
-bytes_read (b ∷ bytes) are zero = are.0
-bytes_read (b ∷ bytes) are (suc i) = bytes_read bytes are.1 i
-
-byte_small : (k n : ℕ) → byte_at k n < 256
-byte_small zero n = omega arith
-byte_small (suc k) n = omega arith
-
-high_first_bytes : (k n : ℕ) (more : List ℕ) → AreBytes more → AreBytes (bytes_high_first k n ++ more)
-high_first_bytes zero n more are = are
-high_first_bytes (suc k) n more are = (byte_small k n, high_first_bytes k n more are)
-
-pub token_bytes : (token : Token) → IsBytes (bytes_of token)
-unfolding bytes_of
-token_bytes token =
-    bytes_read (bytes_of token)
-    (high_first_bytes 8 token.high (to_be_bytes w64 token.low)
-    (subst AreBytes (append_nil_8 token.low) (high_first_bytes 8 token.low [] tt)))
-  where
-    append_nil_8 : (n : ℕ) → bytes_high_first 8 n ++ [] ≡ to_be_bytes w64 n
-    append_nil_8 n = refl
-
-pub token_length : (token : Token) → length (bytes_of token) ≡ 16
-unfolding bytes_of
-token_length token = refl
 
 -- two digits lack every byte that is no digit
 pad2_lacks : (n : ℕ) → Lacks 44 (pad2 n)
@@ -148,18 +111,6 @@ pub moment_lacks : (moment : ℕ) (text : List ℕ) → moment < 4_102_444_800_0
 moment_lacks moment text small is =
     let civil = is.civil (omega arith) in
     subst (Lacks 44) (sym civil.shown) (lacks-append 44 (date_text civil.date) (clock_text (moment % 86_400_000)) (date_lacks civil.date) (clock_lacks (moment % 86_400_000)))
-
--- a date from 1970 on has a year that is not negative
-before_epoch : (date : Date) → date.year <ℤ pos 1970 → epoch_day date <ℤ pos 0
-before_epoch date early =
-    omega (arith, signed_arith, days_from_civil-day_count, day_count-epoch, day_count-lt_year date.year date.month date.day (pos 1970) 1 1 (civil date) (omega arith) early)
-
-pub year_of : (date : Date) (day : ℕ) → epoch_day date ≡ pos day → (year : ℕ) × (date.year ≡ pos year)
-year_of date day is = positive date.year (by_lt_z date.year (pos 1970) (λ early. absurd (omega (arith, signed_arith, before_epoch date early, is))) (λ late. late))
-  where
-    positive : (year : ℤ) → pos 1970 ≤ℤ year → (n : ℕ) × (year ≡ pos n)
-    positive (pos n) late = (n, refl)
-    positive (negsuc n) late = absurd (omega (arith, signed_arith))
 
 -- the ten bytes of a date from 1970 on
 abbrev pub date_bytes : ℕ → ℕ → ℕ → List ℕ

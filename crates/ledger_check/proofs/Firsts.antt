@@ -6,8 +6,7 @@ use Rattle.std.specs.List.Sorted.{IsStrictlySortedBy}
 use Rattle.std.specs.Map.{keys_of, lookup}
 use Rattle.std.specs.Option.{unwrap_or}
 use Rattle.std.specs.Ordering.{is_lt}
-use Rattle.std.specs.declared.cmp.Ordering.{Ordering}
-use Rattle.std.specs.declared.cmp.Ordering.TheVariants.{Less, Equal, Greater}
+use Rattle.std.specs.declared.cmp.Ordering.TheVariants.{Less}
 use Rattle.std.proofs.lemmas.List.Elements.{All-head, All-tail}
 use Rattle.std.proofs.lemmas.Map.{lookup-none}
 use Rattle.std.proofs.lemmas.Map.Entries.{lookup_head, lookup_tail, none_below_head}
@@ -16,6 +15,7 @@ use Rattle.tap_views.specs.TapOrder.{tap_cmp}
 use Rattle.tap_views.specs.declared.encoder.TapFields.{TapFields}
 use Rattle.ledger_check.specs.Balances.{left_at}
 use Rattle.tap_views.proofs.TapOrders.{tap_cmp_total}
+use Rattle.tap_views.proofs.Orderings.{less_of}
 
 -- none is left by this entry
 abbrev pub Zero : TapFields × ℕ → Type 0
@@ -44,11 +44,6 @@ below (first ∷ done) entry rest tap sorted zero less =
     by_test false e later =
         ap (λ (o : Option ℕ). unwrap_or o 0)
         (lookup_tail (is_at (tap_cmp tap)) first (done ++ entry ∷ rest) e) ∙ later
-
-less_of : (r : Ordering) → is_lt r ≡ true → r ≡ Less
-less_of Less e = refl
-less_of Equal e = absurd cc
-less_of Greater e = absurd cc
 
 -- where none are left of the entries before this one, no tap of which some are left is below it
 pub none_before : (left : BTreeMap TapFields ℕ) (done : List (TapFields × ℕ)) (entry : TapFields × ℕ)

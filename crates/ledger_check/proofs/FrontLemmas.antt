@@ -1,5 +1,5 @@
 -- A line tells one tap.
-use Rattle.std.proofs.Common.{◌≡◌, ℕ, ◌+◌, ◌*◌, ◌/◌, ◌%◌, ◌^◌, ◌<◌, ◌≤◌, ℤ, pos, List, [], ◌∷◌, ◌++◌, length, get_or, take, drop, Ok, refl, sym, ap, subst, ◌∙◌, arith, decimal}
+use Rattle.std.proofs.Common.{◌≡◌, ℕ, ◌+◌, ◌/◌, ◌%◌, ◌^◌, ◌<◌, pos, List, ◌∷◌, ◌++◌, get_or, Ok, refl, sym, ap, subst, ◌∙◌, arith, decimal}
 use Rattle.std.proofs.lemmas.Fmt.{decimal_injective}
 use Rattle.hex.specs.Hex.{decode_sized, encode_lower}
 use Rattle.hex.proofs.HexLemmas.{decode_sized-encode_lower}
@@ -8,13 +8,14 @@ use Rattle.jiff_core.specs.Date.{epoch_day}
 use Rattle.jiff_core.proofs.DateLemmas.{epoch_day_same}
 use Rattle.jiff_fmt.specs.Text.{date_text}
 use Rattle.fare_texts.specs.Moments.{IsMomentText, clock_text}
+use Rattle.fare_texts.proofs.Years.{year_of}
 use Rattle.tap_views.specs.Token.{Fits, bytes_of}
 use Rattle.tap_views.specs.declared.token.Token.{Token}
 use Rattle.tap_views.proofs.TokenLemmas.{bytes_of-injective}
-use Rattle.ledger_check.specs.Lines.{Lacks}
-use Rattle.ledger_check.specs.Recounts.{IsCentsField, IsLineOfTap}
+use Rattle.tap_views.proofs.TokenBytes.{token_bytes, token_length}
+use Rattle.ledger_check.specs.Recounts.{IsLineOfTap}
 use Rattle.ledger_check.specs.inside.Fronts.{HasFront}
-use Rattle.ledger_check.proofs.FieldLemmas.{date_bytes, date_shown, decimal_lacks, moment_lacks, moment_parts, token_bytes, token_lacks, token_length, year_of}
+use Rattle.ledger_check.proofs.FieldLemmas.{date_bytes, date_shown, decimal_lacks, moment_lacks, moment_parts, token_lacks}
 use Rattle.ledger_check.proofs.LineLemmas.{same_cut}
 use Rattle.ledger_check.proofs.MomentLemmas.{clock_number}
 

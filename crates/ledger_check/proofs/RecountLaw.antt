@@ -1,5 +1,5 @@
 -- A recount finds no line wrong exactly if the text is a ledger.
-use Rattle.std.proofs.Common.{◌≡◌, ◌≢◌, ℕ, ◌+◌, ◌^◌, ◌<◌, ◌≤◌, ◌⊎◌, inl, inr, Bool, true, false, List, [], ◌∷◌, ◌++◌, length, map, All, Option, None, Some, refl, sym, ap, subst, ◌∙◌, arith, append_assoc, append-nil, length-append, if◌then◌else◌}
+use Rattle.std.proofs.Common.{◌≡◌, ◌≢◌, ℕ, ◌+◌, ◌^◌, ◌<◌, ◌≤◌, inl, Bool, true, false, List, [], ◌∷◌, ◌++◌, length, map, All, Option, None, Some, refl, sym, ap, subst, ◌∙◌, arith, append_assoc, length-append, if◌then◌else◌}
 use Rattle.std.proofs.lemmas.List.{map-append}
 use Rattle.std.proofs.lemmas.Slice.Eq.{bytes_eq-Decides}
 use Rattle.std.specs.Str.{bytes_eq}
@@ -10,14 +10,14 @@ use Rattle.tap_views.specs.declared.encoder.TapFields.{TapFields}
 use Rattle.tap_views.specs.declared.token.Token.{Token}
 use Rattle.fare_texts.specs.LedgerLines.{head_text, IsLedgerLineAfter, line_head, entry_fields}
 use Rattle.fare_texts.specs.Tellers.{next_entry}
-use Rattle.ledger_check.specs.Ledger.{AreNext, IsLedger, IsLedgerOf, IsNext, IsNextLine, token_number}
+use Rattle.ledger_check.specs.Ledger.{AreNext, IsNext, IsNextLine, token_number}
 use Rattle.ledger_check.specs.Lines.{lines_of}
 use Rattle.ledger_check.specs.Struck.{tap_of_entry}
-use Rattle.ledger_check.specs.Recounts.{AreTaken, IsCounted, IsJudged, IsLineOfTap, IsRecount, RecountDecides, RecountsDecide, TakenLine, falls_after, lines_from, one_wrong, run_of, run_with, taps_from, taps_with, told_for, with_first, wrong_count}
+use Rattle.ledger_check.specs.Recounts.{AreTaken, IsCounted, IsJudged, IsLineOfTap, RecountsDecide, TakenLine, falls_after, lines_from, one_wrong, run_of, run_with, taps_from, taps_with, told_for, with_first, wrong_count}
 use Rattle.ledger_check.specs.declared.walk.CountedTap.{CountedTap}
 use Rattle.ledger_check.specs.declared.walk.Told.{Told}
-use Rattle.ledger_check.specs.declared.walk.Told.TheVariants.{Nothing, Wants, NoLine}
-use Rattle.ledger_check.proofs.EntryLists.{next-parts, next-push}
+use Rattle.ledger_check.specs.declared.walk.Told.TheVariants.{Nothing, NoLine}
+use Rattle.ledger_check.proofs.EntryLists.{next-parts, next-push, none_left}
 use Rattle.ledger_check.proofs.FieldLemmas.{decimal_lacks, first_fields}
 use Rattle.ledger_check.proofs.FrontLemmas.{tap_same_of_line}
 use Rattle.ledger_check.proofs.RunLemmas.{State, no_fall, ruled_replied, state_push, unfallen}
@@ -215,10 +215,6 @@ snoc head lines (b ∷ before) last some is =
     let rest : before ++ last ∷ [] ≡ lines = cc in
     record { rest = before; front = ap (λ (l : List ℕ). l ∷ before) first; whole = sym rest }
 
-none_after : (fares : Fares) (earlier after : List Entry) → AreNext fares earlier after [] → after ≡ []
-none_after fares earlier [] rest = refl
-none_after fares earlier (e ∷ after) rest = absurd rest
-
 -- the lines of a ledger are all right
 pub record AllRight (fares : Fares) (taken : List TakenLine) (entries : List Entry) (lines : List (List ℕ)) : Type 0 where
   pub none : wrong_count taken ≡ 0
@@ -232,7 +228,7 @@ all_right_at : (fares : Fares) (next : TakenLine) (taken : List TakenLine) → A
 all_right_at fares first [] are before entries lines split next =
     let head : first.line ≡ head_text = cc in
     let empty : lines ≡ [] = cc in
-    let none : entries ≡ [] = none_after fares [] entries (subst (λ (ls : List (List ℕ)). AreNext fares [] entries ls) empty next) in
+    let none : entries ≡ [] = none_left fares [] entries (subst (λ (ls : List (List ℕ)). AreNext fares [] entries ls) empty next) in
     let told : first.finding.told ≡ Nothing = are.1.1 ∙ ap (λ (b : Bool). if b then Nothing else NoLine) ((bytes_eq-Decides first.line head_text).1 head) in
     let here : one_wrong first.finding.told ≡ 0 = ap one_wrong told in
     record {
@@ -247,7 +243,7 @@ all_right_at fares next (last ∷ earlier) are before entries lines split nexts 
     let parts = next-parts fares [] entries cut.rest next.line [] (subst (λ (ls : List (List ℕ)). AreNext fares [] entries ls) cut.whole nexts) in
     let rest = before parts.entries cut.rest cut.front parts.are in
     let one = legal_step fares (run_of taken) parts.entries next.line next.finding.tap next.finding.told next.wanted parts.entry are.1 rest.legal.state parts.is in
-    let whole : entries ≡ parts.entries ++ parts.entry ∷ [] = parts.whole ∙ ap (λ (es : List Entry). parts.entries ++ parts.entry ∷ es) (none_after fares _ parts.after parts.rest) in
+    let whole : entries ≡ parts.entries ++ parts.entry ∷ [] = parts.whole ∙ ap (λ (es : List Entry). parts.entries ++ parts.entry ∷ es) (none_left fares _ parts.after parts.rest) in
     let before_none : wrong_count taken ≡ 0 = rest.none in
     let here : one_wrong next.finding.told ≡ 0 = one.none in
     record {

@@ -1,5 +1,5 @@
 -- What a check of the next line finds, by what its parts found.
-use Rattle.std.proofs.Common.{◌≡◌, ℕ, ◌+◌, ◌^◌, ◌<◌, ◌≤◌, List, [], ◌∷◌, ◌++◌, length, All, Option, Some, refl, sym, ap, subst, ◌∙◌, arith, length-append}
+use Rattle.std.proofs.Common.{◌≡◌, ℕ, ◌+◌, ◌^◌, ◌<◌, ◌≤◌, List, [], ◌∷◌, ◌++◌, length, All, Option, Some, sym, ap, subst, ◌∙◌, arith, length-append}
 use Rattle.fare_table.specs.Fares.{Fares}
 use Rattle.account_rule.specs.declared.reason.Reason.{Reason}
 use Rattle.shard_book.specs.Entry.{own}
@@ -14,7 +14,7 @@ use Rattle.ledger_check.specs.inside.Replays.{GoesOn}
 use Rattle.ledger_check.specs.inside.Taps.{IsEntryOfTap, TellsTap}
 use Rattle.ledger_check.specs.declared.replay.Replay.{Replay}
 use Rattle.ledger_check.specs.declared.tap.Tap.{Tap}
-use Rattle.ledger_check.proofs.EntryLists.{next-parts, next-push}
+use Rattle.ledger_check.proofs.EntryLists.{next-parts, next-push, none_left}
 use Rattle.ledger_check.proofs.SameLines.{next_same}
 use Rattle.ledger_check.proofs.TokenOrder.{own-few}
 
@@ -30,10 +30,6 @@ last_of fares replay lines line read others are =
       parts.whole ∙ ap (λ (es : List Entry). parts.entries ++ parts.entry ∷ es) (none_left fares ((parts.entries) ++ parts.entry ∷ []) parts.after parts.rest)
           ∙ ap (λ (es : List Entry). es ++ parts.entry ∷ []) same,
     )
-  where
-    none_left : (fares : Fares) (earlier after : List Entry) → AreNext fares earlier after [] → after ≡ []
-    none_left fares earlier [] rest = refl
-    none_left fares earlier (e ∷ after) rest = absurd rest
 
 -- a line that no entry can have after those that were read is wrong
 pub wrong : (fares : Fares) (replay : Replay) (lines : List (List ℕ)) (line : List ℕ) (read : HasRead fares replay lines)

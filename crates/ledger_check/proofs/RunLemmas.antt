@@ -1,34 +1,21 @@
 -- The entries of the last token, and the entries of all.
-use Rattle.std.proofs.Common.{◌≡◌, ◌≢◌, ℕ, ◌+◌, ◌*◌, ◌^◌, ◌<◌, ◌≤◌, ◌⊎◌, inl, inr, ⊎_elim, Bool, true, false, cond, List, [], ◌∷◌, ◌++◌, length, get_or, filter, map, All, refl, sym, ap, subst, ◌∙◌, arith, zero, suc, length-append, le_of_eq}
+use Rattle.std.proofs.Common.{◌≡◌, ℕ, ◌+◌, ◌<◌, ◌≤◌, ◌⊎◌, inl, inr, ⊎_elim, Bool, true, false, cond, List, [], ◌∷◌, ◌++◌, length, get_or, filter, All, refl, sym, ap, subst, ◌∙◌, arith, zero, suc, length-append, le_of_eq}
 use Rattle.std.specs.Prelude.{nat_lt}
-use Rattle.std.proofs.lemmas.Bool.{cases_Bool, cases_lt}
+use Rattle.std.proofs.lemmas.Bool.{cases_lt}
 use Rattle.std.proofs.lemmas.Bool.Decides.{nat_tests}
 use Rattle.std.proofs.lemmas.List.Elements.{All-filter, All-push}
 use Rattle.fare_table.specs.Fares.{Fares}
-use Rattle.account_rule.specs.Replies.{reply}
-use Rattle.account_rule.specs.TokenRules.{rules_of}
 use Rattle.shard_book.specs.Entry.{is_of, own, reply_of, tap_of, taps_of}
 use Rattle.shard_book.specs.History.{IsReplied}
 use Rattle.shard_book.specs.declared.entry.Entry.{Entry}
-use Rattle.tap_views.proofs.TokenLemmas.{same_token, token_eq-refl}
-use Rattle.tap_views.specs.Token.{Fits, token_eq}
+use Rattle.shard_book.proofs.OwnEntries.{own_all}
+use Rattle.tap_views.proofs.TokenLemmas.{same_token}
+use Rattle.tap_views.specs.Token.{Fits}
 use Rattle.tap_views.specs.declared.token.Token.{Token}
 use Rattle.fare_texts.specs.Tellers.{next_entry}
 use Rattle.ledger_check.specs.Ledger.{token_number}
 use Rattle.ledger_check.specs.Recounts.{falls_after}
 use Rattle.ledger_check.proofs.TokenOrder.{own-above, own-more}
-
-tail-all : {X : Type 0} (P : X → Type 0) (x : X) (xs : List X) → All P (x ∷ xs) → All P xs
-tail-all P x xs all = λ k d within. all (suc k) d (omega arith)
-
--- entries that are all a token's
-pub own-all : (token : Token) (run : List Entry) → All (λ entry. entry.token ≡ token) run → own token run ≡ run
-unfolding own
-own-all token [] all = refl
-own-all token (e ∷ run) all =
-    let first : e.token ≡ token = all 0 e (omega arith) in
-    ap (λ (test : Bool). cond test (e ∷ filter (is_of token) run) (filter (is_of token) run)) (ap (λ (t : Token). token_eq t token) first ∙ token_eq-refl token)
-    ∙ ap (λ (es : List Entry). e ∷ es) (own-all token run (tail-all (λ (x : Entry). x.token ≡ token) e run all))
 
 -- a token's entries are the token's
 pub own-of : (token : Token) (entries : List Entry) → All (λ entry. entry.token ≡ token) (own token entries)
@@ -93,7 +80,7 @@ unfallen run entries token (inr last) fits up =
     let most : token_number last.last ≤ token_number token = grind (arith, nat_tests) in
     let is : last.last ≡ token = number_exact last.last token last.fits fits (omega (arith, least, most)) in
     record {
-      same = subst (λ (t : Token). own t run ≡ own t entries) is (own-all last.last run last.all ∙ sym last.owned);
+      same = subst (λ (t : Token). own t run ≡ own t entries) is (own_all last.last run last.all ∙ sym last.owned);
       up_to = λ k d within. let at = last.up_to k d within in omega (arith, at, most);
     })
     (cases_lt (token_number last.last) (token_number token))

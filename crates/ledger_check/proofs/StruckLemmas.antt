@@ -1,5 +1,5 @@
 -- What was struck out, by the lines that were read.
-use Rattle.std.proofs.Common.{◌≡◌, ℕ, Bool, true, false, List, [], ◌∷◌, ◌++◌, map, Option, Some, None, is_some, refl, sym, ap, subst, ◌∙◌}
+use Rattle.std.proofs.Common.{◌≡◌, ℕ, true, false, List, [], ◌∷◌, ◌++◌, map, Option, Some, None, is_some, sym, ap, subst, ◌∙◌}
 use Rattle.std.proofs.lemmas.List.{map-append}
 use Rattle.fare_table.specs.Fares.{Fares}
 use Rattle.fare_texts.specs.LedgerLines.{head_text}
@@ -8,7 +8,7 @@ use Rattle.shard_book.specs.declared.entry.Entry.{Entry}
 use Rattle.ledger_check.specs.Balances.{IsBalance}
 use Rattle.ledger_check.specs.declared.balance.Balance.{Balance}
 use Rattle.tap_views.specs.declared.encoder.TapFields.{TapFields}
-use Rattle.ledger_check.specs.Ledger.{AreNext, IsLedgerOf}
+use Rattle.ledger_check.specs.Ledger.{IsLedgerOf}
 use Rattle.ledger_check.specs.Struck.{AreStruck, AreTapsOfLines, HasStruck, IfUntold, tap_of_entry}
 use Rattle.ledger_check.specs.Lines.{IsLine}
 use Rattle.ledger_check.specs.inside.Taps.{IsEntryOfTap, TellsTap, tap_fields}
@@ -17,22 +17,18 @@ use Rattle.ledger_check.specs.declared.checker.Checker.{Checker}
 use Rattle.ledger_check.specs.declared.checker.Verdict.{Verdict}
 use Rattle.ledger_check.specs.declared.tap.Tap.{Tap}
 use Rattle.ledger_check.proofs.CheckerLemmas.{ended_at_line, took_whole}
-use Rattle.ledger_check.proofs.EntryLists.{next-parts}
+use Rattle.ledger_check.proofs.EntryLists.{next-parts, none_left}
 use Rattle.ledger_check.proofs.ReplayLemmas.{tap_of_next}
 
 tap_same : (tap : Tap) (entry : Entry) → IsEntryOfTap tap entry → tap_of_entry entry ≡ tap_fields tap
 tap_same tap entry is = λ i. record { token = bytes_of (is.token i); validator = is.validator i; moment = is.moment i }
-
-none_after : (fares : Fares) (earlier after : List Entry) → AreNext fares earlier after [] → after ≡ []
-none_after fares earlier [] rest = refl
-none_after fares earlier (e ∷ after) rest = absurd rest
 
 -- the head line has no tap
 pub struck_head : (fares : Fares) (lines : List (List ℕ)) (line : List ℕ) (balance : Balance) (good : List TapFields) → lines ≡ []
     → AreStruck fares lines balance good → AreStruck fares (lines ++ line ∷ []) balance good
 struck_head fares [] line balance good none struck = record {
   taps = struck.taps;
-  told = λ entries are. ap (map tap_of_entry) (none_after fares [] entries are) ∙ sym struck.told;
+  told = λ entries are. ap (map tap_of_entry) (none_left fares [] entries are) ∙ sym struck.told;
   is = struck.is;
 }
 struck_head fares (l ∷ lines) line balance good none struck = absurd cc
@@ -42,7 +38,7 @@ line_more : (fares : Fares) (rest : List (List ℕ)) (line : List ℕ) (taps : L
     → AreTapsOfLines fares (head_text ∷ rest) taps → AreTapsOfLines fares (head_text ∷ (rest ++ line ∷ [])) (taps ++ tap_fields tap ∷ [])
 line_more fares rest line taps tap tells told = λ entries are.
     let parts = next-parts fares [] entries rest line [] are in
-    let whole : entries ≡ parts.entries ++ parts.entry ∷ [] = parts.whole ∙ ap (λ (es : List Entry). parts.entries ++ parts.entry ∷ es) (none_after fares _ parts.after parts.rest) in
+    let whole : entries ≡ parts.entries ++ parts.entry ∷ [] = parts.whole ∙ ap (λ (es : List Entry). parts.entries ++ parts.entry ∷ es) (none_left fares _ parts.after parts.rest) in
     let of = tap_of_next fares parts.entries parts.entry line tap tells parts.is in
     ap (map tap_of_entry) whole ∙ map-append tap_of_entry parts.entries (parts.entry ∷ [])
     ∙ ap (λ (ts : List TapFields). ts ++ tap_of_entry parts.entry ∷ []) (told parts.entries parts.are)

@@ -1,9 +1,9 @@
 -- Tokens in their order, and the entries of one of them.
-use Rattle.std.proofs.Common.{◌≡◌, ◌≢◌, ℕ, ◌+◌, ◌*◌, ◌^◌, ◌<◌, ◌≤◌, Bool, true, false, cond, List, [], ◌∷◌, ◌++◌, length, get_or, filter, map, All, Less, Equal, Greater, refl, sym, ap, subst, ◌∙◌, arith, zero, suc, length-append, ⊎_elim}
+use Rattle.std.proofs.Common.{◌≡◌, ℕ, ◌+◌, ◌<◌, ◌≤◌, Bool, true, false, cond, List, [], ◌∷◌, ◌++◌, length, filter, All, Less, Greater, refl, ap, ◌∙◌, arith, ⊎_elim}
 use Rattle.std.proofs.lemmas.Bool.{cases_Bool}
 use Rattle.std.proofs.lemmas.Bool.Decides.{nat_tests}
-use Rattle.std.proofs.lemmas.List.Elements.{filter-append}
-use Rattle.shard_book.specs.Entry.{is_of, own, taps_of}
+use Rattle.std.proofs.lemmas.List.Elements.{filter-append, All-tail}
+use Rattle.shard_book.specs.Entry.{is_of, own}
 use Rattle.tap_views.specs.Token.{Fits, token_cmp, token_eq}
 use Rattle.shard_book.specs.declared.entry.Entry.{Entry}
 use Rattle.tap_views.specs.declared.token.Token.{Token}
@@ -23,9 +23,6 @@ not_of a b less =
     (λ (apart : token_eq a b ≡ false). apart)
     (cases_Bool (token_eq a b))
 
-tail-all : {X : Type 0} (P : X → Type 0) (x : X) (xs : List X) → All P (x ∷ xs) → All P xs
-tail-all P x xs all = λ k d within. all (suc k) d (omega arith)
-
 -- a token that is above all entries' has none of them
 pub own-above : (token : Token) (entries : List Entry) (limit : ℕ) → All (λ entry. token_number entry.token ≤ limit) entries → limit < token_number token → own token entries ≡ []
 unfolding own
@@ -33,7 +30,7 @@ own-above token [] limit up_to above = refl
 own-above token (e ∷ entries) limit up_to above =
     let first : token_number e.token ≤ limit = up_to 0 e (omega arith) in
     ap (λ (test : Bool). cond test (e ∷ filter (is_of token) entries) (filter (is_of token) entries)) (not_of e.token token (omega arith))
-    ∙ own-above token entries limit (tail-all (λ (x : Entry). token_number x.token ≤ limit) e entries up_to) above
+    ∙ own-above token entries limit (All-tail (λ (x : Entry). token_number x.token ≤ limit) e entries up_to) above
 
 -- a token's entries with one more of its own
 pub own-more : (token : Token) (entries : List Entry) (entry : Entry) → entry.token ≡ token → own token (entries ++ entry ∷ []) ≡ own token entries ++ entry ∷ []

@@ -1,12 +1,13 @@
 -- A walk's teller, and the entries of the last token.
-use Rattle.std.proofs.Common.{◌≡◌, ℕ, ◌+◌, ◌^◌, ◌<◌, ◌≤◌, Bool, true, false, cond, List, [], ◌∷◌, ◌++◌, length, filter, All, Option, None, Some, refl, sym, ap, subst, ◌∙◌, arith, zero, suc, length-append}
+use Rattle.std.proofs.Common.{◌≡◌, ◌+◌, ◌<◌, Bool, true, false, cond, List, [], ◌∷◌, ◌++◌, filter, All, Some, refl, sym, ap, subst, ◌∙◌, arith, length-append}
 use Rattle.std.specs.Prelude.{nat_lt}
 use Rattle.std.proofs.lemmas.Bool.{lt-ltb}
 use Rattle.std.proofs.lemmas.Bool.Decides.{nat_tests}
-use Rattle.std.proofs.lemmas.List.Elements.{All-push}
+use Rattle.std.proofs.lemmas.List.Elements.{All-push, All-tail}
 use Rattle.fare_table.specs.Fares.{Fares}
 use Rattle.shard_book.specs.Entry.{is_of, own}
 use Rattle.shard_book.specs.declared.entry.Entry.{Entry}
+use Rattle.shard_book.proofs.OwnEntries.{own_all}
 use Rattle.tap_views.proofs.TokenLemmas.{same_token}
 use Rattle.tap_views.specs.Token.{Fits, token_eq}
 use Rattle.tap_views.specs.declared.token.Token.{Token}
@@ -15,14 +16,11 @@ use Rattle.fare_texts.specs.declared.teller.Teller.{Teller}
 use Rattle.ledger_check.specs.Ledger.{token_number}
 use Rattle.ledger_check.specs.Recounts.{falls_after}
 use Rattle.ledger_check.specs.RecountStates.{HasRunTeller, StandsForRun}
-use Rattle.ledger_check.proofs.RunLemmas.{falls_is, own-all, own-of}
+use Rattle.ledger_check.proofs.RunLemmas.{falls_is, own-of}
 
 pub run_none : (token : Token) (run : List Entry) → run ≡ [] → own token run ≡ []
 unfolding own
 run_none token run none = ap (own token) none
-
-tail-all : {X : Type 0} (P : X → Type 0) (x : X) (xs : List X) → All P (x ∷ xs) → All P xs
-tail-all P x xs all = λ k d within. all (suc k) d (omega arith)
 
 -- entries of another token
 pub own-apart : (token other : Token) (run : List Entry) → All (λ entry. entry.token ≡ other) run → token_eq other token ≡ false → own token run ≡ []
@@ -30,7 +28,7 @@ unfolding own
 own-apart token other [] all apart = refl
 own-apart token other (e ∷ run) all apart =
     ap (λ (test : Bool). cond test (e ∷ filter (is_of token) run) (filter (is_of token) run)) (ap (λ (t : Token). token_eq t token) (all 0 e (omega arith)) ∙ apart)
-    ∙ own-apart token other run (tail-all (λ (x : Entry). x.token ≡ other) e run all) apart
+    ∙ own-apart token other run (All-tail (λ (x : Entry). x.token ≡ other) e run all) apart
 
 apart_of : (a b : Token) → (token_number a ≡ token_number b → ⊥) → token_eq a b ≡ false
 apart_of a b other = by_test (token_eq a b) refl
@@ -58,7 +56,7 @@ pub run_equal : (fares : Fares) (teller : Teller) (run : List Entry) (token : To
     → (own token run ≡ run) × (falls_after run token ≡ false)
 run_equal fares teller run token stands same =
     let number : token_number teller.token ≡ token_number token = ap (λ (t : Token). token_number t) same in (
-      own-all token run (subst (λ (t : Token). All (λ (e : Entry). e.token ≡ t) run) same stands.of_token),
+      own_all token run (subst (λ (t : Token). All (λ (e : Entry). e.token ≡ t) run) same stands.of_token),
       falls_is run teller.token token stands.of_token stands.some ∙ (let e : nat_lt (token_number token) (token_number teller.token) ≡ false = grind (arith, nat_tests) in e),
     )
 

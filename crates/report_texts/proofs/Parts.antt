@@ -5,18 +5,15 @@ use Rattle.std.proofs.KnownBytes.{Appends-trans}
 use Rattle.std.specs.List.{flat_map}
 use Rattle.std.proofs.Common.{get_or, length-take}
 use Rattle.std.proofs.lemmas.List.{take_more, take_all, flat_map_more}
-use Rattle.std.proofs.lemmas.Option.{slice_get_within, get_or_from_slice_get}
 use Rattle.std.proofs.Common.{sym, ◌∙◌, ap, subst, append_assoc, append-nil, arith, add-zero}
 use Rattle.shard_book.specs.Sums.{Sums}
 use Rattle.tap_views.specs.declared.token.Token.{Token}
+use Rattle.tap_views.proofs.Lists.{take_next}
 use Rattle.fare_texts.specs.ReportLines.{token_line}
+use Rattle.fare_texts.proofs.Parts.{in_parts}
 use Rattle.report_texts.specs.Report.{upload_line, upload_lines}
 use Rattle.report_texts.specs.declared.upload_end.UploadEnd.{UploadEnd}
 use Rattle.report_texts.specs.declared.upload_end.UploadEnd.TheVariants.{Posted}
-
--- what was written in two parts is what stood there and both parts
-pub in_parts : (start middle done first second : List ℕ) → middle ≡ start ++ first → done ≡ middle ++ second → done ≡ start ++ (first ++ second)
-in_parts start middle done first second a b = b ∙ (ap (λ text. text ++ second) a ∙ append_assoc start first second)
 
 -- a line of a word, a number and what follows, of which the rest was written after the two
 pub in_line : (start middle done word number rest : List ℕ) → middle ≡ start ++ (word ++ (number ++ codes " ")) → done ≡ middle ++ rest
@@ -30,19 +27,11 @@ pub four_counts : (start one two three done a m b n c o d p : List ℕ) → one 
     → done ≡ (a ++ (m ++ (b ++ (n ++ (c ++ (o ++ (d ++ p))))))) ++ start
 four_counts start one two three done a m b n c o d p first second third fourth = simp append_assoc (rw (third, second, first) at fourth)
 
--- one token more
-token_more : (sums : List (Token × Sums)) (i : ℕ) (sum : Token × Sums) → slice_get sums i ≡ Some sum
-    → flat_map token_line (take i sums) ++ token_line sum ≡ flat_map token_line (take (i + 1) sums)
-token_more sums i sum at =
-    flat_map_more token_line [] (take i sums) sum
-    ∙ ap (λ taken. flat_map token_line taken)
-    (ap (λ s. take i sums ++ s ∷ []) (sym (get_or_from_slice_get sums i sum sum at)) ∙ sym (take_more sums i sum (slice_get_within sums i sum at)))
-
 -- the lines before a token's, and its line
 pub next_token : (a b c : Option (List ℕ)) (line : List ℕ) (sums : List (Token × Sums)) (i : ℕ) (sum : Token × Sums) → slice_get sums i ≡ Some sum
     → Appends a b (flat_map token_line (take i sums)) → line ≡ token_line sum → Appends b c line → Appends a c (flat_map token_line (take (i + 1) sums))
 next_token a b c line sums i sum at before shown more =
-    subst (λ (text : List ℕ). Appends a c text) (ap (λ (last : List ℕ). flat_map token_line (take i sums) ++ last) shown ∙ token_more sums i sum at)
+    subst (λ (text : List ℕ). Appends a c text) (ap (λ (last : List ℕ). flat_map token_line (take i sums) ++ last) shown ∙ (flat_map_more token_line [] (take i sums) sum ∙ ap (λ taken. flat_map token_line taken) (take_next sums i sum at)))
     (Appends-trans a b c (flat_map token_line (take i sums)) line before more)
 
 -- what waits is written after what was
@@ -60,7 +49,7 @@ last_out a b c start waits sums i all p q =
     subst (λ (taken : List (Token × Sums)). Appends a c (start ++ flat_map token_line taken)) (take_all i sums all) (waits_out a b c start waits (flat_map token_line (take i sums)) p q)
 
 -- one upload more
-upload_lines-push : (upload : ℕ) (ends : List UploadEnd) (end : UploadEnd) → upload_lines upload (ends ++ end ∷ []) ≡ upload_lines upload ends ++ upload_line (upload + length ends) end
+pub upload_lines-push : (upload : ℕ) (ends : List UploadEnd) (end : UploadEnd) → upload_lines upload (ends ++ end ∷ []) ≡ upload_lines upload ends ++ upload_line (upload + length ends) end
 upload_lines-push upload [] end = append-nil (upload_line upload end) ∙ ap (λ n. upload_line n end) (sym (add-zero upload))
 upload_lines-push upload (first ∷ ends) end =
     let next : (upload + 1) + length ends ≡ upload + length (first ∷ ends) = omega arith in

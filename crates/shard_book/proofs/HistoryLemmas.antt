@@ -1,20 +1,16 @@
 -- A history that is read entry by entry.
 use Rattle.std.proofs.Common.{◌≡◌, ℕ, ◌+◌, ◌<◌, ◌≤◌, List, [], ◌∷◌, ◌++◌, Some, None, length, take, slice_get, get_or, min, refl, sym, ap, ◌∙◌, ⊎_elim, arith}
-use Rattle.std.proofs.lemmas.List.{append_assoc, take_more}
+use Rattle.std.proofs.lemmas.List.{append_assoc}
 use Rattle.std.proofs.lemmas.List.Elements.{filter-append}
 use Rattle.std.proofs.lemmas.Bool.{cases_lt}
 use Rattle.std.proofs.lemmas.Option.{slice_get-get_or, slice_get_past, slice_get_within, get_or_from_slice_get}
 use Rattle.account_rule.specs.declared.reply.Reply.{Reply}
 use Rattle.shard_book.specs.declared.entry.Entry.{Entry}
 use Rattle.tap_views.specs.declared.token.Token.{Token}
+use Rattle.tap_views.proofs.Lists.{take_next}
 use Rattle.shard_book.specs.Entry.{is_of, own, reply_of}
 use Rattle.shard_book.specs.Sums.{Sums, sums, sums_of_replies, add_sums}
 use Rattle.shard_book.proofs.SumsLemmas.{sums-more}
-
--- the entries before a place, and the one there
-pub taken_at : (entries : List Entry) (i : ℕ) (entry : Entry) → slice_get entries i ≡ Some entry → take i entries ++ entry ∷ [] ≡ take (i + 1) entries
-taken_at entries i entry at =
-    ap (λ (e : Entry). take i entries ++ e ∷ []) (sym (get_or_from_slice_get entries i entry entry at)) ∙ sym (take_more entries i entry (slice_get_within entries i entry at))
 
 -- the sums of one entry more
 pub sums-read : (entries : List Entry) (i : ℕ) (entry : Entry) (answered : Reply) (old new : Sums) → slice_get entries i ≡ Some entry → answered ≡ reply_of entry → old ≡ sums (take i entries) → new ≡ add_sums old (sums_of_replies (answered ∷ [])) → new ≡ sums (take (i + 1) entries)
@@ -30,20 +26,20 @@ own-read first entries old new token i entry at before pushed =
     ∙ ap (λ (es : List Entry). es ++ own token (entry ∷ [])) before
     ∙ append_assoc first (own token (take i entries)) (own token (entry ∷ []))
     ∙ ap (λ (es : List Entry). first ++ es) (sym (filter-append (is_of token) (take i entries) (entry ∷ []))
-    ∙ ap (own token) (taken_at entries i entry at))
+    ∙ ap (own token) (take_next entries i entry at))
 
 -- one entry more behind others
 pub grown-read : (before entries : List Entry) (i : ℕ) (entry : Entry) → slice_get entries i ≡ Some entry → (before ++ take i entries) ++ entry ∷ [] ≡ before ++ take (i + 1) entries
 grown-read before entries i entry at =
-    append_assoc before (take i entries) (entry ∷ []) ∙ ap (λ (es : List Entry). before ++ es) (taken_at entries i entry at)
+    append_assoc before (take i entries) (entry ∷ []) ∙ ap (λ (es : List Entry). before ++ es) (take_next entries i entry at)
 
 -- two histories that agree before a place, and at the place
 pub same-read : (left right : List Entry) (i : ℕ) (here there : Entry) → slice_get left i ≡ Some here → slice_get right i ≡ Some there → here ≡ there → take i left ≡ take i right → take (i + 1) left ≡ take (i + 1) right
 same-read left right i here there at other same before =
-    sym (taken_at left i here at)
+    sym (take_next left i here at)
     ∙ ap (λ (e : Entry). take i left ++ e ∷ []) same
     ∙ ap (λ (es : List Entry). es ++ there ∷ []) before
-    ∙ taken_at right i there other
+    ∙ take_next right i there other
 
 pub agree-more : (left right : List Entry) (i : ℕ) → i < length left → slice_get left i ≡ slice_get right i → take i left ≡ take i right → take (i + 1) left ≡ take (i + 1) right
 agree-more [] right i within same before = absurd (omega arith)

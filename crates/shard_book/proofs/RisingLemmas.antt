@@ -20,7 +20,7 @@ module _ {K : Type 0} {cmp : K → K → Ordering} (total : IsTotalOrder cmp) (t
   not_above key (k ∷ keys) below = rw below.0 (not_above key keys below.1)
 
   -- below the first of a rising list, below all of it
-  below_all : (key k : K) (keys : List K) → cmp key k ≡ Less → AllByRecursion (λ z. cmp k z ≡ Less) keys → AllByRecursion (λ z. cmp key z ≡ Less) keys
+  pub below_all : (key k : K) (keys : List K) → cmp key k ≡ Less → AllByRecursion (λ z. cmp k z ≡ Less) keys → AllByRecursion (λ z. cmp key z ≡ Less) keys
   below_all key k [] less above = tt
   below_all key k (z ∷ keys) less above = (total.trans key k z less above.0, below_all key k keys less above.1)
 

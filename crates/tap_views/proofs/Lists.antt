@@ -1,10 +1,11 @@
 -- What holds of each element of a list holds of its parts; and one filter after another.
 use Rattle.std.proofs.Common.{◌≡◌, ℕ, ◌==◌, Bool, true, false, List, [], ◌∷◌, ◌++◌, length, map, All}
-use Rattle.std.proofs.Common.{refl, sym, ap, ◌∙◌, append-nil}
+use Rattle.std.proofs.Common.{refl, sym, ap, ◌∙◌, append-nil, ◌+◌, Some, slice_get, take}
 use Rattle.std.specs.List.{AllByRecursion, filter}
 use Rattle.std.proofs.lemmas.Bool.{eqb-true}
-use Rattle.std.proofs.lemmas.List.{nil_from_length}
+use Rattle.std.proofs.lemmas.List.{nil_from_length, take_more}
 use Rattle.std.proofs.lemmas.List.Elements.{All-cons, All-head, All-nil, All-tail}
+use Rattle.std.proofs.lemmas.Option.{get_or_from_slice_get, slice_get_within}
 
 -- ---- of two lists, one behind the other
 pub All-front : {X : Type 0} (P : X → Type 0) (xs ys : List X) → All P (xs ++ ys) → All P xs
@@ -53,6 +54,13 @@ all_done done left all is none =
     sym (append-nil done)
     ∙ ap (λ more. done ++ more) (sym (nil_from_length left (eqb-true (length left) 0 none)))
     ∙ is
+
+-- the elements before a place, and the one there
+pub take_next : {X : Type 0} (xs : List X) (i : ℕ) (x : X) → slice_get xs i ≡ Some x
+    → take i xs ++ x ∷ [] ≡ take (i + 1) xs
+take_next {X = X} xs i x at =
+    ap (λ (y : X). take i xs ++ y ∷ []) (sym (get_or_from_slice_get xs i x x at))
+    ∙ sym (take_more xs i x (slice_get_within xs i x at))
 
 -- two tests keep the same elements in either order
 pub filter-filter : {X : Type 0} (p q : X → Bool) (xs : List X)

@@ -1,5 +1,6 @@
 -- The order of tokens is total, and only equal tokens tie; `==` of tokens is an equivalence.
 use Rattle.std.proofs.Common.{◌≡◌, ℕ, true, false, List, take, drop, refl, sym, ap, ◌∙◌, arith, w64}
+use Rattle.std.proofs.Common.{Bool, [], ◌∷◌, ◌++◌, ◌||◌}
 use Rattle.std.specs.Int.{to_be_bytes, from_be_bytes}
 use Rattle.std.specs.Cmp.{IsEquivalence, IsTotalOrder}
 use Rattle.std.specs.declared.cmp.Ordering.TheVariants.{Less, Equal}
@@ -7,6 +8,9 @@ use Rattle.std.proofs.lemmas.Bool.Decides.{nat_tests}
 use Rattle.std.proofs.lemmas.Cmp.{then_total, on_total, nat_cmp_total}
 use Rattle.std.proofs.lemmas.List.{take_at, drop_at}
 use Rattle.std.proofs.lemmas.Nat.{from_be_bytes-to_be_bytes_8}
+use Rattle.std.proofs.Math.Bool.{or_assoc}
+use Rattle.std.specs.Set.{is_member}
+use Rattle.std.specs.Ordering.{eq_by_cmp}
 use Rattle.tap_views.specs.declared.token.Token.{Token}
 use Rattle.tap_views.specs.Token.{Fits, bytes_of, token_cmp, token_eq}
 
@@ -31,6 +35,18 @@ token_cmp-ties a b tied = grind (arith, nat_tests)
 pub less_apart : (a b : Token) → token_cmp a b ≡ Less → token_eq b a ≡ false
 less_apart a b less = grind (arith, nat_tests)
 
+-- ---- whether a token is among those of a list
+abbrev pub among : List Token → Token → Bool
+among list token = is_member (eq_by_cmp token_cmp) list token
+
+pub among-append : (xs ys : List Token) (token : Token)
+    → among (xs ++ ys) token ≡ (among xs token || among ys token)
+among-append [] ys token = refl
+among-append (x ∷ xs) ys token =
+    ap (λ b. eq_by_cmp token_cmp token x || b) (among-append xs ys token)
+    ∙ sym (or_assoc (eq_by_cmp token_cmp token x) (among xs token) (among ys token))
+
+-- ---- the laws of `==`
 pub token_eq-laws : IsEquivalence token_eq
 token_eq-laws = record { refl = token_eq-refl; symm = token_eq-sym; congr = λ a b c same. ap (λ (t : Token). token_eq t c) (same_token a b same) }
 

@@ -1,8 +1,9 @@
-use Rattle.std.proofs.Common.{◌≡◌, ◌+◌, ◌*◌, ◌/◌, ◌%◌, ◌<◌, ℕ, List, Some, get_or, pos, ap, sym, ◌∙◌, arith}
-use Rattle.ledger_check.proofs.FieldLemmas.{date_shown, year_of}
+use Rattle.std.proofs.Common.{◌/◌, ◌%◌, ℕ, List, get_or, pos, ap, sym, ◌∙◌, arith}
+use Rattle.ledger_check.proofs.FieldLemmas.{date_shown}
 use Rattle.std.proofs.lemmas.Option.{same_Some}
 use Rattle.ledger_check.proofs.MomentLemmas.{day_small, month_small, year_number, year_small}
 use Rattle.ledger_check.proofs.moment.read_day.Goals as goal
+use Rattle.fare_texts.proofs.Years.{year_of}
 
 pub returns-in_err-century-clause-found : goal.returns-in_err-century-clause-found
 returns-in_err-century-clause-found c = λ date day is shown.

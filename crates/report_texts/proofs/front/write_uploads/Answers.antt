@@ -1,8 +1,8 @@
 use Rattle.std.proofs.Common.{codes, length, string_bytes}
 use Rattle.std.proofs.lemmas.Result.{on_ok_weaker}
 use Rattle.fare_texts.specs.ReportLines.{number_line}
+use Rattle.fare_texts.proofs.Parts.{in_parts}
 use Rattle.report_texts.specs.Report.{upload_lines}
-use Rattle.report_texts.proofs.Parts.{in_parts}
 use Rattle.report_texts.proofs.front.write_uploads.Goals as goal
 
 pub returns : goal.returns
