@@ -1,14 +1,9 @@
 -- One more file that was loaded.
-use Rattle.std.proofs.Common.{◌≡◌, ◌∙◌, ◌<◌, ℕ, List, [], ◌∷◌, ◌++◌, length, map, refl, ap, arith, append_assoc, Option, Some, None, Bor}
+use Rattle.std.proofs.Common.{◌≡◌, ◌∙◌, ◌<◌, ℕ, List, [], ◌∷◌, ◌++◌, length, map, refl, ap, arith, Option, Some, Bor}
 use Rattle.std.proofs.lemmas.List.{map-append}
 use Rattle.fare_program.specs.Program.{LoadsFiles, names_to_load}
-use Rattle.program_manners.specs.Loads.{Loaded, Tells, TellsOne}
-
-tells_on : (told told' told'' : Option (List Loaded)) (loads more : List Loaded) → Tells told told' loads → Tells told' told'' more → Tells told told'' (loads ++ more)
-tells_on None told' told'' loads more first then = tt
-tells_on (Some before) None told'' loads more first then = elim first [ ]
-tells_on (Some before) (Some now) None loads more first then = elim then [ ]
-tells_on (Some before) (Some now) (Some after) loads more first then = then ∙ ap (λ xs. xs ++ more) first ∙ append_assoc before loads more
+use Rattle.program_manners.specs.Loads.{Loaded, TellsOne}
+use Rattle.program_manners.proofs.Loading.{tells_on}
 
 pub loads_push : (names : List (Option (List ℕ))) (name : Option (List ℕ)) (told told' told'' : Option (List Loaded)) (files : List (List ℕ)) (bytes : List ℕ)
     → LoadsFiles names told told' files → TellsOne told' told'' name bytes → LoadsFiles (names ++ name ∷ []) told told'' (files ++ bytes ∷ [])

@@ -22,6 +22,7 @@ use Rattle.report_texts.specs.declared.upload_end.UploadEnd.TheVariants.{Posted,
 use Rattle.report_texts.specs.UploadEnds.{taps_told}
 use Rattle.fare_service.specs.Adding.{AddUp}
 use Rattle.shard_book.specs.Sums.{add_all}
+use Rattle.shard_book.proofs.SumsLemmas.{same_seven, sums-append, add_none}
 use Rattle.fare_service.specs.Headline.{Signed, end_of}
 use Rattle.fare_service.specs.inside.Closing.{IsClosedWork}
 use Rattle.fare_service.specs.ServiceView.{ServiceView}
@@ -33,7 +34,6 @@ use Rattle.fare_service.specs.Runs.{RunVisit, IsEntered, entries_of, taps_posted
 use Rattle.fare_service.specs.inside.Runs.{visits_to}
 use Rattle.fare_service.specs.Shares.{Worked, all_visits, IsWorkOf, IsEndOf, IsShareOf, all_works, file_at}
 use Rattle.fare_service.proofs.GatherLemmas.{has_gathered, times_same, fewer_after, not_drawn, end_same, end_other}
-use Rattle.fare_service.proofs.VisitLemmas.{same_seven, sums-append, add_none}
 use Rattle.fare_service.proofs.GatheredWork.{Given, IsBookOfWork, IsGathered, given_of}
 
 -- f of the first n numbers, added up

@@ -3,6 +3,7 @@ use Rattle.std.specs.Prelude.{ℕ, zero, suc, ◌≡◌, ◌≢◌, ◌⊎◌, �
 use Rattle.std.specs.List.{AllZip}
 use Rattle.std.proofs.Common.{refl, sym, ◌∙◌, ap, inl, inr, subst, arith, get_or, set, length-append}
 use Rattle.std.proofs.lemmas.List.{map-set, length-map, get_or-set_same, get_or-set_other}
+use Rattle.std.proofs.lemmas.List.{get_or-map}
 use Rattle.std.proofs.lemmas.List.Sums.{sum_by_push, sum_by-cons}
 use Rattle.std.proofs.lemmas.Bool.Decides.{eqb_tells}
 use Rattle.shared_books.specs.Claims.{all_claims, claims_given, claims_left}
@@ -11,7 +12,6 @@ use Rattle.fare_service.specs.ServiceView.{ServiceView, shards_of}
 use Rattle.fare_service.specs.ShareView.{ShareView}
 use Rattle.fare_service.specs.Claims.{claims_of, claims_at, HaveAllClaims, HasAllClaims, left_share, HasHalf}
 use Rattle.fare_service.specs.Shares.{WentOn}
-use Rattle.fare_service.proofs.RunVisits.{get_or-map}
 use Rattle.fare_service.proofs.ShareLemmas.{claims_left_at}
 
 -- the passes of which the first n were split

@@ -22,8 +22,8 @@ use Rattle.fare_service.specs.Faults.{uploads_held}
 use Rattle.fare_service.specs.ShareView.{ShareView}
 use Rattle.fare_service.specs.inside.Joining.{AreSigns, IsJoinedOf, IsSign}
 use Rattle.fare_service.specs.Shares.{books_of, marks_at}
-use Rattle.fare_service.proofs.RunVisits.{AllZip-length}
 use Rattle.fare_service.proofs.Signing.{all_signed, signs_visits}
+use Rattle.tap_views.proofs.Lists.{AllZip-length}
 
 -- the first of some elements was taken out
 pub split_first : {A : Type 0} (xs : List A) (first : A) (rest : List A) → 0 < length xs → first ≡ get_or xs 0 first → rest ≡ remove xs 0 → xs ≡ first ∷ rest
@@ -189,10 +189,6 @@ any_ok (Err e) P p = tt
 pub any_err : {T E : Type 0} (r : Result T E) (P : Type 0) → P → IfErr r (λ _. P)
 any_err (Ok x) P p = tt
 any_err (Err e) P p = p
-
-pub no_shares : (shares : List ShareView) → length shares ≡ 0 → shares ≡ []
-no_shares [] none = refl
-no_shares (s ∷ shares) none = absurd (omega (arith, none))
 
 pub some_shares : (none : Bool) (number : ℕ) → none ≡ (number == 0) → none ≡ false → 0 < number
 some_shares none zero tells is = let h : (zero == 0) ≡ false = sym tells ∙ is in absurd (cc)

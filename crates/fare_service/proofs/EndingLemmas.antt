@@ -6,13 +6,13 @@ use Rattle.std.proofs.Common.{refl, sym, ◌∙◌, ap, inl, inr, subst, arith, 
 use Rattle.std.proofs.lemmas.List.{length-map}
 use Rattle.std.proofs.lemmas.List.Sums.{sum_by-cons, sum_by-append, length-filter, count_by-le-length}
 use Rattle.std.proofs.lemmas.List.Elements.{All-nil, All-cons, All-head, All-tail, All-append, All-weaker}
-use Rattle.std.proofs.lemmas.Option.{slice_get-get_or, slice_get-map}
+use Rattle.std.proofs.lemmas.Option.{slice_get-get_or, slice_get-map, slice_get_within}
 use Rattle.tap_views.specs.Layout.{Tap}
+use Rattle.tap_views.proofs.Lists.{AllZip-length}
 use Rattle.shard_book.specs.Book.{Book}
 use Rattle.shard_book.specs.Entry.{IsEntryOf}
 use Rattle.shard_book.specs.Sums.{Sums, sums}
-use Rattle.shared_books.specs.declared.turns.rule.Mark.{Mark}
-use Rattle.shared_books.specs.Passes.{PassView, SharedBookView, seen_by}
+use Rattle.shared_books.specs.Passes.{PassView, SharedBookView}
 use Rattle.fare_service.specs.declared.service.share.Done.{Done}
 use Rattle.report_texts.specs.declared.upload_end.UploadEnd.{UploadEnd}
 use Rattle.report_texts.specs.declared.upload_end.UploadEnd.TheVariants.{Posted, Refused, Cut, Undrawn}
@@ -37,9 +37,10 @@ use Rattle.fare_service.proofs.CloseLemmas.{there}
 use Rattle.fare_service.proofs.GatheredWork.{Given, given_of, IsGathered}
 use Rattle.fare_service.proofs.HeadlineLemmas.{gathered_of}
 use Rattle.fare_service.proofs.GatherLemmas.{kept_length}
-use Rattle.fare_service.proofs.RunVisits.{AllZip-length, marks_here}
+use Rattle.fare_service.proofs.RunVisits.{marks_here}
 use Rattle.fare_service.proofs.ShareLemmas.{own_left}
 use Rattle.fare_service.proofs.VisitLemmas.{no_taps}
+use Rattle.fare_service.proofs.FullLemmas.{marks_seen}
 
 -- one, for an upload that was cut
 abbrev pub cut_one : UploadEnd → ℕ
@@ -161,11 +162,6 @@ cuts_few service Full (new ∷ news) (done ∷ works) s full =
     both (inl one) (inr h) = inr h
     both (inl one) (inl few) = inl (omega (arith, one, few, sum_by-cons cuts_in done works))
 
-within : {A : Type 0} (xs : List A) (i : ℕ) (x : A) → slice_get xs i ≡ Some x → i < length xs
-within [] i x at = absurd (cc)
-within (y ∷ xs) zero x at = omega arith
-within (y ∷ xs) (suc i) x at = omega (arith, within xs i x at)
-
 -- all runs have a tap
 run_some : (shard : ℕ) (taps : List PlacedTap) → All (λ r. 0 < length r.taps) (if_any shard taps)
 run_some shard [] = All-nil (λ (r : PlacedRun). 0 < length r.taps)
@@ -274,9 +270,6 @@ visits_are opened shares shard book h =
         let few : List Signed = filter (λ v. v.worker == w) h.visits in
         sym (length_sum few) ∙ (sym (length-map few (λ (v : Signed). v.entries)) ∙ ap length (h.order w share at))
 
-seen_all : (pass : PassView) → length (seen_by pass) ≡ length pass.marks
-seen_all pass = length-map pass.marks (λ (m : Mark). m.visit)
-
 -- of a full shard the shares made all visits
 pub full_made : (service : ServiceView) → IsService service → (shares : List ShareView) → All (IsShareOf service) shares → (closed : List Book) → IsClosedWork service.books shares closed → FullIsMade shares
 full_made service is shares all closed work = each shares all seen
@@ -294,7 +287,7 @@ full_made service is shares all closed work = each shares all seen
         let here : slice_get (books_of share.passes) k ≡ Some p.book = slice_get-map (λ (q : PassView). q.book) share.passes k ∙ ap (option_map (λ (q : PassView). q.book)) (slice_get-get_or share.passes k p below ∙ ap Some at) in
         let opened : IsBookOf service.table k (shards_of service) p.book = is.books k p.book (subst B mine.passes here) in
         let inside : k < shards_of service = omega (arith, below, ap length mine.passes, length-map share.passes (λ (q : PassView). q.book)) in
-        (k, omega (arith, full, opened.from_zero, ap length marks, few k inside, seen_all p))
+        (k, omega (arith, full, opened.from_zero, ap length marks, few k inside, marks_seen p))
 
     each : (part : List ShareView) → All (IsShareOf service) part → ((shard : ℕ) → shard < shards_of service → All (λ s. length (marks_at shard s.passes) ≤ visits_held shard shares) part)
         → All (λ s. SomeFull s.passes → (shard : ℕ) × (2 ^ 62 ≤ visits_held shard shares)) part
@@ -310,7 +303,7 @@ pub have_stopped : (service : ServiceView) (olds news : List ShareView) (workers
 have_stopped service olds news workers outcome number fresh worked (works, kept, headline) undrawn full = record {
   few_cut = few (cuts_few service (2 ^ 62 ≤ outcome.totals.taps + cuts outcome) news works all (All-weaker (λ (s : ShareView). SomeFull s.passes → (shard : ℕ) × (2 ^ 62 ≤ visits_held shard news)) (λ (s : ShareView). SomeFull s.passes → 2 ^ 62 ≤ outcome.totals.taps + cuts outcome) (λ s made some. enough (made some)) news full));
   undrawn = λ upload at. (
-      let past : upload < length service.uploads = omega (arith, within outcome.ends upload Undrawn at, headline.uploads) in
+      let past : upload < length service.uploads = omega (arith, slice_get_within outcome.ends upload Undrawn at, headline.uploads) in
       let left = All-weaker (λ (s : ShareView). s.drawer.seen ≤ upload) (λ (s : ShareView). s.drawer.seen < length service.uploads) (λ s h. omega (arith, h, past)) news (undrawn upload at) in
       omega (arith, posting_few service news works all left, posting_are, cuts_are));
 }

@@ -9,6 +9,7 @@ use Rattle.std.proofs.lemmas.List.Elements.{All-nil, All-cons, All-head, All-tai
 use Rattle.tap_views.specs.Layout.{Tap}
 use Rattle.tap_views.specs.Files.{IsFile}
 use Rattle.tap_views.specs.Shards.{shard_of_token}
+use Rattle.tap_views.proofs.Lists.{All-front, All-back, All-unmap, AllZip-length}
 use Rattle.shard_book.specs.Entry.{IsEntryOf}
 use Rattle.shared_books.specs.Drawing.{NoneTwice}
 use Rattle.report_texts.specs.declared.upload_end.UploadEnd.{UploadEnd}
@@ -19,20 +20,7 @@ use Rattle.fare_service.specs.Runs.{PlacedTap, placed_from, taps_of_placed, of_s
 use Rattle.fare_service.specs.inside.Runs.{visits_to}
 use Rattle.fare_service.specs.Shares.{Worked, all_visits, IsWorkOf, IsEndOf, file_at}
 use Rattle.fare_service.proofs.GatherLemmas.{drawn_times, times_same, times_other, fewer_after, end_same, end_other}
-use Rattle.fare_service.proofs.RunVisits.{AllZip-length}
 use Rattle.fare_service.proofs.GatheredWork.{Given}
-
-pub All-front : {X : Type 0} (P : X → Type 0) (xs ys : List X) → All P (xs ++ ys) → All P xs
-All-front P [] ys all = All-nil P
-All-front P (x ∷ xs) ys all = All-cons P x xs (All-head P x (xs ++ ys) all) (All-front P xs ys (All-tail P x (xs ++ ys) all))
-
-pub All-back : {X : Type 0} (P : X → Type 0) (xs ys : List X) → All P (xs ++ ys) → All P ys
-All-back P [] ys all = all
-All-back P (x ∷ xs) ys all = All-back P xs ys (All-tail P x (xs ++ ys) all)
-
-pub All-unmap : {X Y : Type 0} (P : Y → Type 0) (f : X → Y) (xs : List X) → All P (map f xs) → All (λ x. P (f x)) xs
-All-unmap P f [] all = All-nil (λ x. P (f x))
-All-unmap P f (x ∷ xs) all = All-cons (λ y. P (f y)) x xs (All-head P (f x) (map f xs) all) (All-unmap P f xs (All-tail P (f x) (map f xs) all))
 
 -- each tap of a run is of its shard
 pub IsOwnRun : ℕ → PlacedRun → Type 0

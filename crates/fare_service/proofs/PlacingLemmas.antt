@@ -8,6 +8,7 @@ use Rattle.std.proofs.lemmas.List.{map-append, length-map, nil_from_length, get_
 use Rattle.std.proofs.lemmas.List.Elements.{All-nil, All-cons, All-head, All-tail, All-append, All-filter, All-weaker, All-map, filter-append}
 use Rattle.std.proofs.lemmas.List.Sums.{sum_by-append, sum_by-cons}
 use Rattle.std.proofs.lemmas.Option.{slice_get-get_or}
+use Rattle.std.proofs.lemmas.List.Folds.{flat_map-map}
 use Rattle.shard_book.specs.declared.entry.Entry.{Entry}
 use Rattle.shard_book.specs.Book.{Book}
 use Rattle.shard_book.specs.Entry.{IsEntryOf}
@@ -24,6 +25,7 @@ use Rattle.fare_service.proofs.GatherLemmas.{drawn_times, times_same, each_work}
 use Rattle.fare_service.proofs.PlacedVisits.{IsOwnVisit, own_worked, shard_taps, works_on, no_works_on, end_posted, filter_none}
 use Rattle.fare_service.proofs.Signing.{step_no, step_yes}
 use Rattle.fare_service.proofs.GatheredWork.{Given, IsBookOfWork, IsGathered}
+use Rattle.tap_views.proofs.Lists.{filter-filter, AllZip-append}
 
 -- a visit, and the upload of its taps
 record Labelled : Type 0 where
@@ -243,12 +245,6 @@ origins_of y = map (λ p. record { upload = y.made.upload; placed = p }) y.made.
 abbrev all_origins : List By → List Origin
 all_origins made = flat_map origins_of made
 
-AllZip-append : {A B : Type 0} (R : A → B → Type 0) (xs xs' : List A) (ys ys' : List B) → AllZip R xs ys → AllZip R xs' ys' → AllZip R (xs ++ xs') (ys ++ ys')
-AllZip-append R [] xs' [] ys' a b = b
-AllZip-append R [] xs' (y ∷ ys) ys' a b = absurd a
-AllZip-append R (x ∷ xs) xs' [] ys' a b = absurd a
-AllZip-append R (x ∷ xs) xs' (y ∷ ys) ys' a b = (a.0, AllZip-append R xs xs' ys ys' a.1 b)
-
 origin_fields : (upload : ℕ) (taps : List PlacedTap) (entries : List Entry) → AllZip IsEntryOf (taps_of_placed taps) entries → AllZip IsEntryOfOrigin (map (λ p. record { upload = upload; placed = p }) taps) entries
 origin_fields upload [] [] h = tt
 origin_fields upload [] (e ∷ entries) h = absurd h
@@ -258,7 +254,8 @@ origin_fields upload (p ∷ taps) (e ∷ entries) h = (h.0, origin_fields upload
 all_fields : (given : Given) (works : List (List Worked)) (made : List By) → All (λ y. IsMade given works y.worker y.made) made → AllZip IsEntryOfOrigin (all_origins made) (history_of_visits (map (λ y. entries_made y.made) made))
 all_fields given works [] all = tt
 all_fields given works (y ∷ made) all =
-    AllZip-append IsEntryOfOrigin (origins_of y) (all_origins made) (entries_made y.made) (history_of_visits (map (λ z. entries_made z.made) made))
+    AllZip-append IsEntryOfOrigin (origins_of y) (entries_made y.made) (all_origins made)
+    (history_of_visits (map (λ z. entries_made z.made) made))
     (origin_fields y.made.upload y.made.visit.taps (entries_made y.made) (All-head (λ z. IsMade given works z.worker z.made) y made all).entered.fields)
     (all_fields given works made (All-tail (λ z. IsMade given works z.worker z.made) y made all))
 
@@ -315,23 +312,6 @@ filter_within p q (x ∷ xs) all =
     by_tests (inr b) (inr c) implies rest =
         ap (λ t. cond t (x ∷ filter p xs) (filter p xs)) b ∙ (rest ∙ sym (ap (λ t. filter p (cond t (x ∷ filter q xs) (filter q xs))) c))
 
-filter_swap : {X : Type 0} (p q : X → Bool) (xs : List X) → filter p (filter q xs) ≡ filter q (filter p xs)
-filter_swap p q [] = refl
-filter_swap p q (x ∷ xs) = by_tests (p x) refl (q x) refl (filter_swap p q xs)
-  where
-    by_tests : (b : Bool) → p x ≡ b → (c : Bool) → q x ≡ c → filter p (filter q xs) ≡ filter q (filter p xs) → filter p (filter q (x ∷ xs)) ≡ filter q (filter p (x ∷ xs))
-    by_tests true b true c rest =
-        ap (λ t. filter p (cond t (x ∷ filter q xs) (filter q xs))) c ∙ (ap (λ t. cond t (x ∷ filter p (filter q xs)) (filter p (filter q xs))) b
-        ∙ (ap (λ ys. x ∷ ys) rest ∙ (sym (ap (λ t. cond t (x ∷ filter q (filter p xs)) (filter q (filter p xs))) c) ∙ sym (ap (λ t. filter q (cond t (x ∷ filter p xs) (filter p xs))) b))))
-    by_tests true b false c rest =
-        ap (λ t. filter p (cond t (x ∷ filter q xs) (filter q xs))) c ∙ (rest
-        ∙ (sym (ap (λ t. cond t (x ∷ filter q (filter p xs)) (filter q (filter p xs))) c) ∙ sym (ap (λ t. filter q (cond t (x ∷ filter p xs) (filter p xs))) b)))
-    by_tests false b true c rest =
-        ap (λ t. filter p (cond t (x ∷ filter q xs) (filter q xs))) c ∙ (ap (λ t. cond t (x ∷ filter p (filter q xs)) (filter p (filter q xs))) b
-        ∙ (rest ∙ sym (ap (λ t. filter q (cond t (x ∷ filter p xs) (filter p xs))) b)))
-    by_tests false b false c rest =
-        ap (λ t. filter p (cond t (x ∷ filter q xs) (filter q xs))) c ∙ (rest ∙ sym (ap (λ t. filter q (cond t (x ∷ filter p xs) (filter p xs))) b))
-
 -- the labelled visits for one upload
 labels_for : (upload : ℕ) (done : List Worked) → filter (λ x. x.upload == upload) (labelled done) ≡ labelled (works_on upload done)
 labels_for upload [] = refl
@@ -359,10 +339,6 @@ labels_for upload (w ∷ done) =
         ap (λ ys. ys ++ filter (λ (x : Labelled). x.upload == upload) (labelled done)) (none w.visits b)
         ∙ (rest ∙ sym (ap (λ t. labelled (cond t (w ∷ works_on upload done) (works_on upload done))) b))
 
-flat_map-map : {X Y Z : Type 0} (g : Y → List Z) (f : X → Y) (xs : List X) → flat_map (λ x. g (f x)) xs ≡ flat_map g (map f xs)
-flat_map-map g f [] = refl
-flat_map-map g f (x ∷ xs) = ap (λ ys. g (f x) ++ ys) (flat_map-map g f xs)
-
 own_all : (given : Given) (works : List Worked) → All (IsWorkOf given.shards given.uploads) works → All (IsOwnVisit given.shards) (all_visits works)
 own_all given [] all = All-nil (IsOwnVisit given.shards)
 own_all given (w ∷ works) all =
@@ -375,9 +351,9 @@ exactly_posted : (given : Given) (works : List (List Worked)) → All (λ done. 
 exactly_posted given works each once shard upload made own all =
     origins_for upload made
     ∙ (ap taps_made (filter_within (λ y. y.made.upload == upload) (λ y. y.worker == s.worker) made implied)
-    ∙ (flat_map-map (λ (x : Labelled). x.visit.taps) (λ (y : By). y.made) (made_for upload (filter (λ y. y.worker == s.worker) made))
+    ∙ (sym (flat_map-map (λ (x : Labelled). x.visit.taps) (λ (y : By). y.made) (made_for upload (filter (λ y. y.worker == s.worker) made)))
     ∙ (ap (flat_map (λ (x : Labelled). x.visit.taps)) labels
-    ∙ (flat_map-map (λ (v : RunVisit). v.taps) (λ (x : Labelled). x.visit) (to_shard shard (works_on upload (all_works works)))
+    ∙ (sym (flat_map-map (λ (v : RunVisit). v.taps) (λ (x : Labelled). x.visit) (to_shard shard (works_on upload (all_works works))))
     ∙ (ap (flat_map (λ (v : RunVisit). v.taps)) (unlabelled_to shard (works_on upload (all_works works)))
     ∙ sym (shard_taps shard given.shards (all_visits (works_on upload (all_works works)))
     (own_all given (works_on upload (all_works works)) (All-filter (λ w. w.upload == upload) (IsWorkOf given.shards given.uploads) (all_works works) (each_work given works each)))))))))
@@ -397,7 +373,7 @@ exactly_posted given works each once shard upload made own all =
     labels =
         sym (filter-map (λ (x : Labelled). x.upload == upload) (λ (y : By). y.made) (filter (λ y. y.worker == s.worker) made))
         ∙ (ap (filter (λ (x : Labelled). x.upload == upload)) (own s.worker)
-        ∙ (filter_swap (λ (x : Labelled). x.upload == upload) (λ x. x.visit.shard == shard) (labelled (works_at s.worker works))
+        ∙ (filter-filter (λ (x : Labelled). x.upload == upload) (λ x. x.visit.shard == shard) (labelled (works_at s.worker works))
         ∙ (ap (filter (λ (x : Labelled). x.visit.shard == shard)) (labels_for upload (works_at s.worker works)) ∙ ap (to_shard shard) (sym s.found))))
 
 by_worker_at : (given : Given) (shard : ℕ) (works : List (List Worked)) (book : Book) → (is : IsBookOfWork given.table shard given.shards works book) → (w : ℕ)

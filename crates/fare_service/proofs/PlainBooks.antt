@@ -1,12 +1,13 @@
 -- The entries of a token in what was gathered are those of the plain history.
-use Rattle.std.specs.Prelude.{ℕ, zero, suc, ◌≡◌, ◌≢◌, ◌⊎◌, ◌<◌, ◌≤◌, ◌==◌, Bool, true, false, cond, List, [], ◌∷◌, ◌++◌, length, map, filter, All, Contains, Some, slice_get, slice_index_or}
+use Rattle.std.specs.Prelude.{ℕ, zero, suc, ◌≡◌, ◌≢◌, ◌⊎◌, ◌<◌, ◌==◌, Bool, true, false, cond, List, [], ◌∷◌, ◌++◌, length, map, filter, All, Contains, Some, slice_get, slice_index_or}
 use Rattle.std.specs.List.{flat_map, AllZip}
 use Rattle.std.proofs.Common.{refl, sym, ◌∙◌, ap, inl, inr, subst, arith, get_or, eq-eqb, mod-lt}
 use Rattle.std.proofs.lemmas.Bool.Decides.{eqb_tells}
 use Rattle.std.proofs.lemmas.List.{map-append, length-map}
-use Rattle.std.proofs.lemmas.List.Elements.{All-nil, All-cons, All-head, All-tail, All-append, filter-append}
+use Rattle.std.proofs.lemmas.List.Elements.{All-nil, All-cons, All-head, All-tail, All-append}
 use Rattle.std.proofs.lemmas.List.Concat.{flat_map-append}
 use Rattle.std.proofs.lemmas.Option.{slice_get-get_or}
+use Rattle.std.proofs.lemmas.List.Folds.{flat_map-map}
 use Rattle.tap_views.specs.Layout.{Tap}
 use Rattle.tap_views.specs.Shards.{shard_of_token, run_of}
 use Rattle.shard_book.specs.Book.{Book}
@@ -17,28 +18,24 @@ use Rattle.shard_book.specs.Keys.{same_token}
 use Rattle.tap_views.specs.Token.{bytes_of}
 use Rattle.shared_books.specs.Drawing.{NoneTwice}
 use Rattle.shared_books.specs.Marks.{history_of_visits}
+use Rattle.shared_books.proofs.MarkLists.{joined-append}
 use Rattle.report_texts.specs.declared.upload_end.UploadEnd.{UploadEnd}
 use Rattle.report_texts.specs.declared.upload_end.UploadEnd.TheVariants.{Posted, Refused, Cut, Undrawn}
 use Rattle.fare_service.specs.Headline.{Signed, by_worker, end_of}
 use Rattle.fare_service.specs.Outcomes.{OutcomeView}
 use Rattle.tap_views.specs.Files.{AreGoodTaps, AreGoodTapsOfEach, HasOneReading}
+use Rattle.tap_views.proofs.Lists.{All-split}
 use Rattle.fare_service.specs.Plain.{AreApart, WasNotCut}
 use Rattle.shard_book.specs.Plain.{IsNamed, unanswered, token_of_bytes, plain}
 use Rattle.fare_service.specs.Runs.{RunVisit, ArePostedWhole, runs_of, entries_to}
 use Rattle.fare_service.specs.Shares.{Worked, all_visits, IsWorkOf, IsEndOf, all_works, file_at}
-use Rattle.fare_service.proofs.PlainLists.{All-split, All-flat, flat-All, All-at, mapped_at, flat_map-map, count, count_same, count_other, DoTheirs, done_alone, done_none, flat_alone, flat_none, HasOne, none_or_one}
+use Rattle.fare_service.proofs.PlainLists.{All-flat, flat-All, All-at, mapped_at, count, count_same, count_other, DoTheirs, done_alone, done_none, flat_alone, flat_none, HasOne, none_or_one}
 use Rattle.shard_book.proofs.PlainReplies.{bare, own_bare, plain_bare, plain_legal, same_replies}
+use Rattle.shard_book.proofs.OwnEntries.{own-append, own_none}
 use Rattle.fare_service.proofs.PlainRuns.{IsName, shard_entries, named_entries, all_shards, own_run}
 use Rattle.fare_service.proofs.VisitLemmas.{entries_to-append}
 use Rattle.fare_service.proofs.GatheredWork.{Given, IsBookOfWork, IsGathered}
-
-joined-append : (xs ys : List (List Entry)) → history_of_visits (xs ++ ys) ≡ history_of_visits xs ++ history_of_visits ys
-joined-append [] ys = refl
-joined-append (x ∷ xs) ys = ap (λ es. x ++ es) (joined-append xs ys) ∙ sym (assoc x (history_of_visits xs) (history_of_visits ys))
-  where
-    assoc : (a b c : List Entry) → (a ++ b) ++ c ≡ a ++ (b ++ c)
-    assoc [] b c = refl
-    assoc (e ∷ a) b c = ap (λ es. e ∷ es) (assoc a b c)
+use Rattle.fare_service.proofs.GatherLemmas.{end_other, end_same, fewer_after}
 
 entries-cons : (shard : ℕ) (w : Worked) (done : List Worked) → history_of_visits (entries_to shard (all_visits (w ∷ done))) ≡ history_of_visits (entries_to shard w.visits) ++ history_of_visits (entries_to shard (all_visits done))
 entries-cons shard w done = ap history_of_visits (entries_to-append shard w.visits (all_visits done)) ∙ joined-append (entries_to shard w.visits) (entries_to shard (all_visits done))
@@ -113,12 +110,6 @@ work_read given token taps w some cuts each worked whole named =
 uploads_of : List Worked → List ℕ
 uploads_of works = map (λ w. w.upload) works
 
-end_here : (w : Worked) (works : List Worked) (upload : ℕ) → (w.upload == upload) ≡ true → end_of upload (w ∷ works) ≡ w.end
-end_here w works upload is = ap (λ b. cond b w.end (end_of upload works)) is
-
-end_else : (w : Worked) (works : List Worked) (upload : ℕ) → (w.upload == upload) ≡ false → end_of upload (w ∷ works) ≡ end_of upload works
-end_else w works upload is = ap (λ b. cond b w.end (end_of upload works)) is
-
 abbrev Tells : ℕ → ℕ → Type 0
 Tells m n = (((m == n) ≡ true) × (m ≡ n)) ⊎ (((m == n) ≡ false) × (m ≢ n))
 
@@ -129,7 +120,7 @@ drawn_by P (w ∷ works) all upload ended = by_test (eqb_tells w.upload upload) 
   where
     by_test : Tells w.upload upload → (end_of upload works ≢ Undrawn → (x : Worked) × P x × (x.upload ≡ upload)) → (x : Worked) × P x × (x.upload ≡ upload)
     by_test (inl (is, same)) more = (w, All-head P w works all, same)
-    by_test (inr (is, apart)) more = more (λ e. ended (end_else w works upload is ∙ e))
+    by_test (inr (is, apart)) more = more (λ e. ended (end_other w works upload is ∙ e))
 
 drawn_count : (works : List Worked) (upload : ℕ) → end_of upload works ≢ Undrawn → 0 < count upload (map (λ w. w.upload) works)
 drawn_count [] upload ended = absurd (ended refl)
@@ -137,7 +128,7 @@ drawn_count (w ∷ works) upload ended = by_test (eqb_tells w.upload upload) (dr
   where
     by_test : Tells w.upload upload → (end_of upload works ≢ Undrawn → 0 < count upload (map (λ x. x.upload) works)) → 0 < count upload (map (λ x. x.upload) (w ∷ works))
     by_test (inl (is, same)) more = omega (arith, count_same upload w.upload (map (λ x. x.upload) works) is)
-    by_test (inr (is, apart)) more = omega (arith, count_other upload w.upload (map (λ x. x.upload) works) is, more (λ e. ended (end_else w works upload is ∙ e)))
+    by_test (inr (is, apart)) more = omega (arith, count_other upload w.upload (map (λ x. x.upload) works) is, more (λ e. ended (end_other w works upload is ∙ e)))
 
 not_again : (works : List Worked) (upload : ℕ) → count upload (map (λ w. w.upload) works) ≡ 0 → All (λ w. w.upload ≢ upload) works
 not_again [] upload none = All-nil (λ w. w.upload ≢ upload)
@@ -150,21 +141,14 @@ not_again (w ∷ works) upload none =
     by_test (inl (is, same)) = absurd (omega (arith, none, count_same upload w.upload (map (λ x. x.upload) works) is))
     by_test (inr (is, apart)) = sym (count_other upload w.upload (map (λ x. x.upload) works) is) ∙ none
 
-fewer : (w : Worked) (works : List Worked) → NoneTwice (map (λ x. x.upload) (w ∷ works)) → NoneTwice (map (λ x. x.upload) works)
-fewer w works once x = by_test (eqb_tells w.upload x)
-  where
-    by_test : Tells w.upload x → count x (map (λ y. y.upload) works) ≤ 1
-    by_test (inl (is, same)) = omega (arith, once x, count_same x w.upload (map (λ y. y.upload) works) is)
-    by_test (inr (is, apart)) = omega (arith, once x, count_other x w.upload (map (λ y. y.upload) works) is)
-
 -- where no upload was drawn twice, each ended as the one that drew it tells
 pub end_told : (works : List Worked) → NoneTwice (map (λ w. w.upload) works) → All (λ w. end_of w.upload works ≡ w.end) works
 end_told [] once = All-nil (λ w. end_of w.upload [] ≡ w.end)
 end_told (w ∷ works) once =
-    let rest = end_told works (fewer w works once) in
+    let rest = end_told works (fewer_after w works once) in
     let test : (w.upload == w.upload) ≡ true = eq-eqb w.upload w.upload refl in
     let others = not_again works w.upload (omega (arith, once w.upload, count_same w.upload w.upload (map (λ x. x.upload) works) test)) in
-    All-cons (λ x. end_of x.upload (w ∷ works) ≡ x.end) w works (end_here w works w.upload test)
+    All-cons (λ x. end_of x.upload (w ∷ works) ≡ x.end) w works (end_same w works w.upload test)
     (λ k d few. later (slice_index_or works k d) (others k d few) (rest k d few))
   where
     later : (x : Worked) → x.upload ≢ w.upload → end_of x.upload works ≡ x.end → end_of x.upload (w ∷ works) ≡ x.end
@@ -172,7 +156,7 @@ end_told (w ∷ works) once =
       where
         by_test : Tells w.upload x.upload → end_of x.upload (w ∷ works) ≡ x.end
         by_test (inl (is, same)) = absurd (apart (sym same))
-        by_test (inr (is, no_same)) = end_else w works x.upload is ∙ told
+        by_test (inr (is, no_same)) = end_other w works x.upload is ∙ told
 
 -- ---- all that was gathered
 -- what the laws of a gathering stand on: no upload was cut or left undrawn, and each token of the books is the name of its bytes
@@ -240,19 +224,11 @@ module _ (given : Given) (works : List (List Worked)) (outcome : OutcomeView) (t
 abbrev bares : Token → List Entry → List Entry
 bares token entries = map bare (own token entries)
 
-own-append : (token : Token) (xs ys : List Entry) → own token (xs ++ ys) ≡ own token xs ++ own token ys
-unfolding own
-own-append token xs ys = filter-append (is_of token) xs ys
-
 bares-append : (token : Token) (xs ys : List Entry) → bares token (xs ++ ys) ≡ bares token xs ++ bares token ys
 bares-append token xs ys = ap (map bare) (own-append token xs ys) ∙ map-append bare (own token xs) (own token ys)
 
-own-nil : (token : Token) → own token [] ≡ []
-unfolding own
-own-nil token = refl
-
 bares-joined : (token : Token) (visits : List (List Entry)) → bares token (history_of_visits visits) ≡ flat_map (bares token) visits
-bares-joined token [] = ap (map bare) (own-nil token)
+bares-joined token [] = ap (map bare) (own_none token)
 bares-joined token (visit ∷ visits) = bares-append token visit (history_of_visits visits) ∙ ap (λ es. bares token visit ++ es) (bares-joined token visits)
 
 abbrev mine_of : Token → List (List Tap) → ℕ → List Entry
@@ -262,7 +238,7 @@ abbrev all_mine : Token → List (List Tap) → List (List Entry)
 all_mine token taps = map (λ ts. own token (map unanswered ts)) taps
 
 own_all : (token : Token) (taps : List (List Tap)) → own token (map unanswered (flat_map (λ ts. ts) taps)) ≡ flat_map (λ es. es) (all_mine token taps)
-own_all token [] = own-nil token
+own_all token [] = own_none token
 own_all token (ts ∷ taps) =
     ap (own token) (map-append unanswered ts (flat_map (λ us. us) taps)) ∙ own-append token (map unanswered ts) (map unanswered (flat_map (λ us. us) taps))
     ∙ ap (λ es. own token (map unanswered ts) ++ es) (own_all token taps)
@@ -273,12 +249,12 @@ mine_at token (ts ∷ taps) zero es at = let same : own token (map unanswered ts
 mine_at token (ts ∷ taps) (suc upload) es at = mine_at token taps upload es at
 
 mine_none : (token : Token) (taps : List (List Tap)) → ((place : ℕ) (es : List Entry) → slice_get (all_mine token taps) place ≡ Some es → es ≡ []) → (upload : ℕ) → mine_of token taps upload ≡ []
-mine_none token [] none upload = own-nil token
+mine_none token [] none upload = own_none token
 mine_none token (ts ∷ taps) none zero = none 0 (own token (map unanswered ts)) refl
 mine_none token (ts ∷ taps) none (suc upload) = mine_none token taps (λ place es at. none (suc place) es at) upload
 
 mine_within : (token : Token) (taps : List (List Tap)) (upload : ℕ) (first : Entry) (rest : List Entry) → mine_of token taps upload ≡ first ∷ rest → upload < length taps
-mine_within token [] upload first rest is = absurd (let h : [] ≡ first ∷ rest = sym (own-nil token) ∙ is in cc)
+mine_within token [] upload first rest is = absurd (let h : [] ≡ first ∷ rest = sym (own_none token) ∙ is in cc)
 mine_within token (ts ∷ taps) zero first rest is = omega arith
 mine_within token (ts ∷ taps) (suc upload) first rest is = omega (arith, mine_within token taps upload first rest is)
 

@@ -12,16 +12,16 @@ use Rattle.tap_views.specs.Layout.{Tap, Layout, Tap1, Tap2, IsTapOf, spelling, m
 use Rattle.tap_views.specs.Files.{IsFile, AreGoodTaps, AreGoodTapsOfEach}
 use Rattle.shard_book.specs.declared.entry.Entry.{Entry}
 use Rattle.tap_views.specs.Token.{bytes_of}
+use Rattle.tap_views.proofs.Lists.{All-split}
 use Rattle.shard_book.specs.Visits.{AreEntriesOf}
 use Rattle.fare_service.specs.Plain.{IsPlain}
 use Rattle.shard_book.specs.Plain.{answered, unanswered, plain_after, token_of_bytes}
-use Rattle.fare_service.proofs.PlainLists.{All-split}
 use Rattle.fare_service.proofs.PlainRuns.{IsName}
 
 abbrev pub AreBytes : List ℕ → Type 0
 AreBytes bytes = All (λ byte. byte < 256) bytes
 
-byte_at : (bytes : List ℕ) → AreBytes bytes → (i : ℕ) → get_or bytes i 0 < 256
+pub byte_at : (bytes : List ℕ) → AreBytes bytes → (i : ℕ) → get_or bytes i 0 < 256
 byte_at bytes all i = by_place (cases_lt i (length bytes))
   where
     by_place : (i < length bytes) ⊎ (length bytes ≤ i) → get_or bytes i 0 < 256

@@ -1,12 +1,12 @@
 -- Lists of lists of which one alone has elements, and lists that have the same elements under each key.
-use Rattle.std.specs.Prelude.{ℕ, zero, suc, ◌≡◌, ◌≢◌, ◌⊎◌, ◌+◌, ◌<◌, ◌==◌, Bool, true, false, cond, List, [], ◌∷◌, ◌++◌, length, map, filter, All, Some, slice_get, count_by, IsPermutation}
+use Rattle.std.specs.Prelude.{ℕ, zero, suc, ◌≡◌, ◌≢◌, ◌⊎◌, ◌+◌, ◌<◌, ◌==◌, true, false, cond, List, [], ◌∷◌, ◌++◌, length, map, filter, All, Some, slice_get, count_by}
 use Rattle.std.specs.List.{flat_map}
 use Rattle.std.proofs.Common.{refl, sym, ◌∙◌, ap, inl, inr, subst, arith, get_or, append-nil, eq-eqb}
 use Rattle.std.proofs.lemmas.Bool.Decides.{eqb_tells}
-use Rattle.std.proofs.lemmas.List.Elements.{All-nil, All-cons, All-head, All-tail, All-append, filter-append}
+use Rattle.std.proofs.lemmas.List.Elements.{All-nil, All-cons, All-head, All-tail, All-append}
 use Rattle.std.proofs.lemmas.List.Sums.{sum_by-cons, sum_by-append}
 use Rattle.std.proofs.lemmas.Option.{slice_get-get_or}
-use Rattle.std.proofs.lemmas.List.Sorted.{IsPermutation-refl, IsPermutation-sym, IsPermutation-cons, IsPermutation-trans, IsPermutation-middle}
+use Rattle.tap_views.proofs.Lists.{All-split}
 
 -- parts of nothing are nothing
 pub left_nil : {A : Type 0} (xs ys : List A) → xs ++ ys ≡ [] → xs ≡ []
@@ -16,13 +16,6 @@ left_nil (x ∷ xs) ys e = absurd (let h : x ∷ (xs ++ ys) ≡ [] = e in cc)
 pub right_nil : {A : Type 0} (xs ys : List A) → xs ++ ys ≡ [] → ys ≡ []
 right_nil [] ys e = e
 right_nil (x ∷ xs) ys e = absurd (let h : x ∷ (xs ++ ys) ≡ [] = e in cc)
-
--- what holds of all elements of lists, one after another
-pub All-split : {X : Type 0} (P : X → Type 0) (xs ys : List X) → All P (xs ++ ys) → All P xs × All P ys
-All-split P [] ys all = (All-nil P, all)
-All-split P (x ∷ xs) ys all =
-    let (left, right) = All-split P xs ys (All-tail P x (xs ++ ys) all) in
-    (All-cons P x xs (All-head P x (xs ++ ys) all) left, right)
 
 pub All-flat : {X : Type 0} (P : X → Type 0) (lists : List (List X)) → All (λ xs. All P xs) lists → All P (flat_map (λ xs. xs) lists)
 All-flat P [] all = All-nil P
@@ -45,10 +38,6 @@ pub mapped_at : {A B : Type 0} (f : A → B) (xs : List A) (i : ℕ) (y : B) →
 mapped_at f [] i y at = absurd (cc)
 mapped_at f (x ∷ xs) zero y at = (x, refl, let same : f x ≡ y = cc in sym same)
 mapped_at f (x ∷ xs) (suc i) y at = mapped_at f xs i y at
-
-pub flat_map-map : {A B C : Type 0} (f : B → List C) (g : A → B) (xs : List A) → flat_map f (map g xs) ≡ flat_map (λ x. f (g x)) xs
-flat_map-map f g [] = refl
-flat_map-map f g (x ∷ xs) = ap (λ ys. f (g x) ++ ys) (flat_map-map f g xs)
 
 -- how often a number stands in a list
 abbrev pub count : ℕ → List ℕ → ℕ
@@ -218,74 +207,3 @@ none_or_one {A = A} ([] ∷ lists) = by_rest (none_or_one lists)
         all zero list at = let e : [] ≡ list = cc in sym e
         all (suc place) list at = none place list at
     by_rest (inr one) = inr (record { place = suc one.place; first = one.first; rest = one.rest; at = one.at })
-
--- ---- lists with the same elements under each key
--- where the elements that pass begin, so does what they come from
-record Parts {A : Type 0} (p : A → Bool) (ys : List A) (x : A) (rest : List A) : Type 0 where
-  pub front : List A
-  pub back : List A
-  pub whole : ys ≡ front ++ x ∷ back
-  pub none : filter p front ≡ []
-  pub left : filter p back ≡ rest
-
-split_first : {A : Type 0} (p : A → Bool) (ys : List A) (x : A) (rest : List A) → filter p ys ≡ x ∷ rest → Parts p ys x rest
-split_first p [] x rest e = absurd (cc)
-split_first p (y ∷ ys) x rest e = by_test (p y) refl (split_first p ys x rest)
-  where
-    by_test : (b : Bool) → p y ≡ b → (filter p ys ≡ x ∷ rest → Parts p ys x rest) → Parts p (y ∷ ys) x rest
-    by_test true is further =
-        let h : y ∷ filter p ys ≡ x ∷ rest = ap (λ b. cond b (y ∷ filter p ys) (filter p ys)) (sym is) ∙ e in
-        let same : y ≡ x = cc in
-        let left : filter p ys ≡ rest = cc in
-        record { front = []; back = ys; whole = ap (λ z. z ∷ ys) same; none = refl; left = left }
-    by_test false is further =
-        let more = further (ap (λ b. cond b (y ∷ filter p ys) (filter p ys)) (sym is) ∙ e) in
-        record {
-          front = y ∷ more.front;
-          back = more.back;
-          whole = ap (λ zs. y ∷ zs) more.whole;
-          none = ap (λ b. cond b (y ∷ filter p more.front) (filter p more.front)) is ∙ more.none;
-          left = more.left;
-        }
-
-module _ {A K : Type 0} (key : A → K) (same : K → K → Bool) (itself : (k : K) → same k k ≡ true) (tells : (a b : K) → same a b ≡ true → a ≡ b) where
-  abbrev pub under : K → List A → List A
-  under k xs = filter (λ x. same (key x) k) xs
-
-  -- lists with the same elements under each key, in the same order, have the same elements
-  pub same_elements : (xs ys : List A) → ((k : K) → under k xs ≡ under k ys) → IsPermutation xs ys
-  same_elements [] [] all = IsPermutation-refl []
-  same_elements [] (y ∷ ys) all =
-      absurd (let h : [] ≡ y ∷ under (key y) ys = all (key y) ∙ ap (λ b. cond b (y ∷ under (key y) ys) (under (key y) ys)) (itself (key y)) in cc)
-  same_elements (x ∷ xs) ys all =
-      let begins : x ∷ under (key x) xs ≡ under (key x) ys = ap (λ b. cond b (x ∷ under (key x) xs) (under (key x) xs)) (sym (itself (key x))) ∙ all (key x) in
-      let parts = split_first (λ y. same (key y) (key x)) ys x (under (key x) xs) (sym begins) in
-      let others : (k : K) → under k xs ≡ under k (parts.front ++ parts.back) = λ k. by_test parts k (same (key x) k) refl in
-      let P : List A → Type 0 = λ zs. IsPermutation (x ∷ xs) zs in
-      subst P (sym parts.whole)
-      (IsPermutation-trans (x ∷ xs) (x ∷ (parts.front ++ parts.back)) (parts.front ++ x ∷ parts.back)
-      (IsPermutation-cons x xs (parts.front ++ parts.back) (same_elements xs (parts.front ++ parts.back) others))
-      (IsPermutation-sym (parts.front ++ x ∷ parts.back) (x ∷ (parts.front ++ parts.back)) (IsPermutation-middle parts.front x parts.back)))
-    where
-      by_test : (parts : Parts (λ y. same (key y) (key x)) ys x (under (key x) xs)) (k : K) (b : Bool) → same (key x) k ≡ b → under k xs ≡ under k (parts.front ++ parts.back)
-      by_test parts k true is =
-          let e : key x ≡ k = tells (key x) k is in
-          let none : under k parts.front ≡ [] = ap (λ q. under q parts.front) (sym e) ∙ parts.none in
-          ap (λ q. under q xs) (sym e) ∙ sym parts.left ∙ ap (λ q. under q parts.back) e
-          ∙ sym (filter-append (λ y. same (key y) k) parts.front parts.back ∙ ap (λ zs. zs ++ under k parts.back) none)
-      by_test parts k false is =
-          let whole : under k (parts.front ++ x ∷ parts.back) ≡ under k parts.front ++ under k parts.back =
-          filter-append (λ y. same (key y) k) parts.front (x ∷ parts.back) ∙ ap (λ b. under k parts.front ++ cond b (x ∷ under k parts.back) (under k parts.back)) is in
-          ap (λ b. cond b (x ∷ under k xs) (under k xs)) (sym is) ∙ all k ∙ ap (under k) parts.whole ∙ whole
-          ∙ sym (filter-append (λ y. same (key y) k) parts.front parts.back)
-
--- two tests, one after the other, in either order
-pub filter-filter : {A : Type 0} (p q : A → Bool) (xs : List A) → filter p (filter q xs) ≡ filter q (filter p xs)
-filter-filter p q [] = refl
-filter-filter p q (x ∷ xs) = by_tests (p x) (q x) refl refl (filter-filter p q xs)
-  where
-    by_tests : (a b : Bool) → p x ≡ a → q x ≡ b → filter p (filter q xs) ≡ filter q (filter p xs) → filter p (filter q (x ∷ xs)) ≡ filter q (filter p (x ∷ xs))
-    by_tests true true ea eb rest = rw (ea, eb, ea) (ap (λ zs. x ∷ zs) rest)
-    by_tests true false ea eb rest = rw (ea, eb) rest
-    by_tests false true ea eb rest = rw (ea, eb, ea) rest
-    by_tests false false ea eb rest = rw (ea, eb) rest

@@ -12,6 +12,7 @@ use Rattle.tap_views.specs.declared.token.Token.{Token}
 use Rattle.shard_book.specs.Entry.{IsEntryOf, is_of, own}
 use Rattle.shard_book.specs.Keys.{same_token}
 use Rattle.tap_views.specs.Token.{bytes_of}
+use Rattle.tap_views.proofs.Lists.{AllZip-append}
 use Rattle.shared_books.specs.Marks.{history_of_visits}
 use Rattle.shard_book.specs.Plain.{unanswered, token_of_bytes, IsNamed}
 use Rattle.fare_service.specs.Runs.{PlacedTap, placed_from, taps_of_placed, of_shard, PlacedRun, placed_run, if_any, runs_below, runs_of, RunVisit, IsEntered, run_of_visit, ArePostedWhole, entries_to}
@@ -68,12 +69,6 @@ runs_taps_at shards shard place (batch ∷ batches) within =
     ∙ ap (λ ts. ts ++ taps_at shard (runs_of shards (place + length batch) batches)) (below_some shards shard shards (placed_from place batch) within ∙ taps-of_shard shard shards place batch)
     ∙ ap (λ ts. run_of shard shards batch ++ ts) (runs_taps_at shards shard (place + length batch) batches within)
     ∙ sym (filter-append (λ tap. shard_of_token tap.token shards == shard) batch (flat_map (λ b. b) batches))
-
-pub AllZip-append : {A B : Type 0} (R : A → B → Type 0) (xs : List A) (ys : List B) (us : List A) (vs : List B) → AllZip R xs ys → AllZip R us vs → AllZip R (xs ++ us) (ys ++ vs)
-AllZip-append R [] [] us vs one other = other
-AllZip-append R [] (y ∷ ys) us vs one other = absurd one
-AllZip-append R (x ∷ xs) [] us vs one other = absurd one
-AllZip-append R (x ∷ xs) (y ∷ ys) us vs one other = (one.0, AllZip-append R xs ys us vs one.1 other)
 
 -- the visits to a shard have an entry for each tap of their runs to it
 visits_entries : (shards shard : ℕ) (visits : List RunVisit) → All (IsEntered shards) visits → AllZip IsEntryOf (taps_at shard (map run_of_visit visits)) (history_of_visits (entries_to shard visits))

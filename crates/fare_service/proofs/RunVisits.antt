@@ -1,19 +1,20 @@
 -- One run: the visit that it makes, and what that changes.
-use Rattle.std.specs.Prelude.{ℕ, ◌≡◌, ◌≢◌, ◌<◌, ◌≤◌, ◌==◌, Bool, true, false, cond, zero, suc, ◌⊎◌, List, [], ◌∷◌, ◌++◌, length, map, take, Result, Ok, Err, is_ok, IsErr, Some}
-use Rattle.std.specs.List.{AllZip}
+use Rattle.std.specs.Prelude.{ℕ, ◌≡◌, ◌≢◌, ◌<◌, ◌≤◌, ◌==◌, Bool, true, false, cond, ◌⊎◌, List, [], ◌∷◌, ◌++◌, length, map, take, Result, Ok, Err, is_ok, IsErr, Some}
 use Rattle.std.proofs.Common.{refl, sym, ◌∙◌, ap, inl, inr, subst, append-nil, arith, get_or, set, eq-eqb, length-take}
-use Rattle.std.proofs.lemmas.List.{take-map}
+use Rattle.std.proofs.lemmas.List.{take-map, get_or-map}
 use Rattle.std.proofs.lemmas.List.Elements.{All-nil, All-cons}
 use Rattle.std.proofs.lemmas.Option.{slice_get-get_or}
 use Rattle.std.proofs.lemmas.Bool.Decides.{eqb_tells}
 use Rattle.tap_views.specs.Layout.{Tap}
 use Rattle.tap_views.specs.Shards.{run_of, run_taps, ShardRun}
+use Rattle.tap_views.proofs.Lists.{AllZip-length}
 use Rattle.shard_book.specs.declared.entry.Entry.{Entry}
 use Rattle.shard_book.specs.declared.run_end.RunEnd.{RunEnd}
 use Rattle.shard_book.specs.declared.run_end.RunEnd.TheVariants.{Whole, Cut}
 use Rattle.shard_book.specs.Entry.{IsEntryOf}
 use Rattle.shard_book.specs.Sums.{Sums, sums, add_sums}
 use Rattle.shard_book.specs.Visits.{AreEntriesOf, IsVisit}
+use Rattle.shard_book.proofs.SumsLemmas.{add_none}
 use Rattle.shared_books.specs.Passes.{PassView, SharedBookView, HasSeenMore, Visits}
 use Rattle.fare_service.specs.declared.service.working.Stop.{Stop}
 use Rattle.fare_service.specs.ServiceView.{ServiceView, shards_of}
@@ -22,18 +23,12 @@ use Rattle.fare_service.specs.Runs.{PlacedTap, placed_from, of_shard, PlacedRun,
 use Rattle.fare_service.specs.inside.Runs.{ArePostedOrCut}
 use Rattle.fare_service.specs.Shares.{made_visits, marks_at, made_visits_at, HasVisited}
 use Rattle.fare_service.proofs.RunLemmas.{taps-of_shard, length-of_shard, no_run, cut_none, cut_some, whole_run}
-use Rattle.fare_service.proofs.VisitLemmas.{made_none, made_by_pass, own-visits, own-later, add_none}
+use Rattle.fare_service.proofs.VisitLemmas.{made_none, made_by_pass, own-visits, own-later}
 
 -- an answer that is an error tells of a cut
 pub was_cut : (r : Result (Unit {0}) Stop) (runs : List PlacedRun) (visits : List RunVisit) → IsErr r → AreCut runs visits → ArePostedOrCut runs (is_ok r) visits
 was_cut (Ok x) runs visits e c = absurd (cc)
 was_cut (Err x) runs visits e c = c
-
-pub AllZip-length : {A B : Type 0} (R : A → B → Type 0) (xs : List A) (ys : List B) → AllZip R xs ys → length xs ≡ length ys
-AllZip-length R [] [] h = refl
-AllZip-length R [] (y ∷ ys) h = absurd h
-AllZip-length R (x ∷ xs) [] h = absurd h
-AllZip-length R (x ∷ xs) (y ∷ ys) h = ap suc (AllZip-length R xs ys h.1)
 
 -- how many entries a visit has
 pub visit_length : (taps : List Tap) (how : RunEnd) (visit : List Entry) → IsVisit taps how visit → length visit ≤ length taps
@@ -79,11 +74,6 @@ visit_of shards shard place batch (Cut posted) entries within some h =
         posted = cut_some shard placed posted visit few refl;
       },
     )
-
-pub get_or-map : {A B : Type 0} (f : A → B) (xs : List A) (i : ℕ) (d : A) (e : B) → i < length xs → get_or (map f xs) i e ≡ f (get_or xs i d)
-get_or-map f [] i d e h = absurd (omega arith)
-get_or-map f (x ∷ xs) zero d e h = refl
-get_or-map f (x ∷ xs) (suc i) d e h = get_or-map f xs i d e (omega arith)
 
 -- the marks of the pass at a shard
 pub marks_here : (passes : List PassView) (shard : ℕ) (old : PassView) → shard < length passes → old ≡ get_or passes shard old → marks_at shard passes ≡ old.marks

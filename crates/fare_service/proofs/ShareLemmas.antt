@@ -5,6 +5,7 @@ use Rattle.std.proofs.lemmas.List.{map-append, length-map}
 use Rattle.std.proofs.lemmas.List.Elements.{All-nil, All-cons, All-append}
 use Rattle.std.proofs.lemmas.Grind.{flat_map-append}
 use Rattle.shard_book.specs.Sums.{Sums, sums, add_sums}
+use Rattle.shard_book.proofs.SumsLemmas.{sums-append}
 use Rattle.shared_books.specs.Drawing.{DrawerView}
 use Rattle.shared_books.specs.Claims.{all_claims, claims_given, claims_left}
 use Rattle.shared_books.specs.Passes.{PassView, SharedBookView, new_pass, fresh_pass, left_pass, seen_by}
@@ -16,7 +17,7 @@ use Rattle.fare_service.specs.ShareView.{ShareView}
 use Rattle.fare_service.specs.Runs.{RunVisit, entries_to, entries_of}
 use Rattle.fare_service.specs.Shares.{Worked, all_visits, done_of, IsWorked, KeepsWorks, IsShareOf, IsFresh, HasWorked, WentOn, HasVisited, made_visits_at, made_visits, books_of}
 use Rattle.fare_service.specs.inside.Shares.{worked}
-use Rattle.fare_service.proofs.VisitLemmas.{made_none, made_more, entries_to-append, sums-append, own-others, no_taps}
+use Rattle.fare_service.proofs.VisitLemmas.{made_none, made_more, entries_to-append, own-others, no_taps}
 
 pub all_visits-append : (xs ys : List Worked) → all_visits (xs ++ ys) ≡ all_visits xs ++ all_visits ys
 all_visits-append xs ys = flat_map-append (λ w. w.visits) xs ys

@@ -1,13 +1,16 @@
 -- Who made which visit to a book. A sign is a visit with the worker that made it; a visit that no joined worker made is signed by nobody, who
 -- is told by a number above all workers.
-use Rattle.std.specs.Prelude.{ℕ, zero, suc, ◌≡◌, ◌≢◌, ◌⊎◌, ◌+◌, ◌<◌, ◌≤◌, ◌==◌, ◌||◌, nat_lt, Bool, true, false, cond, List, [], ◌∷◌, ◌++◌, length, map, filter, All}
+use Rattle.std.specs.Prelude.{ℕ, suc, ◌≡◌, ◌≢◌, ◌⊎◌, ◌+◌, ◌<◌, ◌≤◌, ◌==◌, ◌||◌, nat_lt, Bool, true, false, cond, List, [], ◌∷◌, ◌++◌, length, map, filter, All}
 use Rattle.std.proofs.Common.{refl, sym, ◌∙◌, ap, inl, inr, subst, arith, eq-eqb, ne_eqb}
 use Rattle.std.proofs.lemmas.Bool.Decides.{nat_tests}
 use Rattle.std.proofs.lemmas.List.{length-map}
 use Rattle.std.proofs.lemmas.List.Elements.{All-nil, All-cons}
+use Rattle.std.proofs.lemmas.Bool.{ltb-true}
+use Rattle.std.proofs.Math.Bool.{or-false, or-true}
 use Rattle.shard_book.specs.declared.entry.Entry.{Entry}
 use Rattle.shared_books.specs.declared.turns.rule.Mark.{Mark}
-use Rattle.shared_books.specs.Marks.{mark, visits_of, joined_marks, Apart, Begins, made_at, made_from, numbered}
+use Rattle.shared_books.specs.Marks.{mark, visits_of, joined_marks, Apart, Begins, made_from, numbered}
+use Rattle.shared_books.proofs.MarkLists.{made_at-few, made_few}
 use Rattle.fare_service.specs.Headline.{Signed, by_worker}
 use Rattle.fare_service.specs.inside.Joining.{IsSign, AreSigns, AreJoined}
 use Rattle.fare_service.specs.Shares.{made_visits}
@@ -41,17 +44,6 @@ lt_self i = grind (arith, nat_tests)
 not_lt : (i nobody : ℕ) → i < nobody → nat_lt nobody (suc i) ≡ false
 not_lt i nobody below = grind (arith, nat_tests)
 
-lt_below : (w i : ℕ) → nat_lt w i ≡ true → w < i
-lt_below w i h = grind (arith, nat_tests)
-
-or_false : (b : Bool) → (b || false) ≡ b
-or_false true = refl
-or_false false = refl
-
-or_true : (b : Bool) → (b || true) ≡ true
-or_true true = refl
-or_true false = refl
-
 -- a sign stays where the next worker did not make the visit
 sign_kept : (i nobody : ℕ) (s : Signed) (m : Mark) (b : Bool) → m.mine ≡ b → i < nobody → IsSign i nobody s m → IsSign (suc i) nobody s m
 sign_kept i nobody s m true e below is = record { visit = is.visit; mine = e ∙ sym (lt_suc s.worker i (sym is.mine ∙ e)); other = is.other }
@@ -59,8 +51,8 @@ sign_kept i nobody s m false e below is = record { visit = is.visit; mine = e �
 
 -- the sign of a visit, after the next worker
 sign_by : (i nobody : ℕ) (s : Signed) (x : Mark) (b : Bool) → i < nobody → IsSign (suc i) nobody s x → IsSign (suc i) nobody (sign (cond b i s.worker) s.entries) (mark (x.mine || b) x.visit)
-sign_by i nobody s x true below is = record { visit = is.visit; mine = or_true x.mine ∙ sym (lt_self i); other = λ h. absurd (let e : true ≡ false = sym (or_true x.mine) ∙ h in cc) }
-sign_by i nobody s x false below is = record { visit = is.visit; mine = or_false x.mine ∙ is.mine; other = λ h. is.other (sym (or_false x.mine) ∙ h) }
+sign_by i nobody s x true below is = record { visit = is.visit; mine = or-true x.mine ∙ sym (lt_self i); other = λ h. absurd (let e : true ≡ false = sym (or-true x.mine) ∙ h in cc) }
+sign_by i nobody s x false below is = record { visit = is.visit; mine = or-false x.mine ∙ is.mine; other = λ h. is.other (sym (or-false x.mine) ∙ h) }
 
 -- the marks of a worker where nothing was seen before
 signed_first : (i nobody : ℕ) (marks : List Mark) → i < nobody → AreSigns (suc i) nobody (signed i nobody [] marks) marks
@@ -136,7 +128,7 @@ not_signed i nobody (s ∷ signs) [] below all = absurd all
 not_signed i nobody (s ∷ signs) (x ∷ old) below all = step_no i s signs (ne_eqb s.worker i (λ h. other x.mine refl h)) ∙ not_signed i nobody signs old below all.1
   where
     other : (b : Bool) → x.mine ≡ b → s.worker ≡ i → ⊥
-    other true e h = omega (arith, h, lt_below s.worker i (sym all.0.mine ∙ e))
+    other true e h = omega (arith, h, ltb-true s.worker i (sym all.0.mine ∙ e))
     other false e h = omega (arith, h, all.0.other e)
 
 own_step : (m : Mark) (ms : List Mark) (b : Bool) → m.mine ≡ b → made_visits (m ∷ ms) ≡ cond b (m.visit ∷ made_visits ms) (made_visits ms)
@@ -154,7 +146,7 @@ own_first i nobody [] below = refl
 own_first i nobody (m ∷ ms) below = own_first_step i nobody m ms m.mine refl below (own_first i nobody ms below)
 
 free_sign : (i nobody : ℕ) (s : Signed) (x : Mark) (b : Bool) → x.mine ≡ b → i < nobody → IsSign i nobody s x → s.worker ≢ i
-free_sign i nobody s x true e below is = λ h. omega (arith, h, lt_below s.worker i (sym is.mine ∙ e))
+free_sign i nobody s x true e below is = λ h. omega (arith, h, ltb-true s.worker i (sym is.mine ∙ e))
 free_sign i nobody s x false e below is = λ h. omega (arith, h, is.other e)
 
 new_own_step : (i nobody : ℕ) (s : Signed) (x y : Mark) (signs : List Signed) (other : List Mark) (b : Bool) → y.mine ≡ b → i < nobody → IsSign i nobody s x → x.visit ≡ y.visit
@@ -183,12 +175,6 @@ signs_visits i nobody [] (m ∷ marks) all = absurd all
 signs_visits i nobody (s ∷ signs) [] all = absurd all
 signs_visits i nobody (s ∷ signs) (m ∷ marks) all = ap (λ v. v ∷ map (λ s. s.entries) signs) all.0.visit ∙ ap (λ vs. m.visit ∷ vs) (signs_visits i nobody signs marks all.1)
 
--- a number is made or not
-made_at-le : (i : ℕ) (ms : List Mark) → made_at i ms ≤ 1
-made_at-le i [] = omega arith
-made_at-le zero (m ∷ ms) = elim m.mine as (λ b. cond b 1 0 ≤ 1) [ true ↦ omega arith | false ↦ omega arith ]
-made_at-le (suc i) (m ∷ ms) = made_at-le i ms
-
 -- how many visits a pass made
 pub made_own : (n : ℕ) (ms : List Mark) → length (made_from n ms) ≡ length (made_visits ms)
 made_own n [] = refl
@@ -197,14 +183,6 @@ made_own n (m ∷ ms) = by_mark m.mine refl (made_own (n + 1) ms)
     by_mark : (b : Bool) → m.mine ≡ b → length (made_from (n + 1) ms) ≡ length (made_visits ms) → length (made_from n (m ∷ ms)) ≡ length (made_visits (m ∷ ms))
     by_mark true e rest = ap (λ b. length (cond b ((n, m.visit) ∷ made_from (n + 1) ms) (made_from (n + 1) ms))) e ∙ ap suc rest ∙ sym (ap length (own_step m ms true e))
     by_mark false e rest = ap (λ b. length (cond b ((n, m.visit) ∷ made_from (n + 1) ms) (made_from (n + 1) ms))) e ∙ rest ∙ sym (ap length (own_step m ms false e))
-
-made_short : (n : ℕ) (ms : List Mark) → length (made_from n ms) ≤ length ms
-made_short n [] = omega arith
-made_short n (m ∷ ms) = by_mark m.mine refl (made_short (n + 1) ms)
-  where
-    by_mark : (b : Bool) → m.mine ≡ b → length (made_from (n + 1) ms) ≤ length ms → length (made_from n (m ∷ ms)) ≤ length (m ∷ ms)
-    by_mark true e rest = omega (arith, rest, ap (λ b. length (cond b ((n, m.visit) ∷ made_from (n + 1) ms) (made_from (n + 1) ms))) e)
-    by_mark false e rest = omega (arith, rest, ap (λ b. length (cond b ((n, m.visit) ∷ made_from (n + 1) ms) (made_from (n + 1) ms))) e)
 
 length-numbered : (n : ℕ) (vs : List (List Entry)) → length (numbered n vs) ≡ length vs
 length-numbered n [] = refl
@@ -220,12 +198,12 @@ all_signed i nobody n (s ∷ signs) (m ∷ marks) all made =
   where
     too_few : m.mine ≡ false → ⊥
     too_few e =
-        let short : length (made_from (n + 1) marks) ≤ length marks = made_short (n + 1) marks in
+        let short : length (made_from (n + 1) marks) ≤ length marks = made_few (n + 1) marks in
         let same : made_from (n + 1) marks ≡ numbered n (visits_of (m ∷ marks)) = sym (ap (λ b. cond b ((n, m.visit) ∷ made_from (n + 1) marks) (made_from (n + 1) marks)) e) ∙ made in
         omega (arith, short, ap length same, length-numbered n (visits_of (m ∷ marks)), length-map marks (λ (k : Mark). k.visit))
 
     here : (b : Bool) → m.mine ≡ b → s.worker < i
-    here true e = lt_below s.worker i (sym all.0.mine ∙ e)
+    here true e = ltb-true s.worker i (sym all.0.mine ∙ e)
     here false e = absurd (too_few e)
 
     rest : (b : Bool) → m.mine ≡ b → made_from (n + 1) marks ≡ numbered (n + 1) (visits_of marks)
@@ -238,7 +216,7 @@ all_signed i nobody n (s ∷ signs) (m ∷ marks) all made =
 pub joined_none : (marks : List Mark) → AreJoined marks [] marks
 joined_none marks = record {
   marks = sym (merged-nil marks);
-  apart = λ i. omega (arith, made_at-le i marks);
+  apart = λ i. omega (arith, made_at-few i marks);
   begins = inr (visits_of marks, refl);
   held = omega arith;
 }
@@ -247,7 +225,7 @@ joined_none marks = record {
 pub none_joined : (marks : List Mark) → AreJoined [] marks marks
 none_joined marks = record {
   marks = refl;
-  apart = λ i. omega (arith, made_at-le i marks);
+  apart = λ i. omega (arith, made_at-few i marks);
   begins = inl (visits_of marks, refl);
   held = omega arith;
 }

@@ -5,13 +5,14 @@ use Rattle.std.proofs.lemmas.List.{length-map}
 use Rattle.std.proofs.lemmas.List.Sums.{sum_by-append, sum_by-cons}
 use Rattle.std.proofs.lemmas.List.Elements.{All-head, All-tail}
 use Rattle.std.proofs.lemmas.Bool.Decides.{nat_tests}
+use Rattle.std.proofs.lemmas.Bool.{lt-ltb}
 use Rattle.tap_views.specs.Layout.{Tap}
 use Rattle.tap_views.specs.Files.{IsFile}
 use Rattle.tap_views.specs.Shards.{shard_of_token}
 use Rattle.tap_views.proofs.ReadingLemmas.{batch_room}
+use Rattle.tap_views.proofs.Lists.{AllZip-length}
 use Rattle.shard_book.specs.Entry.{IsEntryOf}
 use Rattle.fare_service.specs.Runs.{PlacedTap, placed_from, taps_of_placed, of_shard, PlacedRun, placed_run, if_any, runs_below, runs_of, RunVisit, IsEntered, run_of_visit, ArePostedWhole, AreCut, entries_of, taps_posted}
-use Rattle.fare_service.proofs.RunVisits.{AllZip-length}
 
 abbrev pub runs_taps : List PlacedRun → ℕ
 runs_taps runs = sum_by (λ r. length r.taps) runs
@@ -136,14 +137,11 @@ file_room file (batch ∷ batches) rest (front, back, is_batch, whole, is) =
     let all : batches_taps (batch ∷ batches) ≡ length batch + batches_taps batches = sum_by-cons (λ (b : List Tap). length b) batch batches in
     omega (arith, ap length whole, length-append front back)
 
-below_tells : (a b : ℕ) → a < b → nat_lt a b ≡ true
-below_tells a b h = grind (arith, nat_tests)
-
 all_below : (shards : ℕ) (taps : List PlacedTap) → ((token : List ℕ) → shard_of_token token shards < shards) → filter (λ p. nat_lt (shard_of_token p.tap.token shards) shards) taps ≡ taps
 all_below shards [] within = refl
 all_below shards (p ∷ taps) within =
     let below = filter (λ (q : PlacedTap). nat_lt (shard_of_token q.tap.token shards) shards) taps in
-    ap (λ b. cond b (p ∷ below) below) (below_tells (shard_of_token p.tap.token shards) shards (within p.tap.token)) ∙ ap (λ ps. p ∷ ps) (all_below shards taps within)
+    ap (λ b. cond b (p ∷ below) below) (lt-ltb (shard_of_token p.tap.token shards) shards (within p.tap.token)) ∙ ap (λ ps. p ∷ ps) (all_below shards taps within)
 
 -- where each token has one of the shards, the runs of batches have all their taps
 pub all_runs_taps : (shards place : ℕ) (batches : List (List Tap)) → ((token : List ℕ) → shard_of_token token shards < shards) → runs_taps (runs_of shards place batches) ≡ batches_taps batches

@@ -1,8 +1,7 @@
 -- An upload that was posted: how it ended.
 use Rattle.std.specs.Prelude.{ℕ, ◌≡◌, ◌-◌, ◌<◌, List, [], Result, Ok, Err, IfOk, is_ok, Option, Some, None, length}
 use Rattle.std.proofs.Common.{sym, ◌∙◌, ap, subst, arith, get_or, map}
-use Rattle.std.proofs.lemmas.List.{length-map}
-use Rattle.fare_service.proofs.RunVisits.{get_or-map}
+use Rattle.std.proofs.lemmas.List.{length-map, get_or-map}
 use Rattle.tap_views.specs.Layout.{Tap}
 use Rattle.tap_views.specs.Files.{IsFile, IsEndAfterBatches}
 use Rattle.tap_views.specs.declared.fault.LayoutFault.{LayoutFault}

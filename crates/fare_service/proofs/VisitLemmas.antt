@@ -1,9 +1,8 @@
 -- What a worker's visits change.
-use Rattle.std.specs.Prelude.{ℕ, ◌≡◌, ◌≢◌, ◌⊎◌, ◌+◌, ◌<◌, ◌==◌, true, false, cond, List, [], ◌∷◌, ◌++◌, length, map, filter, take, All}
-use Rattle.std.proofs.Common.{refl, sym, ◌∙◌, ap, inl, inr, subst, append_assoc, append-nil, arith, get_or, set, length-append, add-zero, add_assoc}
+use Rattle.std.specs.Prelude.{ℕ, ◌≡◌, ◌≢◌, ◌⊎◌, ◌+◌, ◌<◌, ◌==◌, true, false, List, [], ◌∷◌, ◌++◌, length, map, filter, take, All}
+use Rattle.std.proofs.Common.{refl, sym, ◌∙◌, ap, inl, inr, subst, append_assoc, append-nil, arith, get_or, set, add_assoc}
 use Rattle.std.proofs.lemmas.List.{map-append, map-set, length-map, get_or-set_same, get_or-set_other}
 use Rattle.std.proofs.lemmas.List.Elements.{filter-append, All-nil, All-append}
-use Rattle.std.proofs.lemmas.List.Sums.{sum_by-append}
 use Rattle.std.proofs.lemmas.Grind.{flat_map-append}
 use Rattle.std.specs.Prelude.{slice_get, Some}
 use Rattle.std.proofs.lemmas.List.{take_more}
@@ -12,47 +11,14 @@ use Rattle.std.proofs.lemmas.Bool.Decides.{eqb_tells}
 use Rattle.std.proofs.Math.Seq.{map-set_same}
 use Rattle.account_rule.specs.declared.reply.Reply.{Reply}
 use Rattle.shard_book.specs.declared.entry.Entry.{Entry}
-use Rattle.shard_book.specs.Entry.{reply_of}
-use Rattle.shard_book.specs.Sums.{Sums, sums, sums_of_replies, add_sums, is_paid, is_transfer, is_capped, is_stale, is_unknown}
+use Rattle.shard_book.specs.Sums.{Sums, sums, sums_of_replies, add_sums}
+use Rattle.shard_book.proofs.SumsLemmas.{replies-append, sums-append, add_none, add_assoc}
 use Rattle.shared_books.specs.declared.turns.rule.Mark.{Mark}
 use Rattle.shared_books.specs.Marks.{mark, others}
 use Rattle.shared_books.specs.Passes.{PassView, HasSeenMore, Visits}
 use Rattle.fare_service.specs.Runs.{RunVisit, IsEntered, entries_to, entries_of}
 use Rattle.fare_service.specs.inside.Runs.{visits_to}
 use Rattle.fare_service.specs.Shares.{made_visits, marks_at, made_visits_at, HasVisited}
-
--- sums are their seven numbers
-abbrev pub seven : ℕ → ℕ → ℕ → ℕ → ℕ → ℕ → ℕ → Sums
-seven a b c d e f g = record { taps = a; paid = b; transfers = c; capped = d; stale = e; unknown = f; cents = g }
-
-pub same_seven : (a a' b b' c c' d d' e e' f f' g g' : ℕ) → a ≡ a' → b ≡ b' → c ≡ c' → d ≡ d' → e ≡ e' → f ≡ f' → g ≡ g' → seven a b c d e f g ≡ seven a' b' c' d' e' f' g'
-same_seven a a' b b' c c' d d' e e' f f' g g' p q r s t u v = cc
-
--- the sums of two lists of replies
-pub sums_of_replies-append : (xs ys : List Reply) → sums_of_replies (xs ++ ys) ≡ add_sums (sums_of_replies xs) (sums_of_replies ys)
-unfolding sums_of_replies
-sums_of_replies-append xs ys =
-    same_seven _ _ _ _ _ _ _ _ _ _ _ _ _ _
-    (length-append xs ys)
-    (sum_by-append (λ r. cond (is_paid r.answer) 1 0) xs ys)
-    (sum_by-append (λ r. cond (is_transfer r.answer) 1 0) xs ys)
-    (sum_by-append (λ r. cond (is_capped r.answer) 1 0) xs ys)
-    (sum_by-append (λ r. cond (is_stale r.answer) 1 0) xs ys)
-    (sum_by-append (λ r. cond (is_unknown r.answer) 1 0) xs ys)
-    (sum_by-append (λ r. r.cents) xs ys)
-
-pub sums-append : (xs ys : List Entry) → sums (xs ++ ys) ≡ add_sums (sums xs) (sums ys)
-sums-append xs ys = ap sums_of_replies (map-append reply_of xs ys) ∙ sums_of_replies-append (map reply_of xs) (map reply_of ys)
-
-pub add_none : (s : Sums) → add_sums s (sums []) ≡ s
-unfolding sums_of_replies
-add_none s = same_seven _ _ _ _ _ _ _ _ _ _ _ _ _ _ (add-zero s.taps) (add-zero s.paid) (add-zero s.transfers) (add-zero s.capped) (add-zero s.stale) (add-zero s.unknown) (add-zero s.cents)
-
-pub add_add : (r s t : Sums) → add_sums (add_sums r s) t ≡ add_sums r (add_sums s t)
-add_add r s t =
-    same_seven _ _ _ _ _ _ _ _ _ _ _ _ _ _
-    (add_assoc r.taps s.taps t.taps) (add_assoc r.paid s.paid t.paid) (add_assoc r.transfers s.transfers t.transfers) (add_assoc r.capped s.capped t.capped)
-    (add_assoc r.stale s.stale t.stale) (add_assoc r.unknown s.unknown t.unknown) (add_assoc r.cents s.cents t.cents)
 
 pub own-append : (xs ys : List Mark) → made_visits (xs ++ ys) ≡ made_visits xs ++ made_visits ys
 own-append xs ys =
@@ -127,7 +93,7 @@ made_more shards p q r s t u xs ys a b = record {
   claims = b.claims ∙ a.claims;
   visits = λ n. b.visits n ∙ (ap (λ vs. vs ++ entries_to n ys) (a.visits n) ∙ append_assoc (made_visits_at n p) (entries_to n xs) (entries_to n ys)
       ∙ ap (λ vs. made_visits_at n p ++ vs) (sym (entries_to-append n xs ys)));
-  counted = b.counted ∙ ap (λ c. add_sums c (sums (entries_of ys))) a.counted ∙ add_add s (sums (entries_of xs)) (sums (entries_of ys))
+  counted = b.counted ∙ ap (λ c. add_sums c (sums (entries_of ys))) a.counted ∙ add_assoc s (sums (entries_of xs)) (sums (entries_of ys))
       ∙ ap (add_sums s) (sym (ap sums (flat_map-append (λ v. v.entries) xs ys) ∙ sums-append (entries_of xs) (entries_of ys)));
   entered = All-append (IsEntered shards) xs ys a.entered b.entered;
 }
@@ -137,7 +103,7 @@ pub next_reply : (replies : List Reply) (i : ℕ) (reply : Reply) → slice_get 
     → add_sums (sums_of_replies (take i replies)) (sums_of_replies (reply ∷ [])) ≡ sums_of_replies (take (i + 1) replies)
 next_reply replies i reply at =
     sym (ap sums_of_replies (take_more replies i reply (slice_get_within replies i reply at) ∙ ap (λ r. take i replies ++ r ∷ []) (get_or_from_slice_get replies i reply reply at))
-    ∙ sums_of_replies-append (take i replies) (reply ∷ []))
+    ∙ replies-append (take i replies) (reply ∷ []))
 
 -- the taps that are counted are the replies
 pub taps_of_replies : (replies : List Reply) → (sums_of_replies replies).taps ≡ length replies

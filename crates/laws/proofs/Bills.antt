@@ -31,12 +31,11 @@ use Rattle.shard_book.specs.Sums.{is_capped, is_paid, is_transfer, sums, sums_of
 use Rattle.shard_book.specs.SumsByKey.{entries_of_validator}
 use Rattle.shard_book.specs.declared.entry.Entry.{Entry}
 use Rattle.shard_book.specs.Plain.{answered}
-use Rattle.fare_service.proofs.PlainLists.{filter-filter}
-use Rattle.fare_service.proofs.PlainRuns.{AllZip-append}
 use Rattle.tap_parts.specs.Parts.{taps_of_uploads}
 use Rattle.settlement.specs.Settled.{IsSettledHistory}
 use Rattle.settlement.proofs.Histories.{entry_of}
 use Rattle.tap_views.proofs.ReadingLemmas.{one_list}
+use Rattle.tap_views.proofs.Lists.{filter-filter, AllZip-append}
 use Rattle.laws.specs.Bills.{BillAlike, ChargeAlike, is_live, is_live_answer, live_entries}
 use Rattle.laws.specs.TapSets.{AreSentAgain, HaveSameSetOfTaps, fields_of_uploads}
 use Rattle.laws.proofs.Posts.{SameBill, after, plain_is_after}

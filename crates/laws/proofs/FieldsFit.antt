@@ -17,10 +17,10 @@ use Rattle.tap_views.specs.Layout.{spelling}
 use Rattle.tap_views.specs.declared.encoder.TapFields.{TapFields}
 use Rattle.fare_table.specs.Fares.{Fares}
 use Rattle.tap_views.specs.Token.{Fits}
+use Rattle.tap_views.proofs.Lists.{All-split}
 use Rattle.shard_book.specs.declared.entry.Entry.{Entry}
 use Rattle.shard_book.specs.Plain.{token_of_bytes, unanswered}
 use Rattle.fare_service.proofs.PlainFields.{AreBytes}
-use Rattle.fare_service.proofs.PlainLists.{All-split}
 use Rattle.shard_book.proofs.PlainReplies.{bare}
 use Rattle.tap_parts.specs.Parts.{taps_of_uploads, of_part, part_of_token}
 use Rattle.laws.specs.Split.{IsSplit, Part}

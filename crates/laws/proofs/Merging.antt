@@ -30,6 +30,7 @@ use Rattle.std.proofs.lemmas.List.Kept.{IsSortedBy-filter}
 use Rattle.std.proofs.lemmas.List.Sorted.{All-permutation, ranks_by}
 use Rattle.tap_views.specs.Encoding.{fields_of}
 use Rattle.tap_views.specs.declared.encoder.TapFields.{TapFields}
+use Rattle.tap_views.proofs.Lists.{filter-filter}
 use Rattle.fare_service.specs.Plain.{IsPlain}
 use Rattle.shard_book.specs.Plain.{unanswered, plain}
 use Rattle.tap_parts.specs.Canonical.{tap_cmp}
@@ -41,8 +42,9 @@ use Rattle.settlement.proofs.OwnEntries.{fields_named, same_plain}
 use Rattle.tap_parts.proofs.Total.{tap_cmp_total, tap_cmp_exact}
 use Rattle.settlement.proofs.Unique.{same_sorted}
 use Rattle.fare_service.proofs.PlainFields.{plain_fields}
-use Rattle.fare_service.proofs.PlainLists.{flat_alone, mapped_at, same_elements, filter-filter}
+use Rattle.fare_service.proofs.PlainLists.{flat_alone, mapped_at}
 use Rattle.shard_book.proofs.PlainReplies.{bare, own_bare, plain_bare}
+use Rattle.shard_book.proofs.SameUnderKeys.{same_elements}
 use Rattle.tap_parts.specs.Parts.{part_of_token, of_part}
 use Rattle.laws.specs.Split.{Part, IsSplit, entries_of_parts}
 

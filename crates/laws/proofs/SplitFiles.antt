@@ -13,11 +13,11 @@ use Rattle.tap_views.specs.declared.encoder.TapFields.{TapFields}
 use Rattle.tap_parts.specs.Parts.{part_of_token, of_part}
 use Rattle.tap_views.specs.Files.{AreGoodTaps, AreGoodTapsOfEach, HasOneReading}
 use Rattle.tap_parts.specs.Split.{IsSplitFile}
-use Rattle.fare_service.proofs.PlainRuns.{AllZip-append}
 use Rattle.tap_parts.specs.Parts.{taps_of_uploads}
 use Rattle.laws.specs.Files.{HasNoFault}
 use Rattle.settlement.proofs.Histories.{read_fields}
 use Rattle.tap_views.proofs.ReadingLemmas.{one_list}
+use Rattle.tap_views.proofs.Lists.{AllZip-append}
 
 -- the uploads of all groups, group after group
 abbrev pub all_of : List (List (List ℕ)) → List (List ℕ)

@@ -20,7 +20,8 @@ use Rattle.shard_book.specs.SumsByKey.{sums_by_token, token_of, tokens}
 use Rattle.shard_book.specs.Keys.{same_token}
 use Rattle.shard_book.specs.Rising.{rising}
 use Rattle.shard_book.specs.Sums.{Sums, sums}
-use Rattle.fare_service.proofs.PlainLists.{flat_alone, mapped_at, same_elements}
+use Rattle.shard_book.proofs.SameUnderKeys.{same_elements}
+use Rattle.fare_service.proofs.PlainLists.{flat_alone, mapped_at}
 use Rattle.tap_parts.specs.Parts.{part_of_token}
 use Rattle.laws.specs.Split.{IsSplit, Part, pairs_of_parts}
 use Rattle.laws.proofs.Merging.{RisingTokens, own_elsewhere, own_there, token_itself}

@@ -6,7 +6,7 @@ use Rattle.std.specs.Prelude.{⊤, Contains}
 use Rattle.std.specs.Cmp.{IsTotalOrder}
 use Rattle.std.specs.Cmp.Lexicographic.{on_texts}
 use Rattle.std.specs.Io.KnownBytes.{Appends}
-use Rattle.std.specs.List.{AllByRecursion, sum_by}
+use Rattle.std.specs.List.{AllByRecursion}
 use Rattle.std.specs.List.Sorted.{IsSorted, IsStrictlySortedBy}
 use Rattle.std.specs.Ordering.{is_eq, is_lt, ordering_reverse, ordering_then}
 use Rattle.std.specs.declared.cmp.Ordering.{Ordering}
@@ -16,6 +16,7 @@ use Rattle.std.proofs.lemmas.List.Elements.{All-from_recursion, filter-append, r
 use Rattle.std.proofs.lemmas.List.Kept.{IsSortedBy-filter}
 use Rattle.std.proofs.lemmas.List.Sorted.{ranks_by, sorted_far}
 use Rattle.std.proofs.lemmas.List.Sums.{sum_by-append}
+use Rattle.std.proofs.KnownBytes.{Appends-trans}
 use Rattle.ledger_changes.specs.Changes.{AreCorrections, Pair, is_changed}
 use Rattle.ledger_changes.specs.Ledgers.{IsSettledLedger}
 use Rattle.ledger_changes.specs.Rows.{Key, Row, is_same_text, key_cmp, text_cmp}
@@ -28,7 +29,6 @@ use Rattle.ledger_changes.specs.inside.Sums.{AreSumsWritten, TokenSum, add_chang
 use Rattle.ledger_changes.specs.inside.Sums.{ended_lines, no_sums, sums_after, sums_line}
 use Rattle.ledger_changes.specs.inside.Written.{AreTold}
 use Rattle.ledger_changes.proofs.Keys.{key_cmp_total, tied}
-use Rattle.ledger_changes.proofs.Merging.{appends_more}
 
 -- ---- tokens
 text_total : IsTotalOrder text_cmp
@@ -411,6 +411,6 @@ finished_by_token old_text new_text old new out mid end removed begun_old begun_
         shown = refl;
         counted = is.told.counted;
       },
-      appends_more out mid end tokens_head (tokens_lines is.changes by.tokens) head
+      Appends-trans out mid end tokens_head (tokens_lines is.changes by.tokens) head
           (subst (Appends mid end) by.shown is.told.written),
     )

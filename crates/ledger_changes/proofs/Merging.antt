@@ -12,6 +12,7 @@ use Rattle.std.specs.declared.cmp.Ordering.TheVariants.{Less, Equal, Greater}
 use Rattle.std.proofs.lemmas.List.Concat.{flat_map-append}
 use Rattle.std.proofs.lemmas.List.Elements.{All-from_recursion, filter-append}
 use Rattle.std.proofs.lemmas.List.Sorted.{ranks_by}
+use Rattle.std.proofs.KnownBytes.{Appends-nil, Appends-trans}
 use Rattle.ledger_changes.specs.Changes.{AreSideBySide, IsSomeLine, Pair, UseUp, UsesUp}
 use Rattle.ledger_changes.specs.Changes.{afters, befores, is_changed, row_of}
 use Rattle.ledger_changes.specs.Rows.{Charge, Key, Row, key_cmp}
@@ -362,18 +363,6 @@ pub record IsGoing (old0 new0 old new : Standing) (Told : List Pair → Type 0) 
       → (rest : List Row) × HasRows new rest
   pub told : IsKnown old0 → IsKnown new0 → IsDone old0 new0 old new Told
 
-pub appends_none : (out : Option (List ℕ)) → Appends out out []
-appends_none None = tt
-appends_none (Some bytes) = sym (append-nil bytes)
-
-pub appends_more : (a b c : Option (List ℕ)) (x y : List ℕ) → Appends a b x → Appends b c y
-    → Appends a c (x ++ y)
-appends_more None b c x y p q = tt
-appends_more (Some xs) None c x y p q = elim p [ ]
-appends_more (Some xs) (Some ys) None x y p q = elim q [ ]
-appends_more (Some xs) (Some ys) (Some zs) x y p q =
-    q ∙ ap (λ (bytes : List ℕ). bytes ++ y) p ∙ append_assoc xs x y
-
 pub going_start : (old new : Standing) (Told : List Pair → Type 0) → Told []
     → IsGoing old new old new Told
 going_start old new Told told = record {
@@ -546,7 +535,7 @@ removed_more changes more =
     ∙ length-append (filter is_removed changes) (filter is_removed more)
 
 pub written_none : (out : Option (List ℕ)) → AreWritten out out 0 []
-written_none out = record { written = appends_none out; counted = refl }
+written_none out = record { written = Appends-nil out; counted = refl }
 
 pub written_more : (out0 out out' : Option (List ℕ)) (removed counted : ℕ) (more done : List Pair)
     → Appends out out' (corrections_lines more) → counted ≡ removed + removed_in more
@@ -556,7 +545,7 @@ written_more out0 out out' removed counted more done appends count written =
     let so_far = written.counted in
     record {
       written = subst (Appends out0 out') (sym (flat_map-append correction_line done more))
-          (appends_more out0 out out' (corrections_lines done) (corrections_lines more)
+          (Appends-trans out0 out out' (corrections_lines done) (corrections_lines more)
           written.written appends);
       counted = omega (arith, sum, so_far, count);
     }
@@ -579,5 +568,5 @@ finished old_text new_text old new out mid end removed begun_old begun_new head 
         shown = refl;
         counted = is.told.counted;
       },
-      appends_more out mid end corrections_head (corrections_lines is.changes) head is.told.written,
+      Appends-trans out mid end corrections_head (corrections_lines is.changes) head is.told.written,
     )

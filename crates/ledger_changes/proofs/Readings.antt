@@ -61,7 +61,8 @@ some_taken : (b : Bool) (x : ℕ) (front : List ℕ) → (if b then x ∷ [] els
 some_taken true x front is = absurd (omega (arith, ap length is))
 some_taken false x front is = absurd (omega (arith, ap length is))
 
-taken_none : (left : List ℕ) → take_through 10 left ≡ [] → left ≡ []
+-- no line is left of no bytes alone
+pub taken_none : (left : List ℕ) → take_through 10 left ≡ [] → left ≡ []
 taken_none [] is = refl
 taken_none (x ∷ left) is = absurd (some_taken (x == 10) x (take_through 10 left) is)
 

@@ -1,9 +1,8 @@
 -- What was loaded, one more each time, and what the program compares.
-use Rattle.std.proofs.Common.{◌≡◌, ◌∙◌, ℕ, Bool, true, false, not, List, [], ◌∷◌, ◌++◌, length, map, refl, sym, ap, subst, append-nil, append_assoc, nat_eq, Option, Some, None, if◌then◌else◌, Bor, ◌<◌, zero, suc, get_or, inl, inr, arith, codes}
+use Rattle.std.proofs.Common.{◌≡◌, ◌∙◌, ℕ, Bool, true, false, not, List, [], ◌∷◌, ◌++◌, length, map, refl, sym, ap, subst, append-nil, append_assoc, nat_eq, Option, Some, None, if◌then◌else◌, Bor, ◌<◌, suc, get_or, inl, inr, arith, codes}
 use Rattle.std.specs.Prelude.{IfErr, IfSome, Result, Ok, Err, option_map, unwrap_or}
 use Rattle.std.specs.Io.KnownBytes.{Keeps}
-use Rattle.std.specs.Result.{IsErrAnd, IsErrOf}
-use Rattle.fare_table.specs.declared.fault.TableFault.{TableFault}
+use Rattle.std.specs.Result.{IsErrAnd}
 use Rattle.std.proofs.lemmas.Bool.Decides.{nat_tests}
 use Rattle.std.proofs.lemmas.List.{map-append}
 use Rattle.clap.specs.Words.{Text}
@@ -15,22 +14,17 @@ use Rattle.omny_audit.specs.declared.fault.Fault.{Fault}
 use Rattle.omny_audit.specs.declared.fault.Fault.TheVariants.{File, Ledger, Table, Write, Closed, NoMemory}
 use Rattle.omny_audit.specs.Program.{AreGoodFieldsOfAll, IsRightAuditFault, LoadsNamedFiles, compared}
 use Rattle.omny_audit.specs.Source.{OpensOne}
-use Rattle.program_manners.specs.Refusals.{IsOneOf, Refuses, TellsRefusal}
+use Rattle.program_manners.specs.Refusals.{IsOneOf}
 use Rattle.program_manners.proofs.Refusals.{is_one_at}
 use Rattle.omny_audit.specs.inside.Fault.{is_of_loading}
 use Rattle.omny_audit.specs.inside.Source.{IsAllOf}
 use Rattle.program_manners.specs.Loads.{Loaded, Tells, TellsOne}
 use Rattle.program_manners.specs.declared.loading.LoadFault.{LoadFault}
+use Rattle.program_manners.proofs.Loading.{tells_on}
 
 pub tells_none : (told : Option (List Loaded)) → Tells told told []
 tells_none None = tt
 tells_none (Some before) = sym (append-nil before)
-
-tells_on : (told told' told'' : Option (List Loaded)) (loads more : List Loaded) → Tells told told' loads → Tells told' told'' more → Tells told told'' (loads ++ more)
-tells_on None told' told'' loads more first next = tt
-tells_on (Some before) None told'' loads more first next = absurd first
-tells_on (Some before) (Some now) None loads more first next = absurd next
-tells_on (Some before) (Some now) (Some after) loads more first next = next ∙ ap (λ (xs : List Loaded). xs ++ more) first ∙ append_assoc before loads more
 
 -- one more file that was loaded
 pub loads_push : (names : List Text) (name : Text) (told told' told'' : Option (List Loaded)) (files : List (List ℕ)) (bytes : List ℕ)

@@ -1,19 +1,8 @@
 -- What a reader has lost, and what follows of all that it had.
-use Rattle.std.proofs.Common.{ℕ, List, [], ◌++◌, Option, Some, None, refl, sym, ap, ◌∙◌, append_assoc, append-nil}
+use Rattle.std.proofs.Common.{ℕ, List, [], ◌++◌, Option, Some, None, ap, ◌∙◌, append-nil}
 use Rattle.std.specs.Prelude.{unwrap_or}
 use Rattle.std.specs.Io.KnownBytes.{Consumes, IsAtEnd}
 use Rattle.omny_audit.specs.inside.Source.{IsAllOf}
-
-pub consumes-none : (old : Option (List ℕ)) → Consumes old old []
-consumes-none None = tt
-consumes-none (Some xs) = refl
-
-pub consumes-more : (old middle new : Option (List ℕ)) (a b : List ℕ) → Consumes old middle a → Consumes middle new b → Consumes old new (a ++ b)
-consumes-more None middle new a b one two = tt
-consumes-more (Some xs) None new a b one two = absurd one
-consumes-more (Some xs) (Some ys) None a b one two = absurd two
-consumes-more (Some xs) (Some ys) (Some zs) a b one two =
-    one ∙ ap (λ (t : List ℕ). a ++ t) two ∙ sym (append_assoc a b zs)
 
 is_all : (old new : Option (List ℕ)) (read : List ℕ) → Consumes old new read → IsAtEnd new → IsAllOf old read
 is_all None new read consumed end = tt

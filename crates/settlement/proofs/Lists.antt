@@ -8,9 +8,9 @@ use Rattle.tap_views.specs.declared.encoder.TapFields.{TapFields}
 use Rattle.tap_parts.specs.Parts.{taps_at}
 use Rattle.tap_parts.proofs.Adding.{fields-append}
 use Rattle.tap_views.specs.Files.{AreGoodTaps}
+use Rattle.tap_views.proofs.Lists.{AllZip-append}
 use Rattle.report_texts.specs.UploadEnds.{IsPlainEnd}
 use Rattle.report_texts.specs.declared.upload_end.UploadEnd.{UploadEnd}
-use Rattle.fare_service.proofs.PlainRuns.{AllZip-append}
 use Rattle.settlement.specs.inside.SplitTaps.{AreInParts, in_part}
 use Rattle.tap_parts.specs.Parts.{taps_of_uploads}
 

@@ -17,8 +17,8 @@ use Rattle.tap_parts.specs.declared.upload.UploadTaps.{UploadTaps}
 use Rattle.tap_parts.proofs.Adding.{none_added, batch_added}
 use Rattle.report_texts.specs.UploadEnds.{IsPlainEnd, end_by}
 use Rattle.report_texts.specs.declared.upload_end.UploadEnd.{UploadEnd}
-use Rattle.fare_service.proofs.PlainRuns.{AllZip-append}
 use Rattle.tap_views.specs.declared.token.Token.{Token}
+use Rattle.tap_views.proofs.Lists.{AllZip-append}
 use Rattle.settlement.specs.Reading.{AreRead}
 use Rattle.settlement.specs.inside.OwnTaps.{AreOwnAdded, IsRunOwn}
 use Rattle.settlement.specs.inside.SplitTaps.{HasGoodTokens, IsRunAdded, IsRunInParts}

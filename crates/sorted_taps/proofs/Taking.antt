@@ -17,7 +17,7 @@ use Rattle.sorted_taps.specs.Readers.{ahead, StandsIn, IsAdvanced}
 use Rattle.sorted_taps.specs.Sorted.{IsSortedFile}
 use Rattle.sorted_taps.specs.declared.reader.TapReader.{TapReader}
 use Rattle.sorted_taps.proofs.Between.{between_more, between_none}
-use Rattle.sorted_taps.proofs.Merging.{all_by, merged_canonical, none_before, sorted_cons}
+use Rattle.sorted_taps.proofs.Merging.{merged_canonical, none_before, sorted_cons}
 use Rattle.sorted_taps.proofs.Standing.{whole_file}
 
 -- the taps from the one on at which the reader stands, up to the file's end
@@ -244,7 +244,7 @@ module _ (files : List (List ℕ)) (old mid : List TapReader) (tap : TapFields)
     least_taken : IsLeastTaken before tap lists
     least_taken =
         record {
-          least = all_by (BeginsNotBefore tap) before (λ j d inside.
+          least = (λ j d inside.
               let m = as_many in
               let long = length-set lists taken.at (tap ∷ rest) in
               let within_old : j < length old = omega (arith, inside, m, long, number) in
@@ -353,7 +353,7 @@ taken_merged files begun end taps is taken at_end =
           let all = left.passed k d in_begun in
           let none : (get_or begun k d).passed ≡ 0 = (is.each k d in_begun).number in
           omega (arith, all, none));
-      canonical = merged_canonical lists taps (all_by (IsSorted tap_cmp) lists (λ j d inside.
+      canonical = merged_canonical lists taps ((λ j d inside.
           subst (λ l. IsSorted tap_cmp l) (get_or_default lists j [] d inside)
           (each j (omega (arith, inside, many))).sorted)) left.merged;
     }

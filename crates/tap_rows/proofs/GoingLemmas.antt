@@ -3,6 +3,7 @@ use Rattle.std.proofs.Common.{◌≡◌, ℕ, ◌+◌, List, [], ◌∷◌, ◌+
 use Rattle.std.specs.Prelude.{Option, IfSome, flat_map}
 use Rattle.std.specs.Io.KnownBytes.{Appends}
 use Rattle.std.proofs.lemmas.Slice.Zip.{AllZip-long}
+use Rattle.std.proofs.KnownBytes.{Appends-nil, Appends-trans}
 use Rattle.csv.specs.Machine.{next_record}
 use Rattle.csv.specs.Reading.{Reached, strip_bom}
 use Rattle.csv.specs.Records.{field_at}
@@ -30,7 +31,7 @@ use Rattle.tap_rows.specs.inside.TapTables.{IsEncodedAs}
 use Rattle.tap_rows.specs.inside.WaitingTaps.{AreWritten}
 use Rattle.tap_rows.proofs.AgencyLemmas.{readings_more, refusals_more, refusals_text_more, taps_more}
 use Rattle.tap_rows.proofs.AgencyRowLemmas.{no_wanting}
-use Rattle.tap_rows.proofs.TableLemmas.{appends_more, appends_nothing, two_files}
+use Rattle.tap_rows.proofs.TableLemmas.{two_files}
 
 -- ---- the taps that wait
 -- those that waited are written
@@ -39,7 +40,7 @@ all_written old here there waiting taps is (more, upload, appended) = record {
   done = is.done ++ waiting;
   file = is.file ++ more;
   upload = two_files is.file more is.done waiting is.upload upload;
-  written = appends_more old here there is.file more is.written appended;
+  written = Appends-trans old here there is.file more is.written appended;
   all = is.all ∙ sym (append-nil (is.done ++ waiting));
 }
 
@@ -68,7 +69,7 @@ going_first remaining choice places text reader waiting summary out old_refused 
   each = tt;
   number = refl;
   room = subst (λ taps. AreEncodable (λ tap. tap.moment) taps) (sym none) (omega arith, λ k d within. absurd (omega (arith, within)));
-  written = subst (λ taps. AreWritten out out taps []) (sym none) (record { done = []; file = []; upload = no_text; written = appends_nothing out; all = refl });
+  written = subst (λ taps. AreWritten out out taps []) (sym none) (record { done = []; file = []; upload = no_text; written = Appends-nil out; all = refl });
   refused = subst (λ bytes. Appends old_refused new_refused bytes) (sym (append-nil (refusals_head choice.separator head))) appended;
   summary_is = summary_is;
 }

@@ -7,6 +7,8 @@ use Rattle.tap_views.specs.declared.encoder.TapFields.{TapFields}
 use Rattle.std.specs.Prelude.{map, flat_map}
 use Rattle.std.proofs.lemmas.List.{map-append}
 use Rattle.std.proofs.lemmas.List.Concat.{flat_map-append}
+use Rattle.std.proofs.KnownBytes.{Appends-nil, Appends-trans}
+use Rattle.std.proofs.lemmas.Option.{MatchOption-at_some, IfSome_then}
 use Rattle.std.specs.Prelude.{All, IsSome, IsSomeAnd, slice_get, slice_index_or}
 use Rattle.tap_views.specs.Encoding.{fields_of, AreEncodable, IsRefused as IsFaultOf}
 use Rattle.tap_views.specs.declared.encoder.EncodeFault.{EncodeFault}
@@ -22,28 +24,7 @@ use Rattle.tap_rows.specs.declared.fault.RowsFault.{RowsFault}
 use Rattle.tap_rows.specs.declared.fault.RowsFault.TheVariants.{Head, Row, Unread, Changed, Write, NoMemory}
 use Rattle.tap_rows.proofs.RowLemmas.{one_row, no_bad_row, not_empty}
 
--- ---- known bytes
-pub appends_nothing : (o : Option (List ℕ)) → Appends o o []
-appends_nothing None = tt
-appends_nothing (Some xs) = sym (append-nil xs)
-
-pub appends_more : (a b c : Option (List ℕ)) (x y : List ℕ) → Appends a b x → Appends b c y → Appends a c (x ++ y)
-appends_more None b c x y p q = tt
-appends_more (Some xs) None c x y p q = elim p [ ]
-appends_more (Some xs) (Some ys) None x y p q = elim q [ ]
-appends_more (Some xs) (Some ys) (Some zs) x y p q = q ∙ ap (λ bs. bs ++ y) p ∙ append_assoc xs x y
-
--- what holds of known bytes, in another form
-pub weaker : (o : Option (List ℕ)) (P Q : List ℕ → Type 0) → ((text : List ℕ) → P text → Q text) → IfSome o P → IfSome o Q
-weaker None P Q f holds = tt
-weaker (Some text) P Q f holds = f text holds
-
--- ---- batches
-pub nothing : (taps : List TapFields) → length taps ≡ 0 → taps ≡ []
-nothing [] e = refl
-nothing (tap ∷ taps) e = absurd (omega (arith, e))
-
--- none of early taps is late
+-- ---- MatchOption-at_some (Unit {0}) bytes ---- batches -- none of early taps is late
 no_late : (taps : List TapFields) (index : ℕ) → All (λ tap. tap.moment < 4102444800000) taps → ¬ (IsSomeAnd (slice_get taps index) (λ tap. 4102444800000 ≤ tap.moment))
 no_late [] index early late = elim late [ ]
 no_late (tap ∷ taps) zero early late = let soon : tap.moment < 4102444800000 = early 0 tap (omega arith) in absurd (omega (arith, soon, late))
@@ -72,14 +53,10 @@ pub record Reached (text : List ℕ) (now : Option (List ℕ)) (taps : List TapF
 pub reached_first : (text : List ℕ) (now : Option (List ℕ)) → (IsHead (first_line text)) × (now ≡ Some (drop_through 10 text)) → Reached text now []
 reached_first text now (is, left) = record { left = drop_through 10 text; head_line = is; now_is = left; rows = refl }
 
--- what holds of the known bytes holds of what is left
-known : (P : List ℕ → Type 0) (now : Option (List ℕ)) (left : List ℕ) → now ≡ Some left → IfSome now P → P left
-known P now left e holds = subst (λ o. IfSome o P) e holds
-
 pub reached_more : (text : List ℕ) (now new : Option (List ℕ)) (number : ℕ) (taps : List TapFields) (tap : TapFields) → Reached text now taps
     → IfSome now (λ left. IsNextRow left number new (Ok (Some tap))) → Reached text new (taps ++ tap ∷ [])
 reached_more text now new number taps tap reached next =
-    let (some, row, after) = known (λ left. IsNextRow left number new (Ok (Some tap))) now reached.left reached.now_is next in
+    let (some, row, after) = MatchOption-at_some (Unit {0}) (λ left. IsNextRow left number new (Ok (Some tap))) reached.left reached.now_is next in
     record { left = drop_through 10 reached.left; head_line = reached.head_line; now_is = after; rows = more_rows (drop_through 10 text) taps reached.left tap reached.rows row }
 
 -- the same, of a row that was answered
@@ -91,13 +68,13 @@ next_of now new number result other is next = subst (λ r. IfSome now (λ left. 
 pub reached_end : (text : List ℕ) (now new : Option (List ℕ)) (number : ℕ) (taps : List TapFields) → Reached text now taps
     → IfSome now (λ left. IsNextRow left number new (Ok None)) → IsTapTable text taps
 reached_end text now new number taps reached next =
-    let none : reached.left ≡ [] = known (λ left. IsNextRow left number new (Ok None)) now reached.left reached.now_is next in
+    let none : reached.left ≡ [] = MatchOption-at_some (Unit {0}) (λ left. IsNextRow left number new (Ok None)) reached.left reached.now_is next in
     record { head_line = reached.head_line; rows = subst (λ left. BeginsWithRows (drop_through 10 text) taps left) none reached.rows }
 
 -- a fault tells of the row behind those that were read
 pub reached_fault : (text : List ℕ) (now new : Option (List ℕ)) (number : ℕ) (taps : List TapFields) (fault : RowsFault) → Reached text now taps → number ≡ length taps + 2
     → IfSome now (λ left. IsNextRow left number new (Err fault)) → IsRowsFault text fault
-reached_fault text now new number taps fault reached place next = by_fault fault (known (λ left. IsNextRow left number new (Err fault)) now reached.left reached.now_is next)
+reached_fault text now new number taps fault reached place next = by_fault fault (MatchOption-at_some (Unit {0}) (λ left. IsNextRow left number new (Err fault)) reached.left reached.now_is next)
   where
     by_fault : (fault : RowsFault) → IsNextRow reached.left number new (Err fault) → IsRowsFault text fault
     by_fault Head is = elim is [ ]
@@ -161,7 +138,7 @@ writing_first text now pending out none is = record {
   reached = subst (λ taps. Reached text now taps) (sym none) (reached_first text now is);
   number = ap length none;
   upload = no_text;
-  written = appends_nothing out;
+  written = Appends-nil out;
 }
 
 -- one row was read
@@ -205,7 +182,7 @@ writing_batch text now count pending old out new writing (more, is, appended) =
       reached = subst (λ taps. Reached text now taps) all writing.reached;
       number = omega (arith, writing.number, ap length all);
       upload = two_files writing.file more writing.done pending writing.upload is;
-      written = appends_more old out new writing.file more writing.written appended;
+      written = Appends-trans old out new writing.file more writing.written appended;
     }
 
 pub writing_end : (text : List ℕ) (now after : Option (List ℕ)) (count number : ℕ) (pending : List TapFields) (old out new : Option (List ℕ))
@@ -216,7 +193,7 @@ writing_end text now after count number pending old out new writing next (more, 
   number = writing.number;
   file = writing.file ++ more;
   upload = two_files writing.file more writing.done pending writing.upload is;
-  written = appends_more old out new writing.file more writing.written appended;
+  written = Appends-trans old out new writing.file more writing.written appended;
 }
 
 -- a row can be added: there is room in the batch
@@ -230,7 +207,7 @@ pub ready_written : (old now out0 here there out : Option (List ℕ)) (count : �
     → IfSome old (λ text. Writing text now count pending out0 here) → IsEncodedAs pending here there → Ready old now out0 out count after
 ready_written old now out0 here there out count pending after none same writing encoded =
     let P : List TapFields → Option (List ℕ) → Type 0 = λ taps o. IfSome old (λ text. Writing text now count taps out0 o) in
-    let done : P [] there = weaker old _ _ (λ text w. writing_batch text now count pending out0 here there w encoded) writing in
+    let done : P [] there = IfSome_then old writing (λ text w. writing_batch text now count pending out0 here there w encoded) in
     record {
       room = omega (arith, ap length none);
       early = λ k d within. absurd (omega (arith, within, ap length none));

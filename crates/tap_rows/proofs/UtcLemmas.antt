@@ -1,15 +1,12 @@
 -- A moment's text in UTC is read as the moment.
-use Rattle.std.proofs.Common.{◌≡◌, ◌-ℤ◌, ℕ, ℤ, pos, negsuc, ◌+◌, ◌-◌, ◌*◌, ◌/◌, ◌%◌, ◌^◌, ◌<◌, ◌==◌, ◌<ℤ◌, ◌≤ℤ◌, true, false, List, [], ◌∷◌, ◌++◌, Option, Some, None, Ok, refl, sym, subst, arith, inr}
+use Rattle.std.proofs.Common.{◌≡◌, ◌-ℤ◌, ℕ, ℤ, pos, ◌+◌, ◌-◌, ◌*◌, ◌/◌, ◌%◌, ◌^◌, ◌<◌, ◌==◌, true, false, List, [], ◌∷◌, ◌++◌, Option, Some, None, Ok, refl, sym, subst, arith, inr}
 use Rattle.std.proofs.lemmas.Bool.Decides.{nat_tests}
-use Rattle.std.proofs.lemmas.Int.{by_lt_z}
 use Rattle.std.specs.Char.{is_ascii_digit}
 use Rattle.jiff_core.specs.declared.civil.date.Date.{Date}
 use Rattle.jiff_core.specs.declared.error.Syntax.TheVariants as Syntax
 use Rattle.jiff_core.specs.declared.error.Bound.TheVariants as Bd
 use Rattle.jiff_core.specs.Date.{epoch_day}
 use Rattle.jiff_core.specs.Timestamp.{IsTimestampNanos, nanos_of_seconds}
-use Rattle.jiff_core.proofs.CalendarLemmas.{day_count-epoch, day_count-lt_year, days_from_civil-day_count}
-use Rattle.jiff_core.proofs.DateLemmas.{civil}
 use Rattle.jiff_core.proofs.SignedLemmas.{signed_arith}
 use Rattle.jiff_fmt.specs.Reader.{nanoseconds, temporal_fraction, fraction_value}
 use Rattle.jiff_fmt.specs.Temporal.{date_parts, fraction_or_zero, parse_timestamp, parts_nanos, temporal_datetime, time_spec, TimeParts}
@@ -17,6 +14,7 @@ use Rattle.jiff_fmt.specs.Text.{date_text, pad2, year_text}
 use Rattle.jiff_fmt.proofs.RoundTrip.{annotations-empty, date_spec-text, field-pad2, offset-zulu}
 use Rattle.jiff_fmt.proofs.TemporalLemmas.{instant-ok}
 use Rattle.fare_texts.specs.Moments.{IsCivilText, pad3}
+use Rattle.fare_texts.proofs.Years.{year_of}
 use Rattle.tap_rows.specs.Moments.{HasUtcPunctuation, IsMoment, IsSecondText, IsUtc}
 
 -- ---- the time of day
@@ -77,17 +75,6 @@ instant_read date moment hour minute second o fraction day early h m s read valu
     rw (first, time, offset-zulu, annotations-empty, nanos, instant-ok (pos (moment * 1_000_000)) range)
 
 -- ---- the marks
--- a date from 1970 on has a year that is not negative
-before_epoch : (date : Date) → date.year <ℤ pos 1970 → epoch_day date <ℤ pos 0
-before_epoch date early =
-    omega (arith, signed_arith, days_from_civil-day_count, day_count-epoch, day_count-lt_year date.year date.month date.day (pos 1970) 1 1 (civil date) (omega arith) early)
-
-year_of : (date : Date) (day : ℕ) → epoch_day date ≡ pos day → (year : ℕ) × (date.year ≡ pos year)
-year_of date day is = positive date.year (by_lt_z date.year (pos 1970) (λ early. absurd (omega (arith, signed_arith, before_epoch date early, is))) (λ late. late))
-  where
-    positive : (year : ℤ) → pos 1970 ≤ℤ year → (n : ℕ) × (year ≡ pos n)
-    positive (pos n) late = (n, refl)
-    positive (negsuc n) late = absurd (omega (arith, signed_arith))
 
 -- a text by the parts of its date
 abbrev dated : ℤ → ℕ → ℕ → List ℕ → List ℕ

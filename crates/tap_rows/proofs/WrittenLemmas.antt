@@ -5,11 +5,12 @@ use Rattle.std.specs.List.{AllByRecursion, AllPass}
 use Rattle.std.specs.Fmt.{decimal}
 use Rattle.std.specs.Str.Parse.{AllDigits}
 use Rattle.std.specs.Io.BufRead.{first_line, take_through, drop_through, ends_with_byte, strip_last}
-use Rattle.std.proofs.lemmas.Bool.{lt-ltb, ltb-true}
+use Rattle.std.proofs.lemmas.Bool.{lt-ltb, ltb-true, and_parts}
 use Rattle.std.proofs.lemmas.Bool.Decides.{nat_tests}
 use Rattle.std.proofs.lemmas.Fmt.{decimal_is_IsNumeral}
 use Rattle.std.proofs.lemmas.Str.Parse.{digit_from_value}
 use Rattle.std.proofs.Math.Seq.{get_or-append_seam}
+use Rattle.std.proofs.Math.Bool.{and-false}
 use Rattle.hex.specs.Hex.{encode_lower, decode_sized, is_hex_digit}
 use Rattle.hex.proofs.HexLemmas.{decode_sized-encode_lower, IsOk-decode_sized}
 use Rattle.tap_views.specs.declared.encoder.TapFields.{TapFields}
@@ -98,17 +99,13 @@ unbroken_at [] unbroken k within = absurd (omega (arith, within))
 unbroken_at (x ∷ line) unbroken zero within = unbroken.0
 unbroken_at (x ∷ line) unbroken (suc k) within = unbroken_at line unbroken.1 k (omega (arith, within))
 
-and_false : (b : Bool) → (b && false) ≡ false
-and_false true = refl
-and_false false = refl
-
 -- no carriage return stands last
 no_return : (line : List ℕ) → IsUnbroken line → ends_with_byte 13 line ≡ false
 no_return [] unbroken = refl
 no_return (x ∷ line) unbroken =
     let last = unbroken_at (x ∷ line) unbroken (length (x ∷ line) - 1) (omega arith) in
     let other = is_not (slice_index (x ∷ line) (length (x ∷ line) - 1)) 13 last in
-    rw other (and_false (nat_lt 0 (length (x ∷ line))))
+    rw other (and-false (nat_lt 0 (length (x ∷ line))))
 
 strip_none : (line : List ℕ) → ends_with_byte 13 line ≡ false → strip_last 13 line ≡ line
 strip_none line none = rw none refl
@@ -125,20 +122,9 @@ abbrev all_above : ℕ → List ℕ → Bool
 all_above limit [] = true
 all_above limit (x ∷ text) = nat_lt limit x && all_above limit text
 
-and_left : (a b : Bool) → (a && b) ≡ true → a ≡ true
-and_left true b is = refl
-and_left false b is = is
-
-and_right : (a b : Bool) → (a && b) ≡ true → b ≡ true
-and_right true b is = is
-and_right false b is = absurd (cc)
-
-above_one : (limit x : ℕ) → nat_lt limit x ≡ true → limit < x
-above_one limit x is = ltb-true limit x is
-
 above_test : (limit : ℕ) (text : List ℕ) → all_above limit text ≡ true → AllByRecursion (λ byte. limit < byte) text
 above_test limit [] is = tt
-above_test limit (x ∷ text) is = (above_one limit x (and_left (nat_lt limit x) (all_above limit text) is), above_test limit text (and_right (nat_lt limit x) (all_above limit text) is))
+above_test limit (x ∷ text) is = (ltb-true limit x (and_parts (nat_lt limit x) (all_above limit text) is).0, above_test limit text (and_parts (nat_lt limit x) (all_above limit text) is).1)
 
 -- ---- fields
 no_quote : (text : List ℕ) → AreHigh text → (rest : List ℕ) → ¬ (text ≡ 34 ∷ rest)

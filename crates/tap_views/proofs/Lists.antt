@@ -1,11 +1,12 @@
 -- What holds of each element of a list holds of its parts; and one filter after another.
 use Rattle.std.proofs.Common.{◌≡◌, ℕ, ◌==◌, Bool, true, false, List, [], ◌∷◌, ◌++◌, length, map, All}
 use Rattle.std.proofs.Common.{refl, sym, ap, ◌∙◌, append-nil, ◌+◌, Some, slice_get, take}
-use Rattle.std.specs.List.{AllByRecursion, filter}
+use Rattle.std.specs.List.{AllByRecursion, filter, AllZip}
 use Rattle.std.proofs.lemmas.Bool.{eqb-true}
 use Rattle.std.proofs.lemmas.List.{nil_from_length, take_more}
 use Rattle.std.proofs.lemmas.List.Elements.{All-cons, All-head, All-nil, All-tail}
 use Rattle.std.proofs.lemmas.Option.{get_or_from_slice_get, slice_get_within}
+use Rattle.std.proofs.lemmas.Slice.Zip.{AllZip-long}
 
 -- ---- of two lists, one behind the other
 pub All-front : {X : Type 0} (P : X → Type 0) (xs ys : List X) → All P (xs ++ ys) → All P xs
@@ -17,6 +18,10 @@ pub All-back : {X : Type 0} (P : X → Type 0) (xs ys : List X) → All P (xs ++
 All-back P [] ys all = all
 All-back P (x ∷ xs) ys all = All-back P xs ys (All-tail P x (xs ++ ys) all)
 
+pub All-split : {X : Type 0} (P : X → Type 0) (xs ys : List X) → All P (xs ++ ys)
+    → All P xs × All P ys
+All-split P xs ys all = (All-front P xs ys all, All-back P xs ys all)
+
 -- what holds of what a function gives of each element
 pub All-unmap : {X Y : Type 0} (P : Y → Type 0) (f : X → Y) (xs : List X) → All P (map f xs)
     → All (λ x. P (f x)) xs
@@ -24,6 +29,19 @@ All-unmap P f [] all = All-nil (λ x. P (f x))
 All-unmap P f (x ∷ xs) all =
     All-cons (λ x. P (f x)) x xs (All-head P (f x) (map f xs) all)
     (All-unmap P f xs (All-tail P (f x) (map f xs) all))
+
+-- lists whose elements are related place by place are of one length
+pub AllZip-length : {A B : Type 0} (R : A → B → Type 0) (xs : List A) (ys : List B)
+    → AllZip R xs ys → length xs ≡ length ys
+AllZip-length R xs ys zip = sym (AllZip-long R xs ys zip)
+
+pub AllZip-append : {A B : Type 0} (R : A → B → Type 0) (xs : List A) (ys : List B) (us : List A)
+    (vs : List B) → AllZip R xs ys → AllZip R us vs → AllZip R (xs ++ us) (ys ++ vs)
+AllZip-append R [] [] us vs one other = other
+AllZip-append R [] (y ∷ ys) us vs one other = absurd one
+AllZip-append R (x ∷ xs) [] us vs one other = absurd one
+AllZip-append R (x ∷ xs) (y ∷ ys) us vs one other =
+    (one.0, AllZip-append R xs ys us vs one.1 other)
 
 -- ---- the same of `AllByRecursion`, which clauses of std name
 pub each-append : {X : Type 0} (P : X → Type 0) (xs ys : List X) → AllByRecursion P xs

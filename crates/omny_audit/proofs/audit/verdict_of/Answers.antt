@@ -1,10 +1,11 @@
 -- What was read so far is what the checker was fed.
 use Rattle.std.proofs.Common.{◌≡◌, ◌++◌, ℕ, List, [], true, false, refl, take, sym, ap, subst, ◌∙◌, append-nil, arith}
+use Rattle.std.proofs.KnownBytes.{Consumes-trans, Consumes-nil}
 use Rattle.std.specs.Prelude.{IsTrue}
 use Rattle.ledger_check.specs.Verdicts.{IsVerdict, is_legal}
 use Rattle.omny_audit.specs.inside.Findings.{StrikesOut}
 use Rattle.omny_audit.specs.inside.Reports.{HasSummedFor}
-use Rattle.omny_audit.proofs.ReadLemmas.{at_end, consumes-more, consumes-none, whatever_follows}
+use Rattle.omny_audit.proofs.ReadLemmas.{at_end, whatever_follows}
 use Rattle.omny_audit.proofs.audit.verdict_of.Goals as goal
 
 pub loop-piece-init : goal.loop-piece-init
@@ -12,7 +13,7 @@ loop-piece-init g c = record {
   text = [];
   fed = c.new-checker.ensures.fed c.args.table.now;
   struck = λ good is. c.new-checker.ensures.struck c.args.table.now c.args.balance.now good is;
-  read = consumes-none _;
+  read = Consumes-nil _;
   sums = c.requires.sums;
   report = refl;
 }
@@ -32,7 +33,7 @@ returns-then-count-eq0-clause-told g c =
     × StrikesOut c.args.table.now text c.args.balance.now c.loop-piece.balance c.finish.result
     × (IsTrue (is_legal c.finish.result) → HasSummedFor c.args.table.now c.loop-piece.report text) in
     let told = at_end Is _ _ _
-    (consumes-more _ _ _ before.text (take c.in-Ok.count c.read.new.buf) before.read got.0)
+    (Consumes-trans _ _ _ before.text (take c.in-Ok.count c.read.new.buf) before.read got.0)
     (got.1 c.if-count-eq0.true (omega arith))
     (subst Is (sym none) (
       c.finish.ensures.verdict c.args.table.now before.text before.fed,
@@ -55,7 +56,7 @@ returns-in-Some-clause-told g c =
     let given = c.requires.good in
     let no : is_legal c.in-Some.verdict ≡ false = rw c.in-Some.is at (c.in_ok-verdict.ensures.struck before.text given.0 (before.struck given.0 given.1)) in
     let told = whatever_follows Is _ _ _
-    (consumes-more _ _ _ before.text (take c.in-Ok.count c.read.new.buf) before.read got.0)
+    (Consumes-trans _ _ _ before.text (take c.in-Ok.count c.read.new.buf) before.read got.0)
     (λ more. (
       fed more,
       λ good is legal. absurd (false_true (sym no ∙ legal)),
@@ -80,7 +81,7 @@ loop-piece-preserved g c =
       text = before.text ++ take c.in-Ok.count c.read.new.buf;
       fed = rw c.in_default-2.is at (c.in_ok-verdict.ensures.fed before.text before.fed);
       struck = λ good is. rw c.in_default-2.is at (c.in_ok-verdict.ensures.struck before.text good (before.struck good is));
-      read = consumes-more _ _ _ before.text (take c.in-Ok.count c.read.new.buf) before.read got.0;
+      read = Consumes-trans _ _ _ before.text (take c.in-Ok.count c.read.new.buf) before.read got.0;
       sums = c.in_ok-add_piece.ensures.sums before.text before.sums;
       report = c.add_piece.ensures.text ∙ before.report;
     }

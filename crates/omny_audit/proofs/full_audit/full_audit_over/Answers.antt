@@ -1,4 +1,5 @@
 use Rattle.std.proofs.Common.{◌≡◌, ◌++◌, ◌∙◌, ℕ, Bool, List, Option, Some, None, true, if◌then◌else◌, refl, sym, ap, subst, append_assoc}
+use Rattle.std.proofs.KnownBytes.{Appends-trans}
 use Rattle.std.specs.Prelude.{◌↔◌, nat_eq}
 use Rattle.std.specs.Io.KnownBytes.{Appends}
 use Rattle.ledger_check.specs.Ledger.{IsLedger}
@@ -6,7 +7,6 @@ use Rattle.ledger_check.specs.Recounts.{recount_text, taps_from, wrong_count}
 use Rattle.omny_audit.specs.Findings.{IsDifferencesEnd}
 use Rattle.omny_audit.specs.Reports.{IsReportLine}
 use Rattle.omny_audit.proofs.FullFindingLemmas.{recount_legal}
-use Rattle.omny_audit.proofs.Written.{appends_more}
 use Rattle.omny_audit.proofs.full_audit.full_audit_over.Goals as goal
 
 pub recount_all-requires-clause-good : goal.recount_all-requires-clause-good
@@ -54,7 +54,7 @@ returns-clause-told g c =
               shown = ap (λ (t : List ℕ). recount_text all.taken ++ t) parts.6 ∙ sym (append_assoc (recount_text all.taken) parts.0 parts.1);
               both = parts.7;
             },
-            appends_more _ _ _ (recount_text all.taken) told.0.items all.written
+            Appends-trans _ _ _ (recount_text all.taken) told.0.items all.written
                 (subst (λ (t : List ℕ). Appends (g.W.Write.contents c.recount_all.new.out) (g.W.Write.contents c.write_text.new.out) t) c.as_slice.ensures.value c.in_ok-write_text.ensures.text),
           ),
     )

@@ -1,6 +1,5 @@
-use Rattle.std.proofs.Common.{◌≡◌, ◌<◌, ◌++◌, ◌∙◌, ◌∷◌, List, [], length, take, refl, sym, ap}
-use Rattle.std.proofs.Common.{subst, arith, append-nil, append_assoc, false, true, ◌==◌, length-append}
-use Rattle.std.proofs.lemmas.Bool.{eqb-true}
+use Rattle.std.proofs.Common.{◌≡◌, ◌<◌, ◌++◌, ◌∙◌, [], length, take, refl, sym, ap}
+use Rattle.std.proofs.Common.{subst, arith, append_assoc, false, true, ◌==◌, length-append}
 use Rattle.std.proofs.lemmas.Bool.Decides.{nat_tests}
 use Rattle.std.proofs.lemmas.List.{take-append-drop}
 use Rattle.std.proofs.lemmas.List.Elements.{All-drop, All-same}
@@ -10,20 +9,11 @@ use Rattle.tap_parts.specs.Parts.{IsInFullBatches}
 use Rattle.tap_views.specs.Files.{IsFileOf}
 use Rattle.tap_parts.proofs.FullBatches.{AreInBatches, full_size, more_batches, no_batches}
 use Rattle.tap_views.proofs.Texts.{more_text, no_text}
+use Rattle.tap_views.proofs.Lists.{all_done}
 use Rattle.tap_parts.proofs.file.part_file.Goals as goal
 
 abbrev Early : TapFields → Type 0
 Early tap = tap.moment < moment_limit
-
-nothing : (xs : List TapFields) → length xs ≡ 0 → xs ≡ []
-nothing [] e = refl
-nothing (x ∷ xs) e = absurd (omega (arith, e))
-
-all_done : (done left taps : List TapFields) → done ++ left ≡ taps → (length left == 0) ≡ true
-    → done ≡ taps
-all_done done left taps all test =
-    sym (append-nil done) ∙ ap (λ more. done ++ more) (sym (nothing left (eqb-true (length left) 0 test)))
-    ∙ all
 
 pub loop-left-init : goal.loop-left-init
 loop-left-init c =

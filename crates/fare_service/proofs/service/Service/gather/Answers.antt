@@ -1,5 +1,4 @@
 use Rattle.std.proofs.Common.{◌≡◌, ℕ, ◌^◌, ◌≤◌, arith, ◌<◌, List, All, length, map, replicate, sym, ◌∙◌, ap, subst}
-use Rattle.std.specs.Prelude.{Result, Ok, Err, IfErr, IsErrAnd}
 use Rattle.std.proofs.lemmas.List.{length-map}
 use Rattle.shard_book.specs.Sums.{sums, sums_of}
 use Rattle.shard_book.specs.SumsByKey.{all_entries}
@@ -20,6 +19,7 @@ use Rattle.fare_service.proofs.GatheredWork.{given_of}
 use Rattle.fare_service.proofs.GatherLemmas.{has_gathered, told_undrawn, undrawn_last, is_outcome, done_within}
 use Rattle.fare_service.proofs.HeadlineLemmas.{headline_of}
 use Rattle.fare_service.proofs.service.Service.gather.Goals as goal
+use Rattle.tap_views.proofs.Choices.{IfErr_handed_on}
 
 pub ends_of-requires : goal.ends_of-requires
 ends_of-requires c =
@@ -111,22 +111,17 @@ returns-clause-full c =
     let all : All (IsShareOf service) c.args.shares.items = subst S (sym c.self.view_is) c.requires in
     full_made service c.self.invariant c.args.shares.items all c.close_with.new.closed.items c.in_ok-close_with.ensures.ok
 
--- an error that was handed on
-handed_on : {T E : Type 0} (r : Result T E) (fault : E) (P : E → Type 0) → IsErrAnd r (λ e. e ≡ fault) → P fault → IfErr r P
-handed_on (Ok x) fault P is holds = tt
-handed_on (Err e) fault P is holds = subst P (sym is) holds
-
 pub returns-in_err-close_with-clause-first : goal.returns-in_err-close_with-clause-first
 returns-in_err-close_with-clause-first c =
     let fault : GatherFault = c.in_err-close_with.field-0.0 in
     let F : ℕ → Type 0 = λ n. TellsFirst c.self.inside.books.items n c.args.shares.items fault in
     let H : ServiceView → Type 0 = λ h. TellsFirst h.books (length h.uploads) c.args.shares.items fault in
-    handed_on c.from_residual-in_err-close_with.result fault (TellsFirst c.args.self.books (length c.args.self.uploads) c.args.shares.items) c.from_residual-in_err-close_with.ensures.1
+    IfErr_handed_on c.from_residual-in_err-close_with.result fault (TellsFirst c.args.self.books (length c.args.self.uploads) c.args.shares.items) c.from_residual-in_err-close_with.ensures.1
     (subst H c.self.view_is (subst F c.self.invariant.numbers c.in_err-close_with.ensures.first))
 
 pub returns-in_err-close_with-clause-claims : goal.returns-in_err-close_with-clause-claims
 returns-in_err-close_with-clause-claims c whole =
     let fault : GatherFault = c.in_err-close_with.field-0.0 in
     let N : ℕ → Type 0 = λ n. HaveAllClaims n c.args.shares.items in
-    handed_on c.from_residual-in_err-close_with.result fault IsForMemory c.from_residual-in_err-close_with.ensures.1
+    IfErr_handed_on c.from_residual-in_err-close_with.result fault IsForMemory c.from_residual-in_err-close_with.ensures.1
     (absurd (c.in_err-close_with.ensures.claims (subst N (sym (ap shards_of c.self.view_is)) whole)))

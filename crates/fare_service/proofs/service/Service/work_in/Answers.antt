@@ -1,5 +1,5 @@
-use Rattle.std.proofs.Common.{◌≡◌, List, [], ◌∷◌, ◌++◌, All, length, map, length-append, append_assoc, append-nil, refl, sym, ◌∙◌, ap, subst, arith}
-use Rattle.std.proofs.lemmas.List.{map-append}
+use Rattle.std.proofs.Common.{◌≡◌, List, [], ◌∷◌, ◌++◌, All, length, map, length-append, append_assoc, append-nil, sym, ◌∙◌, ap, subst, arith}
+use Rattle.std.proofs.lemmas.List.{map-append, nil_from_length}
 use Rattle.std.proofs.lemmas.List.Elements.{All-nil, All-cons, All-append}
 use Rattle.std.specs.Vec.Iter.{into_iter_items}
 use Rattle.std.specs.declared.thread.PromisedHandle.{PromisedHandle}
@@ -30,15 +30,11 @@ loop-share-preserved g c =
       number = omega (arith, c.loop-share.invariant.number, ap length items, length-append c.loop-share.threads.items (c.in-Ok.thread ∷ []), length-append c.loop-share.yielded (c.in-Some.share ∷ []));
     }
 
-nothing : (ss : List ShareView) → length ss ≡ 0 → ss ≡ []
-nothing [] none = refl
-nothing (s ∷ ss) none = absurd (omega arith)
-
 pub returns-clause-worked : goal.returns-clause-worked
 returns-clause-worked g c =
     let inv = c.loop-share.invariant in
     let left = into_iter_items c.loop-share.share-iterator in
-    let none : left ≡ [] = nothing left (omega (arith, c.in-None.ensures.steps.0, inv.left_len)) in
+    let none : left ≡ [] = nil_from_length left (omega (arith, c.in-None.ensures.steps.0, inv.left_len)) in
     let all : c.loop-share.yielded ≡ c.args.shares.items = sym (append-nil c.loop-share.yielded) ∙ (ap (λ ss. c.loop-share.yielded ++ ss) (sym none) ∙ inv.left) in
     let rs = c.in-Ok-join_promised.worked.items in
     let P : List ShareView → Type 0 = λ ss. AllZip (WorkedOn c.args.self.now) ss rs in

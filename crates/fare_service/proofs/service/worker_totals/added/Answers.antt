@@ -1,8 +1,8 @@
 use Rattle.std.proofs.Common.{◌≡◌, ◌+◌, sym, ap, ◌∙◌, arith, map, drop}
 use Rattle.shard_book.specs.Sums.{Sums, sums_of, add_sums}
 use Rattle.shard_book.specs.Sums.{add_all}
+use Rattle.shard_book.proofs.SumsLemmas.{add_assoc}
 use Rattle.fare_service.proofs.AddingLemmas.{next_worker, none_left, from_nothing}
-use Rattle.fare_service.proofs.VisitLemmas.{add_add}
 use Rattle.fare_service.proofs.service.worker_totals.added.Goals as goal
 
 pub loop-worker-init : goal.loop-worker-init
@@ -23,7 +23,7 @@ loop-worker-preserved c =
     let next : add_all (map sums_of (drop c.loop-worker.worker-index c.args.workers.now)) ≡ add_sums (sums_of c.worker-item.result) rest =
     next_worker c.args.workers.now c.loop-worker.worker-index c.worker-item.result c.loop-worker-test.true ∙ ap (λ t. add_sums (sums_of t) rest) (sym c.worker-item.is) in
     ap (λ (s : Sums). add_sums s rest) c.add_all.ensures
-    ∙ (add_add (sums_of c.loop-worker.totals) (sums_of c.worker-item.result) rest
+    ∙ (add_assoc (sums_of c.loop-worker.totals) (sums_of c.worker-item.result) rest
     ∙ (ap (add_sums (sums_of c.loop-worker.totals)) (sym next) ∙ c.loop-worker.invariant))
 
 pub returns : goal.returns
