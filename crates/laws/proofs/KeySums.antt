@@ -13,6 +13,7 @@ use Rattle.std.proofs.lemmas.Bool.Decides.{nat_tests}
 use Rattle.std.proofs.lemmas.Cmp.{tied_itself}
 use Rattle.tap_views.specs.Token.{token_cmp, token_eq}
 use Rattle.tap_views.specs.declared.token.Token.{Token}
+use Rattle.tap_views.proofs.TokenLemmas.{token_eq-refl, same_token, token_cmp-ties, token_cmp-total}
 use Rattle.shard_book.specs.declared.entry.Entry.{Entry}
 use Rattle.shard_book.specs.Entry.{is_at, is_of, own}
 use Rattle.shard_book.specs.Rising.{rising}
@@ -20,8 +21,6 @@ use Rattle.shard_book.specs.Sums.{Sums, add_all, add_sums, sums, sums_of_replies
 use Rattle.shard_book.specs.SumsByKey.{entries_of_validator, sums_by_token, sums_by_validator}
 use Rattle.shard_book.specs.SumsByKey.{token_of, tokens, validator_of, validators}
 use Rattle.part_reports.specs.Reports.{added}
-use Rattle.part_reports.proofs.Leasts.{same_token as tied_same, token_total}
-use Rattle.part_reports.proofs.PermutedTokens.{eq_of, same_token}
 use Rattle.laws.proofs.Merging.{RisingNumbers, RisingTokens}
 use Rattle.laws.proofs.PartSums.{add_assoc}
 use Rattle.laws.proofs.Validators.{SumsAdd}
@@ -195,20 +194,20 @@ equal Equal is = refl
 equal Greater is = absurd (true≢false (sym is))
 
 token_same : (k : Token) → is_eq (token_cmp k k) ≡ true
-token_same k = ap is_eq (tied_itself token_total k)
+token_same k = ap is_eq (tied_itself token_cmp-total k)
 
 tells_by : (token k : Token) (a b : Bool) → token_eq token k ≡ a → is_eq (token_cmp token k) ≡ b
     → a ≡ b
 tells_by token k true true is also = refl
 tells_by token k true false is also =
     let yes : is_eq (token_cmp token k) ≡ true =
-    ap (λ (other : Token). is_eq (token_cmp token other)) (sym (eq_of token k is)) ∙ token_same token
+    ap (λ (other : Token). is_eq (token_cmp token other)) (sym (same_token token k is)) ∙ token_same token
     in
     absurd (true≢false (sym yes ∙ also))
 tells_by token k false true is also =
     let yes : token_eq token k ≡ true =
     ap (λ (other : Token). token_eq token other)
-    (sym (tied_same token k (equal (token_cmp token k) also))) ∙ same_token token in
+    (sym (token_cmp-ties token k (equal (token_cmp token k) also))) ∙ token_eq-refl token in
     absurd (true≢false (sym yes ∙ is))
 tells_by token k false false is also = refl
 
@@ -220,7 +219,7 @@ token_above : (k other q : Token) → is_eq (token_cmp q k) ≡ true → token_c
     → is_eq (token_cmp q other) ≡ false
 token_above k other q is less =
     ap (λ (token : Token). is_eq (token_cmp token other))
-    (tied_same q k (equal (token_cmp q k) is))
+    (token_cmp-ties q k (equal (token_cmp q k) is))
     ∙ ap is_eq less
 
 seconds : {K : Type 0} (f : K → Sums) (keys : List K)

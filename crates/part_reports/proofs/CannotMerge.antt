@@ -12,6 +12,8 @@ use Rattle.std.proofs.lemmas.List.Sorted.{All-permutation, sum_by-IsPermutation}
 use Rattle.std.proofs.lemmas.List.Sums.{sum_by-append}
 use Rattle.tap_views.specs.Token.{token_cmp, token_eq}
 use Rattle.tap_views.specs.declared.token.Token.{Token}
+use Rattle.tap_views.proofs.TokenLemmas.{token_eq-refl}
+use Rattle.tap_views.proofs.Lists.{All-front, All-back}
 use Rattle.shard_book.specs.Sums.{Sums, add_all}
 use Rattle.fare_texts.specs.ReportLines.{token_line}
 use Rattle.report_texts.specs.Numbers.{IsUploadEnd}
@@ -28,12 +30,11 @@ use Rattle.part_reports.specs.inside.Kinds.{AreTexts}
 use Rattle.part_reports.specs.inside.Parts.{AreParts, BegunReport, begun_text, left_text}
 use Rattle.part_reports.specs.inside.Standings.{MayFollow, Standing}
 use Rattle.part_reports.proofs.WholeFronts.{whole_text}
-use Rattle.part_reports.proofs.EndsRead.{All-behind, All-front}
 use Rattle.part_reports.proofs.FewParts.{told_may, told_of}
 use Rattle.part_reports.proofs.JoinedTokens.{StandOnce, joined_lines, once_each}
 use Rattle.part_reports.proofs.Orders.{below_not_below}
 use Rattle.part_reports.proofs.PartsBegun.{told_unique}
-use Rattle.part_reports.proofs.PermutedTokens.{of_token, same_token}
+use Rattle.part_reports.proofs.PermutedTokens.{of_token}
 use Rattle.part_reports.specs.inside.Going.{Rise}
 use Rattle.part_reports.proofs.Risings.{falls_from}
 use Rattle.part_reports.proofs.TextsRead.{lines_whole}
@@ -55,8 +56,8 @@ ends_same first (a ∷ some) (b ∷ more) may may_too same =
     let is : a ≡ b = lines_whole first a b (All-front IsUploadEnd a (all_ends some) may)
     (All-front IsUploadEnd b (all_ends more) may_too) (cc) in
     let tail : end_texts (first + length a) some ≡ end_texts (first + length b) more = cc in
-    let rest = ends_same (first + length a) some more (All-behind IsUploadEnd a (all_ends some) may)
-    (All-behind IsUploadEnd b (all_ends more) may_too)
+    let rest = ends_same (first + length a) some more (All-back IsUploadEnd a (all_ends some) may)
+    (All-back IsUploadEnd b (all_ends more) may_too)
     (tail ∙ ap (λ (x : List UploadEnd). end_texts (first + length x) more) (sym is)) in
     ap (λ x. x ++ all_ends some) is ∙ ap (λ rest. b ++ rest) rest
 
@@ -244,7 +245,7 @@ some_lines : (lines : List TokenLine) (i : ℕ) (d : TokenLine) → i < length l
 some_lines [] i d within = absurd (omega (arith, within))
 some_lines (line ∷ lines) zero d within =
     let here = ap (λ b. length (if b then line ∷ lines_of_token line.token lines else lines_of_token line.token
-    lines)) (same_token line.token) in
+    lines)) (token_eq-refl line.token) in
     omega (arith, here)
 some_lines (line ∷ lines) (suc i) d within = more (token_eq (get_or lines i d).token line.token)
     (some_lines lines i d (omega (arith, within)))

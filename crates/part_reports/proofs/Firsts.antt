@@ -16,12 +16,7 @@ use Rattle.part_reports.specs.declared.merging.LineKind.{LineKind}
 use Rattle.part_reports.specs.declared.merging.LineKind.TheVariants.{Tokens, Entries}
 use Rattle.part_reports.proofs.OneLine.{IsOneLine, entry_line_is_one, taken_one, token_line_is_one}
 use Rattle.part_reports.proofs.Unique.{entry_line_unique, token_line_unique}
-
--- what holds of known bytes, in another form
-pub weaker : (o : Option (List ℕ)) (P Q : List ℕ → Type 0) → ((text : List ℕ) → P text → Q text)
-    → IfSome o P → IfSome o Q
-weaker None P Q f holds = tt
-weaker (Some text) P Q f holds = f text holds
+use Rattle.ledger_changes.proofs.Readings.{taken_none}
 
 -- ---- single lines
 pub line_is_one : (kind : LineKind) (line : TokenLine) → IsLineOfKind kind line → IsOneLine line.text
@@ -73,14 +68,6 @@ pub taken_and_left : (text : List ℕ) → take_through 10 text ++ drop_through 
 taken_and_left [] = refl
 taken_and_left (x ∷ xs) = both_parts (x == 10) x xs (take_through 10 xs) (drop_through 10 xs)
     (taken_and_left xs)
-
-some_part : (b : Bool) (x : ℕ) (ys : List ℕ) → ¬ ((if b then x ∷ [] else x ∷ ys) ≡ [])
-some_part true x ys is = cc
-some_part false x ys is = cc
-
-pub taken_none : (text : List ℕ) → take_through 10 text ≡ [] → text ≡ []
-taken_none [] is = refl
-taken_none (x ∷ xs) is = absurd (some_part (x == 10) x (take_through 10 xs) is)
 
 -- ---- the first line
 pub first_is_source : (kind : LineKind) (text : List ℕ) (at : Standing) → at.line

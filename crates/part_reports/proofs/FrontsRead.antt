@@ -3,7 +3,7 @@ use Rattle.std.proofs.Common.{◌≡◌, ℕ, ◌+◌, ◌<◌, List, [], ◌∷
 use Rattle.std.proofs.Common.{length, refl, sym, ap, subst, ◌∙◌, arith, append_assoc, length-append}
 use Rattle.std.proofs.Common.{true, false}
 use Rattle.std.specs.Prelude.{All, IfSome}
-use Rattle.std.proofs.lemmas.List.Elements.{All-head, All-tail, All-nil, All-push}
+use Rattle.std.proofs.lemmas.List.Elements.{All-head, All-nil, All-push}
 use Rattle.std.proofs.lemmas.Bool.{false≢true}
 use Rattle.part_reports.specs.declared.fault.MergeFault.{MergeFault}
 use Rattle.part_reports.specs.Faults.{IsOfTexts}
@@ -17,6 +17,7 @@ use Rattle.report_texts.specs.Report.{upload_lines}
 use Rattle.report_texts.specs.UploadEnds.{is_posted}
 use Rattle.report_texts.specs.declared.upload_end.UploadEnd.{UploadEnd}
 use Rattle.std.specs.Prelude.{IsTrue}
+use Rattle.tap_views.proofs.Lists.{All-back}
 
 -- so many uploads' lines were read of the text
 pub record Posted (count : ℕ) (text : List ℕ) (now : Option (List ℕ)) : Type 0 where
@@ -43,10 +44,6 @@ posted_first (Some text) = record {
   shown = refl;
   left = refl;
 }
-
-All-behind : {X : Type 0} (P : X → Type 0) (xs ys : List X) → All P (xs ++ ys) → All P ys
-All-behind P [] ys all = all
-All-behind P (x ∷ xs) ys all = All-behind P xs ys (All-tail P x (xs ++ ys) all)
 
 ends_one_more : (ends : List UploadEnd) (count : ℕ) (end : UploadEnd) → length ends ≡ count
     → upload_lines 0 ends ++ upload_line count end ≡ upload_lines 0 (ends ++ end ∷ [])
@@ -102,7 +99,7 @@ posted_refused uploads count (Some text) now after fault less posted absent =
     let at : 0 + length posted.ends ≡ count = omega (arith, posted.are.number) in
     let is_posted : IsTrue (is_posted next.value) = All-head (λ (end : UploadEnd). IsTrue (is_posted end)) next.value
     next.more
-    (All-behind (λ (end : UploadEnd). IsTrue (is_posted end)) posted.ends (next.value ∷ next.more)
+    (All-back (λ (end : UploadEnd). IsTrue (is_posted end)) posted.ends (next.value ∷ next.more)
     (subst (λ ends. All (λ (end : UploadEnd). IsTrue (is_posted end)) ends) next.is may.posted)) in
     let shown_next = next.rest ∙ ap (λ k. upload_line k next.value
     ++ (lines_from upload_line (0 + length posted.ends + 1) next.more ++ rest)) at in

@@ -12,12 +12,11 @@ use Rattle.std.proofs.lemmas.Bool.{true≢false}
 use Rattle.std.proofs.lemmas.List.Elements.{All-cons, All-filter, All-head, All-nil, All-tail}
 use Rattle.tap_views.specs.Token.{token_cmp, token_eq}
 use Rattle.tap_views.specs.declared.token.Token.{Token}
+use Rattle.tap_views.proofs.TokenLemmas.{token_eq-refl, same_token, token_cmp-ties, token_cmp-total}
 use Rattle.part_reports.specs.TokenLines.{ShareNoToken, DoNotFall, TokenLine, lines_of_token}
 use Rattle.part_reports.specs.declared.merging.LineKind.TheVariants.{Entries}
 use Rattle.part_reports.specs.inside.Standings.{MayFollow}
-use Rattle.part_reports.proofs.Leasts.{same_token as tied_same, token_total}
 use Rattle.part_reports.proofs.Orders.{NotBelow, below_differs}
-use Rattle.part_reports.proofs.PermutedTokens.{eq_of, same_token}
 use Rattle.part_reports.specs.inside.Going.{Rise}
 use Rattle.part_reports.proofs.Risings.{falls_to}
 
@@ -30,9 +29,9 @@ strictly a b above other = by_order (token_cmp a b) refl
   where
     by_order : (o : Ordering) → token_cmp a b ≡ o → token_cmp a b ≡ Less
     by_order Less is = is
-    by_order Equal is = absurd (other (tied_same a b is))
+    by_order Equal is = absurd (other (token_cmp-ties a b is))
     by_order Greater is =
-        let under : token_cmp b a ≡ Less = token_total.antisymm b a ∙ ap ordering_reverse is in
+        let under : token_cmp b a ≡ Less = token_cmp-total.antisymm b a ∙ ap ordering_reverse is in
         absurd (true≢false (sym (ap is_lt under) ∙ above))
 
 pub joined_lines : (token : Token) (some more : List TokenLine)
@@ -51,7 +50,7 @@ joined_lines token (line ∷ some) more =
 no_line_by : (token : Token) (line : TokenLine) (lines : List TokenLine) (b : Bool)
     → token ≢ line.token → token_eq token line.token ≡ b → lines_of_token token lines ≡ []
     → (if b then line ∷ lines_of_token token lines else lines_of_token token lines) ≡ []
-no_line_by token line lines true other is rest = absurd (other (eq_of token line.token is))
+no_line_by token line lines true other is rest = absurd (other (same_token token line.token is))
 no_line_by token line lines false other is rest = rest
 
 no_line : (token : Token) (lines : List TokenLine)
@@ -68,7 +67,7 @@ others_by : (token : Token) (line : TokenLine) (lines : List TokenLine) (b : Boo
 others_by token line lines true is rest none = absurd (cc)
 others_by token line lines false is rest none = (
   λ same. (let at : token_eq token line.token ≡ true =
-      subst (λ other. token_eq token other ≡ true) same (same_token token) in absurd (cc (at, is))),
+      subst (λ other. token_eq token other ≡ true) same (token_eq-refl token) in absurd (cc (at, is))),
   rest none,
 )
 
@@ -98,7 +97,7 @@ once_others : (line : TokenLine) (lines : List TokenLine) → StandOnce (line �
     → AllByRecursion (λ other. line.token ≢ other.token) lines
 once_others line lines once =
     let here = ap (λ b. length (if b then line ∷ lines_of_token line.token lines else lines_of_token line.token
-    lines)) (same_token line.token) in
+    lines)) (token_eq-refl line.token) in
     let most = once line.token in
     others line.token lines (nil_of (lines_of_token line.token lines) (omega (arith, here, most)))
 
@@ -145,7 +144,7 @@ once_by : (token : Token) (line : TokenLine) (lines : List TokenLine) (b : Bool)
     → length (if b then line ∷ lines_of_token token lines else lines_of_token token lines) ≤ 1
 once_by token line lines true is rest below =
     let none : lines_of_token token lines ≡ [] = no_line token lines
-    (subst (λ t. AllByRecursion (λ line. t ≢ line.token) lines) (sym (eq_of token line.token is))
+    (subst (λ t. AllByRecursion (λ line. t ≢ line.token) lines) (sym (same_token token line.token is))
     (below_others line.token lines below)) in
     let size = ap length none in
     omega (arith, size)
@@ -191,7 +190,7 @@ some_by : (token : Token) (first : TokenLine) (lines : List TokenLine) (line : T
     → P line × (token ≡ line.token)
 some_by token first lines line more P true test holds rest is =
     let same : first ≡ line = cc in
-    (subst P same holds, eq_of token first.token test ∙ ap (λ (line : TokenLine). line.token) same)
+    (subst P same holds, same_token token first.token test ∙ ap (λ (line : TokenLine). line.token) same)
 some_by token first lines line more P false test holds rest is = rest is
 
 pub some_of : (token : Token) (lines : List TokenLine) (line : TokenLine) (more : List TokenLine)
@@ -244,7 +243,7 @@ every P [] each = All-nil P
 every P (line ∷ lines) each =
     let here : lines_of_token line.token (line ∷ lines) ≡ line ∷ lines_of_token line.token lines =
     ap (λ b. if b then line ∷ lines_of_token line.token lines else lines_of_token line.token lines)
-    (same_token line.token) in
+    (token_eq-refl line.token) in
     All-cons P line lines (All-head P line (lines_of_token line.token lines)
     (subst (λ some. All P some) here (each line.token)))
     (every P lines (λ token. rest token (token_eq token line.token) (each token)))

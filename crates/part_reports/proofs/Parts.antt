@@ -7,6 +7,7 @@ use Rattle.std.specs.List.{AllByRecursion}
 use Rattle.std.proofs.lemmas.List.{length_push}
 use Rattle.std.proofs.lemmas.List.Concat.{flat_map-append}
 use Rattle.tap_views.specs.declared.token.Token.{Token}
+use Rattle.tap_views.proofs.Lists.{each-weaker, each-back}
 use Rattle.part_reports.specs.TokenLines.{TokenLine, text_of}
 use Rattle.shard_book.specs.Sums.{sums}
 use Rattle.part_reports.specs.inside.Going.{IsBehindSo, IsGoing, Part, Rise}
@@ -19,8 +20,7 @@ use Rattle.part_reports.specs.declared.merging.LineKind.{LineKind}
 use Rattle.part_reports.specs.declared.merging.LineKind.TheVariants.{Tokens, Entries}
 use Rattle.part_reports.proofs.Added.{leave_all, leave_behind, leave_push, one_of_token}
 use Rattle.part_reports.proofs.Orders.{may_follow_trans}
-use Rattle.part_reports.proofs.Risings.{AreCounted, begins, each_behind, each_push}
-use Rattle.part_reports.proofs.Risings.{each_weaker}
+use Rattle.part_reports.proofs.Risings.{AreCounted, begins, each_push}
 use Rattle.part_reports.proofs.Risings.{lines_count, lines_each, lines_from, lines_rise}
 use Rattle.part_reports.proofs.Risings.{rise_behind}
 use Rattle.part_reports.proofs.Risings.{rise_middle, rise_push}
@@ -158,7 +158,7 @@ next_below : (kind : LineKind) (before : Token) (head : Option Token) (lines : L
     → IfSome head (λ token. AllByRecursion (λ line. MayFollow kind line.token token) lines)
 next_below kind before None lines below may = tt
 next_below kind before (Some token) lines below may =
-    each_weaker (λ line. MayFollow kind line.token before) (λ line. MayFollow kind line.token token)
+    each-weaker (λ line. MayFollow kind line.token before) (λ line. MayFollow kind line.token token)
     lines (λ line first. may_follow_trans kind line.token before token first may) below
 
 itself_below : (kind : LineKind) (line : TokenLine) (head : Option Token)
@@ -263,7 +263,7 @@ going_stuck part token going is stuck list text =
     let lines : AreLines part.at.behind more =
     rest_lines part.text.0 part.at.behind front more behind
     (rest_count part.text.0 part.at.behind front more behind count)
-    (each_behind (IsLineOfKind part.text.0) front more each) (rise_behind part.text.0 front more rise)
+    (each-back (IsLineOfKind part.text.0) front more each) (rise_behind part.text.0 front more rise)
     in
     let may : MayFollowAll part.at.behind token more =
     rest_may part.text.0 part.at.behind front token more behind

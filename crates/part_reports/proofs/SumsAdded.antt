@@ -11,12 +11,13 @@ use Rattle.std.specs.BTreeMap.{BTreeMap}
 use Rattle.std.specs.Map.{keys_of, lookup}
 use Rattle.std.specs.Ordering.{eq_by_cmp, is_eq, nat_cmp}
 use Rattle.std.specs.Set.{is_member}
-use Rattle.std.proofs.lemmas.Bool.{cases_eq}
+use Rattle.std.proofs.lemmas.Bool.{cases_eq, ne_eqb, eq-eqb}
 use Rattle.std.proofs.lemmas.Bool.Decides.{nat_tests}
 use Rattle.shard_book.specs.Shown.{validator_sum}
 use Rattle.shard_book.specs.Sums.{Sums, add_all, add_sums, sums, sums_of, sums_of_replies}
 use Rattle.shard_book.specs.declared.sums.ValidatorSum.{ValidatorSum}
 use Rattle.shard_book.specs.declared.sums.totals.Totals.{Totals}
+use Rattle.shard_book.proofs.SumsLemmas.{add_assoc}
 use Rattle.part_reports.specs.Reports.{sums_found, sums_of_validator}
 use Rattle.part_reports.specs.declared.front.Front.{Front}
 use Rattle.part_reports.specs.declared.sums.WholeSums.{WholeSums}
@@ -25,12 +26,10 @@ use Rattle.part_reports.specs.inside.Sums.{AreFew, AreSumsOf, AreSmall, AreFront
 use Rattle.part_reports.specs.inside.Sums.{WithValidators, or_nothing}
 use Rattle.std.proofs.lemmas.List.Concat.{flat_map-append}
 use Rattle.std.proofs.lemmas.List.Sums.{sum_by-append}
+use Rattle.std.proofs.Math.Bool.{or-false, or-true}
 
 zero_first : (n : ℕ) → n + 0 ≡ 0 + n
 zero_first n = omega arith
-
-plus_assoc : (a b c : ℕ) → a + (b + c) ≡ (a + b) + c
-plus_assoc a b c = omega arith
 
 nothing_first : (s : Sums) → add_sums s (sums []) ≡ add_sums (sums []) s
 unfolding sums_of_replies
@@ -44,23 +43,12 @@ nothing_first s = λ i. record {
   cents = zero_first s.cents i;
 }
 
-add_assoc : (a b c : Sums) → add_sums a (add_sums b c) ≡ add_sums (add_sums a b) c
-add_assoc a b c = λ i. record {
-  taps = plus_assoc a.taps b.taps c.taps i;
-  paid = plus_assoc a.paid b.paid c.paid i;
-  transfers = plus_assoc a.transfers b.transfers c.transfers i;
-  capped = plus_assoc a.capped b.capped c.capped i;
-  stale = plus_assoc a.stale b.stale c.stale i;
-  unknown = plus_assoc a.unknown b.unknown c.unknown i;
-  cents = plus_assoc a.cents b.cents c.cents i;
-}
-
 -- one more
 pub add_all_more : (list : List Sums) (more : Sums)
     → add_all (list ++ more ∷ []) ≡ add_sums (add_all list) more
 add_all_more [] more = nothing_first more
 add_all_more (first ∷ list) more = ap (add_sums first) (add_all_more list more)
-    ∙ add_assoc first (add_all list) more
+    ∙ sym (add_assoc first (add_all list) more)
 
 -- ---- the tests of keys
 pub same_key : (k : ℕ) → is_eq (nat_cmp k k) ≡ true
@@ -69,24 +57,10 @@ same_key k = grind (arith, nat_tests)
 pub other_key : (k q : ℕ) → k ≢ q → is_eq (nat_cmp k q) ≡ false
 other_key k q other = grind (arith, nat_tests)
 
-same_number : (k : ℕ) → (k == k) ≡ true
-same_number k = grind (arith, nat_tests)
-
-other_number : (k q : ℕ) → k ≢ q → (k == q) ≡ false
-other_number k q other = grind (arith, nat_tests)
-
-or_false : (b : Bool) → (b || false) ≡ b
-or_false true = refl
-or_false false = refl
-
-or_true : (b : Bool) → (b || true) ≡ true
-or_true true = refl
-or_true false = refl
-
 pub member_more : (list : List (ℕ × Sums)) (sum : ℕ × Sums) (q : ℕ)
     → is_member (eq_by_cmp nat_cmp) (keys_of (list ++ sum ∷ [])) q
     ≡ (is_member (eq_by_cmp nat_cmp) (keys_of list) q || is_eq (nat_cmp q sum.0))
-member_more [] sum q = or_false (is_eq (nat_cmp q sum.0))
+member_more [] sum q = or-false (is_eq (nat_cmp q sum.0))
 member_more (first ∷ list) sum q = more (is_eq (nat_cmp q first.0))
     (is_member (eq_by_cmp nat_cmp) (keys_of list) q)
     (is_member (eq_by_cmp nat_cmp) (keys_of (list ++ sum ∷ [])) q) (is_eq (nat_cmp q sum.0))
@@ -114,7 +88,7 @@ chosen_more (first ∷ list) sum q =
 pub sums_at_same : (list : List (ℕ × Sums)) (sum : ℕ × Sums)
     → sums_of_validator sum.0 (list ++ sum ∷ []) ≡ add_sums (sums_of_validator sum.0 list) sum.1
 sums_at_same list sum =
-    let same = same_number sum.0 in
+    let same = eq-eqb sum.0 sum.0 refl in
     let one : chosen sum.0 (sum ∷ []) ≡ sum.1 ∷ [] = rw same refl in
     ap add_all (chosen_more list sum sum.0 ∙ ap (λ more. chosen sum.0 list ++ more) one)
     ∙ add_all_more (chosen sum.0 list) sum.1
@@ -122,7 +96,7 @@ sums_at_same list sum =
 pub sums_at_other : (list : List (ℕ × Sums)) (sum : ℕ × Sums) (q : ℕ) → sum.0 ≢ q
     → sums_of_validator q (list ++ sum ∷ []) ≡ sums_of_validator q list
 sums_at_other list sum q other =
-    let differs = other_number sum.0 q other in
+    let differs = ne_eqb sum.0 q other in
     let none : chosen q (sum ∷ []) ≡ [] = rw differs refl in
     ap add_all (chosen_more list sum q ∙ ap (λ more. chosen q list ++ more) none
     ∙ append-nil (chosen q list))
@@ -132,7 +106,7 @@ sums_in_same : (list : List (ℕ × Sums)) (sum : ℕ × Sums)
 sums_in_same list sum =
     let member : is_member (eq_by_cmp nat_cmp) (keys_of (list ++ sum ∷ [])) sum.0 ≡ true =
     member_more list sum sum.0 ∙ ap (λ b. is_member (eq_by_cmp nat_cmp) (keys_of list) sum.0 || b)
-    (same_key sum.0) ∙ or_true (is_member (eq_by_cmp nat_cmp) (keys_of list) sum.0) in
+    (same_key sum.0) ∙ or-true (is_member (eq_by_cmp nat_cmp) (keys_of list) sum.0) in
     ap (λ b. if b then Some (sums_of_validator sum.0 (list ++ sum ∷ [])) else None) member
     ∙ ap (λ s. Some s) (sums_at_same list sum)
 
@@ -142,7 +116,7 @@ sums_in_other list sum q other =
     let member : is_member (eq_by_cmp nat_cmp) (keys_of (list ++ sum ∷ [])) q ≡ is_member
     (eq_by_cmp nat_cmp) (keys_of list) q = member_more list sum q
     ∙ ap (λ b. is_member (eq_by_cmp nat_cmp) (keys_of list) q || b) (other_key q sum.0 other)
-    ∙ or_false (is_member (eq_by_cmp nat_cmp) (keys_of list) q) in
+    ∙ or-false (is_member (eq_by_cmp nat_cmp) (keys_of list) q) in
     ap (λ b. if b then Some (sums_of_validator q (list ++ sum ∷ [])) else None) member
     ∙ ap (λ s. if is_member (eq_by_cmp nat_cmp) (keys_of list) q then Some s else None)
     (sums_at_other list sum q (λ e. other (sym e)))
@@ -156,7 +130,7 @@ not_member (first ∷ list) q absent =
     subst (λ k. is_eq (nat_cmp q k) ≡ true) (sym same) (same_key q) in
     true_or (is_eq (nat_cmp q first.0)) (is_member (eq_by_cmp nat_cmp) (keys_of list) q) at absent
     in
-    let test = other_number first.0 q apart in
+    let test = ne_eqb first.0 q apart in
     ap (λ b. map (λ (sum : ℕ × Sums). sum.1) (if b then first ∷ filter
     (λ (sum : ℕ × Sums). sum.0 == q) list else filter (λ (sum : ℕ × Sums). sum.0 == q) list))
     test

@@ -15,13 +15,14 @@ use Rattle.report_texts.specs.Numbers.{IsUploadEnd}
 use Rattle.part_reports.specs.Reports.{end_texts, all_ends}
 use Rattle.part_reports.specs.Texts.{AreLeft}
 use Rattle.part_reports.specs.inside.UploadEnds.{HaveReadEnds, AreEndsAdded, HaveMoreEnds}
-use Rattle.part_reports.proofs.EndsRead.{All-behind, All-front, some_line}
+use Rattle.part_reports.proofs.EndsRead.{some_line}
 use Rattle.part_reports.proofs.Unique.{end_line_unique}
 use Rattle.report_texts.specs.Report.{upload_line}
 use Rattle.report_texts.specs.Report.{upload_lines}
 use Rattle.report_texts.specs.UploadEnds.{is_posted}
 use Rattle.report_texts.specs.UploadEnds.{taps_told}
 use Rattle.report_texts.specs.declared.upload_end.UploadEnd.{UploadEnd}
+use Rattle.tap_views.proofs.Lists.{All-front, All-back}
 
 pub record Split {R : Type 0} (remaining : R → Option (List ℕ)) (front : List R) (x : R)
     (back : List R) (files : List (List ℕ)) : Type 0 where
@@ -117,8 +118,8 @@ texts_at first (some ∷ before) (ends ∷ lists) file after may may_too same =
     let tail : end_texts (first + length some) before ++ file ∷ after ≡ end_texts
     (first + length ends) lists = cc in
     let next = texts_at (first + length some) before lists file after
-    (All-behind IsUploadEnd some (all_ends before) may)
-    (All-behind IsUploadEnd ends (all_ends lists) may_too)
+    (All-back IsUploadEnd some (all_ends before) may)
+    (All-back IsUploadEnd ends (all_ends lists) may_too)
     (tail ∙ ap (λ (x : List UploadEnd). end_texts (first + length x) lists) (sym is)) in
     let at : first + length some + length (all_ends before) ≡ first + length
     (some ++ all_ends before) = simp length-append (omega arith) in
@@ -179,7 +180,7 @@ have_more before after list more have is =
         λ all. is.posted.1 (
           have.posted.1 (All-front (λ (end : UploadEnd). IsTrue (is_posted end)) list more
               all),
-          All-behind (λ (end : UploadEnd). IsTrue (is_posted end)) list more all,
+          All-back (λ (end : UploadEnd). IsTrue (is_posted end)) list more all,
         ),
       );
       each = All-append IsUploadEnd list more have.each is.each;

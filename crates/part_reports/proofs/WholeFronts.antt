@@ -71,17 +71,13 @@ told_parts told rest = parts (number_line (codes "uploads ") (length told.ends))
     (number_line (codes "validators ") (length told.validators))
     (flat_map validator_line told.validators) (tokens_text told.tokens) rest
 
-joined_texts : (h e t v f k ts : List ℕ) → ((h ++ e) ++ (t ++ ((v ++ f) ++ k))) ++ ts
-    ≡ (h ++ e) ++ (t ++ ((v ++ f) ++ (k ++ ts)))
-joined_texts h e t v f k ts = simp append_assoc
-
 -- a report's text is the text before its tokens' lines, and these lines
 pub whole_text : (ends : List UploadEnd) (totals : Sums) (validators : List (ℕ × Sums))
     (tokens : List (Token × Sums))
     → front_text ends totals validators (length tokens) ++ flat_map token_line tokens
     ≡ report ends totals validators tokens
 whole_text ends totals validators tokens =
-    joined_texts (number_line (codes "uploads ") (length ends)) (upload_lines 0 ends)
+    parts (number_line (codes "uploads ") (length ends)) (upload_lines 0 ends)
     (totals_line totals) (number_line (codes "validators ") (length validators))
     (flat_map validator_line validators) (tokens_text (length tokens)) (flat_map token_line tokens)
 

@@ -16,6 +16,7 @@ use Rattle.std.proofs.lemmas.List.Elements.{All-append, All-cons, All-filter, Al
 use Rattle.std.proofs.lemmas.List.Elements.{All-map, All-nil, All-tail}
 use Rattle.std.proofs.lemmas.List.Sorted.{length_permutation}
 use Rattle.std.proofs.lemmas.List.Sums.{sum_by-append}
+use Rattle.std.proofs.KnownBytes.{Appends-trans}
 use Rattle.tap_views.specs.Token.{token_cmp, token_eq}
 use Rattle.tap_views.specs.declared.token.Token.{Token}
 use Rattle.shard_book.specs.Sums.{Sums, add_all, sums, sums_of}
@@ -39,7 +40,6 @@ use Rattle.part_reports.proofs.WholeFronts.{whole_text}
 use Rattle.part_reports.proofs.Added.{leave_sums}
 use Rattle.part_reports.proofs.FewParts.{told_of}
 use Rattle.part_reports.proofs.JoinedTokens.{StandOnce, joined_each, once_all, strictly_rise}
-use Rattle.part_reports.proofs.Merges.{appends_more}
 use Rattle.part_reports.proofs.SumsAdded.{taps_nothing}
 use Rattle.part_reports.proofs.PermutedTokens.{of_token, permuted}
 use Rattle.part_reports.proofs.TokenSums.{Sum, line_of, lines_keys, lines_length, lines_text}
@@ -352,5 +352,5 @@ merged end_files report_files lists ends sums standings front token_lists joined
           ∙ lines_text tokens.sums)
           ∙ whole_text (all_ends lists) (sums_of sums.totals) (validators_in sums.validators)
           tokens.sums)
-          (appends_more old mid new front (text_of joined) first second);
+          (Appends-trans old mid new front (text_of joined) first second);
     }

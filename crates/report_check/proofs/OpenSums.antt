@@ -4,11 +4,11 @@ use Rattle.std.proofs.Common.{sym, ap, subst, ◌∙◌, arith, append-nil, appe
 use Rattle.std.specs.declared.cmp.Ordering.TheVariants.{Less, Greater}
 use Rattle.std.specs.Prelude.{Option, Some}
 use Rattle.std.proofs.lemmas.List.Elements.{All-append, All-cons, All-head, All-map, All-nil}
+use Rattle.std.proofs.lemmas.List.Elements.{All-weaker}
 use Rattle.ledger_check.specs.Ledger.{token_number}
 use Rattle.ledger_check.proofs.TokenOrder.{greater_number}
 use Rattle.settlement.specs.inside.Apart.{AreBelow}
 use Rattle.settlement.proofs.Concats.{by_token_joined}
-use Rattle.settlement.proofs.Placed.{all_map}
 use Rattle.settlement.proofs.TokenRuns.{below_same, nothing_billed, one_token_list}
 use Rattle.shard_book.specs.Entry.{reply_of}
 use Rattle.shard_book.specs.Sums.{Sums, add_sums, sums_of_replies}
@@ -46,10 +46,8 @@ as_below : (token : Token) (entries : List Entry)
     → AreBelow (map token_of entries) (token ∷ [])
 as_below token entries below =
     All-map (λ (t : Token). All (λ (o : Token). token_cmp t o ≡ Less) (token ∷ [])) token_of entries
-    (all_map (λ (e : Entry). token_cmp e.token token ≡ Less)
-    (λ (e : Entry). All (λ (o : Token). token_cmp e.token o ≡ Less) (token ∷ [])) entries
-    (λ e less. All-cons (λ (o : Token). token_cmp e.token o ≡ Less) token [] less
-    (All-nil (λ (o : Token). token_cmp e.token o ≡ Less))) below)
+    (All-weaker (λ (e : Entry). token_cmp e.token token ≡ Less) (λ (e : Entry). All (λ (o : Token). token_cmp e.token o ≡ Less) (token ∷ [])) (λ e less. All-cons (λ (o : Token). token_cmp e.token o ≡ Less) token [] less
+    (All-nil (λ (o : Token). token_cmp e.token o ≡ Less))) entries below)
 
 -- the sums by token, with those of the last
 pub closed : (entries : List Entry) (tokens : List (Token × Sums)) (held : OpenToken)
@@ -73,10 +71,8 @@ all_below entries tokens held is next less =
     let P : Entry → Type 0 = λ e. token_cmp e.token next ≡ Less in
     subst (λ (es : List Entry). All P es) (sym is.both)
     (All-append P is.lower is.run
-    (all_map (λ (e : Entry). token_cmp e.token held.token ≡ Less) P is.lower
-    (λ e low. token_cmp-total.trans e.token held.token next low less) is.below)
-    (all_map (λ (e : Entry). e.token ≡ held.token) P is.run
-    (λ e same. ap (λ (t : Token). token_cmp t next) same ∙ less) is.its))
+    (All-weaker (λ (e : Entry). token_cmp e.token held.token ≡ Less) P (λ e low. token_cmp-total.trans e.token held.token next low less) is.lower is.below)
+    (All-weaker (λ (e : Entry). e.token ≡ held.token) P (λ e same. ap (λ (t : Token). token_cmp t next) same ∙ less) is.run is.its))
 
 -- a run that a higher token follows, of which no entry was added yet
 pub run_of_next : (entries : List Entry) (tokens tokens' : List (Token × Sums)) (last held : OpenToken)

@@ -6,15 +6,15 @@ use Rattle.std.specs.Prelude.{IfSome, slice_get}
 use Rattle.std.specs.Slice.{IsItemAt}
 use Rattle.std.proofs.lemmas.Option.{slice_get-get_or}
 use Rattle.std.specs.Io.KnownBytes.{Appends, Keeps, append_known}
-use Rattle.std.proofs.lemmas.List.{take-append-drop}
+use Rattle.std.proofs.lemmas.List.{take-append-drop, take_more}
 use Rattle.std.proofs.lemmas.List.Concat.{flat_map-append}
-use Rattle.std.proofs.lemmas.List.Elements.{All-cons, All-head, All-nil, All-tail}
 use Rattle.tap_views.specs.declared.token.Token.{Token}
 use Rattle.tap_views.specs.Layout.{moment_limit}
 use Rattle.tap_views.specs.declared.encoder.TapFields.{TapFields}
+use Rattle.tap_views.proofs.Lists.{All-split}
 use Rattle.settled_texts.specs.inside.Seats.{IsSoundList}
 use Rattle.settled_texts.specs.Telling.{NoTapFallsFrom, last_token}
-use Rattle.settled_texts.proofs.Tellings.{fall_within, taken}
+use Rattle.settled_texts.proofs.Tellings.{fall_within}
 
 -- the taps of lists, one list behind the other
 abbrev pub joined : List (Vec TapFields Global) → List TapFields
@@ -23,12 +23,6 @@ joined lists = flat_map (λ (list : Vec TapFields Global). list.items) lists
 abbrev pub Early : TapFields → Type 0
 Early tap = tap.moment < moment_limit
 
-pub both : {A : Type 0} (P : A → Type 0) (xs ys : List A) → All P (xs ++ ys) → All P xs × All P ys
-both P [] ys all = (All-nil P, all)
-both P (x ∷ xs) ys all =
-    let rest = both P xs ys (All-tail P x (xs ++ ys) all) in
-    (All-cons P x xs (All-head P x (xs ++ ys) all) rest.0, rest.1)
-
 -- one list more
 pub joined_more : (lists : List (Vec TapFields Global)) (place : ℕ) (other : Vec TapFields Global)
     → place < length lists
@@ -36,7 +30,7 @@ pub joined_more : (lists : List (Vec TapFields Global)) (place : ℕ) (other : V
     ≡ joined (take place lists) ++ (get_or lists place other).items
 joined_more lists place other within =
     let f : Vec TapFields Global → List TapFields = λ list. list.items in
-    ap (flat_map f) (taken lists place other within)
+    ap (flat_map f) (take_more lists place other within)
     ∙ flat_map-append f (take place lists) (get_or lists place other ∷ [])
     ∙ ap (λ ts. joined (take place lists) ++ ts) (append-nil (get_or lists place other).items)
 
@@ -64,7 +58,7 @@ sound_at token lists place other within early no_fall =
     let here = (get_or lists place other).items in
     let behind = joined (drop (place + 1) lists) in
     record {
-      early = (both Early here behind (both Early before (here ++ behind)
+      early = (All-split Early here behind (All-split Early before (here ++ behind)
           (subst (λ (ts : List TapFields). All Early ts) (sym whole) early)).1).0;
       from = last_token token before;
       no_fall = fall_within token (last_token token before) before here behind (joined lists) whole

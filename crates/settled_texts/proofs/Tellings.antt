@@ -4,7 +4,6 @@ use Rattle.std.specs.Prelude.{slice_get}
 use Rattle.std.proofs.Common.{refl, sym, ap, subst, ◌∙◌, append-nil, append_assoc, add-one}
 use Rattle.std.proofs.Common.{drop-cons}
 use Rattle.std.proofs.lemmas.List.{take-append-drop}
-use Rattle.std.proofs.Math.Seq.{take-suc}
 use Rattle.fare_table.specs.Fares.{Fares}
 use Rattle.tap_views.specs.declared.token.Token.{Token}
 use Rattle.tap_views.specs.declared.encoder.TapFields.{TapFields}
@@ -101,11 +100,6 @@ one_told fares earlier tap teller next line its same come is told =
       come = come_next fares teller next earlier entry here same come
           (subst (λ (e : Entry). HasTold fares next (own teller.token earlier ++ e ∷ [])) of told);
     }
-
--- one more of the first
-pub taken : {A : Type 0} (xs : List A) (place : ℕ) (other : A) → place < length xs
-    → take (place + 1) xs ≡ take place xs ++ get_or xs place other ∷ []
-taken xs place other within = rw (add-one) (take-suc xs place other within)
 
 -- a tap is not below the token of the taps before it
 pub fall_here : (from token : Token) (taps : List TapFields) (place : ℕ) (other : TapFields)

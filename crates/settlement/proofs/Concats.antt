@@ -1,15 +1,11 @@
 -- Histories of lists that share no token, one behind the other, and their sums by token.
-use Rattle.std.proofs.Common.{◌≡◌, Bool, true, false, ◌||◌, cond, List, ◌∷◌, ◌++◌, map, filter, []}
-use Rattle.std.proofs.Common.{refl, sym, ap, ◌∙◌, append-nil, append_assoc, All, ⊎_elim}
-use Rattle.std.specs.List.{AllByRecursion}
+use Rattle.std.proofs.Common.{◌≡◌, false, ◌||◌, cond, List, ◌∷◌, ◌++◌, map, filter, []}
+use Rattle.std.proofs.Common.{refl, sym, ap, ◌∙◌, append-nil, append_assoc, All}
 use Rattle.std.specs.List.Sorted.{IsStrictlySortedBy}
-use Rattle.std.specs.Cmp.{tied_itself}
-use Rattle.std.specs.Ordering.{eq_by_cmp}
-use Rattle.std.specs.Set.{is_member}
-use Rattle.std.specs.declared.cmp.Ordering.TheVariants.{Less, Equal}
-use Rattle.std.proofs.lemmas.Bool.{cases_Bool}
+use Rattle.std.specs.declared.cmp.Ordering.TheVariants.{Less}
 use Rattle.std.proofs.lemmas.List.{map-append}
 use Rattle.std.proofs.lemmas.List.Elements.{All-head, All-tail, All-nil, All-cons, filter-append}
+use Rattle.std.proofs.lemmas.List.Elements.{All-weaker, recursion_from_All}
 use Rattle.std.proofs.lemmas.Map.Views.{All-insert_key}
 use Rattle.fare_table.specs.Fares.{Fares}
 use Rattle.tap_views.specs.Token.{bytes_of, token_cmp, token_eq}
@@ -22,12 +18,13 @@ use Rattle.shard_book.specs.Rising.{rising}
 use Rattle.shard_book.specs.Sums.{Sums, sums}
 use Rattle.shard_book.specs.SumsByKey.{sums_by_token, token_of, tokens}
 use Rattle.shard_book.specs.declared.entry.Entry.{Entry}
-use Rattle.tap_views.proofs.TokenLemmas.{same_token, token_eq-sym, token_cmp-total, token_cmp-ties}
+use Rattle.tap_views.proofs.TokenLemmas.{token_eq-sym, token_cmp-total, token_cmp-ties}
+use Rattle.tap_views.proofs.TokenLemmas.{among, among-append, less_apart}
+use Rattle.tap_views.proofs.Lists.{each-append}
 use Rattle.shard_book.proofs.RisingLemmas.{rising-is, rising-only}
 use Rattle.shard_book.specs.Plain.{answered, with_reply}
 use Rattle.settlement.specs.Posted.{posted, posted_after, unposted}
 use Rattle.settlement.specs.inside.Apart.{AreBelow, AreOthers}
-use Rattle.settlement.proofs.Placed.{all_by, all_map}
 
 -- entries of other tokens decide no reply
 answered_others : (fares : Fares) (front earlier : List Entry) (entry : Entry)
@@ -79,23 +76,14 @@ posted_apart fares xs ys others =
     (after_others fares (posted fares xs) [] ys others)
 
 -- ---- sums by token
-all_recursion : {X : Type 0} (P : X → Type 0) (xs : List X) → All P xs → AllByRecursion P xs
-all_recursion P [] all = tt
-all_recursion P (x ∷ xs) all =
-    (All-head P x xs all, all_recursion P xs (All-tail P x xs all))
-
-recursion_append : {X : Type 0} (P : X → Type 0) (xs ys : List X) → AllByRecursion P xs
-    → AllByRecursion P ys → AllByRecursion P (xs ++ ys)
-recursion_append P [] ys front back = back
-recursion_append P (x ∷ xs) ys front back = (front.0, recursion_append P xs ys front.1 back)
 
 sorted_append : (xs ys : List Token) → IsStrictlySortedBy token_cmp xs
     → IsStrictlySortedBy token_cmp ys → AreBelow xs ys → IsStrictlySortedBy token_cmp (xs ++ ys)
 unfolding IsStrictlySortedBy
 sorted_append [] ys front back below = back
 sorted_append (x ∷ xs) ys front back below = (
-  recursion_append (λ z. token_cmp x z ≡ Less) xs ys front.0
-      (all_recursion (λ z. token_cmp x z ≡ Less) ys
+  each-append (λ z. token_cmp x z ≡ Less) xs ys front.0
+      (recursion_from_All (λ z. token_cmp x z ≡ Less) ys
       (All-head (λ t. All (λ o. token_cmp t o ≡ Less) ys) x xs below)),
   sorted_append xs ys front.1 back
       (All-tail (λ t. All (λ o. token_cmp t o ≡ Less) ys) x xs below),
@@ -112,24 +100,8 @@ all_keys P (key ∷ keys) all =
 below_keys : (xs ys : List Token) → AreBelow xs ys
     → AreBelow (rising token_cmp xs) (rising token_cmp ys)
 below_keys xs ys below =
-    all_map (λ t. All (λ o. token_cmp t o ≡ Less) ys)
-    (λ t. All (λ o. token_cmp t o ≡ Less) (rising token_cmp ys)) (rising token_cmp xs)
-    (λ t all. all_keys (λ o. token_cmp t o ≡ Less) ys all)
+    All-weaker (λ t. All (λ o. token_cmp t o ≡ Less) ys) (λ t. All (λ o. token_cmp t o ≡ Less) (rising token_cmp ys)) (λ t all. all_keys (λ o. token_cmp t o ≡ Less) ys all) (rising token_cmp xs)
     (all_keys (λ t. All (λ o. token_cmp t o ≡ Less) ys) xs below)
-
-abbrev among : List Token → Token → Bool
-among list token = is_member (eq_by_cmp token_cmp) list token
-
-or_assoc : (a b c : Bool) → ((a || b) || c) ≡ (a || (b || c))
-or_assoc true b c = refl
-or_assoc false b c = refl
-
-among_append : (xs ys : List Token) (token : Token)
-    → among (xs ++ ys) token ≡ (among xs token || among ys token)
-among_append [] ys token = refl
-among_append (x ∷ xs) ys token =
-    ap (λ b. eq_by_cmp token_cmp token x || b) (among_append xs ys token)
-    ∙ sym (or_assoc (eq_by_cmp token_cmp token x) (among xs token) (among ys token))
 
 keys_joined : (xs ys : List Token) → AreBelow xs ys
     → rising token_cmp xs ++ rising token_cmp ys ≡ rising token_cmp (xs ++ ys)
@@ -141,21 +113,11 @@ keys_joined xs ys below =
       rises = sorted_append (rising token_cmp xs) (rising token_cmp ys) front.rises back.rises
           (below_keys xs ys below);
       same = λ key.
-          among_append (rising token_cmp xs) (rising token_cmp ys) key
+          among-append (rising token_cmp xs) (rising token_cmp ys) key
           ∙ ap (λ b. b || among (rising token_cmp ys) key) (front.same key)
           ∙ ap (λ b. among xs key || b) (back.same key)
-          ∙ sym (among_append xs ys key);
+          ∙ sym (among-append xs ys key);
     })
-
-pub less_apart : (a b : Token) → token_cmp a b ≡ Less → token_eq b a ≡ false
-less_apart a b less = ⊎_elim
-    (λ (same : token_eq b a ≡ true).
-    let is : b ≡ a = same_token b a same in
-    let tied : token_cmp a a ≡ Equal = tied_itself token_cmp-total a in
-    let here : token_cmp a a ≡ Less = ap (token_cmp a) (sym is) ∙ less in
-    absurd (let t : Equal ≡ Less = sym tied ∙ here in cc))
-    (λ (apart : token_eq b a ≡ false). apart)
-    (cases_Bool (token_eq b a))
 
 pub none_of : (token : Token) (entries : List Entry)
     → All (λ t. token_eq t token ≡ false) (map token_of entries) → own token entries ≡ []
@@ -187,7 +149,7 @@ paired_append f (x ∷ xs) ys =
 
 flipped : (xs ys : List Token) → AreBelow xs ys
     → All (λ y. All (λ x. token_eq x y ≡ false) xs) ys
-flipped [] ys below = all_by (λ y. All (λ x. token_eq x y ≡ false) []) ys (λ j d h. All-nil (λ x. token_eq x _ ≡ false))
+flipped [] ys below = (λ j d h. All-nil (λ x. token_eq x _ ≡ false))
 flipped (x ∷ xs) ys below =
     both ys (All-head (λ t. All (λ o. token_cmp t o ≡ Less) ys) x xs below)
     (flipped xs ys (All-tail (λ t. All (λ o. token_cmp t o ≡ Less) ys) x xs below))
@@ -212,19 +174,15 @@ by_token_joined xs ys below =
     let ky = map token_of ys in
     let f : Token → Sums = λ t. sums (own t (xs ++ ys)) in
     let front : All (λ t. f t ≡ sums (own t xs)) (rising token_cmp kx) =
-    all_map (λ t. All (λ o. token_cmp t o ≡ Less) ky) (λ t. f t ≡ sums (own t xs))
-    (rising token_cmp kx)
-    (λ t all. ap sums (filter-append (is_of t) xs ys
+    All-weaker (λ t. All (λ o. token_cmp t o ≡ Less) ky) (λ t. f t ≡ sums (own t xs)) (λ t all. ap sums (filter-append (is_of t) xs ys
     ∙ ap (λ (es : List Entry). filter (is_of t) xs ++ es)
     (none_of t ys (all_map (λ o. token_cmp t o ≡ Less) (λ o. token_eq o t ≡ false) ky
     (λ o less. less_apart t o less) all))
-    ∙ append-nil (filter (is_of t) xs)))
+    ∙ append-nil (filter (is_of t) xs))) (rising token_cmp kx)
     (all_keys (λ t. All (λ o. token_cmp t o ≡ Less) ky) kx below) in
     let back : All (λ t. f t ≡ sums (own t ys)) (rising token_cmp ky) =
-    all_map (λ t. All (λ o. token_eq o t ≡ false) kx) (λ t. f t ≡ sums (own t ys))
-    (rising token_cmp ky)
-    (λ t all. ap sums (filter-append (is_of t) xs ys
-    ∙ ap (λ (es : List Entry). es ++ filter (is_of t) ys) (none_of t xs all)))
+    All-weaker (λ t. All (λ o. token_eq o t ≡ false) kx) (λ t. f t ≡ sums (own t ys)) (λ t all. ap sums (filter-append (is_of t) xs ys
+    ∙ ap (λ (es : List Entry). es ++ filter (is_of t) ys) (none_of t xs all))) (rising token_cmp ky)
     (all_keys (λ t. All (λ o. token_eq o t ≡ false) kx) ky (flipped kx ky below)) in
     ap (λ (ks : List Token). paired f (rising token_cmp ks)) (map-append token_of xs ys)
     ∙ ap (paired f) (sym (keys_joined kx ky below))

@@ -10,6 +10,7 @@ use Rattle.fare_table.specs.Fares.{Fares}
 use Rattle.tap_views.specs.Encoding.{AreEarly, fields_of}
 use Rattle.tap_views.specs.Layout.{Tap}
 use Rattle.tap_views.specs.declared.encoder.TapFields.{TapFields}
+use Rattle.tap_views.proofs.Lists.{AllZip-length}
 use Rattle.tap_parts.specs.Canonical.{HasTokenBytes, IsCanonical, tap_cmp}
 use Rattle.tap_parts.specs.Parts.{taps_of_uploads}
 use Rattle.tap_parts.specs.Ranges.{range_of_token}
@@ -28,8 +29,6 @@ use Rattle.settlement.specs.inside.SplitUploads.{AreSplit}
 use Rattle.settlement.specs.declared.bill.Bill.{Bill}
 use Rattle.settlement.specs.inside.Billing.{ArePartsInOrder, IsBillOfParts, IsSoundPart}
 use Rattle.settlement.proofs.Early.{uploads_early}
-use Rattle.settlement.proofs.Files.{zip_length}
-use Rattle.settlement.proofs.Placed.{all_by}
 use Rattle.settlement.proofs.Ranges.{AreTokensBelow, in_order_at, later_range, lists_in_order}
 use Rattle.settlement.proofs.Ranges.{posted_each, to_tokens}
 use Rattle.settlement.proofs.Same.{part_fields}
@@ -66,7 +65,7 @@ module _ (uploads : List (List ℕ)) (ends : List UploadEnd) (parts : List (List
       split.each place inside ∙ part_fields (range_of_token split.bounds) place good
 
   pub sound_parts : All IsSoundPart parts
-  sound_parts = all_by IsSoundPart parts (λ part d there.
+  sound_parts = (λ part d there.
       let here = get_or_default parts part d [] there in
       subst IsSoundPart (sym here) (record {
         early = subst (λ ts. AreEarly (λ (tap : TapFields). tap.moment) ts) (sym (split.each part there))
@@ -107,7 +106,7 @@ module _ (uploads : List (List ℕ)) (ends : List UploadEnd) (parts : List (List
   pub whole_order : (lists : List (List TapFields)) → AllZip IsCanonical parts lists
       → IsCanonical (map fields_of good) (flat_map (λ list. list) lists)
   whole_order lists zip =
-      let as_many = zip_length IsCanonical parts lists zip in
+      let as_many = AllZip-length IsCanonical parts lists zip in
       places_are_canonical place_of (ranges_in_order split.bounds) (map fields_of good) split.tokens lists
       (subst (λ n. All (λ tap. place_of tap < n) (map fields_of good)) as_many all_within)
       (λ place inside.

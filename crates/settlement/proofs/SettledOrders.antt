@@ -3,7 +3,7 @@ use Rattle.std.proofs.Common.{◌≡◌, ℕ, ◌<◌, List, ◌∷◌, ◌++◌
 use Rattle.std.proofs.Common.{◌∙◌, subst, Vec, Global, []}
 use Rattle.std.specs.List.{AllZip, sum_by}
 use Rattle.std.specs.Ordering.{is_lt}
-use Rattle.std.proofs.lemmas.List.Elements.{All-filter, All-map, filter_passes}
+use Rattle.std.proofs.lemmas.List.Elements.{All-filter, All-map, filter_passes, All-weaker}
 use Rattle.std.proofs.lemmas.List.Kept.{IsSortedBy-filter}
 use Rattle.std.proofs.lemmas.List.Sorted.{All-permutation, ranks_by, sum_by-IsPermutation}
 use Rattle.fare_table.specs.Fares.{Fares}
@@ -25,7 +25,6 @@ use Rattle.settlement.specs.inside.SplitUploads.{AreSplit}
 use Rattle.settlement.proofs.Early.{uploads_early}
 use Rattle.settlement.proofs.Files.{taps_in}
 use Rattle.settlement.proofs.OnlyTaps.{is_its}
-use Rattle.settlement.proofs.Placed.{all_map}
 use Rattle.settlement.proofs.Ranges.{has_name}
 use Rattle.settlement.proofs.Same.{sum_filter}
 use Rattle.settlement.proofs.SettledBills.{posted_of, whole_order}
@@ -45,7 +44,7 @@ settled_order uploads taps order each tokens canonical =
           canonical.moved
           (All-map (λ (tap : TapFields). tap.moment < moment_limit) fields_of good
           (uploads_early uploads taps each));
-      named = all_map HasTokenBytes HasName order has_name
+      named = All-weaker HasTokenBytes HasName has_name order
           (All-permutation HasTokenBytes (map fields_of good) order canonical.moved tokens);
     }
 
@@ -116,6 +115,5 @@ module _ (uploads : List (List ℕ)) (token : Token) (taps : List TapFields)
 
   pub own_its : All (λ tap. token_of_tap tap ≡ token) taps
   own_its = subst (All (λ tap. token_of_tap tap ≡ token)) (sym is.own)
-      (all_map (λ tap. is_its token tap ≡ true) (λ tap. token_of_tap tap ≡ token) (only token is.order)
-      (λ tap same. same_token (token_of_tap tap) token same)
+      (All-weaker (λ tap. is_its token tap ≡ true) (λ tap. token_of_tap tap ≡ token) (λ tap same. same_token (token_of_tap tap) token same) (only token is.order)
       (filter_passes (is_its token) is.order))

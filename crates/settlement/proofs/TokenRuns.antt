@@ -11,7 +11,7 @@ use Rattle.std.specs.declared.cmp.Ordering.{Ordering}
 use Rattle.std.specs.declared.cmp.Ordering.TheVariants.{Less, Equal, Greater}
 use Rattle.std.proofs.lemmas.Bool.{cases_lt, false≢true}
 use Rattle.std.proofs.lemmas.List.{length-take, take_more}
-use Rattle.std.proofs.lemmas.List.Elements.{All-head, All-tail, All-nil, All-cons}
+use Rattle.std.proofs.lemmas.List.Elements.{All-head, All-tail, All-nil, All-cons, All-weaker}
 use Rattle.std.proofs.lemmas.List.Sorted.{ranks_by, sorted_far}
 use Rattle.tap_views.proofs.TokenBytes.{token-order}
 use Rattle.fare_table.specs.Fares.{Fares}
@@ -25,13 +25,16 @@ use Rattle.shard_book.specs.Sums.{Sums, sums}
 use Rattle.shard_book.specs.SumsByKey.{sums_by_token, token_of, tokens}
 use Rattle.shard_book.specs.declared.entry.Entry.{Entry}
 use Rattle.tap_views.proofs.TokenLemmas.{token_eq-refl, high_back, low_back, token_cmp-total, token_cmp-ties}
+use Rattle.tap_views.proofs.Orderings.{first_not_less}
+use Rattle.tap_views.proofs.Choices.{or_twice}
 use Rattle.shard_book.proofs.RisingLemmas.{rising-only}
 use Rattle.shard_book.specs.Plain.{answered, token_of_bytes}
+use Rattle.shard_book.proofs.OwnEntries.{own_all}
 use Rattle.settlement.specs.inside.Apart.{AreBelow}
 use Rattle.settlement.specs.Posted.{HasName, posted, posted_after, token_of_tap, unposted}
-use Rattle.settlement.proofs.Placed.{all_map}
 use Rattle.settlement.proofs.Concats.{posted_append}
 use Rattle.tap_parts.proofs.Total.{tap_cmp_total}
+use Rattle.fare_texts.proofs.Rising.{not_greater}
 
 -- ---- what is posted
 -- the tokens of the entries are those of the taps
@@ -78,22 +81,6 @@ tokens_are token fares earlier (tap ∷ taps) its =
     (tokens_are token fares (earlier ++ answered fares earlier (unposted tap) ∷ []) taps
     (All-tail (λ (t : TapFields). token_of_tap t ≡ token) tap taps its))
 
-own_all : (token : Token) (entries : List Entry) → All (λ entry. entry.token ≡ token) entries
-    → own token entries ≡ entries
-unfolding own
-own_all token [] all = refl
-own_all token (entry ∷ entries) all =
-    let here : token_eq entry.token token ≡ true =
-    ap (λ (t : Token). token_eq t token) (All-head (λ (e : Entry). e.token ≡ token) entry entries all)
-    ∙ token_eq-refl token in
-    ap (λ b. cond b (entry ∷ filter (is_of token) entries) (filter (is_of token) entries)) here
-    ∙ ap (λ (es : List Entry). entry ∷ es)
-    (own_all token entries (All-tail (λ (e : Entry). e.token ≡ token) entry entries all))
-
-or_twice : (b : Bool) → (b || (b || false)) ≡ (b || false)
-or_twice true = refl
-or_twice false = refl
-
 among_one : (token key : Token) (entry : Entry) (entries : List Entry)
     → All (λ entry. entry.token ≡ token) (entry ∷ entries)
     → is_member (eq_by_cmp token_cmp) (map token_of (entry ∷ entries)) key
@@ -108,7 +95,7 @@ among_one token key entry (next ∷ entries) all =
     ∙ ap (λ (t : Token). eq_by_cmp token_cmp key t
     || (eq_by_cmp token_cmp key token || false))
     (All-head (λ (e : Entry). e.token ≡ token) entry (next ∷ entries) all)
-    ∙ or_twice (eq_by_cmp token_cmp key token)
+    ∙ sym (or_twice (eq_by_cmp token_cmp key token) false)
 
 one_rises : (token : Token) → IsStrictlySortedBy token_cmp (token ∷ [])
 unfolding IsStrictlySortedBy
@@ -132,11 +119,6 @@ one_token token entry entries all =
 -- the first token is not above the second
 abbrev pub IsUpTo : Token → Token → Type 0
 IsUpTo token other = is_lt (token_cmp other token) ≡ false
-
-not_greater : (a b : Token) → IsUpTo a b → token_cmp a b ≡ Greater → ⊥
-not_greater a b up greater =
-    let less : token_cmp b a ≡ Less = token_cmp-total.antisymm b a ∙ ap ordering_reverse greater in
-    false≢true (sym up ∙ ap is_lt less)
 
 -- a token that another is not above, and that is not the same, is below it
 pub up_apart : (a b : Token) → IsUpTo a b → a ≢ b → token_cmp a b ≡ Less
@@ -163,18 +145,13 @@ less_up a b c less up = by (token_cmp b c) refl
     by Equal tied = ap (λ (t : Token). token_cmp a t) (sym (token_cmp-ties b c tied)) ∙ less
     by Greater greater = absurd (not_greater b c up greater)
 
-first_decides : (one other : Ordering) → is_lt (ordering_then one other) ≡ false → is_lt one ≡ false
-first_decides Less other not = not
-first_decides Equal other not = refl
-first_decides Greater other not = refl
-
 up_to : (a b : TapFields) → HasName a → HasName b → is_lt (tap_cmp b a) ≡ false
     → IsUpTo (token_of_tap a) (token_of_tap b)
 up_to a b of_a of_b not =
     let bytes : token_cmp (token_of_tap b) (token_of_tap a) ≡ slice_cmp nat_cmp b.token a.token =
     token-order (token_of_tap b) (token_of_tap a) of_b.fits of_a.fits
     ∙ (λ i. slice_cmp nat_cmp (of_b.named i) (of_a.named i)) in
-    ap is_lt bytes ∙ first_decides (slice_cmp nat_cmp b.token a.token) _ not
+    ap is_lt bytes ∙ first_not_less (slice_cmp nat_cmp b.token a.token) _ not
 
 -- the tokens of taps in canonical order do not fall
 pub rise_far : (taps : List TapFields) → IsSorted tap_cmp taps → All HasName taps
@@ -282,9 +259,7 @@ pub below_same : (tokens : List Token) (token : Token) (entries : List Entry)
     → AreBelow tokens (map token_of entries)
 below_same tokens token entries below all =
     flip_below tokens entries
-    (all_map (λ (e : Entry). e.token ≡ token)
-    (λ (e : Entry). All (λ t. token_cmp t e.token ≡ Less) tokens) entries
-    (λ e same. below_each tokens token e.token same below) all)
+    (All-weaker (λ (e : Entry). e.token ≡ token) (λ (e : Entry). All (λ t. token_cmp t e.token ≡ Less) tokens) (λ e same. below_each tokens token e.token same below) entries all)
 
 -- tokens below those of taps are below that of the first one
 pub below_first : (tokens : List Token) (token : Token) (taps : List TapFields) → 0 < length taps

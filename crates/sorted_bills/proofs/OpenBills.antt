@@ -5,6 +5,7 @@ use Rattle.std.proofs.Common.{length-append}
 use Rattle.std.specs.declared.cmp.Ordering.TheVariants.{Less}
 use Rattle.std.proofs.lemmas.List.{map-append}
 use Rattle.std.proofs.lemmas.List.Elements.{All-append, All-cons, All-head, All-map, All-nil}
+use Rattle.std.proofs.lemmas.List.Elements.{All-weaker}
 use Rattle.fare_table.specs.Fares.{Fares}
 use Rattle.tap_views.specs.Token.{token_cmp}
 use Rattle.tap_views.specs.declared.token.Token.{Token}
@@ -25,7 +26,6 @@ use Rattle.settlement.specs.Replays.{HasPosted}
 use Rattle.settlement.specs.declared.bill.Bill.{Bill}
 use Rattle.settlement.specs.inside.Apart.{AreBelow}
 use Rattle.settlement.proofs.Concats.{by_token_joined, posted_append}
-use Rattle.settlement.proofs.Placed.{all_map}
 use Rattle.settlement.proofs.Ranges.{posted_below}
 use Rattle.settlement.proofs.TokenRuns.{below_same, one_token_list, posted_length, tokens_are}
 use Rattle.settlement.proofs.TokenRuns.{tokens_posted, up_apart}
@@ -79,12 +79,10 @@ module _ (fares : Fares) (token : Token) (lower last : List TapFields)
       λ t is. All-cons (λ o. token_cmp t o ≡ Less) next [] is (All-nil (λ o. token_cmp t o ≡ Less)) in
       subst (λ (ts : List Token). AreBelow ts (next ∷ [])) (sym (map-append token_of_tap lower last))
       (All-append P (map token_of_tap lower) (map token_of_tap last)
-      (all_map (λ t. All (λ o. token_cmp t o ≡ Less) (token ∷ [])) P (map token_of_tap lower)
-      (λ t all. one t (token_cmp-total.trans t token next
-      (All-head (λ o. token_cmp t o ≡ Less) token [] all) less)) below)
+      (All-weaker (λ t. All (λ o. token_cmp t o ≡ Less) (token ∷ [])) P (λ t all. one t (token_cmp-total.trans t token next
+      (All-head (λ o. token_cmp t o ≡ Less) token [] all) less)) (map token_of_tap lower) below)
       (All-map P token_of_tap last
-      (all_map (λ (tap : TapFields). token_of_tap tap ≡ token) (λ (tap : TapFields). P (token_of_tap tap))
-      last (λ tap same. subst P (sym same) (one token less)) its)))
+      (All-weaker (λ (tap : TapFields). token_of_tap tap ≡ token) (λ (tap : TapFields). P (token_of_tap tap)) (λ tap same. subst P (sym same) (one token less)) last its)))
 
 -- the entries of all taps are those of the lower tokens, and then those of the last
 entries_both : (fares : Fares) (taps : List TapFields) (bill : OpenBill)

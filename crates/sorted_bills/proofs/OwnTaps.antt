@@ -6,6 +6,7 @@ use Rattle.std.specs.Prelude.{slice_get}
 use Rattle.std.proofs.Common.{append_assoc, arith}
 use Rattle.std.proofs.lemmas.List.Concat.{flat_map-append}
 use Rattle.std.proofs.lemmas.List.Elements.{All-append, All-cons, All-nil, filter-append}
+use Rattle.std.proofs.lemmas.List.Elements.{All-weaker}
 use Rattle.std.proofs.lemmas.List.Sorted.{All-permutation}
 use Rattle.std.proofs.lemmas.Option.{same_Some, slice_get-get_or, slice_get-map}
 use Rattle.tap_views.specs.Token.{token_eq}
@@ -17,7 +18,6 @@ use Rattle.report_texts.specs.declared.upload_end.UploadEnd.TheVariants.{Posted}
 use Rattle.tap_views.proofs.TokenLemmas.{same_token}
 use Rattle.settlement.specs.Posted.{HasName, only, token_of_tap}
 use Rattle.settlement.specs.SettledTaps.{AreSettledTapsOf}
-use Rattle.settlement.proofs.Placed.{all_map}
 use Rattle.settlement.proofs.Ranges.{has_token_bytes}
 use Rattle.settlement.proofs.SettledOrders.{own_settled}
 use Rattle.sorted_taps.specs.Readers.{ahead, IsAdvanced, StandsIn}
@@ -185,8 +185,7 @@ own_in_order token files own list numbers are canonical =
       ended = own_ends token files own numbers are;
     })
     (subst (λ (ts : List TapFields). All HasTokenBytes ts) (sym of.fields)
-    (all_map HasName HasTokenBytes (flat_map (λ list. list) are.lists)
-    (λ tap name. has_token_bytes tap name.named) are.named)) canonical
+    (All-weaker HasName HasTokenBytes (λ tap name. has_token_bytes tap name.named) (flat_map (λ list. list) are.lists) are.named)) canonical
 
 -- they stay the token's, with moments before 2100
 pub sound_list : (token : Token) (taps list : List TapFields) → AreSound token taps

@@ -7,7 +7,7 @@ use Rattle.std.specs.declared.cmp.Ordering.TheVariants.{Less}
 use Rattle.std.specs.Io.KnownBytes.{Appends, Keeps, append_known}
 use Rattle.std.proofs.KnownBytes.{Appends-nil, Appends-trans, append_known-passed}
 use Rattle.std.proofs.lemmas.Bool.{false≢true}
-use Rattle.std.proofs.lemmas.List.Elements.{All-append, All-nil}
+use Rattle.std.proofs.lemmas.List.Elements.{All-append, All-nil, All-weaker}
 use Rattle.fare_table.specs.Fares.{Fares}
 use Rattle.tap_views.specs.Token.{token_cmp, token_eq}
 use Rattle.tap_views.specs.declared.encoder.TapFields.{TapFields}
@@ -18,7 +18,6 @@ use Rattle.fare_texts.specs.declared.teller.Teller.{Teller}
 use Rattle.fare_texts.specs.Lines.{HasCome, IsUpTo}
 use Rattle.fare_texts.proofs.Rising.{none_below, up_chain, up_itself, up_weaker}
 use Rattle.settlement.specs.Posted.{HasName, posted_after, token_of_tap}
-use Rattle.settlement.proofs.Placed.{all_map}
 use Rattle.settled_texts.specs.Telling.{NoTapFallsFrom, last_token}
 use Rattle.settled_texts.proofs.Tellings.{last_append, none_told, told_append}
 use Rattle.sorted_taps.specs.Spans.{HaveCome}
@@ -177,8 +176,7 @@ lines_out a b c left lines kept none more =
 pub none_made : (fares : Fares) (known : List (Option (List ℕ))) (ranges : List Range)
     → All (λ range. range.span ≡ None) ranges → All (IsRange fares known) ranges
 none_made fares known ranges none =
-    all_map (λ (range : Range). range.span ≡ None) (IsRange fares known) ranges
-    (λ (range : Range) is. not_made fares known range is) none
+    All-weaker (λ (range : Range). range.span ≡ None) (IsRange fares known) (λ (range : Range) is. not_made fares known range is) ranges none
   where
     not_made : (fares : Fares) (known : List (Option (List ℕ))) (range : Range) → range.span ≡ None
         → IsRange fares known range

@@ -8,8 +8,8 @@ use Rattle.std.specs.Cmp.Lexicographic.{bytes_decides, pointwise}
 use Rattle.std.proofs.lemmas.Bool.Decides.{nat_tests}
 use Rattle.std.proofs.lemmas.List.Elements.{All-head, All-tail}
 use Rattle.tap_views.specs.declared.encoder.TapFields.{TapFields}
+use Rattle.tap_views.proofs.Lists.{All-front}
 use Rattle.settlement.proofs.Placed.{NotLess, Pairs, no_earlier}
-use Rattle.settlement.proofs.Taken.{all_front}
 use Rattle.upload_checks.specs.declared.near_doubles.NearDouble.{NearDouble}
 use Rattle.upload_checks.specs.NearDoubles.{HasNearTap, double_of, is_at, last_from, last_moment}
 
@@ -190,4 +190,4 @@ near_is_told within before tap pairs has none =
 pub pairs_front : (xs ys : List TapFields) → Pairs NotLess (xs ++ ys) → Pairs NotLess xs
 pairs_front [] ys pairs = tt
 pairs_front (x ∷ xs) ys pairs =
-    (all_front (NotLess x) xs ys pairs.0, pairs_front xs ys pairs.1)
+    (All-front (NotLess x) xs ys pairs.0, pairs_front xs ys pairs.1)

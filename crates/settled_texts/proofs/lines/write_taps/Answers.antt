@@ -1,16 +1,15 @@
 -- Each round tells a stride more.
 use Rattle.std.proofs.Common.{◌≡◌, ◌<◌, ◌++◌, ◌==◌, false, true, List, [], length}
-use Rattle.std.proofs.Common.{string_bytes, refl, sym, ap, subst, ◌∙◌, append_assoc, append-nil}
+use Rattle.std.proofs.Common.{string_bytes, refl, sym, ap, subst, ◌∙◌, append_assoc}
 use Rattle.std.proofs.Common.{arith, length-append}
 use Rattle.std.specs.Io.KnownBytes.{append_known}
 use Rattle.std.proofs.KnownBytes.{Appends-kept, Appends-nil}
-use Rattle.std.proofs.lemmas.Bool.{eqb-true}
 use Rattle.std.proofs.lemmas.Bool.Decides.{nat_tests}
-use Rattle.std.proofs.lemmas.List.{nil_from_length}
 use Rattle.std.proofs.lemmas.List.Elements.{All-drop, All-same, All-take}
 use Rattle.tap_views.specs.declared.token.Token.{Token}
 use Rattle.tap_views.specs.Layout.{moment_limit}
 use Rattle.tap_views.specs.declared.encoder.TapFields.{TapFields}
+use Rattle.tap_views.proofs.Lists.{all_done}
 use Rattle.fare_texts.proofs.Writing.{grown}
 use Rattle.settlement.specs.Posted.{posted_after}
 use Rattle.settled_texts.specs.Telling.{AreTold, last_token}
@@ -106,13 +105,6 @@ loop-rest-preserved g c =
           ∙ sym (last_append c.args.teller.now.token inv.done stride);
       few = omega (arith, next.few, inv.few, parts);
     }
-
--- all is done where nothing is left
-all_done : (done left taps : List TapFields) → done ++ left ≡ taps → (length left == 0) ≡ true
-    → done ≡ taps
-all_done done left taps all test =
-    sym (append-nil done) ∙ ap (λ more. done ++ more) (sym (nil_from_length left (eqb-true (length left) 0 test)))
-    ∙ all
 
 pub returns-clause-told : goal.returns-clause-told
 returns-clause-told g c = λ earlier come.

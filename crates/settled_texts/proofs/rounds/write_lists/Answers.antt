@@ -7,9 +7,10 @@ use Rattle.std.proofs.lemmas.Bool.{eqb-true}
 use Rattle.std.proofs.lemmas.List.{nil_from_length}
 use Rattle.tap_views.specs.declared.token.Token.{Token}
 use Rattle.tap_views.specs.declared.encoder.TapFields.{TapFields}
+use Rattle.tap_views.proofs.Lists.{All-split}
 use Rattle.settlement.specs.Posted.{posted_after}
 use Rattle.settled_texts.specs.Telling.{AreTold, last_token}
-use Rattle.settled_texts.proofs.Joined.{Early, both, joined, joined_append}
+use Rattle.settled_texts.proofs.Joined.{Early, joined, joined_append}
 use Rattle.settled_texts.proofs.Tellings.{fall_within, halves_of, last_append, none_told}
 use Rattle.settled_texts.proofs.Tellings.{told_append}
 use Rattle.settled_texts.proofs.rounds.write_lists.Goals as goal
@@ -46,7 +47,7 @@ write_round-requires-clause-early g c κs within =
     let behind = c.split_at.result.1.now in
     let halves = halves_of c.min.result c.loop-rest.rest.now round behind c.split_at.ensures.front
     c.split_at.ensures.back in
-    (both Early (joined round) (joined behind)
+    (All-split Early (joined round) (joined behind)
     (subst (λ (taps : List TapFields). All Early taps)
     (sym (joined_halves c.loop-rest.rest.now round behind halves)) c.loop-rest.invariant.early)).0
 
@@ -97,7 +98,7 @@ loop-rest-preserved g c =
     record {
       done = inv.done ++ round;
       whole = append_assoc inv.done round behind ∙ ap (λ lists. inv.done ++ lists) halves ∙ inv.whole;
-      early = (both Early (joined round) (joined behind)
+      early = (All-split Early (joined round) (joined behind)
           (subst (λ (taps : List TapFields). All Early taps)
           (sym (joined_halves c.loop-rest.rest.now round behind halves)) inv.early)).1;
       told = λ earlier come.
