@@ -11,6 +11,7 @@ use Rattle.std.proofs.lemmas.List.Folds.{list_all-append}
 use Rattle.std.proofs.lemmas.List.Sums.{sum_by-append}
 use Rattle.std.proofs.lemmas.Slice.Eq.{bytes_eq-Decides}
 use Rattle.std.proofs.lemmas.Map.Text.{is_eq-slice_cmp}
+use Rattle.std.proofs.Math.Bool.{and-true}
 use Rattle.tap_views.specs.Layout.{Tap, num}
 use Rattle.fare_program.specs.declared.listing.Liveness.{Liveness}
 use Rattle.fare_program.specs.declared.listing.Liveness.TheVariants.{Live, Stale, Unknown}
@@ -43,10 +44,6 @@ pub last_of-insert : (old new : List (List ℕ × ℕ)) (token other : List ℕ)
 last_of-insert old new token other moment e =
     last_of-get new other ∙ e ∙ ap₂ (λ b o. cond b (Some moment) o) (is_eq-slice_cmp token other) (sym (last_of-get old other))
 
-and-true : (b : Bool) → b ≡ (b && true)
-and-true true = refl
-and-true false = refl
-
 abbrev is_known_of : List ℕ → Listed → Bool
 is_known_of token t = t.known && bytes_eq t.tap.token token
 
@@ -55,13 +52,13 @@ last-push : (last : List (List ℕ × ℕ)) (tap : Tap) (other : List ℕ) (mome
     → is_after_last (last_of last other) moment ≡ all → bytes_eq tap.token other ≡ same → (same ≡ true → tap.token ≡ other)
     → is_after_last (last_after (liveness_by last (record { tap = tap; known = known })) tap.token (num tap.moment) last other) moment
     ≡ (all && are_before moment (filter (is_known_of other) (record { tap = tap; known = known } ∷ [])))
-last-push last tap other moment all false same e is eq = e ∙ and-true all
+last-push last tap other moment all false same e is eq = e ∙ sym (and-true all)
 last-push last tap other moment all true false e is eq = other_token (is_after_last (last_of last tap.token) (num tap.moment))
   where
     other_token : (live : Bool) → is_after_last (last_after (if live then Live else Stale) tap.token (num tap.moment) last other) moment
         ≡ (all && are_before moment (filter (is_known_of other) (record { tap = tap; known = true } ∷ [])))
-    other_token true = rw is (e ∙ and-true all)
-    other_token false = rw is (e ∙ and-true all)
+    other_token true = rw is (e ∙ sym (and-true all))
+    other_token false = rw is (e ∙ sym (and-true all))
 last-push last tap other moment all true true e is eq = rw is (own_token (is_after_last (last_of last tap.token) (num tap.moment)) refl)
   where
     here : last_of last tap.token ≡ last_of last other

@@ -5,6 +5,7 @@ use Rattle.std.specs.List.{list_all}
 use Rattle.std.specs.Str.{bytes_eq}
 use Rattle.std.proofs.lemmas.List.Sums.{fold-append}
 use Rattle.std.proofs.lemmas.Slice.Eq.{bytes_eq-Decides}
+use Rattle.std.proofs.Math.Bool.{or-false, and-false}
 use Rattle.clap.specs.Lexer.{long_of, short_of, usize_max}
 use Rattle.clap.specs.Walk.{Held, Outcome, Step, Waiting, Walk, action_of, after_flag, after_step, arg_by_id, arg_by_index, default_rows, done, has_row, idle, is_empty, is_multiple, is_pending, long_or_other, more_values, next, nothing_held, option, plain, plain_word, positional, pushed, reading_by, refused, rows_after, settled, short_or_plain, stronger, subcommand, subcommand_met, subcommand_or_other, takes_several, to_positional, trailing, used, used_as, used_by_id, value, waits, walk_from, walked, walked_from, with_default, with_values, word_met}
 use Rattle.clap.proofs.WalkLemmas.{both}
@@ -63,14 +64,6 @@ no_subcommand idle word = refl
 no_subcommand (option id) word = refl
 no_subcommand positional word = refl
 
-or_false : (b : Bool) → (b || false) ≡ b
-or_false true = refl
-or_false false = refl
-
-and_false : (b : Bool) → (b && false) ≡ false
-and_false true = refl
-and_false false = refl
-
 -- the rows with these files, one by one
 abbrev rows_with : Rule → List Row → List Text → List Row
 rows_with p rows names = fold (λ rows name. used p (name ∷ []) rows) rows names
@@ -94,7 +87,7 @@ module _ (c : List Rule) (p : Rule) (takes : TakesFiles c p) where
       subst (λ (r : Option Rule). IsAtFiles (to_positional c r word w h) behind) (sym found) (record {
         position = ap (λ (b : Bool). cond b w.position (min (w.position + 1) usize_max)) takes.many ∙ at.position;
         stopped = refl;
-        is_trailing = ap (λ (b : Bool). w.is_trailing || b) takes.open_end ∙ or_false w.is_trailing ∙ at.is_trailing;
+        is_trailing = ap (λ (b : Bool). w.is_trailing || b) takes.open_end ∙ or-false w.is_trailing ∙ at.is_trailing;
       })
 
   plain_at : (w : Walk) (word : Text) (h : Held) (s : Step) (behind : Bool) → IsPlainStep s → IsAtFiles w behind → IsAtFiles (after_step c word w h s) behind
@@ -136,7 +129,7 @@ module _ (c : List Rule) (p : Rule) (takes : TakesFiles c p) where
       ap (λ (v : Walk). v.held) (step_is w name true at)
       ∙ ap (λ (r : Option Rule). (to_positional c r name w w.held).held) (ap (arg_by_index c) at.position ∙ takes.first)
       ∙ ap (λ (b : Bool). pushed p.id name (cond b w.held (settled c w.held)))
-      (ap (λ (b : Bool). is_pending p w.held.pending && b) takes.alone ∙ and_false (is_pending p w.held.pending))
+      (ap (λ (b : Bool). is_pending p w.held.pending && b) takes.alone ∙ and-false (is_pending p w.held.pending))
 
   all_behind : (words : List Text) (w : Walk) → IsAtFiles w true → IsAtFiles (fold (walked c []) w words) true
   all_behind [] w at = at

@@ -11,12 +11,12 @@ use Rattle.shard_book.specs.SumsByKey.{all_entries}
 use Rattle.shard_book.specs.History.{IsLegal}
 use Rattle.tap_views.specs.Token.{bytes_of}
 use Rattle.shard_book.specs.declared.entry.Entry.{Entry}
+use Rattle.shard_book.proofs.OwnEntries.{own_other, own_none, own-append}
 use Rattle.tap_views.specs.declared.token.Token.{Token}
 use Rattle.tap_views.proofs.TokenLemmas.{same_token}
 use Rattle.ledger_check.specs.Ledger.{IsLedgerOf, IsPostable}
 use Rattle.fare_texts.specs.Ledger.{IsLedgerOfBooks as IsWrittenOf, IsLedgerOver}
 use Rattle.laws.specs.Written.{AreBooksOf, AreLetters, AreShort, CanBeTold, told_entries}
-use Rattle.fare_texts.proofs.Rising.{own_both, own_none, own_not}
 use Rattle.laws.proofs.Owned.{own_is_legal}
 use Rattle.laws.proofs.Telling.{written_is_read}
 
@@ -35,7 +35,7 @@ own_elsewhere token shard shards (entry ∷ entries) here apart =
     (λ (is : is_of token entry ≡ true).
     absurd (apart (sym (ap (λ (t : Token). shard_of_token (bytes_of t) shards) (same_token entry.token token is)) ∙ here 0 entry (omega arith))))
     (λ (other : is_of token entry ≡ false).
-    own_not token entry entries other ∙ own_elsewhere token shard shards entries (λ k d within. here (suc k) d (omega arith)) apart)
+    own_other token entry entries other ∙ own_elsewhere token shard shards entries (λ k d within. here (suc k) d (omega arith)) apart)
     (cases_Bool (is_of token entry))
 
 -- books of the shards from this one on
@@ -56,7 +56,7 @@ module _ (fares : Fares) (shards : ℕ) (token : Token) where
   none_from first [] below each = own_none token
   none_from first (book ∷ books) below each =
       let here = (each 0 book refl).0 in
-      own_both token book.entries (all_entries books)
+      own-append token book.entries (all_entries books)
       ∙ ap (λ (es : List Entry). es ++ own token (all_entries books)) (own_elsewhere token (first + 0) shards book.entries here.each (λ (is : mine ≡ first + 0). absurd (omega (arith, is, below))))
       ∙ none_from (suc first) books (omega arith) (rest_of fares shards first book books each)
 
@@ -72,7 +72,7 @@ module _ (fares : Fares) (shards : ℕ) (token : Token) where
   legal_from first (book ∷ books) each =
       let here = each 0 book refl in
       let rest = rest_of fares shards first book books each in
-      let both = own_both token book.entries (all_entries books) in
+      let both = own-append token book.entries (all_entries books) in
       ⊎_elim
       (λ (is : mine ≡ first).
       let none = none_from (suc first) books (omega arith) rest in

@@ -5,7 +5,6 @@ use Rattle.std.specs.Fmt.{decimal}
 use Rattle.std.specs.List.{AllByRecursion}
 use Rattle.std.specs.List.Sorted.{IsStrictlySortedBy}
 use Rattle.std.specs.Ordering.{eq_by_cmp, is_eq}
-use Rattle.std.specs.Set.{is_member}
 use Rattle.std.specs.declared.cmp.Ordering.{Ordering}
 use Rattle.std.specs.declared.cmp.Ordering.TheVariants.{Less, Equal, Greater}
 use Rattle.std.proofs.Common.{◌∙◌, refl, sym, ap, subst, append_assoc, append-nil}
@@ -20,11 +19,13 @@ use Rattle.fare_table.specs.Fares.{Fares}
 use Rattle.tap_views.specs.Token.{Fits, bytes_of, token_cmp, token_eq}
 use Rattle.tap_views.specs.declared.token.Token.{Token}
 use Rattle.tap_views.proofs.TokenLemmas.{same_token, token_eq-refl, token_eq-sym}
-use Rattle.tap_views.proofs.TokenLemmas.{token_cmp-total, token_cmp-ties}
+use Rattle.tap_views.proofs.TokenLemmas.{token_cmp-total, token_cmp-ties, among}
+use Rattle.tap_views.proofs.Lists.{each-append}
 use Rattle.account_rule.specs.declared.reason.Reason.{Reason}
 use Rattle.shard_book.specs.Entry.{is_of, own}
 use Rattle.shard_book.specs.declared.entry.Entry.{Entry}
 use Rattle.shard_book.specs.SumsByKey.{token_of, tokens}
+use Rattle.shard_book.proofs.SameEntries.{RisingTokens}
 use Rattle.fare_texts.specs.LedgerLines.{AreLedgerLines, AreLedgerLinesAfter, IsLedgerLine, entry_fields}
 use Rattle.fare_texts.specs.LedgerLines.{head_text, line_head, reason_after}
 use Rattle.fare_texts.specs.Ledger.{AreLinesOfEach, IsLedgerOver}
@@ -32,11 +33,9 @@ use Rattle.ledger_check.specs.Lines.{Lacks}
 use Rattle.ledger_check.proofs.LineLemmas.{lacks-end}
 use Rattle.laws.specs.Written.{AreLetters}
 use Rattle.laws.proofs.Lacking.{line_ends_once}
-use Rattle.laws.proofs.Owned.{all_append}
 use Rattle.part_reports.specs.Ledgers.{IsLedgerEntryLine, IsPartLedger}
 use Rattle.part_reports.specs.TokenLines.{TokenLine, lines_of_token, text_of}
 use Rattle.part_reports.proofs.Unique.{entry_line_unique}
-use Rattle.laws.proofs.Merging.{RisingTokens}
 use Rattle.laws.proofs.SumsFit.{EntryFits}
 use Rattle.laws.proofs.Tokens.{all_rising}
 
@@ -120,8 +119,6 @@ none_its token other (line ∷ lines) apart its =
     ∙ none_its token other lines apart its.1
 
 -- ---- the lines of several tokens
-abbrev pub among : List Token → Token → Bool
-among list token = is_member (eq_by_cmp token_cmp) list token
 
 -- the token's own entries, if it is among these
 abbrev own_if : Bool → Token → List Entry → List Entry
@@ -179,7 +176,7 @@ ledger_texts fares history (first ∷ list) text letters fit rise are =
     told_by token t is_t here behind (split token) is rise.0 in
     record {
       lines = here.lines ++ behind.lines;
-      each = all_append IsLedgerEntryLine here.lines behind.lines here.each behind.each;
+      each = each-append IsLedgerEntryLine here.lines behind.lines here.each behind.each;
       shown = shown ∙ (λ i. here.shown i ++ behind.shown i)
           ∙ sym (flat_map-append (λ (line : TokenLine). line.text) here.lines behind.lines);
       told = λ token. told token (eq_by_cmp token_cmp token first) refl;

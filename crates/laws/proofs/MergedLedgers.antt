@@ -16,11 +16,12 @@ use Rattle.fare_table.specs.Fares.{Fares}
 use Rattle.tap_views.specs.Token.{bytes_of, token_cmp, token_eq}
 use Rattle.tap_views.specs.declared.token.Token.{Token}
 use Rattle.tap_views.proofs.TokenLemmas.{same_token, token_eq-refl, token_eq-sym}
-use Rattle.tap_views.proofs.TokenLemmas.{token_cmp-total, token_cmp-ties, less_apart}
+use Rattle.tap_views.proofs.TokenLemmas.{token_cmp-total, token_cmp-ties, less_apart, among}
 use Rattle.tap_views.proofs.Lists.{each-weaker, each-back}
 use Rattle.shard_book.specs.Entry.{own}
 use Rattle.shard_book.specs.SumsByKey.{tokens}
 use Rattle.shard_book.specs.declared.entry.Entry.{Entry}
+use Rattle.shard_book.proofs.SameEntries.{RisingTokens}
 use Rattle.fare_texts.specs.LedgerLines.{AreLedgerLines}
 use Rattle.fare_texts.specs.Ledger.{AreLinesOfEach, IsLedgerOver}
 use Rattle.laws.specs.Written.{AreLetters}
@@ -34,9 +35,9 @@ use Rattle.part_reports.proofs.Orders.{not_below_itself, not_below_trans}
 use Rattle.part_reports.proofs.Places.{map_at, one_at}
 use Rattle.laws.specs.Split.{IsSplit, Part}
 use Rattle.laws.proofs.FieldsFit.{entries_fit}
-use Rattle.laws.proofs.LedgerLines.{among, eq_test, ledger_lines, no_text, none_own}
+use Rattle.laws.proofs.LedgerLines.{eq_test, ledger_lines, no_text, none_own}
 use Rattle.laws.proofs.LedgerLines.{same_among, tokens_rise}
-use Rattle.laws.proofs.Merging.{RisingTokens, own_elsewhere, own_there}
+use Rattle.laws.proofs.Merging.{own_elsewhere, own_there}
 
 -- ---- tokens in order
 differ_of : (a b : Token) → token_eq a b ≡ false → a ≢ b

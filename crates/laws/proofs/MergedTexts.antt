@@ -16,6 +16,7 @@ use Rattle.tap_views.proofs.Lists.{AllZip-length}
 use Rattle.shard_book.specs.declared.entry.Entry.{Entry}
 use Rattle.shard_book.specs.SumsByKey.{sums_by_token, sums_by_validator}
 use Rattle.shard_book.specs.Sums.{Sums, add_all, sums}
+use Rattle.shard_book.proofs.SameEntries.{RisingNumbers}
 use Rattle.report_texts.specs.UploadEnds.{ArePlainEnds}
 use Rattle.report_texts.specs.OverHistory.{IsReportOver}
 use Rattle.report_texts.specs.Report.{report, upload_lines}
@@ -26,12 +27,12 @@ use Rattle.part_reports.specs.Reports.{HasTapNumbers, IsMerged, IsPartReport, Re
 use Rattle.part_reports.specs.Reports.{all_ends, report_text, tokens_of_reports, validators_of_reports}
 use Rattle.part_reports.specs.Reports.{sums_of_validator as listed_at}
 use Rattle.part_reports.proofs.TextsRead.{end_lines_joined, lines_whole}
+use Rattle.part_reports.proofs.UniqueTexts.{told as told_of_part}
 use Rattle.laws.specs.Sizes.{CanBeWritten, HasSize, HaveBoundedTerms}
 use Rattle.laws.specs.Split.{AreTokensOf, AreValidatorsOf, IsSplit, Part, pairs_of_parts}
 use Rattle.laws.specs.Split.{sums_at}
 use Rattle.laws.proofs.CentsFit.{entries_few}
 use Rattle.laws.proofs.FieldsFit.{entries_fit}
-use Rattle.laws.proofs.Merging.{RisingNumbers}
 use Rattle.laws.proofs.PartSums.{by_validator, listed_parts, members}
 use Rattle.laws.proofs.ReportTexts.{end_of, ends_fit, same_lines, same_text}
 use Rattle.laws.proofs.ReportTexts.{told_by}
@@ -46,17 +47,6 @@ pub record TellsOf (part : Part) (told : Report) : Type 0 where
   pub totals : told.totals ≡ sums part.history
   pub validators : told.validators ≡ sums_by_validator part.history
   pub tokens : told.tokens ≡ sums_by_token part.history
-
-can_be_told : (told : Report) → IsPartReport told → HasTapNumbers told
-can_be_told told is = record {
-  number = is.number;
-  ends = is.ends;
-  totals = is.totals;
-  validators_number = is.validators_number;
-  validators = is.validators;
-  tokens_number = is.tokens_number;
-  tokens = is.tokens;
-}
 
 -- what the part's report tells has 64 bits
 pub record IsWritable (part : Part) : Type 0 where
@@ -116,7 +106,7 @@ module _ (differ : TextsDiffer) where
   tells part told can is over =
       let same : own_told part over.ends ≡ told =
       differ (own_told part over.ends) told (own_can_be_told part over.ends can over.of_uploads)
-      (can_be_told told is)
+      (told_of_part told is)
       (sym (over.shown ∙ same_text over.ends (sums part.history)
       (sums_by_validator part.history) (sums_by_token part.history))) in
       record {

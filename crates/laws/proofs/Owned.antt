@@ -1,5 +1,5 @@
 -- The entries of one token among entries, and what holds of each of them.
-use Rattle.std.proofs.Common.{◌≡◌, true, false, List, [], ◌∷◌, ◌++◌, map, refl, sym, ap, subst, ◌∙◌, arith, zero, suc, ⊎_elim, All}
+use Rattle.std.proofs.Common.{◌≡◌, true, false, List, [], ◌∷◌, ◌++◌, map, refl, sym, ap, subst, ◌∙◌, ⊎_elim}
 use Rattle.std.specs.List.{AllByRecursion}
 use Rattle.std.specs.declared.cmp.Ordering.TheVariants.{Less, Equal}
 use Rattle.std.proofs.lemmas.Bool.{cases_Bool}
@@ -11,30 +11,17 @@ use Rattle.shard_book.specs.Entry.{is_of, own, tap_of, taps_of}
 use Rattle.shard_book.specs.History.{IsLegal, IsReplied}
 use Rattle.tap_views.specs.Token.{bytes_of, token_cmp, token_eq}
 use Rattle.shard_book.specs.declared.entry.Entry.{Entry}
+use Rattle.shard_book.proofs.OwnEntries.{own_same, own_other, own_none}
 use Rattle.tap_views.specs.declared.token.Token.{Token}
-use Rattle.fare_texts.proofs.Rising.{own_here, own_none, own_not}
 use Rattle.tap_views.proofs.TokenLemmas.{same_token, token_eq-refl, token_cmp-total}
 
 -- each of these is the token's
 abbrev pub AllOf : Token → List Entry → Type 0
 AllOf token entries = AllByRecursion (λ entry. entry.token ≡ token) entries
 
-pub all_append : {X : Type 0} (P : X → Type 0) (xs ys : List X) → AllByRecursion P xs → AllByRecursion P ys → AllByRecursion P (xs ++ ys)
-all_append P [] ys px py = py
-all_append P (x ∷ xs) ys px py = (px.0, all_append P xs ys px.1 py)
-
 pub all_parts : {X : Type 0} (P : X → Type 0) (xs ys : List X) → AllByRecursion P (xs ++ ys) → AllByRecursion P xs × AllByRecursion P ys
 all_parts P [] ys all = (tt, all)
 all_parts P (x ∷ xs) ys all = let rest = all_parts P xs ys all.1 in ((all.0, rest.0), rest.1)
-
-pub all_weaker : {X : Type 0} (P Q : X → Type 0) (xs : List X) → ((x : X) → P x → Q x) → AllByRecursion P xs → AllByRecursion Q xs
-all_weaker P Q [] weaker all = tt
-all_weaker P Q (x ∷ xs) weaker all = (weaker x all.0, all_weaker P Q xs weaker all.1)
-
-pub all_read : {X : Type 0} (P : X → Type 0) (xs : List X) → AllByRecursion P xs → All P xs
-all_read P [] all k d within = absurd (omega arith)
-all_read P (x ∷ xs) all zero d within = all.0
-all_read P (x ∷ xs) all (suc k) d within = all_read P xs all.1 k d (omega arith)
 
 is_own : (token : Token) (entry : Entry) → entry.token ≡ token → is_of token entry ≡ true
 is_own token entry is = ap (λ (t : Token). token_eq t token) is ∙ token_eq-refl token
@@ -43,7 +30,7 @@ is_own token entry is = ap (λ (t : Token). token_eq t token) is ∙ token_eq-re
 pub own_all : (token : Token) (entries : List Entry) → AllOf token entries → own token entries ≡ entries
 own_all token [] all = own_none token
 own_all token (entry ∷ entries) all =
-    own_here token entry entries (is_own token entry all.0) ∙ ap (λ (es : List Entry). entry ∷ es) (own_all token entries all.1)
+    own_same token entry entries (is_own token entry all.0) ∙ ap (λ (es : List Entry). entry ∷ es) (own_all token entries all.1)
 
 -- of the token's own entries holds what holds of all, and they are its
 pub own_each : (P : Entry → Type 0) (token : Token) (entries : List Entry) → AllByRecursion P entries → AllByRecursion P (own token entries) × AllOf token (own token entries)
@@ -51,8 +38,8 @@ own_each P token [] all = rw own_none (tt, tt)
 own_each P token (entry ∷ entries) all =
     let rest = own_each P token entries all.1 in
     ⊎_elim
-    (λ (is : is_of token entry ≡ true). rw (own_here token entry entries is) ((all.0, rest.0), (same_token entry.token token is, rest.1)))
-    (λ (other : is_of token entry ≡ false). rw (own_not token entry entries other) rest)
+    (λ (is : is_of token entry ≡ true). rw (own_same token entry entries is) ((all.0, rest.0), (same_token entry.token token is, rest.1)))
+    (λ (other : is_of token entry ≡ false). rw (own_other token entry entries other) rest)
     (cases_Bool (is_of token entry))
 
 -- a token below another is another
@@ -70,7 +57,7 @@ less_apart a b less =
 pub own_below : (token : Token) (entries : List Entry) → AllByRecursion (λ entry. token_cmp entry.token token ≡ Less) entries → own token entries ≡ []
 own_below token [] below = own_none token
 own_below token (entry ∷ entries) below =
-    own_not token entry entries (less_apart entry.token token below.0) ∙ own_below token entries below.1
+    own_other token entry entries (less_apart entry.token token below.0) ∙ own_below token entries below.1
 
 -- ---- legal histories
 -- a reply depends on the token's own entries before
@@ -94,15 +81,15 @@ place_of token [] [] entry after is = let bad : [] ≡ entry ∷ after = sym (ow
 place_of token [] (b ∷ before) entry after is = let bad : [] ≡ b ∷ (before ++ entry ∷ after) = sym (own_none token) ∙ is in cc
 place_of token (e ∷ history) before entry after is =
     ⊎_elim
-    (λ (here : is_of token e ≡ true). at before (sym (own_here token e history here) ∙ is) (same_token e.token token here)
+    (λ (here : is_of token e ≡ true). at before (sym (own_same token e history here) ∙ is) (same_token e.token token here)
     (λ b same. place_of token history b entry after same))
     (λ (other : is_of token e ≡ false).
-    let place = place_of token history before entry after (sym (own_not token e history other) ∙ is) in
+    let place = place_of token history before entry after (sym (own_other token e history other) ∙ is) in
     record {
       front = e ∷ place.front;
       behind = place.behind;
       whole = ap (λ (es : List Entry). e ∷ es) place.whole;
-      own_front = own_not token e place.front other ∙ place.own_front;
+      own_front = own_other token e place.front other ∙ place.own_front;
       is = place.is;
     })
     (cases_Bool (is_of token e))
@@ -126,7 +113,7 @@ place_of token (e ∷ history) before entry after is =
           front = e ∷ place.front;
           behind = place.behind;
           whole = ap (λ (es : List Entry). e ∷ es) place.whole;
-          own_front = own_here token e place.front (is_own token e of) ∙ ap (λ (es : List Entry). e ∷ es) place.own_front
+          own_front = own_same token e place.front (is_own token e of) ∙ ap (λ (es : List Entry). e ∷ es) place.own_front
               ∙ ap (λ (x : Entry). x ∷ before) first;
           is = place.is;
         }

@@ -1,5 +1,6 @@
 -- The lines of each token, one token after another, are those of a ledger.
 use Rattle.std.proofs.Common.{◌≡◌, ℕ, ◌+◌, ◌≤◌, ◌^◌, List, [], ◌∷◌, ◌++◌, length, length-append, flat_map, map, refl, sym, ap, subst, ◌∙◌, append_assoc, append-nil, arith, Option, Some, None, codes}
+use Rattle.std.proofs.lemmas.List.Elements.{All-from_recursion}
 use Rattle.std.specs.List.{AllByRecursion}
 use Rattle.std.specs.List.Sorted.{IsStrictlySortedBy}
 use Rattle.std.specs.declared.cmp.Ordering.TheVariants.{Less}
@@ -11,7 +12,9 @@ use Rattle.tap_views.specs.Token.{token_cmp}
 use Rattle.shard_book.specs.declared.entry.Entry.{Entry}
 use Rattle.tap_views.specs.declared.token.Token.{Token}
 use Rattle.shard_book.proofs.RisingLemmas.{rising-is}
+use Rattle.shard_book.proofs.OwnEntries.{own-append}
 use Rattle.tap_views.proofs.TokenLemmas.{token_cmp-total, token_cmp-ties}
+use Rattle.tap_views.proofs.Lists.{each-append, each-weaker}
 use Rattle.fare_texts.specs.LedgerLines.{AreLedgerLinesAfter, IsLedgerLine, head_text, reason_after}
 use Rattle.fare_texts.specs.Ledger.{AreLinesOfEach, IsLedgerOver, tokens_told}
 use Rattle.ledger_check.specs.Ledger.{AreNext, IsLedgerOf, IsNextLine, IsNext, IsPostable, token_number}
@@ -20,8 +23,7 @@ use Rattle.ledger_check.proofs.LineLemmas.{lacks-tested, lines-line}
 use Rattle.ledger_check.proofs.TokenOrder.{less_number}
 use Rattle.laws.specs.Written.{AreLetters, AreShort, CanBeTold, told_entries}
 use Rattle.laws.proofs.Lacking.{line_ends_once}
-use Rattle.fare_texts.proofs.Rising.{own_both}
-use Rattle.laws.proofs.Owned.{AllOf, all_append, all_parts, all_read, all_weaker, own_all, own_below, own_each, replied_same}
+use Rattle.laws.proofs.Owned.{AllOf, all_parts, own_all, own_below, own_each, replied_same}
 
 abbrev Short : List ℕ → Type 0
 Short line = length line ≤ 255
@@ -65,18 +67,18 @@ module _ (fares : Fares) (letters : AreLetters fares.meaning.modes) (token : Tok
   no_fall : (earlier : List Entry) (entry : Entry) → AllOf token earlier → entry.token ≡ token → IsPostable entry
       → AllByRecursion (λ before. token_number before.token ≤ token_number entry.token) (done ++ earlier)
   no_fall earlier entry all is postable =
-      all_append _ done earlier
-      (all_weaker _ _ done (λ before known.
+      each-append _ done earlier
+      (each-weaker _ _ done (λ before known.
       let less = less_number before.token entry.token known.0.token postable.token (subst (λ (t : Token). token_cmp before.token t ≡ Less) (sym is) known.1) in
       omega arith) below)
-      (all_weaker _ _ earlier (λ before of.
+      (each-weaker _ _ earlier (λ before of.
       let same : token_number before.token ≡ token_number entry.token = ap token_number (of ∙ sym is) in
       omega arith) all)
 
   own_is : (earlier : List Entry) → AllOf token earlier → own token (done ++ earlier) ≡ earlier
   own_is earlier all =
-      own_both token done earlier
-      ∙ ap (λ (es : List Entry). es ++ own token earlier) (own_below token done (all_weaker _ _ done (λ entry known. known.1) below))
+      own-append token done earlier
+      ∙ ap (λ (es : List Entry). es ++ own token earlier) (own_below token done (each-weaker _ _ done (λ entry known. known.1) below))
       ∙ own_all token earlier all
 
   next_is : (earlier rest : List Entry) (entry : Entry) (line : List ℕ) → IsOwn fares token (earlier ++ entry ∷ rest) → length (done ++ (earlier ++ entry ∷ rest)) ≤ 2 ^ 62
@@ -91,7 +93,7 @@ module _ (fares : Fares) (letters : AreLetters fares.meaning.modes) (token : Tok
       = subst (λ (t : Token). IsLedgerLine fares t (length earlier + 1) entry (reason_after fares t earlier entry) line) (sym is) shown in
       record {
         postable = postable;
-        no_fall = all_read (λ (before : Entry). token_number before.token ≤ token_number entry.token) (done ++ earlier) (no_fall earlier entry of.0 is postable);
+        no_fall = All-from_recursion (λ (before : Entry). token_number before.token ≤ token_number entry.token) (done ++ earlier) (no_fall earlier entry of.0 is postable);
         replied = replied_same fares earlier (done ++ earlier) entry (alone ∙ sym owned) (known.legal.each earlier entry rest refl);
         shown = subst (λ (es : List Entry). IsNextLine fares es entry line) (sym owned) line_is;
         short = short;
@@ -152,7 +154,7 @@ goes_on fares history done token list known goes = record {
         → AllByRecursion (λ t. AreBelow t (done ++ own token history)) ts
     by [] less before = tt
     by (t ∷ ts) less before =
-        (all_append _ done (own token history) before.0 (own_are_below fares token t (own token history) known less.0), by ts less.1 before.1)
+        (each-append _ done (own token history) before.0 (own_are_below fares token t (own token history) known less.0), by ts less.1 before.1)
 
 told_each : (fares : Fares) (history done : List Entry) (list : List Token) (text : List ℕ) → AreLetters fares.meaning.modes → ((t : Token) → IsLegal fares (own t history))
     → AllByRecursion IsPostable history → Goes fares history done list → AreLinesOfEach fares history list text

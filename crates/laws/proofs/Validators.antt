@@ -14,8 +14,9 @@ use Rattle.shard_book.specs.SumsByKey.{entries_of_validator, validators, sums_by
 use Rattle.shard_book.specs.Rising.{rising}
 use Rattle.shard_book.specs.Sums.{Sums, sums, add_sums}
 use Rattle.shard_book.specs.Sums.{add_all}
+use Rattle.shard_book.proofs.SameEntries.{RisingNumbers, same_sums, same_at, same_entries}
 use Rattle.laws.specs.Split.{Part, IsSplit, entries_of_parts, sums_at}
-use Rattle.laws.proofs.Merging.{RisingNumbers, same_sums, same_at, same_entries, own_all}
+use Rattle.laws.proofs.Merging.{own_all}
 
 abbrev pub SumsAdd : Type 0
 SumsAdd = (before after : List Entry) → sums (before ++ after) ≡ add_sums (sums before) (sums after)

@@ -32,6 +32,7 @@ use Rattle.report_texts.specs.OverHistory.{IsReportOver}
 use Rattle.shard_book.specs.Plain.{unanswered}
 use Rattle.report_texts.specs.declared.upload_end.UploadEnd.{UploadEnd}
 use Rattle.shard_book.proofs.PlainReplies.{bare, plain_bare}
+use Rattle.shard_book.proofs.SameEntries.{RisingNumbers, RisingTokens, same_entries}
 use Rattle.tap_parts.specs.Parts.{taps_of_uploads}
 use Rattle.report_texts.specs.Numbers.{IsUploadEnd}
 use Rattle.part_reports.specs.Reports.{IsMerged, IsPartReport, IsWholeReport, Report, end_texts}
@@ -43,7 +44,7 @@ use Rattle.laws.specs.Split.{IsSplit, Part, entries_of_parts}
 use Rattle.laws.proofs.MergedTexts.{IsWritable, TellsOf, own_can_be_told, own_told}
 use Rattle.laws.proofs.MergedTexts.{tokens_told, totals_told, validators_told}
 use Rattle.laws.proofs.KeySums.{tokens_add, validators_add}
-use Rattle.laws.proofs.Merging.{RisingNumbers, RisingTokens, own_all, same_entries}
+use Rattle.laws.proofs.Merging.{own_all}
 use Rattle.laws.proofs.PartSums.{keys-map as number_keys, listed_parts, members}
 use Rattle.laws.proofs.ReportTexts.{end_of, ends_fit, same_lines, same_text}
 use Rattle.laws.proofs.ReportTexts.{told_by}

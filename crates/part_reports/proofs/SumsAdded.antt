@@ -51,6 +51,7 @@ add_all_more (first ∷ list) more = ap (add_sums first) (add_all_more list more
     ∙ sym (add_assoc first (add_all list) more)
 
 -- ---- the tests of keys
+-- a number ties with itself
 pub same_key : (k : ℕ) → is_eq (nat_cmp k k) ≡ true
 same_key k = grind (arith, nat_tests)
 

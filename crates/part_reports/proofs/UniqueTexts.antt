@@ -106,7 +106,8 @@ report_unique a b fits fits_too is =
     ∙ sym (append-nil (flat_map token_line b.tokens))) in
     same_report a b ends totals validators tokens
 
-told : (report : Report) → IsPartReport report → HasTapNumbers report
+-- a part's report has numbers that a report of one run can have
+pub told : (report : Report) → IsPartReport report → HasTapNumbers report
 told report part = record {
   number = part.number;
   ends = part.ends;

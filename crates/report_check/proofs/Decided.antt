@@ -17,7 +17,8 @@ use Rattle.report_check.specs.declared.verdict.ReportVerdict.{ReportVerdict}
 use Rattle.report_check.specs.declared.verdict.ReportVerdict.TheVariants.{OfLedger, Wants, NoLine, Taps}
 use Rattle.ledger_check.proofs.LineLemmas.{lacks-tested}
 use Rattle.report_check.proofs.EndsTold.{next_end, number_line_is, section_same, upload_line_is}
-use Rattle.report_check.proofs.Through.{taken_line, whole_through}
+use Rattle.report_check.proofs.Through.{taken_line}
+use Rattle.part_reports.proofs.Firsts.{taken_and_left}
 
 -- what a report has behind its uploads
 abbrev behind_uploads : List Entry → List ℕ
@@ -42,7 +43,7 @@ wrong_apart : (text wanted : List ℕ) (number : ℕ) (line : List ℕ)
     → IsWrongLine text wanted number line → ¬ (text ≡ wanted)
 wrong_apart text wanted number line is same =
     let left = append_cancel_left is.before is.rest is.left (sym is.has ∙ same ∙ is.wants) in
-    is.wrong (drop_through 10 is.left) (left ∙ whole_through is.left
+    is.wrong (drop_through 10 is.left) (left ∙ sym (taken_and_left is.left)
     ∙ ap (λ (t : List ℕ). t ++ drop_through 10 is.left) (sym is.line_is))
 
 -- so is one with more behind it

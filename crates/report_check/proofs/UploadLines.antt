@@ -10,9 +10,9 @@ use Rattle.report_texts.specs.Report.{upload_line, upload_lines}
 use Rattle.report_texts.specs.UploadEnds.{taps_told}
 use Rattle.report_texts.specs.declared.upload_end.UploadEnd.{UploadEnd}
 use Rattle.report_texts.specs.declared.upload_end.UploadEnd.TheVariants.{Posted, Refused, Cut, Undrawn}
-use Rattle.report_check.proofs.Through.{whole_through}
 use Rattle.report_check.specs.Reports.{BeginsWithUploads, IsNoUploadLine, IsReportEnd}
 use Rattle.report_check.specs.inside.UploadLines.{IsUnfinished}
+use Rattle.part_reports.proofs.Firsts.{taken_and_left}
 
 pub finished : (end : UploadEnd) → IsUploadEnd end → IsReportEnd end
 finished (Posted taps) fits = fits
@@ -70,7 +70,7 @@ pub head_then : (text head behind : List ℕ) (uploads : ℕ) → head ≡ take_
     → behind ≡ drop_through 10 text → head ≡ number_line (codes "uploads ") uploads
     → text ≡ number_line (codes "uploads ") uploads ++ (upload_lines 0 [] ++ behind)
 head_then text head behind uploads taken dropped is =
-    whole_through text ∙ ap (λ (t : List ℕ). t ++ drop_through 10 text) (sym taken ∙ is)
+    sym (taken_and_left text) ∙ ap (λ (t : List ℕ). t ++ drop_through 10 text) (sym taken ∙ is)
     ∙ ap (λ (t : List ℕ). number_line (codes "uploads ") uploads ++ t) (sym dropped)
 
 pub line_then : (text rest line more : List ℕ) (uploads : ℕ) (ends : List UploadEnd) (end : UploadEnd)
@@ -80,7 +80,7 @@ pub line_then : (text rest line more : List ℕ) (uploads : ℕ) (ends : List Up
     → text ≡ number_line (codes "uploads ") uploads ++ (upload_lines 0 (ends ++ end ∷ []) ++ more)
 line_then text rest line more uploads ends end begun taken dropped is =
     let next : rest ≡ upload_line (length ends) end ++ more =
-    whole_through rest ∙ ap (λ (t : List ℕ). t ++ drop_through 10 rest) (sym taken ∙ is)
+    sym (taken_and_left rest) ∙ ap (λ (t : List ℕ). t ++ drop_through 10 rest) (sym taken ∙ is)
     ∙ ap (λ (t : List ℕ). upload_line (length ends) end ++ t) (sym dropped) in
     let at : length ends ≡ 0 + length ends = omega arith in
     begun
