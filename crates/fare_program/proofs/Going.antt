@@ -31,7 +31,8 @@ pub lists_on : (kept between kept' : KeptListing) (text middle text' : List ℕ)
     → Lists kept between text middle upload number taps → next ≡ number + length taps
     → Lists between kept' middle text' upload next more
     → Lists kept kept' text text' upload number (taps ++ more)
-lists_on kept between kept' text middle text' upload number next taps more first is second before stands =
+lists_on kept between kept' text middle text' upload number next taps more first is second before
+    stands =
     let (lines, here) = first before stands in
     let (others, there) = second (before ++ taps) here in (
       others ∙ rw (lines, is) (append_assoc text _ _

@@ -1,5 +1,6 @@
 -- The sums over the books are those over the plain history.
-use Rattle.std.specs.Prelude.{ℕ, zero, suc, ◌≡◌, ◌≢◌, ◌<◌, Bool, true, false, List, [], ◌∷◌, ◌++◌, length, map, filter, All, Some, slice_get}
+use Rattle.std.specs.Prelude.{ℕ, zero, suc, ◌≡◌, ◌≢◌, ◌<◌, Bool, true, false, List, [], ◌∷◌, ◌++◌}
+use Rattle.std.specs.Prelude.{length, map, filter, All, Some, slice_get}
 use Rattle.std.specs.List.{flat_map}
 use Rattle.std.proofs.Common.{refl, sym, ◌∙◌, ap, subst, get_or, mod-lt}
 use Rattle.std.proofs.lemmas.List.Elements.{All-head, All-tail}
@@ -13,7 +14,8 @@ use Rattle.shard_book.specs.SumsByKey.{all_entries, sums_by_validator, sums_by_t
 use Rattle.shard_book.specs.Keys.{same_token}
 use Rattle.shard_book.specs.Sums.{sums}
 use Rattle.shard_book.proofs.OwnEntries.{own-append}
-use Rattle.shard_book.proofs.SameEntries.{RisingNumbers, RisingTokens, same_by_token, same_by_validator, same_entries, same_sums}
+use Rattle.shard_book.proofs.SameEntries.{RisingNumbers, RisingTokens, same_by_token}
+use Rattle.shard_book.proofs.SameEntries.{same_by_validator, same_entries, same_sums}
 use Rattle.tap_views.specs.Token.{bytes_of}
 use Rattle.fare_service.specs.Outcomes.{OutcomeView}
 use Rattle.fare_service.specs.Plain.{IsUncutGathering}
@@ -30,28 +32,43 @@ use Rattle.fare_service.proofs.GatheredWork.{Given}
 
 -- ---- the books' entries
 
-own_books : (token : Token) (books : List Book) → own token (all_entries books) ≡ flat_map (λ es. es) (map (λ book. own token book.entries) books)
+own_books : (token : Token) (books : List Book)
+    → own token (all_entries books)
+    ≡ flat_map (λ es. es) (map (λ book. own token book.entries) books)
 unfolding own
 own_books token [] = refl
-own_books token (book ∷ books) = own-append token book.entries (all_entries books) ∙ ap (λ es. own token book.entries ++ es) (own_books token books)
+own_books token (book ∷ books) =
+    own-append token book.entries (all_entries books)
+    ∙ ap (λ es. own token book.entries ++ es) (own_books token books)
 
 -- a book of another shard has no entry of the token
-own_elsewhere : (token : Token) (shard shards : ℕ) (entries : List Entry) → All (λ entry. shard_of_token (bytes_of entry.token) shards ≡ shard) entries → shard_of_token (bytes_of token) shards ≢ shard → own token entries ≡ []
+own_elsewhere : (token : Token) (shard shards : ℕ) (entries : List Entry)
+    → All (λ entry. shard_of_token (bytes_of entry.token) shards ≡ shard) entries
+    → shard_of_token (bytes_of token) shards ≢ shard → own token entries ≡ []
 unfolding own
 own_elsewhere token shard shards [] here apart = refl
 own_elsewhere token shard shards (entry ∷ entries) here apart =
-    by_test (is_of token entry) refl (own_elsewhere token shard shards entries (All-tail (λ e. shard_of_token (bytes_of e.token) shards ≡ shard) entry entries here) apart)
+    by_test (is_of token entry) refl
+    (own_elsewhere token shard shards entries
+    (All-tail (λ e. shard_of_token (bytes_of e.token) shards ≡ shard) entry entries here) apart)
   where
-    by_test : (b : Bool) → is_of token entry ≡ b → filter (is_of token) entries ≡ [] → filter (is_of token) (entry ∷ entries) ≡ []
+    by_test : (b : Bool) → is_of token entry ≡ b → filter (is_of token) entries ≡ []
+        → filter (is_of token) (entry ∷ entries) ≡ []
     by_test true is rest =
         let same : entry.token ≡ token = same_token entry.token token is in
-        absurd (apart (ap (λ t. shard_of_token (bytes_of t) shards) (sym same) ∙ All-head (λ e. shard_of_token (bytes_of e.token) shards ≡ shard) entry entries here))
+        absurd (apart
+        (ap (λ t. shard_of_token (bytes_of t) shards) (sym same)
+        ∙ All-head (λ e. shard_of_token (bytes_of e.token) shards ≡ shard) entry entries here))
     by_test false is rest = rw is rest
 
 abbrev pub AllHere : OutcomeView → Type 0
-AllHere outcome = (shard : ℕ) (book : Book) → slice_get outcome.books shard ≡ Some book → AreOfShard book.shard book.shards book.entries
+AllHere outcome = (shard : ℕ) (book : Book) → slice_get outcome.books shard ≡ Some book
+    → AreOfShard book.shard book.shards book.entries
 
-module _ (given : Given) (outcome : OutcomeView) (history : List Entry) (some : 0 < length outcome.books) (named : AllNamed outcome) (here : AllHere outcome) (cuts : All HasOneReading given.uploads) (w : IsUncutGathering given.table given.shards given.uploads outcome history) where
+module _ (given : Given) (outcome : OutcomeView) (history : List Entry)
+    (some : 0 < length outcome.books) (named : AllNamed outcome) (here : AllHere outcome)
+    (cuts : All HasOneReading given.uploads)
+    (w : IsUncutGathering given.table given.shards given.uploads outcome history) where
   -- the entries of a token in all books are those of the plain history
   pub own_all : (token : Token) → own token (all_entries outcome.books) ≡ own token history
   own_all token =
@@ -61,40 +78,56 @@ module _ (given : Given) (outcome : OutcomeView) (history : List Entry) (some : 
       let there = slice_get-get_or outcome.books shard empty (mod-lt _ some) in
       let book = get_or outcome.books shard empty in
       own_books token outcome.books
-      ∙ flat_alone (map (λ b. own token b.entries) outcome.books) shard (own token book.entries) (at_place shard book there) elsewhere
+      ∙ flat_alone (map (λ b. own token b.entries) outcome.books) shard (own token book.entries)
+      (at_place shard book there) elsewhere
       ∙ same_own given outcome history some named cuts w token book there
     where
-      at_place : (shard : ℕ) (book : Book) → slice_get outcome.books shard ≡ Some book → slice_get (map (λ b. own token b.entries) outcome.books) shard ≡ Some (own token book.entries)
+      at_place : (shard : ℕ) (book : Book) → slice_get outcome.books shard ≡ Some book
+          → slice_get (map (λ b. own token b.entries) outcome.books) shard
+          ≡ Some (own token book.entries)
       at_place shard book there = map_place outcome.books shard there
         where
-          map_place : (books : List Book) (n : ℕ) → slice_get books n ≡ Some book → slice_get (map (λ b. own token b.entries) books) n ≡ Some (own token book.entries)
+          map_place : (books : List Book) (n : ℕ) → slice_get books n ≡ Some book
+              → slice_get (map (λ b. own token b.entries) books) n ≡ Some (own token book.entries)
           map_place [] n e = absurd (cc)
-          map_place (b ∷ books) zero e = let same : b ≡ book = cc in ap (λ x. Some (own token x.entries)) same
+          map_place (b ∷ books) zero e = let same : b ≡ book = cc in
+              ap (λ x. Some (own token x.entries)) same
           map_place (b ∷ books) (suc n) e = map_place books n e
 
-      elsewhere : (other : ℕ) (es : List Entry) → slice_get (map (λ b. own token b.entries) outcome.books) other ≡ Some es → other ≢ shard_of_token (bytes_of token) (length outcome.books) → es ≡ []
+      elsewhere : (other : ℕ) (es : List Entry)
+          → slice_get (map (λ b. own token b.entries) outcome.books) other ≡ Some es
+          → other ≢ shard_of_token (bytes_of token) (length outcome.books) → es ≡ []
       elsewhere other es there apart =
-          let (book, is, same) = mapped_at (λ b. own token b.entries) outcome.books other es there in
+          let (book, is, same) =
+          mapped_at (λ b. own token b.entries) outcome.books other es there in
           let b = w.headline.books other book is in
-          let A : ℕ → ℕ → Type 0 = λ s n. All (λ entry. shard_of_token (bytes_of entry.token) n ≡ s) book.entries in
+          let A : ℕ → ℕ → Type 0 =
+          λ s n. All (λ entry. shard_of_token (bytes_of entry.token) n ≡ s) book.entries in
           let S : ℕ → Type 0 = λ s. A s book.shards in
           let N : ℕ → Type 0 = λ n. A other n in
-          let of_other = subst N (b.2 ∙ sym w.headline.shards_are) (subst S b.1 (here other book is).each) in
-          same ∙ own_elsewhere token other (length outcome.books) book.entries of_other (λ e. apart (sym e))
+          let of_other = subst N (b.2 ∙ sym w.headline.shards_are)
+          (subst S b.1 (here other book is).each) in
+          same ∙ own_elsewhere token other (length outcome.books) book.entries of_other
+          (λ e. apart (sym e))
 
   -- with any ends of uploads, the sums of the report are those of the plain history
   pub same_sums_with : RisingNumbers → RisingTokens → (ends : List UploadEnd)
-      → report_with ends outcome ≡ report ends (sums history) (sums_by_validator history) (sums_by_token history)
+      → report_with ends outcome
+      ≡ report ends (sums history) (sums_by_validator history) (sums_by_token history)
   same_sums_with numbers names ends =
       let entries = all_entries outcome.books in
-      let totals : sums entries ≡ sums history = same_sums entries history (same_entries entries history own_all) in
-      λ i. report ends (totals i) (same_by_validator numbers names entries history own_all i) (same_by_token numbers names entries history own_all i)
+      let totals : sums entries ≡ sums history =
+      same_sums entries history (same_entries entries history own_all) in
+      λ i. report ends (totals i) (same_by_validator numbers names entries history own_all i)
+      (same_by_token numbers names entries history own_all i)
 
   -- the report is that over the plain history
-  pub same_report : RisingNumbers → RisingTokens → IsReportOver given.uploads history (report_of outcome)
+  pub same_report : RisingNumbers → RisingTokens
+      → IsReportOver given.uploads history (report_of outcome)
   same_report numbers names =
       record {
         ends = outcome.ends;
-        of_uploads = plain_ends given w.works outcome some (gathered_of given w.works outcome w.headline) w.whole;
+        of_uploads = plain_ends given w.works outcome some
+            (gathered_of given w.works outcome w.headline) w.whole;
         shown = same_sums_with numbers names outcome.ends;
       }

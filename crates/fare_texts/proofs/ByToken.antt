@@ -12,12 +12,14 @@ use Rattle.shard_book.specs.Rising.{IsRising, rising}
 use Rattle.tap_views.specs.Token.{token_cmp, token_eq}
 use Rattle.shard_book.specs.declared.entry.Entry.{Entry}
 use Rattle.tap_views.specs.declared.token.Token.{Token}
-use Rattle.tap_views.proofs.TokenLemmas.{same_token, token_eq-refl, token_eq-sym, token_cmp-total, token_cmp-ties}
+use Rattle.tap_views.proofs.TokenLemmas.{same_token, token_eq-refl, token_eq-sym, token_cmp-total}
+use Rattle.tap_views.proofs.TokenLemmas.{token_cmp-ties}
 use Rattle.tap_views.proofs.TokenLemmas.{among}
 use Rattle.tap_views.proofs.Choices.{or_twice}
 use Rattle.shard_book.proofs.RisingLemmas.{rising-only, below_all}
 use Rattle.shard_book.proofs.OwnEntries.{own-append, own_none, own_other, own_same}
-use Rattle.fare_texts.specs.LedgerLines.{AreLedgerLinesAfter, AreLedgerLines, IsLedgerLine, reason_after}
+use Rattle.fare_texts.specs.LedgerLines.{AreLedgerLinesAfter, AreLedgerLines, IsLedgerLine}
+use Rattle.fare_texts.specs.LedgerLines.{reason_after}
 use Rattle.fare_texts.specs.Ledger.{AreLinesOfEach}
 use Rattle.fare_texts.specs.Lines.{AreLinesAlong, AreUpTo, IsLineAfter, IsUpTo}
 use Rattle.fare_texts.specs.inside.ByToken.{IsByToken}
@@ -62,7 +64,8 @@ module _ (fares : Fares) (whole before : List Entry) (entry : Entry) (rest : Lis
               subst (λ (t : Token).
                   IsLedgerLine fares t (length (own t before) + 1) entry
                   (reason_after fares t (own t before) entry) line) same told,
-              subst (λ (es : List Entry). AreLedgerLinesAfter fares token es (own token rest) g.own_lines)
+              subst (λ (es : List Entry). AreLedgerLinesAfter fares token es (own token rest)
+                  g.own_lines)
                   (own_push token before entry here) g.of_own,
               refl,
             );
@@ -98,7 +101,8 @@ module _ (fares : Fares) (whole before : List Entry) (entry : Entry) (rest : Lis
             IsLedgerLine fares entry.token (length es + 1) entry
             (reason_after fares entry.token es entry) line) none told,
         subst (λ (es : List Entry).
-            AreLedgerLinesAfter fares entry.token es (own entry.token rest) g.own_lines) pushed g.of_own,
+            AreLedgerLinesAfter fares entry.token es (own entry.token rest) g.own_lines) pushed
+            g.of_own,
         refl,
       )
 
@@ -125,11 +129,20 @@ module _ (fares : Fares) (whole before : List Entry) (entry : Entry) (rest : Lis
       let less = up_apart token entry.token to apart in
       record {
         own_lines = [];
-        of_own = subst (λ (es : List Entry). AreLedgerLinesAfter fares token (own token before) es [])
-            (sym (own_other token entry rest apart ∙ none_above token entry.token rest to apart no_fall))
+        of_own = subst
+            (λ (es : List Entry). AreLedgerLinesAfter fares token (own token before) es [])
+            (sym (own_other token entry rest apart
+            ∙ none_above token entry.token rest to apart no_fall))
             refl;
         others = entry.token ∷ g.others;
-        rises = ((less, below_all token_cmp-total token_cmp-ties token entry.token g.others less g.rises.0), g.rises);
+        rises = (
+          (
+            less,
+            below_all token_cmp-total token_cmp-ties token entry.token g.others less
+                g.rises.0,
+          ),
+          g.rises,
+        );
         members = λ key. ap (λ (b : Bool). ties key token || b) (g.members key);
         other_lines = text;
         of_others = each_lines (none_below before token entry.token up to beyond) g;
@@ -153,8 +166,10 @@ no_more fares whole token before text none = record {
 rest_of_token : (fares : Fares) (whole : List Entry) (token : Token) (before rest : List Entry)
     (text : List ℕ) → whole ≡ before ++ rest → AreUpTo before token → NoFallFrom token rest
     → AreLinesAlong fares before rest text → RestOfToken fares whole token before rest text
-rest_of_token fares whole token before [] text is up no_fall none = no_more fares whole token before text none
-rest_of_token fares whole token before (entry ∷ rest) text is up no_fall (line, more, told, along, shown) =
+rest_of_token fares whole token before [] text is up no_fall none =
+    no_more fares whole token before text none
+rest_of_token fares whole token before (entry ∷ rest) text is up no_fall
+    (line, more, told, along, shown) =
     let longer : whole ≡ (before ++ entry ∷ []) ++ rest =
     is ∙ sym (append_assoc before (entry ∷ []) rest) in
     ⊎_elim
@@ -166,7 +181,8 @@ rest_of_token fares whole token before (entry ∷ rest) text is up no_fall (line
     (subst (λ (t : Token). IsUpTo t token) (sym same) (up_itself token)))
     (subst (λ (t : Token). NoFallFrom t rest) same no_fall.1) along))
     (λ (apart : token_eq entry.token token ≡ false).
-    next_case fares whole before entry rest line more text is told shown token up no_fall.0 no_fall.1
+    next_case fares whole before entry rest line more text is told shown token up no_fall.0
+    no_fall.1
     apart (token_eq-sym token entry.token ∙ apart)
     (rest_of_token fares whole entry.token (before ++ entry ∷ []) rest more longer
     (up_push before entry entry.token (up_weaker before token entry.token up no_fall.0)
@@ -202,7 +218,8 @@ each_same fares entries others (token ∷ order) text same (lines, rest, are, ea
   shown,
 )
 
-pub every_token : (fares : Fares) (entries list : List Entry) (text : List ℕ) → IsByToken entries list
+pub every_token : (fares : Fares) (entries list : List Entry) (text : List ℕ)
+    → IsByToken entries list
     → AreLinesAlong fares [] list text
     → AreLinesOfEach fares entries (tokens entries) text
 unfolding tokens

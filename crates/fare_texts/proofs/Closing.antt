@@ -73,7 +73,8 @@ ended-free None moment = refl
 ended-free (Some window) moment = refl
 
 -- a tap that is no ride ends no window
-free : (rules : TokenRules) (taps : List TapIn) (tap : TapIn) → is_ride (reply rules taps tap) ≡ false
+free : (rules : TokenRules) (taps : List TapIn) (tap : TapIn)
+    → is_ride (reply rules taps tap) ≡ false
     → windows rules (taps ++ tap ∷ []) ≡ windows rules taps
     → earlier_windows rules (taps ++ tap ∷ [])
     ≡ earlier_windows rules taps
@@ -164,8 +165,10 @@ next_earlier rules taps tap before after window ride answered longer kept last r
     done =
     done
     ∙ ap (λ (ws : List WindowView). ws ++ window_ended window ride tap.moment) kept
-    ∙ ap (λ (w : Option WindowView). earlier_windows rules taps ++ window_ended w ride tap.moment) last
-    ∙ ap (λ (b : Bool). earlier_windows rules taps ++ window_ended (last_window rules taps) b tap.moment)
+    ∙ ap (λ (w : Option WindowView). earlier_windows rules taps ++ window_ended w ride tap.moment)
+    last
+    ∙ ap (λ (b : Bool). earlier_windows rules taps ++ window_ended (last_window rules taps) b
+    tap.moment)
     (rode ∙ ap is_ride replied)
     ∙ sym (earlier-push rules taps tap)
     ∙ ap (λ (ts : List TapIn). earlier_windows rules ts) more

@@ -26,7 +26,8 @@ use Rattle.shard_book.specs.Entry.{is_of, own}
 use Rattle.shard_book.specs.declared.entry.Entry.{Entry}
 use Rattle.shard_book.specs.SumsByKey.{token_of, tokens}
 use Rattle.shard_book.proofs.SameEntries.{RisingTokens}
-use Rattle.fare_texts.specs.LedgerLines.{AreLedgerLines, AreLedgerLinesAfter, IsLedgerLine, entry_fields}
+use Rattle.fare_texts.specs.LedgerLines.{AreLedgerLines, AreLedgerLinesAfter, IsLedgerLine}
+use Rattle.fare_texts.specs.LedgerLines.{entry_fields}
 use Rattle.fare_texts.specs.LedgerLines.{head_text, line_head, reason_after}
 use Rattle.fare_texts.specs.Ledger.{AreLinesOfEach, IsLedgerOver}
 use Rattle.ledger_check.specs.Lines.{Lacks}
@@ -102,7 +103,8 @@ token_texts fares token earlier (entry ∷ entries) text letters fits are =
       shown = shown ∙ ap (λ rest. line ++ rest) behind.shown;
     }
 
-all_its : (token : Token) (lines : List TokenLine) → AllByRecursion (λ line. line.token ≡ token) lines
+all_its : (token : Token) (lines : List TokenLine)
+    → AllByRecursion (λ line. line.token ≡ token) lines
     → lines_of_token token lines ≡ lines
 all_its token [] its = refl
 all_its token (line ∷ lines) its =
@@ -169,7 +171,8 @@ ledger_texts fares history (first ∷ list) text letters fit rise are =
     let behind = ledger_texts fares history list rest letters fit.1 rise.1 more in
     let split : (token : Token) → lines_of_token token (here.lines ++ behind.lines)
     ≡ lines_of_token token here.lines ++ lines_of_token token behind.lines =
-    λ token. filter-append (λ (line : TokenLine). token_eq token line.token) here.lines behind.lines in
+    λ token. filter-append (λ (line : TokenLine). token_eq token line.token) here.lines
+    behind.lines in
     let told : (token : Token) (t : Bool) → eq_by_cmp token_cmp token first ≡ t
     → AreLedgerLines fares token (own_if (t || among list token) token history)
     (text_of (lines_of_token token (here.lines ++ behind.lines))) = λ token t is_t.
@@ -287,7 +290,8 @@ ledger_lines risen fares history file lines letters fit over part token =
     append_cancel_left head_text (text_of lines) (text_of texts.lines)
     (sym part.shown ∙ over.whole ∙ ap (λ text. head_text ++ text) texts.shown) in
     let same : lines ≡ texts.lines =
-    one_way lines texts.lines (recursion_from_All IsLedgerEntryLine lines part.each) texts.each text in
+    one_way lines texts.lines (recursion_from_All IsLedgerEntryLine lines part.each) texts.each
+    text in
     subst (λ lines. AreLedgerLines fares token (own token history)
     (text_of (lines_of_token token lines))) (sym same)
     (subst (λ entries. AreLedgerLines fares token entries
@@ -299,7 +303,8 @@ ledger_lines risen fares history file lines letters fit over part token =
     one_way (line ∷ lines) [] each also same =
         absurd (some_bytes line (text_of lines) each.0 same)
     one_way (line ∷ lines) (other ∷ others) each also same =
-        let (first, rest) = entry_line_unique line other (text_of lines) (text_of others) each.0 also.0
+        let (first, rest) = entry_line_unique line other (text_of lines) (text_of others) each.0
+        also.0
         same in
         ap (λ line. line ∷ lines) first
         ∙ ap (λ lines. other ∷ lines) (one_way lines others each.1 also.1 rest)

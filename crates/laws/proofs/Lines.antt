@@ -89,7 +89,9 @@ module _ (fares : Fares) (moment : ℕ) where
           let alike = answered_alike fares (token_of_bytes f.token) one other (entry_of f) refl
           (All-head (SameFor one other) f fs same e) in
           ap (λ es. entry ∷ es) (more (one ++ entry ∷ []) (other ++ entry ∷ [])
-          (All-weaker (SameFor one other) (SameFor (one ++ entry ∷ []) (other ++ entry ∷ [])) (λ g here before. push_mine fares (token_of_bytes g.token) one other entry (here before)) fs
+          (All-weaker (SameFor one other) (SameFor (one ++ entry ∷ []) (other ++ entry ∷ []))
+          (λ g here before. push_mine fares (token_of_bytes g.token) one other entry (here before))
+          fs
           (All-tail (SameFor one other) f fs same)))
           ∙ ap (λ (g : Entry). g ∷ after fares (other ++ g ∷ [])
           (filter (is_tap_before moment) fs)) alike
@@ -117,7 +119,8 @@ lines fares moment uploads others history again cuts other_cuts same one other n
     let xs = map fields_of one.order in
     let ys = map fields_of other.order in
     let A : List (List Tap) → Type 0 = λ ts.
-    IsPermutation (filter q (fields_of_uploads ts)) (filter q (fields_of_uploads same.other_taps)) in
+    IsPermutation (filter q (fields_of_uploads ts))
+    (filter q (fields_of_uploads same.other_taps)) in
     let B : List (List Tap) → Type 0 = λ ts.
     IsPermutation (filter q mine) (filter q (fields_of_uploads ts)) in
     let between : IsPermutation (filter q mine) (filter q yours) =

@@ -1,6 +1,7 @@
 -- What is merged of the parts' ledgers is the ledger of the whole.
 use Rattle.std.specs.Prelude.{◌≡◌, ◌≢◌, ℕ, zero, suc, ◌<◌, ◌||◌, Bool, true, false, List, []}
-use Rattle.std.specs.Prelude.{◌∷◌, ◌++◌, ◌⊎◌, All, Some, None, filter, flat_map, if◌then◌else◌, length}
+use Rattle.std.specs.Prelude.{◌∷◌, ◌++◌, ◌⊎◌, All, Some, None, filter, flat_map, if◌then◌else◌}
+use Rattle.std.specs.Prelude.{length}
 use Rattle.std.specs.Prelude.{map, slice_get}
 use Rattle.std.specs.List.{AllByRecursion, AllZip}
 use Rattle.std.specs.List.Sorted.{IsStrictlySortedBy}
@@ -107,7 +108,8 @@ least_out token (line ∷ lines) rise least =
         → lines_of_token token lines ≡ []
     none_of token [] apart = refl
     none_of token (line ∷ lines) apart =
-        ap (λ b. if b then line ∷ lines_of_token token lines else lines_of_token token lines) apart.0
+        ap (λ b. if b then line ∷ lines_of_token token lines else lines_of_token token lines)
+        apart.0
         ∙ none_of token lines apart.1
 
     kept : (t : Bool) → List TokenLine
@@ -205,7 +207,8 @@ assembled fares history (token ∷ list) lines rise sorted stand told =
           (less_apart token other (above token other list sorted.0 there))))
           (told other (inr there))),
       ap text_of out.whole
-          ∙ flat_map-append (λ (line : TokenLine). line.text) (lines_of_token token lines) out.others,
+          ∙ flat_map-append (λ (line : TokenLine). line.text) (lines_of_token token lines)
+          out.others,
     )
 
 -- ---- the tokens of the lines
@@ -366,7 +369,8 @@ module _ (risen : RisingTokens) (fares : Fares) (uploads : List (List ℕ)) (his
           → slice_get (map (lines_of_token token) merged.parts) other ≡ Some some
           → other ≢ part_of_token (bytes_of token) (length parts) → some ≡ []
       elsewhere other some there apart =
-          let (lines, listed, is) = mapped_at (lines_of_token token) merged.parts other some there in
+          let (lines, listed, is) =
+          mapped_at (lines_of_token token) merged.parts other some there in
           let at = part_at fares parts files merged.parts overs merged.each other
           (listed_within parts files merged.parts
           (λ part file. IsLedgerOver fares part.history None file) overs merged.each other lines

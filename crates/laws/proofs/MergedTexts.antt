@@ -24,7 +24,8 @@ use Rattle.report_texts.specs.declared.upload_end.UploadEnd.{UploadEnd}
 use Rattle.report_texts.specs.UploadEnds.{IsPlainEnd}
 use Rattle.report_texts.specs.Numbers.{IsUploadEnd}
 use Rattle.part_reports.specs.Reports.{HasTapNumbers, IsMerged, IsPartReport, Report, end_texts}
-use Rattle.part_reports.specs.Reports.{all_ends, report_text, tokens_of_reports, validators_of_reports}
+use Rattle.part_reports.specs.Reports.{all_ends, report_text, tokens_of_reports}
+use Rattle.part_reports.specs.Reports.{validators_of_reports}
 use Rattle.part_reports.specs.Reports.{sums_of_validator as listed_at}
 use Rattle.part_reports.proofs.TextsRead.{end_lines_joined, lines_whole}
 use Rattle.part_reports.proofs.UniqueTexts.{told as told_of_part}
@@ -40,7 +41,8 @@ use Rattle.laws.proofs.SumsFit.{CanBeSummed, CostsFew, EntryFits, summed}
 
 -- reports that tell something else have other texts
 abbrev pub TextsDiffer : Type 0
-TextsDiffer = (a b : Report) → HasTapNumbers a → HasTapNumbers b → report_text a ≡ report_text b → a ≡ b
+TextsDiffer = (a b : Report) → HasTapNumbers a → HasTapNumbers b → report_text a ≡ report_text b
+    → a ≡ b
 
 -- the report tells the part's totals, validators and tokens
 pub record TellsOf (part : Part) (told : Report) : Type 0 where

@@ -153,12 +153,17 @@ module _ (fares : Fares) (uploads : List (List ℕ)) (history : List Entry) (par
       is.settled.canonical.sorted sorted
       (λ f. sum_by-IsPermutation f files here is.settled.canonical.moved
       ∙ sum_by-IsPermutation f
-      (map fields_of (of_part number (length parts) (taps_of_uploads split.settled.taps))) files is.its_taps
-      ∙ ap (sum_by f) (part_fields (λ token. part_of_token token (length parts)) number (taps_of_uploads split.settled.taps))
+      (map fields_of (of_part number (length parts) (taps_of_uploads split.settled.taps))) files
+      is.its_taps
+      ∙ ap (sum_by f)
+      (part_fields (λ token. part_of_token token (length parts)) number
+      (taps_of_uploads split.settled.taps))
       ∙ sum_filter p f all
       ∙ sym (sum_by-IsPermutation (λ x. cond (p x) (f x) 0) all order split.settled.canonical.moved)
       ∙ sym (sum_filter p f order)
-      ∙ ap (sum_by f) (sym (part_fields (λ token. part_of_token token (length parts)) number split.settled.order))) in
+      ∙ ap (sum_by f)
+      (sym (part_fields (λ token. part_of_token token (length parts)) number
+      split.settled.order))) in
       is.settled.entries ∙ same_after fares [] is.settled.order own same
 
   pub part_bare_all : (number : ℕ) (part : Part) → slice_get parts number ≡ Some part
@@ -237,7 +242,8 @@ module _ (fares : Fares) (uploads : List (List ℕ)) (history : List Entry) (par
       × (sums_by_validator (entries_of_parts parts) ≡ sums_by_validator history)
       × (sums_by_token (entries_of_parts parts) ≡ sums_by_token history)
   merged numbers rising_tokens = (
-    same_sums (entries_of_parts parts) history (same_entries (entries_of_parts parts) history own_all),
+    same_sums (entries_of_parts parts) history
+        (same_entries (entries_of_parts parts) history own_all),
     same_by_validator numbers rising_tokens (entries_of_parts parts) history own_all,
     same_by_token numbers rising_tokens (entries_of_parts parts) history own_all,
   )

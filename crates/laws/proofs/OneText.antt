@@ -36,7 +36,8 @@ use Rattle.fare_texts.specs.LedgerLines.{AreLedgerLinesAfter, head_text, reason_
 use Rattle.account_rule.specs.declared.no_transfer.NoTransfer.{NoTransfer}
 use Rattle.account_rule.specs.declared.no_transfer.NoTransfer.TheVariants.{FirstTap, TooLate}
 use Rattle.account_rule.specs.declared.no_transfer.NoTransfer.TheVariants.{AfterTransfer, NoneGiven}
-use Rattle.account_rule.specs.declared.no_transfer.NoTransfer.TheVariants.{NotPermitted, RideTooLate}
+use Rattle.account_rule.specs.declared.no_transfer.NoTransfer.TheVariants.{NotPermitted}
+use Rattle.account_rule.specs.declared.no_transfer.NoTransfer.TheVariants.{RideTooLate}
 use Rattle.fare_texts.specs.NoTransferWords.{IsAfterTransferText, IsNoTransferEnd}
 use Rattle.fare_texts.specs.NoTransferWords.{IsNoTransferText, IsRideTooLateText, IsTooLateText}
 use Rattle.fare_texts.specs.NoTransferWords.{gap_words}

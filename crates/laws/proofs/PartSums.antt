@@ -14,7 +14,8 @@ use Rattle.std.proofs.lemmas.List.{map-append}
 use Rattle.std.proofs.lemmas.List.Elements.{filter-append}
 use Rattle.std.proofs.Math.Bool.{or_assoc}
 use Rattle.shard_book.specs.declared.entry.Entry.{Entry}
-use Rattle.shard_book.specs.SumsByKey.{entries_of_validator, sums_by_validator, validators, validator_of}
+use Rattle.shard_book.specs.SumsByKey.{entries_of_validator, sums_by_validator, validators}
+use Rattle.shard_book.specs.SumsByKey.{validator_of}
 use Rattle.shard_book.specs.Rising.{rising}
 use Rattle.shard_book.specs.Sums.{Sums, add_all, add_sums, sums}
 use Rattle.shard_book.proofs.SameEntries.{RisingNumbers}
@@ -101,7 +102,8 @@ or_right true b is = absurd (false≢true (sym is))
 or_right false b is = is
 
 none_at : (v : ℕ) (entries : List Entry)
-    → is_member (eq_by_cmp nat_cmp) (map validator_of entries) v ≡ false → entries_of_validator v entries ≡ []
+    → is_member (eq_by_cmp nat_cmp) (map validator_of entries) v ≡ false
+    → entries_of_validator v entries ≡ []
 unfolding entries_of_validator
 none_at v [] none = refl
 none_at v (entry ∷ entries) none =
@@ -154,11 +156,13 @@ module _ (risen : RisingNumbers) where
   members (p ∷ parts) v =
       let first = sums_by_validator p.history in
       let keys = rising nat_cmp (map validator_of p.history) in
-      let own_keys : keys_of first ≡ keys = keys-map (λ k. sums (entries_of_validator k p.history)) keys in
+      let own_keys : keys_of first ≡ keys =
+      keys-map (λ k. sums (entries_of_validator k p.history)) keys in
       ap (λ vs. among vs v) (keys-append first (by_validator parts))
       ∙ among-append (keys_of first) (keys_of (by_validator parts)) v
       ∙ ap (λ b. b || among (keys_of (by_validator parts)) v)
       (ap (λ vs. among vs v) own_keys ∙ ((risen (map validator_of p.history) keys).1 refl).same v)
       ∙ ap (λ b. among (map validator_of p.history) v || b) (members parts v)
-      ∙ sym (among-append (map validator_of p.history) (map validator_of (entries_of_parts parts)) v)
+      ∙ sym (among-append (map validator_of p.history) (map validator_of (entries_of_parts parts))
+      v)
       ∙ sym (ap (λ vs. among vs v) (map-append validator_of p.history (entries_of_parts parts)))

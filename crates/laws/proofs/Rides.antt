@@ -1,5 +1,6 @@
 -- One more tap of a token and its number of rides.
-use Rattle.std.proofs.Common.{◌≡◌, ℕ, zero, suc, ◌+◌, ◌-◌, ◌≤◌, ◌<◌, Bool, true, false, not, ◌&&◌, ◌||◌, cond}
+use Rattle.std.proofs.Common.{◌≡◌, ℕ, zero, suc, ◌+◌, ◌-◌, ◌≤◌, ◌<◌, Bool, true, false, not, ◌&&◌}
+use Rattle.std.proofs.Common.{◌||◌, cond}
 use Rattle.std.proofs.Common.{List, [], ◌∷◌, ◌++◌, Option, Some, None, refl, sym, ap, subst, ◌∙◌}
 use Rattle.std.proofs.Common.{arith, is_some, nat_le, nat_lt, option_map, All, inl, inr, count_by}
 use Rattle.std.specs.Prelude.{◌⊎◌}
@@ -253,7 +254,8 @@ module _ (rules : TokenRules) (few : GiveOneAtMost rules.transfers) where
   unfolding giver
   giver_shown taps tap shown some =
       ap can_give (trip-push rules taps tap shown some)
-      ∙ can_give-after (gives rules.transfers (last_trip rules taps) shown) (last_trip rules taps) shown
+      ∙ can_give-after (gives rules.transfers (last_trip rules taps) shown) (last_trip rules taps)
+      shown
       ∙ ap (λ b. giver_by b shown) (same_gives rules.transfers (last_trip rules taps) shown few)
 
   -- a tap that both take, live in both or in none
@@ -333,7 +335,8 @@ module _ (rules : TokenRules) (few : GiveOneAtMost rules.transfers) where
   added_after added [] taps earlier all =
       let first = walk added taps earlier (earlier ++ added ∷ []) 0
       (0 + ride_of (reply rules earlier added))
-      (more earlier earlier added 0 0 (same refl (omega arith))) (follows-added added earlier) all in
+      (more earlier earlier added 0 0 (same refl (omega arith))) (follows-added added earlier)
+      all in
       let there = rides-cons earlier added taps in
       omega (arith, first, there)
   added_after added (tap ∷ front) taps earlier all =

@@ -88,7 +88,8 @@ module _ (number parts : ℕ) where
       → AllZip (λ group file. IsSplitFile group parts number file) groups files
       → (uploads : List (List ℕ)) → uploads ≡ all_of groups → All HasOneReading uploads
       → All HasOneReading files
-      → (taps list : List (List Tap)) → AreGoodTapsOfEach uploads taps → AreGoodTapsOfEach files list
+      → (taps list : List (List Tap)) → AreGoodTapsOfEach uploads taps
+      → AreGoodTapsOfEach files list
       → IsPermutation (map fields_of (of_part number parts (taps_of_uploads taps)))
       (map fields_of (taps_of_uploads list))
   own_taps groups files zip uploads whole cuts file_cuts taps list each is =

@@ -114,7 +114,8 @@ module _ (fares : Fares) (uploads : List (List ℕ)) (history : List Entry) (par
       (subst (λ n. slice_get parts n ≡ Some part) (sym (here k d within)) there)))
 
   members : (list : List Part) (token : Token)
-      → among (keys_of (pairs_of_parts list)) token ≡ among (map token_of (entries_of_parts list)) token
+      → among (keys_of (pairs_of_parts list)) token
+      ≡ among (map token_of (entries_of_parts list)) token
   unfolding sums_by_token tokens
   members [] token = refl
   members (p ∷ list) token =
@@ -122,7 +123,8 @@ module _ (fares : Fares) (uploads : List (List ℕ)) (history : List Entry) (par
       keys-map (λ t. sums (own t p.history)) (rising token_cmp (map token_of p.history)) in
       ap (λ ts. among ts token) (keys-append (sums_by_token p.history) (pairs_of_parts list))
       ∙ among-append (keys_of (sums_by_token p.history)) (keys_of (pairs_of_parts list)) token
-      ∙ ap (λ b. b || among (keys_of (pairs_of_parts list)) token) (ap (λ ts. among ts token) own_keys
+      ∙ ap (λ b. b || among (keys_of (pairs_of_parts list)) token)
+      (ap (λ ts. among ts token) own_keys
       ∙ ((risen (map token_of p.history) (rising token_cmp (map token_of p.history))).1
       refl).same token)
       ∙ ap (λ b. among (map token_of p.history) token || b) (members list token)

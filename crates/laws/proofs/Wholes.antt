@@ -21,7 +21,8 @@ use Rattle.tap_views.specs.Token.{token_cmp}
 use Rattle.tap_views.specs.declared.token.Token.{Token}
 use Rattle.shard_book.specs.declared.entry.Entry.{Entry}
 use Rattle.shard_book.specs.Entry.{own, reply_of}
-use Rattle.shard_book.specs.SumsByKey.{entries_of_validator, sums_by_token, sums_by_validator, token_of, tokens}
+use Rattle.shard_book.specs.SumsByKey.{entries_of_validator, sums_by_token, sums_by_validator}
+use Rattle.shard_book.specs.SumsByKey.{token_of, tokens}
 use Rattle.shard_book.specs.SumsByKey.{validator_of, validators}
 use Rattle.shard_book.specs.Rising.{rising}
 use Rattle.shard_book.specs.Sums.{Sums, add_all, sums, sums_of_replies}
@@ -80,7 +81,8 @@ numbers_rise : RisingNumbers → (entries : List Entry)
 unfolding sums_by_validator validators
 numbers_rise risen entries =
     let keys = rising nat_cmp (map validator_of entries) in
-    subst (IsStrictlySortedBy nat_cmp) (sym (number_keys (λ k. sums (entries_of_validator k entries)) keys))
+    subst (IsStrictlySortedBy nat_cmp)
+    (sym (number_keys (λ k. sums (entries_of_validator k entries)) keys))
     ((risen (map validator_of entries) keys).1 refl).rises
 
 names_rise : RisingTokens → (entries : List Entry)
@@ -216,7 +218,8 @@ all_sums : (entries : List Entry) (P : ℕ × Sums → Type 0)
     → ((v : ℕ) → P (v, sums (entries_of_validator v entries))) → All P (sums_by_validator entries)
 unfolding sums_by_validator validators
 all_sums entries P each =
-    All-map P (λ v. (v, sums (entries_of_validator v entries))) (rising nat_cmp (map validator_of entries))
+    All-map P (λ v. (v, sums (entries_of_validator v entries)))
+    (rising nat_cmp (map validator_of entries))
     (λ k d within. each (get_or (rising nat_cmp (map validator_of entries)) k d))
 
 module _ (fares : Fares) (uploads : List (List ℕ)) (history : List Entry) (parts : List Part)
@@ -273,7 +276,8 @@ module _ (fares : Fares) (uploads : List (List ℕ)) (history : List Entry) (par
             (map validator_of (entries_of_parts parts)) (map validator_of history) moved)
             ∙ sym (ap (λ (list : List (ℕ × Sums)). is_member (eq_by_cmp nat_cmp) (keys_of list) v)
             listed ∙ members numbers parts v);
-        validators_sums = all_sums history (λ sum. sum.1 ≡ listed_at sum.0 (validators_of_reports told))
+        validators_sums = all_sums history
+            (λ sum. sum.1 ≡ listed_at sum.0 (validators_of_reports told))
             (λ v. sym (ap (listed_at v) listed ∙ listed_parts numbers v parts
             ∙ at_history fares uploads history parts split law numbers v));
         tokens_moved = subst

@@ -1,6 +1,7 @@
 -- The sums of each token: corrections in order are cut where the token changes.
 use Rattle.std.proofs.Common.{◌≡◌, ◌+◌, ℕ, suc, List, [], ◌∷◌, ◌++◌, Option, Some, None, Bool}
-use Rattle.std.proofs.Common.{true, false, cond, refl, sym, ap, subst, ◌∙◌, arith, length, length-append}
+use Rattle.std.proofs.Common.{true, false, cond, refl, sym, ap, subst, ◌∙◌, arith, length}
+use Rattle.std.proofs.Common.{length-append}
 use Rattle.std.proofs.Common.{append_assoc, append-nil, filter, get_or, All}
 use Rattle.std.specs.Prelude.{⊤, Contains}
 use Rattle.std.specs.Cmp.{IsTotalOrder}
@@ -21,7 +22,8 @@ use Rattle.ledger_changes.specs.Changes.{AreCorrections, Pair, is_changed}
 use Rattle.ledger_changes.specs.Ledgers.{IsSettledLedger}
 use Rattle.ledger_changes.specs.Rows.{Key, Row, is_same_text, key_cmp, text_cmp}
 use Rattle.ledger_changes.specs.Texts.{cents_of, is_removed}
-use Rattle.ledger_changes.specs.Tokens.{AreTokensOf, IsCorrectionsByTokenText, Sums, is_added, is_kept}
+use Rattle.ledger_changes.specs.Tokens.{AreTokensOf, IsCorrectionsByTokenText, Sums, is_added}
+use Rattle.ledger_changes.specs.Tokens.{is_kept}
 use Rattle.ledger_changes.specs.Tokens.{is_of_token, of_token, sums_of, token_line, tokens_head}
 use Rattle.ledger_changes.specs.Tokens.{tokens_lines}
 use Rattle.ledger_changes.specs.inside.Standings.{IsKnown, Standing, StandsBefore}
@@ -334,7 +336,8 @@ cut t run (change ∷ rest) all some up order =
         → IsCut t (run ++ change ∷ rest)
         ((cond b [] (token_line t (sums_of run))
         ++ ended_lines (Some (add_changes (cond b (sum_with t run) (no_sums s)) one)) rest)
-        ++ sums_line (sums_after (Some (add_changes (cond b (sum_with t run) (no_sums s)) one)) rest))
+        ++ sums_line
+        (sums_after (Some (add_changes (cond b (sum_with t run) (no_sums s)) one)) rest))
     by_test true is same other =
         subst (λ (changes : List Pair).
         IsCut t changes (text_from (add_changes (sum_with t run) one) rest))

@@ -1,6 +1,8 @@
 -- Two ledgers that are read side by side.
-use Rattle.std.proofs.Common.{◌≡◌, ◌<◌, ◌≤◌, ◌+◌, ℕ, zero, suc, List, [], ◌∷◌, ◌++◌, Option, Some, None, Bool}
-use Rattle.std.proofs.Common.{true, false, refl, sym, ap, subst, ◌∙◌, arith, length, length-append, append_assoc}
+use Rattle.std.proofs.Common.{◌≡◌, ◌<◌, ◌≤◌, ◌+◌, ℕ, zero, suc, List, [], ◌∷◌, ◌++◌, Option, Some}
+use Rattle.std.proofs.Common.{None, Bool}
+use Rattle.std.proofs.Common.{true, false, refl, sym, ap, subst, ◌∙◌, arith, length, length-append}
+use Rattle.std.proofs.Common.{append_assoc}
 use Rattle.std.proofs.Common.{append-nil, filter, flat_map, get_or}
 use Rattle.std.specs.Prelude.{⊤, if◌then◌else◌}
 use Rattle.std.specs.Io.KnownBytes.{Appends}
@@ -21,8 +23,10 @@ use Rattle.ledger_changes.specs.declared.row.LedgerRow.{LedgerRow}
 use Rattle.ledger_changes.specs.Texts.{IsCorrectionsText, correction_line, corrections_head}
 use Rattle.ledger_changes.specs.Texts.{corrections_lines, is_removed, removed_in}
 use Rattle.ledger_changes.specs.inside.LedgerRows.{rows_in}
-use Rattle.ledger_changes.specs.inside.Standings.{HasRows, HasRowsAt, IsKnown, IsMoved, Standing, StandsBefore}
-use Rattle.ledger_changes.specs.inside.Written.{AreTold, AreWritten, changes_of, next_sides, pairs_of}
+use Rattle.ledger_changes.specs.inside.Standings.{HasRows, HasRowsAt, IsKnown, IsMoved, Standing}
+use Rattle.ledger_changes.specs.inside.Standings.{StandsBefore}
+use Rattle.ledger_changes.specs.inside.Written.{AreTold, AreWritten, changes_of, next_sides}
+use Rattle.ledger_changes.specs.inside.Written.{pairs_of}
 use Rattle.ledger_changes.specs.inside.Written.{row_in, sides_by, taken_if}
 use Rattle.ledger_changes.proofs.Keys.{key_cmp_total, same_key}
 use Rattle.ledger_changes.proofs.Sorted.{Rise, rise_all}
@@ -169,9 +173,11 @@ paired_more b a pair olds news pairs first is = record {
         (subst (AllByRecursion (λ row. Le pair.key row.key)) (sym is.of_new) first.news_up),
     uses_all pair pairs
         (λ none. none_of (λ later. later.before) pair.key pairs
-        (subst (AllByRecursion (λ row. Lt pair.key row.key)) (sym is.of_old) (first.olds_past none)))
+        (subst (AllByRecursion (λ row. Lt pair.key row.key)) (sym is.of_old)
+        (first.olds_past none)))
         (λ none. none_of (λ later. later.after) pair.key pairs
-        (subst (AllByRecursion (λ row. Lt pair.key row.key)) (sym is.of_new) (first.news_past none))),
+        (subst (AllByRecursion (λ row. Lt pair.key row.key)) (sym is.of_new)
+        (first.news_past none))),
     is.order,
   );
   of_old = ap (λ (rows : List Row). rows ++ befores pairs) first.old
@@ -332,8 +338,10 @@ first_by old new Greater e olds news is also =
 first_of : (o n : Option Row) (olds news : List Row) → ¬ (next_sides o n ≡ (false, false))
     → First o n (next_sides o n) olds news
 first_of None None olds news some is also = absurd (some refl)
-first_of (Some old) None olds news some is also = only_old old olds news is (past_none old.key news also)
-first_of None (Some new) olds news some is also = only_new new olds news also (past_none new.key olds is)
+first_of (Some old) None olds news some is also =
+    only_old old olds news is (past_none old.key news also)
+first_of None (Some new) olds news some is also =
+    only_new new olds news also (past_none new.key olds is)
 first_of (Some old) (Some new) olds news some is also =
     first_by old new (key_cmp old.key new.key) refl olds news is also
 
@@ -424,7 +432,8 @@ pub going_next : (old0 new0 old new old' new' : Standing) (Told Told' : List Pai
     → (IsKnown old → IsMoved old old' (rows_in b)) → (IsKnown new → IsMoved new new' (rows_in a))
     → ((done : List Pair) → Told done → Told' (done ++ changes_of b a))
     → IsGoing old0 new0 old' new' Told'
-going_next old0 new0 old new old' new' Told Told' h k b a going sides some is_b is_a moved_old moved_new
+going_next old0 new0 old new old' new' Told Told' h k b a going sides some is_b is_a moved_old
+    moved_new
     more = record {
       known_old = λ known. (moved_old (going.known_old known)).known;
       known_new = λ known. (moved_new (going.known_new known)).known;
@@ -568,5 +577,6 @@ finished old_text new_text old new out mid end removed begun_old begun_new head 
         shown = refl;
         counted = is.told.counted;
       },
-      Appends-trans out mid end corrections_head (corrections_lines is.changes) head is.told.written,
+      Appends-trans out mid end corrections_head (corrections_lines is.changes) head
+          is.told.written,
     )

@@ -16,7 +16,8 @@ use Rattle.ledger_check.proofs.SameTaps.{same_exact}
 use Rattle.ledger_check.proofs.Times.{one, one_self, permutation_of_times, times_push}
 
 -- IsBalance, of a balance's two fields
-abbrev pub Balances : BTreeMap TapFields ℕ → Option TapFields → List TapFields → List TapFields → Type 0
+abbrev pub Balances : BTreeMap TapFields ℕ → Option TapFields → List TapFields → List TapFields
+    → Type 0
 Balances left surplus good struck =
     MatchOption surplus ((tap : TapFields)
     → copies_among tap good ≡ left_at left tap + copies_among tap struck)
@@ -25,7 +26,8 @@ Balances left surplus good struck =
 -- in the one map one more is left of the tap than in the other
 abbrev pub HasOneMore : BTreeMap TapFields ℕ → BTreeMap TapFields ℕ → TapFields → Type 0
 HasOneMore more less key =
-    (other : TapFields) → left_at more other ≡ left_at less other + cond (is_eq (tap_cmp key other)) 1 0
+    (other : TapFields) → left_at more other
+    ≡ left_at less other + cond (is_eq (tap_cmp key other)) 1 0
 
 -- no tap stands in a list of none
 pub nowhere : (before after : List TapFields) (tap : TapFields) → [] ≡ before ++ tap ∷ after → ⊥
@@ -66,7 +68,8 @@ none_left left good struck tap none is =
       more = omega (arith, push, self, here, none);
     }
 
-pub still_more : (left new : BTreeMap TapFields ℕ) (good struck : List TapFields) (tap s : TapFields)
+pub still_more : (left new : BTreeMap TapFields ℕ) (good struck : List TapFields)
+    (tap s : TapFields)
     → Balances left (Some s) good struck → Balances new (Some s) good (struck ++ tap ∷ [])
 still_more left new good struck tap s is = record {
   before = is.before;
@@ -108,7 +111,8 @@ some_left left good struck tap some first is =
       no_surplus = λ other. let e = is other in omega (arith, e);
     }
 
-pub unfound : (left : BTreeMap TapFields ℕ) (surplus : Option TapFields) (good struck : List TapFields)
+pub unfound : (left : BTreeMap TapFields ℕ) (surplus : Option TapFields)
+    (good struck : List TapFields)
     → is_some surplus ≡ false
     → Balances left surplus good struck → Balances left None good struck
 unfound left None good struck none is = is

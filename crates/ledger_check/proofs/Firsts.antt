@@ -22,7 +22,8 @@ abbrev pub Zero : TapFields × ℕ → Type 0
 Zero e = e.1 ≡ 0
 
 -- none is left of a tap that is below an entry before which none are left
-below : (done : List (TapFields × ℕ)) (entry : TapFields × ℕ) (rest : List (TapFields × ℕ)) (tap : TapFields)
+below : (done : List (TapFields × ℕ)) (entry : TapFields × ℕ) (rest : List (TapFields × ℕ))
+    (tap : TapFields)
     → IsStrictlySortedBy tap_cmp (keys_of (done ++ entry ∷ rest)) → All Zero done
     → tap_cmp tap entry.0 ≡ Less
     → unwrap_or (lookup (is_at (tap_cmp tap)) (done ++ entry ∷ rest)) 0 ≡ 0
@@ -46,7 +47,8 @@ below (first ∷ done) entry rest tap sorted zero less =
         (lookup_tail (is_at (tap_cmp tap)) first (done ++ entry ∷ rest) e) ∙ later
 
 -- where none are left of the entries before this one, no tap of which some are left is below it
-pub none_before : (left : BTreeMap TapFields ℕ) (done : List (TapFields × ℕ)) (entry : TapFields × ℕ)
+pub none_before : (left : BTreeMap TapFields ℕ) (done : List (TapFields × ℕ))
+    (entry : TapFields × ℕ)
     (rest : List (TapFields × ℕ)) → left.entries ≡ done ++ entry ∷ rest → IsOrdered tap_cmp left
     → All Zero done → (other : TapFields) → 0 < left_at left other
     → is_lt (tap_cmp other entry.0) ≡ false
@@ -56,9 +58,11 @@ none_before left done entry rest is ordered zero other some =
     by_test : (b : Bool) → is_lt (tap_cmp other entry.0) ≡ b
         → is_lt (tap_cmp other entry.0) ≡ false
     by_test true e =
-        let sorted = subst (λ (es : List (TapFields × ℕ)). IsStrictlySortedBy tap_cmp (keys_of es)) is ordered in
+        let sorted = subst (λ (es : List (TapFields × ℕ)). IsStrictlySortedBy tap_cmp (keys_of es))
+        is ordered in
         let none = below done entry rest other sorted zero (less_of (tap_cmp other entry.0) e) in
         let here : left_at left other ≡ 0 =
-        ap (λ (es : List (TapFields × ℕ)). unwrap_or (lookup (is_at (tap_cmp other)) es) 0) is ∙ none in
+        ap (λ (es : List (TapFields × ℕ)). unwrap_or (lookup (is_at (tap_cmp other)) es) 0) is
+        ∙ none in
         absurd (omega (arith, some, here))
     by_test false e = e

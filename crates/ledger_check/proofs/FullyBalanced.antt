@@ -15,7 +15,8 @@ use Rattle.ledger_check.proofs.Times.{times_push}
 
 -- nothing was struck out yet
 pub begun : (left : BTreeMap TapFields ℕ) (surplus : Option TapFields) (full : FullBalance)
-    (good : List TapFields) → full.missing ≡ left → ((key : TapFields) → left_at full.surplus key ≡ 0)
+    (good : List TapFields) → full.missing ≡ left
+    → ((key : TapFields) → left_at full.surplus key ≡ 0)
     → Balances left surplus good [] → IsFullBalance full good []
 begun left None full good same none is = record {
   sums = λ tap.

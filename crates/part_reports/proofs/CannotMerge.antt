@@ -19,7 +19,8 @@ use Rattle.fare_texts.specs.ReportLines.{token_line}
 use Rattle.report_texts.specs.Numbers.{IsUploadEnd}
 use Rattle.part_reports.specs.Reports.{IsMerged, IsPartReport, Report, end_texts, all_ends}
 use Rattle.part_reports.specs.Reports.{report_text, tokens_of_reports}
-use Rattle.part_reports.specs.TokenLines.{ShareNoToken, HaveOtherTokens, IsMergedByToken, TokenLine, lines_of_token}
+use Rattle.part_reports.specs.TokenLines.{ShareNoToken, HaveOtherTokens, IsMergedByToken, TokenLine}
+use Rattle.part_reports.specs.TokenLines.{lines_of_token}
 use Rattle.part_reports.specs.declared.merging.LineKind.{LineKind}
 use Rattle.part_reports.specs.declared.merging.LineKind.TheVariants.{Entries, Tokens}
 use Rattle.part_reports.specs.declared.sums.WholeSums.{WholeSums}
@@ -66,7 +67,8 @@ abbrev pub part_left : Report → LineKind × List ℕ
 part_left part =
     (Tokens (length part.tokens) (left_of part.totals), flat_map token_line part.tokens)
 
-pub fronts_same : (begun : List BegunReport) (parts : List Report) → All (λ one. MayBePart one.0) begun
+pub fronts_same : (begun : List BegunReport) (parts : List Report)
+    → All (λ one. MayBePart one.0) begun
     → All IsPartReport parts → map begun_text begun ≡ map report_text parts
     → (map (λ one. one.0) begun ≡ map told_of parts) × (map left_text begun ≡ map part_left parts)
 fronts_same [] [] may fit same = (refl, refl)
@@ -79,7 +81,8 @@ fronts_same (one ∷ begun) (part ∷ parts) may fit same =
     (All-head (λ (one : BegunReport). MayBePart one.0) one begun may)
     (told_may part (All-head IsPartReport part parts fit))
     (head ∙ sym (whole_text part.ends part.totals part.validators part.tokens)) in
-    let rest = fronts_same begun parts (All-tail (λ (one : BegunReport). MayBePart one.0) one begun may)
+    let rest = fronts_same begun parts
+    (All-tail (λ (one : BegunReport). MayBePart one.0) one begun may)
     (All-tail IsPartReport part parts fit) tail in (
       ap (λ told. told ∷ map (λ (one : BegunReport). one.0) begun) first.0
           ∙ ap (λ more. told_of part ∷ more) rest.0,
@@ -103,7 +106,8 @@ reports_taps files sums standings parts read fit texts =
     ap (λ (s : Sums). s.taps) totals ∙ parts_taps parts
 
 -- the taps of the ends that were read are those of the ends that the texts are
-pub uploads_taps : (files : List (List ℕ)) (lists others : List (List UploadEnd)) (ends : UploadEnds)
+pub uploads_taps : (files : List (List ℕ)) (lists others : List (List UploadEnd))
+    (ends : UploadEnds)
     → files ≡ end_texts 0 lists → HaveReadEnds ends (all_ends lists)
     → All IsUploadEnd (all_ends others) → files ≡ end_texts 0 others
     → ends.taps ≡ sum_by taps_told (all_ends others)
@@ -112,7 +116,8 @@ uploads_taps files lists others ends told have fit texts =
     have.taps ∙ sym (ap (sum_by taps_told) joined)
 
 -- texts that have a report of the whole have as many taps
-pub same_taps : (end_files report_files : List (List ℕ)) (text : List ℕ) (lists : List (List UploadEnd))
+pub same_taps : (end_files report_files : List (List ℕ)) (text : List ℕ)
+    (lists : List (List UploadEnd))
     (ends : UploadEnds) (sums : WholeSums) (standings : List Standing)
     → IsMerged end_files report_files text → end_files ≡ end_texts 0 lists
     → HaveReadEnds ends (all_ends lists) → AreParts report_files sums standings
@@ -146,7 +151,8 @@ line_map : (some more : List Sum) → map line_of (some ++ more) ≡ map line_of
 line_map [] more = refl
 line_map (sum ∷ some) more = ap (λ rest. line_of sum ∷ rest) (line_map some more)
 
-lines_all : (parts : List Report) → whole_of (part_lines parts) ≡ map line_of (tokens_of_reports parts)
+lines_all : (parts : List Report)
+    → whole_of (part_lines parts) ≡ map line_of (tokens_of_reports parts)
 lines_all [] = refl
 lines_all (part ∷ parts) = ap (λ rest. map line_of part.tokens ++ rest) (lines_all parts)
     ∙ sym (line_map part.tokens (tokens_of_reports parts))
@@ -244,20 +250,23 @@ some_lines : (lines : List TokenLine) (i : ℕ) (d : TokenLine) → i < length l
     → 1 ≤ length (lines_of_token (get_or lines i d).token lines)
 some_lines [] i d within = absurd (omega (arith, within))
 some_lines (line ∷ lines) zero d within =
-    let here = ap (λ b. length (if b then line ∷ lines_of_token line.token lines else lines_of_token line.token
+    let here = ap
+    (λ b. length (if b then line ∷ lines_of_token line.token lines else lines_of_token line.token
     lines)) (token_eq-refl line.token) in
     omega (arith, here)
 some_lines (line ∷ lines) (suc i) d within = more (token_eq (get_or lines i d).token line.token)
     (some_lines lines i d (omega (arith, within)))
   where
     more : (b : Bool) → 1 ≤ length (lines_of_token (get_or lines i d).token lines)
-        → 1 ≤ length (if b then line ∷ lines_of_token (get_or lines i d).token lines else lines_of_token
+        → 1 ≤ length
+        (if b then line ∷ lines_of_token (get_or lines i d).token lines else lines_of_token
         (get_or lines i d).token lines)
     more true rest = omega arith
     more false rest = rest
 
 parts_size : (token : Token) (list : List TokenLine) (lists : List (List TokenLine))
-    → length (lines_of_token token (list ++ whole_of lists)) ≡ length (lines_of_token token list) + length
+    → length (lines_of_token token (list ++ whole_of lists))
+    ≡ length (lines_of_token token list) + length
     (lines_of_token token (whole_of lists))
 parts_size token list lists = ap length (joined_lines token list (whole_of lists))
     ∙ length-append (lines_of_token token list) (lines_of_token token (whole_of lists))
@@ -270,7 +279,8 @@ some_in (list ∷ lists) zero second j e at within =
     let same : list ≡ second = cc in
     let here = some_lines second j e within in
     let size = parts_size (get_or second j e).token list lists in
-    let there = ap (λ (l : List TokenLine). length (lines_of_token (get_or second j e).token l)) same in
+    let there = ap (λ (l : List TokenLine). length (lines_of_token (get_or second j e).token l))
+    same in
     omega (arith, here, size, there)
 some_in (list ∷ lists) (suc k) second j e at within =
     let rest = some_in lists k second j e at within in
@@ -327,7 +337,8 @@ rise_of (sum ∷ sums) rise = (rise_each sum.0 sums rise.0, rise_of sums rise.1)
 
 -- the tokens of the whole's report are joined of those of its parts
 joined_of : (parts : List Report) (whole : List Sum) → IsPermutation (tokens_of_reports parts) whole
-    → IsStrictlySortedBy token_cmp (keys_of whole) → IsMergedByToken (part_lines parts) (map line_of whole)
+    → IsStrictlySortedBy token_cmp (keys_of whole)
+    → IsMergedByToken (part_lines parts) (map line_of whole)
 joined_of parts whole moved rise =
     let lines = map line_of whole in
     let once : StandOnce lines = once_each lines
@@ -341,13 +352,15 @@ joined_of parts whole moved rise =
     λ token. (let few = once token in let is =
     ap length (lines_filtered token whole) ∙ map_size (of_token token whole) in
     omega (arith, few, is)) in
-    let same : (token : Token) → lines_of_token token lines ≡ lines_of_token token (whole_of (part_lines parts))
+    let same : (token : Token)
+    → lines_of_token token lines ≡ lines_of_token token (whole_of (part_lines parts))
     =
     λ token. lines_filtered token whole
     ∙ ap (map line_of) (sym (same_of token (tokens_of_reports parts) whole
     (of_token token (tokens_of_reports parts)) (of_token token whole) refl refl moved (size token)
     (most token)))
-    ∙ sym (lines_filtered token (tokens_of_reports parts)) ∙ ap (lines_of_token token) (sym (lines_all parts)) in
+    ∙ sym (lines_filtered token (tokens_of_reports parts))
+    ∙ ap (lines_of_token token) (sym (lines_all parts)) in
     record {
       apart = apart_of (part_lines parts) (λ token. subst (λ some. length some ≤ 1) (same token)
           (once token));

@@ -40,12 +40,15 @@ next_over upload (Some text) after items line over = taken_none text (sym line.0
 
 pub next_told : (upload : ℕ) (text after : Option (List ℕ)) (items line : List ℕ)
     (told : Option UploadEnd) (end : UploadEnd)
-    → IsLine text after items → line ≡ items → IsTold (λ (end : UploadEnd). end) IsUploadEnd (upload_line upload) line told
+    → IsLine text after items → line ≡ items
+    → IsTold (λ (end : UploadEnd). end) IsUploadEnd (upload_line upload) line told
     → told ≡ Some end
     → IsNextEnd upload text after items (Ok (Some end))
 next_told upload None after items line told end is same form some = tt
 next_told upload (Some text) after items line told end is same form some =
-    let here = subst (λ told. IsTold (λ (end : UploadEnd). end) IsUploadEnd (upload_line upload) line told) some form in
+    let here = subst
+    (λ told. IsTold (λ (end : UploadEnd). end) IsUploadEnd (upload_line upload) line told) some
+    form in
     record {
       may = here.0;
       line_is = sym same ∙ here.1;
@@ -62,7 +65,9 @@ pub next_no : (upload : ℕ) (text after : Option (List ℕ)) (items line : List
     → IsNextEnd upload text after items (Err fault)
 next_no upload None after items line told fault small is same some form none = tt
 next_no upload (Some text) after items line told fault small is same some form none =
-    let here = subst (λ told. IsTold (λ (end : UploadEnd). end) IsUploadEnd (upload_line upload) line told) none form in
+    let here = subst
+    (λ told. IsTold (λ (end : UploadEnd). end) IsUploadEnd (upload_line upload) line told) none
+    form in
     λ _. (
       λ over. some (is.0 ∙ ap (take_through 10) over),
       λ end rest may shown. here end may (same ∙ is.0 ∙ ap (take_through 10) shown
@@ -154,11 +159,13 @@ adding_more before now after (Some text) left then_left line items end same addi
         each = All-push IsUploadEnd adding.more told adding.is.each here.may;
       };
       rest = here.rest;
-      shown = adding.shown ∙ ap (λ text. upload_lines before.uploads adding.more ++ text) (here.shown
+      shown = adding.shown
+          ∙ ap (λ text. upload_lines before.uploads adding.more ++ text) (here.shown
           ∙ ap (λ k. upload_line k told ++ here.rest) number)
           ∙ sym (append_assoc (upload_lines before.uploads adding.more)
           (upload_line (before.uploads + length adding.more) told) here.rest)
-          ∙ ap (λ text. text ++ here.rest) (sym (upload_lines-push before.uploads adding.more told));
+          ∙ ap (λ text. text ++ here.rest)
+          (sym (upload_lines-push before.uploads adding.more told));
       left_is = here.left;
     }
 
@@ -176,7 +183,8 @@ adding_done before now (Some text) left then_left items adding next =
           ∙ append-nil (upload_lines before.uploads adding.more),
     )
 
-pub some_line : (number : ℕ) (end : UploadEnd) (rest : List ℕ) → ¬ ([] ≡ upload_line number end ++ rest)
+pub some_line : (number : ℕ) (end : UploadEnd) (rest : List ℕ)
+    → ¬ ([] ≡ upload_line number end ++ rest)
 some_line number end rest is =
     let words : [] ≡ (codes "upload " ++ (decimal number ++ end_words end)) ++ rest =
     is ∙ ap (λ (t : List ℕ). t ++ rest) (line_words number end) in absurd (cc)
@@ -197,7 +205,8 @@ lines_rest number (a ∷ done) [] rest may may_too same some absent_end =
     ∙ append_assoc (upload_line number a) (upload_lines (number + 1) done) rest)
 lines_rest number (a ∷ done) (end ∷ ends) rest may may_too same some absent_end =
     let first = end_line_unique number a end (upload_lines (number + 1) done ++ rest)
-    (upload_lines (number + 1) ends) (All-head IsUploadEnd a done may) (All-head IsUploadEnd end ends may_too)
+    (upload_lines (number + 1) ends) (All-head IsUploadEnd a done may)
+    (All-head IsUploadEnd end ends may_too)
     (sym (append_assoc (upload_line number a) (upload_lines (number + 1) done) rest) ∙ same) in
     let at : number + 1 + length done ≡ number + suc (length done) = omega arith in
     lines_rest (number + 1) done ends rest (All-tail IsUploadEnd a done may)

@@ -19,7 +19,8 @@ use Rattle.part_reports.proofs.Unique.{entry_line_unique, token_line_unique}
 use Rattle.ledger_changes.proofs.Readings.{taken_none}
 
 -- ---- single lines
-pub line_is_one : (kind : LineKind) (line : TokenLine) → IsLineOfKind kind line → IsOneLine line.text
+pub line_is_one : (kind : LineKind) (line : TokenLine) → IsLineOfKind kind line
+    → IsOneLine line.text
 line_is_one (Tokens left rest) line is =
     subst IsOneLine (sym is.shown) (token_line_is_one (line.token, is.sums) is.is)
 line_is_one Entries line is = entry_line_is_one line is
@@ -31,7 +32,8 @@ not_nothing (x ∷ front) byte is = cc
 pub one_is_some : (line : List ℕ) → IsOneLine line → ¬ (line ≡ [])
 one_is_some line is none = not_nothing is.front 10 (sym is.shown ∙ none)
 
-pub line_is_some : (kind : LineKind) (line : TokenLine) → IsLineOfKind kind line → ¬ (line.text ≡ [])
+pub line_is_some : (kind : LineKind) (line : TokenLine) → IsLineOfKind kind line
+    → ¬ (line.text ≡ [])
 line_is_some kind line is = one_is_some line.text (line_is_one kind line is)
 
 -- the kind of a line is not in how many are left
@@ -143,7 +145,8 @@ begins_with kind text at token here (first ∷ list) is =
 
 -- the text whose first line may not stand behind the token has no lines that may
 pub no_order : (kind : LineKind) (text : List ℕ) (at : Standing) (before : Option Token)
-    → StandsInText (kind, text) at → ¬ (MayFollowToken kind before at.token) → (list : List TokenLine)
+    → StandsInText (kind, text) at → ¬ (MayFollowToken kind before at.token)
+    → (list : List TokenLine)
     → IsTextOf (kind, text) list → IfSome before (λ token. ¬ (MayFollowAll kind token list))
 no_order kind text at None source wrong list is = tt
 no_order kind text at (Some before) source wrong list is = by_head at.token source wrong

@@ -71,7 +71,8 @@ posted_more count (Some text) now after told posted read none =
       are = record {
         number = simp length-append (omega (arith, posted.are.number));
         each = All-push IsUploadEnd posted.ends end posted.are.each here.may;
-        posted = All-push (λ (end : UploadEnd). IsTrue (is_posted end)) posted.ends end posted.are.posted
+        posted = All-push (λ (end : UploadEnd). IsTrue (is_posted end)) posted.ends end
+            posted.are.posted
             (ap is_posted (sym is_told) ∙ none);
       };
       rest = here.rest;
@@ -85,19 +86,22 @@ posted_more count (Some text) now after told posted read none =
 pub posted_refused : (uploads count : ℕ) (text now after : Option (List ℕ)) (fault : MergeFault)
     → count < uploads
     → PostedSome count text now
-    → ((left : List ℕ) → now ≡ Some left → IsOfTexts fault → (end : UploadEnd) (more : List ℕ) → IsUploadEnd end
+    → ((left : List ℕ) → now ≡ Some left → IsOfTexts fault → (end : UploadEnd) (more : List ℕ)
+    → IsUploadEnd end
     → IsTrue (is_posted end) → ¬ (left ≡ upload_line count end ++ more))
     → IsRead {T = Unit {0}} (λ _ _. Unit {0}) (AreSoManyPosted uploads) (upload_lines 0) text after
     (Err fault)
 posted_refused uploads count None now after fault less posted absent = tt
 posted_refused uploads count (Some text) now after fault less posted absent =
     λ of_texts ends rest may shown.
-    let next = lines_begin IsUploadEnd upload_line end_line_unique 0 posted.ends ends posted.rest rest
+    let next = lines_begin IsUploadEnd upload_line end_line_unique 0 posted.ends ends posted.rest
+    rest
     posted.are.each may.each (omega (arith, posted.are.number, may.number, less))
     (ap (λ text. text ++ posted.rest) (sym (end_lines_from 0 posted.ends)) ∙ sym posted.shown
     ∙ shown ∙ ap (λ text. text ++ rest) (end_lines_from 0 ends)) in
     let at : 0 + length posted.ends ≡ count = omega (arith, posted.are.number) in
-    let is_posted : IsTrue (is_posted next.value) = All-head (λ (end : UploadEnd). IsTrue (is_posted end)) next.value
+    let is_posted : IsTrue (is_posted next.value) =
+    All-head (λ (end : UploadEnd). IsTrue (is_posted end)) next.value
     next.more
     (All-back (λ (end : UploadEnd). IsTrue (is_posted end)) posted.ends (next.value ∷ next.more)
     (subst (λ ends. All (λ (end : UploadEnd). IsTrue (is_posted end)) ends) next.is may.posted)) in

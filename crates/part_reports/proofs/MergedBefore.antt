@@ -174,7 +174,8 @@ first_is line joined first all rise rise_all has = by_test (token_eq line.token 
         let below : NotBelow line.token first.token = ⊎_elim
         (λ (none : (has first.token).more ≡ []).
         some_there (lines_of_token first.token (line ∷ joined)) refl none)
-        (λ (each : AllByRecursion (λ line. NotBelow line.token first.token) (line ∷ joined)). each.0)
+        (λ (each : AllByRecursion (λ line. NotBelow line.token first.token) (line ∷ joined)).
+        each.0)
         (has first.token).below in
         absurd (not_both line.token first.token below above other)
 
@@ -261,7 +262,8 @@ continues part list going text = by_head part.at.token refl
 abbrev pub AllContinue : List Part → List (List TokenLine) → Type 0
 AllContinue parts lists = AllZip Continues parts lists
 
-pub all_continue : (parts : List Part) (lists : List (List TokenLine)) → AllByRecursion IsGoing parts
+pub all_continue : (parts : List Part) (lists : List (List TokenLine))
+    → AllByRecursion IsGoing parts
     → AllZip IsTextOf (map (λ part. part.text) parts) lists → AllContinue parts lists
 all_continue [] [] going are = tt
 all_continue [] (list ∷ lists) going are = elim are [ ]
@@ -543,6 +545,7 @@ pub begun_least : (texts : List (LineKind × List ℕ)) (ats : List Standing)
     → (lists : List (List TokenLine)) (all : List TokenLine) → AreTexts texts lists
     → IsMergedByToken lists all → Begins old new (text_of all)
 begun_least texts ats old now new k merging least begun =
-    let (was, stands, is) = at_map (λ (at : Standing). at.token) ats k (Some least.token) least.there
+    let (was, stands, is) =
+    at_map (λ (at : Standing). at.token) ats k (Some least.token) least.there
     in
     begun_line texts ats old now new k merging least was stands (begun was stands)

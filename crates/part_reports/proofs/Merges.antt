@@ -14,7 +14,8 @@ use Rattle.tap_views.specs.Token.{token_cmp, token_eq}
 use Rattle.tap_views.specs.declared.token.Token.{Token}
 use Rattle.tap_views.proofs.TokenLemmas.{same_token}
 use Rattle.tap_views.proofs.Lists.{each-append, each-weaker}
-use Rattle.part_reports.specs.TokenLines.{HaveOtherTokens, IsMergedByToken, TokenLine, lines_of_token}
+use Rattle.part_reports.specs.TokenLines.{HaveOtherTokens, IsMergedByToken, TokenLine}
+use Rattle.part_reports.specs.TokenLines.{lines_of_token}
 use Rattle.part_reports.specs.TokenLines.{text_of}
 use Rattle.part_reports.specs.inside.Kinds.{AreTexts, IsTextOf}
 use Rattle.part_reports.specs.inside.Least.{IsBelowOthers, IsLeast, StandsTwice, StandsAt}
@@ -142,7 +143,8 @@ merging_first texts ats old are =
 
 -- where no line has the token there are none of its lines
 no_lines : (token : Token) (lines : List TokenLine)
-    → AllByRecursion (λ line. token_eq token line.token ≡ false) lines → lines_of_token token lines ≡ []
+    → AllByRecursion (λ line. token_eq token line.token ≡ false) lines
+    → lines_of_token token lines ≡ []
 no_lines token [] others = refl
 no_lines token (line ∷ lines) others =
     cond-false (token_eq token line.token) (line ∷ lines_of_token token lines)
@@ -184,7 +186,8 @@ line_more token front done back line others =
     L : List TokenLine
     L = lines_of_token token (line ∷ [])
 
-    split_more : lines_of_token token (front ++ ((done ++ line ∷ []) ++ back)) ≡ F ++ ((D ++ L) ++ B)
+    split_more : lines_of_token token (front ++ ((done ++ line ∷ []) ++ back))
+        ≡ F ++ ((D ++ L) ++ B)
     split_more = filter-append (λ (other : TokenLine). token_eq token other.token) front
         ((done ++ line ∷ []) ++ back)
         ∙ ap (λ lines. F ++ lines)
@@ -407,7 +410,8 @@ pub below_next : (parts : List Part) (k : ℕ) (tokens : List (Option Token)) (p
     → AllByRecursion (λ p. AreWritten p.at.token (joined ++ line_at part.at token ∷ []))
     (slice_set parts k (next_part part token after))
 below_next parts k tokens part token after joined next below =
-    each_by_place (λ (p : Part). AreWritten p.at.token (joined ++ line ∷ [])) (slice_set parts k now)
+    each_by_place (λ (p : Part). AreWritten p.at.token (joined ++ line ∷ []))
+    (slice_set parts k now)
     (λ i p is. ⊎_elim
     (λ (here : (i ≡ k) × (p ≡ now)).
     subst (λ (p : Part). AreWritten p.at.token (joined ++ line ∷ [])) (sym here.1)
@@ -437,7 +441,8 @@ pub same_next : (parts : List Part) (k : ℕ) (part : Part) (token : Token) (aft
     → part.at.token ≡ Some token → ArePast parts
     → lines_of_token any joined ≡ lines_of_token any (flat_map (λ part. part.done) parts)
     → lines_of_token any (joined ++ line_at part.at token ∷ [])
-    ≡ lines_of_token any (flat_map (λ part. part.done) (slice_set parts k (next_part part token after)))
+    ≡ lines_of_token any
+    (flat_map (λ part. part.done) (slice_set parts k (next_part part token after)))
 same_next parts k part token after joined any there is past same =
     filter-append (λ (other : TokenLine). token_eq any other.token) joined (line ∷ [])
     ∙ ap (λ lines. lines ++ lines_of_token any (line ∷ [])) (same ∙ ap (lines_of_token any) old)
@@ -499,7 +504,8 @@ merging_next texts ats after old now new k merging least moved =
     let token = least.token in
     let tokens = map (λ (at : Standing). at.token) ats in
     let is : part.at.token ≡ Some token =
-    ap (λ (at : Standing). at.token) found.is ∙ head_at ats k moved.was token moved.there least.there
+    ap (λ (at : Standing). at.token) found.is
+    ∙ head_at ats k moved.was token moved.there least.there
     in
     let going = each_at IsGoing parts k part merging.going found.there in
     let step : IsMoved part.at moved.is = subst (λ at. IsMoved at moved.is)
@@ -596,7 +602,8 @@ no_head ats k at none is = by_head at.token refl
     by_head (Some token) same = absurd (none k token
         (map_at (λ (at : Standing). at.token) ats k at is ∙ ap (λ head. Some head) same))
 
-pub merging_end : (texts : List (LineKind × List ℕ)) (ats : List Standing) (old new : Option (List ℕ))
+pub merging_end : (texts : List (LineKind × List ℕ)) (ats : List Standing)
+    (old new : Option (List ℕ))
     → IsMerging texts ats old new → IsLeast (map (λ at. at.token) ats) None
     → (lists : List (List TokenLine)) × (joined : List TokenLine) × AreTexts texts lists
     × IsMergedByToken lists joined × Appends old new (text_of joined)
@@ -688,7 +695,8 @@ line_at_place texts ats old new merging k token stands lists are =
       whole = begun;
     }
 
-pub merging_twin : (texts : List (LineKind × List ℕ)) (ats : List Standing) (old new : Option (List ℕ))
+pub merging_twin : (texts : List (LineKind × List ℕ)) (ats : List Standing)
+    (old new : Option (List ℕ))
     → IsMerging texts ats old new → (k : ℕ) → StandsTwice (map (λ at. at.token) ats) k
     → (lists : List (List TokenLine)) (joined : List TokenLine) → AreTexts texts lists
     → ¬ (IsMergedByToken lists joined)

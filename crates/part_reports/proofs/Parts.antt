@@ -13,8 +13,10 @@ use Rattle.shard_book.specs.Sums.{sums}
 use Rattle.part_reports.specs.inside.Going.{IsBehindSo, IsGoing, Part, Rise}
 use Rattle.part_reports.specs.inside.Kinds.{AreLines, HasTokenSums, IsTextOf}
 use Rattle.part_reports.specs.inside.SumsLeft.{sums_left}
-use Rattle.part_reports.specs.inside.Standings.{IsAtEnd, IsAtLine, IsBehindOne, IsLineOfKind, IsMoved}
-use Rattle.part_reports.specs.inside.Standings.{StandsInText, StandsInTextAt, IsStuck, MayEnd, MayFollow}
+use Rattle.part_reports.specs.inside.Standings.{IsAtEnd, IsAtLine, IsBehindOne, IsLineOfKind}
+use Rattle.part_reports.specs.inside.Standings.{IsMoved}
+use Rattle.part_reports.specs.inside.Standings.{StandsInText, StandsInTextAt, IsStuck, MayEnd}
+use Rattle.part_reports.specs.inside.Standings.{MayFollow}
 use Rattle.part_reports.specs.inside.Standings.{MayFollowAll, MayFollowToken, Standing}
 use Rattle.part_reports.specs.declared.merging.LineKind.{LineKind}
 use Rattle.part_reports.specs.declared.merging.LineKind.TheVariants.{Tokens, Entries}
@@ -64,7 +66,8 @@ rest_count (Tokens all total) Entries done more is counted = elim is [ ]
 rest_count Entries (Tokens left rest) done more is counted = elim is [ ]
 rest_count Entries Entries done more is counted = tt
 
-pub like_line : (all kind : LineKind) (done : List TokenLine) (line : TokenLine) → IsBehindSo all kind done
+pub like_line : (all kind : LineKind) (done : List TokenLine) (line : TokenLine)
+    → IsBehindSo all kind done
     → IsLineOfKind kind line → IsLineOfKind all line
 like_line (Tokens all total) (Tokens left rest) done line is fits = fits
 like_line (Tokens all total) Entries done line is fits = elim is [ ]
@@ -79,13 +82,15 @@ like_order Entries (Tokens left rest) done a b is may = elim is [ ]
 like_order Entries Entries done a b is may = may
 
 -- the lines behind so many, as lines of what is left
-rest_lines : (all kind : LineKind) (done : List TokenLine) (lines : List TokenLine) → IsBehindSo all kind done
+rest_lines : (all kind : LineKind) (done : List TokenLine) (lines : List TokenLine)
+    → IsBehindSo all kind done
     → AreCounted kind lines → AllByRecursion (IsLineOfKind all) lines → Rise all lines
     → AreLines kind lines
 rest_lines (Tokens all total) (Tokens left rest) done lines is counted each rise =
     lines_from (Tokens left rest) lines counted each (same_rise lines rise)
   where
-    same_rise : (lines : List TokenLine) → Rise (Tokens all total) lines → Rise (Tokens left rest) lines
+    same_rise : (lines : List TokenLine) → Rise (Tokens all total) lines
+        → Rise (Tokens left rest) lines
     same_rise [] rise = tt
     same_rise (line ∷ lines) rise = (rise.0, same_rise lines rise.1)
 rest_lines (Tokens all total) Entries done lines is counted each rise = elim is [ ]
@@ -206,7 +211,8 @@ going_next part token after going is moved =
     record {
       kind = part.at.behind;
       left = at.rest;
-      source = subst (λ left. IfSome left (λ text. StandsInText (part.at.behind, text) after)) at.left
+      source = subst (λ left. IfSome left (λ text. StandsInText (part.at.behind, text) after))
+          at.left
           moved.read;
       behind = behind;
       shown = shown_here part token going is;

@@ -1,5 +1,6 @@
 -- What charges leave of a report: the next one, one that cannot be, and the end.
-use Rattle.std.proofs.Common.{◌≡◌, ◌≢◌, ◌∙◌, ◌<◌, ◌^◌, ◌⊎◌, zero, suc, ℕ, List, [], ◌∷◌, ◌++◌, Option, Some}
+use Rattle.std.proofs.Common.{◌≡◌, ◌≢◌, ◌∙◌, ◌<◌, ◌^◌, ◌⊎◌, zero, suc, ℕ, List, [], ◌∷◌, ◌++◌}
+use Rattle.std.proofs.Common.{Option, Some}
 use Rattle.std.proofs.Common.{None, inl, inr, refl, sym, ap, subst, arith, length, append-nil}
 use Rattle.std.proofs.Common.{append_assoc, true, false, length-append, Bool, ◌&&◌, ◌==◌, cond}
 use Rattle.std.proofs.lemmas.Bool.{and_parts, cases_eq, eqb-true, and_from}
@@ -45,7 +46,8 @@ use Rattle.part_reports.specs.declared.merging.LineKind.{LineKind}
 use Rattle.part_reports.specs.declared.merging.LineKind.TheVariants.{Tokens}
 use Rattle.part_reports.proofs.Added.{leave_sums, lines_stand}
 use Rattle.part_reports.proofs.FewParts.{few, one_small, same_test, told_may, told_of}
-use Rattle.part_reports.proofs.Groups.{groups_use, head_same, no_stay, no_turn, other_next, something_left}
+use Rattle.part_reports.proofs.Groups.{groups_use, head_same, no_stay, no_turn, other_next}
+use Rattle.part_reports.proofs.Groups.{something_left}
 use Rattle.part_reports.proofs.Groups.{stays_on, turns_on, use_groups}
 use Rattle.part_reports.proofs.Parts.{going_end, going_first, going_line, going_next, going_stuck}
 use Rattle.part_reports.proofs.Parts.{here, like_line, line_at}
@@ -294,7 +296,8 @@ not_begun file before charges nothing no_part add =
     (add.shown ∙ sym (whole_text report.ends report.totals report.validators report.tokens))
     (lines_stand report.tokens report.totals fit.tokens fit.tokens_rise fit.tokens_add)
     (few (told_of report ∷ [])
-    (All-cons MayBePart (told_of report) [] (told_may report fit) (All-nil MayBePart)) (omega arith))
+    (All-cons MayBePart (told_of report) [] (told_may report fit) (All-nil MayBePart))
+    (omega arith))
 
 -- ---- one charge more
 at_more : (done : List LineCharge) (charge : LineCharge)
@@ -650,13 +653,15 @@ tables_same test is (x ∷ some) (y ∷ more) same validator =
 found_head : (entry : ℕ × Totals) (entries : List (ℕ × Totals))
     → found_in (entry ∷ entries) entry.0 ≡ Some (sums_of entry.1)
 found_head entry entries =
-    ap (λ at. option_map sums_of (cond at (Some entry.1) (lookup (is_at (nat_cmp entry.0)) entries)))
+    ap (λ at. option_map sums_of
+    (cond at (Some entry.1) (lookup (is_at (nat_cmp entry.0)) entries)))
     (same_key entry.0)
 
 found_behind : (validator : ℕ) (entry : ℕ × Totals) (entries : List (ℕ × Totals))
     → validator ≢ entry.0 → found_in (entry ∷ entries) validator ≡ found_in entries validator
 found_behind validator entry entries other =
-    ap (λ at. option_map sums_of (cond at (Some entry.1) (lookup (is_at (nat_cmp validator)) entries)))
+    ap (λ at. option_map sums_of
+    (cond at (Some entry.1) (lookup (is_at (nat_cmp validator)) entries)))
     (other_key validator entry.0 other)
 
 below_not : (a b : ℕ) → nat_cmp a b ≡ Less → a ≢ b
@@ -713,13 +718,15 @@ tables_equal test is (x ∷ some) (y ∷ more) rise rise_too same = elim (cases_
         | inl below ↦
             let none : Some (sums_of x.1) ≡ None =
             sym (found_head x some) ∙ same x.0
-            ∙ none_above x.0 (y ∷ more) (less x.0 y.0 below, above_all x.0 y.0 (keys_of more) below rise_too.0)
+            ∙ none_above x.0 (y ∷ more)
+            (less x.0 y.0 below, above_all x.0 y.0 (keys_of more) below rise_too.0)
             in
             absurd (cc)
         | inr below ↦
             let none : Some (sums_of y.1) ≡ None =
             sym (found_head y more) ∙ sym (same y.0)
-            ∙ none_above y.0 (x ∷ some) (less y.0 x.0 below, above_all y.0 x.0 (keys_of some) below rise.0)
+            ∙ none_above y.0 (x ∷ some)
+            (less y.0 x.0 below, above_all y.0 x.0 (keys_of some) below rise.0)
             in
             absurd (cc)
       ]
@@ -729,7 +736,8 @@ tables_equal test is (x ∷ some) (y ∷ more) rise rise_too same = elim (cases_
     behind validator key = elim (cases_eq validator x.0) [
       | inl at ↦
           none_above validator some
-          (subst (λ k. AllByRecursion (λ other. nat_cmp k other ≡ Less) (keys_of some)) (sym at) rise.0)
+          (subst (λ k. AllByRecursion (λ other. nat_cmp k other ≡ Less) (keys_of some)) (sym at)
+          rise.0)
           ∙ sym (none_above validator more
           (subst (λ k. AllByRecursion (λ other. nat_cmp k other ≡ Less) (keys_of more))
           (sym (at ∙ key)) rise_too.0))

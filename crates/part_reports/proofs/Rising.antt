@@ -62,8 +62,10 @@ rise_follow (first ∷ (next ∷ done)) sum more rise = rise_follow (next ∷ do
 
 -- the last of some
 abbrev pub FollowsLast : Option ValidatorSum → List ValidatorSum → ℕ → Type 0
-FollowsLast last sums validator = MatchOption last (MayFollowValidators (map validator_sum sums) validator)
-    (λ before. before.validator < validator ↔ MayFollowValidators (map validator_sum sums) validator)
+FollowsLast last sums validator =
+    MatchOption last (MayFollowValidators (map validator_sum sums) validator)
+    (λ before. before.validator < validator ↔ MayFollowValidators (map validator_sum sums)
+    validator)
 
 pub follows_last : (sums : List ValidatorSum) (validator : ℕ)
     → FollowsLast (slice_get sums (length sums - 1)) sums validator

@@ -72,7 +72,8 @@ rise_middle kind [] line lines rise = may_all kind line.token lines rise.0
 rise_middle kind (first ∷ front) line lines rise = rise_middle kind front line lines rise.1
 
 -- the same, as std says it
-strictly_from : (left : ℕ) (rest : SumsLeft) (lines : List TokenLine) → Rise (Tokens left rest) lines
+strictly_from : (left : ℕ) (rest : SumsLeft) (lines : List TokenLine)
+    → Rise (Tokens left rest) lines
     → IsStrictlySortedBy token_cmp (map (λ line. line.token) lines)
 unfolding IsStrictlySortedBy
 strictly_from left rest [] rise = tt

@@ -22,7 +22,8 @@ use Rattle.part_reports.specs.Reports.{sums_found, sums_of_validator}
 use Rattle.part_reports.specs.declared.front.Front.{Front}
 use Rattle.part_reports.specs.declared.sums.WholeSums.{WholeSums}
 use Rattle.part_reports.specs.inside.Fronts.{IsFront, ToldFront}
-use Rattle.part_reports.specs.inside.Sums.{AreFew, AreSumsOf, AreSmall, AreFrontsCounted, WithFront, WithOne}
+use Rattle.part_reports.specs.inside.Sums.{AreFew, AreSumsOf, AreSmall, AreFrontsCounted, WithFront}
+use Rattle.part_reports.specs.inside.Sums.{WithOne}
 use Rattle.part_reports.specs.inside.Sums.{WithValidators, or_nothing}
 use Rattle.std.proofs.lemmas.List.Concat.{flat_map-append}
 use Rattle.std.proofs.lemmas.List.Sums.{sum_by-append}
@@ -146,11 +147,13 @@ not_member (first ∷ list) q absent =
     rest_of true b absent = absurd (cc)
     rest_of false b absent = absent
 
-pub or_nothing_in : (list : List (ℕ × Sums)) (q : ℕ) → or_nothing (sums_found list q) ≡ sums_of_validator q list
+pub or_nothing_in : (list : List (ℕ × Sums)) (q : ℕ)
+    → or_nothing (sums_found list q) ≡ sums_of_validator q list
 or_nothing_in list q = by_member (is_member (eq_by_cmp nat_cmp) (keys_of list) q) refl
   where
     by_member : (b : Bool) → is_member (eq_by_cmp nat_cmp) (keys_of list) q ≡ b
-        → or_nothing (if b then Some (sums_of_validator q list) else None) ≡ sums_of_validator q list
+        → or_nothing (if b then Some (sums_of_validator q list) else None)
+        ≡ sums_of_validator q list
     by_member true is = refl
     by_member false is = ap add_all (sym (not_member list q is))
 
@@ -186,8 +189,10 @@ one_full before after sum kept kept_is over list are =
     let one = validator_sum sum in
     let old : sums_of kept ≡ sums_of_validator sum.validator list =
     kept_is ∙ ap or_nothing (are sum.validator) ∙ or_nothing_in list sum.validator in
-    let taps : kept.taps ≡ (sums_of_validator sum.validator list).taps = ap (λ (s : Sums). s.taps) old in
-    let whole : (sums_of_validator sum.validator (list ++ one ∷ [])).taps ≡ (sums_of_validator sum.validator list).taps
+    let taps : kept.taps ≡ (sums_of_validator sum.validator list).taps =
+    ap (λ (s : Sums). s.taps) old in
+    let whole : (sums_of_validator sum.validator (list ++ one ∷ [])).taps
+    ≡ (sums_of_validator sum.validator list).taps
     + sum.totals.taps = ap (λ (s : Sums). s.taps) (sums_at_same list one) in
     omega (arith, taps, whole, over)
 
@@ -197,7 +202,8 @@ unfolding sums_of_replies
 taps_nothing = refl
 
 pub taps_joined : (q : ℕ) (some more : List (ℕ × Sums))
-    → (sums_of_validator q (some ++ more)).taps ≡ (sums_of_validator q some).taps + (sums_of_validator q more).taps
+    → (sums_of_validator q (some ++ more)).taps
+    ≡ (sums_of_validator q some).taps + (sums_of_validator q more).taps
 taps_joined q [] more = let none = taps_nothing in omega (arith, none)
 taps_joined q (first ∷ some) more =
     elim (first.0 == q) as (λ b. (add_all (map (λ (sum : ℕ × Sums). sum.1)
@@ -272,8 +278,10 @@ first_full before now after all i sum within is so_far one list are small =
     let front = small_front (list ++ map validator_sum (take i all ++ sum ∷ []))
     (map validator_sum (drop (suc i) all)) (subst (λ some. AreSmall some) whole small) in
     let most = front sum.validator in
-    let same : (sums_of_validator sum.validator ((list ++ map validator_sum (take i all)) ++ validator_sum sum
-    ∷ [])).taps ≡ (sums_of_validator sum.validator (list ++ map validator_sum (take i all ++ sum ∷ []))).taps
+    let same : (sums_of_validator sum.validator
+    ((list ++ map validator_sum (take i all)) ++ validator_sum sum
+    ∷ [])).taps
+    ≡ (sums_of_validator sum.validator (list ++ map validator_sum (take i all ++ sum ∷ []))).taps
     =
     ap (λ list. (sums_of_validator sum.validator list).taps) (one_more list (take i all) sum) in
     omega (arith, over, most, same)
@@ -290,12 +298,14 @@ tokens_in fronts = sum_by (λ told. told.tokens) fronts
 
 totals_more : (fronts : List ToldFront) (told : ToldFront)
     → totals_in (fronts ++ told ∷ []) ≡ add_sums (totals_in fronts) told.totals
-totals_more fronts told = ap add_all (map-append (λ (told : ToldFront). told.totals) fronts (told ∷ []))
+totals_more fronts told =
+    ap add_all (map-append (λ (told : ToldFront). told.totals) fronts (told ∷ []))
     ∙ add_all_more (map (λ told. told.totals) fronts) told.totals
 
 validators_more : (fronts : List ToldFront) (told : ToldFront)
     → validators_in (fronts ++ told ∷ []) ≡ validators_in fronts ++ told.validators
-validators_more fronts told = flat_map-append (λ (told : ToldFront). told.validators) fronts (told ∷ [])
+validators_more fronts told =
+    flat_map-append (λ (told : ToldFront). told.validators) fronts (told ∷ [])
     ∙ ap (λ more. validators_in fronts ++ more) (append-nil told.validators)
 
 pub counted_none : (sums : WholeSums) → sums_of sums.totals ≡ sums_of_replies []
@@ -306,11 +316,13 @@ counted_none sums totals none tokens = record {
   tokens = tokens;
 }
 
-pub front_added : (before after : WholeSums) (front : Front) (fronts : List ToldFront) (told : ToldFront)
+pub front_added : (before after : WholeSums) (front : Front) (fronts : List ToldFront)
+    (told : ToldFront)
     → after.tokens ≡ before.tokens + front.tokens
     → sums_of after.totals ≡ add_sums (sums_of before.totals) (sums_of front.totals)
     → WithValidators before.validators after.validators front.validators.items true
-    → AreFrontsCounted before fronts → IsFront front told → AreFrontsCounted after (fronts ++ told ∷ [])
+    → AreFrontsCounted before fronts → IsFront front told
+    → AreFrontsCounted after (fronts ++ told ∷ [])
 front_added before after front fronts told tokens totals validators counted is =
     let sums = sum_by-append (λ (told : ToldFront). told.tokens) fronts (told ∷ []) in
     let old_tokens = counted.tokens in

@@ -14,11 +14,13 @@ use Rattle.report_texts.specs.Numbers.{AreCounts, IsUploadEnd, IsTokenSum}
 use Rattle.report_texts.specs.Numbers.{IsValidatorSum}
 use Rattle.fare_texts.specs.ReportLines.{number_line, token_line, validator_line}
 use Rattle.tap_views.specs.declared.fault.LayoutFault.{LayoutFault}
-use Rattle.tap_views.specs.declared.fault.LayoutFault.TheVariants.{Short, Magic, Flags, TooMany, Length, Moment}
+use Rattle.tap_views.specs.declared.fault.LayoutFault.TheVariants.{Short, Magic, Flags, TooMany}
+use Rattle.tap_views.specs.declared.fault.LayoutFault.TheVariants.{Length, Moment}
 use Rattle.report_texts.specs.Numbers.{IsNameAlone}
 use Rattle.report_texts.specs.inside.EndWords.{end_words, fault_number, fault_words}
 use Rattle.report_texts.specs.declared.upload_end.UploadEnd.{UploadEnd}
-use Rattle.report_texts.specs.declared.upload_end.UploadEnd.TheVariants.{Posted, Refused, Cut, Undrawn}
+use Rattle.report_texts.specs.declared.upload_end.UploadEnd.TheVariants.{Posted, Refused, Cut}
+use Rattle.report_texts.specs.declared.upload_end.UploadEnd.TheVariants.{Undrawn}
 use Rattle.report_texts.proofs.EndTexts.{line_words, refused_spelt, small_number}
 use Rattle.std.specs.Prelude.{◌==◌, if◌then◌else◌}
 use Rattle.part_reports.specs.Ledgers.{IsLedgerEntryLine}
@@ -170,7 +172,8 @@ pub validator_line_unique : (a b : ℕ × Sums) (x y : List ℕ) → IsValidator
     → validator_line a ++ x ≡ validator_line b ++ y → (a ≡ b) × (x ≡ y)
 validator_line_unique a b x y fits fits_too is =
     let (same, one) = counted_step (validator_line a ++ x) (validator_line b ++ y)
-    (codes "validator ") a.0 b.0 (codes " " ++ (counts_text a.1 ++ x)) (codes " " ++ (counts_text b.1 ++ y))
+    (codes "validator ") a.0 b.0 (codes " " ++ (counts_text a.1 ++ x))
+    (codes " " ++ (counts_text b.1 ++ y))
     is (validator_counted a x fits) (validator_counted b y fits_too) in
     let (sums, rest) = counts_line_unique a.1 b.1 x y fits.counts fits_too.counts
     (append_cancel_left (codes " ") (counts_text a.1 ++ x) (counts_text b.1 ++ y) one) in

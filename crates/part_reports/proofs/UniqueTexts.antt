@@ -80,13 +80,15 @@ same_report : (a b : Report) → a.ends ≡ b.ends → a.totals ≡ b.totals
 same_report a b ends totals validators tokens =
     λ i. record { ends = ends i; totals = totals i; validators = validators i; tokens = tokens i }
 
-pub report_unique : (a b : Report) → HasTapNumbers a → HasTapNumbers b → report_text a ≡ report_text b
+pub report_unique : (a b : Report) → HasTapNumbers a → HasTapNumbers b
+    → report_text a ≡ report_text b
     → a ≡ b
 report_unique a b fits fits_too is =
     let (number, one) = number_line_unique (codes "uploads ") (length a.ends) (length b.ends) _ _
     fits.number fits_too.number (sym (text_spelt a) ∙ is ∙ text_spelt b) in
     let (ends, two) = ends_unique 0 a.ends b.ends _ _ number
-    (recursion_from_All IsUploadEnd a.ends fits.ends) (recursion_from_All IsUploadEnd b.ends fits_too.ends) one
+    (recursion_from_All IsUploadEnd a.ends fits.ends)
+    (recursion_from_All IsUploadEnd b.ends fits_too.ends) one
     in
     let (totals, three) = totals_line_unique a.totals b.totals _ _ fits.totals fits_too.totals two
     in
@@ -146,7 +148,8 @@ entries_unique (a ∷ ps) (b ∷ qs) fit fit_too is =
     let rest = entries_unique ps qs fit.1 fit_too.1 more in
     λ i. same i ∷ rest i
 
-pub ledger_unique : (a b : List TokenLine) (text : List ℕ) → IsPartLedger a text → IsPartLedger b text
+pub ledger_unique : (a b : List TokenLine) (text : List ℕ) → IsPartLedger a text
+    → IsPartLedger b text
     → a ≡ b
 ledger_unique a b text is is_too =
     entries_unique a b (recursion_from_All IsLedgerEntryLine a is.each)

@@ -1,5 +1,6 @@
 -- Two texts, held against each other line by line.
-use Rattle.std.proofs.Common.{◌≡◌, ◌==◌, ℕ, ◌+◌, ◌<◌, ◌≤◌, ◌⊎◌, Bool, cond, List, [], ◌∷◌, ◌++◌, length, refl, sym, ap}
+use Rattle.std.proofs.Common.{◌≡◌, ◌==◌, ℕ, ◌+◌, ◌<◌, ◌≤◌, ◌⊎◌, Bool, cond, List, [], ◌∷◌, ◌++◌}
+use Rattle.std.proofs.Common.{length, refl, sym, ap}
 use Rattle.std.proofs.Common.{◌∙◌, inl, inr, arith, append_assoc, append-nil, length-append}
 use Rattle.std.proofs.lemmas.Bool.{ne_eqb}
 use Rattle.std.proofs.lemmas.List.Sums.{sum_by-append, sum_by-cons}
@@ -57,7 +58,8 @@ suffix_ends (x ∷ a) b (y ∷ front) is =
 pub ends_behind : (left line behind : List ℕ) → 0 < length left → left ≡ line ++ behind
     → (left ≡ []) ⊎ EndsWithFeed left → (behind ≡ []) ⊎ EndsWithFeed behind
 ends_behind left line behind some is (inl none) =
-    let zero : length left ≡ 0 = ap (λ (t : List ℕ). length t) none in absurd (omega (arith, some, zero))
+    let zero : length left ≡ 0 = ap (λ (t : List ℕ). length t) none in
+    absurd (omega (arith, some, zero))
 ends_behind left line behind some is (inr ends) =
     suffix_ends line behind ends.0 (sym is ∙ ends.1)
 
@@ -71,14 +73,16 @@ pub wrong_line : (text wanted before left rest line behind : List ℕ) (number :
     → wanted ≡ before ++ left → text ≡ before ++ rest → number ≡ line_feeds before + 1
     → 0 < length left → IsLine line → left ≡ line ++ behind
     → ((more : List ℕ) → ¬ (rest ≡ line ++ more)) → IsWrongLine text wanted number line
-wrong_line text wanted before left rest line behind number whole wants has counted some is split wrong =
+wrong_line text wanted before left rest line behind number whole wants has counted some is split
+    wrong =
     record {
       before = before;
       whole = whole;
       counted = counted;
       left = left;
       some = λ none.
-          let zero : length left ≡ 0 = ap (λ (t : List ℕ). length t) none in omega (arith, some, zero);
+          let zero : length left ≡ 0 = ap (λ (t : List ℕ). length t) none in
+          omega (arith, some, zero);
       wants = wants;
       line_is = taken_line left line behind is split;
       rest = rest;

@@ -1,5 +1,6 @@
 -- The fields of an entry's line, and what its cents can be.
-use Rattle.std.proofs.Common.{◌≡◌, ℕ, ◌≤◌, Bool, true, false, List, [], ◌∷◌, ◌++◌, Option, Some, None}
+use Rattle.std.proofs.Common.{◌≡◌, ℕ, ◌≤◌, Bool, true, false, List, [], ◌∷◌, ◌++◌, Option, Some}
+use Rattle.std.proofs.Common.{None}
 use Rattle.std.proofs.Common.{refl, sym, ap, subst, ◌∙◌, append_assoc, option_map}
 use Rattle.std.specs.Fmt.{decimal}
 use Rattle.hex.specs.Hex.{encode_lower}
@@ -17,13 +18,15 @@ use Rattle.account_rule.specs.Trips.{ends_in_transfer}
 use Rattle.account_rule.specs.Windows.{windows}
 use Rattle.account_rule.specs.declared.reason.Reason.{Reason}
 use Rattle.account_rule.specs.declared.reply.Answer.{Answer}
-use Rattle.account_rule.specs.declared.reply.Answer.TheVariants.{Paid, Transfer, Capped, Stale, Unknown}
+use Rattle.account_rule.specs.declared.reply.Answer.TheVariants.{Paid, Transfer, Capped, Stale}
+use Rattle.account_rule.specs.declared.reply.Answer.TheVariants.{Unknown}
 use Rattle.account_rule.specs.declared.reply.Reply.{Reply}
 use Rattle.account_rule.specs.declared.tap.TapIn.{TapIn}
 use Rattle.account_rule.specs.declared.window.Window.{Window}
 use Rattle.account_rule.specs.inside.Kept.{window_at}
 use Rattle.account_rule.proofs.FareLemmas.{free-few, ride-few}
-use Rattle.account_rule.proofs.StepLemmas.{is_live, reply_live, reply_ride, reply_stale, reply_transfer}
+use Rattle.account_rule.proofs.StepLemmas.{is_live, reply_live, reply_ride, reply_stale}
+use Rattle.account_rule.proofs.StepLemmas.{reply_transfer}
 use Rattle.account_rule.proofs.StepLemmas.{reply_unknown}
 use Rattle.account_rule.proofs.TapLemmas.{last_window-ride}
 use Rattle.account_rule.proofs.WindowLemmas.{charge-after}
@@ -87,15 +90,18 @@ ride_most : (rules : TokenRules) (taps : List TapIn) (tap : TapIn) (mode : Mode)
 unfolding live_at
 ride_most rules taps tap mode known later ends bounds =
     let terms = rules.terms (live_at tap.moment mode) in
-    let shown : live_tap taps tap ≡ Some (live_at tap.moment mode) = is_live taps tap mode known later in
+    let shown : live_tap taps tap ≡ Some (live_at tap.moment mode) =
+    is_live taps tap mode known later in
     let window : Window =
-    window_at (window_of rules (last_block (windows rules taps))) tap.moment (rules.until tap.moment) in
+    window_at (window_of rules (last_block (windows rules taps))) tap.moment
+    (rules.until tap.moment) in
     ride-few terms window.rides window.cents (reply rules taps tap) bounds
     (reply_live rules taps tap mode known later
     ∙ reply_ride rules (taps ++ tap ∷ []) ends
     ∙ rw (
       last_window-ride rules taps tap (live_at tap.moment mode) shown ends,
-      charge-after rules (last_block (windows rules taps)) (live_at tap.moment mode) terms refl bounds,
+      charge-after rules (last_block (windows rules taps)) (live_at tap.moment mode) terms refl
+          bounds,
     ) refl)
 
 live_most : (rules : TokenRules) (taps : List TapIn) (tap : TapIn) (mode : Mode)
@@ -118,7 +124,8 @@ known_most rules taps tap mode known bounds = by (is_later taps tap.moment) refl
   where
     by : (b : Bool) → is_later taps tap.moment ≡ b → (reply rules taps tap).cents ≤ 100_000
     by true later = live_most rules taps tap mode known later bounds
-    by false stale = free-few (reply rules taps tap) Stale (reply_stale rules taps tap mode known stale)
+    by false stale = free-few (reply rules taps tap) Stale
+        (reply_stale rules taps tap mode known stale)
 
 reply_most : (rules : TokenRules) (taps : List TapIn) (tap : TapIn)
     → ((mode : Mode) → tap.mode ≡ Some mode → AreRideTerms (rules.terms (live_at tap.moment mode)))
@@ -141,7 +148,8 @@ terms_at_entry fares entry bounds mode is = by (mode_at fares entry.validator) r
     by None at none = absurd (cc)
     by (Some place) at one =
         let same : mode_of_place place ≡ mode = cc in
-        subst (λ (m : Mode). AreRideTerms (ride_terms fares (class_of fares (bytes_of entry.token)) m.place))
+        subst (λ (m : Mode). AreRideTerms
+        (ride_terms fares (class_of fares (bytes_of entry.token)) m.place))
         same (bounds place at)
 
 pub cents_most : (fares : Fares) (earlier : List Entry) (entry : Entry)

@@ -1,6 +1,7 @@
 -- Sums to which entries are added one by one.
 use Rattle.std.proofs.Common.{◌≡◌, ◌==◌, ◌+◌, ◌<◌, ◌≤◌, List, [], ◌∷◌, ◌++◌, length, map, All}
-use Rattle.std.proofs.Common.{sym, ap, subst, ◌∙◌, arith, append-nil, append_assoc, length-append, suc}
+use Rattle.std.proofs.Common.{sym, ap, subst, ◌∙◌, arith, append-nil, append_assoc, length-append}
+use Rattle.std.proofs.Common.{suc}
 use Rattle.std.specs.declared.cmp.Ordering.TheVariants.{Less, Greater}
 use Rattle.std.specs.Prelude.{Option, Some}
 use Rattle.std.proofs.lemmas.List.Elements.{All-append, All-cons, All-head, All-map, All-nil}
@@ -46,7 +47,9 @@ as_below : (token : Token) (entries : List Entry)
     → AreBelow (map token_of entries) (token ∷ [])
 as_below token entries below =
     All-map (λ (t : Token). All (λ (o : Token). token_cmp t o ≡ Less) (token ∷ [])) token_of entries
-    (All-weaker (λ (e : Entry). token_cmp e.token token ≡ Less) (λ (e : Entry). All (λ (o : Token). token_cmp e.token o ≡ Less) (token ∷ [])) (λ e less. All-cons (λ (o : Token). token_cmp e.token o ≡ Less) token [] less
+    (All-weaker (λ (e : Entry). token_cmp e.token token ≡ Less)
+    (λ (e : Entry). All (λ (o : Token). token_cmp e.token o ≡ Less) (token ∷ []))
+    (λ e less. All-cons (λ (o : Token). token_cmp e.token o ≡ Less) token [] less
     (All-nil (λ (o : Token). token_cmp e.token o ≡ Less))) entries below)
 
 -- the sums by token, with those of the last
@@ -55,8 +58,10 @@ pub closed : (entries : List Entry) (tokens : List (Token × Sums)) (held : Open
     → tokens ++ (held.token, sums_of_tally held.tally) ∷ [] ≡ sums_by_token entries
 closed entries tokens held is some =
     let below : AreBelow (map token_of is.lower) (map token_of is.run) =
-    below_same (map token_of is.lower) held.token is.run (as_below held.token is.lower is.below) is.its in
-    ap (λ (ts : List (Token × Sums)). ts ++ (held.token, sums_of_tally held.tally) ∷ []) is.tokens_are
+    below_same (map token_of is.lower) held.token is.run (as_below held.token is.lower is.below)
+    is.its in
+    ap (λ (ts : List (Token × Sums)). ts ++ (held.token, sums_of_tally held.tally) ∷ [])
+    is.tokens_are
     ∙ ap (λ (s : Sums). sums_by_token is.lower ++ (held.token, s) ∷ []) is.tally
     ∙ ap (λ (ts : List (Token × Sums)). sums_by_token is.lower ++ ts)
     (sym (one_token_list held.token is.run some is.its))
@@ -71,11 +76,14 @@ all_below entries tokens held is next less =
     let P : Entry → Type 0 = λ e. token_cmp e.token next ≡ Less in
     subst (λ (es : List Entry). All P es) (sym is.both)
     (All-append P is.lower is.run
-    (All-weaker (λ (e : Entry). token_cmp e.token held.token ≡ Less) P (λ e low. token_cmp-total.trans e.token held.token next low less) is.lower is.below)
-    (All-weaker (λ (e : Entry). e.token ≡ held.token) P (λ e same. ap (λ (t : Token). token_cmp t next) same ∙ less) is.run is.its))
+    (All-weaker (λ (e : Entry). token_cmp e.token held.token ≡ Less) P
+    (λ e low. token_cmp-total.trans e.token held.token next low less) is.lower is.below)
+    (All-weaker (λ (e : Entry). e.token ≡ held.token) P
+    (λ e same. ap (λ (t : Token). token_cmp t next) same ∙ less) is.run is.its))
 
 -- a run that a higher token follows, of which no entry was added yet
-pub run_of_next : (entries : List Entry) (tokens tokens' : List (Token × Sums)) (last held : OpenToken)
+pub run_of_next : (entries : List Entry) (tokens tokens' : List (Token × Sums))
+    (last held : OpenToken)
     (is : IsRunOf entries tokens last) → 0 < length is.run → token_cmp last.token held.token ≡ Less
     → Fits held.token → sums_of_tally held.tally ≡ sums_of_replies []
     → tokens' ≡ tokens ++ (last.token, sums_of_tally last.tally) ∷ [] → IsRunOf entries tokens' held
@@ -91,7 +99,8 @@ run_of_next entries tokens tokens' last held is some less fits tally pushed = re
 }
 
 -- an entry has a token above one that is below the last
-pub below_last : (entries : List Entry) (tokens : List (Token × Sums)) (last : OpenToken) (token : Token)
+pub below_last : (entries : List Entry) (tokens : List (Token × Sums)) (last : OpenToken)
+    (token : Token)
     (is : IsRunOf entries tokens last) → 0 < length is.run → Fits token
     → token_cmp last.token token ≡ Greater → IsBelow token entries
 below_last entries tokens last token is some fits greater all =
@@ -119,7 +128,8 @@ below_last entries tokens last token is some fits greater all =
         omega (arith, here, same, above)
 
 -- an entry more of the held token
-pub run_more : (entries : List Entry) (tokens : List (Token × Sums)) (held after : OpenToken) (entry : Entry)
+pub run_more : (entries : List Entry) (tokens : List (Token × Sums)) (held after : OpenToken)
+    (entry : Entry)
     → IsRunOf entries tokens held → entry.token ≡ held.token → after.token ≡ held.token
     → sums_of_tally after.tally
     ≡ add_sums (sums_of_tally held.tally) (sums_of_replies (reply_of entry ∷ []))
@@ -155,7 +165,8 @@ run_few entries tokens held is =
     omega (arith, taps, both)
 
 -- an entry more in all sums
-pub entry_added : (entries : List Entry) (old new : OpenSums) (held after : OpenToken) (entry : Entry)
+pub entry_added : (entries : List Entry) (old new : OpenSums) (held after : OpenToken)
+    (entry : Entry)
     → AreOpenSums entries old → IsRunOf entries new.tokens held → held.token ≡ entry.token
     → new.last ≡ Some after → after.token ≡ held.token
     → sums_of_tally after.tally
@@ -164,15 +175,17 @@ pub entry_added : (entries : List Entry) (old new : OpenSums) (held after : Open
     → sums_of_tally new.totals
     ≡ add_sums (sums_of_tally old.totals) (sums_of_replies (reply_of entry ∷ []))
     → new.entries ≡ old.entries + 1 → AreOpenSums (entries ++ entry ∷ []) new
-entry_added entries old new held after entry are run same last kept tally validators totals counted = record {
-  split = subst (λ (l : Option OpenToken). IsSplitAt (entries ++ entry ∷ []) new.tokens l) (sym last)
-      (run_more entries new.tokens held after entry run (sym same) kept tally);
-  validators = validators;
-  totals = totals
-      ∙ ap (λ (s : Sums). add_sums s (sums_of_replies (reply_of entry ∷ []))) are.totals
-      ∙ sym (sums-append entries (entry ∷ []));
-  counted = omega (arith, counted, are.counted, length-append entries (entry ∷ []));
-}
+entry_added entries old new held after entry are run same last kept tally validators totals
+    counted = record {
+      split = subst (λ (l : Option OpenToken). IsSplitAt (entries ++ entry ∷ []) new.tokens l)
+          (sym last)
+          (run_more entries new.tokens held after entry run (sym same) kept tally);
+      validators = validators;
+      totals = totals
+          ∙ ap (λ (s : Sums). add_sums s (sums_of_replies (reply_of entry ∷ []))) are.totals
+          ∙ sym (sums-append entries (entry ∷ []));
+      counted = omega (arith, counted, are.counted, length-append entries (entry ∷ []));
+    }
 
 -- as many taps in all as entries
 pub all_few : (entries : List Entry) (held : OpenSums) → AreOpenSums entries held

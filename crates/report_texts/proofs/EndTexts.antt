@@ -1,17 +1,20 @@
 -- How an upload ended, at the end of its line.
-use Rattle.std.proofs.Common.{◌≡◌, ℕ, ◌<◌, ◌^◌, ◌++◌, ◌+◌, ◌∷◌, [], List, refl, sym, ap, ◌∙◌, append_assoc, arith, codes}
+use Rattle.std.proofs.Common.{◌≡◌, ℕ, ◌<◌, ◌^◌, ◌++◌, ◌+◌, ◌∷◌, [], List, refl, sym, ap, ◌∙◌}
+use Rattle.std.proofs.Common.{append_assoc, arith, codes}
 use Rattle.std.specs.Fmt.{decimal}
 use Rattle.std.proofs.lemmas.Fmt.{decimal_digit}
 use Rattle.tap_views.specs.Names.{fault_name}
 use Rattle.tap_views.specs.declared.fault.LayoutFault.{LayoutFault}
-use Rattle.tap_views.specs.declared.fault.LayoutFault.TheVariants.{Short, Magic, Flags, TooMany, Length, Moment}
+use Rattle.tap_views.specs.declared.fault.LayoutFault.TheVariants.{Short, Magic, Flags, TooMany}
+use Rattle.tap_views.specs.declared.fault.LayoutFault.TheVariants.{Length, Moment}
 use Rattle.fare_texts.specs.ReportLines.{number_line}
 use Rattle.report_texts.specs.Numbers.{IsUploadEnd}
 use Rattle.report_texts.specs.Report.{upload_line}
 use Rattle.report_texts.specs.inside.Counted.{BeginsWithNoDigit}
 use Rattle.report_texts.specs.inside.EndWords.{end_words, fault_number, fault_words}
 use Rattle.report_texts.specs.declared.upload_end.UploadEnd.{UploadEnd}
-use Rattle.report_texts.specs.declared.upload_end.UploadEnd.TheVariants.{Posted, Refused, Cut, Undrawn}
+use Rattle.report_texts.specs.declared.upload_end.UploadEnd.TheVariants.{Posted, Refused, Cut}
+use Rattle.report_texts.specs.declared.upload_end.UploadEnd.TheVariants.{Undrawn}
 
 pub end_begins : (end : UploadEnd) → BeginsWithNoDigit (end_words end)
 end_begins end = refl
@@ -34,7 +37,8 @@ name_spelt (Moment index) = named_by 6 (omega arith)
 
 -- the end of a refused upload, number behind number
 pub refused_spelt : (taps offset : ℕ) (fault : LayoutFault)
-    → end_words (Refused taps offset fault) ≡ codes " refused " ++ (decimal taps ++ fault_words offset fault)
+    → end_words (Refused taps offset fault)
+    ≡ codes " refused " ++ (decimal taps ++ fault_words offset fault)
 refused_spelt taps offset fault =
     let named = ap (λ (t : List ℕ). decimal offset ++ (codes " " ++ (t ++ codes "\n")))
     (name_spelt fault) in

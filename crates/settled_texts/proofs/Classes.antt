@@ -1,5 +1,6 @@
 -- Classes that are kept of riders.
-use Rattle.std.proofs.Common.{◌≡◌, ◌∙◌, ℕ, List, Bool, true, false, Option, Some, None, refl, sym, ap, subst}
+use Rattle.std.proofs.Common.{◌≡◌, ◌∙◌, ℕ, List, Bool, true, false, Option, Some, None, refl, sym}
+use Rattle.std.proofs.Common.{ap, subst}
 use Rattle.std.specs.Prelude.{is_some, option_map, unwrap_or, if◌then◌else◌, string_bytes, String}
 use Rattle.std.specs.BTreeMap.{BTreeMap, is_at}
 use Rattle.std.specs.Cmp.Lexicographic.{slice_cmp}
@@ -7,7 +8,8 @@ use Rattle.std.specs.Map.{lookup}
 use Rattle.std.specs.Ordering.{nat_cmp}
 use Rattle.std.specs.declared.alloc.Global.{Global}
 use Rattle.toml.specs.Data.{Members, same_key}
-use Rattle.settled_texts.specs.Classes.{class_among, class_of_token, default_in, first_class, riders_in}
+use Rattle.settled_texts.specs.Classes.{class_among, class_of_token, default_in, first_class}
+use Rattle.settled_texts.specs.Classes.{riders_in}
 use Rattle.settled_texts.specs.Names.{rider_by}
 use Rattle.fare_table.proofs.KeyLemmas.{same_bytes}
 

@@ -1,5 +1,6 @@
 -- Lists one behind the other, and what goes out at once.
-use Rattle.std.proofs.Common.{◌≡◌, ℕ, ◌+◌, ◌<◌, List, [], ◌∷◌, ◌++◌, All, Option, Some, None, length}
+use Rattle.std.proofs.Common.{◌≡◌, ℕ, ◌+◌, ◌<◌, List, [], ◌∷◌, ◌++◌, All, Option, Some, None}
+use Rattle.std.proofs.Common.{length}
 use Rattle.std.proofs.Common.{take, drop, get_or, flat_map, refl, sym, ap, subst, ◌∙◌, append-nil}
 use Rattle.std.proofs.Common.{add-one, drop-cons, Vec, Global, Bor}
 use Rattle.std.specs.Prelude.{IfSome, slice_get}
@@ -37,7 +38,8 @@ joined_more lists place other within =
 -- the lists before one, that one and those behind it
 pub joined_at : (lists : List (Vec TapFields Global)) (place : ℕ) (other : Vec TapFields Global)
     → place < length lists
-    → joined (take place lists) ++ ((get_or lists place other).items ++ joined (drop (place + 1) lists))
+    → joined (take place lists)
+    ++ ((get_or lists place other).items ++ joined (drop (place + 1) lists))
     ≡ joined lists
 joined_at lists place other within =
     let f : Vec TapFields Global → List TapFields = λ list. list.items in
@@ -76,7 +78,8 @@ passed_on (Some x) (Some y) (Some z) text left bytes p e q =
     ap (λ t. z ++ t) e ∙ append-nil z ∙ q
     ∙ ap (λ t. t ++ bytes) (sym (append-nil y) ∙ ap (λ t. y ++ t) (sym e) ∙ p)
 
-pub joined_append : (xs ys : List (Vec TapFields Global)) → joined (xs ++ ys) ≡ joined xs ++ joined ys
+pub joined_append : (xs ys : List (Vec TapFields Global))
+    → joined (xs ++ ys) ≡ joined xs ++ joined ys
 joined_append xs ys = flat_map-append (λ (list : Vec TapFields Global). list.items) xs ys
 
 -- what holds of the element at a place holds of the one that is lent there

@@ -1,5 +1,6 @@
 -- What is told of taps, and of more taps behind them.
-use Rattle.std.proofs.Common.{◌≡◌, ℕ, ◌+◌, ◌<◌, List, [], ◌∷◌, ◌++◌, length, take, drop, get_or, Some}
+use Rattle.std.proofs.Common.{◌≡◌, ℕ, ◌+◌, ◌<◌, List, [], ◌∷◌, ◌++◌, length, take, drop, get_or}
+use Rattle.std.proofs.Common.{Some}
 use Rattle.std.specs.Prelude.{slice_get}
 use Rattle.std.proofs.Common.{refl, sym, ap, subst, ◌∙◌, append-nil, append_assoc, add-one}
 use Rattle.std.proofs.Common.{drop-cons}
@@ -92,7 +93,8 @@ one_told fares earlier tap teller next line its same come is told =
         line,
         [],
         subst (λ (t : Token). IsLedgerLineAfter fares t (own t earlier) entry line) here
-            (subst (λ (e : Entry). IsLedgerLineAfter fares teller.token (own teller.token earlier) e line)
+            (subst (λ (e : Entry). IsLedgerLineAfter fares teller.token (own teller.token earlier) e
+            line)
             of is),
         refl,
         sym (append-nil line),
@@ -136,7 +138,8 @@ pub fall_first : (token : Token) (taps : List TapFields) (first : TapFields)
 fall_first token [] first is no_fall = cc
 fall_first token (tap ∷ taps) first is (up, no_fall) =
     let same : tap ≡ first = cc in
-    subst (λ (t : TapFields). IsUpTo token (token_of_tap t) × NoTapFallsFrom (token_of_tap t) (tap ∷ taps))
+    subst (λ (t : TapFields). IsUpTo token (token_of_tap t)
+    × NoTapFallsFrom (token_of_tap t) (tap ∷ taps))
     same (up, (up_itself (token_of_tap tap), no_fall))
 
 -- where there is a tap, the last token does not depend on the one before

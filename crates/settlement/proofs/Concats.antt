@@ -54,7 +54,8 @@ after_others fares front earlier (tap ∷ taps) others =
 
 pub posted_append : (fares : Fares) (earlier : List Entry) (xs ys : List TapFields)
     → posted_after fares earlier (xs ++ ys)
-    ≡ posted_after fares earlier xs ++ posted_after fares (earlier ++ posted_after fares earlier xs) ys
+    ≡ posted_after fares earlier xs ++ posted_after fares (earlier ++ posted_after fares earlier xs)
+    ys
 unfolding posted_after
 posted_append fares earlier [] ys =
     ap (λ (es : List Entry). posted_after fares es ys) (sym (append-nil earlier))
@@ -100,7 +101,9 @@ all_keys P (key ∷ keys) all =
 below_keys : (xs ys : List Token) → AreBelow xs ys
     → AreBelow (rising token_cmp xs) (rising token_cmp ys)
 below_keys xs ys below =
-    All-weaker (λ t. All (λ o. token_cmp t o ≡ Less) ys) (λ t. All (λ o. token_cmp t o ≡ Less) (rising token_cmp ys)) (λ t all. all_keys (λ o. token_cmp t o ≡ Less) ys all) (rising token_cmp xs)
+    All-weaker (λ t. All (λ o. token_cmp t o ≡ Less) ys)
+    (λ t. All (λ o. token_cmp t o ≡ Less) (rising token_cmp ys))
+    (λ t all. all_keys (λ o. token_cmp t o ≡ Less) ys all) (rising token_cmp xs)
     (all_keys (λ t. All (λ o. token_cmp t o ≡ Less) ys) xs below)
 
 keys_joined : (xs ys : List Token) → AreBelow xs ys
@@ -174,14 +177,16 @@ by_token_joined xs ys below =
     let ky = map token_of ys in
     let f : Token → Sums = λ t. sums (own t (xs ++ ys)) in
     let front : All (λ t. f t ≡ sums (own t xs)) (rising token_cmp kx) =
-    All-weaker (λ t. All (λ o. token_cmp t o ≡ Less) ky) (λ t. f t ≡ sums (own t xs)) (λ t all. ap sums (filter-append (is_of t) xs ys
+    All-weaker (λ t. All (λ o. token_cmp t o ≡ Less) ky) (λ t. f t ≡ sums (own t xs))
+    (λ t all. ap sums (filter-append (is_of t) xs ys
     ∙ ap (λ (es : List Entry). filter (is_of t) xs ++ es)
     (none_of t ys (all_map (λ o. token_cmp t o ≡ Less) (λ o. token_eq o t ≡ false) ky
     (λ o less. less_apart t o less) all))
     ∙ append-nil (filter (is_of t) xs))) (rising token_cmp kx)
     (all_keys (λ t. All (λ o. token_cmp t o ≡ Less) ky) kx below) in
     let back : All (λ t. f t ≡ sums (own t ys)) (rising token_cmp ky) =
-    All-weaker (λ t. All (λ o. token_eq o t ≡ false) kx) (λ t. f t ≡ sums (own t ys)) (λ t all. ap sums (filter-append (is_of t) xs ys
+    All-weaker (λ t. All (λ o. token_eq o t ≡ false) kx) (λ t. f t ≡ sums (own t ys))
+    (λ t all. ap sums (filter-append (is_of t) xs ys
     ∙ ap (λ (es : List Entry). es ++ filter (is_of t) ys) (none_of t xs all))) (rising token_cmp ky)
     (all_keys (λ t. All (λ o. token_eq o t ≡ false) kx) ky (flipped kx ky below)) in
     ap (λ (ks : List Token). paired f (rising token_cmp ks)) (map-append token_of xs ys)

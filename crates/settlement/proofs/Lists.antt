@@ -25,7 +25,8 @@ parts_joined part_of part one other =
     ∙ fields-append part_of part (taps_of_uploads one) (taps_of_uploads other)
 
 -- a run of uploads, and then the next run
-pub both_split : (part_of : List ℕ → ℕ) (parts : ℕ) (one other : List (List ℕ)) (lists more : List (List (List TapFields)))
+pub both_split : (part_of : List ℕ → ℕ) (parts : ℕ) (one other : List (List ℕ))
+    (lists more : List (List (List TapFields)))
     (ends later : List UploadEnd)
     → AreInParts part_of parts one lists ends → AreInParts part_of parts other more later
     → AreInParts part_of parts (one ++ other) (lists ++ more) (ends ++ later)

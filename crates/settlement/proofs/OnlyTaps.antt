@@ -161,14 +161,16 @@ own_after fares token earlier alone (tap ∷ taps) same =
         (more (earlier ++ entry ∷ []) (alone ++ entry ∷ [])
         (more_here token earlier alone entry same))
         ∙ ap (λ (n : Entry). n ∷ posted_after fares (alone ++ n ∷ []) (only token taps)) e
-        ∙ sym (ap (λ (ts : List TapFields). posted_after fares alone ts) (only_here token tap taps is))
+        ∙ sym (ap (λ (ts : List TapFields). posted_after fares alone ts)
+        (only_here token tap taps is))
     by_test false is more =
         let entry = answered fares earlier (unposted tap) in
         let rest = posted_after fares (earlier ++ entry ∷ []) taps in
         let not = answered_of fares token earlier tap false is in
         own_other token entry rest not
         ∙ more (earlier ++ entry ∷ []) alone (more_not token earlier alone entry not same)
-        ∙ sym (ap (λ (ts : List TapFields). posted_after fares alone ts) (only_not token tap taps is))
+        ∙ sym (ap (λ (ts : List TapFields). posted_after fares alone ts)
+        (only_not token tap taps is))
 
 -- the entries of a token are those of its taps, posted alone
 pub own_posted : (fares : Fares) (token : Token) (taps : List TapFields)

@@ -11,7 +11,8 @@ use Rattle.std.specs.declared.cmp.Ordering.TheVariants.{Less, Greater}
 use Rattle.std.proofs.lemmas.Bool.{cases_lt}
 use Rattle.std.proofs.lemmas.Cmp.{nat_list_cmp_total}
 use Rattle.std.proofs.lemmas.List.{map-append}
-use Rattle.std.proofs.lemmas.List.Elements.{All-append, All-cons, All-head, All-map, All-nil, All-tail}
+use Rattle.std.proofs.lemmas.List.Elements.{All-append, All-cons, All-head, All-map, All-nil}
+use Rattle.std.proofs.lemmas.List.Elements.{All-tail}
 use Rattle.std.proofs.lemmas.List.Elements.{All-weaker}
 use Rattle.std.proofs.lemmas.List.Sorted.{All-permutation}
 use Rattle.tap_views.proofs.TokenBytes.{back_byte, front_byte, token-order, two_numbers}
@@ -98,8 +99,11 @@ to_tokens taps others below =
     All-map (λ token. All (λ other. token_cmp token other ≡ Less) (map token_of_tap others))
     token_of_tap taps
     (All-weaker (λ (tap : TapFields). All (λ (other : TapFields).
-    token_cmp (token_of_tap tap) (token_of_tap other) ≡ Less) others) (λ (tap : TapFields). All (λ other. token_cmp (token_of_tap tap) other ≡ Less)
-    (map token_of_tap others)) (λ tap all. All-map (λ other. token_cmp (token_of_tap tap) other ≡ Less) token_of_tap others all) taps
+    token_cmp (token_of_tap tap) (token_of_tap other) ≡ Less) others)
+    (λ (tap : TapFields). All (λ other. token_cmp (token_of_tap tap) other ≡ Less)
+    (map token_of_tap others))
+    (λ tap all. All-map (λ other. token_cmp (token_of_tap tap) other ≡ Less) token_of_tap others
+    all) taps
     below)
 
 pub to_taps : (taps others : List TapFields)
@@ -107,8 +111,11 @@ pub to_taps : (taps others : List TapFields)
 to_taps taps others below =
     All-weaker (λ (tap : TapFields). All (λ other. token_cmp (token_of_tap tap) other ≡ Less)
     (map token_of_tap others)) (λ (tap : TapFields). All (λ (other : TapFields).
-    token_cmp (token_of_tap tap) (token_of_tap other) ≡ Less) others) (λ tap all. All-unmap (λ other. token_cmp (token_of_tap tap) other ≡ Less) token_of_tap others all) taps
-    (All-unmap (λ token. All (λ other. token_cmp token other ≡ Less) (map token_of_tap others)) token_of_tap taps
+    token_cmp (token_of_tap tap) (token_of_tap other) ≡ Less) others)
+    (λ tap all. All-unmap (λ other. token_cmp (token_of_tap tap) other ≡ Less) token_of_tap others
+    all) taps
+    (All-unmap (λ token. All (λ other. token_cmp token other ≡ Less) (map token_of_tap others))
+    token_of_tap taps
     below)
 
 -- the order of the taps is of no account
@@ -116,8 +123,10 @@ moved_below : (taps others list more : List TapFields) → IsCanonical taps list
     → IsCanonical others more → AreTapsBelow taps others → AreTapsBelow list more
 moved_below taps others list more one other below =
     All-weaker (λ (tap : TapFields). All (λ (o : TapFields).
-    token_cmp (token_of_tap tap) (token_of_tap o) ≡ Less) others) (λ (tap : TapFields). All (λ (o : TapFields).
-    token_cmp (token_of_tap tap) (token_of_tap o) ≡ Less) more) (λ tap all. All-permutation (λ (o : TapFields).
+    token_cmp (token_of_tap tap) (token_of_tap o) ≡ Less) others)
+    (λ (tap : TapFields). All (λ (o : TapFields).
+    token_cmp (token_of_tap tap) (token_of_tap o) ≡ Less) more)
+    (λ tap all. All-permutation (λ (o : TapFields).
     token_cmp (token_of_tap tap) (token_of_tap o) ≡ Less) others more other.moved all) list
     (All-permutation (λ (tap : TapFields). All (λ (o : TapFields).
     token_cmp (token_of_tap tap) (token_of_tap o) ≡ Less) others) taps list one.moved below)
@@ -133,13 +142,15 @@ moved_tokens taps others list more one other below =
 -- canonical lists of parts in order are in order
 zip_below : (part list : List TapFields) (parts lists : List (List TapFields))
     → IsCanonical part list → AllZip IsCanonical parts lists
-    → All (λ later. AreTokensBelow part later) parts → All (λ later. AreTokensBelow list later) lists
+    → All (λ later. AreTokensBelow part later) parts
+    → All (λ later. AreTokensBelow list later) lists
 zip_below part list [] [] is zip below = All-nil (λ later. AreTokensBelow list later)
 zip_below part list [] (l ∷ lists) is zip below = absurd zip
 zip_below part list (p ∷ parts) [] is zip below = absurd zip
 zip_below part list (p ∷ parts) (l ∷ lists) is zip below =
     All-cons (λ later. AreTokensBelow list later) l lists
-    (moved_tokens part p list l is zip.0 (All-head (λ later. AreTokensBelow part later) p parts below))
+    (moved_tokens part p list l is zip.0
+    (All-head (λ later. AreTokensBelow part later) p parts below))
     (zip_below part list parts lists is zip.1
     (All-tail (λ later. AreTokensBelow part later) p parts below))
 
@@ -169,9 +180,11 @@ others_of entries (tap ∷ taps) below = (
         (token_eq-sym t (token_of_tap tap)
         ∙ less_apart t (token_of_tap tap)
         (All-head (λ o. token_cmp t o ≡ Less) (token_of_tap tap) (map token_of_tap taps)
-        (All-head (λ s. All (λ o. token_cmp s o ≡ Less) (map token_of_tap (tap ∷ taps))) t tokens all)))
+        (All-head (λ s. All (λ o. token_cmp s o ≡ Less) (map token_of_tap (tap ∷ taps))) t tokens
+        all)))
         (heads tokens
-        (All-tail (λ s. All (λ o. token_cmp s o ≡ Less) (map token_of_tap (tap ∷ taps))) t tokens all))
+        (All-tail (λ s. All (λ o. token_cmp s o ≡ Less) (map token_of_tap (tap ∷ taps))) t tokens
+        all))
 
     tails : (tokens : List Token) → AreBelow tokens (map token_of_tap (tap ∷ taps))
         → AreBelow tokens (map token_of_tap taps)
@@ -179,9 +192,11 @@ others_of entries (tap ∷ taps) below = (
     tails (t ∷ tokens) all =
         All-cons (λ s. All (λ o. token_cmp s o ≡ Less) (map token_of_tap taps)) t tokens
         (All-tail (λ o. token_cmp t o ≡ Less) (token_of_tap tap) (map token_of_tap taps)
-        (All-head (λ s. All (λ o. token_cmp s o ≡ Less) (map token_of_tap (tap ∷ taps))) t tokens all))
+        (All-head (λ s. All (λ o. token_cmp s o ≡ Less) (map token_of_tap (tap ∷ taps))) t tokens
+        all))
         (tails tokens
-        (All-tail (λ s. All (λ o. token_cmp s o ≡ Less) (map token_of_tap (tap ∷ taps))) t tokens all))
+        (All-tail (λ s. All (λ o. token_cmp s o ≡ Less) (map token_of_tap (tap ∷ taps))) t tokens
+        all))
 
 -- the history of taps below others, and of these, is both histories
 pub posted_below : (fares : Fares) (taps others : List TapFields) → AreTokensBelow taps others
@@ -246,7 +261,8 @@ pub in_order_at : (parts : List (List TapFields))
 in_order_at [] at = tt
 in_order_at (part ∷ parts) at = (
   firsts parts (λ q below. at 0 (suc q) (omega arith) (omega (arith, below))),
-  in_order_at parts (λ p q less below. at (suc p) (suc q) (omega (arith, less)) (omega (arith, below))),
+  in_order_at parts
+      (λ p q less below. at (suc p) (suc q) (omega (arith, less)) (omega (arith, below))),
 )
   where
     firsts : (later : List (List TapFields))

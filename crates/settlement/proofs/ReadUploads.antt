@@ -1,5 +1,6 @@
 -- Uploads that were read one after another.
-use Rattle.std.proofs.Common.{◌≡◌, ℕ, ◌+◌, ◌-◌, ◌<◌, ◌≤◌, List, ◌∷◌, ◌++◌, All, length, map, get_or, []}
+use Rattle.std.proofs.Common.{◌≡◌, ℕ, ◌+◌, ◌-◌, ◌<◌, ◌≤◌, List, ◌∷◌, ◌++◌, All, length, map, get_or}
+use Rattle.std.proofs.Common.{[]}
 use Rattle.std.proofs.Common.{ap, ◌∙◌, sym, subst, arith, inl, inr, length-append}
 use Rattle.std.specs.Prelude.{◌⊎◌}
 use Rattle.std.proofs.lemmas.Bool.{cases_lt}
@@ -91,7 +92,8 @@ no_run may_be start part_of parts = record {
 }
 
 pub run_more : (may_be : ℕ → List ℕ → Type 0) (start upload : ℕ) (part_of : List ℕ → ℕ)
-    (old now new : List (List TapFields)) (ends : List UploadEnd) (file : List ℕ) (added : UploadTaps)
+    (old now new : List (List TapFields)) (ends : List UploadEnd) (file : List ℕ)
+    (added : UploadTaps)
     (end : UploadEnd) → IsRunAdded may_be start upload part_of old now ends → may_be upload file
     → HasGoodTokens file → IsUploadAddedBy part_of file now new added
     → end ≡ end_by added.taps added.fault

@@ -3,7 +3,8 @@ use Rattle.std.proofs.Common.{◌≡◌, ◌≢◌, ℕ, ◌+◌, ◌-◌, ◌<�
 use Rattle.std.proofs.Common.{map, take, drop, ap, sym, subst, ◌∙◌, arith, All, length-append}
 use Rattle.std.specs.List.Sorted.{IsSorted}
 use Rattle.std.specs.declared.cmp.Ordering.TheVariants.{Less}
-use Rattle.std.proofs.lemmas.List.{get_or-drop, get_or-take, get_or_default, length-drop, length-take}
+use Rattle.std.proofs.lemmas.List.{get_or-drop, get_or-take, get_or_default, length-drop}
+use Rattle.std.proofs.lemmas.List.{length-take}
 use Rattle.std.proofs.lemmas.List.{length-take-le}
 use Rattle.std.proofs.lemmas.List.{map-append, take_all}
 use Rattle.std.proofs.lemmas.List.Elements.{All-append, All-drop, All-map, All-take, All-weaker}
@@ -137,7 +138,8 @@ run_below fares taps place run before edge within is below =
     let P : Token → Type 0 =
     λ token. All (λ o. token_cmp token o ≡ Less) (map token_of_tap (take run (drop place taps))) in
     let old : AreBelow (map token_of before) (map token_of_tap (take run (drop place taps))) =
-    All-weaker (λ token. All (λ o. token_cmp token o ≡ Less) (map token_of_tap taps)) P (λ token all. narrow token taps place run all) (map token_of before) below in
+    All-weaker (λ token. All (λ o. token_cmp token o ≡ Less) (map token_of_tap taps)) P
+    (λ token all. narrow token taps place run all) (map token_of before) below in
     let new : AreBelow (map token_of (posted fares (take place taps)))
     (map token_of_tap (take run (drop place taps))) =
     subst (λ tokens. AreBelow tokens (map token_of_tap (take run (drop place taps))))

@@ -68,11 +68,13 @@ module _ (uploads : List (List ℕ)) (ends : List UploadEnd) (parts : List (List
   sound_parts = (λ part d there.
       let here = get_or_default parts part d [] there in
       subst IsSoundPart (sym here) (record {
-        early = subst (λ ts. AreEarly (λ (tap : TapFields). tap.moment) ts) (sym (split.each part there))
+        early = subst (λ ts. AreEarly (λ (tap : TapFields). tap.moment) ts)
+            (sym (split.each part there))
             (part_early (range_of_token split.bounds) part good
             (uploads_early uploads split.taps split.of_uploads));
         tokens = subst (All HasTokenBytes) (sym (part_at part there))
-            (All-filter (λ (tap : TapFields). place_of tap == part) HasTokenBytes (map fields_of good)
+            (All-filter (λ (tap : TapFields). place_of tap == part) HasTokenBytes
+            (map fields_of good)
             split.tokens);
       }))
 
@@ -93,7 +95,8 @@ module _ (uploads : List (List ℕ)) (ends : List UploadEnd) (parts : List (List
       let at_p = eqb-true (place_of a) p (filter_passes is_p all i d there) in
       let at_q = eqb-true (place_of b) q (filter_passes is_q all j e other) in
       later_range split.bounds a b (All-filter is_p HasTokenBytes all split.tokens i d there)
-      (All-filter is_q HasTokenBytes all split.tokens j e other) (omega (arith, at_p, at_q, less)))))
+      (All-filter is_q HasTokenBytes all split.tokens j e other)
+      (omega (arith, at_p, at_q, less)))))
 
   pub parts_in_order : ArePartsInOrder parts
   parts_in_order = in_order_at parts below_at
@@ -107,7 +110,8 @@ module _ (uploads : List (List ℕ)) (ends : List UploadEnd) (parts : List (List
       → IsCanonical (map fields_of good) (flat_map (λ list. list) lists)
   whole_order lists zip =
       let as_many = AllZip-length IsCanonical parts lists zip in
-      places_are_canonical place_of (ranges_in_order split.bounds) (map fields_of good) split.tokens lists
+      places_are_canonical place_of (ranges_in_order split.bounds) (map fields_of good) split.tokens
+      lists
       (subst (λ n. All (λ tap. place_of tap < n) (map fields_of good)) as_many all_within)
       (λ place inside.
       let there : place < length parts = omega (arith, as_many, inside) in

@@ -1,5 +1,6 @@
 -- The good taps of uploads in canonical order: their history, and the taps of one token among them.
-use Rattle.std.proofs.Common.{◌≡◌, ℕ, ◌<◌, List, ◌∷◌, ◌++◌, All, cond, map, flat_map, refl, sym, ap, true}
+use Rattle.std.proofs.Common.{◌≡◌, ℕ, ◌<◌, List, ◌∷◌, ◌++◌, All, cond, map, flat_map, refl, sym, ap}
+use Rattle.std.proofs.Common.{true}
 use Rattle.std.proofs.Common.{◌∙◌, subst, Vec, Global, []}
 use Rattle.std.specs.List.{AllZip, sum_by}
 use Rattle.std.specs.Ordering.{is_lt}
@@ -40,7 +41,8 @@ settled_order uploads taps order each tokens canonical =
       taps = taps;
       of_uploads = each;
       canonical = canonical;
-      early = All-permutation (λ (tap : TapFields). tap.moment < moment_limit) (map fields_of good) order
+      early = All-permutation (λ (tap : TapFields). tap.moment < moment_limit) (map fields_of good)
+          order
           canonical.moved
           (All-map (λ (tap : TapFields). tap.moment < moment_limit) fields_of good
           (uploads_early uploads taps each));
@@ -95,8 +97,10 @@ own_settled uploads token own list ends is tokens canonical =
     record {
       order = ordered;
       settled = settled_order uploads is.taps ordered is.of_uploads tokens order.1;
-      own = same_sorted tap_cmp tap_cmp_total tap_cmp_exact list (only token ordered) canonical.sorted
-          (IsSortedBy-filter (λ a b. is_lt (tap_cmp a b)) (ranks_by tap_cmp_total (λ (t : TapFields). t))
+      own = same_sorted tap_cmp tap_cmp_total tap_cmp_exact list (only token ordered)
+          canonical.sorted
+          (IsSortedBy-filter (λ a b. is_lt (tap_cmp a b))
+          (ranks_by tap_cmp_total (λ (t : TapFields). t))
           p ordered order.1.sorted)
           (λ f. sum_by-IsPermutation f own list canonical.moved
           ∙ ap (sum_by f) is.are
@@ -115,5 +119,6 @@ module _ (uploads : List (List ℕ)) (token : Token) (taps : List TapFields)
 
   pub own_its : All (λ tap. token_of_tap tap ≡ token) taps
   own_its = subst (All (λ tap. token_of_tap tap ≡ token)) (sym is.own)
-      (All-weaker (λ tap. is_its token tap ≡ true) (λ tap. token_of_tap tap ≡ token) (λ tap same. same_token (token_of_tap tap) token same) (only token is.order)
+      (All-weaker (λ tap. is_its token tap ≡ true) (λ tap. token_of_tap tap ≡ token)
+      (λ tap same. same_token (token_of_tap tap) token same) (only token is.order)
       (filter_passes (is_its token) is.order))

@@ -1,5 +1,6 @@
 -- The histories and the sums of taps that are posted token by token.
-use Rattle.std.proofs.Common.{◌≡◌, ◌≢◌, ℕ, suc, ◌+◌, ◌<◌, ◌≤◌, Bool, true, false, ◌||◌, List, ◌∷◌, ◌++◌}
+use Rattle.std.proofs.Common.{◌≡◌, ◌≢◌, ℕ, suc, ◌+◌, ◌<◌, ◌≤◌, Bool, true, false, ◌||◌, List, ◌∷◌}
+use Rattle.std.proofs.Common.{◌++◌}
 use Rattle.std.proofs.Common.{length, get_or, take, map, filter, cond, refl, sym, ap, ◌∙◌, []}
 use Rattle.std.proofs.Common.{arith, All, inl, inr}
 use Rattle.std.specs.Prelude.{◌⊎◌}
@@ -24,7 +25,8 @@ use Rattle.shard_book.specs.Rising.{rising}
 use Rattle.shard_book.specs.Sums.{Sums, sums}
 use Rattle.shard_book.specs.SumsByKey.{sums_by_token, token_of, tokens}
 use Rattle.shard_book.specs.declared.entry.Entry.{Entry}
-use Rattle.tap_views.proofs.TokenLemmas.{token_eq-refl, high_back, low_back, token_cmp-total, token_cmp-ties}
+use Rattle.tap_views.proofs.TokenLemmas.{token_eq-refl, high_back, low_back, token_cmp-total}
+use Rattle.tap_views.proofs.TokenLemmas.{token_cmp-ties}
 use Rattle.tap_views.proofs.Orderings.{first_not_less}
 use Rattle.tap_views.proofs.Choices.{or_twice}
 use Rattle.shard_book.proofs.RisingLemmas.{rising-only}
@@ -59,13 +61,15 @@ unfolding posted_after
 one_posted fares earlier tap = refl
 
 -- one tap more
-pub posted_more : (fares : Fares) (taps : List TapFields) (i : ℕ) (tap : TapFields) → i < length taps
+pub posted_more : (fares : Fares) (taps : List TapFields) (i : ℕ) (tap : TapFields)
+    → i < length taps
     → get_or taps i tap ≡ tap
     → posted fares (take (i + 1) taps)
     ≡ posted fares (take i taps) ++ answered fares (posted fares (take i taps)) (unposted tap) ∷ []
 posted_more fares taps i tap inside is =
     let done = posted fares (take i taps) in
-    ap (posted fares) (take_more taps i tap inside ∙ ap (λ (t : TapFields). take i taps ++ t ∷ []) is)
+    ap (posted fares)
+    (take_more taps i tap inside ∙ ap (λ (t : TapFields). take i taps ++ t ∷ []) is)
     ∙ posted_append fares [] (take i taps) (tap ∷ [])
     ∙ ap (λ (es : List Entry). done ++ es) (one_posted fares done tap)
 
@@ -107,7 +111,8 @@ pub one_token : (token : Token) (entry : Entry) (entries : List Entry)
 unfolding sums_by_token tokens
 one_token token entry entries all =
     let keys : token ∷ [] ≡ rising token_cmp (map token_of (entry ∷ entries)) =
-    rising-only token_cmp-total token_cmp-ties (map token_of (entry ∷ entries)) (token ∷ []) (record {
+    rising-only token_cmp-total token_cmp-ties (map token_of (entry ∷ entries)) (token ∷ [])
+    (record {
       rises = one_rises token;
       same = λ key. sym (among_one token key entry entries all);
     }) in
@@ -241,7 +246,8 @@ flip_below (t ∷ tokens) entries all =
         All-cons (λ o. token_cmp t o ≡ Less) e.token (map token_of es)
         (All-head (λ s. token_cmp s e.token ≡ Less) t tokens
         (All-head (λ (x : Entry). All (λ s. token_cmp s x.token ≡ Less) (t ∷ tokens)) e es each))
-        (heads es (All-tail (λ (x : Entry). All (λ s. token_cmp s x.token ≡ Less) (t ∷ tokens)) e es each))
+        (heads es
+        (All-tail (λ (x : Entry). All (λ s. token_cmp s x.token ≡ Less) (t ∷ tokens)) e es each))
 
     tails : (es : List Entry)
         → All (λ entry. All (λ t. token_cmp t entry.token ≡ Less) (t ∷ tokens)) es
@@ -251,7 +257,8 @@ flip_below (t ∷ tokens) entries all =
         All-cons (λ (x : Entry). All (λ s. token_cmp s x.token ≡ Less) tokens) e es
         (All-tail (λ s. token_cmp s e.token ≡ Less) t tokens
         (All-head (λ (x : Entry). All (λ s. token_cmp s x.token ≡ Less) (t ∷ tokens)) e es each))
-        (tails es (All-tail (λ (x : Entry). All (λ s. token_cmp s x.token ≡ Less) (t ∷ tokens)) e es each))
+        (tails es
+        (All-tail (λ (x : Entry). All (λ s. token_cmp s x.token ≡ Less) (t ∷ tokens)) e es each))
 
 -- tokens below one are below those of entries that have it
 pub below_same : (tokens : List Token) (token : Token) (entries : List Entry)
@@ -259,7 +266,9 @@ pub below_same : (tokens : List Token) (token : Token) (entries : List Entry)
     → AreBelow tokens (map token_of entries)
 below_same tokens token entries below all =
     flip_below tokens entries
-    (All-weaker (λ (e : Entry). e.token ≡ token) (λ (e : Entry). All (λ t. token_cmp t e.token ≡ Less) tokens) (λ e same. below_each tokens token e.token same below) entries all)
+    (All-weaker (λ (e : Entry). e.token ≡ token)
+    (λ (e : Entry). All (λ t. token_cmp t e.token ≡ Less) tokens)
+    (λ e same. below_each tokens token e.token same below) entries all)
 
 -- tokens below those of taps are below that of the first one
 pub below_first : (tokens : List Token) (token : Token) (taps : List TapFields) → 0 < length taps
@@ -273,10 +282,12 @@ below_first (t ∷ tokens) token (tap ∷ taps) some first below =
     (All-cons (λ o. token_cmp t o ≡ Less) token []
     (ap (token_cmp t) (sym (first tap)) ∙ All-head (λ o. token_cmp t o ≡ Less) (token_of_tap tap)
     (map token_of_tap taps)
-    (All-head (λ s. All (λ o. token_cmp s o ≡ Less) (map token_of_tap (tap ∷ taps))) t tokens below))
+    (All-head (λ s. All (λ o. token_cmp s o ≡ Less) (map token_of_tap (tap ∷ taps))) t tokens
+    below))
     (All-nil (λ o. token_cmp t o ≡ Less)))
     (below_first tokens token (tap ∷ taps) some first
-    (All-tail (λ s. All (λ o. token_cmp s o ≡ Less) (map token_of_tap (tap ∷ taps))) t tokens below))
+    (All-tail (λ s. All (λ o. token_cmp s o ≡ Less) (map token_of_tap (tap ∷ taps))) t tokens
+    below))
 
 -- what a place past the end would be read as
 abbrev pub no_tap : TapFields
@@ -284,7 +295,8 @@ no_tap = record { token = []; validator = 0; moment = 0 }
 
 -- the first so many taps are posted to as many entries, at most
 pub few_posted : (fares : Fares) (taps : List TapFields) (i : ℕ)
-    → (length (posted fares (take i taps)) ≤ i) × (length (posted fares (take i taps)) ≤ length taps)
+    → (length (posted fares (take i taps)) ≤ i)
+    × (length (posted fares (take i taps)) ≤ length taps)
 few_posted fares taps i =
     let same = posted_length fares [] (take i taps) in
     let short = length-take i taps in

@@ -36,7 +36,8 @@ pub own_all : (token : Token) (entries : List Entry) → All (λ entry. entry.to
 own_all token [] all = own_none token
 own_all token (entry ∷ entries) all =
     let here : token_eq entry.token token ≡ true =
-    ap (λ (t : Token). token_eq t token) (All-head (λ (e : Entry). e.token ≡ token) entry entries all)
+    ap (λ (t : Token). token_eq t token)
+    (All-head (λ (e : Entry). e.token ≡ token) entry entries all)
     ∙ token_eq-refl token in
     own_same token entry entries here
     ∙ ap (λ (es : List Entry). entry ∷ es)

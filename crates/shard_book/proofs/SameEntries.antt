@@ -11,7 +11,8 @@ use Rattle.account_rule.specs.declared.reply.Reply.{Reply}
 use Rattle.shard_book.specs.declared.entry.Entry.{Entry}
 use Rattle.tap_views.specs.declared.token.Token.{Token}
 use Rattle.shard_book.specs.Entry.{is_of, is_at, own, reply_of}
-use Rattle.shard_book.specs.SumsByKey.{entries_of_validator, validators, tokens, sums_by_validator, sums_by_token}
+use Rattle.shard_book.specs.SumsByKey.{entries_of_validator, validators, tokens, sums_by_validator}
+use Rattle.shard_book.specs.SumsByKey.{sums_by_token}
 use Rattle.shard_book.specs.SumsByKey.{validator_of, token_of}
 use Rattle.shard_book.specs.Keys.{same_token}
 use Rattle.shard_book.specs.Rising.{rising, IsRising}
@@ -86,7 +87,8 @@ module _ (numbers : RisingNumbers) (names : RisingTokens) (xs ys : List Entry)
       (IsPermutation-map validator_of xs ys (same_entries xs ys same)) in
       let each : (v : ℕ) → sums (entries_of_validator v xs) ≡ sums (entries_of_validator v ys) =
       λ v. same_sums (entries_of_validator v xs) (entries_of_validator v ys)
-      (same_entries (entries_of_validator v xs) (entries_of_validator v ys) (same_at v xs ys same)) in
+      (same_entries (entries_of_validator v xs) (entries_of_validator v ys)
+      (same_at v xs ys same)) in
       ap (map (λ (v : ℕ). (v, sums (entries_of_validator v xs)))) keys
       ∙ (λ i. map (λ (v : ℕ). (v, each v i)) (rising nat_cmp (map validator_of ys)))
 

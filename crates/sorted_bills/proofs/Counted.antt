@@ -1,5 +1,6 @@
 -- Sorted files whose taps were counted: how they end.
-use Rattle.std.proofs.Common.{◌≡◌, ℕ, zero, suc, ◌+◌, ◌^◌, ◌<◌, ◌≤◌, List, [], ◌∷◌, length, get_or, map, take, true}
+use Rattle.std.proofs.Common.{◌≡◌, ℕ, zero, suc, ◌+◌, ◌^◌, ◌<◌, ◌≤◌, List, [], ◌∷◌, length, get_or}
+use Rattle.std.proofs.Common.{map, take, true}
 use Rattle.std.proofs.Common.{None}
 use Rattle.std.proofs.Common.{refl, sym, ap, subst, ◌∙◌, arith}
 use Rattle.std.specs.Prelude.{flat_map, sum}
@@ -42,7 +43,8 @@ plain_ends (file ∷ files) (list ∷ lists) sorted =
         fault = None;
         is_file = first.is_file;
         is_fault = refl;
-        ended = ap (λ n. Posted n) (ap length (sym first.read) ∙ length-map (taps_of_batches first.batches) fields_of);
+        ended = ap (λ n. Posted n)
+            (ap length (sym first.read) ∙ length-map (taps_of_batches first.batches) fields_of);
       },
       plain_ends files lists (record {
         number = omega (arith, number);

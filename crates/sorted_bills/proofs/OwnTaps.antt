@@ -57,7 +57,8 @@ is_own token tap old new same named early more =
       pushed = more ∙ ap (λ (ts : List TapFields). old ++ ts) (sym (only_one token tap true same));
       sound = λ sound. record {
         early = subst (λ (ts : List TapFields). All Early ts) (sym more)
-            (All-append Early old (tap ∷ []) sound.early (All-cons Early tap [] early (All-nil Early)));
+            (All-append Early old (tap ∷ []) sound.early
+            (All-cons Early tap [] early (All-nil Early)));
         its = subst (λ (ts : List TapFields). All its ts) (sym more)
             (All-append its old (tap ∷ []) sound.its
             (All-cons its tap [] (same_token (token_of_tap tap) token same) (All-nil its)));
@@ -95,7 +96,8 @@ one_read token all old now more was is read pushed step =
       added = one.pushed
           ∙ ap (λ (ts : List TapFields). ts ++ only token (step.tap ∷ [])) read.added
           ∙ append_assoc old (only token read.passed) (only token (step.tap ∷ []))
-          ∙ ap (λ (ts : List TapFields). old ++ ts) (sym (only_both token read.passed (step.tap ∷ [])));
+          ∙ ap (λ (ts : List TapFields). old ++ ts)
+          (sym (only_both token read.passed (step.tap ∷ [])));
     }
 
 pub whole_read : (token : Token) (all : List ℕ) (old now : List TapFields) (reader : TapReader)
@@ -185,14 +187,16 @@ own_in_order token files own list numbers are canonical =
       ended = own_ends token files own numbers are;
     })
     (subst (λ (ts : List TapFields). All HasTokenBytes ts) (sym of.fields)
-    (All-weaker HasName HasTokenBytes (λ tap name. has_token_bytes tap name.named) (flat_map (λ list. list) are.lists) are.named)) canonical
+    (All-weaker HasName HasTokenBytes (λ tap name. has_token_bytes tap name.named)
+    (flat_map (λ list. list) are.lists) are.named)) canonical
 
 -- they stay the token's, with moments before 2100
 pub sound_list : (token : Token) (taps list : List TapFields) → AreSound token taps
     → IsCanonical taps list → AreSound token list
 sound_list token taps list sound canonical = record {
   early = All-permutation Early taps list canonical.moved sound.early;
-  its = All-permutation (λ (t : TapFields). token_of_tap t ≡ token) taps list canonical.moved sound.its;
+  its = All-permutation (λ (t : TapFields). token_of_tap t ≡ token) taps list canonical.moved
+      sound.its;
 }
 
 -- the bytes of one of the files, as a slice gives them
@@ -214,7 +218,8 @@ known_there known files k file bytes within is there =
     ∙ ap (option_map known) (slice_get-get_or files k file within ∙ ap Some (sym is))) ∙ there)
 
 -- the token's taps of one file, behind those of others
-pub own_behind : (token : Token) (all : List ℕ) (taps own : List TapFields) (numbers counts : List ℕ)
+pub own_behind : (token : Token) (all : List ℕ) (taps own : List TapFields)
+    (numbers counts : List ℕ)
     → AreOwnAdded token all [] own [] counts
     → AreOwnAdded token all taps (taps ++ own) numbers (numbers ++ counts)
 own_behind token all taps own numbers counts added = record {

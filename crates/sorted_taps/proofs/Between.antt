@@ -28,7 +28,8 @@ batches_append front back (batch ∷ batches) more (one, others, is, spelt, firs
 )
 
 -- the taps of batches, and of others behind them
-pub taps_append : (batches more : List (List Tap)) → map fields_of (taps_of_batches (batches ++ more))
+pub taps_append : (batches more : List (List Tap))
+    → map fields_of (taps_of_batches (batches ++ more))
     ≡ map fields_of (taps_of_batches batches) ++ map fields_of (taps_of_batches more)
 taps_append batches more =
     ap (map fields_of) (flat_map-append (λ (batch : List Tap). batch) batches more)

@@ -45,13 +45,15 @@ counted_more files count numbers more taps are sorted is =
     by_case k inside (inl less) =
         let many = are.number in
         subst (IsSortedFile (get_or files k []))
-        (sym (get_or-append are.lists (taps ∷ []) [] k (omega (arith, less, many)))) (are.each k less)
+        (sym (get_or-append are.lists (taps ∷ []) [] k (omega (arith, less, many))))
+        (are.each k less)
     by_case k inside (inr last) =
         let many = are.number in
         let same : length are.lists ≡ k = omega (arith, many, inside, last) in
         let here : count ≡ k = omega (arith, inside, last) in
         subst (λ n. IsSortedFile (get_or files n []) (get_or (are.lists ++ taps ∷ []) k [])) here
-        (subst (λ n. IsSortedFile (get_or files count []) (get_or (are.lists ++ taps ∷ []) n [])) same
+        (subst (λ n. IsSortedFile (get_or files count []) (get_or (are.lists ++ taps ∷ []) n []))
+        same
         (subst (IsSortedFile (get_or files count []))
         (sym (get_or-append_seam are.lists taps [] [])) sorted))
 

@@ -1,6 +1,8 @@
 -- Taps that are written in batches of 512.
-use Rattle.std.proofs.Common.{◌≡◌, ℕ, zero, suc, ◌+◌, ◌<◌, ◌≤◌, List, [], ◌∷◌, ◌++◌, flat_map, length}
-use Rattle.std.proofs.Common.{refl, sym, ap, subst, ◌∙◌, arith, append-nil, append_assoc, take, get_or}
+use Rattle.std.proofs.Common.{◌≡◌, ℕ, zero, suc, ◌+◌, ◌<◌, ◌≤◌, List, [], ◌∷◌, ◌++◌, flat_map}
+use Rattle.std.proofs.Common.{length}
+use Rattle.std.proofs.Common.{refl, sym, ap, subst, ◌∙◌, arith, append-nil, append_assoc, take}
+use Rattle.std.proofs.Common.{get_or}
 use Rattle.std.proofs.Common.{length-append, Ok, Err}
 use Rattle.std.specs.Prelude.{IfErr, Option, Result}
 use Rattle.std.proofs.Math.ListN.{get_or-append}
@@ -94,7 +96,8 @@ early_at items (x ∷ lists) (suc i) d early inside =
 -- the taps of one list more
 pub list_more : {X : Type 0} (items : X → List TapFields) (lists : List X) (i : ℕ) (d : X)
     → i < length lists
-    → flat_map items (take i lists) ++ items (get_or lists i d) ≡ flat_map items (take (i + 1) lists)
+    → flat_map items (take i lists) ++ items (get_or lists i d)
+    ≡ flat_map items (take (i + 1) lists)
 list_more items lists i d inside =
     flat_map_more items [] (take i lists) (get_or lists i d)
     ∙ ap (λ front. flat_map items front) (sym (take_more lists i d inside))

@@ -1,5 +1,6 @@
 -- Readers that stand for others take the same taps.
-use Rattle.std.proofs.Common.{◌≡◌, ◌≢◌, ◌⊎◌, ℕ, suc, ◌+◌, ◌<◌, ◌≤◌, List, [], ◌∷◌, ◌++◌, length, map}
+use Rattle.std.proofs.Common.{◌≡◌, ◌≢◌, ◌⊎◌, ℕ, suc, ◌+◌, ◌<◌, ◌≤◌, List, [], ◌∷◌, ◌++◌, length}
+use Rattle.std.proofs.Common.{map}
 use Rattle.std.proofs.Common.{refl, sym, ap, subst, ◌∙◌, arith, inl, inr, get_or, set}
 use Rattle.std.proofs.lemmas.Bool.{cases_eq, cases_lt}
 use Rattle.std.proofs.lemmas.List.{get_or_default, get_or-map, get_or-set_other, get_or-set_same}
@@ -26,7 +27,8 @@ pub stands_alone : (reader : TapReader) → StandsAs 0 reader reader
 stands_alone reader = record { offset = refl; ahead = refl; number = omega arith }
 
 pub stand_alone : (readers : List TapReader) → StandAs readers readers
-stand_alone readers = record { number = refl; each = λ k d within. stands_alone (get_or readers k d) }
+stand_alone readers =
+    record { number = refl; each = λ k d within. stands_alone (get_or readers k d) }
 
 -- pair by pair, the first have passed so many taps more
 record AreShifted (more : ℕ → ℕ) (ones others : List TapReader) : Type 0 where
@@ -95,7 +97,8 @@ module _ (files : List (List ℕ)) (more : ℕ → ℕ) where
         },
         record {
           number = long ∙ number ∙ sym wide ∙ ap length (sym step.moved);
-          each = λ k d inside. subst (λ l. StandsAs (more k) (get_or (set ones at is) k d) (get_or l k d))
+          each = λ k d inside. subst
+              (λ l. StandsAs (more k) (get_or (set ones at is) k d) (get_or l k d))
               (sym step.moved)
               (by_case k d (omega (arith, inside, long)) (cases_eq k at));
         },
@@ -267,7 +270,8 @@ joined_more readers begin ends now at reader one was is joined low first within 
     begins_at k d inside (inl less) = joined.begins k d less
     begins_at k d inside (inr last) =
         let same : at ≡ k = omega (arith, last, inside) in
-        subst (λ j. StandsAs (get_or readers j d).passed (get_or readers j d) (get_or begin j d)) same
+        subst (λ j. StandsAs (get_or readers j d).passed (get_or readers j d) (get_or begin j d))
+        same
         (rw (the_reader d, get_or_default begin at d one first ∙ sym here) stands)
 
     counted_at : (k : ℕ) (d : TapReader) → k < at + 1 → (k < at) ⊎ (at ≤ k)
@@ -277,7 +281,8 @@ joined_more readers begin ends now at reader one was is joined low first within 
         (joined.counted k d less)
     counted_at k d inside (inr last) =
         let same : at ≡ k = omega (arith, last, inside) in
-        subst (λ j. StandsAs (get_or readers j d).passed (get_or (set now at is) j d) (get_or ends j d))
+        subst (λ j. StandsAs (get_or readers j d).passed (get_or (set now at is) j d)
+        (get_or ends j d))
         same
         (rw (
           the_reader d,

@@ -107,7 +107,8 @@ pub told_to : (h : KeyHolder) (ms : Members) (found : List Told) (x : Told) → 
 told_to h no_members found x (inl has) = has
 told_to h no_members found x (inr new) = absurd (false≢true new.stands)
 told_to h (member k v more) found x is =
-    by_known (has_meaning h k) refl (told_to h more found x) (told_to h more (found ++ (h, k) ∷ []) x)
+    by_known (has_meaning h k) refl (told_to h more found x)
+    (told_to h more (found ++ (h, k) ∷ []) x)
     is
   where
     back : (b : Bool) → has_meaning h k ≡ b
@@ -119,7 +120,8 @@ told_to h (member k v more) found x is =
     if_known : has_meaning h k ≡ true → IsNew h (member k v more) x → (b : Bool)
         → is_eq (slice_cmp nat_cmp x.1 k) ≡ b → IsNew h more x
     if_known is_b new true same =
-        absurd (false≢true (sym new.no_meaning ∙ ap (λ key. has_meaning h key) (same_bytes x.1 k same)
+        absurd (false≢true
+        (sym new.no_meaning ∙ ap (λ key. has_meaning h key) (same_bytes x.1 k same)
         ∙ is_b))
     if_known is_b new false other = others h k v more x other new
 

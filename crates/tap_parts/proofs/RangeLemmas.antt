@@ -1,5 +1,7 @@
--- Bounds that do not fall: how many are not above a number, and that a later range has later tokens.
-use Rattle.std.proofs.Common.{◌≡◌, ℕ, zero, suc, ◌-◌, ◌<◌, ◌≤◌, List, [], ◌∷◌, length, get_or, filter}
+-- Bounds that do not fall: how many are not above a number, and that a later range has later
+-- tokens.
+use Rattle.std.proofs.Common.{◌≡◌, ℕ, zero, suc, ◌-◌, ◌<◌, ◌≤◌, List, [], ◌∷◌, length, get_or}
+use Rattle.std.proofs.Common.{filter}
 use Rattle.std.proofs.Common.{Bool, false, ap, arith, inl, inr}
 use Rattle.std.specs.Prelude.{◌⊎◌, nat_le}
 use Rattle.std.specs.List.Sorted.{IsSorted}
@@ -45,7 +47,8 @@ pub counted_at : (xs : List ℕ) → IsSorted nat_cmp xs → (k n : ℕ) → k �
 counted_at xs sorted k n within low high =
     counted xs k n within
     (λ i below.
-    let rise = rising_far xs sorted i (k - 1) (omega (arith, below)) (omega (arith, below, within)) in
+    let rise = rising_far xs sorted i (k - 1) (omega (arith, below))
+    (omega (arith, below, within)) in
     let last = low (omega (arith, below)) in omega (arith, rise, last))
     (λ i least inside.
     let rise = rising_far xs sorted k i least inside in

@@ -63,7 +63,8 @@ added_early upload old new end is all = λ k d within.
 
 -- one upload more
 pub more_split : (upload : List ℕ) (old new : List (List TapFields)) (end : UploadTaps)
-    → IsUploadAdded upload old new end → (parts : ℕ) (uploads : List (List ℕ)) → AreSplit parts uploads old
+    → IsUploadAdded upload old new end → (parts : ℕ) (uploads : List (List ℕ))
+    → AreSplit parts uploads old
     → AreSplit parts (uploads ++ upload ∷ []) new
 more_split upload old new end is parts uploads split =
     let taps = taps_of_batches is.batches in
@@ -75,7 +76,9 @@ more_split upload old new end is parts uploads split =
       each = λ part within.
           is.added.each part (subst (λ n. part < n) (sym split.number) within)
           ∙ ap (λ n. get_or old part [] ++ map fields_of (of_part part n taps)) split.number
-          ∙ ap (λ fields. fields ++ map fields_of (of_part part parts taps)) (split.each part within)
-          ∙ sym (fields-append (λ token. part_of_token token parts) part (taps_of_uploads split.taps) taps)
+          ∙ ap (λ fields. fields ++ map fields_of (of_part part parts taps))
+          (split.each part within)
+          ∙ sym (fields-append (λ token. part_of_token token parts) part
+          (taps_of_uploads split.taps) taps)
           ∙ ap (λ all. map fields_of (of_part part parts all)) (sym (taps_more split.taps taps));
     }

@@ -1,6 +1,7 @@
 -- The last tap before another, of its token at its validator, is the nearest one.
 use Rattle.std.proofs.Common.{◌≡◌, ℕ, ◌-◌, ◌≤◌, ◌&&◌, Bool, true, false, cond, List, [], ◌∷◌, ◌++◌}
-use Rattle.std.proofs.Common.{All, Contains, Option, None, Some, refl, sym, ap, ◌∙◌, arith, inl, inr}
+use Rattle.std.proofs.Common.{All, Contains, Option, None, Some, refl, sym, ap, ◌∙◌, arith, inl}
+use Rattle.std.proofs.Common.{inr}
 use Prim.Native.Nat.{zero}
 use Rattle.std.proofs.Common.{nat_eq, nat_le, length, suc, ◌<◌, get_or}
 use Rattle.std.specs.Prelude.{◌⊎◌}
@@ -55,7 +56,13 @@ later : (token : List ℕ) (validator moment : ℕ) (t : TapFields) (ts : List T
     → HasMoment token validator moment ts → HasMoment token validator moment (t ∷ ts)
 later token validator moment t ts has =
     let (k, inside, at) = has.there in
-    record { tap = has.tap; there = (suc k, omega (arith, inside), at); is = has.is; same = has.same }
+    record {
+      tap = has.tap;
+      there = (suc k, omega (arith, inside), at);
+      is = has.is;
+      same =
+          has.same;
+    }
 
 found : (before : Option ℕ) (token : List ℕ) (validator moment : ℕ) (taps : List TapFields)
     → last_from before token validator taps ≡ Some moment
@@ -140,7 +147,8 @@ reached before token validator (t ∷ ts) tap zero pairs inside at test =
       above = omega (arith, same, far);
     }
 reached before token validator (t ∷ ts) tap (suc k) pairs inside at test =
-    let more = reached (cond (is_at token validator t) (Some t.moment) before) token validator ts tap
+    let more = reached (cond (is_at token validator t) (Some t.moment) before) token validator ts
+    tap
     k pairs.1 (omega (arith, inside)) at test in
     record { moment = more.moment; is = more.is; above = more.above }
 
@@ -150,7 +158,8 @@ pub told_has : (within : ℕ) (before : List TapFields) (tap : TapFields) (last 
     → HasNearTap within before tap
 told_has within before tap None is told = absurd (told refl)
 told_has within before tap (Some moment) is told =
-    by_found (found None tap.token tap.validator moment before is) (nat_le (tap.moment - moment) within)
+    by_found (found None tap.token tap.validator moment before is)
+    (nat_le (tap.moment - moment) within)
     refl
   where
     by_found : (None ≡ Some moment) ⊎ HasMoment tap.token tap.validator moment before → (b : Bool)

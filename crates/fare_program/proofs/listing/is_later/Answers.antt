@@ -5,8 +5,10 @@ use Rattle.fare_program.proofs.listing.is_later.Goals as goal
 
 pub returns-in-Some : goal.returns-in-Some
 returns-in-Some c =
-    sym (ap (λ o. is_after_last o c.args.moment) (last_of-get c.args.last.now.entries c.args.token.now ∙ sym c.in-Some.ensures.value))
+    sym (ap (λ o. is_after_last o c.args.moment)
+    (last_of-get c.args.last.now.entries c.args.token.now ∙ sym c.in-Some.ensures.value))
 
 pub returns-in-None : goal.returns-in-None
 returns-in-None c =
-    sym (ap (λ o. is_after_last o c.args.moment) (last_of-get c.args.last.now.entries c.args.token.now ∙ sym c.in-None.ensures.value))
+    sym (ap (λ o. is_after_last o c.args.moment)
+    (last_of-get c.args.last.now.entries c.args.token.now ∙ sym c.in-None.ensures.value))

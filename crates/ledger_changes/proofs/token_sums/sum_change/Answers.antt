@@ -9,7 +9,8 @@ use Rattle.ledger_changes.proofs.token_sums.sum_change.Goals as goal
 
 pub returns-in-None-None-clause-written : goal.returns-in-None-None-clause-written
 returns-in-None-None-clause-written g c =
-    subst (λ changes. Appends (g.W.Write.contents c.args.out.now) (g.W.Write.contents c.args.out.now)
+    subst (λ changes. Appends (g.W.Write.contents c.args.out.now)
+    (g.W.Write.contents c.args.out.now)
     (ended_lines (sum_in c.args.last) changes))
     (sym (nones_change c.args.before.now c.args.after.now c.in-None-None.is-0 c.in-None-None.is-1))
     (Appends-nil (g.W.Write.contents c.args.out.now))
@@ -21,7 +22,8 @@ returns-in-None-None-clause-sums g c =
 
 pub returns-then-agree-clause-written : goal.returns-then-agree-clause-written
 returns-then-agree-clause-written g c =
-    subst (λ changes. Appends (g.W.Write.contents c.args.out.now) (g.W.Write.contents c.args.out.now)
+    subst (λ changes. Appends (g.W.Write.contents c.args.out.now)
+    (g.W.Write.contents c.args.out.now)
     (ended_lines (sum_in c.args.last) changes))
     (sym (no_change c.args.before.now c.args.after.now (sym c.agree.ensures ∙ c.if-agree.true)))
     (Appends-nil (g.W.Write.contents c.args.out.now))
@@ -36,7 +38,8 @@ returns-in-Some-clause-written g c =
     let row = c.match-before.row.now in
     let last = sum_in c.args.last in
     let one : IsOne row c.args.before.now c.args.after.now = elim c.match-before.branch [
-      | in-Some-default w ↦ first_is_one row w.in-Some-default.row c.args.before.now c.args.after.now
+      | in-Some-default w ↦ first_is_one row w.in-Some-default.row c.args.before.now
+          c.args.after.now
           w.in-Some-default.is-0 (ap (λ r. r.now) w.row-is)
       | in-None-Some w ↦ second_is_one row w.in-None-Some.row c.args.before.now c.args.after.now
           w.in-None-Some.is-0 w.in-None-Some.is-1 (ap (λ r. r.now) w.row-is)
@@ -54,7 +57,8 @@ returns-in-Some-clause-sums g c =
     let before = c.args.before.now in
     let after = c.args.after.now in
     let one : IsOne row before after = elim c.match-before.branch [
-      | in-Some-default w ↦ first_is_one row w.in-Some-default.row c.args.before.now c.args.after.now
+      | in-Some-default w ↦ first_is_one row w.in-Some-default.row c.args.before.now
+          c.args.after.now
           w.in-Some-default.is-0 (ap (λ r. r.now) w.row-is)
       | in-None-Some w ↦ second_is_one row w.in-None-Some.row c.args.before.now c.args.after.now
           w.in-None-Some.is-0 w.in-None-Some.is-1 (ap (λ r. r.now) w.row-is)

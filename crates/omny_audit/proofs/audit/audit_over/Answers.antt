@@ -8,7 +8,8 @@ use Rattle.omny_audit.proofs.audit.audit_over.Goals as goal
 pub audit_text-requires : goal.audit_text-requires
 audit_text-requires g c = λ yes.
     let found = c.in_ok-verdict.ensures.told in
-    let decide = c.verdicts_decide.ensures c.args.table.now found.0 c.in_ok-verdict.verdict found.2 in
+    let decide = c.verdicts_decide.ensures c.args.table.now found.0 c.in_ok-verdict.verdict
+    found.2 in
     (c.args.table.now, found.0, found.4 yes, decide.0 yes)
 
 pub returns-clause-told : goal.returns-clause-told
@@ -17,13 +18,19 @@ returns-clause-told g c =
     let fares = c.args.table.now in
     let told = c.in_ok-told.told in
     let decide = c.verdicts_decide.ensures fares found.0 c.in_ok-verdict.verdict found.2 in
-    let wrote = subst (λ (t : List ℕ). Appends (g.W.Write.contents c.args.out.now) (g.W.Write.contents c.write_text.new.out) t) c.as_slice.ensures.value c.in_ok-write_text.ensures.text in (
+    let wrote = subst
+    (λ (t : List ℕ). Appends (g.W.Write.contents c.args.out.now)
+    (g.W.Write.contents c.write_text.new.out) t) c.as_slice.ensures.value
+    c.in_ok-write_text.ensures.text in (
       found.0,
       found.1,
       λ good balanced. (
         told.0.items,
-        subst (λ (r : Option (List ℕ)). IsAudit false fares found.0 (if c.args.has_uploads then Some good else None) r told.0.items told.1)
-            c.verdict_of.ensures.report (c.in_ok-told.ensures fares found.0 good found.2 decide (found.3 good balanced) found.4),
+        subst (λ (r : Option (List ℕ)). IsAudit false fares found.0
+            (if c.args.has_uploads then Some good else None) r told.0.items told.1)
+            c.verdict_of.ensures.report
+            (c.in_ok-told.ensures fares found.0 good found.2 decide (found.3 good balanced)
+            found.4),
         wrote,
       ),
     )
@@ -41,8 +48,13 @@ returns-in_err-write_text-clause-begun g c =
       λ good balanced. (
         told.0.items,
         told.1,
-        subst (λ (r : Option (List ℕ)). IsAudit false fares found.0 (if c.args.has_uploads then Some good else None) r told.0.items told.1)
-            c.verdict_of.ensures.report (c.in_ok-told.ensures fares found.0 good found.2 decide (found.3 good balanced) found.4),
-        subst (λ (t : List ℕ). Begins (g.W.Write.contents c.args.out.now) (g.W.Write.contents c.write_text.new.out) t) c.as_slice.ensures.value c.in_err-write_text.ensures.begun,
+        subst (λ (r : Option (List ℕ)). IsAudit false fares found.0
+            (if c.args.has_uploads then Some good else None) r told.0.items told.1)
+            c.verdict_of.ensures.report
+            (c.in_ok-told.ensures fares found.0 good found.2 decide (found.3 good balanced)
+            found.4),
+        subst (λ (t : List ℕ). Begins (g.W.Write.contents c.args.out.now)
+            (g.W.Write.contents c.write_text.new.out) t) c.as_slice.ensures.value
+            c.in_err-write_text.ensures.begun,
       ),
     )

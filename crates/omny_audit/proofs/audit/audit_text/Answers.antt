@@ -19,8 +19,11 @@ returns c = λ fares text good is decide balance sums.
       is_legal = decide;
       rest = wrote.0;
       fits = c.in_ok-fits.fits;
-      report_line = subst (λ (b : Bool). IsReportLine fares text (text_of c.args.report) b wrote.0 c.in_ok-fits.fits)
-          c.tells_legal.ensures (wrote.2 fares text (λ yes. sums (sym c.tells_legal.ensures ∙ yes)));
+      report_line = subst
+          (λ (b : Bool). IsReportLine fares text (text_of c.args.report) b wrote.0
+          c.in_ok-fits.fits)
+          c.tells_legal.ensures
+          (wrote.2 fares text (λ yes. sums (sym c.tells_legal.ensures ∙ yes)));
       shown = rw c.into_bytes-text.ensures.value at wrote.1;
       both = c.are_both.ensures;
     }

@@ -1,5 +1,6 @@
 -- What was read so far is what the checker was fed.
-use Rattle.std.proofs.Common.{◌≡◌, ◌++◌, ℕ, List, [], true, false, refl, take, sym, ap, subst, ◌∙◌, append-nil, arith}
+use Rattle.std.proofs.Common.{◌≡◌, ◌++◌, ℕ, List, [], true, false, refl, take, sym, ap, subst, ◌∙◌}
+use Rattle.std.proofs.Common.{append-nil, arith}
 use Rattle.std.proofs.KnownBytes.{Consumes-trans, Consumes-nil}
 use Rattle.std.specs.Prelude.{IsTrue}
 use Rattle.ledger_check.specs.Verdicts.{IsVerdict, is_legal}
@@ -19,7 +20,8 @@ loop-piece-init g c = record {
 }
 
 pub finish-requires : goal.finish-requires
-finish-requires g c = record { fed = (c.args.table.now, c.loop-piece.invariant.text, c.loop-piece.invariant.fed) }
+finish-requires g c =
+    record { fed = (c.args.table.now, c.loop-piece.invariant.text, c.loop-piece.invariant.fed) }
 
 pub feed-requires-clause-fed : goal.feed-requires-clause-fed
 feed-requires-clause-fed g c = (c.loop-piece.invariant.text, c.loop-piece.invariant.fed)
@@ -28,16 +30,19 @@ pub returns-then-count-eq0-clause-told : goal.returns-then-count-eq0-clause-told
 returns-then-count-eq0-clause-told g c =
     let before = c.loop-piece.invariant in
     let got = c.in-Ok.ensures.bytes in
-    let none = ap (λ (n : ℕ). before.text ++ take n c.read.new.buf) c.if-count-eq0.true ∙ append-nil before.text in
+    let none = ap (λ (n : ℕ). before.text ++ take n c.read.new.buf) c.if-count-eq0.true
+    ∙ append-nil before.text in
     let Is : List ℕ → Type 0 = λ text. IsVerdict c.args.table.now text c.finish.result
     × StrikesOut c.args.table.now text c.args.balance.now c.loop-piece.balance c.finish.result
-    × (IsTrue (is_legal c.finish.result) → HasSummedFor c.args.table.now c.loop-piece.report text) in
+    × (IsTrue (is_legal c.finish.result)
+    → HasSummedFor c.args.table.now c.loop-piece.report text) in
     let told = at_end Is _ _ _
     (Consumes-trans _ _ _ before.text (take c.in-Ok.count c.read.new.buf) before.read got.0)
     (got.1 c.if-count-eq0.true (omega arith))
     (subst Is (sym none) (
       c.finish.ensures.verdict c.args.table.now before.text before.fed,
-      λ good is legal entries ledger. c.finish.ensures.struck c.args.table.now before.text c.loop-piece.balance good (before.struck good is) legal entries ledger,
+      λ good is legal entries ledger. c.finish.ensures.struck c.args.table.now before.text
+          c.loop-piece.balance good (before.struck good is) legal entries ledger,
       λ legal. before.sums,
     )) in
     (told.0, told.1, told.2.0, told.2.1, told.2.2)
@@ -52,9 +57,12 @@ returns-in-Some-clause-told g c =
     let fed = rw c.in-Some.is at (c.in_ok-verdict.ensures.fed before.text before.fed) in
     let Is : List ℕ → Type 0 = λ text. IsVerdict c.args.table.now text c.in-Some.verdict
     × StrikesOut c.args.table.now text c.args.balance.now c.feed.new.balance c.in-Some.verdict
-    × (IsTrue (is_legal c.in-Some.verdict) → HasSummedFor c.args.table.now c.loop-piece.report text) in
+    × (IsTrue (is_legal c.in-Some.verdict)
+    → HasSummedFor c.args.table.now c.loop-piece.report text) in
     let given = c.requires.good in
-    let no : is_legal c.in-Some.verdict ≡ false = rw c.in-Some.is at (c.in_ok-verdict.ensures.struck before.text given.0 (before.struck given.0 given.1)) in
+    let no : is_legal c.in-Some.verdict ≡ false =
+    rw c.in-Some.is at
+    (c.in_ok-verdict.ensures.struck before.text given.0 (before.struck given.0 given.1)) in
     let told = whatever_follows Is _ _ _
     (Consumes-trans _ _ _ before.text (take c.in-Ok.count c.read.new.buf) before.read got.0)
     (λ more. (
@@ -80,7 +88,8 @@ loop-piece-preserved g c =
     record {
       text = before.text ++ take c.in-Ok.count c.read.new.buf;
       fed = rw c.in_default-2.is at (c.in_ok-verdict.ensures.fed before.text before.fed);
-      struck = λ good is. rw c.in_default-2.is at (c.in_ok-verdict.ensures.struck before.text good (before.struck good is));
+      struck = λ good is. rw c.in_default-2.is at
+          (c.in_ok-verdict.ensures.struck before.text good (before.struck good is));
       read = Consumes-trans _ _ _ before.text (take c.in-Ok.count c.read.new.buf) before.read got.0;
       sums = c.in_ok-add_piece.ensures.sums before.text before.sums;
       report = c.add_piece.ensures.text ∙ before.report;

@@ -12,7 +12,8 @@ abbrev pub invariant-loop-piece : goal.invariant-loop-piece
 invariant-loop-piece g l = record {
   text : List ℕ;
   fed : HasFed l.table l.checker text;
-  struck : (good : List TapFields) → IsBalance l.fn.balance good [] → HasStruck l.table l.checker l.balance text good;
+  struck : (good : List TapFields) → IsBalance l.fn.balance good []
+      → HasStruck l.table l.checker l.balance text good;
   read : Consumes (g.R.Read.remaining l.fn.reader) (g.R.Read.remaining l.reader) text;
   sums : HasSummedFor l.table l.report text;
   report : text_of l.report ≡ text_of l.fn.report;

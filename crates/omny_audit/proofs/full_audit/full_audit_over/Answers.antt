@@ -1,4 +1,5 @@
-use Rattle.std.proofs.Common.{◌≡◌, ◌++◌, ◌∙◌, ℕ, Bool, List, Option, Some, None, true, if◌then◌else◌, refl, sym, ap, subst, append_assoc}
+use Rattle.std.proofs.Common.{◌≡◌, ◌++◌, ◌∙◌, ℕ, Bool, List, Option, Some, None, true}
+use Rattle.std.proofs.Common.{if◌then◌else◌, refl, sym, ap, subst, append_assoc}
 use Rattle.std.proofs.KnownBytes.{Appends-trans}
 use Rattle.std.specs.Prelude.{◌↔◌, nat_eq}
 use Rattle.std.specs.Io.KnownBytes.{Appends}
@@ -19,7 +20,8 @@ end_text-requires g c = λ yes.
     let found = c.in_ok-legal.ensures.told in
     let good = c.requires.good in
     let all = found.2 good.0 (λ has. c.of-full.ensures good.0 good.1) in
-    let decide = recount_legal c.recounts_decide.ensures c.args.table.now found.0 all.taken all.recount in
+    let decide = recount_legal c.recounts_decide.ensures c.args.table.now found.0 all.taken
+    all.recount in
     (c.args.table.now, found.0, found.3, decide.0 (sym all.is_legal ∙ yes))
 
 pub returns-clause-told : goal.returns-clause-told
@@ -44,17 +46,25 @@ returns-clause-told g c =
                 recount = all.recount;
                 rest = parts.0;
                 shown = refl;
-                second = subst (λ (b : Bool). IsDifferencesEnd (if c.args.has_uploads then Some good else None) (taps_from all.taken) b parts.0 parts.2) is end;
+                second = subst
+                    (λ (b : Bool). IsDifferencesEnd (if c.args.has_uploads then Some good else None)
+                    (taps_from all.taken) b parts.0 parts.2) is end;
               };
               legal = c.in_ok-legal.legal;
-              is_legal = subst (λ (b : Bool). (b ≡ true) ↔ IsLedger fares found.0) (sym is) (recount_legal c.recounts_decide.ensures fares found.0 all.taken all.recount);
+              is_legal = subst (λ (b : Bool). (b ≡ true) ↔ IsLedger fares found.0) (sym is)
+                  (recount_legal c.recounts_decide.ensures fares found.0 all.taken all.recount);
               rest = parts.1;
               fits = parts.3;
-              report_line = subst (λ (r : Option (List ℕ)). IsReportLine fares found.0 r c.in_ok-legal.legal parts.1 parts.3) c.recount_all.ensures.report line;
-              shown = ap (λ (t : List ℕ). recount_text all.taken ++ t) parts.6 ∙ sym (append_assoc (recount_text all.taken) parts.0 parts.1);
+              report_line = subst
+                  (λ (r : Option (List ℕ)). IsReportLine fares found.0 r c.in_ok-legal.legal parts.1
+                  parts.3) c.recount_all.ensures.report line;
+              shown = ap (λ (t : List ℕ). recount_text all.taken ++ t) parts.6
+                  ∙ sym (append_assoc (recount_text all.taken) parts.0 parts.1);
               both = parts.7;
             },
             Appends-trans _ _ _ (recount_text all.taken) told.0.items all.written
-                (subst (λ (t : List ℕ). Appends (g.W.Write.contents c.recount_all.new.out) (g.W.Write.contents c.write_text.new.out) t) c.as_slice.ensures.value c.in_ok-write_text.ensures.text),
+                (subst (λ (t : List ℕ). Appends (g.W.Write.contents c.recount_all.new.out)
+                (g.W.Write.contents c.write_text.new.out) t) c.as_slice.ensures.value
+                c.in_ok-write_text.ensures.text),
           ),
     )

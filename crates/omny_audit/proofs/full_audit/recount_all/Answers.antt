@@ -1,5 +1,6 @@
 -- What was read so far is what the recount was fed.
-use Rattle.std.proofs.Common.{◌≡◌, ◌++◌, ℕ, List, [], true, refl, take, sym, ap, subst, ◌∙◌, append-nil, arith}
+use Rattle.std.proofs.Common.{◌≡◌, ◌++◌, ℕ, List, [], true, refl, take, sym, ap, subst, ◌∙◌}
+use Rattle.std.proofs.Common.{append-nil, arith}
 use Rattle.std.proofs.KnownBytes.{Appends-nil, Appends-trans, Consumes-trans, Consumes-nil}
 use Rattle.std.specs.Io.KnownBytes.{Appends}
 use Rattle.ledger_check.specs.FullBalances.{IsFullBalance}
@@ -13,7 +14,11 @@ pub loop-piece-init : goal.loop-piece-init
 loop-piece-init g c = record {
   text = [];
   read = Consumes-nil _;
-  known = λ good struck. ([], c.new-recount.ensures c.args.table.now c.args.has_uploads c.args.full.now good struck, Appends-nil _);
+  known = λ good struck. (
+    [],
+    c.new-recount.ensures c.args.table.now c.args.has_uploads c.args.full.now good struck,
+    Appends-nil _,
+  );
   sums = c.requires.sums;
   report = refl;
 }
@@ -29,9 +34,13 @@ returns-then-count-eq0-clause-told g c =
     let before = c.loop-piece.invariant in
     let fares = c.args.table.now in
     let got = c.in-Ok.ensures.bytes in
-    let none = ap (λ (n : ℕ). before.text ++ take n c.read.new.buf) c.if-count-eq0.true ∙ append-nil before.text in
-    let Is : List ℕ → Type 0 = λ text. ((good : List TapFields) → (c.args.has_uploads ≡ true → IsFullBalance c.args.full.now good [])
-    → HasRecountedAll fares c.args.has_uploads c.loop-piece.full text good c.in_ok-legal.legal (g.W.Write.contents c.args.out.now) (g.W.Write.contents c.write_piece.new.out))
+    let none = ap (λ (n : ℕ). before.text ++ take n c.read.new.buf) c.if-count-eq0.true
+    ∙ append-nil before.text in
+    let Is : List ℕ → Type 0 =
+    λ text. ((good : List TapFields)
+    → (c.args.has_uploads ≡ true → IsFullBalance c.args.full.now good [])
+    → HasRecountedAll fares c.args.has_uploads c.loop-piece.full text good c.in_ok-legal.legal
+    (g.W.Write.contents c.args.out.now) (g.W.Write.contents c.write_piece.new.out))
     × HasSummedFor fares c.loop-piece.report text in
     let told = at_end Is _ _ _
     (Consumes-trans _ _ _ before.text (take c.in-Ok.count c.read.new.buf) before.read got.0)
@@ -39,16 +48,21 @@ returns-then-count-eq0-clause-told g c =
     (subst Is (sym none) (
       λ good struck.
           let now = before.known good struck in
-          let ended = c.in_ok-legal.ensures fares c.args.has_uploads c.loop-piece.full before.text now.0 good now.1 in
+          let ended = c.in_ok-legal.ensures fares c.args.has_uploads c.loop-piece.full before.text
+          now.0 good now.1 in
           let more = ended.5 ∙ ap (λ (t : List ℕ). t ++ ended.4) c.clear.ensures.bytes in
           record {
             taken = ended.0;
             recount = ended.1;
             is_legal = ended.2;
             struck = ended.3;
-            written = subst (λ (t : List ℕ). Appends (g.W.Write.contents c.args.out.now) (g.W.Write.contents c.write_piece.new.out) t) ended.6
+            written = subst
+                (λ (t : List ℕ). Appends (g.W.Write.contents c.args.out.now)
+                (g.W.Write.contents c.write_piece.new.out) t) ended.6
                 (Appends-trans _ _ _ now.0 ended.4 now.2
-                (subst (λ (t : List ℕ). Appends (g.W.Write.contents c.loop-piece.out) (g.W.Write.contents c.write_piece.new.out) t) (c.as_str.ensures.value ∙ more) c.in_ok-write_piece.ensures.text));
+                (subst (λ (t : List ℕ). Appends (g.W.Write.contents c.loop-piece.out)
+                (g.W.Write.contents c.write_piece.new.out) t) (c.as_str.ensures.value ∙ more)
+                c.in_ok-write_piece.ensures.text));
           },
       before.sums,
     )) in
@@ -74,7 +88,9 @@ loop-piece-preserved g c =
             now.0 ++ fed.0,
             fed.2,
             Appends-trans _ _ _ now.0 fed.0 now.2
-                (subst (λ (t : List ℕ). Appends (g.W.Write.contents c.loop-piece.out) (g.W.Write.contents c.write_piece-in-loop-piece.new.out) t) (c.as_str-in-loop-piece.ensures.value ∙ more) c.in_ok-write_piece-2.ensures.text),
+                (subst (λ (t : List ℕ). Appends (g.W.Write.contents c.loop-piece.out)
+                (g.W.Write.contents c.write_piece-in-loop-piece.new.out) t)
+                (c.as_str-in-loop-piece.ensures.value ∙ more) c.in_ok-write_piece-2.ensures.text),
           );
       sums = c.in_ok-add_piece.ensures.sums before.text before.sums;
       report = c.add_piece.ensures.text ∙ before.report;

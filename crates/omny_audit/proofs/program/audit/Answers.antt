@@ -1,4 +1,5 @@
-use Rattle.std.proofs.Common.{◌∙◌, ℕ, Bool, Bor, Option, List, ap, false, map, not, subst, sym, true}
+use Rattle.std.proofs.Common.{◌∙◌, ℕ, Bool, Bor, Option, List, ap, false, map, not, subst, sym}
+use Rattle.std.proofs.Common.{true}
 use Rattle.std.proofs.lemmas.Result.{IfOk-weaker}
 use Rattle.tap_views.specs.declared.encoder.TapFields.{TapFields}
 use Rattle.omny_audit.specs.Fault.{NamesOneOf}
@@ -7,33 +8,41 @@ use Rattle.omny_audit.specs.Reports.{IsAudit}
 use Rattle.omny_audit.specs.inside.Options.{audit_asked_of}
 use Rattle.omny_audit.specs.inside.Reports.{text_of}
 use Rattle.omny_audit.specs.Program.{IsRightAuditFault, compared}
-use Rattle.omny_audit.proofs.ProgramLemmas.{at_ledger, at_report, at_uploads, both_err, compared_is, kept_all, loads_same, names_same, opened, right_later, written_first}
+use Rattle.omny_audit.proofs.ProgramLemmas.{at_ledger, at_report, at_uploads, both_err, compared_is}
+use Rattle.omny_audit.proofs.ProgramLemmas.{kept_all, loads_same, names_same, opened, right_later}
+use Rattle.omny_audit.proofs.ProgramLemmas.{written_first}
 use Rattle.omny_audit.proofs.ProgramLemmas.{handed_on}
 use Rattle.omny_audit.proofs.program.audit.Goals as goal
 
 pub full_audit_over-requires-clause-good : goal.full_audit_over-requires-clause-good
-full_audit_over-requires-clause-good g c = let loaded = c.in_ok-balance.ensures.ok in (loaded.1, loaded.4)
+full_audit_over-requires-clause-good g c = let loaded = c.in_ok-balance.ensures.ok in
+    (loaded.1, loaded.4)
 
 pub full_audit_over-requires-clause-sums : goal.full_audit_over-requires-clause-sums
 full_audit_over-requires-clause-sums g c = c.in_ok-report.ensures.sums c.in_ok-table.table
 
 pub audit_over-requires-clause-good : goal.audit_over-requires-clause-good
-audit_over-requires-clause-good g c = let loaded = c.in_ok-balance.ensures.ok in (loaded.1, loaded.4)
+audit_over-requires-clause-good g c = let loaded = c.in_ok-balance.ensures.ok in
+    (loaded.1, loaded.4)
 
 pub audit_over-requires-clause-sums : goal.audit_over-requires-clause-sums
 audit_over-requires-clause-sums g c = c.in_ok-report.ensures.sums c.in_ok-table.table
 
--- the table, the uploads and the report were loaded, and the ledger was read, which the answer is on
+-- the table, the uploads and the report were loaded, and the ledger was read, which the answer is
+-- on
 pub returns-clause-ok : goal.returns-clause-ok
 returns-clause-ok g c =
     let loaded = c.in_ok-balance.ensures.ok in
     IfOk-weaker c.audit_over.result _ _ (λ well told.
     let finding = told.2 loaded.1 loaded.4 in
     let names = c.as_slice-names.ensures.value in
-    let same = compared_is c.as_slice-names.result.now loaded.1 _ (ap not c.is_empty-has_uploads.ensures)
+    let same = compared_is c.as_slice-names.result.now loaded.1 _
+    (ap not c.is_empty-has_uploads.ensures)
     ∙ ap (λ (ns : List (Bor (List ℕ))). compared (map (λ n. n.now) ns) loaded.1) names in
     let reported = text_of c.in_ok-report.report in
-    let found = subst (λ (good : Option (List TapFields)). IsAudit false c.in_ok-table.table told.0 good reported finding.0 well) same finding.1 in
+    let found = subst
+    (λ (good : Option (List TapFields)). IsAudit false c.in_ok-table.table told.0 good reported
+    finding.0 well) same finding.1 in
     record {
       text = finding.0;
       found = record {
@@ -43,14 +52,18 @@ returns-clause-ok g c =
         fares = c.in_ok-table.table;
         loads_table = c.in_ok-table.ensures.ok;
         uploads = loaded.0;
-        loads_uploads = loads_same c.as_slice-names.result.now c.args.options.now.uploads.items _ _ loaded.0 names loaded.2;
+        loads_uploads = loads_same c.as_slice-names.result.now c.args.options.now.uploads.items _ _
+            loaded.0 names loaded.2;
         good = loaded.1;
         are_good = loaded.3;
         report = reported;
         loads_report = c.in_ok-report.ensures.ok;
         ledger = told.0;
         loads_ledger = opened _ _ _ _ told.0 c.in_ok-ledger.ensures.ok told.1;
-        audit = subst (λ (b : Bool). IsAudit b c.in_ok-table.table told.0 (compared (map (λ n. n.now) c.args.options.now.uploads.items) loaded.1) reported finding.0 well) (sym c.if-options.false) found;
+        audit = subst
+            (λ (b : Bool). IsAudit b c.in_ok-table.table told.0
+            (compared (map (λ n. n.now) c.args.options.now.uploads.items) loaded.1) reported
+            finding.0 well) (sym c.if-options.false) found;
         right = c.audits_decide.ensures _ _ _ _ _ _ _ found;
       };
       written = finding.2;
@@ -63,10 +76,13 @@ returns-then-options-clause-ok g c =
     IfOk-weaker c.full_audit_over.result _ _ (λ well told.
     let finding = told.2 loaded.1 loaded.4 in
     let names = c.as_slice-names.ensures.value in
-    let same = compared_is c.as_slice-names.result.now loaded.1 _ (ap not c.is_empty-has_uploads.ensures)
+    let same = compared_is c.as_slice-names.result.now loaded.1 _
+    (ap not c.is_empty-has_uploads.ensures)
     ∙ ap (λ (ns : List (Bor (List ℕ))). compared (map (λ n. n.now) ns) loaded.1) names in
     let reported = text_of c.in_ok-report.report in
-    let found = subst (λ (good : Option (List TapFields)). IsAudit true c.in_ok-table.table told.0 good reported finding.0 well) same finding.1 in
+    let found = subst
+    (λ (good : Option (List TapFields)). IsAudit true c.in_ok-table.table told.0 good reported
+    finding.0 well) same finding.1 in
     record {
       text = finding.0;
       found = record {
@@ -76,14 +92,18 @@ returns-then-options-clause-ok g c =
         fares = c.in_ok-table.table;
         loads_table = c.in_ok-table.ensures.ok;
         uploads = loaded.0;
-        loads_uploads = loads_same c.as_slice-names.result.now c.args.options.now.uploads.items _ _ loaded.0 names loaded.2;
+        loads_uploads = loads_same c.as_slice-names.result.now c.args.options.now.uploads.items _ _
+            loaded.0 names loaded.2;
         good = loaded.1;
         are_good = loaded.3;
         report = reported;
         loads_report = c.in_ok-report.ensures.ok;
         ledger = told.0;
         loads_ledger = opened _ _ _ _ told.0 c.in_ok-ledger.ensures.ok told.1;
-        audit = subst (λ (b : Bool). IsAudit b c.in_ok-table.table told.0 (compared (map (λ n. n.now) c.args.options.now.uploads.items) loaded.1) reported finding.0 well) (sym c.if-options.true) found;
+        audit = subst
+            (λ (b : Bool). IsAudit b c.in_ok-table.table told.0
+            (compared (map (λ n. n.now) c.args.options.now.uploads.items) loaded.1) reported
+            finding.0 well) (sym c.if-options.true) found;
         right = c.audits_decide.ensures _ _ _ _ _ _ _ found;
       };
       written = finding.2;
@@ -94,44 +114,54 @@ pub returns-in_err-balance-clause-named : goal.returns-in_err-balance-clause-nam
 returns-in_err-balance-clause-named g c =
     let fault = c.in_err-balance.field-0.0 in
     let asked = audit_asked_of c.args.options.now in
-    handed_on c.from_residual-in_err-balance.result fault (λ f. NamesOneOf (files_of asked) f) c.from_residual-in_err-balance.ensures.1
+    handed_on c.from_residual-in_err-balance.result fault (λ f. NamesOneOf (files_of asked) f)
+    c.from_residual-in_err-balance.ensures.1
     (at_uploads asked fault
-    (names_same c.as_slice-names.result.now c.args.options.now.uploads.items fault c.as_slice-names.ensures.value c.in_err-balance.ensures.named))
+    (names_same c.as_slice-names.result.now c.args.options.now.uploads.items fault
+    c.as_slice-names.ensures.value c.in_err-balance.ensures.named))
 
 pub returns-in_err-report-clause-named : goal.returns-in_err-report-clause-named
 returns-in_err-report-clause-named g c =
     let fault = c.in_err-report.field-0.0 in
     let asked = audit_asked_of c.args.options.now in
-    handed_on c.from_residual-in_err-report.result fault (λ f. NamesOneOf (files_of asked) f) c.from_residual-in_err-report.ensures.1
+    handed_on c.from_residual-in_err-report.result fault (λ f. NamesOneOf (files_of asked) f)
+    c.from_residual-in_err-report.ensures.1
     (at_report asked fault c.in_err-report.ensures.named)
 
 pub returns-in_err-ledger-clause-named : goal.returns-in_err-ledger-clause-named
 returns-in_err-ledger-clause-named g c =
     let fault = c.in_err-ledger.field-0.0 in
     let asked = audit_asked_of c.args.options.now in
-    handed_on c.from_residual-in_err-ledger.result fault (λ f. NamesOneOf (files_of asked) f) c.from_residual-in_err-ledger.ensures.1
+    handed_on c.from_residual-in_err-ledger.result fault (λ f. NamesOneOf (files_of asked) f)
+    c.from_residual-in_err-ledger.ensures.1
     (at_ledger asked fault c.in_err-ledger.ensures.named)
 
 pub returns-in_err-balance-clause-right : goal.returns-in_err-balance-clause-right
 returns-in_err-balance-clause-right g c =
     let fault = c.in_err-balance.field-0.0 in
     let asked = audit_asked_of c.args.options.now in
-    handed_on c.from_residual-in_err-balance.result fault (λ f. IsRightAuditFault asked _ _ _ f _ _) c.from_residual-in_err-balance.ensures.1
-    (written_first asked _ _ _ fault _ _ c.in_err-balance.ensures.fault (c.in_err-balance.ensures.right asked.table _ _))
+    handed_on c.from_residual-in_err-balance.result fault (λ f. IsRightAuditFault asked _ _ _ f _ _)
+    c.from_residual-in_err-balance.ensures.1
+    (written_first asked _ _ _ fault _ _ c.in_err-balance.ensures.fault
+    (c.in_err-balance.ensures.right asked.table _ _))
 
 pub returns-in_err-report-clause-right : goal.returns-in_err-report-clause-right
 returns-in_err-report-clause-right g c =
     let fault = c.in_err-report.field-0.0 in
     let asked = audit_asked_of c.args.options.now in
-    handed_on c.from_residual-in_err-report.result fault (λ f. IsRightAuditFault asked _ _ _ f _ _) c.from_residual-in_err-report.ensures.1
-    (written_first asked _ _ _ fault _ _ c.in_err-report.ensures.fault (c.in_err-report.ensures.right asked.table _ _))
+    handed_on c.from_residual-in_err-report.result fault (λ f. IsRightAuditFault asked _ _ _ f _ _)
+    c.from_residual-in_err-report.ensures.1
+    (written_first asked _ _ _ fault _ _ c.in_err-report.ensures.fault
+    (c.in_err-report.ensures.right asked.table _ _))
 
 pub returns-in_err-ledger-clause-right : goal.returns-in_err-ledger-clause-right
 returns-in_err-ledger-clause-right g c =
     let fault = c.in_err-ledger.field-0.0 in
     let asked = audit_asked_of c.args.options.now in
-    handed_on c.from_residual-in_err-ledger.result fault (λ f. IsRightAuditFault asked _ _ _ f _ _) c.from_residual-in_err-ledger.ensures.1
-    (written_first asked _ _ _ fault _ _ c.in_err-ledger.ensures.fault (c.in_err-ledger.ensures.right asked.table _ _))
+    handed_on c.from_residual-in_err-ledger.result fault (λ f. IsRightAuditFault asked _ _ _ f _ _)
+    c.from_residual-in_err-ledger.ensures.1
+    (written_first asked _ _ _ fault _ _ c.in_err-ledger.ensures.fault
+    (c.in_err-ledger.ensures.right asked.table _ _))
 
 -- the ledger was read, and what a write that failed left is a beginning of the right text
 pub returns-clause-right : goal.returns-clause-right
@@ -144,10 +174,13 @@ returns-clause-right g c =
           let told = begun un in
           let finding = told.2 loaded.1 loaded.4 in
           let names = c.as_slice-names.ensures.value in
-          let same = compared_is c.as_slice-names.result.now loaded.1 _ (ap not c.is_empty-has_uploads.ensures)
+          let same = compared_is c.as_slice-names.result.now loaded.1 _
+          (ap not c.is_empty-has_uploads.ensures)
           ∙ ap (λ (ns : List (Bor (List ℕ))). compared (map (λ n. n.now) ns) loaded.1) names in
           let reported = text_of c.in_ok-report.report in
-          let found = subst (λ (good : Option (List TapFields)). IsAudit false c.in_ok-table.table told.0 good reported finding.0 finding.1) same finding.2 in
+          let found = subst
+          (λ (good : Option (List TapFields)). IsAudit false c.in_ok-table.table told.0 good
+          reported finding.0 finding.1) same finding.2 in
           record {
             text = finding.0;
             well = finding.1;
@@ -158,14 +191,18 @@ returns-clause-right g c =
               fares = c.in_ok-table.table;
               loads_table = c.in_ok-table.ensures.ok;
               uploads = loaded.0;
-              loads_uploads = loads_same c.as_slice-names.result.now c.args.options.now.uploads.items _ _ loaded.0 names loaded.2;
+              loads_uploads = loads_same c.as_slice-names.result.now
+                  c.args.options.now.uploads.items _ _ loaded.0 names loaded.2;
               good = loaded.1;
               are_good = loaded.3;
               report = reported;
               loads_report = c.in_ok-report.ensures.ok;
               ledger = told.0;
               loads_ledger = opened _ _ _ _ told.0 c.in_ok-ledger.ensures.ok told.1;
-              audit = subst (λ (b : Bool). IsAudit b c.in_ok-table.table told.0 (compared (map (λ n. n.now) c.args.options.now.uploads.items) loaded.1) reported finding.0 finding.1) (sym c.if-options.false) found;
+              audit = subst
+                  (λ (b : Bool). IsAudit b c.in_ok-table.table told.0
+                  (compared (map (λ n. n.now) c.args.options.now.uploads.items) loaded.1) reported
+                  finding.0 finding.1) (sym c.if-options.false) found;
               right = c.audits_decide.ensures _ _ _ _ _ _ _ found;
             };
             begun = finding.3;
@@ -174,4 +211,5 @@ returns-clause-right g c =
     c.audit_over.ensures.later c.audit_over.ensures.begun
 
 pub returns-in_err-ledger-clause-fault : goal.returns-in_err-ledger-clause-fault
-returns-in_err-ledger-clause-fault g c = λ all. kept_all c.from_residual-in_err-ledger.result (g.W.Write.contents c.args.out.now)
+returns-in_err-ledger-clause-fault g c =
+    λ all. kept_all c.from_residual-in_err-ledger.result (g.W.Write.contents c.args.out.now)

@@ -8,7 +8,8 @@ use Rattle.part_reports.specs.inside.ReportsLeft.{report_at}
 use Rattle.part_reports.specs.inside.Standings.{standing}
 use Rattle.part_reports.proofs.MergedBefore.{begins_nothing, begun_least, begun_so_far}
 use Rattle.part_reports.proofs.Merges.{least_of, merging_stuck, merging_twin, twin_of}
-use Rattle.part_reports.proofs.ReportsMerged.{at_end, beginning, going_on, not_taken, something_left}
+use Rattle.part_reports.proofs.ReportsMerged.{at_end, beginning, going_on, not_taken}
+use Rattle.part_reports.proofs.ReportsMerged.{something_left}
 use Rattle.part_reports.proofs.ledgers_with_reports.write_all_taken.Goals as goal
 use Rattle.tap_views.proofs.Choices.{OnErr_any}
 

@@ -107,7 +107,8 @@ returns-in_err-source-clause-wrong g c =
     let p = err_from_is_err_and c.from_residual.result c.from_residual.ensures.1 in
     rw (p.1, p.2) (report_wrong g.R.Read.remaining items c.loop-from.yielded c.in-Some.from
     c.loop-from.sums (map (standing g.R.Read.remaining) c.loop-from.sources.items) c.args.first
-    c.loop-from.number c.in_err-source.field-0.0 c.loop-from.invariant.front turn.0 turn.1 c.loop-from.invariant.read
+    c.loop-from.number c.in_err-source.field-0.0 c.loop-from.invariant.front turn.0 turn.1
+    c.loop-from.invariant.read
     c.in_err-source.ensures.refused c.loop-from.invariant.number c.in_err-source.ensures.told)
 
 pub returns-clause-count : goal.returns-clause-count

@@ -8,6 +8,8 @@ use Rattle.report_texts.proofs.front.write_uploads.Goals as goal
 pub returns : goal.returns
 returns c =
     on_ok_weaker c.write_upload_lines.result
-    (in_parts (string_bytes c.args.text.now) (string_bytes c.write_section_head.new.text) (string_bytes c.write_upload_lines.new.text)
-    (number_line (codes "uploads ") (length c.args.ends.now)) (upload_lines 0 c.args.ends.now) c.in_ok-write_section_head.ensures)
+    (in_parts (string_bytes c.args.text.now) (string_bytes c.write_section_head.new.text)
+    (string_bytes c.write_upload_lines.new.text)
+    (number_line (codes "uploads ") (length c.args.ends.now)) (upload_lines 0 c.args.ends.now)
+    c.in_ok-write_section_head.ensures)
     c.write_upload_lines.ensures

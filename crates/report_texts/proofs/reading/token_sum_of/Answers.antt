@@ -12,7 +12,8 @@ returns-in_err-text c =
     MatchOption_none _ _ c.from_residual-in_err-text.result c.from_residual-in_err-text.ensures
     (λ sum fits is.
     let behind = append_cancel_left (codes "token ") c.in_ok-behind.behind.now
-    (encode_lower (bytes_of sum.0) ++ (codes " " ++ counts_text sum.1)) (sym c.in_ok-behind.ensures ∙ is)
+    (encode_lower (bytes_of sum.0) ++ (codes " " ++ counts_text sum.1))
+    (sym c.in_ok-behind.ensures ∙ is)
     in
     let (same, rest) = token_text_unique c.in_ok-token.token sum.0 c.in_ok-token.rest.now
     (codes " " ++ counts_text sum.1) c.in_ok-token.ensures.0 fits.token (sym c.in_ok-token.ensures.1
@@ -24,7 +25,8 @@ returns-in_err-totals c =
     MatchOption_none _ _ c.from_residual-in_err-totals.result c.from_residual-in_err-totals.ensures
     (λ sum fits is.
     let behind = append_cancel_left (codes "token ") c.in_ok-behind.behind.now
-    (encode_lower (bytes_of sum.0) ++ (codes " " ++ counts_text sum.1)) (sym c.in_ok-behind.ensures ∙ is)
+    (encode_lower (bytes_of sum.0) ++ (codes " " ++ counts_text sum.1))
+    (sym c.in_ok-behind.ensures ∙ is)
     in
     let (same, rest) = token_text_unique c.in_ok-token.token sum.0 c.in_ok-token.rest.now
     (codes " " ++ counts_text sum.1) c.in_ok-token.ensures.0 fits.token (sym c.in_ok-token.ensures.1

@@ -46,7 +46,8 @@ loop-tap-preserved c =
           let line = c.in_ok-tell_tap.ensures.told (earlier ++ posted_after fares earlier done)
           so_far.1.come in (
             so_far.0 ++ line.0,
-            subst (λ (ts : List TapFields). AreTold fares earlier ts c.tell_tap.new.teller (so_far.0 ++ line.0))
+            subst (λ (ts : List TapFields). AreTold fares earlier ts c.tell_tap.new.teller
+                (so_far.0 ++ line.0))
                 (sym more) (told_append fares earlier done (_ ∷ []) c.loop-tap.teller
                 c.tell_tap.new.teller so_far.0 line.0 so_far.1 line.1),
             line.2 ∙ ap (λ t. t ++ line.0) so_far.2

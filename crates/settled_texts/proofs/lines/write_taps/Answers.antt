@@ -95,7 +95,8 @@ loop-rest-preserved g c =
           let so_far = inv.told earlier come in
           let more = next.told (earlier ++ posted_after fares earlier inv.done) so_far.1.come in (
             so_far.0 ++ more.0,
-            told_append fares earlier inv.done stride c.loop-rest.teller c.tell_taps.new.teller so_far.0
+            told_append fares earlier inv.done stride c.loop-rest.teller c.tell_taps.new.teller
+                so_far.0
                 more.0 so_far.1 more.1,
             Appends-kept _ _ _ (so_far.0 ++ more.0) (grown _ (g.W.Write.contents c.loop-rest.out)
                 (string_bytes c.loop-rest.text) _ so_far.0 more.0 so_far.2 more.2)
@@ -113,7 +114,8 @@ returns-clause-told g c = λ earlier come.
     let same = all_done inv.done c.loop-rest.rest.now _ inv.whole
     (sym c.is_empty.ensures ∙ c.loop-rest-test.false) in (
       so_far.0,
-      subst (λ (ts : List TapFields). AreTold c.args.table.now earlier ts c.loop-rest.teller so_far.0) same
+      subst (λ (ts : List TapFields). AreTold c.args.table.now earlier ts c.loop-rest.teller
+          so_far.0) same
           so_far.1,
       so_far.2,
     )
@@ -121,7 +123,8 @@ returns-clause-told g c = λ earlier come.
 pub returns-clause-token : goal.returns-clause-token
 returns-clause-token g c =
     let inv = c.loop-rest.invariant in
-    inv.token ∙ ap (last_token c.args.teller.now.token) (all_done inv.done c.loop-rest.rest.now _ inv.whole
+    inv.token ∙ ap (last_token c.args.teller.now.token)
+    (all_done inv.done c.loop-rest.rest.now _ inv.whole
     (sym c.is_empty.ensures ∙ c.loop-rest-test.false))
 
 pub returns-clause-few : goal.returns-clause-few

@@ -1,6 +1,8 @@
 -- Each turn writes a round more.
-use Rattle.std.proofs.Common.{◌≡◌, ◌==◌, true, All, List, [], ◌++◌, length, string_bytes, refl, sym, ap}
-use Rattle.std.proofs.Common.{subst, ◌∙◌, append_assoc, append-nil, arith, length-append, Vec, Global}
+use Rattle.std.proofs.Common.{◌≡◌, ◌==◌, true, All, List, [], ◌++◌, length, string_bytes, refl, sym}
+use Rattle.std.proofs.Common.{ap}
+use Rattle.std.proofs.Common.{subst, ◌∙◌, append_assoc, append-nil, arith, length-append, Vec}
+use Rattle.std.proofs.Common.{Global}
 use Rattle.std.specs.Io.KnownBytes.{append_known}
 use Rattle.std.proofs.KnownBytes.{Appends-nil, Appends-trans}
 use Rattle.std.proofs.lemmas.Bool.{eqb-true}
@@ -97,7 +99,8 @@ loop-rest-preserved g c =
     let parts = length-append (joined inv.done) (joined round) in
     record {
       done = inv.done ++ round;
-      whole = append_assoc inv.done round behind ∙ ap (λ lists. inv.done ++ lists) halves ∙ inv.whole;
+      whole = append_assoc inv.done round behind ∙ ap (λ lists. inv.done ++ lists) halves
+          ∙ inv.whole;
       early = (All-split Early (joined round) (joined behind)
           (subst (λ (taps : List TapFields). All Early taps)
           (sym (joined_halves c.loop-rest.rest.now round behind halves)) inv.early)).1;
@@ -132,7 +135,8 @@ returns-clause-told g c = λ earlier come.
     let same = all_done inv.done c.loop-rest.rest.now _ inv.whole
     (sym c.is_empty.ensures ∙ c.loop-rest-test.false) in (
       so_far.0,
-      subst (λ (lists : List (Vec TapFields Global)). AreTold c.args.table.now earlier (joined lists)
+      subst (λ (lists : List (Vec TapFields Global)). AreTold c.args.table.now earlier
+          (joined lists)
           c.loop-rest.teller so_far.0) same so_far.1,
       so_far.2,
     )

@@ -17,7 +17,8 @@ Early tap = tap.moment < moment_limit
 
 pub loop-left-init : goal.loop-left-init
 loop-left-init c =
-    rw c.in_ok-text.ensures.items ([], no_text, refl, c.requires, no_batches (length c.args.taps.now))
+    rw c.in_ok-text.ensures.items
+    ([], no_text, refl, c.requires, no_batches (length c.args.taps.now))
 
 pub loop-left-smaller : goal.loop-left-smaller
 loop-left-smaller c =
@@ -62,7 +63,8 @@ pub returns-clause-file : goal.returns-clause-file
 returns-clause-file c =
     let (done, file, all, early, batches) = c.loop-left.invariant in
     subst (λ taps. IsFileOf c.loop-left.text.items taps)
-    (all_done done c.loop-left.left.now _ all (sym c.is_empty.ensures ∙ c.loop-left-test.false)) file
+    (all_done done c.loop-left.left.now _ all (sym c.is_empty.ensures ∙ c.loop-left-test.false))
+    file
 
 pub returns-clause-batches : goal.returns-clause-batches
 returns-clause-batches c =

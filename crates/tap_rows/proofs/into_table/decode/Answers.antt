@@ -12,9 +12,13 @@ use Rattle.tap_rows.proofs.RowLemmas.{rows_joined}
 use Rattle.tap_rows.proofs.into_table.decode.Goals as goal
 
 -- the rows of one batch more
-batch_more : (done : List (List Tap)) (batch : List Tap) → rows_text (fields_in done) ++ rows_text (map fields_of batch) ≡ rows_text (fields_in (done ++ batch ∷ []))
+batch_more : (done : List (List Tap)) (batch : List Tap)
+    → rows_text (fields_in done) ++ rows_text (map fields_of batch)
+    ≡ rows_text (fields_in (done ++ batch ∷ []))
 batch_more done batch =
-    sym (rows_joined (fields_in done) (map fields_of batch)) ∙ ap rows_text (sym (map-append fields_of (taps_of_batches done) batch)) ∙ ap (λ taps. rows_text (map fields_of taps)) (sym (taps_more done batch))
+    sym (rows_joined (fields_in done) (map fields_of batch))
+    ∙ ap rows_text (sym (map-append fields_of (taps_of_batches done) batch))
+    ∙ ap (λ taps. rows_text (map fields_of taps)) (sym (taps_more done batch))
 
 pub loop-batch-init : goal.loop-batch-init
 loop-batch-init g c = record {

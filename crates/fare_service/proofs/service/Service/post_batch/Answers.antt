@@ -16,7 +16,12 @@ loop-shard-init g c = record {
   room = omega arith;
   within = omega arith;
   full = λ h. h;
-  made = λ place. ([], made_none (shards_of c.args.self.now) c.args.posting.now.passes.items (sums_of c.args.posting.now.totals), refl);
+  made = λ place. (
+    [],
+    made_none (shards_of c.args.self.now) c.args.posting.now.passes.items
+        (sums_of c.args.posting.now.totals),
+    refl,
+  );
 }
 
 pub loop-shard-preserved : goal.loop-shard-preserved
@@ -30,32 +35,52 @@ loop-shard-preserved g c =
       room = omega (arith, c.in_ok-post_run.ensures.few, c.loop-shard.invariant.room);
       within = omega (arith, c.loop-shard-test.true);
       full = λ h. c.in_ok-post_run.ensures.full (inl (c.loop-shard.invariant.full h));
-      made = λ place. batch_more shards c.loop-shard.shard (placed_from place c.args.batch.now) c.args.posting.now.passes.items c.loop-shard.posting.passes.items c.post_run.new.posting.passes.items
-          (sums_of c.args.posting.now.totals) (sums_of c.loop-shard.posting.totals) (sums_of c.post_run.new.posting.totals) (c.loop-shard.invariant.made place) (c.in_ok-post_run.ensures.made place);
+      made = λ place. batch_more shards c.loop-shard.shard (placed_from place c.args.batch.now)
+          c.args.posting.now.passes.items c.loop-shard.posting.passes.items
+          c.post_run.new.posting.passes.items
+          (sums_of c.args.posting.now.totals) (sums_of c.loop-shard.posting.totals)
+          (sums_of c.post_run.new.posting.totals) (c.loop-shard.invariant.made place)
+          (c.in_ok-post_run.ensures.made place);
     }
 
 pub returns-in_err-post_run-clause-made : goal.returns-in_err-post_run-clause-made
 returns-in_err-post_run-clause-made g c =
     let shards = shards_of c.args.self.now in
-    λ place. cuts_told c.from_residual.result shards c.args.posting.now.passes.items c.post_run.new.posting.passes.items (sums_of c.args.posting.now.totals) (sums_of c.post_run.new.posting.totals)
+    λ place. cuts_told c.from_residual.result shards c.args.posting.now.passes.items
+    c.post_run.new.posting.passes.items (sums_of c.args.posting.now.totals)
+    (sums_of c.post_run.new.posting.totals)
     (runs_below shards shards (placed_from place c.args.batch.now)) c.from_residual.ensures.0
-    (batch_cut shards c.loop-shard.shard (placed_from place c.args.batch.now) c.args.posting.now.passes.items c.loop-shard.posting.passes.items c.post_run.new.posting.passes.items
-    (sums_of c.args.posting.now.totals) (sums_of c.loop-shard.posting.totals) (sums_of c.post_run.new.posting.totals) (omega (arith, c.loop-shard-test.true, c.shards-shard-end.ensures.number))
+    (batch_cut shards c.loop-shard.shard (placed_from place c.args.batch.now)
+    c.args.posting.now.passes.items c.loop-shard.posting.passes.items
+    c.post_run.new.posting.passes.items
+    (sums_of c.args.posting.now.totals) (sums_of c.loop-shard.posting.totals)
+    (sums_of c.post_run.new.posting.totals)
+    (omega (arith, c.loop-shard-test.true, c.shards-shard-end.ensures.number))
     (c.loop-shard.invariant.made place) (c.in_err-post_run.ensures.made place))
 
 pub returns-clause-made : goal.returns-clause-made
 returns-clause-made g c =
     let shards = shards_of c.args.self.now in
-    let all : c.loop-shard.shard ≡ shards = omega (arith, c.loop-shard-test.false, c.loop-shard.auto.shard-end, c.shards-shard-end.ensures.number) in
+    let all : c.loop-shard.shard ≡ shards =
+    omega (
+      arith,
+      c.loop-shard-test.false,
+      c.loop-shard.auto.shard-end,
+      c.shards-shard-end.ensures.number,
+    ) in
     λ place.
-    let N : ℕ → Type 0 = λ n. Posts shards c.args.posting.now.passes.items c.loop-shard.posting.passes.items (sums_of c.args.posting.now.totals) (sums_of c.loop-shard.posting.totals)
+    let N : ℕ → Type 0 =
+    λ n. Posts shards c.args.posting.now.passes.items c.loop-shard.posting.passes.items
+    (sums_of c.args.posting.now.totals) (sums_of c.loop-shard.posting.totals)
     (runs_below shards n (placed_from place c.args.batch.now)) in
     subst N all (c.loop-shard.invariant.made place)
 
 pub returns-in_err-post_run-clause-full : goal.returns-in_err-post_run-clause-full
 returns-in_err-post_run-clause-full g c =
-    handed_on c.post_run.result c.from_residual.result c.in_err-post_run.field-0.0 _ _ _ c.in_err-post_run.was
-    (the_error c.from_residual.result c.in_err-post_run.field-0.0 c.from_residual.ensures.1) c.loop-shard.invariant.full c.post_run.ensures.full
+    handed_on c.post_run.result c.from_residual.result c.in_err-post_run.field-0.0 _ _ _
+    c.in_err-post_run.was
+    (the_error c.from_residual.result c.in_err-post_run.field-0.0 c.from_residual.ensures.1)
+    c.loop-shard.invariant.full c.post_run.ensures.full
 
 pub returns-clause-full : goal.returns-clause-full
 returns-clause-full g c = tells_ok tt _ _ c.loop-shard.invariant.full

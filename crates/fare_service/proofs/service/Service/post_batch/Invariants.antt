@@ -16,6 +16,9 @@ invariant-loop-shard g l = record {
   room : l.posting.totals.taps ≤ l.fn.posting.totals.taps + 4096 * l.shard;
   within : l.shard ≤ l.shard-end;
   full : SomeFull l.fn.posting.passes.items → SomeFull l.posting.passes.items;
-  made : (place : ℕ) → (more : List RunVisit) × HasVisited (shards_of l.fn.self) l.fn.posting.passes.items l.posting.passes.items (sums_of l.fn.posting.totals) (sums_of l.posting.totals) more
-      × ArePostedWhole (runs_below (shards_of l.fn.self) l.shard (placed_from place l.fn.batch)) more;
+  made : (place : ℕ) → (more : List RunVisit)
+      × HasVisited (shards_of l.fn.self) l.fn.posting.passes.items l.posting.passes.items
+      (sums_of l.fn.posting.totals) (sums_of l.posting.totals) more
+      × ArePostedWhole (runs_below (shards_of l.fn.self) l.shard (placed_from place l.fn.batch))
+      more;
 }

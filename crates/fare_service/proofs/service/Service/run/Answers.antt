@@ -11,16 +11,24 @@ use Rattle.tap_views.proofs.Choices.{IfErr_handed_on}
 
 pub returns-clause-headline : goal.returns-clause-headline
 returns-clause-headline g c =
-    has_run c.args.self c.in_ok-shares-2.shares.items c.args.workers c.in_ok-outcome.outcome (c.in_ok-shares-2.ensures.number ∙ c.in_ok-shares.ensures.number) c.in_ok-outcome.ensures.headline
+    has_run c.args.self c.in_ok-shares-2.shares.items c.args.workers c.in_ok-outcome.outcome
+    (c.in_ok-shares-2.ensures.number ∙ c.in_ok-shares.ensures.number)
+    c.in_ok-outcome.ensures.headline
 
 pub returns-clause-stopped : goal.returns-clause-stopped
 returns-clause-stopped g c fresh =
-    have_stopped c.args.self c.in_ok-shares.shares.items c.in_ok-shares-2.shares.items c.args.workers c.in_ok-outcome.outcome (c.in_ok-shares-2.ensures.number ∙ c.in_ok-shares.ensures.number)
-    (c.in_ok-shares.ensures.fresh fresh) c.in_ok-shares-2.ensures.worked c.in_ok-outcome.ensures.headline c.in_ok-outcome.ensures.undrawn c.in_ok-outcome.ensures.full
+    have_stopped c.args.self c.in_ok-shares.shares.items c.in_ok-shares-2.shares.items
+    c.args.workers c.in_ok-outcome.outcome
+    (c.in_ok-shares-2.ensures.number ∙ c.in_ok-shares.ensures.number)
+    (c.in_ok-shares.ensures.fresh fresh) c.in_ok-shares-2.ensures.worked
+    c.in_ok-outcome.ensures.headline c.in_ok-outcome.ensures.undrawn c.in_ok-outcome.ensures.full
 
 pub returns-in_err-outcome-clause-claims : goal.returns-in_err-outcome-clause-claims
 returns-in_err-outcome-clause-claims g c whole =
     let service = c.args.self in
     let fault : GatherFault = c.in_err-outcome.field-0.0 in
-    let kept = claims_kept service (WorkedOn service) (λ old new w. w.went_on) c.in_ok-shares.shares.items c.in_ok-shares-2.shares.items c.in_ok-shares-2.ensures.worked (c.in_ok-shares.ensures.claims whole) in
-    IfErr_handed_on c.from_residual-in_err-outcome.result (Gather fault) MissesNothing c.from_residual-in_err-outcome.ensures.1 (c.in_err-outcome.ensures.claims kept)
+    let kept = claims_kept service (WorkedOn service) (λ old new w. w.went_on)
+    c.in_ok-shares.shares.items c.in_ok-shares-2.shares.items c.in_ok-shares-2.ensures.worked
+    (c.in_ok-shares.ensures.claims whole) in
+    IfErr_handed_on c.from_residual-in_err-outcome.result (Gather fault) MissesNothing
+    c.from_residual-in_err-outcome.ensures.1 (c.in_err-outcome.ensures.claims kept)

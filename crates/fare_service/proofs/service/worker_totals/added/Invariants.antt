@@ -4,4 +4,6 @@ use Rattle.shard_book.specs.Sums.{add_all}
 use Rattle.fare_service.proofs.service.worker_totals.added.Given as goal
 
 abbrev pub invariant-loop-worker : goal.invariant-loop-worker
-invariant-loop-worker l = add_sums (sums_of l.totals) (add_all (map sums_of (drop l.worker-index l.workers))) ≡ add_all (map sums_of l.workers)
+invariant-loop-worker l =
+    add_sums (sums_of l.totals) (add_all (map sums_of (drop l.worker-index l.workers)))
+    ≡ add_all (map sums_of l.workers)

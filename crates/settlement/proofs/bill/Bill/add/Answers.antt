@@ -44,7 +44,8 @@ loop-start-preserved c =
     let rest = take (length taps - s) (drop s taps) in
     let added = c.in_ok-start.ensures in
     let names = All-weaker HasTokenBytes HasName has_name taps c.requires.tokens in
-    let next : IsNextRun fares taps s n = next_run fares taps s n c.requires.sorted names inv.edge inv.within added.run in
+    let next : IsNextRun fares taps s n =
+    next_run fares taps s n c.requires.sorted names inv.edge inv.within added.run in
     let done = posted fares (take s taps) in
     let more = posted fares (take n rest) in
     let room = inv.room in
@@ -65,7 +66,8 @@ loop-start-preserved c =
 
 pub returns-clause-counted : goal.returns-clause-counted
 returns-clause-counted c = λ before one.
-    subst (λ (ts : List TapFields). IsCountOf (before ++ posted c.args.table.now ts) c.loop-start.self)
+    subst (λ (ts : List TapFields). IsCountOf (before ++ posted c.args.table.now ts)
+    c.loop-start.self)
     (take_all c.loop-start.start c.args.taps.now c.loop-start-test.false)
     (c.loop-start.invariant.counted before one)
 

@@ -9,7 +9,8 @@ use Rattle.sorted_bills.proofs.open_bill.OpenBill.add.Goals as goal
 
 pub loop-tap-init : goal.loop-tap-init
 loop-tap-init c = record {
-  bill = λ before is. subst (λ (ts : List TapFields). IsOpenBill c.args.table.now ts c.args.self.now)
+  bill = λ before is. subst
+      (λ (ts : List TapFields). IsOpenBill c.args.table.now ts c.args.self.now)
       (sym (append-nil before)) is;
   token = refl;
 }
@@ -39,7 +40,8 @@ loop-tap-preserved c =
     record {
       bill = λ before is.
           subst (λ (ts : List TapFields). IsOpenBill c.args.table.now ts c.add_tap.new.self)
-          (append_assoc before done (_ ∷ []) ∙ ap (λ (ts : List TapFields). before ++ ts) (sym more))
+          (append_assoc before done (_ ∷ [])
+          ∙ ap (λ (ts : List TapFields). before ++ ts) (sym more))
           (c.in_ok-add_tap.ensures.bill (before ++ done) (inv.bill before is));
       token = c.in_ok-add_tap.ensures.token
           ∙ sym (ap (last_token c.args.self.now.replay.token) more
