@@ -10,7 +10,7 @@ use Rattle.fare_program.specs.Fault.{ledger_mistake, mistake}
 use Rattle.fare_program.specs.Fault.{settle_mistake, sorted_mistake, sorted_mistake_of}
 use Rattle.fare_program.specs.Fault.{token_mistake, traced_mistake, traced_mistake_of}
 use Rattle.fare_program.specs.Options.{Asked}
-use Rattle.fare_program.specs.Program.{Does, DoesUntraced, GaveUp, GaveUpOn, IsTokenIn, LoadsTable}
+use Rattle.fare_program.specs.Program.{Does, DoesUntraced, IsTokenIn, LoadsTable}
 use Rattle.fare_program.specs.Program.{RunsListing, RunsService, RunsSorted, RunsTraced}
 use Rattle.fare_program.specs.Settling.{ShowsSettled}
 use Rattle.fare_program.specs.declared.fault.Fault.{Fault}
@@ -136,10 +136,3 @@ does_sorted asked known told between fares token out out' well right sorted load
       written = done.written;
       is_well = made.0;
     }))
-
--- nothing is written of what was given up at once
-pub gave_up_on : (asked : Asked) (fault : Fault) (said said' : Option (List ℕ)) (failed : Bool)
-    (out out' : Option (List ℕ)) → GaveUp fault said said' failed out out'
-    → GaveUpOn asked fault said said' failed out out'
-gave_up_on asked fault said said' failed out out' is =
-    record { line_told = is.line_told; kept = λ write late. is.kept write }

@@ -11,8 +11,8 @@ use Rattle.std.proofs.lemmas.List.Sums.{count_by-le-length}
 use Rattle.std.proofs.lemmas.List.Elements.{All-nil, All-cons, All-head, All-tail, All-append}
 use Rattle.std.proofs.lemmas.List.Elements.{All-weaker}
 use Rattle.std.proofs.lemmas.Option.{slice_get-get_or, slice_get-map, slice_get_within}
+use Rattle.std.proofs.lemmas.Slice.Zip.{AllZip-long}
 use Rattle.tap_views.specs.Layout.{Tap}
-use Rattle.tap_views.proofs.Lists.{AllZip-length}
 use Rattle.shard_book.specs.Book.{Book}
 use Rattle.shard_book.specs.Entry.{IsEntryOf}
 use Rattle.shard_book.specs.Sums.{Sums, sums}
@@ -267,8 +267,8 @@ visits_few shards (r ∷ before) more (v ∷ visits) same some entered =
       ap (λ (x : PlacedRun). length x.taps) head,
     ) in
     let entries : length (taps_of_placed v.taps) ≡ length v.entries =
-    AllZip-length IsEntryOf (taps_of_placed v.taps) v.entries
-    (All-head (IsEntered shards) v visits entered).fields in
+    sym (AllZip-long IsEntryOf (taps_of_placed v.taps) v.entries
+    (All-head (IsEntered shards) v visits entered).fields) in
     let both : taps_posted (v ∷ visits) ≡ length v.entries + taps_posted visits =
     length-append v.entries (entries_of visits) in
     let rest = visits_few shards before more visits tail
@@ -485,7 +485,8 @@ have_stopped service olds news workers outcome number fresh worked (works, kept,
           let past : upload < length service.uploads =
           omega (arith, slice_get_within outcome.ends upload Undrawn at, headline.uploads) in
           let left = All-weaker (λ (s : ShareView). s.drawer.seen ≤ upload)
-          (λ (s : ShareView). s.drawer.seen < length service.uploads) (λ s h. omega (arith, h, past))
+          (λ (s : ShareView). s.drawer.seen < length service.uploads)
+          (λ s h. omega (arith, h, past))
           news (undrawn upload at) in
           omega (arith, posting_few service news works all left, posting_are, cuts_are));
     }

@@ -26,7 +26,7 @@ use Rattle.fare_service.specs.Headline.{end_of, HasOutcome, HasRun}
 use Rattle.fare_service.specs.ServiceView.{ServiceView, shards_of}
 use Rattle.fare_service.specs.inside.ServiceView.{IsService, IsBookOf}
 use Rattle.fare_service.specs.ShareView.{ShareView}
-use Rattle.fare_service.specs.inside.Joining.{Belongs, with_done, with_all_done}
+use Rattle.fare_service.specs.inside.Joining.{with_done, with_all_done}
 use Rattle.fare_service.specs.Outcomes.{OutcomeView}
 use Rattle.fare_service.specs.inside.Outcomes.{IsOutcome}
 use Rattle.fare_service.specs.Runs.{entries_of}
@@ -45,12 +45,6 @@ keepings service (s ∷ shares) all =
     let first = All-head (IsShareOf service) s shares all in
     let rest = keepings service shares (All-tail (IsShareOf service) s shares all) in
     (first.works ∷ rest.0, (first.keeps, rest.1))
-
-pub belongs_all : (service : ServiceView) (shares : List ShareView) → All (IsShareOf service) shares
-    → All (Belongs service.drawing service.books) shares
-belongs_all service shares all =
-    All-weaker (IsShareOf service) (Belongs service.drawing service.books)
-    (λ s h. record { drawn_from = h.drawer; of_books = h.passes }) shares all
 
 all_each : (service : ServiceView) (shares : List ShareView) (works : List (List Worked))
     → Kept service shares works → All (λ done. All (IsWorked service) done) works
@@ -302,10 +296,6 @@ book_of_work service is shares works kept shard book h =
       of_shards = h.of_shards ∙ opened.of_shards;
       legal = subst L (h.table ∙ opened.its_table) h.legal;
     }
-
-gathered : List Book → List UploadEnd → List Sums → Sums → OutcomeView
-gathered books ends workers totals =
-    record { books = books; ends = ends; workers = workers; totals = totals }
 
 -- what was gathered of shares, by what each keeps
 abbrev pub HasGathered : ServiceView → List ShareView → OutcomeView → Type 0

@@ -9,10 +9,11 @@ use Rattle.std.proofs.lemmas.List.{length-map, length-take-le, take_at, take-app
 use Rattle.std.proofs.lemmas.List.Concat.{flat_map-append}
 use Rattle.std.proofs.lemmas.List.Elements.{All-nil, All-cons, All-head, All-tail, All-append}
 use Rattle.std.proofs.lemmas.List.Elements.{All-take, All-weaker, filter-append, filter_passes}
+use Rattle.std.proofs.lemmas.Slice.Zip.{AllZip-long}
 use Rattle.tap_views.specs.Layout.{Tap}
 use Rattle.tap_views.specs.Files.{IsFile}
 use Rattle.tap_views.specs.Shards.{shard_of_token}
-use Rattle.tap_views.proofs.Lists.{All-front, All-back, All-unmap, AllZip-length}
+use Rattle.tap_views.proofs.Lists.{All-front, All-back, All-unmap}
 use Rattle.shard_book.specs.Entry.{IsEntryOf}
 use Rattle.shared_books.specs.Drawing.{NoneTwice}
 use Rattle.report_texts.specs.declared.upload_end.UploadEnd.{UploadEnd}
@@ -187,8 +188,8 @@ visits_length : (shards : ℕ) (visits : List RunVisit) → All (IsEntered shard
 visits_length shards [] all = refl
 visits_length shards (v ∷ visits) all =
     let here : length (taps_of_placed v.taps) ≡ length v.entries =
-    AllZip-length IsEntryOf (taps_of_placed v.taps) v.entries
-    (All-head (IsEntered shards) v visits all).fields in
+    sym (AllZip-long IsEntryOf (taps_of_placed v.taps) v.entries
+    (All-head (IsEntered shards) v visits all).fields) in
     let rest : length (entries_of visits) ≡ length (flat_map (λ x. x.taps) visits) =
     visits_length shards visits (All-tail (IsEntered shards) v visits all) in
     omega (

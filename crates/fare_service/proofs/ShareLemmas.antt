@@ -3,7 +3,7 @@ use Rattle.std.specs.Prelude.{ℕ, zero, suc, ◌≡◌, ◌+◌, ◌*◌, ◌^�
 use Rattle.std.specs.Prelude.{length, map}
 use Rattle.std.proofs.Common.{refl, sym, ◌∙◌, ap, subst, arith, append_assoc, append-nil}
 use Rattle.std.proofs.Common.{length-append}
-use Rattle.std.proofs.lemmas.List.{map-append, length-map}
+use Rattle.std.proofs.lemmas.List.{map-append}
 use Rattle.std.proofs.lemmas.List.Elements.{All-nil, All-cons, All-append}
 use Rattle.std.proofs.lemmas.Grind.{flat_map-append}
 use Rattle.shard_book.specs.Sums.{Sums, sums, add_sums}
@@ -19,7 +19,7 @@ use Rattle.fare_service.specs.ServiceView.{ServiceView, shards_of}
 use Rattle.fare_service.specs.ShareView.{ShareView}
 use Rattle.fare_service.specs.Runs.{RunVisit, entries_to, entries_of}
 use Rattle.fare_service.specs.Shares.{Worked, all_visits, done_of, IsWorked, KeepsWorks, IsShareOf}
-use Rattle.fare_service.specs.Shares.{IsFresh, HasWorked, WentOn, HasVisited, made_visits_at}
+use Rattle.fare_service.specs.Shares.{IsFresh, HasWorked, HasVisited, made_visits_at}
 use Rattle.fare_service.specs.Shares.{made_visits, books_of}
 use Rattle.fare_service.specs.inside.Shares.{worked}
 use Rattle.fare_service.proofs.VisitLemmas.{made_none, made_more, entries_to-append, own-others}
@@ -87,10 +87,6 @@ worked_more service a b c xs ys p q =
           (all_visits xs) (all_visits ys) p.made q.made);
     }
 
-pub went_on_more : (service : ServiceView) (a b c : ShareView) → WentOn service a b
-    → WentOn service b c → WentOn service a c
-went_on_more service a b c (xs, p) (ys, q) = (xs ++ ys, worked_more service a b c xs ys p q)
-
 -- what a share keeps after it went on
 pub keeps_more : (service : ServiceView) (old new : ShareView) (works more : List Worked)
     → KeepsWorks service old works → HasWorked service old new more
@@ -122,12 +118,6 @@ share_more service old new more share h drawn_from few = record {
   keeps = keeps_more service old new share.works more share.keeps h;
   room = omega (arith, few, share.room, length-append share.works more);
 }
-
--- a share has worked on as many uploads as it has drawn
-pub works_drawn : (service : ServiceView) (share : ShareView) (is : IsShareOf service share)
-    → length is.works ≡ length share.drawer.drawn
-works_drawn service share is =
-    sym (ap length is.keeps.drawn ∙ length-map is.works (λ (w : Worked). w.upload))
 
 abbrev pub holding : DrawerView → List PassView → Sums → List Done → ShareView
 holding drawer passes totals done =
@@ -166,11 +156,6 @@ next_share service drawer drawer' passes passes' totals totals' done done' uploa
     (worked upload end visits ∷ []) (subst P (sym is) share)
     (next_done service drawer drawer' passes passes' totals totals' done done' upload end visits
     claims drawn more made did) drawn_from (omega (arith, few))
-
--- the totals of a share have room for another upload
-pub has_room : (service : ServiceView) (share : ShareView) → IsShareOf service share
-    → length share.drawer.drawn < 2 ^ 32 → share.totals.taps + 2 ^ 60 ≤ 2 ^ 94
-has_room service share is few = omega (arith, is.room, works_drawn service share is, few)
 
 -- passes of which none made a visit
 pub own_none : {A : Type 0} (f : A → PassView) → ((x : A) → made_visits (f x).marks ≡ [])

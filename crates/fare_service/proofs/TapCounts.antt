@@ -9,11 +9,11 @@ use Rattle.std.proofs.lemmas.List.Sums.{sum_by-append, sum_by-cons}
 use Rattle.std.proofs.lemmas.List.Elements.{All-head, All-tail}
 use Rattle.std.proofs.lemmas.Bool.Decides.{nat_tests}
 use Rattle.std.proofs.lemmas.Bool.{lt-ltb}
+use Rattle.std.proofs.lemmas.Slice.Zip.{AllZip-long}
 use Rattle.tap_views.specs.Layout.{Tap}
 use Rattle.tap_views.specs.Files.{IsFile}
 use Rattle.tap_views.specs.Shards.{shard_of_token}
 use Rattle.tap_views.proofs.ReadingLemmas.{batch_room}
-use Rattle.tap_views.proofs.Lists.{AllZip-length}
 use Rattle.shard_book.specs.Entry.{IsEntryOf}
 use Rattle.fare_service.specs.Runs.{PlacedTap, placed_from, taps_of_placed, of_shard, PlacedRun}
 use Rattle.fare_service.specs.Runs.{placed_run, if_any, runs_below, runs_of, RunVisit, IsEntered}
@@ -31,8 +31,8 @@ pub visits_taps : (shards : ℕ) (visits : List RunVisit) → All (IsEntered sha
 visits_taps shards [] all = refl
 visits_taps shards (visit ∷ visits) all =
     let here : length visit.entries ≡ length visit.taps =
-    sym (AllZip-length IsEntryOf (taps_of_placed visit.taps) visit.entries
-    (All-head (IsEntered shards) visit visits all).fields)
+    sym (sym (AllZip-long IsEntryOf (taps_of_placed visit.taps) visit.entries
+    (All-head (IsEntered shards) visit visits all).fields))
     ∙ length-map visit.taps (λ (p : PlacedTap). p.tap) in
     let rest : taps_posted visits ≡ runs_taps (map run_of_visit visits) =
     visits_taps shards visits (All-tail (IsEntered shards) visit visits all) in

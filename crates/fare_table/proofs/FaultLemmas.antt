@@ -61,7 +61,8 @@ told tree at fault more =
 
 or_map : (a b : Option FaultRow)
     → option_map (λ (one : FaultRow). one.1) (option_or a b)
-    ≡ option_or (option_map (λ (one : FaultRow). one.1) a) (option_map (λ (one : FaultRow). one.1) b)
+    ≡ option_or (option_map (λ (one : FaultRow). one.1) a)
+    (option_map (λ (one : FaultRow). one.1) b)
 or_map None b = refl
 or_map (Some r) b = refl
 
@@ -443,7 +444,8 @@ number_or_tells (Some (integer z)) key default low high =
 number_or_tells (Some _) key default low high = refl
 
 ride_transfers-told : (tree : Members) (n : ℕ)
-    → fault_in (ride_transfers_of (members_at (class n) tree)) ≡ first_row tree (rows_of_transfers n)
+    → fault_in (ride_transfers_of (members_at (class n) tree))
+    ≡ first_row tree (rows_of_transfers n)
 unfolding ride_transfers_of
 ride_transfers-told tree n =
     let at = class n in

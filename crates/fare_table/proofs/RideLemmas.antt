@@ -1,7 +1,8 @@
 -- What a token pays for a ride on a mode, and what its rides give, is what its class of the text
 -- says.
 use Rattle.std.proofs.Common.{◌≡◌, ◌≢◌, ℕ, ◌*◌, ◌<◌, ◌≤◌, ◌&&◌, Bool, true, false, List, []}
-use Rattle.std.proofs.Common.{Option, Some, None, Ok, Err, cond, refl, sym, ap, ◌∙◌, subst, inl, inr}
+use Rattle.std.proofs.Common.{Option, Some, None, Ok, Err, cond, refl, sym, ap, ◌∙◌, subst, inl}
+use Rattle.std.proofs.Common.{inr}
 use Rattle.std.proofs.Common.{arith, codes, get_or, get_or-set_other, length, length-set, set}
 use Rattle.std.proofs.Common.{replicate, zero-add}
 use Rattle.std.proofs.lemmas.Bool.{and_parts, cases_Bool, false≢true, leb-true, ltb-true}
@@ -118,7 +119,8 @@ fare_named modes name mode fares list no_members own at below order is has =
 fare_named modes name mode fares list (member key value more) own at below order is has =
     let parts = and_parts (is_before key more) (in_byte_order more) order in
     let place = bind_ok (mode_named modes key) (by_place modes fares value more) list is in
-    let cents = bind_ok (number_in the_key.Fares 0 100_000 value) (by_cents modes fares more place.0)
+    let cents = bind_ok (number_in the_key.Fares 0 100_000 value)
+    (by_cents modes fares more place.0)
     list place.2 in
     let found = mode_found (position (same_name key) modes) place.0 place.1 in
     let next = set fares place.0 cents.0 in

@@ -48,7 +48,8 @@ one_of Greater token other terms first more is free ih =
           let here : token ≡ first.0 =
           sym (same_bytes other token both) ∙ same_bytes other first.0 same in
           let order : slice_cmp nat_cmp token first.0 ≡ Equal =
-          (Equal-is _).0 (ap (λ k. is_eq (slice_cmp nat_cmp token k)) (sym here) ∙ is_itself token) in
+          (Equal-is _).0
+          (ap (λ k. is_eq (slice_cmp nat_cmp token k)) (sym here) ∙ is_itself token) in
           absurd (cc (is, order))
       | inr none ↦ none
     ])

@@ -1,34 +1,34 @@
 -- The histories and the sums of taps that are posted token by token.
-use Rattle.std.proofs.Common.{◌≡◌, ◌≢◌, ℕ, suc, ◌+◌, ◌<◌, ◌≤◌, Bool, true, false, ◌||◌, List, ◌∷◌}
+use Rattle.std.proofs.Common.{◌≡◌, ◌≢◌, ℕ, suc, ◌+◌, ◌<◌, ◌≤◌, false, ◌||◌, List, ◌∷◌}
 use Rattle.std.proofs.Common.{◌++◌}
-use Rattle.std.proofs.Common.{length, get_or, take, map, filter, cond, refl, sym, ap, ◌∙◌, []}
+use Rattle.std.proofs.Common.{length, get_or, take, map, refl, sym, ap, ◌∙◌, []}
 use Rattle.std.proofs.Common.{arith, All, inl, inr}
 use Rattle.std.specs.Prelude.{◌⊎◌}
 use Rattle.std.specs.Cmp.Lexicographic.{slice_cmp}
 use Rattle.std.specs.List.Sorted.{IsSorted, IsStrictlySortedBy}
-use Rattle.std.specs.Ordering.{eq_by_cmp, is_lt, nat_cmp, ordering_reverse, ordering_then}
+use Rattle.std.specs.Ordering.{eq_by_cmp, is_lt, nat_cmp}
 use Rattle.std.specs.Set.{is_member}
 use Rattle.std.specs.declared.cmp.Ordering.{Ordering}
 use Rattle.std.specs.declared.cmp.Ordering.TheVariants.{Less, Equal, Greater}
-use Rattle.std.proofs.lemmas.Bool.{cases_lt, false≢true}
+use Rattle.std.proofs.lemmas.Bool.{cases_lt}
 use Rattle.std.proofs.lemmas.List.{length-take, take_more}
 use Rattle.std.proofs.lemmas.List.Elements.{All-head, All-tail, All-nil, All-cons, All-weaker}
 use Rattle.std.proofs.lemmas.List.Sorted.{ranks_by, sorted_far}
+use Rattle.std.proofs.Math.Bool.{or_self_left}
 use Rattle.tap_views.proofs.TokenBytes.{token-order}
 use Rattle.fare_table.specs.Fares.{Fares}
-use Rattle.tap_views.specs.Token.{Fits, bytes_of, token_cmp, token_eq}
+use Rattle.tap_views.specs.Token.{Fits, bytes_of, token_cmp}
 use Rattle.tap_views.specs.declared.token.Token.{Token}
 use Rattle.tap_views.specs.declared.encoder.TapFields.{TapFields}
 use Rattle.tap_parts.specs.Canonical.{tap_cmp}
-use Rattle.shard_book.specs.Entry.{is_of, own}
+use Rattle.shard_book.specs.Entry.{own}
 use Rattle.shard_book.specs.Rising.{rising}
 use Rattle.shard_book.specs.Sums.{Sums, sums}
 use Rattle.shard_book.specs.SumsByKey.{sums_by_token, token_of, tokens}
 use Rattle.shard_book.specs.declared.entry.Entry.{Entry}
-use Rattle.tap_views.proofs.TokenLemmas.{token_eq-refl, high_back, low_back, token_cmp-total}
+use Rattle.tap_views.proofs.TokenLemmas.{high_back, low_back, token_cmp-total}
 use Rattle.tap_views.proofs.TokenLemmas.{token_cmp-ties}
 use Rattle.tap_views.proofs.Orderings.{first_not_less}
-use Rattle.tap_views.proofs.Choices.{or_twice}
 use Rattle.shard_book.proofs.RisingLemmas.{rising-only}
 use Rattle.shard_book.specs.Plain.{answered, token_of_bytes}
 use Rattle.shard_book.proofs.OwnEntries.{own_all}
@@ -99,7 +99,7 @@ among_one token key entry (next ∷ entries) all =
     ∙ ap (λ (t : Token). eq_by_cmp token_cmp key t
     || (eq_by_cmp token_cmp key token || false))
     (All-head (λ (e : Entry). e.token ≡ token) entry (next ∷ entries) all)
-    ∙ sym (or_twice (eq_by_cmp token_cmp key token) false)
+    ∙ or_self_left (eq_by_cmp token_cmp key token) false
 
 one_rises : (token : Token) → IsStrictlySortedBy token_cmp (token ∷ [])
 unfolding IsStrictlySortedBy

@@ -175,27 +175,6 @@ on-same {old} {new} same = record {
   sums = ap counted same;
 }
 
--- and where it is kept now or is fresh
-pub on-made : {old new : Accounts} {token : Token} {place : ℕ} → HasPlaceFor old new token place
-    → StandsOn (kept_at old token) (kept_at new token)
-on-made {old} {new} {token} made = record {
-  kept = λ rules taps kept. subst (λ (o : Option KeptAccount). IsKept rules o taps) (sym made.now)
-      (stands_or rules (kept_at old token) made.kept taps made.is kept);
-  sums = ap counted made.now ∙ counted_or (kept_at old token) made.kept made.is;
-}
-
--- so all stand on where one was made
-pub on-all : {old new : Accounts} {token : Token} {place : ℕ} → HasPlaceFor old new token place
-    → ((other : Token) → token_eq token other ≡ false → kept_at new other ≡ kept_at old other)
-    → (other : Token) → StandsOn (kept_at old other) (kept_at new other)
-on-all {old} {new} {token} made others other =
-    ⊎_elim
-    (λ (here : token_eq token other ≡ true). subst
-    (λ (t : Token). StandsOn (kept_at old t) (kept_at new t)) (same_token token other here)
-    (on-made made))
-    (λ (apart : token_eq token other ≡ false). on-same (others other apart))
-    (cases_Bool (token_eq token other))
-
 -- no account moves where the entries stayed
 pub keep_found : (old new : List (Token × KeptAccount)) → new ≡ old
     → KeepPlaces (keys_of old) (keys_of new)

@@ -6,7 +6,6 @@ use Rattle.std.specs.Option.{option_map}
 use Rattle.std.specs.List.{filter}
 use Rattle.std.proofs.lemmas.List.{length-append, map-append, append-nil, append_assoc}
 use Rattle.std.proofs.lemmas.Bool.{cases_Bool}
-use Rattle.std.proofs.lemmas.Bool.Decides.{nat_tests}
 use Rattle.std.proofs.lemmas.List.Elements.{filter-append}
 use Rattle.fare_table.specs.Fares.{Fares, mode_at}
 use Rattle.fare_table.specs.declared.mode.Mode.{Mode}
@@ -107,15 +106,6 @@ kept-push table accounts after entries entry kept own_kept others = λ token.
     (subst (λ (a : Option KeptAccount). IsKept (rules_of table (bytes_of token)) a
     (taps_of table token entries)) (sym (others token apart)) (kept token)))
     (cases_Bool (token_eq entry.token token)))
-
--- nothing changes where all accounts stayed
-pub kept-same : (table : Fares) (accounts after : Accounts) (entries : List Entry)
-    → AreKept table accounts entries
-    → ((other : Token) → kept_at after other ≡ kept_at accounts other) → AreKept table after entries
-unfolding AreKept
-kept-same table accounts after entries kept others = λ token.
-    subst (λ (a : Option KeptAccount). IsKept (rules_of table (bytes_of token)) a
-    (taps_of table token entries)) (sym (others token)) (kept token)
 
 -- the tap that the account rule is given is the entry's
 pub tap_of-post : (table : Fares) (entry : Entry) (mode : Option Mode)

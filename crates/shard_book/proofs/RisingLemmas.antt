@@ -12,8 +12,9 @@ use Rattle.std.specs.Set.{is_member}
 use Rattle.std.proofs.lemmas.Bool.{false≢true}
 use Rattle.std.proofs.lemmas.Cmp.{tied_itself}
 use Rattle.std.proofs.lemmas.Map.Keys.{sorted_from_all_adjacent, apart_from_distinct}
+use Rattle.std.proofs.Math.Bool.{or_self_left}
 use Rattle.shard_book.specs.Rising.{rising, IsRising}
-use Rattle.tap_views.proofs.Choices.{or_swap, or_twice}
+use Rattle.tap_views.proofs.Choices.{or_swap}
 
 module _ {K : Type 0} {cmp : K → K → Ordering} (total : IsTotalOrder cmp)
     (ties : (a b : K) → cmp a b ≡ Equal → a ≡ b) where
@@ -103,7 +104,7 @@ module _ {K : Type 0} {cmp : K → K → Ordering} (total : IsTotalOrder cmp)
       (match_ordering o (key ∷ k ∷ keys) (k ∷ keys) (k ∷ insert_key cmp keys key)) q
       ≡ (eq_by_cmp cmp q key || (eq_by_cmp cmp q k || is_member (eq_by_cmp cmp) keys q))) [
         | Less ↦ λ _. refl
-        | Equal ↦ λ tied. or_twice (eq_by_cmp cmp q k) _
+        | Equal ↦ λ tied. sym (or_self_left (eq_by_cmp cmp q k) _)
             ∙ ap (λ (z : K). eq_by_cmp cmp q
             z || (eq_by_cmp cmp q k || is_member (eq_by_cmp cmp) keys q)) (sym (ties key k tied))
         | Greater ↦ λ _. ap (λ (b : Bool). eq_by_cmp cmp q k || b) (insert-member keys key q)

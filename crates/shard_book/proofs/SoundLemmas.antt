@@ -46,15 +46,6 @@ sound-on {table} {shard} {shards} {accounts} {after} {entries} {items} same othe
           (λ other. (others other).sums);
     })
 
--- nothing was posted: the entries are the same, and all accounts stayed
-pub sound-same : {table : Fares} {shard shards : ℕ} {accounts after : Accounts}
-    {entries items : List Entry} → items ≡ entries
-    → ((other : Token) → kept_at after other ≡ kept_at accounts other)
-    → (IsCounting after → IsCounting accounts) → IsSound table shard shards accounts entries
-    → IsSound table shard shards after items
-sound-same same others counting sound =
-    sound-on same (λ other. on-same (others other)) counting sound
-
 -- one entry was posted
 pub sound-push : {table : Fares} {shard shards : ℕ} {accounts after : Accounts}
     {entries items : List Entry} (entry : Entry) → items ≡ entries ++ entry ∷ []
@@ -151,7 +142,8 @@ pub book-on : {table : Fares} {shard shards : ℕ} {accounts after : Accounts}
 book-on {table} {shard} {shards} {accounts} {after} {packed} {next} same keep others counting book =
     record {
       sound = sound-on
-          (history-same (tokens_of accounts) (tokens_of after) packed next same book.placed keep) others
+          (history-same (tokens_of accounts) (tokens_of after) packed next same book.placed keep)
+          others
           counting book.sound;
       placed = placed-kept (tokens_of accounts) (tokens_of after) packed next same book.placed keep;
     }

@@ -1,7 +1,7 @@
 -- Each step of drawing keeps its rule.
-use Rattle.std.proofs.Common.{◌≡◌, ℕ, ◌+◌, ◌<◌, ◌≤◌, ◌≢◌, zero, suc, eqb, true, false, length, List}
-use Rattle.std.proofs.Common.{[], ◌∷◌, ◌++◌, set, get_or, refl, sym, ap, ◌∙◌, subst, arith, inl}
-use Rattle.std.proofs.Common.{inr, ⊎_elim, max, length-set, get_or-set_same, lt_of_not-le}
+use Rattle.std.proofs.Common.{◌≡◌, ℕ, ◌+◌, ◌<◌, ◌≤◌, ◌≢◌, eqb, true, length, List}
+use Rattle.std.proofs.Common.{[], ◌∷◌, ◌++◌, set, get_or, refl, sym, ap, ◌∙◌, subst, arith}
+use Rattle.std.proofs.Common.{⊎_elim, max, length-set, get_or-set_same, lt_of_not-le}
 use Rattle.std.proofs.Common.{true≢false}
 use Rattle.std.proofs.lemmas.List.{set-get_or}
 use Rattle.std.proofs.lemmas.List.Sums.{sum_by-append}
@@ -10,14 +10,14 @@ use mathlib.Core.Logic.{dite}
 use native.Mathlib.Decide.{ℕ_discrete, dec_le}
 use prog.Atomic.{either}
 use lib.ListN.{get_elem?}
-use Rattle.atomic_table.specs.Table.{State, Me, step, keeps, Allows, Splits, Joins, opening, Seen}
+use Rattle.atomic_table.specs.Table.{State, Me, step, keeps, Allows, Splits, Joins, Seen}
 use Rattle.atomic_table.specs.Table.{Final}
-use Rattle.atomic_table.proofs.Lists.{at_set, at_snoc, set_again, set_else, exchanged}
+use Rattle.atomic_table.proofs.Lists.{at_set, at_snoc, set_else, exchanged}
 use Rattle.shared_books.specs.declared.drawing.rule.DrawerState.{DrawerState}
 use Rattle.shared_books.specs.Claims.{all_claims}
 use Rattle.shared_books.specs.Drawing.{times, NoneTwice, AllBelow, HasAll}
 use Rattle.shared_books.specs.inside.Drawing.{IsSpentDrawer, times_drawn, IsDrawn}
-use Rattle.shared_books.specs.inside.DrawerStates.{drawer_state, empty_drawer_state}
+use Rattle.shared_books.specs.inside.DrawerStates.{drawer_state}
 use Rattle.shared_books.specs.inside.DrawerStates.{left_drawer_state, new_drawer_state}
 use Rattle.shared_books.specs.inside.DrawerStates.{spent_drawer_state, both_drawer_states, HasTried}
 use Rattle.shared_books.specs.inside.DrawerStates.{HasLooked}
@@ -109,28 +109,6 @@ drawn_next n s j h r at unjoined lt =
       claims = claims_set (λ u. u.claims) IsSpentDrawer s.views j h w at refl (acts h unjoined)
           r.claims;
     }
-
-pub opens : (n : ℕ) → IsDrawn n (opening (0 ∷ []) [] (empty_drawer_state all_claims n 0))
-opens n = record {
-  one_word = refl;
-  within = omega arith;
-  once = λ x lt. absurd (omega arith);
-  no_other = λ x ge. refl;
-  each = λ j h e l. go j h e;
-  claims = inr (refl, λ j h e gone. absurd (some_claim j h e gone));
-}
-  where
-    some_claim : (j : ℕ) (h : DrawerState)
-        → get_elem? (empty_drawer_state all_claims n 0 ∷ []) j ≡ some h → h.claims ≡ 0 → ⊥
-    some_claim zero h e gone = let same =
-        ap (λ (u : DrawerState). u.claims) (some-injective _ h e) in omega arith
-    some_claim (suc j) h e gone = some-ne-none h (sym e)
-
-    go : (j : ℕ) (h : DrawerState) → get_elem? (empty_drawer_state all_claims n 0 ∷ []) j ≡ some h
-        → (h.numbers ≡ n) × (h.seen ≤ 0)
-    go zero h e = subst (λ (u : DrawerState). (u.numbers ≡ n) × (u.seen ≤ 0)) (some-injective _ h e)
-        (refl, omega arith)
-    go (suc j) h e = absurd (some-ne-none h (sym e))
 
 -- a try to draw the number that the drawer saw last
 pub draws : (n slots id : ℕ) (me : Me (Unit {0}) DrawerState) (old : ℕ) → me.0.unjoined ≡ true
@@ -300,16 +278,6 @@ ends n id h ws xs count f at unjoined =
       λ whole. as_many count h.drawn below
           (subst (λ k. HasAll k h.drawn) here (drew_all n s id h r f.1.1 whole)),
     )
-  where
-    first : (us : List ℕ) (k : ℕ) → get_elem? us 0 ≡ some k → get_or us 0 0 ≡ k
-    first [] k e = absurd (some-ne-none k (sym e))
-    first (u ∷ us) k e = some-injective u k e
-
--- and without one
-pub ends_unseen : (n : ℕ) (ws : List ℕ) (xs : List (Unit {0})) (count : ℕ) → Final (IsDrawn n) ws xs
-    → get_elem? ws 0 ≡ some count → count ≤ n
-ends_unseen n ws xs count f at =
-    subst (λ k. k ≤ n) (ap (λ us. get_or us 0 0) f.2 ∙ first ws count at) f.1.within
   where
     first : (us : List ℕ) (k : ℕ) → get_elem? us 0 ≡ some k → get_or us 0 0 ≡ k
     first [] k e = absurd (some-ne-none k (sym e))

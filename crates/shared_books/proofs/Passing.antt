@@ -12,7 +12,7 @@ use Rattle.shared_books.specs.declared.turns.rule.Mark.{Mark}
 use Rattle.shared_books.specs.declared.turns.rule.PassState.{PassState}
 use Rattle.shared_books.specs.Claims.{all_claims}
 use Rattle.shared_books.specs.Marks.{mark, others, visits_of, history_of_visits, made_from}
-use Rattle.shared_books.specs.Marks.{numbered, joined_marks, Apart}
+use Rattle.shared_books.specs.Marks.{joined_marks, Apart}
 use Rattle.shared_books.specs.Passes.{PassView, seen_by, book_of, HasSeenMore, Visits, IsFull}
 use Rattle.shared_books.specs.Passes.{IsJoined, HasMadeAll}
 use Rattle.shared_books.specs.inside.Passes.{opened_of}
@@ -109,16 +109,6 @@ out_later a b c number book g h =
       carries = h.carries;
     }
 
--- the turn word found is below twice 2^62, or all visits are counted
-pub half_of : (found n : ℕ) → (found ≡ 2 * n) ⊎ (found ≡ 2 * n + 1) → found / 2 ≡ n
-half_of found n w = ⊎_elim (λ e. even found n e) (λ e. odd found n e) w
-  where
-    even : (found n : ℕ) → found ≡ 2 * n → found / 2 ≡ n
-    even found n e = omega arith
-
-    odd : (found n : ℕ) → found ≡ 2 * n + 1 → found / 2 ≡ n
-    odd found n e = omega arith
-
 small_of : (found n : ℕ) → (found ≡ 2 * n) ⊎ (found ≡ 2 * n + 1) → found ≤ 2 ^ 63 → n ≤ 2 ^ 62
 small_of found n w le = ⊎_elim (λ e. even found n e le) (λ e. odd found n e le) w
   where
@@ -190,13 +180,6 @@ later_by_look home a found b h =
     later_of home a b (seen_goes_on a found b h)
     (subst (λ (v : PassState). IsLegal v.opened.book.value.table
     (history_of_visits (visits_of v.marks))) (sym h.state_is) h.legal)
-
-pub head_is : (home : TableId) (a : Seat) (found : ℕ) (b : Seat) → HasSeen a found b
-    → found / 2 ≡ b.0.opened.first + length (visits_of b.0.marks)
-head_is home a found b h =
-    half_of found _ h.word
-    ∙ (sym (ap (λ v. v.opened.first + length v.marks) h.state_is)
-    ∙ ap (λ n. b.0.opened.first + n) (sym (length-visits b.0.marks)))
 
 pub full_pass : (home : TableId) (b : Seat) → b.0.opened.first + length b.0.marks ≡ 2 ^ 62
     → IsFull (knows home b)

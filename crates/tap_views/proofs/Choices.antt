@@ -9,10 +9,6 @@ or_swap true true c = refl
 or_swap true false c = refl
 or_swap false b c = refl
 
-pub or_twice : (a b : Bool) → (a || b) ≡ (a || (a || b))
-or_twice true b = refl
-or_twice false b = refl
-
 -- of two choices that exclude each other the order is free
 pub cond_swap : {A : Type 0} (a b : Bool) (x y z : A) → (a ≡ true → b ≡ false)
     → cond a x (cond b y z) ≡ cond b y (cond a x z)

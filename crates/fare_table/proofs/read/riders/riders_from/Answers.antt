@@ -39,7 +39,8 @@ returns-then-contains_key-clause-answer c =
     let is : rider_of classes key value ≡ Ok (bytes, terms) =
     let P : List ℕ → Type 0 = λ text. rider_of classes text value ≡ Ok (bytes, terms) in
     let Q : Members → Type 0 = λ m. rider_of m c.as_str.result.now value ≡ Ok (bytes, terms) in
-    subst P c.as_str.ensures.value (subst Q c.in_ok-names.ensures.same c.in_ok-bytes.ensures.rider) in
+    subst P c.as_str.ensures.value
+    (subst Q c.in_ok-names.ensures.same c.in_ok-bytes.ensures.rider) in
     let again : is_rider earlier bytes ≡ true =
     rw (← found-by_bytes c.of-token.result entries bytes earlier c.of-token.ensures.fits
     c.loop-key.invariant.fits c.of-token.ensures.bytes refl) (sym c.contains_key.ensures
@@ -62,7 +63,8 @@ loop-key-preserved c =
     let is : rider_of classes key value ≡ Ok (bytes, terms) =
     let P : List ℕ → Type 0 = λ text. rider_of classes text value ≡ Ok (bytes, terms) in
     let Q : Members → Type 0 = λ m. rider_of m c.as_str.result.now value ≡ Ok (bytes, terms) in
-    subst P c.as_str.ensures.value (subst Q c.in_ok-names.ensures.same c.in_ok-bytes.ensures.rider) in
+    subst P c.as_str.ensures.value
+    (subst Q c.in_ok-names.ensures.same c.in_ok-bytes.ensures.rider) in
     let fits = c.loop-key.invariant.fits in
     let free : is_rider earlier bytes ≡ false =
     rw (← found-by_bytes c.of-token.result entries bytes earlier c.of-token.ensures.fits fits
