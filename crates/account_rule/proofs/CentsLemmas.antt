@@ -1,6 +1,5 @@
 -- No reply has more cents than the greatest fare of a table.
-use Rattle.std.proofs.Common.{◌≡◌, ◌≤◌, Bool, true, false, List, [], ◌∷◌, ◌++◌, Option, Some}
-use Rattle.std.proofs.Common.{None}
+use Rattle.std.proofs.Common.{◌≡◌, ◌≤◌, Bool, true, false, List, [], ◌∷◌, ◌++◌, Option, Some, None}
 use Rattle.std.proofs.Common.{refl, ◌∙◌}
 use Rattle.fare_table.specs.Terms.{AreRideTerms}
 use Rattle.fare_table.specs.declared.mode.Mode.{Mode}
@@ -11,15 +10,13 @@ use Rattle.account_rule.specs.Taps.{is_later, live_at, live_tap}
 use Rattle.account_rule.specs.TokenRules.{TokenRules}
 use Rattle.account_rule.specs.Trips.{ends_in_transfer}
 use Rattle.account_rule.specs.Windows.{windows}
-use Rattle.account_rule.specs.declared.reply.Answer.TheVariants.{Transfer, Stale}
-use Rattle.account_rule.specs.declared.reply.Answer.TheVariants.{Unknown}
+use Rattle.account_rule.specs.declared.reply.Answer.TheVariants.{Transfer, Stale, Unknown}
 use Rattle.account_rule.specs.declared.tap.TapIn.{TapIn}
 use Rattle.account_rule.specs.declared.window.Window.{Window}
 use Rattle.account_rule.specs.inside.Kept.{window_at}
 use Rattle.account_rule.proofs.FareLemmas.{free-few, ride-few}
 use Rattle.account_rule.proofs.StepLemmas.{is_live, reply_live, reply_ride, reply_stale}
-use Rattle.account_rule.proofs.StepLemmas.{reply_transfer}
-use Rattle.account_rule.proofs.StepLemmas.{reply_unknown}
+use Rattle.account_rule.proofs.StepLemmas.{reply_transfer, reply_unknown}
 use Rattle.account_rule.proofs.TapLemmas.{last_window-ride}
 use Rattle.account_rule.proofs.WindowLemmas.{charge-after}
 

@@ -27,9 +27,8 @@ use Rattle.account_rule.specs.inside.Kept.{gives, open_window, window_at, with_r
 use Rattle.account_rule.specs.Stands.{KeepsOf, Stands, window_of}
 use Rattle.account_rule.specs.Taps.{LiveTap, is_later, live_at, live_tap}
 use Rattle.account_rule.specs.Windows.{charge, charges, paid_by, windows}
-use Rattle.account_rule.proofs.TapLemmas.{ends_in_transfer-push, is_later-push}
-use Rattle.account_rule.proofs.TapLemmas.{last_window-ride, trip-push, trip-same, windows-same}
-use Rattle.account_rule.proofs.TapLemmas.{windows-transfer}
+use Rattle.account_rule.proofs.TapLemmas.{ends_in_transfer-push, is_later-push, last_window-ride}
+use Rattle.account_rule.proofs.TapLemmas.{trip-push, trip-same, windows-same, windows-transfer}
 use Rattle.account_rule.proofs.WindowLemmas.{charge-after, room-at, room-open, room-ride}
 use Rattle.account_rule.proofs.WindowLemmas.{window_of-after}
 

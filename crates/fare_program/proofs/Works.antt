@@ -1,7 +1,6 @@
 -- What was asked for was done, of files that were loaded or settled while they were read.
 use Rattle.std.proofs.Common.{◌≡◌, ◌∙◌, ◌<◌, ◌++◌, ◌∷◌, ℕ, List, Bool, true, false, not, Option}
-use Rattle.std.proofs.Common.{Some, None, refl, ap, sym}
-use Rattle.std.proofs.Common.{arith, inl, inr, length, map, subst, []}
+use Rattle.std.proofs.Common.{Some, None, refl, ap, sym, arith, inl, inr, length, map, subst, []}
 use Rattle.std.specs.Prelude.{MatchBool, is_some, ◌||◌, ◌⊎◌}
 use Rattle.std.specs.Io.KnownBytes.{Appends, Keeps}
 use Rattle.fare_table.specs.Fares.{Fares}

@@ -16,7 +16,7 @@ use Rattle.shard_book.specs.Entry.{reply_of}
 use Rattle.shard_book.specs.SumsByKey.{all_entries}
 use Rattle.shard_book.specs.declared.sums.totals.Totals.{Totals}
 use Rattle.shard_book.specs.Sums.{Sums, sums, sums_of, sums_of_replies, add_sums, is_paid}
-use Rattle.shard_book.specs.Sums.{is_transfer, is_capped, is_stale, is_unknown}
+use Rattle.shard_book.specs.Sums.{is_transfer, is_capped, is_stale, is_unknown, add_all}
 use Rattle.shared_books.specs.Drawing.{NoneTwice}
 use Rattle.shared_books.specs.Marks.{history_of_visits}
 use Rattle.fare_table.specs.Fares.{Fares}
@@ -25,7 +25,6 @@ use Rattle.report_texts.specs.declared.upload_end.UploadEnd.TheVariants.{Posted,
 use Rattle.report_texts.specs.declared.upload_end.UploadEnd.TheVariants.{Undrawn}
 use Rattle.report_texts.specs.UploadEnds.{taps_told}
 use Rattle.fare_service.specs.Adding.{AddUp}
-use Rattle.shard_book.specs.Sums.{add_all}
 use Rattle.shard_book.proofs.SumsLemmas.{same_seven, sums-append, add_none}
 use Rattle.fare_service.specs.Headline.{Signed, end_of}
 use Rattle.fare_service.specs.inside.Closing.{IsClosedWork}

@@ -1,8 +1,8 @@
 -- Books and the drawing are closed.
 use Rattle.std.specs.Prelude.{ℕ, zero, suc, ◌≡◌, ◌⊎◌, ◌+◌, ◌<◌, ◌≤◌, List, [], ◌∷◌, length}
 use Rattle.std.specs.Prelude.{slice_get, Some, option_map, sum_by}
-use Rattle.std.specs.List.{flat_map}
 use Rattle.std.specs.Prelude.{remove, Result, Ok, Err, OnOk, IfErr, Bool, true, false, ◌==◌}
+use Rattle.std.specs.List.{flat_map}
 use Rattle.std.proofs.Common.{refl, sym, ◌∙◌, ap, inl, inr, subst, arith, get_or, eqb-true}
 use Rattle.std.proofs.lemmas.Bool.{cases_lt}
 use Rattle.std.proofs.lemmas.List.Elements.{All-nil, All-weaker}

@@ -1,28 +1,25 @@
 -- What a token pays is what the text's class of the key that names it says, else the default class.
 use Rattle.std.proofs.Common.{◌≡◌, ◌⊎◌, ◌↔◌, ℕ, ◌*◌, Bool, true, false, List, [], ◌∷◌, Option, Some}
 use Rattle.std.proofs.Common.{None, Ok, Err, cond, refl, sym, ap, ◌∙◌, subst, inl, inr, ⊎_elim}
-use Rattle.std.proofs.Common.{codes, zero-add}
+use Rattle.std.proofs.Common.{codes, zero-add, ◌++◌, ◌+◌, length, suc, zero, option_map, arith}
 use Rattle.std.proofs.lemmas.Bool.{cases_Bool}
 use Rattle.std.specs.Cmp.Lexicographic.{slice_cmp}
 use Rattle.std.specs.Option.{ok_or, unwrap_or}
 use Rattle.std.specs.Ordering.{nat_cmp}
-use Rattle.std.specs.Prelude.{pos, if◌then◌else◌}
+use Rattle.std.specs.Prelude.{pos, if◌then◌else◌, slice_get, slice_index_or}
 use Rattle.toml.specs.Data.{Data, Members, no_members, member, string, integer, table}
 use Rattle.toml.specs.Data.{as_table, get_member}
 use Rattle.fare_table.proofs.ElementLemmas.{if_ok}
 use Rattle.fare_table.proofs.PartLemmas.{bind_ok, parts}
-use Rattle.fare_table.proofs.ReadLemmas.{is_number, is_table, number-read, table-read}
-use Rattle.fare_table.proofs.ReadLemmas.{text-read}
+use Rattle.fare_table.proofs.ReadLemmas.{is_number, is_table, number-read, table-read, text-read}
 use Rattle.fare_table.specs.Classes.{ceiling_of, class_in, class_named, class_of, classes_from}
 use Rattle.fare_table.specs.Classes.{classes_of, default_of, fares_of, is_empty, place_of, terms_of}
 use Rattle.fare_table.specs.Classes.{ride_transfers_of}
 use Rattle.fare_table.specs.Modes.{same_name}
 use Rattle.fare_table.specs.declared.class.Class.{Class}
-use Rattle.std.specs.Prelude.{slice_get, slice_index_or}
 use Rattle.std.proofs.lemmas.Map.Text.{is_eq-slice_cmp}
 use Rattle.fare_table.specs.Fares.{Fares, class_of as class_of_token, no_class, terms_at}
 use Rattle.std.proofs.lemmas.Option.{get_or_from_slice_get}
-use Rattle.std.proofs.Common.{◌++◌, ◌+◌, length, suc, zero, option_map, arith}
 use Rattle.fare_table.specs.Members.{hold_strings, hold_tables, number_at, of_kind, table_at}
 use Rattle.fare_table.specs.Members.{text_at}
 use Rattle.fare_table.specs.OrFault.{OrFault, ◌>>=◌}

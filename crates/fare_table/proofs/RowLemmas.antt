@@ -39,8 +39,7 @@ use Rattle.fare_table.specs.Faults.{token_at, value_at, string_of}
 use Rattle.fare_table.specs.Members.{are_tables, hold_strings, number_at, of_kind}
 use Rattle.fare_table.specs.Modes.{mode_named, modes_of, same_name}
 use Rattle.fare_table.specs.OrFault.{OrFault, ◌>>=◌}
-use Rattle.fare_table.specs.Riders.{is_rider, riders_from, riders_of}
-use Rattle.fare_table.specs.Riders.{with_rider}
+use Rattle.fare_table.specs.Riders.{is_rider, riders_from, riders_of, with_rider}
 use Rattle.fare_table.specs.Riders as riders
 use Rattle.fare_table.specs.TableMeaning.{TableMeaning, meaning_in, meaning_of_tree}
 use Rattle.fare_table.specs.Transfers.{transfers_of}

@@ -10,13 +10,11 @@ use Rattle.toml.specs.Data.{Data, Items, no_items, item, Members, no_members, me
 use Rattle.toml.specs.Data.{as_str, as_integer, as_array, as_table}
 use Rattle.fare_table.specs.Classes.{ceiling_of, class_in, class_named, class_of, classes_from}
 use Rattle.fare_table.specs.Classes.{classes_of, default_of, fares_from, fares_of, is_empty}
-use Rattle.fare_table.specs.Classes.{place_of}
-use Rattle.fare_table.specs.Classes.{ride_transfers_of, terms_of}
+use Rattle.fare_table.specs.Classes.{place_of, ride_transfers_of, terms_of}
 use Rattle.fare_table.specs.declared.class.Class.{Class}
 use Rattle.fare_table.specs.Members.{are_tables, array_at, hold_numbers, hold_strings, hold_tables}
-use Rattle.fare_table.specs.Members.{needed}
-use Rattle.fare_table.specs.Members.{number_at, number_in, number_or, of_kind, table_at, text_at}
-use Rattle.fare_table.specs.Members.{within}
+use Rattle.fare_table.specs.Members.{needed, number_at, number_in, number_or, of_kind, table_at}
+use Rattle.fare_table.specs.Members.{text_at, within}
 use Rattle.fare_table.specs.Modes.{are_mode_names, mode_named, modes_of, strings_from}
 use Rattle.fare_table.specs.OrFault.{OrFault, ◌>>=◌}
 use Rattle.fare_table.specs.Riders.{rider_of, riders_from, riders_at, riders_of, token_of_digits}

@@ -16,9 +16,8 @@ use Rattle.jiff_tz.specs.Year.{year_of_day}
 use Rattle.jiff_tz.specs.declared.posix.Dst.{Dst}
 use Rattle.jiff_tz.specs.declared.posix.TimeZone.{TimeZone as PosixRule}
 use Rattle.fare_table.specs.Until.{IsCivilWindowEnd, IsWindowEnd, civil_window_end, day_at}
-use Rattle.fare_table.specs.Until.{window_end_in}
-use Rattle.fare_table.specs.Until.{midnight_instant, midnight_nanos, midnight_offset, moment_nanos}
-use Rattle.fare_table.specs.Until.{offsets_by, until}
+use Rattle.fare_table.specs.Until.{window_end_in, midnight_instant, midnight_nanos, midnight_offset}
+use Rattle.fare_table.specs.Until.{moment_nanos, offsets_by, until}
 use Rattle.fare_table.specs.Fares.{Fares}
 
 offsets-date : (std : Offset) (dst : Option Dst) (dt : DateTime)

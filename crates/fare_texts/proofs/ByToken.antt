@@ -14,16 +14,14 @@ use Rattle.tap_views.specs.Token.{token_cmp, token_eq}
 use Rattle.shard_book.specs.declared.entry.Entry.{Entry}
 use Rattle.tap_views.specs.declared.token.Token.{Token}
 use Rattle.tap_views.proofs.TokenLemmas.{same_token, token_eq-refl, token_eq-sym, token_cmp-total}
-use Rattle.tap_views.proofs.TokenLemmas.{token_cmp-ties}
-use Rattle.tap_views.proofs.TokenLemmas.{among}
+use Rattle.tap_views.proofs.TokenLemmas.{token_cmp-ties, among}
 use Rattle.shard_book.proofs.RisingLemmas.{rising-only, below_all}
 use Rattle.shard_book.proofs.OwnEntries.{own-append, own_none, own_other, own_same}
 use Rattle.fare_texts.specs.LedgerLines.{AreLedgerLinesAfter, AreLedgerLines, IsLedgerLine}
 use Rattle.fare_texts.specs.LedgerLines.{reason_after}
 use Rattle.fare_texts.specs.Ledger.{AreLinesOfEach}
-use Rattle.fare_texts.specs.Lines.{AreLinesAlong, AreUpTo, IsLineAfter, IsUpTo}
+use Rattle.fare_texts.specs.Lines.{AreLinesAlong, AreUpTo, IsLineAfter, IsUpTo, NoFall, NoFallFrom}
 use Rattle.fare_texts.specs.inside.ByToken.{IsByToken}
-use Rattle.fare_texts.specs.Lines.{NoFall, NoFallFrom}
 use Rattle.fare_texts.proofs.Rising.{none_above, none_below}
 use Rattle.fare_texts.proofs.Rising.{own_push, up_apart, up_itself, up_push, up_weaker}
 

@@ -12,8 +12,7 @@ use Rattle.account_rule.specs.Replies.{reply, reply_with}
 use Rattle.account_rule.specs.TokenRules.{TokenRules}
 use Rattle.account_rule.specs.Taps.{LiveTap, is_later, live_at}
 use Rattle.account_rule.specs.Windows.{is_within, last_window, shown_window, windows}
-use Rattle.account_rule.specs.declared.reply.Answer.TheVariants.{Stale, Transfer}
-use Rattle.account_rule.specs.declared.reply.Answer.TheVariants.{Unknown}
+use Rattle.account_rule.specs.declared.reply.Answer.TheVariants.{Stale, Transfer, Unknown}
 use Rattle.account_rule.specs.declared.reply.Reply.{Reply}
 use Rattle.account_rule.specs.declared.tap.TapIn.{TapIn}
 use Rattle.account_rule.specs.declared.window.WindowView.{WindowView}

@@ -27,8 +27,7 @@ use Rattle.shard_book.specs.declared.entry.Entry.{Entry}
 use Rattle.shard_book.specs.SumsByKey.{token_of, tokens}
 use Rattle.shard_book.proofs.SameEntries.{RisingTokens}
 use Rattle.fare_texts.specs.LedgerLines.{AreLedgerLines, AreLedgerLinesAfter, IsLedgerLine}
-use Rattle.fare_texts.specs.LedgerLines.{entry_fields}
-use Rattle.fare_texts.specs.LedgerLines.{head_text, line_head, reason_after}
+use Rattle.fare_texts.specs.LedgerLines.{entry_fields, head_text, line_head, reason_after}
 use Rattle.fare_texts.specs.Ledger.{AreLinesOfEach, IsLedgerOver}
 use Rattle.ledger_check.specs.Lines.{Lacks}
 use Rattle.ledger_check.proofs.LineLemmas.{lacks-end}

@@ -17,26 +17,22 @@ use Rattle.shard_book.specs.declared.entry.Entry.{Entry}
 use Rattle.shard_book.specs.SumsByKey.{sums_by_token, sums_by_validator}
 use Rattle.shard_book.specs.Sums.{Sums, add_all, sums}
 use Rattle.shard_book.proofs.SameEntries.{RisingNumbers}
-use Rattle.report_texts.specs.UploadEnds.{ArePlainEnds}
+use Rattle.report_texts.specs.UploadEnds.{ArePlainEnds, IsPlainEnd}
 use Rattle.report_texts.specs.OverHistory.{IsReportOver}
 use Rattle.report_texts.specs.Report.{report, upload_lines}
 use Rattle.report_texts.specs.declared.upload_end.UploadEnd.{UploadEnd}
-use Rattle.report_texts.specs.UploadEnds.{IsPlainEnd}
 use Rattle.report_texts.specs.Numbers.{IsUploadEnd}
 use Rattle.part_reports.specs.Reports.{HasTapNumbers, IsMerged, IsPartReport, Report, end_texts}
 use Rattle.part_reports.specs.Reports.{all_ends, report_text, tokens_of_reports}
-use Rattle.part_reports.specs.Reports.{validators_of_reports}
-use Rattle.part_reports.specs.Reports.{sums_of_validator as listed_at}
+use Rattle.part_reports.specs.Reports.{validators_of_reports, sums_of_validator as listed_at}
 use Rattle.part_reports.proofs.TextsRead.{end_lines_joined, lines_whole}
 use Rattle.part_reports.proofs.UniqueTexts.{told as told_of_part}
 use Rattle.laws.specs.Sizes.{CanBeWritten, HasSize, HaveBoundedTerms}
-use Rattle.laws.specs.Split.{AreTokensOf, AreValidatorsOf, IsSplit, Part, pairs_of_parts}
-use Rattle.laws.specs.Split.{sums_at}
+use Rattle.laws.specs.Split.{AreTokensOf, AreValidatorsOf, IsSplit, Part, pairs_of_parts, sums_at}
 use Rattle.laws.proofs.CentsFit.{entries_few}
 use Rattle.laws.proofs.FieldsFit.{entries_fit}
 use Rattle.laws.proofs.PartSums.{by_validator, listed_parts, members}
-use Rattle.laws.proofs.ReportTexts.{end_of, ends_fit, same_lines, same_text}
-use Rattle.laws.proofs.ReportTexts.{told_by}
+use Rattle.laws.proofs.ReportTexts.{end_of, ends_fit, same_lines, same_text, told_by}
 use Rattle.laws.proofs.SumsFit.{CanBeSummed, CostsFew, EntryFits, summed}
 
 -- reports that tell something else have other texts

@@ -4,7 +4,7 @@ use Rattle.std.specs.Prelude.{[], ◌∷◌, ◌++◌, length, map, filter, flat
 use Rattle.std.proofs.Common.{refl, sym, ◌∙◌, ap, subst, inl, inr, get_or, eq-eqb, mod-lt}
 use Rattle.std.proofs.lemmas.Bool.Decides.{eqb_tells}
 use Rattle.std.proofs.lemmas.List.Elements.{All-head, All-tail, All-nil, All-cons, filter-append}
-use Rattle.std.proofs.lemmas.List.Sorted.{sum_by-IsPermutation}
+use Rattle.std.proofs.lemmas.List.Sorted.{sum_by-IsPermutation, All-permutation, ranks_by}
 use Rattle.std.proofs.lemmas.Option.{slice_get-get_or}
 use Rattle.tap_views.specs.Layout.{Tap}
 use Rattle.fare_table.specs.Fares.{Fares}
@@ -19,13 +19,12 @@ use Rattle.std.specs.List.{sum_by}
 use Rattle.std.specs.List.Sorted.{IsSorted}
 use Rattle.std.specs.Ordering.{is_lt}
 use Rattle.std.proofs.lemmas.List.Kept.{IsSortedBy-filter}
-use Rattle.std.proofs.lemmas.List.Sorted.{All-permutation, ranks_by}
 use Rattle.tap_views.specs.Encoding.{fields_of}
 use Rattle.tap_views.specs.declared.encoder.TapFields.{TapFields}
 use Rattle.fare_service.specs.Plain.{IsPlain}
 use Rattle.shard_book.specs.Plain.{unanswered, plain}
 use Rattle.tap_parts.specs.Canonical.{tap_cmp}
-use Rattle.tap_parts.specs.Parts.{taps_of_uploads}
+use Rattle.tap_parts.specs.Parts.{taps_of_uploads, part_of_token, of_part}
 use Rattle.settlement.proofs.Histories.{same_after}
 use Rattle.settlement.proofs.Own.{IsNamedBy}
 use Rattle.settlement.proofs.Same.{part_fields, sum_filter}
@@ -37,7 +36,6 @@ use Rattle.fare_service.proofs.PlainLists.{flat_alone, mapped_at}
 use Rattle.shard_book.proofs.PlainReplies.{bare, own_bare, plain_bare}
 use Rattle.shard_book.proofs.SameEntries.{same_sums, same_entries, RisingNumbers, RisingTokens}
 use Rattle.shard_book.proofs.SameEntries.{same_by_validator, same_by_token}
-use Rattle.tap_parts.specs.Parts.{part_of_token, of_part}
 use Rattle.laws.specs.Split.{Part, IsSplit, entries_of_parts}
 
 -- ---- the taps of a token fall to its part

@@ -39,8 +39,7 @@ use Rattle.settlement.proofs.Settlings.{legal_history}
 use Rattle.settlement.proofs.Sorting.{sorted_by_pairs}
 use Rattle.settlement.proofs.Unique.{AreAlike, same_sorted}
 use Rattle.laws.specs.Bills.{GivesOneAtMost, rides_of}
-use Rattle.laws.specs.TapSets.{HaveOneMoreTap, fields_of_uploads, is_known_tap, is_tap_of}
-use Rattle.laws.specs.TapSets.{own_taps}
+use Rattle.laws.specs.TapSets.{HaveOneMoreTap, fields_of_uploads, is_known_tap, is_tap_of, own_taps}
 use Rattle.laws.proofs.Alike.{alike-filter, alike-without, moved_all, moved_kept}
 use Rattle.laws.proofs.Alike.{pairs_behind, pairs_without, permuted_alike, split_at}
 use Rattle.laws.proofs.OwnTaps.{own_after, tap_in, taps_after}

@@ -45,8 +45,7 @@ use Rattle.settlement.proofs.Placed.{NotLess, Pairs, sorted_pairs}
 use Rattle.settlement.proofs.Sorting.{sorted_by_pairs}
 use Rattle.settlement.proofs.Unique.{AreAlike, same_sorted}
 use Rattle.laws.specs.Bills.{ChargedAlike, HaveSameTerms, entry_for}
-use Rattle.laws.specs.TapSets.{HaveTapsAlike, fields_of_uploads, is_tap_of, own_taps}
-use Rattle.laws.specs.TapSets.{with_token}
+use Rattle.laws.specs.TapSets.{HaveTapsAlike, fields_of_uploads, is_tap_of, own_taps, with_token}
 use Rattle.laws.proofs.Alike.{alike-filter, alike-map, permuted_alike}
 use Rattle.laws.proofs.OwnTaps.{own_after}
 use Rattle.laws.proofs.Posts.{after, plain_is_after}

@@ -12,8 +12,7 @@ use Rattle.tap_views.specs.declared.fault.LayoutFault.TheVariants.{Length, Momen
 use Rattle.tap_views.specs.declared.token.Token.{Token}
 use Rattle.shard_book.specs.Sums.{Sums}
 use Rattle.fare_texts.specs.Counts.{totals_line}
-use Rattle.report_texts.specs.UploadEnds.{end_by}
-use Rattle.report_texts.specs.UploadEnds.{ArePlainEnds, IsPlainEnd}
+use Rattle.report_texts.specs.UploadEnds.{end_by, ArePlainEnds, IsPlainEnd}
 use Rattle.tap_views.specs.Files.{IsEndAfterBatches}
 use Rattle.report_texts.specs.Report.{report, tokens_section, upload_line, upload_lines}
 use Rattle.report_texts.specs.Report.{validators_section}

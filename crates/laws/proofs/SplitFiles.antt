@@ -10,10 +10,9 @@ use Rattle.std.proofs.lemmas.List.Sorted.{IsPermutation-append, IsPermutation-re
 use Rattle.tap_views.specs.Encoding.{fields_of}
 use Rattle.tap_views.specs.Layout.{Tap}
 use Rattle.tap_views.specs.declared.encoder.TapFields.{TapFields}
-use Rattle.tap_parts.specs.Parts.{part_of_token, of_part}
+use Rattle.tap_parts.specs.Parts.{part_of_token, of_part, taps_of_uploads}
 use Rattle.tap_views.specs.Files.{AreGoodTaps, AreGoodTapsOfEach, HasOneReading}
 use Rattle.tap_parts.specs.Split.{IsSplitFile}
-use Rattle.tap_parts.specs.Parts.{taps_of_uploads}
 use Rattle.laws.specs.Files.{HasNoFault}
 use Rattle.settlement.proofs.Histories.{read_fields}
 use Rattle.tap_views.proofs.ReadingLemmas.{one_list}

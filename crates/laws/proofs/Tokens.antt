@@ -28,8 +28,7 @@ use Rattle.shard_book.proofs.PlainReplies.{bare}
 use Rattle.shard_book.proofs.SameEntries.{RisingTokens, same_entries}
 use Rattle.tap_parts.specs.Parts.{part_of_token, of_part}
 use Rattle.laws.specs.Split.{Part, IsSplit, entries_of_parts, pairs_of_parts}
-use Rattle.laws.proofs.Merging.{IsName, own_all, own_there, names}
-use Rattle.laws.proofs.Merging.{part_bare_all}
+use Rattle.laws.proofs.Merging.{IsName, own_all, own_there, names, part_bare_all}
 
 -- what holds of all keys holds of them in their order
 pub all_rising : {K : Type 0} (cmp : K → K → Ordering) (P : K → Type 0) (keys : List K) → All P keys

@@ -13,8 +13,7 @@ use Rattle.shard_book.specs.Entry.{is_at}
 use Rattle.shard_book.specs.SumsByKey.{entries_of_validator, validators, sums_by_validator}
 use Rattle.shard_book.specs.SumsByKey.{validator_of}
 use Rattle.shard_book.specs.Rising.{rising}
-use Rattle.shard_book.specs.Sums.{Sums, sums, add_sums}
-use Rattle.shard_book.specs.Sums.{add_all}
+use Rattle.shard_book.specs.Sums.{Sums, sums, add_sums, add_all}
 use Rattle.shard_book.proofs.SameEntries.{RisingNumbers, same_sums, same_at, same_entries}
 use Rattle.laws.specs.Split.{Part, IsSplit, entries_of_parts, sums_at}
 use Rattle.laws.proofs.Merging.{own_all}

@@ -22,13 +22,11 @@ use Rattle.tap_views.specs.declared.token.Token.{Token}
 use Rattle.shard_book.specs.declared.entry.Entry.{Entry}
 use Rattle.shard_book.specs.Entry.{own, reply_of}
 use Rattle.shard_book.specs.SumsByKey.{entries_of_validator, sums_by_token, sums_by_validator}
-use Rattle.shard_book.specs.SumsByKey.{token_of, tokens}
-use Rattle.shard_book.specs.SumsByKey.{validator_of, validators}
+use Rattle.shard_book.specs.SumsByKey.{token_of, tokens, validator_of, validators}
 use Rattle.shard_book.specs.Rising.{rising}
 use Rattle.shard_book.specs.Sums.{Sums, add_all, sums, sums_of_replies}
-use Rattle.report_texts.specs.UploadEnds.{end_by, is_posted, taps_told}
+use Rattle.report_texts.specs.UploadEnds.{end_by, is_posted, taps_told, ArePlainEnds, IsPlainEnd}
 use Rattle.tap_views.specs.Files.{AreGoodTaps, AreGoodTapsOfEach, HasOneReading, IsEndAfterBatches}
-use Rattle.report_texts.specs.UploadEnds.{ArePlainEnds, IsPlainEnd}
 use Rattle.report_texts.specs.OverHistory.{IsReportOver}
 use Rattle.shard_book.specs.Plain.{unanswered}
 use Rattle.report_texts.specs.declared.upload_end.UploadEnd.{UploadEnd}
@@ -47,8 +45,7 @@ use Rattle.laws.proofs.MergedTexts.{tokens_told, totals_told, validators_told}
 use Rattle.laws.proofs.KeySums.{tokens_add, validators_add}
 use Rattle.laws.proofs.Merging.{own_all}
 use Rattle.laws.proofs.PartSums.{keys-map as number_keys, listed_parts, members}
-use Rattle.laws.proofs.ReportTexts.{end_of, ends_fit, same_lines, same_text}
-use Rattle.laws.proofs.ReportTexts.{told_by}
+use Rattle.laws.proofs.ReportTexts.{end_of, ends_fit, same_lines, same_text, told_by}
 use Rattle.laws.proofs.TokenMoves.{pairs_moved}
 use Rattle.laws.proofs.Tokens.{keys-map as name_keys}
 use Rattle.laws.proofs.Validators.{SumsAdd, at_history, merged_totals}

@@ -1,7 +1,6 @@
 -- The sums of each token: corrections in order are cut where the token changes.
-use Rattle.std.proofs.Common.{◌≡◌, ◌+◌, ℕ, suc, List, [], ◌∷◌, ◌++◌, Option, Some, None, Bool}
-use Rattle.std.proofs.Common.{true, false, cond, refl, sym, ap, subst, ◌∙◌, arith, length}
-use Rattle.std.proofs.Common.{length-append}
+use Rattle.std.proofs.Common.{◌≡◌, ◌+◌, ℕ, suc, List, [], ◌∷◌, ◌++◌, Option, Some, None, Bool, true}
+use Rattle.std.proofs.Common.{false, cond, refl, sym, ap, subst, ◌∙◌, arith, length, length-append}
 use Rattle.std.proofs.Common.{append_assoc, append-nil, filter, get_or, All}
 use Rattle.std.specs.Prelude.{⊤, Contains}
 use Rattle.std.specs.Cmp.{IsTotalOrder}
@@ -23,9 +22,8 @@ use Rattle.ledger_changes.specs.Ledgers.{IsSettledLedger}
 use Rattle.ledger_changes.specs.Rows.{Key, Row, is_same_text, key_cmp, text_cmp}
 use Rattle.ledger_changes.specs.Texts.{cents_of, is_removed}
 use Rattle.ledger_changes.specs.Tokens.{AreTokensOf, IsCorrectionsByTokenText, Sums, is_added}
-use Rattle.ledger_changes.specs.Tokens.{is_kept}
-use Rattle.ledger_changes.specs.Tokens.{is_of_token, of_token, sums_of, token_line, tokens_head}
-use Rattle.ledger_changes.specs.Tokens.{tokens_lines}
+use Rattle.ledger_changes.specs.Tokens.{is_kept, is_of_token, of_token, sums_of, token_line}
+use Rattle.ledger_changes.specs.Tokens.{tokens_head, tokens_lines}
 use Rattle.ledger_changes.specs.inside.Standings.{IsKnown, Standing, StandsBefore}
 use Rattle.ledger_changes.specs.inside.Sums.{AreSumsWritten, TokenSum, add_changes, add_sums}
 use Rattle.ledger_changes.specs.inside.Sums.{ended_lines, no_sums, sums_after, sums_line}

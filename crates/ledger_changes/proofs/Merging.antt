@@ -1,9 +1,7 @@
 -- Two ledgers that are read side by side.
 use Rattle.std.proofs.Common.{◌≡◌, ◌<◌, ◌≤◌, ◌+◌, ℕ, zero, suc, List, [], ◌∷◌, ◌++◌, Option, Some}
-use Rattle.std.proofs.Common.{None, Bool}
-use Rattle.std.proofs.Common.{true, false, refl, sym, ap, subst, ◌∙◌, arith, length, length-append}
-use Rattle.std.proofs.Common.{append_assoc}
-use Rattle.std.proofs.Common.{append-nil, filter, flat_map, get_or}
+use Rattle.std.proofs.Common.{None, Bool, true, false, refl, sym, ap, subst, ◌∙◌, arith, length}
+use Rattle.std.proofs.Common.{length-append, append_assoc, append-nil, filter, flat_map, get_or}
 use Rattle.std.specs.Prelude.{⊤, if◌then◌else◌}
 use Rattle.std.specs.Io.KnownBytes.{Appends}
 use Rattle.std.specs.List.{AllByRecursion}
@@ -26,8 +24,7 @@ use Rattle.ledger_changes.specs.inside.LedgerRows.{rows_in}
 use Rattle.ledger_changes.specs.inside.Standings.{HasRows, HasRowsAt, IsKnown, IsMoved, Standing}
 use Rattle.ledger_changes.specs.inside.Standings.{StandsBefore}
 use Rattle.ledger_changes.specs.inside.Written.{AreTold, AreWritten, changes_of, next_sides}
-use Rattle.ledger_changes.specs.inside.Written.{pairs_of}
-use Rattle.ledger_changes.specs.inside.Written.{row_in, sides_by, taken_if}
+use Rattle.ledger_changes.specs.inside.Written.{pairs_of, row_in, sides_by, taken_if}
 use Rattle.ledger_changes.proofs.Keys.{key_cmp_total, same_key}
 use Rattle.ledger_changes.proofs.Sorted.{Rise, rise_all}
 

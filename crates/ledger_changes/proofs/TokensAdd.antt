@@ -1,7 +1,6 @@
 -- The sums of the tokens add up to those of all corrections.
 use Rattle.std.proofs.Common.{◌≡◌, ◌+◌, ℕ, List, [], ◌∷◌, Bool, true, false, cond, refl, sym, ap}
-use Rattle.std.proofs.Common.{subst}
-use Rattle.std.proofs.Common.{◌∙◌, arith, Option, None, Some}
+use Rattle.std.proofs.Common.{subst, ◌∙◌, arith, Option, None, Some}
 use Rattle.std.specs.Prelude.{Contains}
 use Rattle.std.specs.List.{AllByRecursion, sum_by}
 use Rattle.std.specs.List.Sorted.{IsStrictlySortedBy}

@@ -9,8 +9,7 @@ use Rattle.std.specs.List.Sorted.{IsPermutation}
 use Rattle.std.specs.Ordering.{is_eq, is_lt}
 use Rattle.tap_views.specs.declared.encoder.TapFields.{TapFields}
 use Rattle.tap_views.specs.TapOrder.{tap_cmp}
-use Rattle.ledger_check.specs.Balances.{left_at, copies_among}
-use Rattle.ledger_check.specs.Balances.{IsFirstMissing, IsFirstSurplus}
+use Rattle.ledger_check.specs.Balances.{left_at, copies_among, IsFirstMissing, IsFirstSurplus}
 use Rattle.ledger_check.proofs.SameTaps.{same_exact}
 use Rattle.ledger_check.proofs.Times.{one, one_self, permutation_of_times, times_push}
 

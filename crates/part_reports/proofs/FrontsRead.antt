@@ -2,7 +2,7 @@
 use Rattle.std.proofs.Common.{◌≡◌, ℕ, ◌+◌, ◌<◌, List, [], ◌∷◌, ◌++◌, Option, Some, None, Ok, Err}
 use Rattle.std.proofs.Common.{length, refl, sym, ap, subst, ◌∙◌, arith, append_assoc, length-append}
 use Rattle.std.proofs.Common.{true, false}
-use Rattle.std.specs.Prelude.{All, IfSome}
+use Rattle.std.specs.Prelude.{All, IfSome, IsTrue}
 use Rattle.std.proofs.lemmas.List.Elements.{All-head, All-nil, All-push}
 use Rattle.std.proofs.lemmas.Bool.{false≢true}
 use Rattle.part_reports.specs.declared.fault.MergeFault.{MergeFault}
@@ -12,11 +12,9 @@ use Rattle.part_reports.specs.inside.Fronts.{AreSoManyPosted}
 use Rattle.part_reports.specs.inside.LinesRead.{IsRead}
 use Rattle.part_reports.proofs.ListsWritten.{lines_from, lines_more, lines_begin, end_lines_from}
 use Rattle.part_reports.proofs.Unique.{end_line_unique}
-use Rattle.report_texts.specs.Report.{upload_line}
-use Rattle.report_texts.specs.Report.{upload_lines}
+use Rattle.report_texts.specs.Report.{upload_line, upload_lines}
 use Rattle.report_texts.specs.UploadEnds.{is_posted}
 use Rattle.report_texts.specs.declared.upload_end.UploadEnd.{UploadEnd}
-use Rattle.std.specs.Prelude.{IsTrue}
 use Rattle.tap_views.proofs.Lists.{All-back}
 
 -- so many uploads' lines were read of the text

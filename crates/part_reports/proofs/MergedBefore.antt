@@ -26,9 +26,8 @@ use Rattle.part_reports.specs.declared.merging.LineKind.TheVariants.{Entries}
 use Rattle.part_reports.proofs.Firsts.{line_is_some}
 use Rattle.part_reports.proofs.JoinedTokens.{apart_rest, joined_lines, others_none, some_of}
 use Rattle.part_reports.proofs.JoinedTokens.{strictly}
-use Rattle.part_reports.proofs.Merges.{AreWritten, IsMerging, IsNext}
-use Rattle.part_reports.proofs.Merges.{below_next, head_at, heads_of_parts, part_at}
-use Rattle.part_reports.proofs.Merges.{list_at, same_next}
+use Rattle.part_reports.proofs.Merges.{AreWritten, IsMerging, IsNext, below_next, head_at}
+use Rattle.part_reports.proofs.Merges.{heads_of_parts, part_at, list_at, same_next}
 use Rattle.part_reports.proofs.Orders.{NotBelow, may_not_below, not_below_itself, not_below_trans}
 use Rattle.part_reports.proofs.Parts.{going_end, going_line, line_at, next_part}
 use Rattle.part_reports.proofs.Places.{at_map, each_at}

@@ -15,13 +15,11 @@ use Rattle.tap_views.specs.declared.token.Token.{Token}
 use Rattle.tap_views.proofs.TokenLemmas.{same_token}
 use Rattle.tap_views.proofs.Lists.{each-append, each-weaker}
 use Rattle.part_reports.specs.TokenLines.{HaveOtherTokens, IsMergedByToken, TokenLine}
-use Rattle.part_reports.specs.TokenLines.{lines_of_token}
-use Rattle.part_reports.specs.TokenLines.{text_of}
+use Rattle.part_reports.specs.TokenLines.{lines_of_token, text_of}
 use Rattle.part_reports.specs.inside.Kinds.{AreTexts, IsTextOf}
 use Rattle.part_reports.specs.inside.Least.{IsBelowOthers, IsLeast, StandsTwice, StandsAt}
 use Rattle.part_reports.specs.inside.Standings.{IsMoved, IsMovedAt, StandsInText, MayFollowToken}
-use Rattle.part_reports.specs.inside.Standings.{IsStuck, IsStuckAt}
-use Rattle.part_reports.specs.inside.Standings.{Standing, standing}
+use Rattle.part_reports.specs.inside.Standings.{IsStuck, IsStuckAt, Standing, standing}
 use Rattle.part_reports.specs.declared.merging.OrderedText.{OrderedText}
 use Rattle.part_reports.specs.declared.merging.LineKind.{LineKind}
 use Rattle.part_reports.specs.declared.merging.LineKind.TheVariants.{Entries}
@@ -31,11 +29,9 @@ use Rattle.part_reports.specs.inside.Going.{IsGoing, Part, Rise}
 use Rattle.part_reports.proofs.Parts.{going_end, going_first, going_line, going_next}
 use Rattle.part_reports.proofs.Parts.{going_stuck, line_at, next_part, order_next}
 use Rattle.part_reports.proofs.Places.{at_map, each_at, each_by_place, each_set, join_of_map}
-use Rattle.part_reports.proofs.Places.{map_at}
-use Rattle.part_reports.proofs.Places.{map_kept, map_of_set, one_at, set_here, set_there, split_at}
-use Rattle.part_reports.proofs.Places.{IsSplit}
-use Rattle.part_reports.proofs.Risings.{each_middle, each_push, falls_from}
-use Rattle.part_reports.proofs.Risings.{rise_push}
+use Rattle.part_reports.proofs.Places.{map_at, map_kept, map_of_set, one_at, set_here, set_there}
+use Rattle.part_reports.proofs.Places.{split_at, IsSplit}
+use Rattle.part_reports.proofs.Risings.{each_middle, each_push, falls_from, rise_push}
 
 -- ---- known bytes
 

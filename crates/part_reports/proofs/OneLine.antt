@@ -17,8 +17,7 @@ use Rattle.tap_views.specs.Token.{bytes_of}
 use Rattle.fare_texts.specs.Counts.{counts_text, totals_line}
 use Rattle.shard_book.specs.Sums.{Sums}
 use Rattle.tap_views.specs.declared.token.Token.{Token}
-use Rattle.report_texts.specs.Numbers.{AreCounts, IsUploadEnd, IsTokenSum}
-use Rattle.report_texts.specs.Numbers.{IsValidatorSum}
+use Rattle.report_texts.specs.Numbers.{AreCounts, IsUploadEnd, IsTokenSum, IsValidatorSum}
 use Rattle.fare_texts.specs.ReportLines.{number_line, token_line, validator_line}
 use Rattle.report_texts.specs.inside.EndWords.{end_words, fault_number}
 use Rattle.report_texts.specs.declared.upload_end.UploadEnd.TheVariants.{Posted, Refused, Cut}

@@ -1,7 +1,6 @@
 -- A text that is being merged: how far it was written.
-use Rattle.std.proofs.Common.{◌≡◌, ◌∙◌, ℕ, List, [], ◌∷◌, ◌++◌, Some, None}
-use Rattle.std.proofs.Common.{Option, refl, sym, ap, subst, arith, append_assoc}
-use Rattle.std.proofs.Common.{append-nil, length-append}
+use Rattle.std.proofs.Common.{◌≡◌, ◌∙◌, ℕ, List, [], ◌∷◌, ◌++◌, Some, None, Option, refl, sym, ap}
+use Rattle.std.proofs.Common.{subst, arith, append_assoc, append-nil, length-append}
 use Rattle.std.specs.Prelude.{IfSome}
 use Rattle.std.specs.List.{AllByRecursion}
 use Rattle.std.proofs.lemmas.List.{length_push}
@@ -14,18 +13,15 @@ use Rattle.part_reports.specs.inside.Going.{IsBehindSo, IsGoing, Part, Rise}
 use Rattle.part_reports.specs.inside.Kinds.{AreLines, HasTokenSums, IsTextOf}
 use Rattle.part_reports.specs.inside.SumsLeft.{sums_left}
 use Rattle.part_reports.specs.inside.Standings.{IsAtEnd, IsAtLine, IsBehindOne, IsLineOfKind}
-use Rattle.part_reports.specs.inside.Standings.{IsMoved}
-use Rattle.part_reports.specs.inside.Standings.{StandsInText, StandsInTextAt, IsStuck, MayEnd}
-use Rattle.part_reports.specs.inside.Standings.{MayFollow}
-use Rattle.part_reports.specs.inside.Standings.{MayFollowAll, MayFollowToken, Standing}
+use Rattle.part_reports.specs.inside.Standings.{IsMoved, StandsInText, StandsInTextAt, IsStuck}
+use Rattle.part_reports.specs.inside.Standings.{MayEnd, MayFollow, MayFollowAll, MayFollowToken}
+use Rattle.part_reports.specs.inside.Standings.{Standing}
 use Rattle.part_reports.specs.declared.merging.LineKind.{LineKind}
 use Rattle.part_reports.specs.declared.merging.LineKind.TheVariants.{Tokens, Entries}
 use Rattle.part_reports.proofs.Added.{leave_all, leave_behind, leave_push, one_of_token}
 use Rattle.part_reports.proofs.Orders.{may_follow_trans}
-use Rattle.part_reports.proofs.Risings.{AreCounted, begins, each_push}
-use Rattle.part_reports.proofs.Risings.{lines_count, lines_each, lines_from, lines_rise}
-use Rattle.part_reports.proofs.Risings.{rise_behind}
-use Rattle.part_reports.proofs.Risings.{rise_middle, rise_push}
+use Rattle.part_reports.proofs.Risings.{AreCounted, begins, each_push, lines_count, lines_each}
+use Rattle.part_reports.proofs.Risings.{lines_from, lines_rise, rise_behind, rise_middle, rise_push}
 
 none_behind : (kind : LineKind) → IsBehindSo kind kind []
 none_behind (Tokens left rest) = (omega arith, refl)

@@ -47,8 +47,7 @@ use Rattle.part_reports.specs.declared.merging.LineKind.TheVariants.{Tokens}
 use Rattle.part_reports.proofs.Added.{leave_sums, lines_stand}
 use Rattle.part_reports.proofs.FewParts.{few, one_small, same_test, told_may, told_of}
 use Rattle.part_reports.proofs.Groups.{groups_use, head_same, no_stay, no_turn, other_next}
-use Rattle.part_reports.proofs.Groups.{something_left}
-use Rattle.part_reports.proofs.Groups.{stays_on, turns_on, use_groups}
+use Rattle.part_reports.proofs.Groups.{something_left, stays_on, turns_on, use_groups}
 use Rattle.part_reports.proofs.Parts.{going_end, going_first, going_line, going_next, going_stuck}
 use Rattle.part_reports.proofs.Parts.{here, like_line, line_at}
 use Rattle.part_reports.proofs.PartsBegun.{told_unique}

@@ -6,8 +6,7 @@ use Rattle.std.proofs.lemmas.List.{append-nil, map-append, take-append-drop, tak
 use Rattle.std.proofs.Math.Seq.{drop-cons, take-suc}
 use Rattle.std.specs.Prelude.{filter, map, flat_map, sum_by, if◌then◌else◌}
 use Rattle.std.specs.Option.{option_map}
-use Rattle.std.specs.BTreeMap.{Updates, get, is_at}
-use Rattle.std.specs.BTreeMap.{BTreeMap}
+use Rattle.std.specs.BTreeMap.{Updates, get, is_at, BTreeMap}
 use Rattle.std.specs.Map.{keys_of}
 use Rattle.std.specs.Ordering.{eq_by_cmp, is_eq, nat_cmp}
 use Rattle.std.specs.Set.{is_member}
@@ -23,8 +22,7 @@ use Rattle.part_reports.specs.declared.front.Front.{Front}
 use Rattle.part_reports.specs.declared.sums.WholeSums.{WholeSums}
 use Rattle.part_reports.specs.inside.Fronts.{IsFront, ToldFront}
 use Rattle.part_reports.specs.inside.Sums.{AreFew, AreSumsOf, AreSmall, AreFrontsCounted, WithFront}
-use Rattle.part_reports.specs.inside.Sums.{WithOne}
-use Rattle.part_reports.specs.inside.Sums.{WithValidators, or_nothing}
+use Rattle.part_reports.specs.inside.Sums.{WithOne, WithValidators, or_nothing}
 use Rattle.std.proofs.lemmas.List.Concat.{flat_map-append}
 use Rattle.std.proofs.lemmas.List.Sums.{sum_by-append}
 use Rattle.std.proofs.Math.Bool.{or-false, or-true}

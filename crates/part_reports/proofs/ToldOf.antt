@@ -1,7 +1,6 @@
 -- Of which text a fault is.
 use Rattle.std.proofs.Common.{◌≡◌, ◌∙◌, ◌+◌, ◌<◌, ◌^◌, ℕ, zero, suc, List, [], ◌∷◌, ◌++◌, Option}
-use Rattle.std.proofs.Common.{Some}
-use Rattle.std.proofs.Common.{arith, length, sym, ap, subst}
+use Rattle.std.proofs.Common.{Some, arith, length, sym, ap, subst}
 use Rattle.std.specs.Prelude.{IfSome, slice_get}
 use Rattle.std.proofs.lemmas.Option.{slice_get_within}
 use Rattle.part_reports.specs.Faults.{NamesAmong, number_from, text_named}

@@ -2,7 +2,7 @@
 -- that are the same text write the same, and have the same rest.
 use Rattle.std.proofs.Common.{◌≡◌, ◌∙◌, ℕ, ◌<◌, ◌^◌, List, ◌++◌, append_assoc}
 use Rattle.std.proofs.Common.{refl, sym, ap, arith, get_or}
-use Rattle.std.specs.Prelude.{codes}
+use Rattle.std.specs.Prelude.{codes, ◌==◌, if◌then◌else◌}
 use Rattle.std.specs.Fmt.{decimal}
 use Rattle.std.proofs.lemmas.List.{append_cancel_left}
 use Rattle.hex.specs.Hex.{encode_lower}
@@ -10,19 +10,17 @@ use Rattle.tap_views.specs.Token.{bytes_of}
 use Rattle.fare_texts.specs.Counts.{counts_text, totals_line}
 use Rattle.shard_book.specs.Sums.{Sums}
 use Rattle.tap_views.specs.declared.token.Token.{Token}
-use Rattle.report_texts.specs.Numbers.{AreCounts, IsUploadEnd, IsTokenSum}
-use Rattle.report_texts.specs.Numbers.{IsValidatorSum}
+use Rattle.report_texts.specs.Numbers.{AreCounts, IsUploadEnd, IsTokenSum, IsValidatorSum}
+use Rattle.report_texts.specs.Numbers.{IsNameAlone}
 use Rattle.fare_texts.specs.ReportLines.{number_line, token_line, validator_line}
 use Rattle.tap_views.specs.declared.fault.LayoutFault.{LayoutFault}
 use Rattle.tap_views.specs.declared.fault.LayoutFault.TheVariants.{Short, Magic, Flags, TooMany}
 use Rattle.tap_views.specs.declared.fault.LayoutFault.TheVariants.{Length, Moment}
-use Rattle.report_texts.specs.Numbers.{IsNameAlone}
 use Rattle.report_texts.specs.inside.EndWords.{end_words, fault_number, fault_words}
 use Rattle.report_texts.specs.declared.upload_end.UploadEnd.{UploadEnd}
 use Rattle.report_texts.specs.declared.upload_end.UploadEnd.TheVariants.{Posted, Refused, Cut}
 use Rattle.report_texts.specs.declared.upload_end.UploadEnd.TheVariants.{Undrawn}
 use Rattle.report_texts.proofs.EndTexts.{line_words, refused_spelt, small_number}
-use Rattle.std.specs.Prelude.{◌==◌, if◌then◌else◌}
 use Rattle.part_reports.specs.Ledgers.{IsLedgerEntryLine}
 use Rattle.part_reports.specs.TokenLines.{TokenLine}
 use Rattle.report_texts.specs.inside.Counted.{IsCounted}

@@ -5,23 +5,18 @@ use Rattle.std.specs.Prelude.{flat_map}
 use Rattle.fare_texts.specs.Counts.{totals_line}
 use Rattle.shard_book.specs.Sums.{Sums}
 use Rattle.tap_views.specs.declared.token.Token.{Token}
-use Rattle.fare_texts.specs.ReportLines.{token_line}
-use Rattle.part_reports.specs.inside.Fronts.{front_text}
-use Rattle.report_texts.specs.Report.{report}
+use Rattle.fare_texts.specs.ReportLines.{token_line, number_line, validator_line}
+use Rattle.part_reports.specs.inside.Fronts.{front_text, AreEnds, AreValidators, MayBeSections}
+use Rattle.part_reports.specs.inside.Fronts.{ToldFront, ends_text, told_text, validators_text}
+use Rattle.report_texts.specs.Report.{report, upload_line, upload_lines}
 use Rattle.report_texts.specs.declared.upload_end.UploadEnd.{UploadEnd}
 use Rattle.part_reports.specs.declared.fault.MergeFault.{MergeFault}
 use Rattle.part_reports.specs.Faults.{IsOfTexts}
 use Rattle.report_texts.specs.Numbers.{AreCounts, IsUploadEnd, IsValidatorSum}
-use Rattle.fare_texts.specs.ReportLines.{number_line, validator_line}
-use Rattle.part_reports.specs.inside.Fronts.{AreEnds, AreValidators, MayBeSections, ToldFront}
-use Rattle.part_reports.specs.inside.Fronts.{ends_text}
-use Rattle.part_reports.specs.inside.Fronts.{told_text, validators_text}
 use Rattle.part_reports.specs.inside.LinesRead.{IsRead, BeginsWithValue}
 use Rattle.part_reports.proofs.ListsWritten.{lines_unique, end_lines_from, flat_map_from}
 use Rattle.part_reports.proofs.Unique.{end_line_unique, number_line_unique, totals_line_unique}
 use Rattle.part_reports.proofs.Unique.{validator_line_unique}
-use Rattle.report_texts.specs.Report.{upload_line}
-use Rattle.report_texts.specs.Report.{upload_lines}
 
 -- what is written determines the value and what is behind it
 abbrev pub IsUnique : {V : Type 0} → (V → Type 0) → (V → List ℕ) → Type 0

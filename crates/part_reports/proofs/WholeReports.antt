@@ -24,14 +24,13 @@ use Rattle.shard_book.specs.declared.sums.totals.Totals.{Totals}
 use Rattle.fare_texts.specs.ReportLines.{token_line}
 use Rattle.report_texts.specs.Numbers.{IsTokenSum}
 use Rattle.part_reports.specs.Reports.{IsMerged, IsPartReport, Report, added, end_texts}
-use Rattle.part_reports.specs.inside.Fronts.{front_text}
 use Rattle.part_reports.specs.Reports.{all_ends, report_text, sums_of_validator, tokens_of_reports}
 use Rattle.part_reports.specs.Reports.{validators_of_reports}
+use Rattle.part_reports.specs.inside.Fronts.{front_text, MayBePart, ToldFront}
 use Rattle.part_reports.specs.TokenLines.{IsMergedByToken, TokenLine, lines_of_token, text_of}
 use Rattle.part_reports.specs.declared.sums.WholeSums.{WholeSums}
 use Rattle.part_reports.specs.declared.upload_ends.UploadEnds.{UploadEnds}
 use Rattle.part_reports.specs.inside.UploadEnds.{HaveReadEnds}
-use Rattle.part_reports.specs.inside.Fronts.{MayBePart, ToldFront}
 use Rattle.part_reports.specs.inside.Kinds.{AreTexts, HasTokenSums, IsSumLine, IsTextOf, Leave}
 use Rattle.part_reports.specs.inside.Parts.{AreParts, BegunReport, begun_text, left_text}
 use Rattle.part_reports.specs.inside.Standings.{Standing}

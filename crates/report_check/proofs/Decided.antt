@@ -1,7 +1,6 @@
 -- A true verdict says that a report is the ledger's exactly if it is.
 use Rattle.std.proofs.Common.{◌≡◌, ◌≢◌, ◌∙◌, ℕ, ◌<◌, ◌^◌, true, false, List, [], ◌++◌, length}
-use Rattle.std.proofs.Common.{append_assoc, append-nil, codes}
-use Rattle.std.proofs.Common.{refl, sym, ap, arith, inl, inr}
+use Rattle.std.proofs.Common.{append_assoc, append-nil, codes, refl, sym, ap, arith, inl, inr}
 use Rattle.std.specs.Prelude.{◌↔◌, sum_by}
 use Rattle.std.specs.Io.BufRead.{drop_through, take_through}
 use Rattle.std.proofs.lemmas.List.{append_cancel_left}

@@ -1,8 +1,7 @@
 -- The lines of uploads are determined by their text: two lists of ends, with any rests behind their
 -- lines, that are the same text are the same list, and have the same rest.
 use Rattle.std.proofs.Common.{◌≡◌, ◌∙◌, ℕ, ◌+◌, ◌<◌, ◌^◌, All, List, [], ◌∷◌, ◌++◌, length}
-use Rattle.std.proofs.Common.{append_assoc, codes}
-use Rattle.std.proofs.Common.{refl, sym, ap, arith, get_or, subst, suc}
+use Rattle.std.proofs.Common.{append_assoc, codes, refl, sym, ap, arith, get_or, subst, suc}
 use Rattle.std.specs.Fmt.{decimal}
 use Rattle.std.specs.List.{AllByRecursion}
 use Rattle.std.proofs.lemmas.Bool.Decides.{nat_tests}

@@ -1,7 +1,6 @@
 -- The lines of uploads, one after another.
 use Rattle.std.proofs.Common.{◌≡◌, ℕ, ◌+◌, ◌<◌, ◌^◌, List, [], ◌∷◌, ◌++◌, length, codes, sym, ap}
-use Rattle.std.proofs.Common.{◌∙◌}
-use Rattle.std.proofs.Common.{All, append_assoc, append-nil, arith, suc}
+use Rattle.std.proofs.Common.{◌∙◌, All, append_assoc, append-nil, arith, suc}
 use Rattle.std.specs.Fmt.{decimal}
 use Rattle.std.specs.Prelude.{MatchOption, None, Option, Some}
 use Rattle.std.specs.Io.BufRead.{drop_through, take_through}

@@ -1,7 +1,6 @@
 -- The taps of a trace are the settled taps of the files.
 use Rattle.std.proofs.Common.{◌≡◌, ◌∙◌, ℕ, ◌+◌, ◌<◌, Bool, false, List, [], ◌∷◌, ◌++◌, All, Less}
-use Rattle.std.proofs.Common.{Equal, Greater}
-use Rattle.std.proofs.Common.{Ordering, arith, length, map, refl, sym, ap, subst}
+use Rattle.std.proofs.Common.{Equal, Greater, Ordering, arith, length, map, refl, sym, ap, subst}
 use Rattle.std.specs.Prelude.{slice_index_or}
 use Rattle.std.specs.List.Sorted.{IsPermutation, IsSorted}
 use Rattle.std.specs.Ordering.{is_lt, nat_cmp, ordering_then}

@@ -1,8 +1,6 @@
 -- Columns behind the lines of a text.
 use Rattle.std.proofs.Common.{◌≡◌, ◌∙◌, ℕ, zero, suc, ◌+◌, ◌==◌, Bool, true, false, List, [], ◌∷◌}
-use Rattle.std.proofs.Common.{◌++◌, refl, sym, ap}
-use Rattle.std.proofs.Common.{drop, append_assoc, arith}
-use Rattle.std.proofs.Common.{drop-drop}
+use Rattle.std.proofs.Common.{◌++◌, refl, sym, ap, drop, append_assoc, arith, drop-drop}
 use Rattle.std.specs.Prelude.{codes, if◌then◌else◌}
 use Rattle.fare_texts.specs.LedgerLines.{head_text}
 use Rattle.settled_texts.specs.Columns.{columns_by, head_columns, with_columns}

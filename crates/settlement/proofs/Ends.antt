@@ -1,12 +1,10 @@
 -- How uploads end whose taps were added to parts.
-use Rattle.std.proofs.Common.{◌≡◌, ℕ, List, refl, ap}
-use Rattle.std.proofs.Common.{◌∙◌}
+use Rattle.std.proofs.Common.{◌≡◌, ℕ, List, refl, ap, ◌∙◌}
 use Rattle.tap_views.specs.declared.encoder.TapFields.{TapFields}
 use Rattle.tap_views.specs.Files.{AreGoodTaps, taps_of_batches}
 use Rattle.tap_parts.specs.Uploads.{IsUploadAddedBy}
 use Rattle.tap_parts.specs.declared.upload.UploadTaps.{UploadTaps}
-use Rattle.report_texts.specs.UploadEnds.{end_by}
-use Rattle.report_texts.specs.UploadEnds.{IsPlainEnd}
+use Rattle.report_texts.specs.UploadEnds.{end_by, IsPlainEnd}
 use Rattle.report_texts.specs.declared.upload_end.UploadEnd.{UploadEnd}
 
 -- the taps that were added are those of the upload

@@ -5,14 +5,13 @@ use Rattle.std.proofs.lemmas.List.Elements.{All-append}
 use Rattle.tap_views.specs.Encoding.{fields_of}
 use Rattle.tap_views.specs.Layout.{Tap}
 use Rattle.tap_views.specs.declared.encoder.TapFields.{TapFields}
-use Rattle.tap_parts.specs.Parts.{taps_at}
+use Rattle.tap_parts.specs.Parts.{taps_at, taps_of_uploads}
 use Rattle.tap_parts.proofs.Adding.{fields-append}
 use Rattle.tap_views.specs.Files.{AreGoodTaps}
 use Rattle.tap_views.proofs.Lists.{AllZip-append}
 use Rattle.report_texts.specs.UploadEnds.{IsPlainEnd}
 use Rattle.report_texts.specs.declared.upload_end.UploadEnd.{UploadEnd}
 use Rattle.settlement.specs.inside.SplitTaps.{AreInParts, in_part}
-use Rattle.tap_parts.specs.Parts.{taps_of_uploads}
 
 -- the taps of a part in two runs of uploads
 parts_joined : (part_of : List ℕ → ℕ) (part : ℕ) (one other : List (List Tap))

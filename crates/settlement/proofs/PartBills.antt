@@ -1,8 +1,7 @@
 -- Bills of parts, and of chunks of parts, one behind the other.
 use Rattle.std.proofs.Common.{◌≡◌, ℕ, suc, ◌+◌, ◌*◌, ◌/◌, ◌%◌, min, ◌<◌, ◌≤◌, ◌^◌, List, ◌∷◌, ◌++◌}
 use Rattle.std.proofs.Common.{length, map, flat_map, take, drop, refl, sym, ap, subst, ◌∙◌, arith}
-use Rattle.std.proofs.Common.{All}
-use Rattle.std.proofs.Common.{append-nil, append_assoc, length-append, drop-drop, []}
+use Rattle.std.proofs.Common.{All, append-nil, append_assoc, length-append, drop-drop, []}
 use Rattle.std.specs.Prelude.{Result, Ok, IfOk, slice_index_or}
 use Rattle.std.specs.declared.cmp.Ordering.TheVariants.{Less}
 use Rattle.std.proofs.lemmas.Grind.{div_ceil_times}
@@ -23,8 +22,7 @@ use Rattle.settlement.specs.Bills.{IsBillOf}
 use Rattle.settlement.specs.Posted.{posted, token_of_tap}
 use Rattle.settlement.specs.declared.bill.Bill.{Bill}
 use Rattle.settlement.specs.inside.Billing.{ArePartsInOrder, HasBillRoom, HaveBillRoom}
-use Rattle.settlement.specs.inside.Billing.{IsBillOfParts}
-use Rattle.settlement.specs.inside.Billing.{IsPartBilled}
+use Rattle.settlement.specs.inside.Billing.{IsBillOfParts, IsPartBilled}
 use Rattle.settlement.proofs.Ranges.{AreTokensBelow, below_all, lists_in_order}
 use Rattle.settlement.proofs.TokenRuns.{posted_length, tokens_posted}
 

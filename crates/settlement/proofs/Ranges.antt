@@ -12,8 +12,7 @@ use Rattle.std.proofs.lemmas.Bool.{cases_lt}
 use Rattle.std.proofs.lemmas.Cmp.{nat_list_cmp_total}
 use Rattle.std.proofs.lemmas.List.{map-append}
 use Rattle.std.proofs.lemmas.List.Elements.{All-append, All-cons, All-head, All-map, All-nil}
-use Rattle.std.proofs.lemmas.List.Elements.{All-tail}
-use Rattle.std.proofs.lemmas.List.Elements.{All-weaker}
+use Rattle.std.proofs.lemmas.List.Elements.{All-tail, All-weaker}
 use Rattle.std.proofs.lemmas.List.Sorted.{All-permutation}
 use Rattle.tap_views.proofs.TokenBytes.{back_byte, front_byte, token-order, two_numbers}
 use Rattle.tap_views.proofs.TokenBytes.{eight_bytes, token_bytes, token_length}
@@ -31,11 +30,12 @@ use Rattle.shard_book.specs.declared.entry.Entry.{Entry}
 use Rattle.tap_views.proofs.TokenLemmas.{token_eq-sym, less_apart}
 use Rattle.tap_views.proofs.Lists.{All-unmap}
 use Rattle.shard_book.specs.Plain.{token_of_bytes}
+use Rattle.shard_book.proofs.SumsByToken.{none_of}
 use Rattle.settlement.specs.inside.Apart.{AreBelow, AreOthers}
 use Rattle.settlement.specs.Posted.{HasName, posted, posted_after, token_of_tap}
 use Rattle.settlement.specs.inside.Billing.{ArePartsInOrder}
 use Rattle.settlement.proofs.TokenRuns.{tokens_posted}
-use Rattle.settlement.proofs.Concats.{none_of, posted_apart}
+use Rattle.settlement.proofs.Concats.{posted_apart}
 use Rattle.settlement.proofs.Own.{IsNamedBy}
 
 -- ---- tokens of 16 bytes

@@ -4,9 +4,7 @@ use Rattle.std.proofs.Common.{map, take, drop, ap, sym, subst, ◌∙◌, arith,
 use Rattle.std.specs.List.Sorted.{IsSorted}
 use Rattle.std.specs.declared.cmp.Ordering.TheVariants.{Less}
 use Rattle.std.proofs.lemmas.List.{get_or-drop, get_or-take, get_or_default, length-drop}
-use Rattle.std.proofs.lemmas.List.{length-take}
-use Rattle.std.proofs.lemmas.List.{length-take-le}
-use Rattle.std.proofs.lemmas.List.{map-append, take_all}
+use Rattle.std.proofs.lemmas.List.{length-take, length-take-le, map-append, take_all}
 use Rattle.std.proofs.lemmas.List.Elements.{All-append, All-drop, All-map, All-take, All-weaker}
 use Rattle.std.proofs.Math.Seq.{take-add}
 use Rattle.fare_table.specs.Fares.{Fares}

@@ -1,7 +1,6 @@
 -- The good taps of uploads in canonical order: their history, and the taps of one token among them.
 use Rattle.std.proofs.Common.{◌≡◌, ℕ, ◌<◌, List, ◌∷◌, ◌++◌, All, cond, map, flat_map, refl, sym, ap}
-use Rattle.std.proofs.Common.{true}
-use Rattle.std.proofs.Common.{◌∙◌, subst, Vec, Global, []}
+use Rattle.std.proofs.Common.{true, ◌∙◌, subst, Vec, Global, []}
 use Rattle.std.specs.List.{AllZip, sum_by}
 use Rattle.std.specs.Ordering.{is_lt}
 use Rattle.std.proofs.lemmas.List.Elements.{All-filter, All-map, filter_passes, All-weaker}

@@ -17,8 +17,7 @@ use Rattle.shard_book.specs.declared.entry.Entry.{Entry}
 use Rattle.tap_views.specs.Files.{AreGoodTapsOfEach, HasOneReading}
 use Rattle.fare_service.specs.Plain.{IsPlain}
 use Rattle.report_texts.specs.OverHistory.{IsReportOver}
-use Rattle.shard_book.specs.Plain.{plain}
-use Rattle.shard_book.specs.Plain.{plain_after, answered, unanswered}
+use Rattle.shard_book.specs.Plain.{plain, plain_after, answered, unanswered}
 use Rattle.report_texts.specs.Report.{report, validators_section, tokens_section}
 use Rattle.fare_texts.specs.Counts.{totals_line}
 use Rattle.shard_book.proofs.PlainReplies.{bare, plain_bare, plain_legal}

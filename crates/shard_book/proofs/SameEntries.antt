@@ -1,7 +1,5 @@
 -- Histories with the same entries of each token have the same sums, in all and by key.
-use Rattle.std.specs.Prelude.{ℕ, ◌≡◌, ◌↔◌, cond, List}
-use Rattle.std.specs.Prelude.{map, filter}
-use Rattle.std.specs.Prelude.{IsPermutation}
+use Rattle.std.specs.Prelude.{ℕ, ◌≡◌, ◌↔◌, cond, List, map, filter, IsPermutation}
 use Rattle.std.specs.Ordering.{eq_by_cmp, nat_cmp}
 use Rattle.std.specs.declared.cmp.Ordering.{Ordering}
 use Rattle.std.proofs.Common.{refl, sym, ◌∙◌, ap}
@@ -12,8 +10,7 @@ use Rattle.shard_book.specs.declared.entry.Entry.{Entry}
 use Rattle.tap_views.specs.declared.token.Token.{Token}
 use Rattle.shard_book.specs.Entry.{is_of, is_at, own, reply_of}
 use Rattle.shard_book.specs.SumsByKey.{entries_of_validator, validators, tokens, sums_by_validator}
-use Rattle.shard_book.specs.SumsByKey.{sums_by_token}
-use Rattle.shard_book.specs.SumsByKey.{validator_of, token_of}
+use Rattle.shard_book.specs.SumsByKey.{sums_by_token, validator_of, token_of}
 use Rattle.shard_book.specs.Keys.{same_token}
 use Rattle.shard_book.specs.Rising.{rising, IsRising}
 use Rattle.shard_book.specs.Sums.{sums, sums_of_replies, is_paid, is_transfer, is_capped, is_stale}

@@ -7,8 +7,7 @@ use Rattle.atomic_table.specs.Table.{Me, Step}
 use Rattle.shared_books.specs.declared.drawing.rule.DrawerState.{DrawerState}
 use Rattle.shared_books.specs.Drawing.{NoneTwice, AllBelow}
 use Rattle.shared_books.specs.inside.DrawerStates.{drawer_state, left_drawer_state}
-use Rattle.shared_books.specs.inside.DrawerStates.{both_drawer_states, HasLooked}
-use Rattle.shared_books.specs.inside.DrawerStates.{IsHeld}
+use Rattle.shared_books.specs.inside.DrawerStates.{both_drawer_states, HasLooked, IsHeld}
 use Rattle.shared_books.proofs.Numbers.{times-append, times-same, times-other, few}
 
 abbrev Seat : Type 0

@@ -1,9 +1,8 @@
 -- The taps of one token, collected from sorted files.
 use Rattle.std.proofs.Common.{◌≡◌, ℕ, ◌+◌, Bool, true, false, List, [], ◌∷◌, ◌++◌, All, length, map}
 use Rattle.std.proofs.Common.{◌<◌, get_or, flat_map, cond, refl, sym, ap, subst, ◌∙◌, append-nil}
-use Rattle.std.proofs.Common.{option_map, Option, Some}
+use Rattle.std.proofs.Common.{option_map, Option, Some, append_assoc, arith}
 use Rattle.std.specs.Prelude.{slice_get}
-use Rattle.std.proofs.Common.{append_assoc, arith}
 use Rattle.std.proofs.lemmas.List.Concat.{flat_map-append}
 use Rattle.std.proofs.lemmas.List.Elements.{All-append, All-cons, All-nil, filter-append}
 use Rattle.std.proofs.lemmas.List.Elements.{All-weaker}

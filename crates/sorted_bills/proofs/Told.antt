@@ -1,8 +1,7 @@
 -- Taps that were told, and more behind them.
 use Rattle.std.proofs.Common.{◌≡◌, ◌≤◌, ℕ, Bool, true, false, List, [], ◌∷◌, ◌++◌, All, Option}
-use Rattle.std.proofs.Common.{Some, None, map}
+use Rattle.std.proofs.Common.{Some, None, map, refl, sym, ap, subst, ◌∙◌, append-nil}
 use Rattle.std.specs.Prelude.{IfSome}
-use Rattle.std.proofs.Common.{refl, sym, ap, subst, ◌∙◌, append-nil}
 use Rattle.std.specs.Ordering.{is_lt}
 use Rattle.std.specs.declared.cmp.Ordering.TheVariants.{Less}
 use Rattle.std.specs.Io.KnownBytes.{Appends, Keeps, append_known}

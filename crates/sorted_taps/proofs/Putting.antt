@@ -1,9 +1,7 @@
 -- Taps that are written in batches of 512.
 use Rattle.std.proofs.Common.{◌≡◌, ℕ, zero, suc, ◌+◌, ◌<◌, ◌≤◌, List, [], ◌∷◌, ◌++◌, flat_map}
-use Rattle.std.proofs.Common.{length}
-use Rattle.std.proofs.Common.{refl, sym, ap, subst, ◌∙◌, arith, append-nil, append_assoc, take}
-use Rattle.std.proofs.Common.{get_or}
-use Rattle.std.proofs.Common.{length-append, Ok, Err}
+use Rattle.std.proofs.Common.{length, refl, sym, ap, subst, ◌∙◌, arith, append-nil, append_assoc}
+use Rattle.std.proofs.Common.{take, get_or, length-append, Ok, Err}
 use Rattle.std.specs.Prelude.{IfErr, Option, Result}
 use Rattle.std.proofs.Math.ListN.{get_or-append}
 use Rattle.std.proofs.lemmas.List.{flat_map_more, get_or-append-add, take_more}

@@ -1,12 +1,10 @@
 -- Batches that are decoded at an offset of a file.
 use Rattle.std.proofs.Common.{◌≡◌, ◌⊎◌, ℕ, ◌+◌, ◌*◌, ◌<◌, ◌≤◌, List, [], ◌∷◌, ◌++◌, length, take}
-use Rattle.std.proofs.Common.{drop}
-use Rattle.std.proofs.Common.{refl, sym, ap, subst, ◌∙◌, arith, inl, inr, None, Some, length-append}
-use Rattle.std.proofs.Common.{append_assoc, IfSome}
+use Rattle.std.proofs.Common.{drop, refl, sym, ap, subst, ◌∙◌, arith, inl, inr, None, Some}
+use Rattle.std.proofs.Common.{length-append, append_assoc, IfSome}
 use Rattle.std.specs.Prelude.{Option}
 use Rattle.std.proofs.lemmas.Bool.{cases_lt}
-use Rattle.std.proofs.lemmas.List.{take-append-drop, length-take-le, drop-drop}
-use Rattle.std.proofs.lemmas.List.{nil_from_length}
+use Rattle.std.proofs.lemmas.List.{take-append-drop, length-take-le, drop-drop, nil_from_length}
 use Rattle.tap_views.specs.Faults.{IsFault, header, width, layout_in, count_in}
 use Rattle.tap_views.specs.Layout.{Layout, Tap1, Tap2}
 use Rattle.tap_views.specs.declared.encoder.TapFields.{TapFields}

@@ -5,8 +5,7 @@ use Rattle.std.proofs.Common.{Vec, Global}
 use Rattle.std.specs.List.{AllZip}
 use Rattle.std.proofs.Math.Nat.{mul-le-mul_right}
 use Rattle.std.proofs.lemmas.List.{drop-map, get_or-drop, get_or-take, length-drop, length-map}
-use Rattle.std.proofs.lemmas.List.{length-take, take-map}
-use Rattle.std.proofs.lemmas.List.{map-append}
+use Rattle.std.proofs.lemmas.List.{length-take, take-map, map-append}
 use Rattle.std.proofs.lemmas.List.Elements.{All-append, All-filter, All-nil, AllZip-get_or}
 use Rattle.std.proofs.lemmas.List.Elements.{length_all_zip}
 use Rattle.std.proofs.lemmas.List.Folds.{flat_map-map}

@@ -1,8 +1,7 @@
 -- Bounds that do not fall: how many are not above a number, and that a later range has later
 -- tokens.
 use Rattle.std.proofs.Common.{◌≡◌, ℕ, zero, suc, ◌-◌, ◌<◌, ◌≤◌, List, [], ◌∷◌, length, get_or}
-use Rattle.std.proofs.Common.{filter}
-use Rattle.std.proofs.Common.{Bool, false, ap, arith, inl, inr}
+use Rattle.std.proofs.Common.{filter, Bool, false, ap, arith, inl, inr}
 use Rattle.std.specs.Prelude.{◌⊎◌, nat_le}
 use Rattle.std.specs.List.Sorted.{IsSorted}
 use Rattle.std.specs.Ordering.{is_lt, nat_cmp}

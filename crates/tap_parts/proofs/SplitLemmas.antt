@@ -6,14 +6,12 @@ use Rattle.std.proofs.lemmas.List.Elements.{All-append}
 use Rattle.tap_views.specs.Encoding.{fields_of, AreEarly}
 use Rattle.tap_views.specs.Layout.{Tap, moment_limit}
 use Rattle.tap_views.specs.declared.encoder.TapFields.{TapFields}
-use Rattle.tap_parts.specs.Parts.{of_part, part_of_token}
+use Rattle.tap_parts.specs.Parts.{of_part, part_of_token, taps_of_uploads, part_by, parts_of}
 use Rattle.tap_parts.proofs.Adding.{fields-append}
 use Rattle.tap_parts.proofs.Early.{Early, file_early, part_early}
 use Rattle.tap_views.proofs.ReadingLemmas.{each_more, taps_more}
 use Rattle.tap_views.specs.Files.{AreGoodTaps, taps_of_batches}
 use Rattle.tap_parts.specs.Split.{AreSplit, AreAllEarly}
-use Rattle.tap_parts.specs.Parts.{taps_of_uploads}
-use Rattle.tap_parts.specs.Parts.{part_by, parts_of}
 use Rattle.tap_parts.specs.Uploads.{IsUploadAddedBy}
 use Rattle.tap_parts.specs.declared.part.EqualParts.{EqualParts}
 use Rattle.tap_parts.specs.declared.upload.UploadTaps.{UploadTaps}

@@ -2,16 +2,15 @@
 use Rattle.std.proofs.Common.{◌≡◌, ℕ, zero, suc, ◌+◌, ◌<◌, ◌≤◌, List, [], ◌∷◌, ◌++◌, length, None}
 use Rattle.std.proofs.Common.{Some, Ok, Err, refl, sym, ap, subst, ◌∙◌, arith, append-nil}
 use Rattle.std.proofs.Common.{append_assoc, length-append}
-use Rattle.std.specs.Prelude.{Option, Result, IfSome}
+use Rattle.std.specs.Prelude.{Option, Result, IfSome, map, flat_map, All, IsSome, IsSomeAnd}
+use Rattle.std.specs.Prelude.{slice_get, slice_index_or}
 use Rattle.std.specs.Io.BufRead.{first_line, drop_through}
 use Rattle.std.specs.Io.KnownBytes.{Appends}
 use Rattle.tap_views.specs.declared.encoder.TapFields.{TapFields}
-use Rattle.std.specs.Prelude.{map, flat_map}
 use Rattle.std.proofs.lemmas.List.{map-append}
 use Rattle.std.proofs.lemmas.List.Concat.{flat_map-append}
 use Rattle.std.proofs.KnownBytes.{Appends-nil, Appends-trans}
 use Rattle.std.proofs.lemmas.Option.{MatchOption-at_some, IfSome_then}
-use Rattle.std.specs.Prelude.{All, IsSome, IsSomeAnd, slice_get, slice_index_or}
 use Rattle.tap_views.specs.Encoding.{fields_of, AreEncodable, IsRefused as IsFaultOf}
 use Rattle.tap_views.specs.declared.encoder.EncodeFault.{EncodeFault}
 use Rattle.tap_views.specs.declared.encoder.EncodeFault.TheVariants.{TooMany, Moment}

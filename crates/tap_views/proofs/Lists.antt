@@ -1,7 +1,6 @@
 -- What holds of each element of a list holds of its parts; and one filter after another.
 use Rattle.std.proofs.Common.{◌≡◌, ℕ, ◌==◌, Bool, true, false, List, [], ◌∷◌, ◌++◌, length, map}
-use Rattle.std.proofs.Common.{All}
-use Rattle.std.proofs.Common.{refl, sym, ap, ◌∙◌, append-nil, ◌+◌, Some, slice_get, take}
+use Rattle.std.proofs.Common.{All, refl, sym, ap, ◌∙◌, append-nil, ◌+◌, Some, slice_get, take}
 use Rattle.std.specs.List.{AllByRecursion, filter, AllZip}
 use Rattle.std.proofs.lemmas.Bool.{eqb-true}
 use Rattle.std.proofs.lemmas.List.{nil_from_length, take_more}

@@ -2,8 +2,7 @@
 -- batches and its end.
 use Rattle.std.proofs.Common.{◌≡◌, ℕ, zero, suc, ◌+◌, ◌-◌, ◌*◌, ◌<◌, ◌≤◌, List, [], ◌∷◌, ◌++◌}
 use Rattle.std.proofs.Common.{length, map, drop, Ok, Err, None, Some, refl, sym, ap, subst, ◌∙◌}
-use Rattle.std.proofs.Common.{inl, inr}
-use Rattle.std.proofs.Common.{append-nil, arith}
+use Rattle.std.proofs.Common.{inl, inr, append-nil, arith}
 use Rattle.std.proofs.lemmas.List.{length-append, length-drop, drop-drop, append_cancel_right}
 use Rattle.std.proofs.lemmas.List.{nil_from_length}
 use Rattle.tap_views.specs.Layout.{Tap, Layout, Tap1, Tap2, magic, IsBatch}
@@ -15,8 +14,7 @@ use Rattle.tap_views.specs.Files.{IsEndAfterBatches}
 use Rattle.tap_views.proofs.ReadingLemmas.{no_bytes, rest_short}
 use Rattle.tap_views.proofs.Grammar.{begins, no_row}
 use Rattle.tap_views.specs.inside.Readings.{found_fault, first_taps, items_within, items_from}
-use Rattle.tap_views.specs.inside.Readings.{batches_among, fault_among, good_among}
-use Rattle.tap_views.specs.inside.Readings.{good_from}
+use Rattle.tap_views.specs.inside.Readings.{batches_among, fault_among, good_among, good_from}
 use Rattle.tap_views.proofs.Finding.{first_fault-none, first_fault-some}
 use Rattle.tap_views.proofs.Deciding.{same_fault, decided, Found}
 

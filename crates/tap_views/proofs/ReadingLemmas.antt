@@ -7,9 +7,8 @@ use Rattle.std.proofs.lemmas.List.Elements.{All-head, All-tail}
 use Rattle.std.specs.Prelude.{All}
 use Rattle.tap_views.specs.Layout.{Tap, Layout, Tap1, Tap2, IsBatch, IsTapOf, spelling}
 use Rattle.std.specs.List.{AllByRecursion}
-use Rattle.tap_views.specs.Files.{IsFile, taps_of_batches}
-use Rattle.tap_views.specs.Files.{AreGoodTaps, AreGoodTapsOfEach, HasNoBatch, HasOneReading}
-use Rattle.tap_views.specs.Files.{GivesBatch, GoodBatchesView, IsReadAs}
+use Rattle.tap_views.specs.Files.{IsFile, taps_of_batches, AreGoodTaps, AreGoodTapsOfEach}
+use Rattle.tap_views.specs.Files.{HasNoBatch, HasOneReading, GivesBatch, GoodBatchesView, IsReadAs}
 use Rattle.tap_views.specs.declared.fault.LayoutFault.{LayoutFault}
 
 -- the rest of an upload is no longer than the upload

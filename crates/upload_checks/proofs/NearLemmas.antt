@@ -1,9 +1,8 @@
 -- The last tap before another, of its token at its validator, is the nearest one.
 use Rattle.std.proofs.Common.{◌≡◌, ℕ, ◌-◌, ◌≤◌, ◌&&◌, Bool, true, false, cond, List, [], ◌∷◌, ◌++◌}
 use Rattle.std.proofs.Common.{All, Contains, Option, None, Some, refl, sym, ap, ◌∙◌, arith, inl}
-use Rattle.std.proofs.Common.{inr}
+use Rattle.std.proofs.Common.{inr, nat_eq, nat_le, length, suc, ◌<◌, get_or}
 use Prim.Native.Nat.{zero}
-use Rattle.std.proofs.Common.{nat_eq, nat_le, length, suc, ◌<◌, get_or}
 use Rattle.std.specs.Prelude.{◌⊎◌}
 use Rattle.std.specs.Cmp.Lexicographic.{bytes_decides, pointwise}
 use Rattle.std.proofs.lemmas.Bool.Decides.{nat_tests}

@@ -1,15 +1,13 @@
 use Rattle.std.proofs.Common.{◌≡◌, ◌∙◌, ◌<◌, ◌++◌, ◌∷◌, [], Some, List, ℕ, length, map, take, arith}
-use Rattle.std.proofs.Common.{ap, get_or, Bor, nat_eq, ◌+◌}
+use Rattle.std.proofs.Common.{ap, get_or, Bor, nat_eq, ◌+◌, Option, refl, sym}
 use Rattle.std.proofs.lemmas.Bool.Decides.{nat_tests}
 use Rattle.std.proofs.lemmas.List.{map-append, take_all, take_more}
 use Rattle.fare_program.proofs.Loads.{loads_push, names_to_load_are}
-use Rattle.std.proofs.Common.{Option, refl, sym}
 use Rattle.program_manners.specs.Loads.{Loaded}
 use Rattle.program_manners.proofs.Refusals.{is_one_at}
-use Rattle.fare_program.proofs.Causes.{handed_on}
+use Rattle.fare_program.proofs.Causes.{handed_on, named_one, none_named}
 use Rattle.fare_program.specs.Causes.{IsRightFault}
 use Rattle.fare_program.specs.Options.{Asked}
-use Rattle.fare_program.proofs.Causes.{named_one, none_named}
 use Rattle.fare_program.proofs.program.load_files.Goals as goal
 
 pub loop-name-preserved : goal.loop-name-preserved

@@ -1,9 +1,9 @@
 use Rattle.std.proofs.Common.{ℕ, List, Vec, Global, Bor, None, ap, map, inl, inr, refl, subst, sym}
+use Rattle.std.proofs.Common.{Option}
 use Rattle.std.proofs.lemmas.Result.{IfOk-weaker}
 use Rattle.fare_program.specs.Program.{LoadsFiles, LoadsTable, names_to_load}
 use Rattle.fare_program.specs.inside.Options.{asked_of}
 use Rattle.fare_program.proofs.Works.{does_charge, does_list}
-use Rattle.std.proofs.Common.{Option}
 use Rattle.program_manners.specs.Loads.{Loaded}
 use Rattle.fare_program.proofs.Causes.{handed_on}
 use Rattle.fare_program.specs.Causes.{IsRightFault}

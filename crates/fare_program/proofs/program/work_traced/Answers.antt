@@ -1,4 +1,4 @@
-use Rattle.std.proofs.Common.{◌∙◌, ℕ, List, Vec, Global, Bor, ap, map, subst, sym}
+use Rattle.std.proofs.Common.{◌∙◌, ℕ, List, Vec, Global, Bor, ap, map, subst, sym, ◌≡◌, inl, true}
 use Rattle.std.specs.Prelude.{option_map}
 use Rattle.toml.specs.Parse.{parse_document}
 use Rattle.fare_table.specs.Meaning.{Means}
@@ -7,7 +7,6 @@ use Rattle.fare_program.specs.Program.{LoadsFiles, names_to_load}
 use Rattle.fare_program.specs.inside.Options.{asked_of}
 use Rattle.settled_texts.specs.Ledgers.{IsTracedLedger}
 use Rattle.settled_texts.specs.Names.{class_by}
-use Rattle.std.proofs.Common.{◌≡◌, inl, true}
 use Rattle.fare_program.proofs.Causes.{handed_on}
 use Rattle.fare_program.specs.Causes.{IsRightFault}
 use Rattle.fare_program.proofs.program.work_traced.Goals as goal

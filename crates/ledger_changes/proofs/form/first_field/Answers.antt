@@ -1,7 +1,6 @@
 use Rattle.std.proofs.Common.{◌≡◌, ◌∷◌, ◌<◌, ◌≤◌, ◌-◌, ◌+◌, ℕ, Bool, List, true, false, cond, ltb}
-use Rattle.std.proofs.Common.{length, Some, None}
-use Rattle.std.proofs.Common.{refl, sym, ap, subst, ◌∙◌, ◌==◌, arith, rules, tests, take, drop}
-use Rattle.std.proofs.Common.{length-drop}
+use Rattle.std.proofs.Common.{length, Some, None, refl, sym, ap, subst, ◌∙◌, ◌==◌, arith, rules}
+use Rattle.std.proofs.Common.{tests, take, drop, length-drop}
 use Rattle.std.specs.List.{position_or_len}
 use Rattle.std.proofs.lemmas.Bool.Decides.{nat_tests}
 use Rattle.std.proofs.lemmas.Iterator.{YieldsList-from_slice}

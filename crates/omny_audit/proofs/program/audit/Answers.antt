@@ -10,8 +10,7 @@ use Rattle.omny_audit.specs.inside.Reports.{text_of}
 use Rattle.omny_audit.specs.Program.{IsRightAuditFault, compared}
 use Rattle.omny_audit.proofs.ProgramLemmas.{at_ledger, at_report, at_uploads, both_err, compared_is}
 use Rattle.omny_audit.proofs.ProgramLemmas.{kept_all, loads_same, names_same, opened, right_later}
-use Rattle.omny_audit.proofs.ProgramLemmas.{written_first}
-use Rattle.omny_audit.proofs.ProgramLemmas.{handed_on}
+use Rattle.omny_audit.proofs.ProgramLemmas.{written_first, handed_on}
 use Rattle.omny_audit.proofs.program.audit.Goals as goal
 
 pub full_audit_over-requires-clause-good : goal.full_audit_over-requires-clause-good

@@ -1,6 +1,5 @@
 use Rattle.std.proofs.Common.{◌≡◌, ◌∙◌, [], ◌∷◌, ◌++◌, map, sym, subst, ap, append_assoc}
-use Rattle.std.proofs.Common.{append-nil}
-use Rattle.std.proofs.Common.{arith, length, length-append, ◌+◌}
+use Rattle.std.proofs.Common.{append-nil, arith, length, length-append, ◌+◌}
 use Rattle.std.proofs.lemmas.List.{length_push, map-append, nil_from_length}
 use Rattle.std.proofs.lemmas.Result.{err_from_is_err_and}
 use Rattle.part_reports.specs.inside.BegunLedgers.{AreBegunLedgers}

@@ -10,8 +10,7 @@ use Rattle.part_reports.specs.inside.Told.{AreNumbered, text_number}
 use Rattle.part_reports.proofs.PartsBegun.{BegunSo, begun_more, begun_none}
 use Rattle.part_reports.proofs.FewParts.{map_length, parts_refused}
 use Rattle.part_reports.proofs.ReportsWrong.{report_wrong}
-use Rattle.part_reports.proofs.ToldOf.{among_of, first_from, numbered_none}
-use Rattle.part_reports.proofs.ToldOf.{numbered_push}
+use Rattle.part_reports.proofs.ToldOf.{among_of, first_from, numbered_none, numbered_push}
 use Rattle.part_reports.proofs.TextsRead.{front_more}
 use Rattle.part_reports.proofs.reports.read_parts.Goals as goal
 

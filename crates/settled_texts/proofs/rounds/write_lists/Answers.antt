@@ -1,7 +1,6 @@
 -- Each turn writes a round more.
 use Rattle.std.proofs.Common.{◌≡◌, ◌==◌, true, All, List, [], ◌++◌, length, string_bytes, refl, sym}
-use Rattle.std.proofs.Common.{ap}
-use Rattle.std.proofs.Common.{subst, ◌∙◌, append_assoc, append-nil, arith, length-append, Vec}
+use Rattle.std.proofs.Common.{ap, subst, ◌∙◌, append_assoc, append-nil, arith, length-append, Vec}
 use Rattle.std.proofs.Common.{Global}
 use Rattle.std.specs.Io.KnownBytes.{append_known}
 use Rattle.std.proofs.KnownBytes.{Appends-nil, Appends-trans}

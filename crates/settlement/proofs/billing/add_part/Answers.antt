@@ -1,6 +1,5 @@
 use Rattle.std.proofs.Common.{◌≡◌, ◌<◌, ◌≤◌, List, ◌++◌, ◌∷◌, All, Vec, Global, get_or, length, map}
-use Rattle.std.proofs.Common.{ap, arith, append-nil}
-use Rattle.std.proofs.Common.{flat_map, subst, sym, ◌∙◌, []}
+use Rattle.std.proofs.Common.{ap, arith, append-nil, flat_map, subst, sym, ◌∙◌, []}
 use Rattle.std.specs.List.Sorted.{IsPermutation, IsSorted}
 use Rattle.std.proofs.lemmas.List.Sorted.{All-permutation, IsPermutation-refl}
 use Rattle.tap_views.specs.Encoding.{AreEarly}

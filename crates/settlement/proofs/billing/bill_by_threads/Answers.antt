@@ -1,6 +1,5 @@
-use Rattle.std.proofs.Common.{[]}
-use Rattle.std.proofs.Common.{◌<◌, List, ◌∷◌, length, drop, refl, sym, ap, subst, ◌∙◌, arith, All}
-use Rattle.std.proofs.Common.{rules}
+use Rattle.std.proofs.Common.{[], ◌<◌, List, ◌∷◌, length, drop, refl, sym, ap, subst, ◌∙◌, arith}
+use Rattle.std.proofs.Common.{All, rules}
 use Rattle.std.specs.Prelude.{slice_index_or, IfOk}
 use Rattle.std.proofs.lemmas.List.{nil_from_length}
 use Rattle.std.proofs.lemmas.List.Elements.{All-drop, All-take}
@@ -8,8 +7,7 @@ use Rattle.std.specs.Vec.Iter.{into_iter_items}
 use Rattle.tap_views.specs.declared.encoder.TapFields.{TapFields}
 use Rattle.settlement.specs.inside.Billing.{ArePartsInOrder, IsBillOfParts, IsSoundPart}
 use Rattle.settlement.proofs.PartBills.{IsJoining, all_billed, joining_done, joining_more}
-use Rattle.settlement.proofs.PartBills.{joining_room}
-use Rattle.settlement.proofs.PartBills.{no_parts, order_drop, order_take}
+use Rattle.settlement.proofs.PartBills.{joining_room, no_parts, order_drop, order_take}
 use Rattle.settlement.proofs.billing.bill_by_threads.Goals as goal
 
 pub loop-more-init : goal.loop-more-init

@@ -5,8 +5,7 @@ use Rattle.tap_views.specs.declared.encoder.TapFields.{TapFields}
 use Rattle.sorted_taps.proofs.Files.{known_number}
 use Rattle.sorted_bills.specs.inside.OwnTaps.{AreOwnAdded, AreSound}
 use Rattle.sorted_bills.proofs.OwnTaps.{AreOwnSoFar, known_slice, none_so_far, none_sound}
-use Rattle.sorted_bills.proofs.OwnTaps.{one_file_more}
-use Rattle.sorted_bills.proofs.OwnTaps.{own_behind, own_of_all, sound_both}
+use Rattle.sorted_bills.proofs.OwnTaps.{one_file_more, own_behind, own_of_all, sound_both}
 use Rattle.sorted_bills.proofs.own_by_threads.join_all.Goals as goal
 
 pub loop-place-init : goal.loop-place-init

@@ -1,7 +1,6 @@
 -- The lines are those of the taps after whatever entries of lower tokens, since the teller is
 -- fresh.
-use Rattle.std.proofs.Common.{ℕ, List, [], Some, Vec, Global, map, string_bytes, sym}
-use Rattle.std.proofs.Common.{subst, arith}
+use Rattle.std.proofs.Common.{ℕ, List, [], Some, Vec, Global, map, string_bytes, sym, subst, arith}
 use Rattle.std.specs.Io.KnownBytes.{append_known}
 use Rattle.fare_texts.proofs.Writing.{come_first, last_out}
 use Rattle.settled_texts.specs.Telling.{AreTold}

@@ -1,6 +1,5 @@
 use Rattle.std.proofs.Common.{◌≡◌, ◌≢◌, List, ℕ, [], ◌∷◌, ◌++◌, ap, sym, ◌∙◌, subst, refl, arith}
-use Rattle.std.proofs.Common.{map}
-use Rattle.std.proofs.Common.{Some}
+use Rattle.std.proofs.Common.{map, Some}
 use Rattle.std.specs.Prelude.{IfErr, IfSome}
 use Rattle.std.proofs.lemmas.Result.{err_from_is_err_and}
 use Rattle.sorted_taps.specs.Merges.{IsTapTaken}

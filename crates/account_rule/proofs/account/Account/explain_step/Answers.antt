@@ -15,8 +15,7 @@ use Rattle.account_rule.specs.declared.tap.TapIn.{TapIn}
 use Rattle.account_rule.proofs.ReasonLemmas.{reason_unknown, why_ride, why_stale, why_transfer}
 use Rattle.account_rule.proofs.StepLemmas.{IsStep, at_fresh, at_kept, at_state, first_ride}
 use Rattle.account_rule.proofs.StepLemmas.{gives_none-fresh, gives_none-state, kept-fresh}
-use Rattle.account_rule.proofs.StepLemmas.{kept-open}
-use Rattle.account_rule.proofs.StepLemmas.{class_there, gives_same, kept_room, next_ride}
+use Rattle.account_rule.proofs.StepLemmas.{kept-open, class_there, gives_same, kept_room, next_ride}
 use Rattle.account_rule.proofs.StepLemmas.{terms_same, stale, stands-open, transfer, unknown}
 use Rattle.account_rule.proofs.WindowLemmas.{room-open}
 use Rattle.account_rule.proofs.FareLemmas.{given-few, ride_reason-few}

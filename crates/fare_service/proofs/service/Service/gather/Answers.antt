@@ -1,7 +1,7 @@
 use Rattle.std.proofs.Common.{◌≡◌, ℕ, ◌^◌, ◌≤◌, arith, ◌<◌, List, All, length, map, replicate, sym}
 use Rattle.std.proofs.Common.{◌∙◌, ap, subst}
 use Rattle.std.proofs.lemmas.List.{length-map}
-use Rattle.shard_book.specs.Sums.{sums, sums_of}
+use Rattle.shard_book.specs.Sums.{sums, sums_of, add_all}
 use Rattle.shard_book.specs.SumsByKey.{all_entries}
 use Rattle.report_texts.specs.declared.upload_end.UploadEnd.TheVariants.{Undrawn}
 use Rattle.fare_service.specs.declared.faults.GatherFault.{GatherFault}
@@ -13,7 +13,6 @@ use Rattle.fare_service.specs.ServiceView.{ServiceView, shards_of}
 use Rattle.fare_service.specs.ShareView.{ShareView}
 use Rattle.fare_service.specs.Shares.{IsShareOf}
 use Rattle.fare_service.specs.Headline.{HasOutcome}
-use Rattle.shard_book.specs.Sums.{add_all}
 use Rattle.fare_service.proofs.AddingLemmas.{shares_add_up, few_taps}
 use Rattle.fare_service.proofs.EndingLemmas.{full_made}
 use Rattle.fare_service.proofs.GatheredWork.{given_of}

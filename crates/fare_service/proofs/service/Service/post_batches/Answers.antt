@@ -1,6 +1,5 @@
 use Rattle.std.proofs.Common.{List, [], ◌++◌, ◌∷◌, ◌≤◌, ◌+◌, ◌*◌, ◌<◌, ◌^◌, length, true, false}
-use Rattle.std.proofs.Common.{inl}
-use Rattle.std.proofs.Common.{◌∙◌, sym, refl, subst, append-nil, arith}
+use Rattle.std.proofs.Common.{inl, ◌∙◌, sym, refl, subst, append-nil, arith}
 use Rattle.tap_views.specs.Layout.{Tap}
 use Rattle.tap_views.specs.Files.{IsFile}
 use Rattle.shard_book.specs.Sums.{sums_of}

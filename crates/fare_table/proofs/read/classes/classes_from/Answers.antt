@@ -1,6 +1,5 @@
 use Rattle.std.proofs.Common.{◌≡◌, ◌∙◌, ◌+◌, ℕ, List, [], ◌∷◌, ◌++◌, All, Ok, ap, arith, length}
-use Rattle.std.proofs.Common.{map}
-use Rattle.std.proofs.Common.{length-append, sym, string_bytes}
+use Rattle.std.proofs.Common.{map, length-append, sym, string_bytes}
 use Rattle.std.proofs.lemmas.Grind.{common_steps}
 use Rattle.toml.specs.Data.{Data, Members, member}
 use Rattle.toml.specs.View.{members_view, view}

@@ -1,8 +1,7 @@
 -- The account stands for the taps of the entries told, and then for one tap more. The reply is the
 -- one that follows from the reason.
 use Rattle.std.proofs.Common.{◌≡◌, ℕ, ◌+◌, ◌∷◌, [], ◌++◌, List, Option, map, option_map, refl, ap}
-use Rattle.std.proofs.Common.{sym, subst, ◌∙◌}
-use Rattle.std.proofs.Common.{length-append}
+use Rattle.std.proofs.Common.{sym, subst, ◌∙◌, length-append}
 use Rattle.std.proofs.lemmas.List.{map-append}
 use Rattle.fare_table.specs.Fares.{Fares, mode_at}
 use Rattle.fare_table.specs.declared.mode.Mode.{Mode}

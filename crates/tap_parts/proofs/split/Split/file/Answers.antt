@@ -4,10 +4,9 @@ use Rattle.std.proofs.lemmas.List.Sorted.{All-permutation}
 use Rattle.tap_views.specs.Encoding.{AreEarly, fields_of}
 use Rattle.tap_views.specs.Layout.{moment_limit}
 use Rattle.tap_views.specs.declared.encoder.TapFields.{TapFields}
-use Rattle.tap_parts.specs.Parts.{of_part}
+use Rattle.tap_parts.specs.Parts.{of_part, taps_of_uploads}
 use Rattle.tap_views.specs.Files.{IsFileOf}
 use Rattle.tap_parts.specs.Canonical.{IsCanonical}
-use Rattle.tap_parts.specs.Parts.{taps_of_uploads}
 use Rattle.tap_parts.proofs.Pieces.{taps_in}
 use Rattle.tap_parts.proofs.split.Split.file.Goals as goal
 

@@ -1,6 +1,5 @@
 use Rattle.std.proofs.Common.{◌≡◌, ◌∙◌, ◌<◌, ℕ, Bor, Equal, Err, IfErr, IfOk, List, Ok, Option}
-use Rattle.std.proofs.Common.{Result, Some}
-use Rattle.std.proofs.Common.{ap, get_or, length, sym, subst}
+use Rattle.std.proofs.Common.{Result, Some, ap, get_or, length, sym, subst}
 use Rattle.std.specs.Cmp.Lexicographic.{slice_cmp}
 use Rattle.std.specs.Option.{ok_or}
 use Rattle.std.specs.Ordering.{nat_cmp}
