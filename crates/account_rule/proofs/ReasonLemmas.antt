@@ -324,6 +324,7 @@ known-follows rules taps tap mode known = elim (cases_Bool (is_later taps tap.mo
       ∙ ap (λ r. replied_by r) (sym (reason_stale rules taps tap mode known not_after))
 ]
 
+-- the reply is the one that the reason gives
 pub reply-follows : (rules : TokenRules) (taps : List TapIn) (tap : TapIn)
     → reply rules taps tap ≡ replied_by (reason rules taps tap)
 reply-follows rules taps tap =
@@ -380,6 +381,7 @@ given-live rules taps tap given is =
           absurd (cc (no))
     ]
 
+-- the ride that a transfer's reason names is that of the last trip
 pub giver-ride : (rules : TokenRules) (taps : List TapIn) (tap : TapIn) (moment : ℕ) (given : Mode)
     → reason rules taps tap ≡ Transfer moment given
     → (trip : TripEnd) × (last_trip rules taps ≡ Some trip) × (trip.ride ≡ live_at moment given)

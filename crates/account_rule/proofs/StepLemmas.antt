@@ -72,29 +72,34 @@ same rules state taps tap stands none later = record {
   room = stands.room;
 }
 
+-- a tap on a validator without a mode is no live tap
 pub not_known : (taps : List TapIn) (tap : TapIn) → tap.mode ≡ None → live_tap taps tap ≡ None
 unfolding live_tap
 not_known taps tap none =
     rw none (elim (is_later taps tap.moment) as (λ v.
     cond v (option_map (live_at tap.moment) None) None ≡ None) [ true ↦ refl | false ↦ refl ])
 
+-- a tap that is not later than the last one is no live tap
 pub not_later : (taps : List TapIn) (tap : TapIn) → is_later taps tap.moment ≡ false
     → live_tap taps tap ≡ None
 unfolding live_tap
 not_later taps tap stale = rw stale refl
 
+-- a later tap on a mode is a live tap
 pub is_live : (taps : List TapIn) (tap : TapIn) (mode : Mode) → tap.mode ≡ Some mode
     → is_later taps tap.moment ≡ true
     → live_tap taps tap ≡ Some (live_at tap.moment mode)
 unfolding live_tap
 is_live taps tap mode known later = rw (known, later) refl
 
+-- what is replied to a tap without a mode
 pub reply_unknown : (rules : TokenRules) (taps : List TapIn) (tap : TapIn) → tap.mode ≡ None
     → reply rules taps tap ≡ reply_with Unknown 0
 unfolding reply
 reply_unknown rules taps tap none = let no_mode : is_some tap.mode ≡ false =
     ap (λ o. is_some o) none in rw no_mode refl
 
+-- what is replied to a tap that is not later than the last one
 pub reply_stale : (rules : TokenRules) (taps : List TapIn) (tap : TapIn) (mode : Mode)
     → tap.mode ≡ Some mode → is_later taps tap.moment ≡ false
     → reply rules taps tap ≡ reply_with Stale 0
@@ -103,6 +108,7 @@ reply_stale rules taps tap mode known not_after =
     let known_mode : is_some tap.mode ≡ true = ap (λ o. is_some o) known in
     rw (known_mode, not_after) refl
 
+-- what is replied to a live tap
 pub reply_live : (rules : TokenRules) (taps : List TapIn) (tap : TapIn) (mode : Mode)
     → tap.mode ≡ Some mode → is_later taps tap.moment ≡ true
     → reply rules taps tap ≡ live_reply rules (taps ++ tap ∷ [])
@@ -111,11 +117,13 @@ reply_live rules taps tap mode known later =
     let known_mode : is_some tap.mode ≡ true = ap (λ o. is_some o) known in
     rw (known_mode, later) refl
 
+-- what is replied to a live tap that ends in a transfer
 pub reply_transfer : (rules : TokenRules) (taps : List TapIn) → ends_in_transfer rules taps ≡ true
     → live_reply rules taps ≡ reply_with Transfer 0
 unfolding live_reply
 reply_transfer rules taps ends = rw ends refl
 
+-- what is replied to a live tap that is a ride
 pub reply_ride : (rules : TokenRules) (taps : List TapIn) → ends_in_transfer rules taps ≡ false
     → live_reply rules taps
     ≡ ride_reply (option_and_then paid_by

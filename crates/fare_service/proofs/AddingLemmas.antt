@@ -157,6 +157,7 @@ sum_by-joined f g (x ∷ xs) =
     ∙ ap (λ k. sum_by f (g x) + k) (sum_by-joined f g xs)
     ∙ sym (sum_by-cons (λ y. sum_by f (g y)) x xs)
 
+-- a sum over mapped elements
 pub sum_by-map : {X Y : Type 0} (f : Y → ℕ) (g : X → Y) (xs : List X)
     → sum_by f (map g xs) ≡ sum_by (λ x. f (g x)) xs
 sum_by-map f g [] = refl
@@ -240,7 +241,7 @@ length_sum (x ∷ xs) = omega (arith, length_sum xs, sum_by-cons (λ y. 1) x xs)
 same_sums : (xs ys : List Entry) → ((f : Entry → ℕ) → sum_by f xs ≡ sum_by f ys) → sums xs ≡ sums ys
 unfolding sums_of_replies
 same_sums xs ys same =
-    same_seven _ _ _ _ _ _ _ _ _ _ _ _ _ _
+    same_seven
     (length_sum (map reply_of xs) ∙ each (λ r. 1) ∙ sym (length_sum (map reply_of ys)))
     (each (λ r. cond (is_paid r.answer) 1 0))
     (each (λ r. cond (is_transfer r.answer) 1 0))
@@ -418,7 +419,7 @@ pub from_nothing : (none s : Sums) → none ≡ sums_of_replies [] → add_sums 
 unfolding sums_of_replies
 from_nothing none s is =
     ap (λ n. add_sums n s) is
-    ∙ same_seven _ _ _ _ _ _ _ _ _ _ _ _ _ _ (zero_add s.taps) (zero_add s.paid)
+    ∙ same_seven (zero_add s.taps) (zero_add s.paid)
     (zero_add s.transfers) (zero_add s.capped) (zero_add s.stale) (zero_add s.unknown)
     (zero_add s.cents)
 

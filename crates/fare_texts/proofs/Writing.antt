@@ -38,6 +38,7 @@ come_on fares old new earlier come to apart fresh =
       up = up_weaker earlier old.token new.token come.up to;
     }
 
+-- the teller has come one entry further in its token's entries
 pub come_next : (fares : Fares) (old new : Teller) (earlier : List Entry) (entry : Entry)
     → old.token ≡ entry.token
     → new.token ≡ old.token → HasCome fares old earlier
@@ -161,6 +162,7 @@ grown (Some x) (Some y) text longer written line p e =
     ap (λ t. y ++ t) e ∙ sym (append_assoc y text line) ∙ ap (λ t. t ++ line) p
     ∙ append_assoc x written line
 
+-- what was written, and what waited until the end, was appended
 pub last_out : (a b c : Option (List ℕ)) (first text left written : List ℕ)
     → Appends (append_known a first) (append_known b text) written
     → Keeps (append_known b text) (append_known c left) → left ≡ [] → Appends a c (first ++ written)

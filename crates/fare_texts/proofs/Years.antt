@@ -19,6 +19,7 @@ before_epoch date early =
       day_count-lt_year date.year date.month date.day (pos 1970) 1 1 (civil date) (omega arith) early,
     )
 
+-- the date of a day from 1970 on has a year that is a natural number
 pub year_of : (date : Date) (day : ℕ) → epoch_day date ≡ pos day
     → (year : ℕ) × (date.year ≡ pos year)
 year_of date day is =

@@ -8,6 +8,7 @@ use Rattle.tap_views.proofs.TokenLemmas.{token_eq-refl}
 use Rattle.shard_book.specs.declared.entry.Entry.{Entry}
 use Rattle.shard_book.specs.Entry.{is_of, own}
 
+-- no entries have none of the token
 pub own_none : (token : Token) → own token [] ≡ []
 unfolding own
 own_none token = refl
@@ -25,6 +26,7 @@ unfolding own
 own_other token entry entries is =
     ap (λ b. cond b (entry ∷ filter (is_of token) entries) (filter (is_of token) entries)) is
 
+-- the token's entries of two lists
 pub own-append : (token : Token) (xs ys : List Entry)
     → own token (xs ++ ys) ≡ own token xs ++ own token ys
 unfolding own

@@ -156,6 +156,7 @@ plain_legal_after fares earlier (tap ∷ taps) legal =
     (plain_legal_after fares (earlier ++ entry ∷ []) taps
     (legal-push fares earlier entry legal (is_replied fares earlier tap)))
 
+-- a plain history is legal
 pub plain_legal : (fares : Fares) (taps : List Tap) → IsLegal fares (plain fares taps)
 plain_legal fares taps =
     plain_legal_after fares [] taps
@@ -169,6 +170,7 @@ bare_answered : (fares : Fares) (earlier : List Entry) (tap : Tap)
 unfolding answered
 bare_answered fares earlier tap = refl
 
+-- without its replies a plain history is its taps
 pub plain_bare : (fares : Fares) (earlier : List Entry) (taps : List Tap)
     → map bare (plain_after fares earlier taps) ≡ map unanswered taps
 unfolding plain_after

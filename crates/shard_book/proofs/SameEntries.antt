@@ -60,6 +60,7 @@ unfolding own
 same_entries xs ys same =
     same_elements (λ (entry : Entry). entry.token) token_eq token_eq-refl same_token xs ys same
 
+-- so have those of one validator
 pub same_at : (validator : ℕ) (xs ys : List Entry) → ((token : Token) → own token xs ≡ own token ys)
     → (token : Token)
     → own token (entries_of_validator validator xs) ≡ own token (entries_of_validator validator ys)
@@ -68,15 +69,18 @@ same_at validator xs ys same token =
     filter-filter (is_of token) (is_at validator) xs ∙ ap (filter (is_at validator)) (same token)
     ∙ sym (filter-filter (is_of token) (is_at validator) ys)
 
+-- numbers rise to one list
 abbrev pub RisingNumbers : Type 0
 RisingNumbers = (keys risen : List ℕ) → IsRising nat_cmp keys risen ↔ (risen ≡ rising nat_cmp keys)
 
+-- tokens rise to one list
 abbrev pub RisingTokens : Type 0
 RisingTokens = (keys risen : List Token) → IsRising token_cmp keys risen
     ↔ (risen ≡ rising token_cmp keys)
 
 module _ (numbers : RisingNumbers) (names : RisingTokens) (xs ys : List Entry)
     (same : (token : Token) → own token xs ≡ own token ys) where
+  -- the sums by validator are the same
   pub same_by_validator : sums_by_validator xs ≡ sums_by_validator ys
   unfolding sums_by_validator validators
   same_by_validator =
@@ -89,6 +93,7 @@ module _ (numbers : RisingNumbers) (names : RisingTokens) (xs ys : List Entry)
       ap (map (λ (v : ℕ). (v, sums (entries_of_validator v xs)))) keys
       ∙ (λ i. map (λ (v : ℕ). (v, each v i)) (rising nat_cmp (map validator_of ys)))
 
+  -- the sums by token are the same
   pub same_by_token : sums_by_token xs ≡ sums_by_token ys
   unfolding sums_by_token tokens
   same_by_token =

@@ -73,6 +73,7 @@ keys_joined xs ys below =
           ∙ sym (among-append xs ys key);
     })
 
+-- entries of other tokens have none of this one
 pub none_of : (token : Token) (entries : List Entry)
     → All (λ t. token_eq t token ≡ false) (map token_of entries) → own token entries ≡ []
 unfolding own
@@ -120,6 +121,7 @@ flipped (x ∷ xs) ys below =
         (both zs (All-tail (λ y. token_cmp x y ≡ Less) z zs less)
         (All-tail (λ y. All (λ w. token_eq w y ≡ false) xs) z zs rest))
 
+-- of lists in order of token, the sums by token are joined
 pub by_token_joined : (xs ys : List Entry) → AreBelow (map token_of xs) (map token_of ys)
     → sums_by_token (xs ++ ys) ≡ sums_by_token xs ++ sums_by_token ys
 unfolding sums_by_token tokens own
@@ -185,10 +187,12 @@ one_token token entry entries all =
     ap (map row) (sym keys)
     ∙ ap (λ (es : List Entry). (token, sums es) ∷ []) (own_all token (entry ∷ entries) all)
 
+-- no entries have no sums
 pub no_sums : (list : List (Token × Sums)) → list ≡ [] → list ≡ sums_by_token []
 unfolding sums_by_token tokens rising
 no_sums list none = none
 
+-- entries of one token have its sums alone
 pub one_token_list : (token : Token) (entries : List Entry) → 0 < length entries
     → All (λ entry. entry.token ≡ token) entries
     → sums_by_token entries ≡ (token, sums entries) ∷ []

@@ -25,27 +25,26 @@ seven a b c d e f g = record {
   cents = g;
 }
 
-pub same_seven : (a a' b b' c c' d d' e e' f f' g g' : ℕ) → a ≡ a' → b ≡ b' → c ≡ c' → d ≡ d'
+-- sums with the same seven numbers are the same
+pub same_seven : {a a' b b' c c' d d' e e' f f' g g' : ℕ} → a ≡ a' → b ≡ b' → c ≡ c' → d ≡ d'
     → e ≡ e' → f ≡ f' → g ≡ g' → seven a b c d e f g ≡ seven a' b' c' d' e' f' g'
-same_seven a a' b b' c c' d d' e e' f f' g g' p q r s t u v = cc
+same_seven p q r s t u v = cc
 
 -- ---- sums are added in any order, and those of nothing change none
 pub add_none : (s : Sums) → add_sums s (sums []) ≡ s
 unfolding sums_of_replies
 add_none s =
-    same_seven (s.taps + 0) s.taps (s.paid + 0) s.paid (s.transfers + 0) s.transfers (s.capped + 0)
-    s.capped (s.stale + 0) s.stale (s.unknown + 0) s.unknown (s.cents + 0) s.cents
-    (add-zero s.taps) (add-zero s.paid) (add-zero s.transfers) (add-zero s.capped)
+    same_seven (add-zero s.taps) (add-zero s.paid) (add-zero s.transfers) (add-zero s.capped)
     (add-zero s.stale) (add-zero s.unknown) (add-zero s.cents)
 
+-- the sums of nothing, first, change none
 pub none_add : (s : Sums) → add_sums (sums []) s ≡ s
 unfolding sums_of_replies
 none_add s =
-    same_seven (0 + s.taps) s.taps (0 + s.paid) s.paid (0 + s.transfers) s.transfers (0 + s.capped)
-    s.capped (0 + s.stale) s.stale (0 + s.unknown) s.unknown (0 + s.cents) s.cents
-    (zero-add s.taps) (zero-add s.paid) (zero-add s.transfers) (zero-add s.capped)
+    same_seven (zero-add s.taps) (zero-add s.paid) (zero-add s.transfers) (zero-add s.capped)
     (zero-add s.stale) (zero-add s.unknown) (zero-add s.cents)
 
+-- sums are added in any grouping
 pub add_assoc : (a b c : Sums) → add_sums (add_sums a b) c ≡ add_sums a (add_sums b c)
 add_assoc a b c = λ i. record {
   taps = plus_assoc a.taps b.taps c.taps i;
@@ -71,6 +70,7 @@ replies-append xs ys = λ i. record {
   cents = sum_by-append (λ (reply : Reply). reply.cents) xs ys i;
 }
 
+-- the sums of two lists of entries are added
 pub sums-append : (xs ys : List Entry) → sums (xs ++ ys) ≡ add_sums (sums xs) (sums ys)
 sums-append xs ys = ap sums_of_replies (map-append reply_of xs ys)
     ∙ replies-append (map reply_of xs) (map reply_of ys)

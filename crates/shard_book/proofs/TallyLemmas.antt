@@ -25,19 +25,19 @@ tallied (a ∷ b ∷ c ∷ d ∷ e ∷ []) cents reply long = by_answer reply.an
         ≡ add_sums (sums_of_places (a ∷ b ∷ c ∷ d ∷ e ∷ []) cents)
         (sums_of_replies (record { answer = answer; cents = more } ∷ []))
     by_answer Paid more =
-        same_seven _ _ _ _ _ _ _ _ _ _ _ _ _ _ (omega arith) (omega arith) (omega arith)
+        same_seven (omega arith) (omega arith) (omega arith)
         (omega arith) (omega arith) (omega arith) (omega arith)
     by_answer Transfer more =
-        same_seven _ _ _ _ _ _ _ _ _ _ _ _ _ _ (omega arith) (omega arith) (omega arith)
+        same_seven (omega arith) (omega arith) (omega arith)
         (omega arith) (omega arith) (omega arith) (omega arith)
     by_answer Capped more =
-        same_seven _ _ _ _ _ _ _ _ _ _ _ _ _ _ (omega arith) (omega arith) (omega arith)
+        same_seven (omega arith) (omega arith) (omega arith)
         (omega arith) (omega arith) (omega arith) (omega arith)
     by_answer Stale more =
-        same_seven _ _ _ _ _ _ _ _ _ _ _ _ _ _ (omega arith) (omega arith) (omega arith)
+        same_seven (omega arith) (omega arith) (omega arith)
         (omega arith) (omega arith) (omega arith) (omega arith)
     by_answer Unknown more =
-        same_seven _ _ _ _ _ _ _ _ _ _ _ _ _ _ (omega arith) (omega arith) (omega arith)
+        same_seven (omega arith) (omega arith) (omega arith)
         (omega arith) (omega arith) (omega arith) (omega arith)
 tallied [] cents reply long = absurd (omega (arith, long))
 tallied (a ∷ []) cents reply long = absurd (omega (arith, long))

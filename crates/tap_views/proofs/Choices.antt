@@ -4,6 +4,7 @@ use Rattle.std.proofs.Common.{refl, sym, subst}
 use Rattle.std.specs.Prelude.{IfErr, IsErrAnd, MatchOption, OnErr}
 use Rattle.std.proofs.lemmas.Bool.{false≢true}
 
+-- of two tests the order is free
 pub or_swap : (a b c : Bool) → (a || (b || c)) ≡ (b || (a || c))
 or_swap true true c = refl
 or_swap true false c = refl

@@ -33,6 +33,7 @@ same_place bytes (Moment i) (Moment j) same r s =
     ap Moment (omega (arith, no_less, no_more))
 same_place bytes f g same r s = absurd (omega (arith, same))
 
+-- bytes have one first fault
 pub same_fault : (bytes : List ℕ) (f g : LayoutFault) → IsFault bytes f → IsFault bytes g → f ≡ g
 same_fault bytes f g one other =
     let no_less : ¬ (fault_order f < fault_order g) = λ less. other.first f less one.holds in

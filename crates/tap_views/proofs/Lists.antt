@@ -13,10 +13,12 @@ All-front P [] ys all = All-nil P
 All-front P (x ∷ xs) ys all =
     All-cons P x xs (All-head P x (xs ++ ys) all) (All-front P xs ys (All-tail P x (xs ++ ys) all))
 
+-- what holds of both lists holds of the second
 pub All-back : {X : Type 0} (P : X → Type 0) (xs ys : List X) → All P (xs ++ ys) → All P ys
 All-back P [] ys all = all
 All-back P (x ∷ xs) ys all = All-back P xs ys (All-tail P x (xs ++ ys) all)
 
+-- what holds of both lists holds of each
 pub All-split : {X : Type 0} (P : X → Type 0) (xs ys : List X) → All P (xs ++ ys)
     → All P xs × All P ys
 All-split P xs ys all = (All-front P xs ys all, All-back P xs ys all)
@@ -29,6 +31,7 @@ All-unmap P f (x ∷ xs) all =
     All-cons (λ x. P (f x)) x xs (All-head P (f x) (map f xs) all)
     (All-unmap P f xs (All-tail P (f x) (map f xs) all))
 
+-- lists that are related place by place, joined
 pub AllZip-append : {A B : Type 0} (R : A → B → Type 0) (xs : List A) (ys : List B) (us : List A)
     (vs : List B) → AllZip R xs ys → AllZip R us vs → AllZip R (xs ++ us) (ys ++ vs)
 AllZip-append R [] [] us vs one other = other
@@ -48,11 +51,13 @@ pub each-front : {X : Type 0} (P : X → Type 0) (xs ys : List X) → AllByRecur
 each-front P [] ys each = tt
 each-front P (x ∷ xs) ys each = (each.0, each-front P xs ys each.1)
 
+-- what holds of both lists holds of the second
 pub each-back : {X : Type 0} (P : X → Type 0) (xs ys : List X) → AllByRecursion P (xs ++ ys)
     → AllByRecursion P ys
 each-back P [] ys each = each
 each-back P (x ∷ xs) ys each = each-back P xs ys each.1
 
+-- what holds of each element gives what follows from it
 pub each-weaker : {X : Type 0} (P Q : X → Type 0) (xs : List X) → ((x : X) → P x → Q x)
     → AllByRecursion P xs → AllByRecursion Q xs
 each-weaker P Q [] weaker each = tt

@@ -22,13 +22,16 @@ same_token a b h = grind arith
 pub token_eq-sym : (a b : Token) → token_eq a b ≡ token_eq b a
 token_eq-sym a b = grind (arith, nat_tests)
 
+-- a token is equal to itself
 pub token_eq-refl : (a : Token) → token_eq a a ≡ true
 token_eq-refl a = grind (arith, nat_tests)
 
+-- the order of tokens is total
 pub token_cmp-total : IsTotalOrder token_cmp
 token_cmp-total = then_total (on_total (λ (token : Token). token.high) nat_cmp_total)
     (on_total (λ (token : Token). token.low) nat_cmp_total)
 
+-- tokens that tie are the same
 pub token_cmp-ties : (a b : Token) → token_cmp a b ≡ Equal → a ≡ b
 token_cmp-ties a b tied = grind (arith, nat_tests)
 
@@ -40,6 +43,7 @@ less_apart a b less = grind (arith, nat_tests)
 abbrev pub among : List Token → Token → Bool
 among list token = is_member (eq_by_cmp token_cmp) list token
 
+-- a token is among two lists if it is among one of them
 pub among-append : (xs ys : List Token) (token : Token)
     → among (xs ++ ys) token ≡ (among xs token || among ys token)
 among-append [] ys token = refl
