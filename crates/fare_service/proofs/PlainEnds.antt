@@ -32,11 +32,11 @@ zip_at R (x ∷ xs) (y ∷ ys) same each = (
 
 -- whole runs post all taps of the batches
 all_posted : (shards : ℕ) (batches : List (List Tap)) (visits : List RunVisit) → 0 < shards
-    → All (IsEntered shards) visits → ArePostedWhole (runs_of shards 0 batches) visits
+    → All (IsEntered shards) visits → ArePostedWhole (runs_of shards batches) visits
     → taps_posted visits ≡ length (flat_map (λ batch. batch) batches)
 all_posted shards batches visits some entered posted =
-    posted_taps shards (runs_of shards 0 batches) visits entered posted
-    ∙ all_runs_taps shards 0 batches (λ token. mod-lt _ some)
+    posted_taps shards (runs_of shards batches) visits entered posted
+    ∙ all_runs_taps shards batches (λ token. mod-lt _ some)
     ∙ sym (length-flat_map (λ (batch : List Tap). batch) batches)
 
 -- an upload that was worked on and posted whole

@@ -26,7 +26,7 @@ abbrev pub Ended : ℕ → List ℕ → List PassView → List PassView → Sums
 Ended shards file p q s t r =
     (batches : List (List Tap)) × (rest : List ℕ) × IsFile file batches rest
     × ((more : List RunVisit) × HasVisited shards p q s t more
-    × ArePostedOrCut (runs_of shards 0 batches) (is_ok r) more)
+    × ArePostedOrCut (runs_of shards batches) (is_ok r) more)
     × IfOk r (IsEndAfterBatches file rest)
 
 -- the upload was worked on, and ended so
@@ -78,7 +78,7 @@ upload_whole service upload taps found file p q s t r within same ended e counte
   where
     ended_so : (batches : List (List Tap)) (rest : List ℕ) (more : List RunVisit)
         → HasVisited (shards_of service) p q s t more
-        → ArePostedWhole (runs_of (shards_of service) 0 batches) more
+        → ArePostedWhole (runs_of (shards_of service) batches) more
         → (found : Option (ℕ × LayoutFault)) → IsEndAfterBatches file rest found
         → IsEndOf (shards_of service) file batches rest more (end_by taps found)
     ended_so batches rest more made posted None clean =

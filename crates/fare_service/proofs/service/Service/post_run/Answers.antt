@@ -22,7 +22,7 @@ pub returns-then-len-eq0-clause-made : goal.returns-then-len-eq0-clause-made
 returns-then-len-eq0-clause-made g c =
     let same = same_run c.run-run.result c.args.batch.now c.args.shard (length c.args.runs.now)
     (shards_of c.args.self.now) c.run-run.ensures c.requires.shards in
-    λ place. run_empty (shards_of c.args.self.now) c.args.shard place c.args.batch.now
+    run_empty (shards_of c.args.self.now) c.args.shard c.args.batch.now
     c.args.posting.now.passes.items (sums_of c.args.posting.now.totals)
     (sym (ap length same) ∙ (sym c.len-len.ensures.number ∙ c.if-len-eq0.true))
 
@@ -32,7 +32,7 @@ returns-in_err-reserve-clause-made g c =
     (shards_of c.args.self.now) c.run-run.ensures c.requires.shards in
     let some : 0 < length (run_of c.args.shard (shards_of c.args.self.now) c.args.batch.now) =
     omega (arith, ap length same, c.len-len.ensures.number) in
-    λ place. run_refused (shards_of c.args.self.now) c.args.shard place c.args.batch.now
+    run_refused (shards_of c.args.self.now) c.args.shard c.args.batch.now
     c.args.posting.now.passes.items (sums_of c.args.posting.now.totals)
     c.from_residual.result some c.from_residual.ensures.0
 
@@ -72,7 +72,7 @@ returns-in_err-visit-clause-made g c =
       ap length c.requires.passes,
       length-map c.args.posting.now.passes.items (λ (p : PassView). p.book),
     ) in
-    λ place. run_full (shards_of c.args.self.now) c.args.shard place c.args.batch.now
+    run_full (shards_of c.args.self.now) c.args.shard c.args.batch.now
     c.args.posting.now.passes.items c.index_mut.result.now c.visit.new.pass
     (sums_of c.args.posting.now.totals)
     c.from_residual-in_err-visit.result some c.from_residual-in_err-visit.ensures.0 within
@@ -118,7 +118,7 @@ returns-in-Whole-clause-made g c =
     made.visit =
     subst (λ (taps : List Tap). P taps Whole) same
     (subst (λ (how : RunEnd). P (run_taps c.run-run.result) how) c.in-Whole.is made.of_run) in
-    λ place. run_visited (shards_of c.args.self.now) c.args.shard place c.args.batch.now
+    run_visited (shards_of c.args.self.now) c.args.shard c.args.batch.now
     c.args.posting.now.passes.items c.index_mut.result.now c.visit.new.pass
     c.in_ok-visit.visit.number Whole made.visit
     (sums_of c.args.posting.now.totals) (sums_of c.count.new.totals) some c.requires.shard within
@@ -168,7 +168,7 @@ returns-in-Cut-clause-made g c =
     (Cut c.in-Cut.posted) made.visit =
     subst (λ (taps : List Tap). P taps (Cut c.in-Cut.posted)) same
     (subst (λ (how : RunEnd). P (run_taps c.run-run.result) how) c.in-Cut.is made.of_run) in
-    λ place. run_visited (shards_of c.args.self.now) c.args.shard place c.args.batch.now
+    run_visited (shards_of c.args.self.now) c.args.shard c.args.batch.now
     c.args.posting.now.passes.items c.index_mut.result.now c.visit.new.pass
     c.in_ok-visit.visit.number (Cut c.in-Cut.posted) made.visit
     (sums_of c.args.posting.now.totals) (sums_of c.count.new.totals) some c.requires.shard within

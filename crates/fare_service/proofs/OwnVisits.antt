@@ -12,7 +12,7 @@ use Rattle.std.proofs.lemmas.List.Elements.{All-take, All-weaker, filter-append,
 use Rattle.std.proofs.lemmas.Slice.Zip.{AllZip-long}
 use Rattle.tap_views.specs.Layout.{Tap}
 use Rattle.tap_views.specs.Files.{IsFile}
-use Rattle.tap_views.specs.Shards.{shard_of_token}
+use Rattle.tap_views.specs.Shards.{shard_of_token, run_of}
 use Rattle.tap_views.proofs.Lists.{All-front, All-back, All-unmap}
 use Rattle.shard_book.specs.Entry.{IsEntryOf}
 use Rattle.shared_books.specs.Drawing.{NoneTwice}
@@ -21,8 +21,8 @@ use Rattle.report_texts.specs.declared.upload_end.UploadEnd.TheVariants.{Posted,
 use Rattle.report_texts.specs.declared.upload_end.UploadEnd.TheVariants.{Undrawn}
 use Rattle.fare_service.specs.Headline.{end_of}
 use Rattle.fare_service.specs.Placing.{posted_of, in_posting_order, WerePostedOf}
-use Rattle.fare_service.specs.Runs.{PlacedTap, placed_from, taps_of_placed, of_shard, PlacedRun}
-use Rattle.fare_service.specs.Runs.{placed_run, if_any, runs_below, runs_of, RunVisit, IsEntered}
+use Rattle.fare_service.specs.Runs.{PostedRun}
+use Rattle.fare_service.specs.Runs.{posted_run, if_any, runs_below, runs_of, RunVisit, IsEntered}
 use Rattle.fare_service.specs.Runs.{run_of_visit, ArePostedWhole, AreCut, entries_of, taps_posted}
 use Rattle.fare_service.specs.inside.Runs.{visits_to}
 use Rattle.fare_service.specs.Shares.{Worked, all_visits, IsWorkOf, IsEndOf, file_at}
@@ -31,66 +31,66 @@ use Rattle.fare_service.proofs.GatherLemmas.{end_same, end_other}
 use Rattle.fare_service.proofs.GatheredWork.{Given}
 
 -- each tap of a run is of its shard
-pub IsOwnRun : ℕ → PlacedRun → Type 0
-IsOwnRun shards r = All (λ p. shard_of_token p.tap.token shards ≡ r.shard) r.taps
+pub IsOwnRun : ℕ → PostedRun → Type 0
+IsOwnRun shards r = All (λ p. shard_of_token p.token shards ≡ r.shard) r.taps
 
-pub own_taps : (shard shards : ℕ) (placed : List PlacedTap)
-    → All (λ p. shard_of_token p.tap.token shards ≡ shard) (of_shard shard shards placed)
+pub own_taps : (shard shards : ℕ) (placed : List Tap)
+    → All (λ p. shard_of_token p.token shards ≡ shard) (run_of shard shards placed)
 own_taps shard shards placed =
-    All-weaker (λ p. (shard_of_token p.tap.token shards == shard) ≡ true)
-    (λ p. shard_of_token p.tap.token shards ≡ shard)
-    (λ p is. eqb-true (shard_of_token p.tap.token shards) shard is)
-    (of_shard shard shards placed)
-    (filter_passes (λ p. shard_of_token p.tap.token shards == shard) placed)
+    All-weaker (λ p. (shard_of_token p.token shards == shard) ≡ true)
+    (λ p. shard_of_token p.token shards ≡ shard)
+    (λ p is. eqb-true (shard_of_token p.token shards) shard is)
+    (run_of shard shards placed)
+    (filter_passes (λ p. shard_of_token p.token shards == shard) placed)
 
-own_if_any : (shard shards : ℕ) (taps : List PlacedTap)
-    → All (λ p. shard_of_token p.tap.token shards ≡ shard) taps
+own_if_any : (shard shards : ℕ) (taps : List Tap)
+    → All (λ p. shard_of_token p.token shards ≡ shard) taps
     → All (IsOwnRun shards) (if_any shard taps)
 unfolding IsOwnRun
 own_if_any shard shards [] all = All-nil (IsOwnRun shards)
 own_if_any shard shards (tap ∷ taps) all =
-    All-cons (IsOwnRun shards) (placed_run shard (tap ∷ taps)) [] all (All-nil (IsOwnRun shards))
+    All-cons (IsOwnRun shards) (posted_run shard (tap ∷ taps)) [] all (All-nil (IsOwnRun shards))
 
-own_below : (shards n : ℕ) (taps : List PlacedTap)
+own_below : (shards n : ℕ) (taps : List Tap)
     → All (IsOwnRun shards) (runs_below shards n taps)
 own_below shards zero taps = All-nil (IsOwnRun shards)
 own_below shards (suc n) taps =
-    All-append (IsOwnRun shards) (runs_below shards n taps) (if_any n (of_shard n shards taps))
+    All-append (IsOwnRun shards) (runs_below shards n taps) (if_any n (run_of n shards taps))
     (own_below shards n taps)
-    (own_if_any n shards (of_shard n shards taps) (own_taps n shards taps))
+    (own_if_any n shards (run_of n shards taps) (own_taps n shards taps))
 
-pub own_runs : (shards place : ℕ) (batches : List (List Tap))
-    → All (IsOwnRun shards) (runs_of shards place batches)
-own_runs shards place [] = All-nil (IsOwnRun shards)
-own_runs shards place (batch ∷ batches) =
-    All-append (IsOwnRun shards) (runs_below shards shards (placed_from place batch))
-    (runs_of shards (place + length batch) batches)
-    (own_below shards shards (placed_from place batch))
-    (own_runs shards (place + length batch) batches)
+pub own_runs : (shards : ℕ) (batches : List (List Tap))
+    → All (IsOwnRun shards) (runs_of shards batches)
+own_runs shards [] = All-nil (IsOwnRun shards)
+own_runs shards (batch ∷ batches) =
+    All-append (IsOwnRun shards) (runs_below shards shards batch)
+    (runs_of shards batches)
+    (own_below shards shards batch)
+    (own_runs shards batches)
 
 -- each tap of a visit is of its shard
 pub IsOwnVisit : ℕ → RunVisit → Type 0
 IsOwnVisit shards v = IsOwnRun shards (run_of_visit v)
 
-own_posted : (shards : ℕ) (runs : List PlacedRun) (visits : List RunVisit)
+own_posted : (shards : ℕ) (runs : List PostedRun) (visits : List RunVisit)
     → All (IsOwnRun shards) runs → ArePostedWhole runs visits → All (IsOwnVisit shards) visits
 unfolding IsOwnVisit
 own_posted shards runs visits all posted =
-    let P : List PlacedRun → Type 0 = All (IsOwnRun shards) in
+    let P : List PostedRun → Type 0 = All (IsOwnRun shards) in
     All-unmap (IsOwnRun shards) run_of_visit visits (subst P (sym posted) all)
 
-own_take : (shards posted : ℕ) (r : PlacedRun) → IsOwnRun shards r
-    → IsOwnRun shards (placed_run r.shard (take posted r.taps))
+own_take : (shards posted : ℕ) (r : PostedRun) → IsOwnRun shards r
+    → IsOwnRun shards (posted_run r.shard (take posted r.taps))
 unfolding IsOwnRun
 own_take shards posted r own =
-    All-take (λ p. shard_of_token p.tap.token shards ≡ r.shard) posted r.taps own
+    All-take (λ p. shard_of_token p.token shards ≡ r.shard) posted r.taps own
 
-own_cut : (shards : ℕ) (runs : List PlacedRun) (visits : List RunVisit) → All (IsOwnRun shards) runs
+own_cut : (shards : ℕ) (runs : List PostedRun) (visits : List RunVisit) → All (IsOwnRun shards) runs
     → AreCut runs visits → All (IsOwnVisit shards) visits
 own_cut shards runs visits all c = made c.made
   where
     whole : All (IsOwnRun shards) (c.before ++ c.cut ∷ c.after)
-    whole = let P : List PlacedRun → Type 0 = All (IsOwnRun shards) in subst P c.all all
+    whole = let P : List PostedRun → Type 0 = All (IsOwnRun shards) in subst P c.all all
 
     before : All (IsOwnRun shards) c.before
     before = All-front (IsOwnRun shards) c.before (c.cut ∷ c.after) whole
@@ -102,31 +102,31 @@ own_cut shards runs visits all c = made c.made
     made : ((map run_of_visit visits ≡ c.before)
         ⊎ ((posted : ℕ) × (posted < length c.cut.taps)
         × (map run_of_visit visits
-        ≡ c.before ++ placed_run c.cut.shard (take posted c.cut.taps) ∷ [])))
+        ≡ c.before ++ posted_run c.cut.shard (take posted c.cut.taps) ∷ [])))
         → All (IsOwnVisit shards) visits
     made (inl e) = own_posted shards c.before visits before e
     made (inr (posted, few, e)) =
-        own_posted shards (c.before ++ placed_run c.cut.shard (take posted c.cut.taps) ∷ []) visits
+        own_posted shards (c.before ++ posted_run c.cut.shard (take posted c.cut.taps) ∷ []) visits
         (All-append (IsOwnRun shards) c.before
-        (placed_run c.cut.shard (take posted c.cut.taps) ∷ []) before
-        (All-cons (IsOwnRun shards) (placed_run c.cut.shard (take posted c.cut.taps)) []
+        (posted_run c.cut.shard (take posted c.cut.taps) ∷ []) before
+        (All-cons (IsOwnRun shards) (posted_run c.cut.shard (take posted c.cut.taps)) []
         (own_take shards posted c.cut cut) (All-nil (IsOwnRun shards)))) e
 
 pub own_worked : (given : Given) (w : Worked) → IsWorkOf given.shards given.uploads w
     → All (IsOwnVisit given.shards) w.visits
 own_worked given w is = by_end w.end is.ended
   where
-    own : All (IsOwnRun given.shards) (runs_of given.shards 0 is.batches)
-    own = own_runs given.shards 0 is.batches
+    own : All (IsOwnRun given.shards) (runs_of given.shards is.batches)
+    own = own_runs given.shards is.batches
 
     by_end : (end : UploadEnd)
         → IsEndOf given.shards (file_at given.uploads w.upload) is.batches is.rest w.visits end
         → All (IsOwnVisit given.shards) w.visits
     by_end (Posted taps) e =
-        own_posted given.shards (runs_of given.shards 0 is.batches) w.visits own e.1
+        own_posted given.shards (runs_of given.shards is.batches) w.visits own e.1
     by_end (Refused taps offset fault) e =
-        own_posted given.shards (runs_of given.shards 0 is.batches) w.visits own e.1
-    by_end (Cut taps) e = own_cut given.shards (runs_of given.shards 0 is.batches) w.visits own e.0
+        own_posted given.shards (runs_of given.shards is.batches) w.visits own e.1
+    by_end (Cut taps) e = own_cut given.shards (runs_of given.shards is.batches) w.visits own e.0
     by_end Undrawn e = absurd e
 
 -- a test that all pass, or none
@@ -148,19 +148,19 @@ filter_none p (x ∷ xs) all =
 one_visit : (shard shards : ℕ) (v : RunVisit) → IsOwnVisit shards v
     → (((v.shard == shard) ≡ true) × (v.shard ≡ shard))
     ⊎ (((v.shard == shard) ≡ false) × (v.shard ≢ shard))
-    → of_shard shard shards v.taps ≡ cond (v.shard == shard) v.taps []
+    → run_of shard shards v.taps ≡ cond (v.shard == shard) v.taps []
 unfolding IsOwnVisit IsOwnRun
 one_visit shard shards v own (inl (b, e)) =
-    filter_all (λ p. shard_of_token p.tap.token shards == shard) v.taps
-    (All-weaker (λ p. shard_of_token p.tap.token shards ≡ v.shard)
-    (λ p. (shard_of_token p.tap.token shards == shard) ≡ true)
-    (λ p h. eq-eqb (shard_of_token p.tap.token shards) shard (h ∙ e)) v.taps own)
+    filter_all (λ p. shard_of_token p.token shards == shard) v.taps
+    (All-weaker (λ p. shard_of_token p.token shards ≡ v.shard)
+    (λ p. (shard_of_token p.token shards == shard) ≡ true)
+    (λ p h. eq-eqb (shard_of_token p.token shards) shard (h ∙ e)) v.taps own)
     ∙ sym (ap (λ t. cond t v.taps []) b)
 one_visit shard shards v own (inr (b, ne)) =
-    filter_none (λ p. shard_of_token p.tap.token shards == shard) v.taps
-    (All-weaker (λ p. shard_of_token p.tap.token shards ≡ v.shard)
-    (λ p. (shard_of_token p.tap.token shards == shard) ≡ false)
-    (λ p h. ne_eqb (shard_of_token p.tap.token shards) shard (λ k. ne (sym h ∙ k))) v.taps own)
+    filter_none (λ p. shard_of_token p.token shards == shard) v.taps
+    (All-weaker (λ p. shard_of_token p.token shards ≡ v.shard)
+    (λ p. (shard_of_token p.token shards == shard) ≡ false)
+    (λ p h. ne_eqb (shard_of_token p.token shards) shard (λ k. ne (sym h ∙ k))) v.taps own)
     ∙ sym (ap (λ t. cond t v.taps []) b)
 
 kept_taps : (b : Bool) (v : RunVisit) (visits : List RunVisit)
@@ -171,13 +171,13 @@ kept_taps false v visits = refl
 
 -- the taps of a shard among those of the visits are those of the visits to the shard
 pub shard_taps : (shard shards : ℕ) (visits : List RunVisit) → All (IsOwnVisit shards) visits
-    → of_shard shard shards (flat_map (λ v. v.taps) visits)
+    → run_of shard shards (flat_map (λ v. v.taps) visits)
     ≡ flat_map (λ v. v.taps) (visits_to shard visits)
 shard_taps shard shards [] all = refl
 shard_taps shard shards (v ∷ visits) all =
-    filter-append (λ p. shard_of_token p.tap.token shards == shard) v.taps
+    filter-append (λ p. shard_of_token p.token shards == shard) v.taps
     (flat_map (λ x. x.taps) visits)
-    ∙ (ap (λ ts. ts ++ of_shard shard shards (flat_map (λ x. x.taps) visits))
+    ∙ (ap (λ ts. ts ++ run_of shard shards (flat_map (λ x. x.taps) visits))
     (one_visit shard shards v (All-head (IsOwnVisit shards) v visits all) (eqb_tells v.shard shard))
     ∙ (ap (λ ts. cond (v.shard == shard) v.taps [] ++ ts)
     (shard_taps shard shards visits (All-tail (IsOwnVisit shards) v visits all))
@@ -188,14 +188,13 @@ visits_length : (shards : ℕ) (visits : List RunVisit) → All (IsEntered shard
     → taps_posted visits ≡ length (flat_map (λ v. v.taps) visits)
 visits_length shards [] all = refl
 visits_length shards (v ∷ visits) all =
-    let here : length (taps_of_placed v.taps) ≡ length v.entries =
-    sym (AllZip-long IsEntryOf (taps_of_placed v.taps) v.entries
+    let here : length v.taps ≡ length v.entries =
+    sym (AllZip-long IsEntryOf v.taps v.entries
     (All-head (IsEntered shards) v visits all).fields) in
     let rest : length (entries_of visits) ≡ length (flat_map (λ x. x.taps) visits) =
     visits_length shards visits (All-tail (IsEntered shards) v visits all) in
     omega (
       arith,
-      length-map v.taps (λ (p : PlacedTap). p.tap),
       length-append v.entries (entries_of visits),
       length-append v.taps (flat_map (λ (x : RunVisit). x.taps) visits),
     )
@@ -205,82 +204,82 @@ runs_taps_are : (visits : List RunVisit)
 runs_taps_are [] = refl
 runs_taps_are (v ∷ visits) = ap (λ ts. v.taps ++ ts) (runs_taps_are visits)
 
-posted_taps_are : (runs : List PlacedRun) (visits : List RunVisit) → ArePostedWhole runs visits
+posted_taps_are : (runs : List PostedRun) (visits : List RunVisit) → ArePostedWhole runs visits
     → flat_map (λ v. v.taps) visits ≡ flat_map (λ r. r.taps) runs
 posted_taps_are runs visits posted =
-    runs_taps_are visits ∙ ap (λ rs. flat_map (λ (r : PlacedRun). r.taps) rs) posted
+    runs_taps_are visits ∙ ap (λ rs. flat_map (λ (r : PostedRun). r.taps) rs) posted
 
 take_front : {X : Type 0} (xs ys zs : List X) → zs ≡ xs ++ ys → take (length xs) zs ≡ xs
 take_front xs ys zs e = ap (take (length xs)) e ∙ take_at xs ys (length xs) refl
 
 -- the first taps in posting order
-record IsFront (order taps : List PlacedTap) : Type 0 where
+record IsFront (order taps : List Tap) : Type 0 where
   fewer : length taps < length order
   front : taps ≡ take (length taps) order
 
-cut_taps_are : (runs : List PlacedRun) (visits : List RunVisit) → AreCut runs visits
+cut_taps_are : (runs : List PostedRun) (visits : List RunVisit) → AreCut runs visits
     → IsFront (flat_map (λ r. r.taps) runs) (flat_map (λ v. v.taps) visits)
 cut_taps_are runs visits c = made c.made
   where
     order : flat_map (λ r. r.taps) runs
         ≡ flat_map (λ r. r.taps) c.before ++ (c.cut.taps ++ flat_map (λ r. r.taps) c.after)
-    order = ap (λ rs. flat_map (λ (r : PlacedRun). r.taps) rs) c.all
-        ∙ flat_map-append (λ (r : PlacedRun). r.taps) c.before (c.cut ∷ c.after)
+    order = ap (λ rs. flat_map (λ (r : PostedRun). r.taps) rs) c.all
+        ∙ flat_map-append (λ (r : PostedRun). r.taps) c.before (c.cut ∷ c.after)
 
     made : ((map run_of_visit visits ≡ c.before)
         ⊎ ((posted : ℕ) × (posted < length c.cut.taps)
         × (map run_of_visit visits
-        ≡ c.before ++ placed_run c.cut.shard (take posted c.cut.taps) ∷ [])))
+        ≡ c.before ++ posted_run c.cut.shard (take posted c.cut.taps) ∷ [])))
         → IsFront (flat_map (λ r. r.taps) runs) (flat_map (λ v. v.taps) visits)
     made (inl e) =
-        let xs = flat_map (λ (r : PlacedRun). r.taps) c.before in
+        let xs = flat_map (λ (r : PostedRun). r.taps) c.before in
         let same : flat_map (λ v. v.taps) visits ≡ xs = posted_taps_are c.before visits e in
-        let F : List PlacedTap → Type 0 = IsFront (flat_map (λ r. r.taps) runs) in
+        let F : List Tap → Type 0 = IsFront (flat_map (λ r. r.taps) runs) in
         subst F (sym same) (record {
           fewer = omega (
             arith,
             ap length order,
-            length-append xs (c.cut.taps ++ flat_map (λ (r : PlacedRun). r.taps) c.after),
-            length-append c.cut.taps (flat_map (λ (r : PlacedRun). r.taps) c.after),
+            length-append xs (c.cut.taps ++ flat_map (λ (r : PostedRun). r.taps) c.after),
+            length-append c.cut.taps (flat_map (λ (r : PostedRun). r.taps) c.after),
             c.some_tap,
           );
           front = sym
-              (take_front xs (c.cut.taps ++ flat_map (λ (r : PlacedRun). r.taps) c.after)
+              (take_front xs (c.cut.taps ++ flat_map (λ (r : PostedRun). r.taps) c.after)
               (flat_map (λ r. r.taps) runs) order);
         })
     made (inr (posted, few, e)) =
-        let before = flat_map (λ (r : PlacedRun). r.taps) c.before in
-        let part : List PlacedTap = take posted c.cut.taps in
+        let before = flat_map (λ (r : PostedRun). r.taps) c.before in
+        let part : List Tap = take posted c.cut.taps in
         let xs = before ++ part in
         let same : flat_map (λ v. v.taps) visits ≡ xs =
-        posted_taps_are (c.before ++ placed_run c.cut.shard part ∷ []) visits e
-        ∙ (flat_map-append (λ (r : PlacedRun). r.taps) c.before (placed_run c.cut.shard part ∷ [])
+        posted_taps_are (c.before ++ posted_run c.cut.shard part ∷ []) visits e
+        ∙ (flat_map-append (λ (r : PostedRun). r.taps) c.before (posted_run c.cut.shard part ∷ [])
         ∙ ap (λ ts. before ++ ts) (append-nil part)) in
-        let F : List PlacedTap → Type 0 = IsFront (flat_map (λ r. r.taps) runs) in
+        let F : List Tap → Type 0 = IsFront (flat_map (λ r. r.taps) runs) in
         let many : length part ≡ posted = length-take-le posted c.cut.taps (omega (arith, few)) in
         let all : length (flat_map (λ r. r.taps) runs)
         ≡ length before
-        + (length c.cut.taps + length (flat_map (λ (r : PlacedRun). r.taps) c.after)) =
+        + (length c.cut.taps + length (flat_map (λ (r : PostedRun). r.taps) c.after)) =
         omega (
           arith,
           ap length order,
-          length-append before (c.cut.taps ++ flat_map (λ (r : PlacedRun). r.taps) c.after),
-          length-append c.cut.taps (flat_map (λ (r : PlacedRun). r.taps) c.after),
+          length-append before (c.cut.taps ++ flat_map (λ (r : PostedRun). r.taps) c.after),
+          length-append c.cut.taps (flat_map (λ (r : PostedRun). r.taps) c.after),
         ) in
         let split : c.cut.taps ≡ part ++ drop posted c.cut.taps =
         sym (take-append-drop posted c.cut.taps) in
         let whole : flat_map (λ r. r.taps) runs
-        ≡ xs ++ (drop posted c.cut.taps ++ flat_map (λ (r : PlacedRun). r.taps) c.after) =
-        order ∙ (ap (λ ts. before ++ (ts ++ flat_map (λ (r : PlacedRun). r.taps) c.after)) split
+        ≡ xs ++ (drop posted c.cut.taps ++ flat_map (λ (r : PostedRun). r.taps) c.after) =
+        order ∙ (ap (λ ts. before ++ (ts ++ flat_map (λ (r : PostedRun). r.taps) c.after)) split
         ∙ (ap (λ ts. before ++ ts)
-        (append_assoc part (drop posted c.cut.taps) (flat_map (λ (r : PlacedRun). r.taps) c.after))
+        (append_assoc part (drop posted c.cut.taps) (flat_map (λ (r : PostedRun). r.taps) c.after))
         ∙ sym (append_assoc before part
-        (drop posted c.cut.taps ++ flat_map (λ (r : PlacedRun). r.taps) c.after)))) in
+        (drop posted c.cut.taps ++ flat_map (λ (r : PostedRun). r.taps) c.after)))) in
         subst F (sym same) (record {
           fewer = omega (arith, all, many, few, length-append before part);
           front = sym
               (take_front xs
-              (drop posted c.cut.taps ++ flat_map (λ (r : PlacedRun). r.taps) c.after)
+              (drop posted c.cut.taps ++ flat_map (λ (r : PostedRun). r.taps) c.after)
               (flat_map (λ r. r.taps) runs) whole);
         })
 
@@ -301,7 +300,7 @@ worked_posted given w is = by_end w.end is.ended
         let R : List ℕ → Type 0 = IsFile (file_at given.uploads w.upload) is.batches in (
           is.batches,
           subst R e.0 is.is_file,
-          posted_taps_are (runs_of given.shards 0 is.batches) w.visits e.1,
+          posted_taps_are (runs_of given.shards is.batches) w.visits e.1,
           e.2 ∙ number,
         )
     by_end (Refused taps offset fault) e = (
@@ -309,11 +308,11 @@ worked_posted given w is = by_end w.end is.ended
       is.rest,
       is.is_file,
       e.0,
-      posted_taps_are (runs_of given.shards 0 is.batches) w.visits e.1,
+      posted_taps_are (runs_of given.shards is.batches) w.visits e.1,
       e.2 ∙ number,
     )
     by_end (Cut taps) e =
-        let f = cut_taps_are (runs_of given.shards 0 is.batches) w.visits e.0 in (
+        let f = cut_taps_are (runs_of given.shards is.batches) w.visits e.0 in (
           is.batches,
           is.rest,
           is.is_file,
@@ -373,7 +372,7 @@ end_posted given upload (w ∷ works) all once =
         let E : UploadEnd → Type 0 =
         λ end. WerePostedOf given.shards (file_at given.uploads upload) end
         (flat_map (λ v. v.taps) w.visits) in
-        let T : List PlacedTap → Type 0 =
+        let T : List Tap → Type 0 =
         WerePostedOf given.shards (file_at given.uploads upload) (end_of upload (w ∷ works)) in
         subst T (sym taps)
         (subst E (sym (end_same w works upload b))
@@ -386,6 +385,6 @@ end_posted given upload (w ∷ works) all once =
         let E : UploadEnd → Type 0 =
         λ end. WerePostedOf given.shards (file_at given.uploads upload) end
         (posted_of upload works) in
-        let T : List PlacedTap → Type 0 =
+        let T : List Tap → Type 0 =
         WerePostedOf given.shards (file_at given.uploads upload) (end_of upload (w ∷ works)) in
         subst T (sym same) (subst E (sym (end_other w works upload b)) rest)
