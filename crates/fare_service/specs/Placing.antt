@@ -1,6 +1,7 @@
 -- Where the posted taps stand: each in one entry of its shard's book, and the books have no other
 -- entries.
-use Rattle.std.specs.Prelude.{◌≡◌, ℕ, ◌<◌, ◌==◌, List, [], length, map, filter, take, All, count_by}
+use Rattle.std.specs.Prelude.{◌≡◌, ℕ, ◌<◌, ◌==◌, Bool, List, [], length, map, filter, take, All}
+use Rattle.std.specs.Prelude.{count_by}
 use Rattle.std.specs.List.{flat_map, AllZip}
 use Rattle.tap_views.specs.Layout.{Tap}
 use Rattle.tap_views.specs.Files.{IsFile, IsFaultAt}

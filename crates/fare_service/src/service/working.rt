@@ -125,6 +125,7 @@ impl<'a> Service<'a> {
     ghost use Rattle.fare_service.specs.ServiceView.{shards_of};
     ghost use Rattle.tap_views.specs.Runs.{AreRuns};
     ghost use Rattle.tap_views.specs.Layout.{Tap};
+    ghost use Rattle.tap_views.specs.Shards.{run_of};
     ghost use Rattle.tap_views.specs.Files.{IsFile, IsEndAfterBatches};
     ghost use Rattle.fare_service.specs.Runs.{RunVisit, if_any, runs_below};
     ghost use Rattle.fare_service.specs.Runs.{runs_of};
@@ -155,8 +156,7 @@ impl<'a> Service<'a> {
         ensures made { (more : List RunVisit)
             × HasVisited (shards_of self.now) posting.old.passes.items posting.new.passes.items
             (sums_of posting.old.totals) (sums_of posting.new.totals) more
-            × ArePostedOrCut (if_any shard
-            (run_of shard (shards_of self.now) batch.now))
+            × ArePostedOrCut (if_any shard (run_of shard (shards_of self.now) batch.now))
             (is_ok result) more }
         ensures clock { buffers.new.clock ≡ buffers.old.clock }
         ensures few { posting.new.totals.taps ≤ posting.old.totals.taps + 4096 }
