@@ -200,8 +200,8 @@ impl<'a> Service<'a> {
         ensures made { (more : List RunVisit)
             × HasVisited (shards_of self.now) posting.old.passes.items posting.new.passes.items
             (sums_of posting.old.totals) (sums_of posting.new.totals) more
-            × ArePostedOrCut (runs_below (shards_of self.now) (shards_of self.now)
-            batch.now) (is_ok result) more }
+            × ArePostedOrCut (runs_below (shards_of self.now) (shards_of self.now) batch.now)
+            (is_ok result) more }
         ensures clock { buffers.new.run.clock ≡ buffers.old.run.clock }
         ensures runs { length buffers.new.runs ≡ length buffers.old.runs }
         ensures full { TellsFull result posting.old.passes.items posting.new.passes.items }

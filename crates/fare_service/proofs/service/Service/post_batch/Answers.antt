@@ -23,7 +23,7 @@ pub loop-shard-preserved : goal.loop-shard-preserved
 loop-shard-preserved g c =
     let shards = shards_of c.args.self.now in
     record {
-      passes = (c.in_ok-post_run.ensures.made 0).1.books ∙ c.loop-shard.invariant.passes;
+      passes = c.in_ok-post_run.ensures.made.1.books ∙ c.loop-shard.invariant.passes;
       clock = c.in_ok-post_run.ensures.clock ∙ c.loop-shard.invariant.clock;
       runs = c.loop-shard.invariant.runs;
       shards = c.loop-shard.invariant.shards;
