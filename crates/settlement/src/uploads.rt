@@ -14,7 +14,6 @@ pub trait Uploads {
     // What an upload may be read as: the one of this number, from 0.
     ghost may_be: { Self → ℕ → List ℕ → Type 0 };
 
-    /// How many uploads there are.
     fn len(&self) -> usize
         ensures { result ≡ number self.now };
 
@@ -35,14 +34,13 @@ pub trait Uploads {
     /// watches the run: nothing else depends on it.
     fn note_all(&self, _taps: u64) {}
 
-    /// Notes that so many more of them are charged.
+    /// Notes that `_taps` more of them are charged.
     fn note_charged(&self, _taps: u64) {}
 }
 
 /// Uploads that are loaded already.
 #[derive(Clone, Copy)]
 pub struct LoadedUploads<'a> {
-    /// The bytes of each.
     pub all: &'a [Vec<u8>],
 }
 
