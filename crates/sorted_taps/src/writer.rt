@@ -19,7 +19,6 @@ pub(crate) const BATCH_TAPS: usize = 512;
 /// The bytes of a full batch.
 const BATCH_BYTES: usize = TAP1_HEADER_BYTES + BATCH_TAPS * TAP1_TAP_BYTES;
 
-/// Writes the taps as one batch.
 fn write_batch<W: Write>(alloc: Global, taps: &[TapFields], out: &mut W) -> Result<(), WriteFault>
     requires { MayWait taps.now }
     ensures written { OnOk result
@@ -60,7 +59,6 @@ pub(crate) fn put<W: Write>(
     Ok(())
 }
 
-/// Writes the taps that wait.
 pub(crate) fn put_rest<W: Write>(
     alloc: Global,
     waiting: &[TapFields],
