@@ -36,9 +36,9 @@ pub(crate) struct Part {
     last: Token,
 }
 
-/// The bill of the taps from one token on and below another. `None` is no bound. If the files are not
-/// in order, or have other batches than those of 512 taps, it may be that of other taps: the part's
-/// span says which.
+/// The bill of the taps from one token on and below another. `None` is no bound. If the files are
+/// not in order, or have other batches than those of 512 taps, it may be that of other taps: the
+/// part's span says which.
 pub(crate) fn part_of<F: Placed>(
     alloc: Global,
     table: &FareTable,
