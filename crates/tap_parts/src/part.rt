@@ -16,18 +16,17 @@ pub trait PartRule {
         ensures { result ≡ part_of self.now token.now };
 }
 
-/// So many parts that are about equal, whatever the tokens are: the part of a token is the number
-/// in its last four bytes, divided by 64, modulo the number of parts.
+/// Parts that are about equal, whatever the tokens are: the part of a token is the number in its
+/// last four bytes, divided by 64, modulo the number of parts.
 ///
 /// 64 numbers in a row fall to one part, so a part has tokens of all shards, 1 to 64 of them.
 #[derive(Clone, Copy)]
 pub struct EqualParts {
-    /// The last part.
     last: u16,
 }
 
 impl EqualParts {
-    /// So many parts, 1 to 65,536.
+    /// `parts` parts, 1 to 65,536.
     pub fn new(parts: u32) -> Self
         requires least { 1 ≤ parts }
         requires most { parts ≤ 65536 }
