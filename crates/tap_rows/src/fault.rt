@@ -15,13 +15,10 @@ pub enum RowsFault {
         /// The first column that is wrong.
         column: Column,
     },
-    /// A read failed.
     Unread,
     /// The table was another one when it was read again.
     Changed,
-    /// A write failed.
     Write,
-    /// A growth of memory was refused.
     NoMemory,
 }
 
