@@ -76,7 +76,6 @@ impl<R: BufRead + Drop> LedgerRows<R> {
         }
     }
 
-    /// Whether the text has ended.
     fn is_over(&self) -> bool
         ensures { IsTrue result ↔ (self.now.line.items ≡ []) }
     {
@@ -152,8 +151,7 @@ impl<R: BufRead + Drop> LedgerRows<R> {
         Ok(mem::replace(&mut self.row, next))
     }
 
-    /// Where that is wanted, goes on to the next row and gives the row at which it stood; else
-    /// none.
+    /// If that is wanted, goes on to the next row and gives the row at which it stood; else none.
     pub(crate) fn row_if(
         &mut self,
         alloc: Global,

@@ -13,11 +13,8 @@ pub(crate) struct LedgerRow {
     pub(crate) token: Vec<u8>,
     /// The moment's text.
     pub(crate) moment: Vec<u8>,
-    /// The validator.
     pub(crate) validator: u32,
-    /// The answer.
     pub(crate) answer: Vec<u8>,
-    /// The cents.
     pub(crate) cents: u32,
     /// The word of the reason.
     pub(crate) reason: Vec<u8>,
