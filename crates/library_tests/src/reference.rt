@@ -7,10 +7,8 @@
 use account_rule::{Answer, Reply, WindowView};
 use std::alloc::{AllocError, Global};
 
-/// Two hours, in milliseconds.
 const TWO_HOURS: u64 = 7_200_000;
 
-/// Seven days, in milliseconds.
 const WEEK: u64 = 604_800_000;
 
 /// A tap at a known validator.
@@ -28,7 +26,6 @@ pub(crate) struct ReferenceAccount {
 }
 
 impl ReferenceAccount {
-    /// An account without taps.
     pub(crate) fn new(alloc: Global) -> Self {
         ReferenceAccount {
             alloc,
@@ -62,7 +59,6 @@ impl ReferenceAccount {
         Ok(Reply { answer, cents })
     }
 
-    /// The last window.
     pub(crate) fn window(&self) -> Result<Option<WindowView>, AllocError> {
         let rides = self.rides()?;
         if rides.is_empty() {

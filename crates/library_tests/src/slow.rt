@@ -17,7 +17,6 @@ pub struct SlowFile<'a> {
 }
 
 impl<'a> SlowFile<'a> {
-    /// A file of these bytes.
     pub fn of(bytes: &'a [u8], fails_at: usize) -> SlowFile<'a> {
         SlowFile {
             bytes,
