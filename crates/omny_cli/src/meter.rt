@@ -6,16 +6,13 @@ use std::sync::atomic::{AtomicU64, Ordering};
 /// How much work is done, and of how much.
 #[derive(Drop)]
 pub(crate) struct Meter {
-    /// How much is done.
     done: AtomicU64,
-    /// How much there is.
     all: AtomicU64,
 }
 
 /// What a meter reads.
 #[derive(Clone, Copy, Debug, PartialEq, Eq)]
 pub(crate) struct Reading {
-    /// How much is done.
     pub(crate) done: u64,
     /// How much there is: 0 if that is not known.
     pub(crate) all: u64,
@@ -30,23 +27,22 @@ impl Meter {
         }
     }
 
-    /// There is so much to do, and nothing of it is done.
+    /// Sets how much there is to do. Nothing of it is done.
     pub(crate) fn begin(&self, all: u64) {
         self.done.store(0, Ordering::SeqCst);
         self.all.store(all, Ordering::SeqCst);
     }
 
-    /// There is so much more to do.
+    /// Adds to what there is to do.
     pub(crate) fn extend(&self, more: u64) {
         self.all.fetch_add(more, Ordering::SeqCst);
     }
 
-    /// So much more is done.
+    /// Adds to what is done.
     pub(crate) fn add(&self, more: u64) {
         self.done.fetch_add(more, Ordering::SeqCst);
     }
 
-    /// What it reads now.
     pub(crate) fn read(&self) -> Reading {
         Reading {
             done: self.done.load(Ordering::SeqCst),
@@ -56,7 +52,6 @@ impl Meter {
 }
 
 impl Reading {
-    /// Whether something is left to do.
     pub(crate) fn goes_on(&self) -> bool {
         self.done < self.all
     }
@@ -73,7 +68,6 @@ impl Reading {
 /// The meters of a run.
 #[derive(Drop)]
 pub(crate) struct Meters {
-    /// Taps that are charged.
     pub(crate) taps: Meter,
     /// Bytes of uploads that are posted.
     pub(crate) posted: Meter,
@@ -86,13 +80,9 @@ pub(crate) struct Meters {
 /// What the meters of a run read.
 #[derive(Clone, Copy, Debug, PartialEq, Eq)]
 pub(crate) struct Readings {
-    /// Taps that are charged.
     pub(crate) taps: Reading,
-    /// Bytes of uploads that are posted.
     pub(crate) posted: Reading,
-    /// Bytes of sorted files that are read.
     pub(crate) sorted: Reading,
-    /// Bytes that are written.
     pub(crate) written: Reading,
 }
 
@@ -105,7 +95,6 @@ impl Meters {
         }
     }
 
-    /// Nothing is done, and there is nothing to do.
     pub(crate) fn new() -> Meters {
         Meters {
             taps: Meter::new(),
@@ -115,7 +104,6 @@ impl Meters {
         }
     }
 
-    /// What they read now.
     pub(crate) fn read(&self) -> Readings {
         Readings {
             taps: self.taps.read(),
