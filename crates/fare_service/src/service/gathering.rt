@@ -27,7 +27,6 @@ use shared_books::{Draw, Drawer, Missing, Pass, SharedBook};
 use std::alloc::Global;
 use tap_views::NoMemory;
 
-/// Writes down how the uploads ended.
 fn set_ends(ends: &mut Vec<UploadEnd>, done: &[Done])
     requires { All (λ d. d.upload < length ends.old.items) done.now }
     ensures ends { ends.new.items ≡ with_done ends.old.items done.now }
