@@ -21,7 +21,6 @@ use std::alloc::Global;
 use std::cmp::Ordering;
 use std::io::{BufRead, Write};
 
-/// The head line of corrections.
 const HEAD_LINE: &[u8] =
     b"token,moment,validator,change,answer_before,cents_before,reason_before,answer_after,cents_after,reason_after,cents_change\n";
 

@@ -98,7 +98,6 @@ fn is_digit(byte: u8) -> bool
     (48 <= byte && byte <= 57) || (97 <= byte && byte <= 102)
 }
 
-/// Whether the text is the digits of a token.
 fn is_token(text: &[u8]) -> bool
     ensures { IsTrue result ↔ IsTokenText text.now }
 {

@@ -26,9 +26,7 @@ use std::mem;
 pub(crate) struct LedgerRows<R: BufRead + Drop> {
     /// What is left to read.
     from: R,
-    /// Whose ledger it is.
     bill: Bill,
-    /// How many lines were read.
     lines: u64,
     /// The line that was read last, with its line feed; empty at the end.
     line: Vec<u8>,
@@ -48,7 +46,6 @@ fn may_follow(before: &Option<LedgerRow>, row: &Option<LedgerRow>) -> bool
 }
 
 impl<R: BufRead + Drop> LedgerRows<R> {
-    /// The row at which it stands; none at the end.
     pub(crate) fn row(&self) -> &Option<LedgerRow>
         ensures { result.now ≡ self.now.row }
     {

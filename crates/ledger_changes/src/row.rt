@@ -6,7 +6,6 @@ ghost use Rattle.ledger_changes.specs.inside.LedgerRows.{charge_of, key_of};
 
 use std::cmp::Ordering;
 
-/// A line of a ledger, as far as corrections look at it.
 #[derive(Drop)]
 pub(crate) struct LedgerRow {
     /// The token's digits.
@@ -31,7 +30,6 @@ impl LedgerRow {
         tokens.then(moments.then(validators))
     }
 
-    /// Whether nothing is charged otherwise.
     pub(crate) fn is_charged_like(&self, other: &LedgerRow) -> bool
         ensures { result ≡ is_same_charge (charge_of self.now) (charge_of other.now) }
     {

@@ -21,7 +21,6 @@ use crate::token_sums::{TokenSums, sum_change, write_sums};
 use std::alloc::Global;
 use std::io::{BufRead, Write};
 
-/// The head line of the tokens' sums.
 const TOKENS_HEAD_LINE: &[u8] =
     b"token,added,removed,changed,cents_before,cents_after,cents_change\n";
 
