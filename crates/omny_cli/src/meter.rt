@@ -19,7 +19,6 @@ pub(crate) struct Reading {
 }
 
 impl Meter {
-    /// There is nothing to do.
     pub(crate) fn new() -> Meter {
         Meter {
             done: AtomicU64::new(0),

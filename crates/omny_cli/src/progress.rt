@@ -29,7 +29,6 @@ const THOUSAND: u64 = 1_000;
 
 const MILLION: u64 = 1_000_000;
 
-/// How far a run is.
 #[derive(Clone, Copy, Debug)]
 pub(crate) struct Steps {
     stage: Stage,

@@ -33,7 +33,6 @@ fn millis_of(passed: Duration) -> u64 {
 /// What a run and the thread that shows its line share.
 #[derive(Drop)]
 pub struct Ticker {
-    /// How far the run is.
     pub(crate) steps: Mutex<Steps>,
     pub(crate) meters: Meters,
     /// The line, which one thread at a time writes.
