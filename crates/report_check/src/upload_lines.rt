@@ -15,7 +15,6 @@ use report_texts::{UploadEnd, end_of, head_of, write_upload};
 use std::alloc::{AllocError, Global};
 use tap_views::NoMemory;
 
-/// What the lines of the uploads say.
 #[derive(Drop)]
 pub(crate) enum UploadLines {
     /// How the uploads ended, and how many taps of them were posted.
