@@ -100,7 +100,6 @@ impl Line {
         self.put(digits.format(number).as_bytes());
     }
 
-    /// Puts a number there with a word before it.
     #[inline(always)]
     pub(crate) fn put_count(&mut self, word: &[u8], number: u128)
         requires { length word.now + (40 + length self.old) ≤ 384 }

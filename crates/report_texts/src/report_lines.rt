@@ -36,7 +36,6 @@ pub fn after_word<'a>(text: &'a [u8], word: &[u8]) -> Option<&'a [u8]>
     text.strip_prefix(word)
 }
 
-/// How many digits the text begins with.
 fn digits_before(text: &[u8]) -> usize
     ensures { result ≡ position_or_len (λ byte. not (is_ascii_digit byte)) text.now }
 {
@@ -94,7 +93,6 @@ fn count<'a>(text: &'a [u8], word: &[u8]) -> Option<(u64, &'a [u8])>
     Some((found, rest))
 }
 
-/// Whether the line ends here.
 fn is_end(text: &[u8]) -> bool
     ensures { IsTrue result ↔ (text.now ≡ codes "\n") }
 {
