@@ -28,7 +28,6 @@ struct PostedTaps {
     replay: Replay,
 }
 
-/// Posts the taps of the token, one after the other.
 fn post(
     alloc: Global,
     table: &FareTable,

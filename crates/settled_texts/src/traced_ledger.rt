@@ -50,7 +50,6 @@ struct Room {
     taps: Vec<TapFields>,
     /// Their lines, before they are whole.
     text: String,
-    /// Their lines.
     lines: Vec<u8>,
     /// Their lines with the columns behind them.
     traced: Vec<u8>,
