@@ -34,7 +34,6 @@ impl Pieces {
         }
     }
 
-    /// Adds a piece behind the others.
     fn push(&mut self, piece: Vec<TapFields>) -> Result<(), AllocError>
         ensures { OnOk result (self.new ≡ self.old ++ piece.items) }
     {

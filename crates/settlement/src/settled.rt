@@ -51,7 +51,6 @@ fn parts_for<U: Uploads>(uploads: &U) -> u32
     (bytes_of(uploads, 0, uploads.len()) / BYTES_OF_PART).clamp(1, MAX_PARTS) as u32
 }
 
-/// Uploads whose taps are split into parts.
 #[derive(Drop)]
 struct SplitUploads {
     ends: Vec<UploadEnd>,
