@@ -64,7 +64,6 @@ impl Model for Drawer {
 #[error("holds {held} of {drawn} drawn numbers")]
 pub struct DrawMissing {
     pub held: u32,
-    /// How many were drawn.
     pub drawn: u32,
 }
 
