@@ -80,14 +80,14 @@ impl Merge {
         Some(tap)
     }
 
-    /// They are in the order of the files.
+    /// The readers, in the order of the files.
     pub fn readers(&self) -> &[TapReader]
         ensures { result.now ≡ self.now.readers.items }
     {
         &self.readers
     }
 
-    /// They are in the order of the files, as they stand.
+    /// The readers as they stand, in the order of the files.
     pub fn into_readers(self) -> Vec<TapReader>
         ensures { result ≡ self.readers }
     {
