@@ -63,7 +63,7 @@ impl Places {
         self.parts
     }
 
-    /// There are 1 to 65,536.
+    /// How many places there are, 1 to 65,536.
     pub(crate) fn number(&self) -> u32
         ensures value { result ≡ self.now.parts * ranges_of self.now }
         ensures least { 1 ≤ result }
@@ -72,7 +72,7 @@ impl Places {
         self.parts * self.ranges.len()
     }
 
-    /// Each part has this many.
+    /// How many ranges each part has.
     pub(crate) fn ranges(&self) -> u32
         ensures value { result ≡ ranges_of self.now }
         ensures most { self.now.parts * result ≤ 65536 }

@@ -101,7 +101,6 @@ impl Split {
 #[derive(Drop)]
 pub struct PartFiles {
     places: Places,
-    /// There is a list for each range of each part.
     lists: Vec<Vec<TapFields>>,
 }
 
