@@ -46,7 +46,6 @@ impl PartRule for EqualParts {
     }
 }
 
-/// The part of a token of 16 bytes.
 fn part_of(token: &[u8], parts: u32) -> u32
     requires token { length token.now ≡ 16 }
     requires least { 1 ≤ parts }
