@@ -12,7 +12,6 @@ pub enum RowsFault {
     Row {
         /// The number of the line; the head is line 1.
         number: u64,
-        /// The first column that is wrong.
         column: Column,
     },
     Unread,

@@ -28,7 +28,6 @@ impl Separator {
 /// What a row's field must be, so that the row is kept.
 #[derive(Clone, Copy, Debug)]
 pub struct Condition<'a> {
-    /// The name of the column.
     pub column: &'a [u8],
     pub value: &'a [u8],
 }

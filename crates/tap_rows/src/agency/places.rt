@@ -79,7 +79,6 @@ fn places_of_conditions(
     Ok(places)
 }
 
-/// The places of a choice's columns in a head.
 pub(crate) fn places_of(
     alloc: Global,
     choice: &Choice<'_>,

@@ -62,7 +62,6 @@ fn token_text_in(value: &[u8]) -> Option<[u8; 16]>
     }
 }
 
-/// Whether a row meets each condition of a choice.
 fn is_kept(only: &[Condition<'_>], places: &[usize], row: &ByteRecord) -> bool
     ensures { (head : List (List ℕ)) → AllZip (IsPlaceOf head) only.now places.now
         → (IsTrue result ↔ All (IsMet head (fields_of row.now)) only.now) }

@@ -84,7 +84,6 @@ pub(crate) fn write_refusals_head<X: Write>(
     put(alloc, separator, "row", "reason", head, out)
 }
 
-/// Writes a refused row, with its number and its reason.
 pub(crate) fn write_refusal<X: Write>(
     alloc: Global,
     separator: Separator,
