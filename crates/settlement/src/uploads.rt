@@ -14,6 +14,7 @@ pub trait Uploads {
     // What an upload may be read as: the one of this number, from 0.
     ghost may_be: { Self → ℕ → List ℕ → Type 0 };
 
+    /// How many uploads there are.
     fn len(&self) -> usize
         ensures { result ≡ number self.now };
 
