@@ -27,6 +27,7 @@ pub(crate) struct LedgerRows<R: BufRead + Drop> {
     /// What is left to read.
     from: R,
     bill: Bill,
+    /// How many lines were read.
     lines: u64,
     /// The line that was read last, with its line feed; empty at the end.
     line: Vec<u8>,

@@ -23,6 +23,7 @@ use std::io::Write;
 /// The corrections of one token, summed.
 #[derive(Drop)]
 pub(crate) struct TokenSums {
+    /// The token's digits.
     token: Vec<u8>,
     /// How many lines only the new bill has.
     added: u64,

@@ -7,8 +7,10 @@
 use account_rule::{Answer, Reply, WindowView};
 use std::alloc::{AllocError, Global};
 
+/// Two hours, in milliseconds.
 const TWO_HOURS: u64 = 7_200_000;
 
+/// Seven days, in milliseconds.
 const WEEK: u64 = 604_800_000;
 
 /// A tap at a known validator.

@@ -20,6 +20,7 @@ const BATCHES: u32 = 6;
 
 const TAPS: u32 = 8;
 
+/// Three weeks, in milliseconds.
 const THREE_WEEKS: u32 = 1_814_400_000;
 
 /// Numbers without an evident order, the same ones each time.

@@ -51,6 +51,7 @@ impl Meter {
 }
 
 impl Reading {
+    /// Whether something is left to do.
     pub(crate) fn goes_on(&self) -> bool {
         self.done < self.all
     }
@@ -67,6 +68,7 @@ impl Reading {
 /// The meters of a run.
 #[derive(Drop)]
 pub(crate) struct Meters {
+    /// Taps that are charged.
     pub(crate) taps: Meter,
     /// Bytes of uploads that are posted.
     pub(crate) posted: Meter,

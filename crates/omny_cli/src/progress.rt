@@ -127,6 +127,7 @@ impl Steps {
         self.stage = Stage::Loaded;
     }
 
+    /// How many files are read.
     fn read(&self) -> usize {
         self.ahead.max(self.loaded)
     }

@@ -24,6 +24,7 @@ const MAX_LINE_BYTES: usize = 255;
 /// The most entries of a ledger: 2 to the power of 62.
 const MAX_ENTRIES: u64 = 4_611_686_018_427_387_904;
 
+/// The sums of the whole lines that were read.
 #[derive(Drop)]
 struct LineSums {
     has_head: bool,

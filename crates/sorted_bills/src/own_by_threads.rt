@@ -18,7 +18,7 @@ use tap_views::{TapFields, Token};
 pub(crate) struct OwnTaps {
     /// The taps lie one file after the other.
     pub(crate) taps: Vec<TapFields>,
-    /// There is one for each file.
+    /// How many taps each file has, of all tokens.
     pub(crate) numbers: Vec<u64>,
 }
 

@@ -18,6 +18,7 @@ use tap_views::TapFields;
 pub(crate) struct Head {
     /// None at the file's end.
     tap: Option<TapFields>,
+    /// The index of the reader.
     at: usize,
 }
 

@@ -21,6 +21,7 @@ use tap_views::{TapFields, Token};
 #[derive(Drop)]
 pub struct Merge {
     readers: Vec<TapReader>,
+    /// The tree of their heads.
     heads: Vec<Head>,
 }
 

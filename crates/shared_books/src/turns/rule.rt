@@ -10,6 +10,7 @@ pub type Slot = Option<Box<ShardBook>>;
 /// What a shared book was opened with.
 #[derive(Drop)]
 pub struct Opening {
+    /// The number of the first visit.
     pub first: u64,
     /// The book as it was then, without entries.
     pub book: Snapshot<ShardBook>,
