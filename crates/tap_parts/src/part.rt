@@ -22,6 +22,7 @@ pub trait PartRule {
 /// 64 numbers in a row fall to one part, so a part has tokens of all shards, 1 to 64 of them.
 #[derive(Clone, Copy)]
 pub struct EqualParts {
+    /// The last part.
     last: u16,
 }
 
