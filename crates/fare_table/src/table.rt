@@ -22,12 +22,14 @@ use crate::read::modes::modes_of;
 use crate::read::riders::riders_of;
 use crate::read::transfers::transfers_of;
 use crate::read::validators::ranges_of;
+use crate::read::window::window_of;
 use crate::read::zone::zone_of;
 use crate::riders::Riders;
 use crate::terms::Terms;
 use crate::transfer_terms::TransferTerms;
 use crate::transfers::Transfers;
 use crate::validators::Ranges;
+use crate::window_span::WindowSpan;
 use crate::zone::Zone;
 use jiff::tz::TimeZone;
 use std::alloc::Global;
@@ -74,15 +76,18 @@ struct TableData {
     riders: Riders,
     /// The zone, if the table names one.
     zone: Option<Zone>,
+    /// How long windows are.
+    window: WindowSpan,
 }
 
 impl FareTable {
     /// Reads a table from its TOML text. The first fault is answered, in the order in which the
-    /// keys are read: modes, transfers, classes, the default class, validators, riders, zone.
-    /// `NoMemory` is answered where a growth is refused.
+    /// keys are read: modes, transfers, classes, the default class, validators, riders, zone,
+    /// window. `NoMemory` is answered where a growth is refused.
     pub fn read(alloc: Global, text: &[u8]) -> Result<FareTable, TableFault>
         ensures ok { IfOk result (λ t. IsUtf8 text.now × (meaning_in text.now ≡ Ok t.meaning)) }
-        ensures zone { IfOk result (λ t. IsZoneOf t.meaning.zone t.zone) }
+        ensures zone { IfOk result (λ t. IsZoneOf t.meaning.zone t.zone.rule) }
+        ensures window { IfOk result (λ t. t.zone.span ≡ t.meaning.window) }
 
         // A fault is the text's first, and a text with a fault is answered by it or by want of
         // memory.
@@ -115,7 +120,7 @@ impl FareTable {
         ensures answers { IsOk result }
         ensures zone { IfOk result (λ c. c ≡ self.now.zone) }
     {
-        Ok(Clock::new(rule(&self.parts.zone)))
+        Ok(Clock::new(self.parts.window, rule(&self.parts.zone)))
     }
 
     /// An equal table, which shares this one's memory. `NoMemory` is answered where it is shared
@@ -210,7 +215,8 @@ impl FareTable {
 #[tactic(auto, unfolding(crate::specs::TableMeaning::meaning_of_tree))]
 fn table_of(alloc: Global, table: &Table) -> Result<FareTable, TableFault>
     ensures answer { Answers (λ t. t.meaning) result (meaning_of_tree (table_view table.now)) }
-    ensures zone { IfOk result (λ t. IsZoneOf t.meaning.zone t.zone) }
+    ensures zone { IfOk result (λ t. IsZoneOf t.meaning.zone t.zone.rule) }
+    ensures window { IfOk result (λ t. t.zone.span ≡ t.meaning.window) }
 {
     let modes = modes_of(alloc, table)?;
     let transfers = transfers_of(alloc, &modes, table)?;
@@ -220,6 +226,7 @@ fn table_of(alloc: Global, table: &Table) -> Result<FareTable, TableFault>
     let ranges = ranges_of(alloc, &modes, table)?;
     let riders = riders_of(alloc, members, table)?;
     let zone = zone_of(alloc, table)?;
+    let window = window_of(table)?;
     let parts = TableData {
         modes,
         transfers,
@@ -228,6 +235,7 @@ fn table_of(alloc: Global, table: &Table) -> Result<FareTable, TableFault>
         ranges,
         riders,
         zone,
+        window,
     };
     Ok(FareTable {
         parts: Arc::new(alloc, parts)?,
