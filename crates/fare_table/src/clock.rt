@@ -80,7 +80,7 @@ impl Clock {
     pub fn offset_at(&self, moment: u64) -> Option<Offset>
         requires { moment < 253_402_207_200_000 }
         ensures { option_map (λ offset. offset.seconds) result
-            ≡ option_map (λ zone. seconds_ahead zone moment) self.now }
+            ≡ option_map (λ zone. seconds_ahead zone moment) self.now.rule }
     {
         match &self.zone {
             Some(zone) => Some(zone.to_offset(instant(moment))),

@@ -10,7 +10,8 @@ ghost use Rattle.fare_table.specs.inside.OrFault.{Answers};
 ghost use Rattle.fare_table.specs.inside.PosixRule.{HasRule, rule_of};
 ghost use Rattle.fare_table.specs.declared.fault.TableFault.{TableFault};
 ghost use Rattle.fare_table.specs.TableMeaning.{meaning_in, meaning_of_tree};
-ghost use Rattle.fare_table.specs.Zone.{IsZoneOf, zone_rule, zone_text};
+ghost use Rattle.fare_table.specs.Meaning.{IsClockOf};
+ghost use Rattle.fare_table.specs.Zone.{zone_rule, zone_text};
 ghost use Rattle.fare_table.specs.Terms.{AreBoundedTerms, AreRideTerms};
 
 use crate::class::Class;
@@ -86,8 +87,7 @@ impl FareTable {
     /// window. `NoMemory` is answered where a growth is refused.
     pub fn read(alloc: Global, text: &[u8]) -> Result<FareTable, TableFault>
         ensures ok { IfOk result (λ t. IsUtf8 text.now × (meaning_in text.now ≡ Ok t.meaning)) }
-        ensures zone { IfOk result (λ t. IsZoneOf t.meaning.zone t.zone.rule) }
-        ensures window { IfOk result (λ t. t.zone.span ≡ t.meaning.window) }
+        ensures zone { IfOk result (λ t. IsClockOf t.meaning t.zone) }
 
         // A fault is the text's first, and a text with a fault is answered by it or by want of
         // memory.
@@ -215,8 +215,7 @@ impl FareTable {
 #[tactic(auto, unfolding(crate::specs::TableMeaning::meaning_of_tree))]
 fn table_of(alloc: Global, table: &Table) -> Result<FareTable, TableFault>
     ensures answer { Answers (λ t. t.meaning) result (meaning_of_tree (table_view table.now)) }
-    ensures zone { IfOk result (λ t. IsZoneOf t.meaning.zone t.zone.rule) }
-    ensures window { IfOk result (λ t. t.zone.span ≡ t.meaning.window) }
+    ensures zone { IfOk result (λ t. IsClockOf t.meaning t.zone) }
 {
     let modes = modes_of(alloc, table)?;
     let transfers = transfers_of(alloc, &modes, table)?;

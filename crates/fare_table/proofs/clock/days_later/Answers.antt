@@ -1,4 +1,4 @@
-use Rattle.std.proofs.Common.{arith, pos, ◌∙◌, ◌+ℤ◌, FitsSigned, w64}
+use Rattle.std.proofs.Common.{arith, ◌∙◌, ◌+ℤ◌, FitsSigned, w64}
 use Rattle.std.proofs.lemmas.Int.{to_z-of_z}
 use Rattle.jiff.proofs.SpanFacts.{signed_arith, date_add-days, can_add-days}
 use Rattle.jiff.specs.Words.{IsEpochDay, epoch_day}
