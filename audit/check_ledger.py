@@ -48,6 +48,7 @@ ANSWERS = {"paid": "paid", "transfer": "transfers", "capped": "capped", "stale":
 UPLOADS = re.compile(f"uploads ({NUMBER})\n")
 UPLOAD = re.compile(f"upload ({NUMBER}) (?:(?:posted|cut) ({NUMBER})|undrawn"
                     f"|refused ({NUMBER}) at ({NUMBER}) L[1-6])\n")
+WINDOW = re.compile("([1-9]|[12][0-9]|3[01]) days|calendar (day|week|month)")
 # days of a POSIX rule that zoneinfo takes for others: `n`, and J59
 RULE_DAY = re.compile("(?<=.),(J59|[0-2]?[0-9]{1,2}|3[0-5][0-9]|36[0-5])"
                       "(/([+-]?)([0-9]{1,3})(?::([0-5][0-9]))?(?::([0-5][0-9]))?)?(?=,|$)")
@@ -100,6 +101,9 @@ class Fares:
         self.riders = {k: self.terms[c] for k, c in self.classes.items()}
         self.ranges = sorted((r["first"], r["last"], r["mode"]) for r in table["validators"])
         self.zone = zone_of(table["zone"]) if "zone" in table else None
+        self.window = WINDOW.fullmatch(table.get("window", "7 days"))
+        if self.window is None:
+            raise ValueError(f"no rule has the window {table['window']!r}")
 
     def mode_of(self, validator):
         """The mode of a validator, or None if the table does not know it."""
@@ -115,11 +119,17 @@ class Fares:
 
     def window_end(self, start):
         """Where the window ends that starts at this moment."""
-        if self.zone is None:
-            return start + 7 * DAY_MS
-        day = datetime.fromtimestamp(start // 1000, self.zone).date() + timedelta(days=7)
-        midnight = datetime(day.year, day.month, day.day, tzinfo=self.zone)
-        return int(midnight.timestamp()) * 1000
+        count, period = self.window.groups()
+        if count and self.zone is None:
+            return start + int(count) * DAY_MS
+        zone = self.zone or timezone.utc
+        day = datetime.fromtimestamp(start // 1000, zone).date()
+        if period == "month":
+            day = (day.replace(day=1) + timedelta(days=31)).replace(day=1)
+        else:
+            day += timedelta(days=7 - day.weekday() if period == "week" else int(count or 1))
+        midnight = datetime(day.year, day.month, day.day, tzinfo=zone)
+        return max(start + 1, int(midnight.timestamp()) * 1000)
 
 class Account:
     """What the rules need of a token's earlier taps."""

@@ -8,9 +8,11 @@ use Rattle.fare_table.specs.Riders.{riders_of}
 use Rattle.fare_table.specs.TableMeaning.{TableMeaning, meaning_of_tree}
 use Rattle.fare_table.specs.Transfers.{transfers_of}
 use Rattle.fare_table.specs.Validators.{ranges_of}
+use Rattle.fare_table.specs.Window.{window_of}
 use Rattle.fare_table.specs.Zone.{zone_of}
 use Rattle.fare_table.specs.declared.class.Class.{Class}
 use Rattle.fare_table.specs.declared.validators.RangeRest.{RangeRest}
+use Rattle.fare_table.specs.declared.window_span.WindowSpan.{WindowSpan}
 
 -- two steps that came to an end: the first gave a value, and the second went on with it
 pub bind_ok : {A B : Type 0} (o : OrFault A) (f : A → OrFault B) (b : B) → (o >>= f) ≡ Ok b
@@ -29,10 +31,11 @@ pub record AreParts (tree : Members) (meaning : TableMeaning) : Type 0 where
   pub ranges : ranges_of meaning.modes tree ≡ Ok meaning.ranges
   pub riders : riders_of table tree ≡ Ok meaning.riders
   pub zone : zone_of tree ≡ Ok meaning.zone
+  pub window : window_of tree ≡ Ok meaning.window
 
-abbrev by_zone : Members → List (List ℕ) → List (ℕ × ℕ) → List Class → ℕ → List (ℕ × RangeRest)
-    → List (List ℕ × ℕ) → Option (List ℕ) → OrFault TableMeaning
-by_zone tree modes transfers classes standard ranges riders zone = Ok (record {
+abbrev by_window : List (List ℕ) → List (ℕ × ℕ) → List Class → ℕ → List (ℕ × RangeRest)
+    → List (List ℕ × ℕ) → Option (List ℕ) → WindowSpan → OrFault TableMeaning
+by_window modes transfers classes standard ranges riders zone window = Ok (record {
   modes = modes;
   transfers = transfers;
   classes = classes;
@@ -40,7 +43,13 @@ by_zone tree modes transfers classes standard ranges riders zone = Ok (record {
   ranges = ranges;
   riders = riders;
   zone = zone;
+  window = window;
 })
+
+abbrev by_zone : Members → List (List ℕ) → List (ℕ × ℕ) → List Class → ℕ → List (ℕ × RangeRest)
+    → List (List ℕ × ℕ) → Option (List ℕ) → OrFault TableMeaning
+by_zone tree modes transfers classes standard ranges riders zone =
+    window_of tree >>= by_window modes transfers classes standard ranges riders zone
 
 abbrev by_riders : Members → List (List ℕ) → List (ℕ × ℕ) → List Class → ℕ → List (ℕ × RangeRest)
     → List (List ℕ × ℕ) → OrFault TableMeaning
@@ -103,6 +112,8 @@ parts tree meaning is =
     (by_riders tree modes.0 transfers.0 classes.0 standard.0 ranges.0) meaning ranges.2 in
     let zone = bind_ok (zone_of tree)
     (by_zone tree modes.0 transfers.0 classes.0 standard.0 ranges.0 riders.0) meaning riders.2 in
+    let window = bind_ok (window_of tree)
+    (by_window modes.0 transfers.0 classes.0 standard.0 ranges.0 riders.0 zone.0) meaning zone.2 in
     let whole : TableMeaning = record {
       modes = modes.0;
       transfers = transfers.0;
@@ -111,8 +122,9 @@ parts tree meaning is =
       ranges = ranges.0;
       riders = riders.0;
       zone = zone.0;
+      window = window.0;
     } in
-    moved tree whole meaning zone.2
+    moved tree whole meaning window.2
     (record {
       modes = modes.1;
       transfers = transfers.1;
@@ -123,4 +135,5 @@ parts tree meaning is =
       ranges = ranges.1;
       riders = riders.1;
       zone = zone.1;
+      window = window.1;
     })

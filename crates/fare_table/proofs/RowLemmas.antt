@@ -29,9 +29,11 @@ use Rattle.fare_table.proofs.ReadLemmas.{number-read}
 use Rattle.fare_table.specs.Classes.{class_named, classes_from, classes_of, default_of}
 use Rattle.fare_table.specs.Faults.{FaultRow, Where, class_rows, classes_step, default_step}
 use Rattle.fare_table.specs.Faults.{riders_step, transfers_step}
-use Rattle.fare_table.specs.Faults.{validators_step, zone_step, top, range, rider, a_row, amount_of}
+use Rattle.fare_table.specs.Faults.{validators_step, window_step, zone_step, top, range, rider}
+use Rattle.fare_table.specs.Faults.{a_row, amount_of}
 use Rattle.fare_table.specs.Faults.{classes_in, elements_in, first_at, first_fault, first_row}
-use Rattle.fare_table.specs.Faults.{is_again, is_earlier, is_from, is_kind, is_mode, is_no_zone}
+use Rattle.fare_table.specs.Faults.{is_again, is_earlier, is_from, is_in_bounds, is_kind, is_mode}
+use Rattle.fare_table.specs.Faults.{is_no_zone}
 use Rattle.fare_table.specs.Faults.{is_wrong, items_of, last_at, member_at, members_at, members_of}
 use Rattle.fare_table.specs.Faults.{mode_names, needed_rows, holds_of_some, range_rows, rider_rows}
 use Rattle.fare_table.specs.Faults.{riders_in, rows, rows_of_range, is_token, shares_validator}
@@ -45,6 +47,8 @@ use Rattle.fare_table.specs.TableMeaning.{TableMeaning, meaning_in, meaning_of_t
 use Rattle.fare_table.specs.Transfers.{transfers_of}
 use Rattle.fare_table.specs.Validators.{stand_apart, range_of, ranges_from, ranges_of, share_number}
 use Rattle.fare_table.specs.Validators.{with_range}
+use Rattle.fare_table.specs.Window.{window_in, window_of}
+use Rattle.fare_table.specs.WindowSpan.{span_named}
 use Rattle.fare_table.specs.Zone.{zone_in, zone_of}
 use Rattle.fare_table.specs.declared.fault.Key.TheVariants as the_key
 use Rattle.fare_table.specs.declared.fault.TableFault.{TableFault}
@@ -55,6 +59,7 @@ use Rattle.fare_table.specs.declared.validators.RangeRest.{RangeRest}
 use Rattle.fare_table.proofs.ApartLemmas.{begins_first}
 use Rattle.fare_table.proofs.RiderLemmas.{Named, by_class, named_with}
 use Rattle.tap_views.proofs.Choices.{or_swap}
+use Rattle.fare_table.specs.declared.window_span.WindowSpan.{WindowSpan}
 
 -- ---- one element of `validators`
 told_three : (tree : Members) (at : Where) (one two three : TableFault)
@@ -440,6 +445,26 @@ unfolding zone_of
 zone-told tree = zone_steps (get_member (codes "zone") tree)
     ∙ sym (told_two tree top (Kind the_key.Zone) the_fault.Zone)
 
+-- ---- the window
+span_tells : (o : Option WindowSpan)
+    → fault_in (ok_or o (Range the_key.Window))
+    ≡ cond (not (is_some o)) (Some (Range the_key.Window)) None
+span_tells None = refl
+span_tells (Some span) = refl
+
+window_steps : (o : Option Data) (beside : Members)
+    → fault_in (window_in o)
+    ≡ cond (fails (is_kind the_key.Window) o) (Some (Kind the_key.Window))
+    (cond (fails (is_in_bounds the_key.Window beside) o) (Some (Range the_key.Window)) None)
+window_steps None beside = refl
+window_steps (Some (string s)) beside = span_tells (span_named s)
+window_steps (Some _) beside = refl
+
+window-told : (tree : Members) → fault_in (window_of tree) ≡ first_row tree window_step
+unfolding window_of
+window-told tree = window_steps (get_member (codes "window") tree) tree
+    ∙ sym (told_two tree top (Kind the_key.Window) (Range the_key.Window))
+
 -- ---- the whole
 -- the rows of the classes stand behind those of their table
 regroup : (tree : Members) (rest : List FaultRow) {o : Option TableFault}
@@ -454,7 +479,8 @@ regroup tree rest is =
 meaning-told : (tree : Members) → fault_in (meaning_of_tree tree) ≡ first_row tree (rows tree)
 unfolding meaning_of_tree
 meaning-told tree =
-    let key_rows = riders_step tree ++ zone_step in
+    let last_rows = zone_step ++ window_step in
+    let key_rows = riders_step tree ++ last_rows in
     let entry_rows = validators_step tree ++ key_rows in
     let default_rows = default_step ++ entry_rows in
     let class_step_rows = classes_step tree ++ default_rows in
@@ -475,9 +501,10 @@ meaning-told tree =
     (default-told tree classes same) (λ standard is_standard.
     steps tree (ranges_of modes tree) _ (validators_step tree) key_rows
     (entries-told tree modes known) (λ ranges is_ranges.
-    steps tree (riders_of classes tree) _ (riders_step tree) zone_step
+    steps tree (riders_of classes tree) _ (riders_step tree) last_rows
     (keys-told tree classes same) (λ riders is_riders.
-    done (zone_of tree) _ ∙ zone-told tree))))))))
+    steps tree (zone_of tree) _ zone_step window_step (zone-told tree) (λ zone is_zone.
+    done (window_of tree) _ ∙ window-told tree)))))))))
 
 text_tells : (o : Option Members)
     → fault_in (ok_or o the_fault.Text >>= meaning_of_tree) ≡ first_fault o

@@ -23,12 +23,15 @@ use Rattle.fare_table.specs.TableMeaning.{meaning_of_tree}
 use Rattle.fare_table.specs.Transfers.{name_pair, pairs_from, places_of, transfers_from}
 use Rattle.fare_table.specs.Transfers.{transfers_of, with_pair}
 use Rattle.fare_table.specs.Validators.{range_in, range_of, ranges_from, ranges_of, with_range}
+use Rattle.fare_table.specs.Window.{window_in, window_of}
+use Rattle.fare_table.specs.WindowSpan.{span_named}
 use Rattle.fare_table.specs.Zone.{zone_in, zone_of}
 use Rattle.fare_table.specs.declared.fault.Key.{Key}
 use Rattle.fare_table.specs.declared.fault.Key.TheVariants as the_key
 use Rattle.fare_table.specs.declared.fault.TableFault.{TableFault}
 use Rattle.fare_table.specs.declared.fault.TableFault.TheVariants as the_fault
 use Rattle.fare_table.specs.declared.validators.RangeRest.{RangeRest}
+use Rattle.fare_table.specs.declared.window_span.WindowSpan.TheVariants.{Days}
 
 -- the outcome is not the text fault
 abbrev pub NotText : {A : Type 0} → OrFault A → Type 0
@@ -305,6 +308,16 @@ zone_of-text : (tree : Members) → NotText (zone_of tree)
 unfolding zone_of
 zone_of-text tree = zone_in-text (get_member (codes "zone") tree)
 
+window_in-text : (value : Option Data) → NotText (window_in value)
+window_in-text None = an_ok (Days 7)
+window_in-text (Some value) =
+    steps (of_kind the_key.Window (as_str value)) _ (of_kind-text the_key.Window (as_str value))
+    (λ text. a_part (span_named text) (the_fault.Range the_key.Window) (λ is. cc))
+
+window_of-text : (tree : Members) → NotText (window_of tree)
+unfolding window_of
+window_of-text tree = window_in-text (get_member (codes "window") tree)
+
 pub rules_of-text : (tree : Members) → NotText (meaning_of_tree tree)
 unfolding meaning_of_tree
 rules_of-text tree =
@@ -315,4 +328,5 @@ rules_of-text tree =
     steps (default_of table tree) _ (default_of-text table tree) (λ standard.
     steps (ranges_of modes tree) _ (ranges_of-text modes tree) (λ ranges.
     steps (riders_of table tree) _ (riders_of-text table tree) (λ riders.
-    steps (zone_of tree) _ (zone_of-text tree) (λ zone. an_ok _))))))))
+    steps (zone_of tree) _ (zone_of-text tree) (λ zone.
+    steps (window_of tree) _ (window_of-text tree) (λ window. an_ok _)))))))))

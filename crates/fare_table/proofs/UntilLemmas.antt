@@ -1,25 +1,44 @@
--- The civil window end as a function, and that it is later than the start.
-use Rattle.std.proofs.Common.{◌≡◌, ◌∙◌, ℕ, ℤ, pos, ◌*◌, ◌<◌, ◌+ℤ◌, ◌-ℤ◌, ◌*ℤ◌, ◌≤ℤ◌, neg_ℤ, negsuc}
-use Rattle.std.proofs.Common.{Option, Some, None, refl, sym, ap, arith, w64, to_z, of_z, FitsSigned}
-use Rattle.std.specs.Int.{int_div_euclid}
-use Rattle.std.specs.Prelude.{int_div, unsigned_abs}
-use Rattle.std.proofs.lemmas.Int.{to_z-of_z}
-use Rattle.jiff.specs.Types.{Date, DateTime, TimeZone, Posix, Offset}
-use Rattle.jiff.specs.Words.{epoch_day, civil_nanos, time_nanos, nanos_of_seconds, offset_at}
-use Rattle.jiff.specs.Words.{ambiguous_at, compatible_offset, picked_instant, IsTimestampNanos}
+-- The window end as a function, and that it is later than the start.
+use Rattle.std.proofs.Common.{◌≡◌, ◌∙◌, ℕ, zero, suc, ℤ, pos, ◌+◌, ◌-◌, ◌*◌, ◌<◌, ◌≤◌, ◌+ℤ◌, ◌-ℤ◌}
+use Rattle.std.proofs.Common.{◌*ℤ◌, ◌<ℤ◌, ◌≤ℤ◌, neg_ℤ, negsuc, ◌⊎◌, Bool, true, false, Option, Some}
+use Rattle.std.proofs.Common.{None}
+use Rattle.std.proofs.Common.{refl, sym, ap, arith, cond, inl, inr, w64, FitsSigned}
+use Rattle.std.specs.Int.{int_div_euclid, int_max}
+use Rattle.std.specs.Prelude.{int_div, int_lt, unsigned_abs}
+use Rattle.std.proofs.lemmas.Bool.{cases_lt}
+use Rattle.std.proofs.lemmas.Int.{int_max_is, ints}
+use Rattle.jiff.specs.Types.{Date, DateTime, TimeZone, Posix, UTC, Offset}
+use Rattle.jiff.specs.Words.{epoch_day, civil_nanos, time_nanos, month_length, nanos_of_seconds}
+use Rattle.jiff.specs.Words.{offset_at, ambiguous_at, compatible_offset, picked_instant}
+use Rattle.jiff.specs.Words.{weekday_of, IsTimestampNanos, IsYmd}
 use Rattle.jiff.proofs.SpanFacts.{signed_arith}
 use Rattle.jiff.proofs.Family.{civil_nanos-parts, time_nanos_bound, epoch_day-civil_nanos}
+use Rattle.jiff_core.specs.Calendar.{days_from_civil, days_in_month, IsCivilDate, weekday_number}
+use Rattle.jiff_core.proofs.CalendarLemmas.{day_count-lt_month, days_from_civil-day_count}
+use Rattle.jiff_core.proofs.CalendarLemmas.{days_in_month_bounds, weekday_number-add}
+use Rattle.jiff_core.proofs.CalendarLemmas.{weekday_number_bound}
+use Rattle.jiff_core.proofs.DateLemmas.{days_from_civil-day, days_from_civil-next_month}
+use Rattle.jiff_core.proofs.DateLemmas.{days_from_civil-next_year}
 use Rattle.jiff_tz.proofs.YearLemmas.{year_of_day-date}
 use Rattle.jiff_tz.specs.PosixRule.{ambiguous_at_by, rule_nanos}
 use Rattle.jiff_tz.specs.PosixRule as rule
 use Rattle.jiff_tz.specs.Year.{year_of_day}
 use Rattle.jiff_tz.specs.declared.posix.Dst.{Dst}
 use Rattle.jiff_tz.specs.declared.posix.TimeZone.{TimeZone as PosixRule}
-use Rattle.fare_table.specs.Until.{IsCivilWindowEnd, IsWindowEnd, civil_window_end, day_at}
-use Rattle.fare_table.specs.Until.{window_end_in, midnight_instant, midnight_nanos, midnight_offset}
-use Rattle.fare_table.specs.Until.{moment_nanos, offsets_by, until}
+use Rattle.fare_table.specs.ClockView.{ClockView}
+use Rattle.fare_table.specs.Until.{IsCivilWindowEnd, IsEndDate, IsPlainWindowEnd, IsWindowEnd}
+use Rattle.fare_table.specs.Until.{IsWindowEndBy}
+use Rattle.fare_table.specs.Until.{civil_window_end, day_at, end_day, end_millis, next_month}
+use Rattle.fare_table.specs.Until.{midnight_instant, midnight_nanos, midnight_offset, moment_nanos}
+use Rattle.fare_table.specs.Until.{offsets_by, plain_window_end, until, utc_window_end}
+use Rattle.fare_table.specs.Until.{window_end_by, window_end_in}
 use Rattle.fare_table.specs.Fares.{Fares}
+use Rattle.fare_table.specs.declared.window_span.WindowSpan.{WindowSpan}
+use Rattle.fare_table.specs.declared.window_span.WindowSpan.TheVariants.{Days, CalendarDay}
+use Rattle.fare_table.specs.declared.window_span.WindowSpan.TheVariants.{CalendarWeek}
+use Rattle.fare_table.specs.declared.window_span.WindowSpan.TheVariants.{CalendarMonth}
 
+-- ---- the midnight that a zone picks, and the date that its clocks show
 offsets-date : (std : Offset) (dst : Option Dst) (dt : DateTime)
     → ambiguous_at_by std dst dt
     ≡ offsets_by std dst (year_of_day (epoch_day dt.date)) (civil_nanos dt)
@@ -53,46 +72,233 @@ whole_millis : (window_end : ℕ) (instant : ℤ) → pos (window_end * 1_000_00
     → window_end ≡ unsigned_abs (int_div instant (pos 1_000_000))
 whole_millis window_end instant same = omega (arith, signed_arith)
 
+-- the same of UTC
+picked-midnight-utc : (dt : DateTime) → time_nanos dt.time ≡ 0
+    → picked_instant UTC dt ≡ midnight_nanos (epoch_day dt.date)
+unfolding ambiguous_at
+picked-midnight-utc dt time = omega (arith, signed_arith, civil_nanos-parts dt)
+
+shown-day-utc : (start : ℕ) (dt : DateTime)
+    → civil_nanos dt ≡ moment_nanos start +ℤ nanos_of_seconds (offset_at UTC (moment_nanos start))
+    → epoch_day dt.date ≡ int_div_euclid (moment_nanos start) (pos 86_400_000_000_000)
+unfolding offset_at
+shown-day-utc start dt shows =
+    let at : civil_nanos dt ≡ moment_nanos start = omega (arith, signed_arith) in
+    epoch_day-civil_nanos dt ∙ ap (λ n. int_div_euclid n (pos 86_400_000_000_000)) at
+
+-- ---- the end date as a day number
+as_number : (z : ℤ) → pos 0 ≤ℤ z → (n : ℕ) × (z ≡ pos n)
+as_number (pos n) low = (n, refl)
+as_number (negsuc n) low = absurd (omega (arith, signed_arith))
+
+-- the next Monday
+week-is : (day later : ℤ) → weekday_number later ≡ 0 → day <ℤ later → later ≤ℤ (day +ℤ pos 7)
+    → later ≡ day +ℤ pos (7 - weekday_number day)
+week-is day later monday after near =
+    let ahead = as_number (later -ℤ day) (omega (arith, signed_arith)) in
+    let sum : later ≡ day +ℤ pos ahead.0 = omega (arith, signed_arith, ahead.1) in
+    let week = weekday_number-add day later ahead.0 sum in
+    let small = weekday_number_bound day in
+    let some : 1 ≤ ahead.0 = omega (arith, signed_arith, ahead.1) in
+    let few : ahead.0 ≤ 7 = omega (arith, signed_arith, ahead.1) in
+    let all : ahead.0 ≡ 7 - weekday_number day = omega arith in
+    sum ∙ ap (λ n. day +ℤ pos n) all
+
+-- a test of the order, and what it says
+lt_tells : (a b : ℤ)
+    → ((int_lt a b ≡ true) × (a <ℤ b)) ⊎ ((int_lt a b ≡ false) × (b ≤ℤ a))
+lt_tells a b = by (int_lt a b) refl
+  where
+    by : (t : Bool) → int_lt a b ≡ t
+        → ((int_lt a b ≡ true) × (a <ℤ b)) ⊎ ((int_lt a b ≡ false) × (b ≤ℤ a))
+    by true e = inl (e, omega (arith, ints))
+    by false e = inr (e, omega (arith, ints))
+
+-- the months that have begun are passed by, up to the one that has not
+next_month-found : (day year : ℤ) (month more found : ℕ) → month ≤ found → found < month + more
+    → ((k : ℕ) → month ≤ k → k < found → days_from_civil year k 1 ≤ℤ day)
+    → day <ℤ days_from_civil year found 1
+    → next_month day year month more ≡ days_from_civil year found 1
+next_month-found day year month zero found above below begun later = absurd (omega arith)
+next_month-found day year month (suc more) found above below begun later =
+    elim (lt_tells day (days_from_civil year month 1)) [
+      | inl before ↦
+          let same : month ≡ found = elim (cases_lt month found) [
+            | inl less ↦
+                let here = begun month (omega arith) less in absurd (omega (arith, ints, before.1))
+            | inr not_less ↦ omega arith
+          ] in
+          rw before.0 (ap (λ m. days_from_civil year m 1) same)
+      | inr after ↦
+          let other : month < found = elim (cases_lt month found) [
+            | inl less ↦ less
+            | inr not_less ↦
+                let same : month ≡ found = omega arith in
+                let at = ap (λ m. days_from_civil year m 1) same in
+                absurd (omega (arith, ints, after.1))
+          ] in
+          rw after.0 (next_month-found day year (suc month) more found (omega arith) (omega arith)
+          (λ k low high. begun k (omega arith) high) later)
+    ]
+
+-- all months that are left have begun
+next_month-none : (day year : ℤ) (month more : ℕ)
+    → ((k : ℕ) → month ≤ k → k < month + more → days_from_civil year k 1 ≤ℤ day)
+    → next_month day year month more ≡ days_from_civil (year +ℤ pos 1) 1 1
+next_month-none day year month zero begun = refl
+next_month-none day year month (suc more) begun =
+    elim (lt_tells day (days_from_civil year month 1)) [
+      | inl before ↦
+          let here = begun month (omega arith) (omega arith) in
+          absurd (omega (arith, ints, before.1))
+      | inr after ↦ rw after.0 (next_month-none day year (suc month) more (λ k low high.
+          begun k (omega arith) (omega arith)))
+    ]
+
+-- each month of the year up to the date's has begun
+begun_months : (date : Date) (k : ℕ) → 1 ≤ k → k ≤ date.month
+    → days_from_civil date.year k 1 ≤ℤ epoch_day date
+begun_months date k low high = elim (cases_lt k date.month) [
+  | inl less ↦
+      let long = days_in_month_bounds date.year k in
+      let first : IsCivilDate date.year k 1 =
+      (date.year_in, (low, omega arith), (omega arith, omega arith)) in
+      let before = day_count-lt_month date.year k 1 date.month date.day first (omega arith) less in
+      omega (arith, signed_arith, days_from_civil-day_count)
+  | inr not_less ↦
+      let same : k ≡ date.month = omega arith in
+      let at = ap (λ m. days_from_civil date.year m 1) same in
+      let days = days_from_civil-day date.year date.month 1 date.day (omega arith) (omega arith) in
+      omega (arith, signed_arith)
+]
+
+-- the last of the month is not before the date
+month_after : (date : Date) → epoch_day date
+    <ℤ (days_from_civil date.year date.month (month_length date) +ℤ pos 1)
+month_after date =
+    let days = days_from_civil-day date.year date.month date.day (month_length date) (omega arith)
+    (omega (arith, days_in_month_bounds date.year date.month)) in
+    omega (arith, signed_arith)
+
+-- the next month
+month-is : (date : Date) (later : ℤ)
+    → later ≡ days_from_civil date.year date.month (month_length date) +ℤ pos 1
+    → later ≡ next_month (epoch_day date) (year_of_day (epoch_day date)) 2 11
+month-is date later is =
+    let year : year_of_day (epoch_day date) ≡ date.year = year_of_day-date date in
+    elim (cases_lt date.month 12) [
+      | inl less ↦
+          let next = days_from_civil-next_month date.year date.month (month_length date)
+          (omega arith) refl in
+          let after : epoch_day date <ℤ days_from_civil date.year (date.month + 1) 1 =
+          omega (arith, signed_arith, month_after date) in
+          rw year (is ∙ sym next ∙ sym (next_month-found (epoch_day date) date.year 2 11
+          (date.month + 1) (omega arith) (omega arith)
+          (λ k low high. begun_months date k (omega arith) (omega arith)) after))
+      | inr not_less ↦
+          let december : date.month ≡ 12 = omega arith in
+          let next = days_from_civil-next_year date.year (date.year +ℤ pos 1)
+          (omega (arith, signed_arith, date.year_in)) refl in
+          let at : days_from_civil date.year date.month (month_length date)
+          ≡ days_from_civil date.year 12 31 = rw december refl in
+          rw year (is ∙ ap (λ d. d +ℤ pos 1) at ∙ sym next
+          ∙ sym (next_month-none (epoch_day date) date.year 2 11
+          (λ k low high. begun_months date k (omega arith) (omega arith))))
+    ]
+
+-- the end date's day number
+end_day-is : (span : WindowSpan) (date later : Date) → IsEndDate span date later
+    → epoch_day later ≡ end_day span (epoch_day date)
+end_day-is (Days count) date later is = is
+end_day-is CalendarDay date later is = is
+end_day-is CalendarWeek date later is =
+    week-is (epoch_day date) (epoch_day later) is.0 is.1 is.2
+end_day-is CalendarMonth date later is = month-is date (epoch_day later) is
+
+-- ---- the window end as a function
+-- the end is what the function gives of the instant of the midnight
+end_millis-is : (start window_end : ℕ) (picked instant : ℤ) → picked ≡ instant
+    → moment_nanos window_end ≡ int_max (moment_nanos (start + 1)) picked
+    → window_end ≡ end_millis start instant
+end_millis-is start window_end picked instant same is =
+    whole_millis window_end (int_max (moment_nanos (start + 1)) instant)
+    (is ∙ ap (λ at. int_max (moment_nanos (start + 1)) at) same)
+
 -- the civil window end is the one that the function gives
-pub civil_window_end-is : (zone : PosixRule) (start window_end : ℕ)
-    → IsCivilWindowEnd (Posix zone) start window_end
-    → window_end ≡ civil_window_end zone start
+pub civil_window_end-is : (zone : PosixRule) (span : WindowSpan) (start window_end : ℕ)
+    → IsCivilWindowEnd (Posix zone) span start window_end
+    → window_end ≡ civil_window_end zone span start
 unfolding civil_window_end
-civil_window_end-is zone start window_end is =
-    let day : epoch_day is.midnight.date ≡ day_at zone (moment_nanos start) +ℤ pos 7 =
-    is.date ∙ ap (λ d. d +ℤ pos 7) (shown-day zone start is.shown is.shows) in
-    let at : moment_nanos window_end
-    ≡ midnight_instant zone (day_at zone (moment_nanos start) +ℤ pos 7) =
-    is.at ∙ picked-midnight zone is.midnight is.time ∙ ap (λ d. midnight_instant zone d) day in
-    whole_millis window_end (midnight_instant zone (day_at zone (moment_nanos start) +ℤ pos 7)) at
+civil_window_end-is zone span start window_end is =
+    let day : epoch_day is.midnight.date ≡ end_day span (day_at zone (moment_nanos start)) =
+    end_day-is span is.shown.date is.midnight.date is.date
+    ∙ ap (λ d. end_day span d) (shown-day zone start is.shown is.shows) in
+    end_millis-is start window_end (picked_instant (Posix zone) is.midnight)
+    (midnight_instant zone (end_day span (day_at zone (moment_nanos start))))
+    (picked-midnight zone is.midnight is.time ∙ ap (λ d. midnight_instant zone d) day) is.at
 
-pub until-is : (zone : Option PosixRule) (start window_end : ℕ) → IsWindowEnd zone start window_end
-    → window_end ≡ window_end_in zone start
-until-is None start window_end is = is
-until-is (Some zone) start window_end is = civil_window_end-is zone start window_end is
+utc_window_end-is : (span : WindowSpan) (start window_end : ℕ)
+    → IsCivilWindowEnd UTC span start window_end → window_end ≡ utc_window_end span start
+unfolding utc_window_end
+utc_window_end-is span start window_end is =
+    let day : epoch_day is.midnight.date
+    ≡ end_day span (int_div_euclid (moment_nanos start) (pos 86_400_000_000_000)) =
+    end_day-is span is.shown.date is.midnight.date is.date
+    ∙ ap (λ d. end_day span d) (shown-day-utc start is.shown is.shows) in
+    end_millis-is start window_end (picked_instant UTC is.midnight)
+    (midnight_nanos (end_day span (int_div_euclid (moment_nanos start)
+    (pos 86_400_000_000_000))))
+    (picked-midnight-utc is.midnight is.time ∙ ap (λ d. midnight_nanos d) day) is.at
 
--- offsets of less than 26 hours move a midnight of the seventh day by less than six days
-week-later : (start : ℕ) (shown later : Offset) → start < 4_102_444_800_000
-    → start < unsigned_abs
-    (int_div ((int_div_euclid (moment_nanos start +ℤ nanos_of_seconds shown.seconds)
-    (pos 86_400_000_000_000) +ℤ pos 7) *ℤ pos 86_400_000_000_000 -ℤ nanos_of_seconds
-    later.seconds) (pos 1_000_000))
-week-later start shown later below = omega (arith, signed_arith, shown.in_range, later.in_range)
+pub plain_window_end-is : (span : WindowSpan) (start window_end : ℕ)
+    → IsPlainWindowEnd span start window_end → window_end ≡ plain_window_end span start
+plain_window_end-is (Days count) start window_end is = is
+plain_window_end-is CalendarDay start window_end is =
+    utc_window_end-is CalendarDay start window_end is
+plain_window_end-is CalendarWeek start window_end is =
+    utc_window_end-is CalendarWeek start window_end is
+plain_window_end-is CalendarMonth start window_end is =
+    utc_window_end-is CalendarMonth start window_end is
 
--- a window ends after it starts
-pub window_end_in-later : (zone : Option PosixRule) (start : ℕ) → start < 4_102_444_800_000
-    → start < window_end_in zone start
+window_end_by-is : (zone : Option PosixRule) (span : WindowSpan) (start window_end : ℕ)
+    → IsWindowEndBy zone span start window_end → window_end ≡ window_end_by zone span start
+window_end_by-is None span start window_end is = plain_window_end-is span start window_end is
+window_end_by-is (Some zone) span start window_end is =
+    civil_window_end-is zone span start window_end is
+
+pub until-is : (clock : ClockView) (start window_end : ℕ) → IsWindowEnd clock start window_end
+    → window_end ≡ window_end_in clock start
+until-is clock start window_end is = window_end_by-is clock.rule clock.span start window_end is
+
+-- ---- a window ends after it starts
+end_millis-later : (start : ℕ) (instant : ℤ) → start < end_millis start instant
+end_millis-later start instant =
+    omega (arith, ints, int_max_is (moment_nanos (start + 1)) instant)
+
+civil-later : (zone : PosixRule) (span : WindowSpan) (start : ℕ)
+    → start < civil_window_end zone span start
 unfolding civil_window_end
-window_end_in-later None start below = omega arith
-window_end_in-later (Some zone) start below =
-    week-later start (rule.offset_at zone (moment_nanos start))
-    (midnight_offset zone (day_at zone (moment_nanos start) +ℤ pos 7)) below
+civil-later zone span start = end_millis-later start _
 
-pub until-later : (fares : Fares) (start : ℕ) → start < 4_102_444_800_000
-    → start < until fares start
-until-later fares start below = window_end_in-later fares.zone start below
+utc-later : (span : WindowSpan) (start : ℕ) → start < utc_window_end span start
+unfolding utc_window_end
+utc-later span start = end_millis-later start _
 
--- the date that clocks show is near the start's
+plain-later : (span : WindowSpan) (start : ℕ) → start < plain_window_end span start
+plain-later (Days count) start = omega arith
+plain-later CalendarDay start = utc-later CalendarDay start
+plain-later CalendarWeek start = utc-later CalendarWeek start
+plain-later CalendarMonth start = utc-later CalendarMonth start
+
+window_end_by-later : (zone : Option PosixRule) (span : WindowSpan) (start : ℕ)
+    → start < window_end_by zone span start
+window_end_by-later None span start = plain-later span start
+window_end_by-later (Some zone) span start = civil-later zone span start
+
+pub until-later : (fares : Fares) (start : ℕ) → start < until fares start
+until-later fares start = window_end_by-later fares.zone.rule fares.zone.span start
+
+-- ---- the date that clocks show is near the start's
 pub shown_low : (start : ℕ) (offset : Offset) (instant : ℤ) (dt : DateTime)
     → instant ≡ moment_nanos start → civil_nanos dt ≡ instant +ℤ nanos_of_seconds offset.seconds
     → neg_ℤ (pos 10) ≤ℤ epoch_day dt.date
@@ -105,91 +311,131 @@ pub shown_high : (start : ℕ) (offset : Offset) (instant : ℤ) (dt : DateTime)
 shown_high start offset instant dt below at shows =
     omega (arith, signed_arith, civil_nanos-parts dt, time_nanos_bound dt.time, offset.in_range)
 
--- the midnight of the seventh day is a whole number of milliseconds, later than the start and far
--- from the end of a word
-pub record IsWholeWindowEnd (start : ℕ) (instant : ℤ) : Type 0 where
-  pub millis : ℕ
-  pub whole : instant ≡ pos (millis * 1_000_000)
-  pub later : start < millis
-  pub small : millis < 5_000_000_000_000
+-- ---- the midnight is a whole number of milliseconds, near enough to be an instant
+pub record IsWholeInstant (instant millis : ℤ) : Type 0 where
+  pub whole : instant ≡ millis *ℤ pos 1_000_000
+  pub low : neg_ℤ (pos 5_000_000_000_000) ≤ℤ millis
+  pub high : millis ≤ℤ pos 5_000_000_000_000
 
-as_number : (z : ℤ) → pos 0 ≤ℤ z → (n : ℕ) × (z ≡ pos n)
-as_number (pos n) low = (n, refl)
-as_number (negsuc n) low = absurd (omega (arith, signed_arith))
+abbrev pub midnight_millis : TimeZone → DateTime → ℤ
+midnight_millis zone midnight =
+    epoch_day midnight.date *ℤ pos 86_400_000
+    -ℤ (compatible_offset (ambiguous_at zone midnight)).seconds *ℤ pos 1_000
 
-pub whole_window_end : (start : ℕ) (shown offset : Offset) (instant : ℤ) (dt midnight : DateTime)
-    → start < 4_102_444_800_000 → instant ≡ moment_nanos start
-    → civil_nanos dt ≡ instant +ℤ nanos_of_seconds shown.seconds
-    → epoch_day midnight.date ≡ epoch_day dt.date +ℤ pos 7 → time_nanos midnight.time ≡ 0
-    → IsWholeWindowEnd start (civil_nanos midnight -ℤ nanos_of_seconds offset.seconds)
-whole_window_end start shown offset instant dt midnight below at shows date time =
-    let z : ℤ = epoch_day midnight.date *ℤ pos 86_400_000 -ℤ offset.seconds *ℤ pos 1_000 in
-    let low : pos 0 ≤ℤ (epoch_day midnight.date *ℤ pos 86_400_000 -ℤ offset.seconds *ℤ pos 1_000) =
-    omega (
-      arith,
-      signed_arith,
-      civil_nanos-parts dt,
-      time_nanos_bound dt.time,
-      shown.in_range,
-      offset.in_range,
-    ) in
-    let n = as_number z low in
-    let same : epoch_day midnight.date *ℤ pos 86_400_000 -ℤ offset.seconds *ℤ pos 1_000 ≡ pos n.0 =
-    n.1 in
+whole_midnight : (zone : TimeZone) (midnight : DateTime)
+    → neg_ℤ (pos 10) ≤ℤ epoch_day midnight.date → epoch_day midnight.date ≤ℤ pos 50_100
+    → time_nanos midnight.time ≡ 0
+    → IsWholeInstant (picked_instant zone midnight) (midnight_millis zone midnight)
+whole_midnight zone midnight low high time =
+    let offset = compatible_offset (ambiguous_at zone midnight) in
     record {
-      millis = n.0;
-      whole = omega (arith, signed_arith, civil_nanos-parts midnight, same);
-      later = omega (
-        arith,
-        signed_arith,
-        civil_nanos-parts dt,
-        time_nanos_bound dt.time,
-        shown.in_range,
-        offset.in_range,
-        same,
-      );
-      small = omega (
-        arith,
-        signed_arith,
-        civil_nanos-parts dt,
-        time_nanos_bound dt.time,
-        shown.in_range,
-        offset.in_range,
-        same,
-      );
+      whole = omega (arith, signed_arith, civil_nanos-parts midnight);
+      low = omega (arith, signed_arith, offset.in_range);
+      high = omega (arith, signed_arith, offset.in_range);
     }
 
--- so it is an instant, and its milliseconds are that number
-pub is_instant : (start : ℕ) (instant : ℤ) → IsWholeWindowEnd start instant
-    → IsTimestampNanos instant
-is_instant start instant window_end =
-    rw window_end.whole (
-      omega (arith, signed_arith, window_end.small),
-      omega (arith, signed_arith, window_end.small),
-    )
-
-pub in_millis : (start : ℕ) (instant millis : ℤ) (window_end : IsWholeWindowEnd start instant)
-    → millis ≡ int_div instant (pos 1_000_000) → millis ≡ pos window_end.millis
-in_millis start instant millis window_end is =
-    is ∙ ap (λ n. int_div n (pos 1_000_000)) window_end.whole ∙ omega (arith, signed_arith)
-
--- the same of the midnight that a zone picks
-pub picked_window_end : (zone : TimeZone) (start : ℕ) (shown : Offset) (instant : ℤ)
+-- the same of the midnight of an end date
+pub whole_end : (zone : TimeZone) (start : ℕ) (shown : Offset) (instant : ℤ)
     (dt midnight : DateTime) (date later : Date) → start < 4_102_444_800_000
     → instant ≡ moment_nanos start
     → civil_nanos dt ≡ instant +ℤ nanos_of_seconds shown.seconds → date ≡ dt.date
-    → epoch_day later ≡ epoch_day date +ℤ pos 7 → (midnight.date ≡ later)
-    × (time_nanos midnight.time ≡ 0)
-    → IsWholeWindowEnd start (picked_instant zone midnight)
-picked_window_end zone start shown instant dt midnight date later below at shows is seven
-    is_midnight =
-    whole_window_end start shown (compatible_offset (ambiguous_at zone midnight)) instant dt
-    midnight
-    below at shows
-    (ap epoch_day is_midnight.0 ∙ seven ∙ ap (λ d. epoch_day d +ℤ pos 7) is) is_midnight.1
+    → epoch_day date <ℤ epoch_day later → epoch_day later ≤ℤ (epoch_day date +ℤ pos 31)
+    → (midnight.date ≡ later) × (time_nanos midnight.time ≡ 0)
+    → IsWholeInstant (picked_instant zone midnight) (midnight_millis zone midnight)
+whole_end zone start shown instant dt midnight date later below at shows is after near is_midnight =
+    let low = shown_low start shown instant dt at shows in
+    let high = shown_high start shown instant dt below at shows in
+    let same : epoch_day date ≡ epoch_day dt.date = ap epoch_day is in
+    let day : epoch_day midnight.date ≡ epoch_day later = ap epoch_day is_midnight.0 in
+    whole_midnight zone midnight (omega (arith, signed_arith)) (omega (arith, signed_arith))
+    is_midnight.1
 
--- a cast to an unsigned number of 64 bits keeps it
-pub cast_back : (z : ℤ) (n : ℕ) → z ≡ pos n → n < 5_000_000_000_000 → to_z w64 (of_z w64 z) ≡ pos n
-cast_back z n is small =
-    let fits : FitsSigned w64 (pos n) = omega (arith, signed_arith) in
-    rw is (to_z-of_z w64 (pos n) fits)
+-- so it is an instant, and its milliseconds are that number
+pub is_instant : (instant millis : ℤ) → IsWholeInstant instant millis → IsTimestampNanos instant
+is_instant instant millis is = (
+  omega (arith, signed_arith, is.whole, is.low),
+  omega (arith, signed_arith, is.whole, is.high),
+)
+
+pub in_millis : (instant millis shown : ℤ) → IsWholeInstant instant millis
+    → shown ≡ int_div instant (pos 1_000_000) → shown ≡ millis
+in_millis instant millis shown whole is = omega (arith, ints, whole.whole)
+
+pub fits_word : (instant millis shown : ℤ) → IsWholeInstant instant millis → shown ≡ millis
+    → FitsSigned w64 shown
+fits_word instant millis shown whole same = omega (arith, signed_arith, whole.low, whole.high)
+
+-- the later of both in milliseconds is the later of both in nanoseconds
+pub later_nanos : (start window_end : ℕ) (millis shown instant : ℤ) → shown ≡ millis
+    → instant ≡ millis *ℤ pos 1_000_000 → pos window_end ≡ int_max (pos (start + 1)) shown
+    → moment_nanos window_end ≡ int_max (moment_nanos (start + 1)) instant
+later_nanos start window_end millis shown instant same whole is =
+    let small = int_max_is (pos (start + 1)) shown in
+    let large = int_max_is (moment_nanos (start + 1)) instant in
+    omega (arith, ints)
+
+pub after_start : (start window_end : ℕ) (shown : ℤ)
+    → pos window_end ≡ int_max (pos (start + 1)) shown → start < window_end
+after_start start window_end shown is =
+    let later = int_max_is (pos (start + 1)) shown in omega (arith, ints)
+
+-- ---- end dates
+-- the last of a month is on the date or up to 30 days after it
+pub record IsMonthEnd (date : Date) (last : ℤ) : Type 0 where
+  pub not_before : epoch_day date ≤ℤ last
+  pub near : last ≤ℤ (epoch_day date +ℤ pos 30)
+
+pub month_end : (date last : Date)
+    → IsYmd date.year (pos date.month) (pos (month_length date)) last
+    → IsMonthEnd date (epoch_day last)
+month_end date last is =
+    let month : last.month ≡ date.month = cc in
+    let day : last.day ≡ month_length date = cc in
+    let same : epoch_day last ≡ days_from_civil date.year date.month (month_length date) =
+    rw (is.0, month, day) refl in
+    let long = days_in_month_bounds date.year date.month in
+    let days = days_from_civil-day date.year date.month date.day (month_length date) (omega arith)
+    (omega arith) in
+    record {
+      not_before = omega (arith, signed_arith, same);
+      near = omega (arith, signed_arith, same);
+    }
+
+pub week_end : (day later offset : ℤ) (weekday : ℕ) → weekday ≡ weekday_number day
+    → offset ≡ pos weekday → later ≡ day +ℤ (pos 7 -ℤ offset) → weekday_number later ≡ 0
+week_end day later offset weekday same shown sum =
+    let small = weekday_number_bound day in
+    let ahead : later ≡ day +ℤ pos (7 - weekday) = omega (arith, signed_arith) in
+    let week = weekday_number-add day later (7 - weekday) ahead in
+    omega arith
+
+-- ---- long windows
+-- offsets of less than 26 hours move a midnight by less than three days
+long_end : (start count : ℕ) (shown later : Offset) (day instant : ℤ) → 4 ≤ count
+    → day ≡ int_div_euclid (moment_nanos start +ℤ nanos_of_seconds shown.seconds)
+    (pos 86_400_000_000_000)
+    → instant ≡ (day +ℤ pos count) *ℤ pos 86_400_000_000_000 -ℤ nanos_of_seconds later.seconds
+    → moment_nanos (end_millis start instant) ≡ instant
+long_end start count shown later day instant long is at =
+    let below : moment_nanos (start + 1) ≤ℤ instant =
+    omega (arith, signed_arith, shown.in_range, later.in_range, is, at) in
+    let most = int_max_is (moment_nanos (start + 1)) instant in
+    let same : int_max (moment_nanos (start + 1)) instant ≡ instant = omega (arith, ints) in
+    let millis = as_number ((day +ℤ pos count) *ℤ pos 86_400_000 -ℤ later.seconds *ℤ pos 1_000)
+    (omega (arith, signed_arith, below, at)) in
+    let whole : instant ≡ pos (millis.0 * 1_000_000) =
+    omega (arith, signed_arith, at, millis.1) in
+    let end : end_millis start instant ≡ millis.0 =
+    ap (λ z. unsigned_abs (int_div z (pos 1_000_000))) (same ∙ whole)
+    ∙ sym (whole_millis millis.0 (pos (millis.0 * 1_000_000)) refl) in
+    ap moment_nanos end ∙ sym whole
+
+pub long-is : (zone : PosixRule) (count start : ℕ) → 4 ≤ count
+    → moment_nanos (civil_window_end zone (Days count) start)
+    ≡ midnight_instant zone (day_at zone (moment_nanos start) +ℤ pos count)
+unfolding civil_window_end
+long-is zone count start long =
+    long_end start count (rule.offset_at zone (moment_nanos start))
+    (midnight_offset zone (day_at zone (moment_nanos start) +ℤ pos count))
+    (day_at zone (moment_nanos start))
+    (midnight_instant zone (day_at zone (moment_nanos start) +ℤ pos count)) long refl refl

@@ -5,7 +5,7 @@ use Rattle.std.specs.Cmp.Lexicographic.{slice_cmp}
 use Rattle.std.specs.List.{find}
 use Rattle.std.specs.Map.{lookup}
 use Rattle.std.specs.Ordering.{nat_cmp, is_eq}
-use Rattle.jiff_tz.specs.declared.posix.TimeZone.{TimeZone as PosixRule}
+use Rattle.fare_table.specs.ClockView.{ClockView}
 use Rattle.fare_table.specs.TableMeaning.{TableMeaning}
 use Rattle.fare_table.specs.Transfers.{has_pair}
 use Rattle.fare_table.specs.declared.class.Class.{Class}
@@ -13,10 +13,11 @@ use Rattle.fare_table.specs.declared.terms.Terms.{Terms}
 use Rattle.fare_table.specs.declared.transfer_terms.TransferTerms.{TransferTerms}
 use Rattle.fare_table.specs.declared.validators.RangeRest.{RangeRest}
 
--- what the table's text means, and the zone's rule that the zone's text reads as
+-- what the table's text means, and what its clocks go by: how long windows are, and the rule that the
+-- zone's text reads as
 pub record Fares : Type 0 where
   pub meaning : TableMeaning
-  pub zone : Option PosixRule
+  pub zone : ClockView
 
 -- the range has this validator
 abbrev pub has_number : ℕ → ℕ × RangeRest → Bool

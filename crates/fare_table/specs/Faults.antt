@@ -16,6 +16,7 @@ use Rattle.fare_table.specs.Classes.{is_empty}
 use Rattle.fare_table.specs.Members.{are_tables, hold_numbers, hold_strings, hold_tables}
 use Rattle.fare_table.specs.Modes.{are_mode_names, same_name}
 use Rattle.fare_table.specs.Transfers.{name_pair}
+use Rattle.fare_table.specs.WindowSpan.{span_named}
 use Rattle.fare_table.specs.declared.fault.Key.{Key}
 use Rattle.fare_table.specs.declared.fault.Key.TheVariants as the_key
 use Rattle.fare_table.specs.declared.fault.TableFault.{TableFault}
@@ -57,6 +58,7 @@ key_word the_key.Last = codes "last"
 key_word the_key.ModeName = codes "mode"
 key_word the_key.Riders = codes "riders"
 key_word the_key.Zone = codes "zone"
+key_word the_key.Window = codes "window"
 
 -- the items of a value, where it is an array
 abbrev pub items_of : Option Data → Items
@@ -157,6 +159,7 @@ is_kind the_key.Last value = is_some (as_integer value)
 is_kind the_key.ModeName value = is_some (as_str value)
 is_kind the_key.Riders value = holds_of_some hold_strings (as_table value)
 is_kind the_key.Zone value = is_some (as_str value)
+is_kind the_key.Window value = is_some (as_str value)
 
 -- the value is a number from the one limit to the other
 abbrev pub is_from : ℕ → ℕ → Data → Bool
@@ -184,6 +187,8 @@ is_in_bounds the_key.Last beside value =
 is_in_bounds the_key.ModeName beside value = true
 is_in_bounds the_key.Riders beside value = true
 is_in_bounds the_key.Zone beside value = true
+is_in_bounds the_key.Window beside value =
+    holds_of_some (λ text. is_some (span_named text)) (as_str value)
 
 -- one of the names is this one
 abbrev pub is_mode : List (List ℕ) → List ℕ → Bool
@@ -379,12 +384,16 @@ riders_step tree = a_row top (Kind the_key.Riders) ∷ rider_rows 0 (riders_in t
 abbrev pub zone_step : List FaultRow
 zone_step = a_row top (Kind the_key.Zone) ∷ a_row top Zone ∷ []
 
+-- the step `window`
+abbrev pub window_step : List FaultRow
+window_step = optional_rows top the_key.Window
+
 -- all rows, step by step: `modes` first
 abbrev pub rows : Members → List FaultRow
 rows tree =
     needed_rows top the_key.Modes
     ++ (transfers_step ++ (classes_step tree
-    ++ (default_step ++ (validators_step tree ++ (riders_step tree ++ zone_step)))))
+    ++ (default_step ++ (validators_step tree ++ (riders_step tree ++ (zone_step ++ window_step))))))
 
 -- the fault of the first row that holds, if one does
 abbrev pub first_row : Members → List FaultRow → Option TableFault

@@ -5,7 +5,8 @@ use Rattle.fare_table.specs.declared.fault.Key.TheVariants.{Modes, Transfers, Cl
 use Rattle.fare_table.specs.declared.fault.Key.TheVariants.{Ceiling, Fares, RideTransfers}
 use Rattle.fare_table.specs.declared.fault.Key.TheVariants.{TransferMinutes, DefaultClass}
 use Rattle.fare_table.specs.declared.fault.Key.TheVariants.{Validators}
-use Rattle.fare_table.specs.declared.fault.Key.TheVariants.{First, Last, ModeName, Riders, Zone}
+use Rattle.fare_table.specs.declared.fault.Key.TheVariants.{First, Last, ModeName, Riders, Window}
+use Rattle.fare_table.specs.declared.fault.Key.TheVariants.{Zone}
 
 -- the bytes of the variant's name
 abbrev pub key_name : Key → List ℕ
@@ -25,3 +26,4 @@ key_name Last = codes "Last"
 key_name ModeName = codes "ModeName"
 key_name Riders = codes "Riders"
 key_name Zone = codes "Zone"
+key_name Window = codes "Window"

@@ -1,5 +1,6 @@
 pub mod ByteOrder
 pub mod Classes
+pub mod ClockView
 pub mod Fares
 pub mod Faults
 pub mod Key
@@ -17,5 +18,7 @@ pub mod TextRanges
 pub mod Transfers
 pub mod Until
 pub mod Validators
+pub mod Window
+pub mod WindowSpan
 pub mod Zone
 pub mod inside

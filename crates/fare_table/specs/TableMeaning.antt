@@ -9,14 +9,17 @@ use Rattle.fare_table.specs.OrFault.{OrFault, ◌>>=◌}
 use Rattle.fare_table.specs.Riders.{riders_of}
 use Rattle.fare_table.specs.Transfers.{transfers_of}
 use Rattle.fare_table.specs.Validators.{ranges_of}
+use Rattle.fare_table.specs.Window.{window_of}
 use Rattle.fare_table.specs.Zone.{zone_of}
 use Rattle.fare_table.specs.declared.fault.TableFault.TheVariants.{Text}
 use Rattle.fare_table.specs.declared.class.Class.{Class}
 use Rattle.fare_table.specs.declared.validators.RangeRest.{RangeRest}
+use Rattle.fare_table.specs.declared.window_span.WindowSpan.{WindowSpan}
 
 -- the modes' names by their places, the pairs of places with a transfer, each once, the classes by
 -- their places, the place of the default class, the ranges of validators by their first numbers,
--- rising, the places of the riders' classes by their tokens, rising, and the text of the zone
+-- rising, the places of the riders' classes by their tokens, rising, the text of the zone, and how long
+-- windows are
 pub record TableMeaning : Type 0 where
   pub modes : List (List ℕ)
   pub transfers : List (ℕ × ℕ)
@@ -25,6 +28,7 @@ pub record TableMeaning : Type 0 where
   pub ranges : List (ℕ × RangeRest)
   pub riders : List (List ℕ × ℕ)
   pub zone : Option (List ℕ)
+  pub window : WindowSpan
 
 -- the meaning of a table's tree, or the fault of the first key that has one
 unfoldable pub meaning_of_tree : Members → OrFault TableMeaning
@@ -37,6 +41,7 @@ meaning_of_tree tree = do
   ranges ← ranges_of modes tree
   riders ← riders_of table tree
   zone ← zone_of tree
+  window ← window_of tree
   Ok (record {
     modes = modes;
     transfers = transfers;
@@ -45,6 +50,7 @@ meaning_of_tree tree = do
     ranges = ranges;
     riders = riders;
     zone = zone;
+    window = window;
   })
 
 -- the meaning of a table's text, or the first fault that keeps it from having one

@@ -1,16 +1,23 @@
 -- Where a window ends that starts at a moment.
-use Rattle.std.specs.Prelude.{◌≡◌, ℕ, ℤ, pos, ◌+◌, ◌*◌, ◌+ℤ◌, ◌-ℤ◌, ◌*ℤ◌, unsigned_abs, int_div}
-use Rattle.std.specs.Prelude.{Option, Some, None}
-use Rattle.std.specs.Int.{int_div_euclid}
-use Rattle.jiff.specs.Types.{DateTime, TimeZone, Posix, Offset, AmbiguousOffset, Unambiguous}
+use Rattle.std.specs.Prelude.{◌≡◌, ℕ, zero, suc, ℤ, pos, ◌+◌, ◌-◌, ◌*◌, ◌+ℤ◌, ◌-ℤ◌, ◌*ℤ◌, ◌<ℤ◌}
+use Rattle.std.specs.Prelude.{◌≤ℤ◌, unsigned_abs, int_div, int_lt, max, Option, Some, None}
+use Rattle.std.specs.Prelude.{if◌then◌else◌}
+use Rattle.std.specs.Int.{int_div_euclid, int_max}
+use Rattle.jiff.specs.Types.{Date, DateTime, TimeZone, Posix, UTC, Offset, AmbiguousOffset}
+use Rattle.jiff.specs.Types.{Unambiguous}
 use Rattle.jiff.specs.Words.{epoch_day, civil_nanos, time_nanos, nanos_of_seconds, offset_at}
-use Rattle.jiff.specs.Words.{compatible_offset, picked_instant}
+use Rattle.jiff.specs.Words.{compatible_offset, month_length, picked_instant, weekday_of}
+use Rattle.jiff_core.specs.Calendar.{days_from_civil, weekday_number}
 use Rattle.jiff_tz.specs.PosixRule.{ambiguous_by, nanos_per_day, rule_nanos}
 use Rattle.jiff_tz.specs.PosixRule as rule
 use Rattle.jiff_tz.specs.Year.{year_of_day}
 use Rattle.jiff_tz.specs.declared.posix.Dst.{Dst}
 use Rattle.jiff_tz.specs.declared.posix.TimeZone.{TimeZone as PosixRule}
+use Rattle.fare_table.specs.ClockView.{ClockView}
 use Rattle.fare_table.specs.Fares.{Fares}
+use Rattle.fare_table.specs.declared.window_span.WindowSpan.{WindowSpan}
+use Rattle.fare_table.specs.declared.window_span.WindowSpan.TheVariants.{Days, CalendarDay}
+use Rattle.fare_table.specs.declared.window_span.WindowSpan.TheVariants.{CalendarWeek, CalendarMonth}
 
 -- the moment in nanoseconds since 1970-01-01T00:00Z
 abbrev pub moment_nanos : ℕ → ℤ
@@ -20,22 +27,73 @@ moment_nanos moment = pos (moment * 1_000_000)
 abbrev pub seconds_ahead : PosixRule → ℕ → ℤ
 seconds_ahead zone moment = offset_at (Posix zone) (moment_nanos moment)
 
--- The window ends at 00:00 of the seventh civil date after the date that clocks of the zone show at
--- the start. Where that midnight is skipped it takes the offset before the gap, where it comes
+-- The date at whose 00:00 a window ends that starts on the date that is shown: the Nth after it, the
+-- next one, the next Monday, or the one after the last of its month.
+abbrev pub IsEndDate : WindowSpan → Date → Date → Type 0
+IsEndDate (Days count) shown later = epoch_day later ≡ epoch_day shown +ℤ pos count
+IsEndDate CalendarDay shown later = epoch_day later ≡ epoch_day shown +ℤ pos 1
+IsEndDate CalendarWeek shown later =
+    (weekday_of later ≡ 0) × (epoch_day shown <ℤ epoch_day later)
+    × (epoch_day later ≤ℤ (epoch_day shown +ℤ pos 7))
+IsEndDate CalendarMonth shown later =
+    epoch_day later ≡ days_from_civil shown.year shown.month (month_length shown) +ℤ pos 1
+
+-- The window ends at 00:00 of its end date by the clocks of the zone, and at least a millisecond
+-- after its start. Where that midnight is skipped it takes the offset before the gap, where it comes
 -- twice it is the earlier one.
-pub record IsCivilWindowEnd (zone : TimeZone) (start window_end : ℕ) : Type 0 where
+pub record IsCivilWindowEnd (zone : TimeZone) (span : WindowSpan) (start window_end : ℕ)
+    : Type 0 where
   pub shown : DateTime
   pub shows : civil_nanos shown
       ≡ moment_nanos start +ℤ nanos_of_seconds (offset_at zone (moment_nanos start))
   pub midnight : DateTime
-  pub date : epoch_day midnight.date ≡ epoch_day shown.date +ℤ pos 7
+  pub date : IsEndDate span shown.date midnight.date
   pub time : time_nanos midnight.time ≡ 0
-  pub at : moment_nanos window_end ≡ picked_instant zone midnight
+  pub at : moment_nanos window_end
+      ≡ int_max (moment_nanos (start + 1)) (picked_instant zone midnight)
 
--- the end of a window: seven days after its start, or the civil one in the zone
-abbrev pub IsWindowEnd : Option PosixRule → ℕ → ℕ → Type 0
-IsWindowEnd None start window_end = window_end ≡ start + 604_800_000
-IsWindowEnd (Some zone) start window_end = IsCivilWindowEnd (Posix zone) start window_end
+-- a day in milliseconds
+abbrev pub day_millis : ℕ
+day_millis = 86_400_000
+
+-- the end of a window of a table without a zone: so many days of 24 hours after its start, or a
+-- midnight of UTC
+abbrev pub IsPlainWindowEnd : WindowSpan → ℕ → ℕ → Type 0
+IsPlainWindowEnd (Days count) start window_end =
+    window_end ≡ start + max 1 (count * day_millis)
+IsPlainWindowEnd CalendarDay start window_end = IsCivilWindowEnd UTC CalendarDay start window_end
+IsPlainWindowEnd CalendarWeek start window_end = IsCivilWindowEnd UTC CalendarWeek start window_end
+IsPlainWindowEnd CalendarMonth start window_end = IsCivilWindowEnd UTC CalendarMonth start window_end
+
+-- the end of a window, in the zone or without one
+abbrev pub IsWindowEndBy : Option PosixRule → WindowSpan → ℕ → ℕ → Type 0
+IsWindowEndBy None span start window_end = IsPlainWindowEnd span start window_end
+IsWindowEndBy (Some zone) span start window_end = IsCivilWindowEnd (Posix zone) span start window_end
+
+-- the end of a window by a clock
+abbrev pub IsWindowEnd : ClockView → ℕ → ℕ → Type 0
+IsWindowEnd clock start window_end = IsWindowEndBy clock.rule clock.span start window_end
+
+-- ---- the same as a function of the start
+-- the day on which the next month begins: the first of the months of the year, from this one on,
+-- that begins after the day, else the next year
+abbrev pub next_month : ℤ → ℤ → ℕ → ℕ → ℤ
+next_month day year month zero = days_from_civil (year +ℤ pos 1) 1 1
+next_month day year month (suc more) =
+    if int_lt day (days_from_civil year month 1) then days_from_civil year month 1
+    else next_month day year (suc month) more
+
+-- the day at whose 00:00 a window ends that starts on this day
+abbrev pub end_day : WindowSpan → ℤ → ℤ
+end_day (Days count) day = day +ℤ pos count
+end_day CalendarDay day = day +ℤ pos 1
+end_day CalendarWeek day = day +ℤ pos (7 - weekday_number day)
+end_day CalendarMonth day = next_month day (year_of_day day) 2 11
+
+-- the milliseconds of the instant, and at least one after the start
+abbrev pub end_millis : ℕ → ℤ → ℕ
+end_millis start instant =
+    unsigned_abs (int_div (int_max (moment_nanos (start + 1)) instant) (pos 1_000_000))
 
 -- the first nanosecond of a day on a civil clock
 abbrev pub midnight_nanos : ℤ → ℤ
@@ -62,16 +120,32 @@ abbrev pub day_at : PosixRule → ℤ → ℤ
 day_at zone instant =
     int_div_euclid (instant +ℤ nanos_of_seconds (rule.offset_at zone instant).seconds) nanos_per_day
 
--- the milliseconds of the midnight of the seventh day after the start's day
-unfoldable pub civil_window_end : PosixRule → ℕ → ℕ
-civil_window_end zone start =
-    unsigned_abs (int_div (midnight_instant zone (day_at zone (moment_nanos start) +ℤ pos 7))
-    (pos 1_000_000))
+-- the milliseconds of the midnight of the end day in the zone
+unfoldable pub civil_window_end : PosixRule → WindowSpan → ℕ → ℕ
+civil_window_end zone span start =
+    end_millis start (midnight_instant zone (end_day span (day_at zone (moment_nanos start))))
 
--- the end of a window that starts at the moment
-abbrev pub window_end_in : Option PosixRule → ℕ → ℕ
-window_end_in None start = start + 604_800_000
-window_end_in (Some zone) start = civil_window_end zone start
+-- the milliseconds of the midnight of the end day in UTC
+unfoldable pub utc_window_end : WindowSpan → ℕ → ℕ
+utc_window_end span start =
+    end_millis start
+    (midnight_nanos (end_day span (int_div_euclid (moment_nanos start) nanos_per_day)))
+
+-- the end of a window of a table without a zone
+abbrev pub plain_window_end : WindowSpan → ℕ → ℕ
+plain_window_end (Days count) start = start + max 1 (count * day_millis)
+plain_window_end CalendarDay start = utc_window_end CalendarDay start
+plain_window_end CalendarWeek start = utc_window_end CalendarWeek start
+plain_window_end CalendarMonth start = utc_window_end CalendarMonth start
+
+-- the end of a window, in the zone or without one
+abbrev pub window_end_by : Option PosixRule → WindowSpan → ℕ → ℕ
+window_end_by None span start = plain_window_end span start
+window_end_by (Some zone) span start = civil_window_end zone span start
+
+-- the end of a window that starts at the moment, by a clock
+abbrev pub window_end_in : ClockView → ℕ → ℕ
+window_end_in clock start = window_end_by clock.rule clock.span start
 
 -- the end of a window that starts at the moment, under the fare table
 abbrev pub until : Fares → ℕ → ℕ

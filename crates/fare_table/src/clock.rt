@@ -1,57 +1,66 @@
 //! Where windows end.
-ghost use Rattle.std.specs.Prelude.{◌≡◌, ◌<◌, pos, ◌+ℤ◌, ◌≤ℤ◌, neg_ℤ};
+ghost use Rattle.std.specs.Prelude.{◌≡◌, ◌<◌, ◌+◌, pos, ◌+ℤ◌, ◌<ℤ◌, ◌≤ℤ◌, neg_ℤ};
+ghost use Rattle.std.specs.Int.{int_max};
 ghost use Rattle.jiff.specs.Words.{epoch_day};
 ghost use Rattle.jiff.specs.ZoneView.{plain_zone};
-ghost use Rattle.fare_table.specs.Until.{IsCivilWindowEnd, IsWindowEnd, moment_nanos};
-ghost use Rattle.fare_table.specs.Until.{window_end_in};
+ghost use Rattle.fare_table.specs.WindowSpan.{IsBoundedSpan};
+ghost use Rattle.fare_table.specs.Until.{IsCivilWindowEnd, IsEndDate, IsPlainWindowEnd};
+ghost use Rattle.fare_table.specs.Until.{moment_nanos};
 
+use crate::window_span::WindowSpan;
 use jiff::civil::{Date, DateTime};
 use jiff::tz::{Offset, TimeZone};
 use jiff::{Timestamp, ToSpan};
 use std::marker::Model;
 
-/// Seven days in milliseconds.
-const SEVEN_DAYS_MS: u64 = 604_800_000;
+/// A day in milliseconds.
+const DAY_MS: u64 = 86_400_000;
 
 /// Tells where the windows of one fare table end. A worker makes its own from the table.
 #[derive(Drop)]
 pub struct Clock {
+    /// How long windows are.
+    span: WindowSpan,
     /// The rule of the table's zone, if it names one.
     zone: Option<TimeZone<'static>>,
 }
 
 impl Model for Clock {
-    ghost use Rattle.std.specs.Prelude.{Option};
-    ghost use Rattle.jiff_tz.specs.declared.posix.TimeZone.{TimeZone as PosixRule};
+    ghost use Rattle.fare_table.specs.ClockView.{ClockView};
 
-    ghost Value = { Option PosixRule };
+    ghost Value = { ClockView };
 
     ghost use Rattle.fare_table.specs.inside.PosixRule.{HasRule, rule_of};
+    ghost use Rattle.fare_table.specs.WindowSpan.{IsBoundedSpan};
 
-    ghost view = { λ c. rule_of c.zone };
+    ghost view = { λ c. record { span = c.span; rule = rule_of c.zone } };
 
-    ghost invariant = { λ c. HasRule c.zone };
+    ghost invariant = { λ c. HasRule c.zone × IsBoundedSpan c.span };
 }
 
 impl Clock {
     ghost use Rattle.std.specs.Prelude.{◌≡◌, ◌<◌, option_map};
     ghost use Rattle.fare_table.specs.inside.PosixRule.{HasRule, rule_of};
+    ghost use Rattle.fare_table.specs.WindowSpan.{IsBoundedSpan};
     ghost use Rattle.fare_table.specs.Until.{IsWindowEnd, window_end_in, seconds_ahead};
 
-    /// A clock of this zone, or of none.
-    pub(crate) fn new(zone: Option<TimeZone<'static>>) -> Clock
-        requires { HasRule zone }
-        ensures { result ≡ rule_of zone.entry }
+    /// A clock of windows of this span, of this zone or of none.
+    pub(crate) fn new(span: WindowSpan, zone: Option<TimeZone<'static>>) -> Clock
+        requires zone { HasRule zone }
+        requires span { IsBoundedSpan span }
+        ensures { result ≡ record { span = span; rule = rule_of zone.entry } }
     {
-        Clock { zone }
+        Clock { span, zone }
     }
 
     /// The end of a window that starts at the moment, both in milliseconds since
-    /// 1970-01-01T00:00Z; the moment lies before 2100-01-01T00:00Z. It is seven days later, or,
-    /// where the table names a zone, 00:00 of the seventh civil date after the start's (the period
-    /// of seven days is the MTA's, where it ends is this project's choice). A midnight that clocks
-    /// skip takes the offset before the gap, one that comes twice is the earlier. It takes no
-    /// memory.
+    /// 1970-01-01T00:00Z; the moment lies before 2100-01-01T00:00Z. Without a zone a window of `n`
+    /// days ends `n * 24` hours later, and one of a calendar day, week or month at the next 00:00 in
+    /// UTC of a day, a Monday or the first of a month. With a zone each ends at 00:00 by its clocks,
+    /// that of `n` days on the `n`th date after the start's (that a window has seven days is the
+    /// MTA's, where it ends is this project's choice). A midnight that clocks skip takes the offset
+    /// before the gap, one that comes twice is the earlier. Each ends at least a millisecond after
+    /// its start. It takes no memory.
     #[inline]
     pub fn window_end(&self, moment: u64) -> u64
         requires { moment < 4_102_444_800_000 }
@@ -60,8 +69,8 @@ impl Clock {
         ensures after { moment < result }
     {
         match &self.zone {
-            Some(zone) => civil_window_end(zone, moment),
-            None => moment + SEVEN_DAYS_MS,
+            Some(zone) => civil_window_end(zone, self.span, moment),
+            None => plain_window_end(self.span, moment),
         }
     }
 
@@ -71,7 +80,7 @@ impl Clock {
     pub fn offset_at(&self, moment: u64) -> Option<Offset>
         requires { moment < 253_402_207_200_000 }
         ensures { option_map (λ offset. offset.seconds) result
-            ≡ option_map (λ zone. seconds_ahead zone moment) self.now }
+            ≡ option_map (λ zone. seconds_ahead zone moment) self.now.rule }
     {
         match &self.zone {
             Some(zone) => Some(zone.to_offset(instant(moment))),
@@ -80,19 +89,47 @@ impl Clock {
     }
 }
 
+/// The window end of a table without a zone.
+#[inline]
+fn plain_window_end(span: WindowSpan, moment: u64) -> u64
+    requires span { IsBoundedSpan span }
+    requires moment { moment < 4_102_444_800_000 }
+    ensures window_end { IsPlainWindowEnd span moment result }
+    ensures after { moment < result }
+{
+    match span {
+        WindowSpan::Days(count) => moment + u64::from(count) * DAY_MS,
+        calendar => civil_window_end(&TimeZone::UTC, calendar, moment),
+    }
+}
+
 /// The window end under a zone. Kept out of `window_end`, so that the few instructions of a table
 /// without a zone stand where it is called.
 #[inline(never)]
-fn civil_window_end(zone: &TimeZone<'static>, moment: u64) -> u64
-    requires { moment < 4_102_444_800_000 }
-    ensures window_end { IsCivilWindowEnd (plain_zone zone.now) moment result }
+fn civil_window_end(zone: &TimeZone<'static>, span: WindowSpan, moment: u64) -> u64
+    requires span { IsBoundedSpan span }
+    requires moment { moment < 4_102_444_800_000 }
+    ensures window_end { IsCivilWindowEnd (plain_zone zone.now) span moment result }
     ensures after { moment < result }
 {
     let start = instant(moment);
     let shown = zone.to_offset(start).to_datetime(start);
-    let midnight = DateTime::from(week_later(shown.date()));
+    let midnight = DateTime::from(end_date(span, shown.date()));
     let window_end = zone.to_timestamp(midnight).unwrap();
-    window_end.as_millisecond() as u64
+    end_after(moment, window_end.as_millisecond())
+}
+
+/// The later of an instant and of the millisecond after a moment.
+fn end_after(moment: u64, instant: i64) -> u64
+    requires { moment < 4_102_444_800_000 }
+    ensures { pos result ≡ int_max (pos (moment + 1)) instant }
+{
+    let first = moment + 1;
+    if (first as i64) < instant {
+        instant as u64
+    } else {
+        first
+    }
 }
 
 /// The moment as an instant of the zone's library.
@@ -103,11 +140,33 @@ fn instant(moment: u64) -> Timestamp
     Timestamp::from_millisecond(moment as i64).unwrap()
 }
 
-/// The seventh date after this one.
-fn week_later(date: Date) -> Date
-    requires low { neg_ℤ (pos 10) ≤ℤ epoch_day date }
-    requires high { epoch_day date ≤ℤ pos 50_000 }
-    ensures { epoch_day result ≡ epoch_day date +ℤ pos 7 }
+/// The date at whose 00:00 a window ends that starts on this one.
+fn end_date(span: WindowSpan, shown: Date) -> Date
+    requires span { IsBoundedSpan span }
+    requires low { neg_ℤ (pos 10) ≤ℤ epoch_day shown }
+    requires high { epoch_day shown ≤ℤ pos 50_000 }
+    ensures date { IsEndDate span shown result }
+    ensures after { epoch_day shown <ℤ epoch_day result }
+    ensures near { epoch_day result ≤ℤ (epoch_day shown +ℤ pos 31) }
 {
-    date.checked_add(7i64.days()).unwrap()
+    match span {
+        WindowSpan::Days(count) => days_later(shown, i64::from(count)),
+        WindowSpan::CalendarDay => days_later(shown, 1),
+        WindowSpan::CalendarWeek => {
+            let weekday = i64::from(shown.weekday().to_monday_zero_offset());
+            days_later(shown, 7 - weekday)
+        }
+        WindowSpan::CalendarMonth => days_later(shown.last_of_month(), 1),
+    }
+}
+
+/// The date so many days after this one.
+fn days_later(date: Date, days: i64) -> Date
+    requires low { neg_ℤ (pos 10) ≤ℤ epoch_day date }
+    requires high { epoch_day date ≤ℤ pos 50_100 }
+    requires some { pos 1 ≤ℤ days }
+    requires few { days ≤ℤ pos 31 }
+    ensures { epoch_day result ≡ epoch_day date +ℤ days }
+{
+    date.checked_add(days.days()).unwrap()
 }

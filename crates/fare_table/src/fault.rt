@@ -42,6 +42,8 @@ pub enum Key {
     Riders,
     /// `zone`
     Zone,
+    /// `window`
+    Window,
 }
 
 impl Key {
@@ -66,6 +68,7 @@ impl Key {
             Key::ModeName => "ModeName",
             Key::Riders => "Riders",
             Key::Zone => "Zone",
+            Key::Window => "Window",
         }
     }
 }
@@ -82,7 +85,7 @@ impl fmt::Display for Key {
 /// `transfers`, `classes` (class by class in the order of the names: `fare`, `rides`, `ceiling`,
 /// `fares` and in it key by key the mode and the number, `transfers`, `transfer_minutes`),
 /// `default_class`, `validators` (element by element: `first`, `last`, `mode`, the range),
-/// `riders` (in the order of the tokens), `zone`. Of an array or table the kind of all its elements
+/// `riders` (in the order of the tokens), `zone`, `window`. Of an array or table the kind of all its elements
 /// comes first.
 #[derive(Clone, Copy, Debug, PartialEq, Eq, Error)]
 pub enum TableFault {

@@ -1,7 +1,7 @@
 //! Laws of fare tables. Each function's contract is the law; it has nothing to do, but for
 //! `read_tells_the_first_row`, which reads.
-ghost use Rattle.std.specs.Prelude.{◌≡◌, ◌≢◌, ◌⊎◌, ◌↔◌, ℕ, ◌<◌, true, List, Err, None, Ok, Some};
-ghost use Rattle.std.specs.Prelude.{IfErr, IfOk, IsErrOf, IsUtf8, position};
+ghost use Rattle.std.specs.Prelude.{◌≡◌, ◌≢◌, ◌⊎◌, ◌↔◌, ℕ, ◌<◌, ◌≤◌, ◌+ℤ◌, pos, true, List};
+ghost use Rattle.std.specs.Prelude.{Err, None, Ok, Some, IfErr, IfOk, IsErrOf, IsUtf8, position};
 ghost use Rattle.std.specs.Cmp.Lexicographic.{slice_cmp};
 ghost use Rattle.std.specs.List.Sorted.{IsStrictlySortedBy};
 ghost use Rattle.std.specs.Map.{keys_of};
@@ -17,26 +17,36 @@ ghost use Rattle.fare_table.specs.Modes.{same_name};
 ghost use Rattle.fare_table.specs.Paying.{Gives, NamesRider, Pays, PaysOn};
 ghost use Rattle.fare_table.specs.TableMeaning.{TableMeaning, meaning_in, meaning_of_tree};
 ghost use Rattle.fare_table.specs.Transfers.{has_pair, ListsPair};
-ghost use Rattle.fare_table.specs.Until.{IsWindowEnd, until};
+ghost use Rattle.fare_table.specs.Until.{IsWindowEnd, civil_window_end, day_at, midnight_instant};
+ghost use Rattle.fare_table.specs.Until.{moment_nanos, until};
 ghost use Rattle.fare_table.specs.Validators.{stand_apart};
 ghost use Rattle.fare_table.specs.declared.fault.TableFault.{TableFault};
 ghost use Rattle.fare_table.specs.declared.terms.Terms.{Terms};
+ghost use Rattle.fare_table.specs.declared.window_span.WindowSpan.TheVariants.{Days};
+ghost use Rattle.jiff_tz.specs.declared.posix.TimeZone.{TimeZone as PosixRule};
 
 use crate::fault::TableFault;
 use crate::table::FareTable;
 use std::alloc::Global;
 
-/// A window that starts before 2100-01-01T00:00Z ends after it starts.
+/// A window ends after it starts.
 pub fn windows_end_later()
-    ensures { (fares : Fares) (start : ℕ) → start < 4_102_444_800_000
-        → start < until fares start }
+    ensures { (fares : Fares) (start : ℕ) → start < until fares start }
 {}
 
-/// A window has one end: what is seven days after its start, or the civil one in the zone, is that
+/// A window has one end: what is its days after its start, or the midnight of its end date, is that
 /// of the table.
 pub fn windows_have_one_end()
     ensures { (fares : Fares) (start window_end : ℕ) → IsWindowEnd fares.zone start window_end
         → window_end ≡ until fares start }
+{}
+
+/// In a zone a window of four days or more ends at the midnight itself, which is after its start by any
+/// zone's rule.
+pub fn long_windows_end_at_midnight()
+    ensures { (zone : PosixRule) (count start : ℕ) → 4 ≤ count
+        → moment_nanos (civil_window_end zone (Days count) start)
+        ≡ midnight_instant zone (day_at zone (moment_nanos start) +ℤ pos count) }
 {}
 
 /// A table permits a transfer from one mode to another exactly where its text lists the pair of

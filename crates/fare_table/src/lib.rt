@@ -18,6 +18,7 @@ mod terms;
 mod transfer_terms;
 mod transfers;
 mod validators;
+mod window_span;
 mod zone;
 
 pub use clock::Clock;
@@ -26,3 +27,4 @@ pub use mode::Mode;
 pub use table::FareTable;
 pub use terms::Terms;
 pub use transfer_terms::TransferTerms;
+pub use window_span::WindowSpan;

@@ -7,4 +7,5 @@ pub(crate) mod modes;
 pub(crate) mod riders;
 pub(crate) mod transfers;
 pub(crate) mod validators;
+pub(crate) mod window;
 pub(crate) mod zone;

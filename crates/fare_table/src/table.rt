@@ -10,7 +10,8 @@ ghost use Rattle.fare_table.specs.inside.OrFault.{Answers};
 ghost use Rattle.fare_table.specs.inside.PosixRule.{HasRule, rule_of};
 ghost use Rattle.fare_table.specs.declared.fault.TableFault.{TableFault};
 ghost use Rattle.fare_table.specs.TableMeaning.{meaning_in, meaning_of_tree};
-ghost use Rattle.fare_table.specs.Zone.{IsZoneOf, zone_rule, zone_text};
+ghost use Rattle.fare_table.specs.Meaning.{IsClockOf};
+ghost use Rattle.fare_table.specs.Zone.{zone_rule, zone_text};
 ghost use Rattle.fare_table.specs.Terms.{AreBoundedTerms, AreRideTerms};
 
 use crate::class::Class;
@@ -22,12 +23,14 @@ use crate::read::modes::modes_of;
 use crate::read::riders::riders_of;
 use crate::read::transfers::transfers_of;
 use crate::read::validators::ranges_of;
+use crate::read::window::window_of;
 use crate::read::zone::zone_of;
 use crate::riders::Riders;
 use crate::terms::Terms;
 use crate::transfer_terms::TransferTerms;
 use crate::transfers::Transfers;
 use crate::validators::Ranges;
+use crate::window_span::WindowSpan;
 use crate::zone::Zone;
 use jiff::tz::TimeZone;
 use std::alloc::Global;
@@ -74,15 +77,17 @@ struct TableData {
     riders: Riders,
     /// The zone, if the table names one.
     zone: Option<Zone>,
+    /// How long windows are.
+    window: WindowSpan,
 }
 
 impl FareTable {
     /// Reads a table from its TOML text. The first fault is answered, in the order in which the
-    /// keys are read: modes, transfers, classes, the default class, validators, riders, zone.
-    /// `NoMemory` is answered where a growth is refused.
+    /// keys are read: modes, transfers, classes, the default class, validators, riders, zone,
+    /// window. `NoMemory` is answered where a growth is refused.
     pub fn read(alloc: Global, text: &[u8]) -> Result<FareTable, TableFault>
         ensures ok { IfOk result (λ t. IsUtf8 text.now × (meaning_in text.now ≡ Ok t.meaning)) }
-        ensures zone { IfOk result (λ t. IsZoneOf t.meaning.zone t.zone) }
+        ensures zone { IfOk result (λ t. IsClockOf t.meaning t.zone) }
 
         // A fault is the text's first, and a text with a fault is answered by it or by want of
         // memory.
@@ -115,7 +120,7 @@ impl FareTable {
         ensures answers { IsOk result }
         ensures zone { IfOk result (λ c. c ≡ self.now.zone) }
     {
-        Ok(Clock::new(rule(&self.parts.zone)))
+        Ok(Clock::new(self.parts.window, rule(&self.parts.zone)))
     }
 
     /// An equal table, which shares this one's memory. `NoMemory` is answered where it is shared
@@ -210,7 +215,7 @@ impl FareTable {
 #[tactic(auto, unfolding(crate::specs::TableMeaning::meaning_of_tree))]
 fn table_of(alloc: Global, table: &Table) -> Result<FareTable, TableFault>
     ensures answer { Answers (λ t. t.meaning) result (meaning_of_tree (table_view table.now)) }
-    ensures zone { IfOk result (λ t. IsZoneOf t.meaning.zone t.zone) }
+    ensures zone { IfOk result (λ t. IsClockOf t.meaning t.zone) }
 {
     let modes = modes_of(alloc, table)?;
     let transfers = transfers_of(alloc, &modes, table)?;
@@ -220,6 +225,7 @@ fn table_of(alloc: Global, table: &Table) -> Result<FareTable, TableFault>
     let ranges = ranges_of(alloc, &modes, table)?;
     let riders = riders_of(alloc, members, table)?;
     let zone = zone_of(alloc, table)?;
+    let window = window_of(table)?;
     let parts = TableData {
         modes,
         transfers,
@@ -228,6 +234,7 @@ fn table_of(alloc: Global, table: &Table) -> Result<FareTable, TableFault>
         ranges,
         riders,
         zone,
+        window,
     };
     Ok(FareTable {
         parts: Arc::new(alloc, parts)?,

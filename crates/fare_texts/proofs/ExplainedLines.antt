@@ -2,10 +2,10 @@
 use Rattle.std.specs.Prelude.{codes}
 use Rattle.std.proofs.Common.{◌≡◌, ℕ, ◌+◌, ◌<◌, List, [], ◌∷◌, ◌++◌, length, get_or, take, Option}
 use Rattle.std.proofs.Common.{refl, sym, ap, subst, ◌∙◌, append_assoc, append-nil}
-use Rattle.jiff_tz.specs.declared.posix.TimeZone.{TimeZone as PosixRule}
 use Rattle.account_rule.specs.declared.no_transfer.NoTransfer.{NoTransfer}
 use Rattle.account_rule.specs.declared.reason.Reason.{Reason}
 use Rattle.account_rule.specs.declared.window.WindowView.{WindowView}
+use Rattle.fare_table.specs.ClockView.{ClockView}
 use Rattle.fare_table.specs.Fares.{Fares}
 use Rattle.shard_book.specs.declared.entry.Entry.{Entry}
 use Rattle.tap_views.specs.declared.token.Token.{Token}
@@ -63,7 +63,7 @@ next_explained fares token entries place other within text line why none is_why 
     IsExplainedLine fares entry (reason_after fares token done entry) n line) is_none
     (subst (λ (w : Reason). IsExplainedLine fares entry w none line) is_why is)))
 
-windows-push : (clocks : Option PosixRule) (windows : List WindowView) (window : WindowView)
+windows-push : (clocks : ClockView) (windows : List WindowView) (window : WindowView)
     (text line : List ℕ)
     → AreEarlierLines clocks windows text
     → IsExplainedWindow clocks (codes "earlier window ") window line
@@ -79,7 +79,7 @@ windows-push clocks (first ∷ windows) window text line (start, rest, shown, ar
 )
 
 -- the lines of the first windows, and the next one's
-pub next_window : (clocks : Option PosixRule) (windows : List WindowView) (place : ℕ)
+pub next_window : (clocks : ClockView) (windows : List WindowView) (place : ℕ)
     (other : WindowView)
     → place < length windows → (text line : List ℕ)
     → AreEarlierLines clocks (take place windows) text

@@ -9,7 +9,7 @@ use Rattle.jiff.specs.Names.{iso_datetime_text}
 use Rattle.jiff_fmt.specs.Text.{offset_text}
 use Rattle.jiff_tz.specs.declared.posix.TimeZone.{TimeZone as PosixRule}
 use Rattle.fare_table.specs.Until.{moment_nanos, seconds_ahead}
-use Rattle.fare_texts.specs.Local.{IsLocal}
+use Rattle.fare_texts.specs.Local.{IsLocalBy}
 
 pub local_of : (zone : Option PosixRule) (offset : Offset) (words clock : List ℕ) (moment : ℕ)
     (date_time : DateTime)
@@ -17,7 +17,7 @@ pub local_of : (zone : Option PosixRule) (offset : Offset) (words clock : List �
     → moment < 253_402_207_200_000
     → civil_nanos date_time ≡ moment_nanos moment +ℤ nanos_of_seconds offset.seconds
     → clock ≡ iso_datetime_text date_time ++ offset_text offset
-    → IsLocal zone words moment (words ++ clock)
+    → IsLocalBy zone words moment (words ++ clock)
 local_of None offset words clock moment date_time ahead below shows shown = cc
 local_of (Some zone) offset words clock moment date_time ahead below shows shown = record {
   civil = λ _. (

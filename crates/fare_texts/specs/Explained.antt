@@ -4,7 +4,7 @@ use Rattle.std.specs.Prelude.{◌≡◌, ℕ, List, [], ◌∷◌, ◌++◌, Opt
 use Rattle.std.specs.Prelude.{slice_get}
 use Rattle.std.specs.Fmt.{decimal}
 use Rattle.std.specs.Option.{option_to_list}
-use Rattle.jiff_tz.specs.declared.posix.TimeZone.{TimeZone as PosixRule}
+use Rattle.fare_table.specs.ClockView.{ClockView}
 use Rattle.fare_table.specs.Fares.{Fares, terms_at}
 use Rattle.fare_table.specs.declared.terms.Terms.{Terms}
 use Rattle.account_rule.specs.TokenRules.{TokenRules, rules_of}
@@ -74,7 +74,7 @@ AreExplainedAfter fares token earlier (entry ∷ entries) text =
 
 -- the words, the window as `2024-03-08T17:00:00.000Z 2024-03-15T17:00:00.000Z paid 1 cents 300`,
 -- and under a zone what clocks show at its start and at its end
-pub record IsExplainedWindow (clocks : Option PosixRule) (word : List ℕ) (window : WindowView)
+pub record IsExplainedWindow (clocks : ClockView) (word : List ℕ) (window : WindowView)
     (line : List ℕ) : Type 0 where
   pub start : List ℕ
   pub starts : IsMomentText window.start start
@@ -88,7 +88,7 @@ pub record IsExplainedWindow (clocks : Option PosixRule) (word : List ℕ) (wind
       ++ (from ++ (to ++ codes "\n"))))))
 
 -- a line for each window that is not the last
-abbrev pub AreEarlierLines : Option PosixRule → List WindowView → List ℕ → Type 0
+abbrev pub AreEarlierLines : ClockView → List WindowView → List ℕ → Type 0
 AreEarlierLines clocks [] text = text ≡ []
 AreEarlierLines clocks (window ∷ windows) text =
     (line : List ℕ) × (rest : List ℕ)
@@ -96,12 +96,12 @@ AreEarlierLines clocks (window ∷ windows) text =
     × AreEarlierLines clocks windows rest × (text ≡ line ++ rest)
 
 -- the line of the last window, or `window none`
-abbrev pub IsLastLine : Option PosixRule → Option WindowView → List ℕ → Type 0
+abbrev pub IsLastLine : ClockView → Option WindowView → List ℕ → Type 0
 IsLastLine clocks None line = line ≡ codes "window none\n"
 IsLastLine clocks (Some window) line = IsExplainedWindow clocks (codes "window ") window line
 
 -- the windows of these taps, the last one last
-pub record AreWindowLines (clocks : Option PosixRule) (rules : TokenRules) (taps : List TapIn)
+pub record AreWindowLines (clocks : ClockView) (rules : TokenRules) (taps : List TapIn)
     (text : List ℕ) : Type 0 where
   pub earlier : List ℕ
   pub of_earlier : AreEarlierLines clocks (earlier_windows rules taps) earlier

@@ -7,6 +7,7 @@ use Rattle.jiff_core.specs.Timestamp.{nanos_of_seconds}
 use Rattle.jiff.specs.Names.{iso_datetime_text}
 use Rattle.jiff_fmt.specs.Text.{offset_text}
 use Rattle.jiff_tz.specs.declared.posix.TimeZone.{TimeZone as PosixRule}
+use Rattle.fare_table.specs.ClockView.{ClockView}
 use Rattle.fare_table.specs.Until.{moment_nanos, seconds_ahead}
 
 -- `2024-03-08T12:00:00-05:00`: what the zone's clocks show at the moment, with places of a second
@@ -27,6 +28,10 @@ pub record IsLocalIn (zone : PosixRule) (words : List ℕ) (moment : ℕ) (text 
   pub past : 253_402_207_200_000 ≤ moment → text ≡ []
 
 -- the words, and what clocks show, under a zone; nothing without one
-abbrev pub IsLocal : Option PosixRule → List ℕ → ℕ → List ℕ → Type 0
-IsLocal None words moment text = text ≡ []
-IsLocal (Some zone) words moment text = IsLocalIn zone words moment text
+abbrev pub IsLocalBy : Option PosixRule → List ℕ → ℕ → List ℕ → Type 0
+IsLocalBy None words moment text = text ≡ []
+IsLocalBy (Some zone) words moment text = IsLocalIn zone words moment text
+
+-- the same of a table's clock
+abbrev pub IsLocal : ClockView → List ℕ → ℕ → List ℕ → Type 0
+IsLocal clock words moment text = IsLocalBy clock.rule words moment text

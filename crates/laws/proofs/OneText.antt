@@ -12,6 +12,7 @@ use Rattle.jiff_core.proofs.DateTimeLemmas.{civil_nanos_injective, time_nanos_in
 use Rattle.jiff.specs.Names.{iso_datetime_text}
 use Rattle.jiff_fmt.specs.Text.{fraction_part, offset_text, pad2, sign_byte, year_text}
 use Rattle.jiff_tz.specs.declared.posix.TimeZone.{TimeZone as PosixRule}
+use Rattle.fare_table.specs.ClockView.{ClockView}
 use Rattle.fare_table.specs.Fares.{Fares, terms_at}
 use Rattle.tap_views.specs.Token.{bytes_of}
 use Rattle.fare_table.specs.Until.{moment_nanos}
@@ -28,7 +29,7 @@ use Rattle.shard_book.specs.Sums.{Sums, sums, sums_of}
 use Rattle.shard_book.specs.declared.entry.Entry.{Entry}
 use Rattle.shard_book.specs.declared.statement.Statement.{Statement}
 use Rattle.fare_texts.specs.Counts.{totals_line}
-use Rattle.fare_texts.specs.Local.{IsClockText, IsLocal}
+use Rattle.fare_texts.specs.Local.{IsClockText, IsLocal, IsLocalBy}
 use Rattle.fare_texts.specs.StatementText.{AreEntryLines, IsEntryLine, IsLineOf, IsStatementText}
 use Rattle.fare_texts.specs.StatementText.{IsWindowLine, entry_words, statement_head, window_words}
 use Rattle.fare_texts.specs.LedgerLines.{AreLedgerLinesAfter, head_text, reason_after}
@@ -204,10 +205,10 @@ clock_same zone moment a b is also =
     (offset_same is.offset also.offset ahead)
     ∙ sym also.shown
 
-local_same : (zone : Option PosixRule) (words : List ℕ) (moment : ℕ) (a b : List ℕ)
-    → IsLocal zone words moment a → IsLocal zone words moment b → a ≡ b
-local_same None words moment a b is also = is ∙ sym also
-local_same (Some zone) words moment a b is also =
+local_same_by : (zone : Option PosixRule) (words : List ℕ) (moment : ℕ) (a b : List ℕ)
+    → IsLocalBy zone words moment a → IsLocalBy zone words moment b → a ≡ b
+local_same_by None words moment a b is also = is ∙ sym also
+local_same_by (Some zone) words moment a b is also =
     ⊎_elim
     (λ (below : moment < 253_402_207_200_000).
     let (clock, one, whole) = is.civil below in
@@ -215,6 +216,10 @@ local_same (Some zone) words moment a b is also =
     whole ∙ ap (λ c. words ++ c) (clock_same zone moment clock clock' one one') ∙ sym whole')
     (λ (above : 253_402_207_200_000 ≤ moment). is.past above ∙ sym (also.past above))
     (cases_lt moment 253_402_207_200_000)
+
+local_same : (clock : ClockView) (words : List ℕ) (moment : ℕ) (a b : List ℕ)
+    → IsLocal clock words moment a → IsLocal clock words moment b → a ≡ b
+local_same clock words moment a b is also = local_same_by clock.rule words moment a b is also
 
 -- ---- explained statements
 window_text_same : (start until : ℕ) (a b : List ℕ) → IsWindowText start until a
@@ -317,7 +322,7 @@ explained_after_same fares token earlier (entry ∷ entries) a b is also =
     (explained_after_same fares token (earlier ++ entry ∷ []) entries rest rest' more more')
     ∙ sym whole'
 
-explained_window_same : (clocks : Option PosixRule) (word : List ℕ) (window : WindowView)
+explained_window_same : (clocks : ClockView) (word : List ℕ) (window : WindowView)
     (a b : List ℕ) → IsExplainedWindow clocks word window a
     → IsExplainedWindow clocks word window b → a ≡ b
 explained_window_same clocks word window a b is also =
@@ -334,7 +339,7 @@ explained_window_same clocks word window a b is also =
     ++ codes "\n"))))))) (local_same clocks _ window.until is.to also.to is.to_is also.to_is)
     ∙ sym also.shown
 
-earlier_same : (clocks : Option PosixRule) (windows : List WindowView) (a b : List ℕ)
+earlier_same : (clocks : ClockView) (windows : List WindowView) (a b : List ℕ)
     → AreEarlierLines clocks windows a → AreEarlierLines clocks windows b → a ≡ b
 earlier_same clocks [] a b is also = is ∙ sym also
 earlier_same clocks (window ∷ windows) a b is also =
@@ -344,13 +349,13 @@ earlier_same clocks (window ∷ windows) a b is also =
     (explained_window_same clocks (codes "earlier window ") window line line' one one')
     (earlier_same clocks windows rest rest' more more') ∙ sym whole'
 
-last_same : (clocks : Option PosixRule) (window : Option WindowView) (a b : List ℕ)
+last_same : (clocks : ClockView) (window : Option WindowView) (a b : List ℕ)
     → IsLastLine clocks window a → IsLastLine clocks window b → a ≡ b
 last_same clocks None a b is also = is ∙ sym also
 last_same clocks (Some window) a b is also =
     explained_window_same clocks (codes "window ") window a b is also
 
-window_lines_same : (clocks : Option PosixRule) (rules : TokenRules) (taps : List TapIn)
+window_lines_same : (clocks : ClockView) (rules : TokenRules) (taps : List TapIn)
     (a b : List ℕ) → AreWindowLines clocks rules taps a → AreWindowLines clocks rules taps b
     → a ≡ b
 window_lines_same clocks rules taps a b is also =

@@ -14,7 +14,7 @@ has_meaning Top key =
     same_name key (codes "modes") || same_name key (codes "transfers")
     || same_name key (codes "classes") || same_name key (codes "default_class")
     || same_name key (codes "validators") || same_name key (codes "riders")
-    || same_name key (codes "zone")
+    || same_name key (codes "zone") || same_name key (codes "window")
 has_meaning (Class place) key =
     same_name key (codes "fare") || same_name key (codes "rides")
     || same_name key (codes "ceiling") || same_name key (codes "fares")

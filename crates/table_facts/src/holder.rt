@@ -27,6 +27,7 @@ pub(crate) fn has_meaning(holder: KeyHolder, key: &str) -> bool
                 || key == "validators"
                 || key == "riders"
                 || key == "zone"
+                || key == "window"
         }
         KeyHolder::Class(_) => {
             key == "fare"

@@ -5,6 +5,7 @@ use Rattle.fare_table.specs.Fares.{Fares}
 use Rattle.fare_table.specs.Terms.{IsBoundedClass}
 use Rattle.fare_table.specs.Zone.{zone_rule, zone_text}
 use Rattle.fare_table.specs.declared.table.TableData.{TableData}
+use Rattle.fare_table.specs.WindowSpan.{IsBoundedSpan}
 use Rattle.fare_table.specs.Validators.{are_modes_below}
 
 -- what contracts see of the parts of a table
@@ -18,15 +19,17 @@ fares_of parts = record {
     ranges = parts.ranges;
     riders = parts.riders;
     zone = zone_text parts.zone;
+    window = parts.window;
   };
-  zone = zone_rule parts.zone;
+  zone = record { span = parts.window; rule = zone_rule parts.zone };
 }
 
--- at most 32 modes, ranges of modes of the table, classes within their bounds, and places that have
--- a class
+-- at most 32 modes, ranges of modes of the table, classes and days of windows within their bounds,
+-- and places that have a class
 pub record AreSound (parts : TableData) : Type 0 where
   pub few : length parts.modes.items ≤ 32
   pub known : are_modes_below (length parts.modes.items) parts.ranges ≡ true
   pub classes : All IsBoundedClass parts.classes.items
   pub standard : parts.standard < length parts.classes.items
+  pub window : IsBoundedSpan parts.window
   pub riders : All (λ place. place < length parts.classes.items) (values_of parts.riders)

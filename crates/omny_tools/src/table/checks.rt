@@ -1,9 +1,10 @@
-//! What is wrong with the modes, the transfers, the classes and the zone of a text.
+//! What is wrong with the modes, the transfers, the classes, the zone and the window of a text.
 
 use super::paths::{item_path, key_path};
 use super::people::{check_default, check_riders};
 use super::ranges::check_ranges;
 use super::wrong::{Wrong, Wrongs};
+use fare_table::WindowSpan;
 use jiff::tz::TimeZone;
 use std::alloc::{AllocError, Global};
 use toml::value::Array;
@@ -35,6 +36,10 @@ const FARES: &str = "a table from modes to numbers from 0 to 100000, in cents";
 
 /// What `zone` has to be.
 const ZONE: &str = "a POSIX rule, as \"EST5EDT,M3.2.0,M11.1.0\", not a place";
+
+/// What `window` has to be.
+const WINDOW: &str = "\"7 days\" or another number of days from 1 to 31, \"calendar day\", \
+    \"calendar week\" or \"calendar month\"";
 
 /// The whole path of a key at the top.
 pub(super) fn top(alloc: Global, key: &str) -> Result<String, AllocError> {
@@ -360,6 +365,19 @@ fn check_zone(wrongs: &mut Wrongs, tree: &Table) -> Result<(), AllocError> {
     wrongs.value(top(wrongs.alloc, "zone")?, value, ZONE)
 }
 
+/// Looks at `window`.
+fn check_window(wrongs: &mut Wrongs, tree: &Table) -> Result<(), AllocError> {
+    let Some(value) = tree.get("window") else {
+        return Ok(());
+    };
+    if let Some(text) = value.as_str() {
+        if WindowSpan::named(text).is_some() {
+            return Ok(());
+        }
+    }
+    wrongs.value(top(wrongs.alloc, "window")?, value, WINDOW)
+}
+
 /// What is wrong with a text, key by key in the order in which its keys are read.
 pub(super) fn wrongs_of(alloc: Global, tree: &Table) -> Result<Vec<Wrong>, AllocError> {
     let mut wrongs = Wrongs::new(alloc);
@@ -370,5 +388,6 @@ pub(super) fn wrongs_of(alloc: Global, tree: &Table) -> Result<Vec<Wrong>, Alloc
     check_ranges(&mut wrongs, tree, &modes)?;
     check_riders(&mut wrongs, tree, classes)?;
     check_zone(&mut wrongs, tree)?;
+    check_window(&mut wrongs, tree)?;
     Ok(wrongs.found)
 }

@@ -5,7 +5,7 @@ use strsim::osa_distance;
 use table_facts::KeyHolder;
 
 /// The keys that have a meaning at the top of a text.
-const TOP: [&str; 7] = [
+const TOP: [&str; 8] = [
     "modes",
     "transfers",
     "classes",
@@ -13,6 +13,7 @@ const TOP: [&str; 7] = [
     "validators",
     "riders",
     "zone",
+    "window",
 ];
 
 /// The keys that have a meaning in a class.
