@@ -1,9 +1,9 @@
 -- The names of classes by their places, which rise.
-use Rattle.std.proofs.Common.{◌≡◌, ℕ, zero, suc, ◌<◌, ◌≤◌, ◌&&◌, Bool, true, false, List, []}
-use Rattle.std.proofs.Common.{◌∷◌, ◌++◌, Option, Some, None, Ok, Err, refl, sym, ap, ◌∙◌, subst, arith, length}
-use Rattle.std.proofs.Common.{get_or, map, option_map, Ordering, Less, Equal, Greater, append_assoc}
+use Rattle.std.proofs.Common.{◌≡◌, ℕ, zero, suc, ◌<◌, ◌&&◌, Bool, true, false, List, []}
+use Rattle.std.proofs.Common.{◌∷◌, ◌++◌, Some, refl, sym, ap, ◌∙◌, arith, length}
+use Rattle.std.proofs.Common.{get_or, map, Ordering, Less, Equal, Greater}
 use Rattle.std.proofs.Common.{Bor, String, Global, string_bytes}
-use Rattle.std.proofs.lemmas.Bool.{and_parts, cases_Bool, false≢true}
+use Rattle.std.proofs.lemmas.Bool.{and_parts, false≢true}
 use Rattle.std.proofs.lemmas.List.{get_or-map, length-map}
 use Rattle.std.proofs.lemmas.Map.Lookups.{exact_bytes}
 use Rattle.std.proofs.lemmas.Map.Text.{is_eq-slice_cmp}
@@ -13,7 +13,7 @@ use Rattle.std.specs.Map.{keys_of}
 use Rattle.std.specs.Ordering.{is_eq, is_lt, nat_cmp, ordering_reverse}
 use Rattle.std.specs.String.{string_cmp}
 use Rattle.toml.proofs.Views.{is_before-sorted}
-use Rattle.toml.specs.Data.{Data, Members, no_members, member, is_before}
+use Rattle.toml.specs.Data.{Members, no_members, member, is_before}
 use Rattle.toml.specs.View.{members_view}
 use Rattle.toml.specs.declared.value.Value.{Value}
 use Rattle.fare_table.proofs.PayLemmas.{is_itself}

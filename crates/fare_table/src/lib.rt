@@ -20,9 +20,11 @@ mod transfers;
 mod validators;
 mod zone;
 
+pub use class::Class;
 pub use clock::Clock;
 pub use fault::{Key, TableFault};
-pub use mode::Mode;
+pub use mode::{MAX_MODES, Mode};
 pub use table::FareTable;
 pub use terms::Terms;
 pub use transfer_terms::TransferTerms;
+pub use validators::RangeRest;

@@ -8,6 +8,7 @@ ghost use Rattle.fare_table.specs.Fares.{class_of, is_permitted, mode_at, ride_t
 ghost use Rattle.fare_table.specs.Fares.{transfer_terms};
 ghost use Rattle.fare_table.specs.inside.OrFault.{Answers};
 ghost use Rattle.fare_table.specs.inside.PosixRule.{HasRule, rule_of};
+ghost use Rattle.fare_table.specs.Riders.{by_bytes};
 ghost use Rattle.fare_table.specs.declared.fault.TableFault.{TableFault};
 ghost use Rattle.fare_table.specs.TableMeaning.{meaning_in, meaning_of_tree};
 ghost use Rattle.fare_table.specs.Zone.{IsZoneOf, zone_rule, zone_text};
@@ -17,6 +18,7 @@ use crate::class::Class;
 use crate::clock::Clock;
 use crate::fault::TableFault;
 use crate::mode::Mode;
+use crate::read::class_names::names_of;
 use crate::read::classes::{classes_from, classes_of, default_of};
 use crate::read::modes::modes_of;
 use crate::read::riders::riders_of;
@@ -27,13 +29,14 @@ use crate::riders::Riders;
 use crate::terms::Terms;
 use crate::transfer_terms::TransferTerms;
 use crate::transfers::Transfers;
-use crate::validators::Ranges;
+use crate::validators::{RangeRest, Ranges};
 use crate::zone::Zone;
 use jiff::tz::TimeZone;
 use std::alloc::Global;
+use std::collections::BTreeMap;
 use std::marker::Model;
 use std::sync::Arc;
-use tap_views::NoMemory;
+use tap_views::{NoMemory, Token};
 use toml::Table;
 
 /// An agency's fare table. Look-ups take no memory; those of validators and riders are searches by
@@ -66,6 +69,8 @@ struct TableData {
     transfers: Transfers,
     /// The classes by their places.
     classes: Vec<Class>,
+    /// The names of the classes by their places.
+    names: Vec<String>,
     /// The place of the default class.
     standard: u32,
     /// The ranges of validators and their modes.
@@ -195,6 +200,57 @@ impl FareTable {
         self.parts.classes[class as usize].transfers
     }
 
+    /// The names of the modes by their places.
+    pub fn mode_names(&self) -> &[String]
+        ensures { map string_bytes result.now ≡ self.now.meaning.modes }
+    {
+        self.parts.modes.as_slice()
+    }
+
+    /// The classes by their places.
+    pub fn classes(&self) -> &[Class]
+        ensures { result.now ≡ self.now.meaning.classes }
+    {
+        self.parts.classes.as_slice()
+    }
+
+    /// The names of the classes by their places, in their byte order.
+    pub fn class_names(&self) -> &[String]
+        ensures names { map string_bytes result.now ≡ self.now.meaning.names }
+        ensures each { length result.now ≡ length self.now.meaning.classes }
+    {
+        self.parts.names.as_slice()
+    }
+
+    /// The place of the class of all riders that have none of their own.
+    pub fn default_class(&self) -> u32
+        ensures class { result ≡ self.now.meaning.standard }
+        ensures there { result < length self.now.meaning.classes }
+    {
+        self.parts.standard
+    }
+
+    /// The ranges of validators, each by its first number, rising.
+    pub fn ranges(&self) -> &[(u32, RangeRest)]
+        ensures { result.now ≡ self.now.meaning.ranges }
+    {
+        self.parts.ranges.all()
+    }
+
+    /// The places of the classes of riders that have their own, by their tokens, rising.
+    pub fn riders(&self) -> &BTreeMap<Token, u32>
+        ensures { by_bytes result.now.entries ≡ self.now.meaning.riders }
+    {
+        self.parts.riders.all()
+    }
+
+    /// The text of the zone, if the table names one.
+    pub fn zone_text(&self) -> Option<&str>
+        ensures { option_map (λ text. text.now) result ≡ self.now.meaning.zone }
+    {
+        text_of(&self.parts.zone)
+    }
+
     /// What the rider of a token pays, in cents, on a mode of which the rider's class, else the
     /// default class, names no fare.
     pub fn terms_of(&self, token: &[u8]) -> Terms
@@ -216,6 +272,7 @@ fn table_of(alloc: Global, table: &Table) -> Result<FareTable, TableFault>
     let transfers = transfers_of(alloc, &modes, table)?;
     let members = classes_of(table)?;
     let classes = classes_from(alloc, &modes, members)?;
+    let names = names_of(alloc, members)?;
     let standard = default_of(members, table)?;
     let ranges = ranges_of(alloc, &modes, table)?;
     let riders = riders_of(alloc, members, table)?;
@@ -224,6 +281,7 @@ fn table_of(alloc: Global, table: &Table) -> Result<FareTable, TableFault>
         modes,
         transfers,
         classes,
+        names,
         standard,
         ranges,
         riders,
@@ -232,6 +290,16 @@ fn table_of(alloc: Global, table: &Table) -> Result<FareTable, TableFault>
     Ok(FareTable {
         parts: Arc::new(alloc, parts)?,
     })
+}
+
+/// The text of a zone, if there is one.
+fn text_of(zone: &Option<Zone>) -> Option<&str>
+    ensures { option_map (λ text. text.now) result ≡ zone_text zone.now }
+{
+    match zone {
+        Some(zone) => Some(zone.text.as_str()),
+        None => None,
+    }
 }
 
 /// The rule of a zone, if there is one.

@@ -14,6 +14,7 @@ fares_of parts = record {
     modes = map string_bytes parts.modes.items;
     transfers = parts.transfers;
     classes = parts.classes.items;
+    names = map string_bytes parts.names.items;
     standard = parts.standard;
     ranges = parts.ranges;
     riders = parts.riders;
@@ -22,11 +23,12 @@ fares_of parts = record {
   zone = zone_rule parts.zone;
 }
 
--- at most 32 modes, ranges of modes of the table, classes within their bounds, and places that have
--- a class
+-- at most 32 modes, ranges of modes of the table, classes within their bounds, a name of each class,
+-- and places that have a class
 pub record AreSound (parts : TableData) : Type 0 where
   pub few : length parts.modes.items ≤ 32
   pub known : are_modes_below (length parts.modes.items) parts.ranges ≡ true
   pub classes : All IsBoundedClass parts.classes.items
+  pub named : length parts.names.items ≡ length parts.classes.items
   pub standard : parts.standard < length parts.classes.items
   pub riders : All (λ place. place < length parts.classes.items) (values_of parts.riders)
