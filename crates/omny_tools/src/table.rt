@@ -36,7 +36,7 @@ use lines::lines_of;
 use places::Places;
 use std::alloc::{AllocError, Global};
 use std::io::Write;
-use table_facts::SeenValidators;
+use table_report::SeenValidators;
 use tap_views::facts_of;
 use toml::Table;
 use warnings::{Told, warnings_of};

@@ -2,7 +2,7 @@
 
 use std::alloc::{AllocError, Global};
 use strsim::osa_distance;
-use table_facts::KeyHolder;
+use table_report::KeyHolder;
 
 /// The keys that have a meaning at the top of a text.
 const TOP: [&str; 7] = [

@@ -6,7 +6,7 @@ use super::places::Places;
 use crate::names::Name;
 use fare_table::FareTable;
 use std::alloc::{AllocError, Global};
-use table_facts::{KeyHolder, SeenValidators, ignored_keys, unused_ranges};
+use table_report::{KeyHolder, SeenValidators, ignored_keys, unused_ranges};
 use toml::Table;
 
 /// A table without a fault.
