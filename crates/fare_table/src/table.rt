@@ -202,7 +202,8 @@ impl FareTable {
 
     /// The names of the modes by their places.
     pub fn mode_names(&self) -> &[String]
-        ensures { map string_bytes result.now ≡ self.now.meaning.modes }
+        ensures names { map string_bytes result.now ≡ self.now.meaning.modes }
+        ensures few { length result.now ≤ 32 }
     {
         self.parts.modes.as_slice()
     }

@@ -36,7 +36,7 @@ use lines::lines_of;
 use places::Places;
 use std::alloc::{AllocError, Global};
 use std::io::Write;
-use table_report::SeenValidators;
+use table_report::{SeenValidators, SqlFault, write_sql};
 use tap_views::facts_of;
 use toml::Table;
 use warnings::{Told, warnings_of};
@@ -55,6 +55,8 @@ pub(crate) struct Question<'a> {
     pub(crate) has_riders: bool,
     /// The moment after which changes of clocks are told; none: now.
     pub(crate) from: Option<Timestamp>,
+    /// Whether the table is written as SQL, in place of its lines.
+    pub(crate) is_sql: bool,
 }
 
 /// Writes the lines of what is wrong.
@@ -128,7 +130,22 @@ fn add_uploads<'a, E: Write>(
     Ok(is_well)
 }
 
-/// Writes the lines of a table that has no fault, and the warnings.
+/// Writes a table that has no fault as SQL.
+fn put_sql<'a, W: Write + Drop>(
+    alloc: Global,
+    name: Name<'a>,
+    fares: &FareTable,
+    out: &mut Output<W>,
+) -> Result<(), Fault<'a>> {
+    match write_sql(alloc, fares, out) {
+        Ok(()) => Ok(()),
+        Err(SqlFault::Write) => Err(out.failed()),
+        Err(SqlFault::NoMemory) => Err(Fault::NoMemory),
+        Err(SqlFault::Name) => Err(Fault::Sql(name, SqlFault::Name)),
+    }
+}
+
+/// Writes a table that has no fault, and the warnings.
 fn understood<'a, W: Write + Drop, E: Write>(
     rt: &HostRuntime,
     question: &Question<'a>,
@@ -160,8 +177,12 @@ fn understood<'a, W: Write + Drop, E: Write>(
         Some(&seen)
     };
     let (warnings, count) = warnings_of(alloc, &told, seen)?;
-    let lines = lines_of(alloc, question, tree, fares, from, count)?;
-    out.put(lines.as_str())?;
+    if question.is_sql {
+        put_sql(alloc, question.table, fares, out)?;
+    } else {
+        let lines = lines_of(alloc, question, tree, fares, from, count)?;
+        out.put(lines.as_str())?;
+    }
     let _ = err.write_all(warnings.as_bytes());
     Ok(is_well && (count == 0 || !question.is_strict))
 }

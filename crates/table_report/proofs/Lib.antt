@@ -1,2 +1,3 @@
 mod IgnoredLemmas
+mod PlaceLemmas
 mod SeenLemmas

@@ -1,3 +1,5 @@
 pub mod Ignored
 pub mod Ranges
 pub mod SeenValidators
+pub mod SqlRows
+pub mod SqlText

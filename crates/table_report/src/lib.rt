@@ -7,9 +7,11 @@ mod ignored;
 pub mod laws;
 mod ranges;
 mod seen;
+mod sql;
 mod toml_values;
 
 pub use holder::KeyHolder;
 pub use ignored::ignored_keys;
 pub use ranges::unused_ranges;
 pub use seen::SeenValidators;
+pub use sql::{SqlFault, sql_of};

@@ -1,0 +1,82 @@
+-- The statements of rows by the places of what they are of.
+use Rattle.std.proofs.Common.{◌≡◌, ◌∙◌, ◌+◌, ℕ, zero, suc, List, [], ◌∷◌, ◌++◌, ap, arith, append-nil}
+use Rattle.std.proofs.Common.{append_assoc, add-one, codes, map, sym}
+use Rattle.std.proofs.lemmas.Grind.{flat_map-append}
+use Rattle.std.proofs.lemmas.List.{map-append}
+use Rattle.std.specs.List.{flat_map, range_with_len}
+use Rattle.fare_table.specs.Fares.{Fares}
+use Rattle.fare_table.specs.Riders.{by_bytes}
+use Rattle.tap_views.specs.Token.{bytes_of}
+use Rattle.tap_views.specs.declared.token.Token.{Token}
+use Rattle.table_report.specs.SqlRows.{Field, places, rider_row}
+use Rattle.table_report.specs.SqlText.{statement, statements}
+
+range_more : (from n : ℕ) → range_with_len from (suc n) ≡ range_with_len from n ++ (from + n) ∷ []
+range_more from zero = let e : from + 0 ≡ from = omega arith in rw e
+range_more from (suc n) =
+    let e : from + 1 + n ≡ from + suc n = omega arith in
+    ap (λ l. from ∷ l) (range_more (from + 1) n ∙ rw e)
+
+places_more : (n : ℕ) → places (n + 1) ≡ places n ++ n ∷ []
+places_more n =
+    let e : 0 + n ≡ n = omega arith in
+    ap (range_with_len 0) (add-one n) ∙ range_more 0 n ∙ ap (λ k. places n ++ k ∷ []) e
+
+statements_more : (table : List ℕ) (row : ℕ → List Field) (n : ℕ)
+    → statements table (map row (places (n + 1)))
+    ≡ statements table (map row (places n)) ++ statement table (row n)
+statements_more table row n =
+    ap (λ (s : List ℕ). statements table (map row s)) (places_more n)
+    ∙ ap (statements table) (map-append row (places n) (n ∷ []))
+    ∙ flat_map-append (statement table) (map row (places n)) (row n ∷ [])
+    ∙ ap (λ (s : List ℕ). statements table (map row (places n)) ++ s)
+    (append-nil (statement table (row n)))
+
+groups_more : (table : List ℕ) (rows : ℕ → List (List Field)) (n : ℕ)
+    → statements table (flat_map rows (places (n + 1)))
+    ≡ statements table (flat_map rows (places n)) ++ statements table (rows n)
+groups_more table rows n =
+    ap (λ (s : List ℕ). statements table (flat_map rows s)) (places_more n)
+    ∙ ap (statements table) (flat_map-append rows (places n) (n ∷ []))
+    ∙ flat_map-append (statement table) (flat_map rows (places n)) (rows n ++ [])
+    ∙ ap (λ (s : List (List Field)). statements table (flat_map rows (places n)) ++ statements table s)
+    (append-nil (rows n))
+
+-- the statement of the row of one more place was appended
+pub row_put : (table : List ℕ) (row : ℕ → List Field) (old text new : List ℕ) (n : ℕ)
+    → text ≡ old ++ statements table (map row (places n))
+    → new ≡ text ++ statement table (row n)
+    → new ≡ old ++ statements table (map row (places (n + 1)))
+row_put table row old text new n so_far more =
+    more ∙ ap (λ (s : List ℕ). s ++ statement table (row n)) so_far
+    ∙ append_assoc old (statements table (map row (places n))) (statement table (row n))
+    ∙ ap (λ (s : List ℕ). old ++ s) (sym (statements_more table row n))
+
+-- the statements of the rows of one more place were appended
+pub group_put : (table : List ℕ) (rows : ℕ → List (List Field)) (old text new : List ℕ) (n : ℕ)
+    → text ≡ old ++ statements table (flat_map rows (places n))
+    → new ≡ text ++ statements table (rows n)
+    → new ≡ old ++ statements table (flat_map rows (places (n + 1)))
+group_put table rows old text new n so_far more =
+    more ∙ ap (λ (s : List ℕ). s ++ statements table (rows n)) so_far
+    ∙ append_assoc old (statements table (flat_map rows (places n))) (statements table (rows n))
+    ∙ ap (λ (s : List ℕ). old ++ s) (sym (groups_more table rows n))
+
+-- one text was appended, and then another
+pub chain : (old mid new a rest : List ℕ) → mid ≡ old ++ a → new ≡ mid ++ rest
+    → new ≡ old ++ (a ++ rest)
+chain old mid new a rest one more = more ∙ ap (λ (s : List ℕ). s ++ rest) one ∙ append_assoc old a rest
+
+-- the statement of the next rider was appended
+pub rider_put : (fares : Fares) (whole text new : List ℕ) (one : Token × ℕ)
+    (left rest : List (Token × ℕ))
+    → whole ≡ text ++ statements (codes "riders") (map (rider_row fares) (by_bytes rest))
+    → rest ≡ one ∷ left
+    → new ≡ text ++ statement (codes "riders") (rider_row fares (bytes_of one.0, one.1))
+    → whole ≡ new ++ statements (codes "riders") (map (rider_row fares) (by_bytes left))
+rider_put fares whole text new one left rest all next more =
+    let row = statement (codes "riders") (rider_row fares (bytes_of one.0, one.1)) in
+    let others = statements (codes "riders") (map (rider_row fares) (by_bytes left)) in
+    all ∙ ap (λ (r : List (Token × ℕ)). text
+    ++ statements (codes "riders") (map (rider_row fares) (by_bytes r))) next
+    ∙ sym (append_assoc text row others) ∙ ap (λ (s : List ℕ). s ++ others) (sym more)
