@@ -231,6 +231,13 @@ impl FareTable {
         self.parts.standard
     }
 
+    /// The pairs of places of modes with a transfer, each once, in the order of the text.
+    pub fn pairs(&self) -> &[(u8, u8)]
+        ensures { result.now ≡ self.now.meaning.transfers }
+    {
+        self.parts.transfers.all()
+    }
+
     /// The ranges of validators, each by its first number, rising.
     pub fn ranges(&self) -> &[(u32, RangeRest)]
         ensures { result.now ≡ self.now.meaning.ranges }

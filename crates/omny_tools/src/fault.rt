@@ -9,7 +9,7 @@ use program_manners::LoadFault;
 use std::alloc::{AllocError, AllocFailed};
 use std::fmt;
 use std::io::Write;
-use table_report::SqlFault;
+use table_report::ReportFault;
 use tap_rows::{Column, RowsFault};
 use tap_views::{LayoutFault, NoMemory};
 use toml::de::Error as TomlError;
@@ -36,7 +36,7 @@ pub(crate) enum Fault<'a> {
     /// The text is no fare table, and no value was found to be wrong.
     Table(Name<'a>, TableFault),
     /// The fare table cannot be written as SQL.
-    Sql(Name<'a>, SqlFault),
+    Sql(Name<'a>, ReportFault),
     /// The tap of this number, in this file, is before its predecessor.
     OutOfOrder(Name<'a>, u64),
     /// A file changed while it was read.

@@ -4,7 +4,7 @@ ghost use Rattle.std.specs.Prelude.{◌≡◌, ◌≢◌, ◌++◌, true, false,
 ghost use Rattle.std.specs.Prelude.{string_bytes};
 ghost use Rattle.std.specs.Io.KnownBytes.{Appends};
 ghost use Rattle.std.specs.List.{list_all};
-ghost use Rattle.table_report.specs.declared.sql.SqlFault.{SqlFault};
+ghost use Rattle.table_report.specs.declared.sql.ReportFault.{ReportFault};
 ghost use Rattle.table_report.specs.SqlText.{has_names_in_line, is_control, is_in_line};
 ghost use Rattle.table_report.specs.SqlText.{rows_text, sql_text, tables_text};
 
@@ -22,7 +22,7 @@ use tables::{
 
 /// Why a fare table was not written as SQL.
 #[derive(Clone, Copy, Debug, PartialEq, Eq, thiserror::Error)]
-pub enum SqlFault {
+pub enum ReportFault {
     /// A name of a class has a control character, which a program that reads SQL may change.
     #[error("the name of a class has a control character, which SQL does not take")]
     Name,
@@ -34,13 +34,13 @@ pub enum SqlFault {
     NoMemory,
 }
 
-impl From<AllocError> for SqlFault {
-    ghost use Rattle.table_report.specs.declared.sql.SqlFault.TheVariants.{NoMemory as ForMemory};
+impl From<AllocError> for ReportFault {
+    ghost use Rattle.table_report.specs.declared.sql.ReportFault.TheVariants.{NoMemory as ForMemory};
 
     ghost from_gives = { λ _ fault. fault ≡ ForMemory };
 
     fn from(_refused: AllocError) -> Self {
-        SqlFault::NoMemory
+        ReportFault::NoMemory
     }
 }
 
@@ -65,33 +65,33 @@ pub fn write_sql<W: Write>(
     alloc: Global,
     fares: &FareTable,
     out: &mut W,
-) -> Result<(), SqlFault>
+) -> Result<(), ReportFault>
     ensures ok { OnOk result
         (Appends (W.contents out.old) (W.contents out.new) (sql_text fares.now)) }
-    ensures kept { IfErr result (λ fault. fault ≢ SqlFault.Write → out.new ≡ out.old) }
+    ensures kept { IfErr result (λ fault. fault ≢ ReportFault.Write → out.new ≡ out.old) }
 
     // A name that SQL does not take is reported exactly if the table has one.
     ensures named { OnOk result (has_names_in_line fares.now ≡ true) }
-    ensures fault { IfErr result (λ fault. fault ≡ SqlFault.Name
+    ensures fault { IfErr result (λ fault. fault ≡ ReportFault.Name
         → has_names_in_line fares.now ≡ false) }
 {
     let text = sql_of(alloc, fares)?;
     if out.write_all(text.as_slice()).is_err() {
-        return Err(SqlFault::Write);
+        return Err(ReportFault::Write);
     }
     Ok(())
 }
 
 /// The text of those statements.
-fn sql_of(alloc: Global, fares: &FareTable) -> Result<Vec<u8>, SqlFault>
+fn sql_of(alloc: Global, fares: &FareTable) -> Result<Vec<u8>, ReportFault>
     ensures text { IfOk result (λ text. text.items ≡ sql_text fares.now) }
     ensures named { OnOk result (has_names_in_line fares.now ≡ true) }
-    ensures fault { IfErr result (λ fault. fault ≡ SqlFault.Name
+    ensures fault { IfErr result (λ fault. fault ≡ ReportFault.Name
         → has_names_in_line fares.now ≡ false) }
-    ensures no_write { IfErr result (λ fault. fault ≢ SqlFault.Write) }
+    ensures no_write { IfErr result (λ fault. fault ≢ ReportFault.Write) }
 {
     if !are_in_line(fares.class_names()) {
-        return Err(SqlFault::Name);
+        return Err(ReportFault::Name);
     }
     let mut text = Vec::new(alloc);
     put(&mut text, b"BEGIN;\n")?;

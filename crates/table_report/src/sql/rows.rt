@@ -11,33 +11,10 @@ ghost use Rattle.table_report.specs.SqlRows.{pair_row, range_row, rider_row, row
 ghost use Rattle.table_report.specs.SqlText.{statement, statements};
 
 use super::fields::{put, put_next_number, put_next_quoted, put_number, put_quoted};
+use crate::names::{class_name, mode_name};
 use fare_table::{FareTable, Mode, RangeRest};
 use std::alloc::AllocError;
 use tap_views::Token;
-
-/// The name at the place.
-fn name_at(names: &[String], place: usize) -> &str
-    ensures { result.now ≡ name_at (map string_bytes names.now) place }
-{
-    match names.get(place) {
-        Some(name) => name.as_str(),
-        None => "",
-    }
-}
-
-/// The name of the class at the place.
-fn class_name(fares: &FareTable, place: usize) -> &[u8]
-    ensures { result.now ≡ name_at fares.now.meaning.names place }
-{
-    name_at(fares.class_names(), place).as_bytes()
-}
-
-/// The name of the mode at the place.
-fn mode_name(fares: &FareTable, place: usize) -> &[u8]
-    ensures { result.now ≡ name_at fares.now.meaning.modes place }
-{
-    name_at(fares.mode_names(), place).as_bytes()
-}
 
 /// 1 for the class of riders that have none of their own, else 0.
 fn default_mark(fares: &FareTable, place: usize) -> u32
@@ -60,7 +37,7 @@ pub(super) fn put_mode(
         ≡ text.old.items ++ statement (codes "modes") (mode_row fares.now place)) }
 {
     put(text, b"INSERT INTO modes VALUES (")?;
-    put_quoted(text, mode_name(fares, place))?;
+    put_quoted(text, mode_name(fares, place).as_bytes())?;
     put(text, b");\n")?;
     Ok(())
 }
@@ -77,7 +54,7 @@ pub(super) fn put_class(
 {
     let class = &fares.classes()[place];
     put(text, b"INSERT INTO classes VALUES (")?;
-    put_quoted(text, class_name(fares, place))?;
+    put_quoted(text, class_name(fares, place).as_bytes())?;
     put_next_number(text, class.terms.fare)?;
     put_next_number(text, class.terms.rides)?;
     put_next_number(text, class.terms.ceiling)?;
@@ -101,8 +78,8 @@ pub(super) fn put_fare(
         ≡ text.old.items ++ statement (codes "fares") (fare_row fares.now class mode)) }
 {
     put(text, b"INSERT INTO fares VALUES (")?;
-    put_quoted(text, class_name(fares, class))?;
-    put_next_quoted(text, mode_name(fares, mode))?;
+    put_quoted(text, class_name(fares, class).as_bytes())?;
+    put_next_quoted(text, mode_name(fares, mode).as_bytes())?;
     put_next_number(text, fares.classes()[class].fares[mode])?;
     put(text, b");\n")?;
     Ok(())
@@ -138,8 +115,8 @@ pub(super) fn put_pair(
         return Ok(());
     }
     put(text, b"INSERT INTO pairs VALUES (")?;
-    put_quoted(text, mode_name(fares, from))?;
-    put_next_quoted(text, mode_name(fares, to))?;
+    put_quoted(text, mode_name(fares, from).as_bytes())?;
+    put_next_quoted(text, mode_name(fares, to).as_bytes())?;
     put(text, b");\n")?;
     Ok(())
 }
@@ -157,7 +134,7 @@ pub(super) fn put_range(
     put(text, b"INSERT INTO ranges VALUES (")?;
     put_number(text, first)?;
     put_next_number(text, rest.last)?;
-    put_next_quoted(text, mode_name(fares, rest.mode as usize))?;
+    put_next_quoted(text, mode_name(fares, rest.mode as usize).as_bytes())?;
     put(text, b");\n")?;
     Ok(())
 }
@@ -183,7 +160,7 @@ pub(super) fn put_rider(
 {
     put(text, b"INSERT INTO riders VALUES (")?;
     put_quoted(text, &digits_of(token)[..])?;
-    put_next_quoted(text, class_name(fares, class as usize))?;
+    put_next_quoted(text, class_name(fares, class as usize).as_bytes())?;
     put(text, b");\n")?;
     Ok(())
 }

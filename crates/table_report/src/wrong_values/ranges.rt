@@ -1,7 +1,7 @@
 //! What is wrong with the ranges of validators of a text.
 
 use super::checks::{are_all, array_at, check_number, is_one_of, one_of};
-use super::paths::{item_path, key_path};
+use crate::paths::{item_path, key_path};
 use super::wrong::Wrongs;
 use std::alloc::AllocError;
 use std::collections::BTreeMap;

@@ -2,7 +2,7 @@
 
 use std::alloc::{AllocError, Global};
 use strsim::osa_distance;
-use table_report::KeyHolder;
+use crate::holder::KeyHolder;
 
 /// The keys that have a meaning at the top of a text.
 const TOP: [&str; 7] = [
@@ -57,7 +57,7 @@ fn nearest_of(
 }
 
 /// The key that may be meant by one that has no meaning where it stands.
-pub(super) fn nearest(
+pub(crate) fn nearest(
     alloc: Global,
     holder: KeyHolder,
     key: &str,

@@ -1,8 +1,7 @@
 //! One wrong value, and what is wanted in its place.
 
-use super::paths::key_path;
-use super::places::Places;
-use crate::names::Name;
+use crate::paths::key_path;
+use crate::places::Places;
 use std::alloc::{AllocError, Global};
 use toml::Value;
 
@@ -129,7 +128,7 @@ impl Wrong {
     pub(super) fn line(
         &self,
         alloc: Global,
-        name: Name<'_>,
+        name: &str,
         text: &str,
         places: &Places,
     ) -> Result<String, AllocError> {

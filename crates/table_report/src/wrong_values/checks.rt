@@ -1,6 +1,6 @@
 //! What is wrong with the modes, the transfers, the classes and the zone of a text.
 
-use super::paths::{item_path, key_path};
+use crate::paths::{item_path, key_path};
 use super::people::{check_default, check_riders};
 use super::ranges::check_ranges;
 use super::wrong::{Wrong, Wrongs};
@@ -50,7 +50,7 @@ pub(super) fn one_of(alloc: Global, what: &str, names: &[&str]) -> Result<String
             return Ok(text);
         }
         let comma = if number == 0 { "" } else { "," };
-        let name = super::paths::Key(name);
+        let name = crate::paths::Key(name);
         write!(text, "{comma} {name}")?;
     }
     Ok(text)

@@ -30,7 +30,7 @@ fn push_change(text: &mut String, change: &TimeZoneTransition) -> Result<(), All
 }
 
 /// Appends the lines of the zone's next changes of clocks after a moment.
-pub(super) fn push_changes(
+pub(crate) fn push_changes(
     text: &mut String,
     zone: &str,
     from: Timestamp,

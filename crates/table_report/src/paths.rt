@@ -5,7 +5,7 @@ use std::fmt;
 
 /// A key as TOML writes it: bare, or in quotes with its odd letters escaped.
 #[derive(Clone, Copy)]
-pub(super) struct Key<'a>(pub(super) &'a str);
+pub(crate) struct Key<'a>(pub(crate) &'a str);
 
 /// Whether a letter may stand in a bare key.
 fn is_bare(byte: u8) -> bool {
@@ -44,7 +44,7 @@ impl fmt::Display for Key<'_> {
 }
 
 /// The path of a key in the table at a path; the path of the text is empty.
-pub(super) fn key_path(alloc: Global, holder: &str, key: &str) -> Result<String, AllocError> {
+pub(crate) fn key_path(alloc: Global, holder: &str, key: &str) -> Result<String, AllocError> {
     let key = Key(key);
     if holder.is_empty() {
         format!(in alloc; "{key}")
@@ -54,6 +54,6 @@ pub(super) fn key_path(alloc: Global, holder: &str, key: &str) -> Result<String,
 }
 
 /// The path of the element at a place of the array at a path.
-pub(super) fn item_path(alloc: Global, array: &str, place: usize) -> Result<String, AllocError> {
+pub(crate) fn item_path(alloc: Global, array: &str, place: usize) -> Result<String, AllocError> {
     format!(in alloc; "{array}[{place}]")
 }

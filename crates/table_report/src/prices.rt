@@ -1,83 +1,79 @@
 //! What the rides of a window cost, one after the other.
 
-use super::paths::Key;
+use crate::names::mode_name;
+use crate::paths::Key;
+use fare_table::{Class, FareTable};
 use std::alloc::AllocError;
 use toml::Table;
 
-/// A number of a class; the default where there is none.
-fn number_or(class: &Table, key: &str, default: u64) -> u64 {
-    match class.get(key) {
-        Some(value) => match value.as_integer() {
-            Some(number) => u64::try_from(number).unwrap_or(default),
-            None => default,
-        },
-        None => default,
-    }
-}
+/// A minute in milliseconds.
+const MINUTE_MS: u32 = 60_000;
 
-/// A number of a class; 0 where there is none.
-fn number(class: &Table, key: &str) -> u64 {
-    number_or(class, key, 0)
+/// The cents of the class for a ride on the mode of this name.
+fn fare_on(fares: &FareTable, class: &Class, name: &str) -> u32 {
+    for (place, cents) in class.fares.iter().enumerate() {
+        if mode_name(fares, place) == name {
+            return *cents;
+        }
+    }
+    0
 }
 
 /// Appends a line for each mode of which the class names a fare.
-pub(super) fn push_fares(
+pub(crate) fn push_fares(
     text: &mut String,
     name: Key<'_>,
-    fares: &Table,
+    fares: &FareTable,
+    class: &Class,
+    named: &Table,
 ) -> Result<(), AllocError> {
-    for (mode, _cents) in fares {
-        let cents = number(fares, mode.as_str());
+    for (mode, _cents) in named {
+        let mode = mode.as_str();
+        let cents = fare_on(fares, class, mode);
         write!(text, "fare {name} {mode} cents {cents}\n")?;
     }
     Ok(())
 }
 
 /// Appends a line of how many transfers a ride of the class gives, and for how many minutes, where
-/// the class says it.
-pub(super) fn push_ride_transfers(
+/// the keys of the class say it.
+pub(crate) fn push_ride_transfers(
     text: &mut String,
     name: Key<'_>,
-    class: &Table,
+    class: &Class,
+    keys: &Table,
 ) -> Result<(), AllocError> {
-    if !class.contains_key("transfers") && !class.contains_key("transfer_minutes") {
+    if !keys.contains_key("transfers") && !keys.contains_key("transfer_minutes") {
         return Ok(());
     }
-    let taps = number_or(class, "transfers", 1);
-    let minutes = number_or(class, "transfer_minutes", 120);
+    let taps = class.transfers.taps;
+    let minutes = class.transfers.time / MINUTE_MS;
     write!(text, "gives {name} transfers {taps} minutes {minutes}\n")
 }
 
 /// What a class pays.
 #[derive(Clone, Copy)]
-pub(super) struct Prices {
+pub(crate) struct Prices {
     /// The price of a ride in cents.
-    pub(super) fare: u64,
+    pub(crate) fare: u64,
     /// How many rides are paid for in a window.
-    pub(super) rides: u64,
+    pub(crate) rides: u64,
     /// The most that is paid in a window, in cents.
-    pub(super) ceiling: u64,
+    pub(crate) ceiling: u64,
 }
 
 impl Prices {
-    /// Those of a class of a table without a fault.
-    pub(super) fn of(class: &Table) -> Prices {
-        let fare = number(class, "fare");
-        let rides = number(class, "rides");
-        let ceiling = if class.contains_key("ceiling") {
-            number(class, "ceiling")
-        } else {
-            fare.saturating_mul(rides)
-        };
+    /// Those of a class.
+    pub(crate) fn of(class: &Class) -> Prices {
         Prices {
-            fare,
-            rides,
-            ceiling,
+            fare: u64::from(class.terms.fare),
+            rides: u64::from(class.terms.rides),
+            ceiling: u64::from(class.terms.ceiling),
         }
     }
 
     /// Appends lines that tell from which ride of a window on a ride costs how much.
-    pub(super) fn push(&self, text: &mut String, name: Key<'_>) -> Result<(), AllocError> {
+    pub(crate) fn push(&self, text: &mut String, name: Key<'_>) -> Result<(), AllocError> {
         let whole = self
             .ceiling
             .checked_div(self.fare)

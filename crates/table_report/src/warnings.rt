@@ -1,47 +1,40 @@
 //! The lines of what the rules of a table ignore.
 
-use super::known::nearest;
-use super::paths::{item_path, key_path};
-use super::places::Places;
-use crate::names::Name;
+use crate::holder::KeyHolder;
+use crate::ignored::ignored_keys;
+use crate::known::nearest;
+use crate::paths::{item_path, key_path};
+use crate::places::Places;
+use crate::ranges::unused_ranges;
+use crate::seen::SeenValidators;
 use fare_table::FareTable;
 use std::alloc::{AllocError, Global};
-use table_report::{KeyHolder, SeenValidators, ignored_keys, unused_ranges};
 use toml::Table;
 
 /// A table without a fault.
 #[derive(Clone, Copy)]
-pub(super) struct Told<'a, 't> {
+pub(crate) struct Told<'a, 't> {
     /// Its name.
-    pub(super) name: Name<'a>,
+    pub(crate) name: &'a str,
     /// Its text.
-    pub(super) text: &'t str,
+    pub(crate) text: &'t str,
     /// The keys and values of the text.
-    pub(super) tree: &'t Table,
+    pub(crate) tree: &'t Table,
     /// What it means.
-    pub(super) fares: &'t FareTable,
-}
-
-/// The names of the classes, by their places.
-fn names_of(alloc: Global, tree: &Table) -> Result<Vec<&str>, AllocError> {
-    let mut names = Vec::new(alloc);
-    if let Some(value) = tree.get("classes") {
-        if let Some(classes) = value.as_table() {
-            for (name, _class) in classes {
-                names.push(name.as_str())?;
-            }
-        }
-    }
-    Ok(names)
+    pub(crate) fares: &'t FareTable,
 }
 
 /// The path of the table that has a key.
-fn holder_path(alloc: Global, classes: &[&str], holder: KeyHolder) -> Result<String, AllocError> {
+fn holder_path(
+    alloc: Global,
+    classes: &[String],
+    holder: KeyHolder,
+) -> Result<String, AllocError> {
     match holder {
         KeyHolder::Top => Ok(String::new(alloc)),
         KeyHolder::Class(place) => {
             let name = match classes.get(place) {
-                Some(name) => *name,
+                Some(name) => name.as_str(),
                 None => "",
             };
             key_path(alloc, "classes", name)
@@ -70,7 +63,7 @@ fn ignored_line(
     alloc: Global,
     told: &Told<'_, '_>,
     places: &Places,
-    classes: &[&str],
+    classes: &[String],
     ignored: (KeyHolder, &str),
 ) -> Result<String, AllocError> {
     let (holder, key) = ignored;
@@ -101,7 +94,7 @@ fn unused_line(
 
 /// The lines of the warnings of a table, and their number; of its ranges only where the validators
 /// of some uploads were seen.
-pub(super) fn warnings_of(
+pub(crate) fn warnings_of(
     alloc: Global,
     told: &Told<'_, '_>,
     seen: Option<&SeenValidators>,
@@ -128,9 +121,9 @@ pub(super) fn warnings_of(
         .saturating_add(unknown.len());
     if !ignored.is_empty() || !unused.is_empty() {
         let places = Places::of(alloc, told.text)?;
-        let classes = names_of(alloc, told.tree)?;
+        let classes = told.fares.class_names();
         for (holder, key) in &ignored {
-            let line = ignored_line(alloc, told, &places, &classes, (*holder, key))?;
+            let line = ignored_line(alloc, told, &places, classes, (*holder, key))?;
             lines.push_str(line.as_str())?;
         }
         for place in &unused {

@@ -1,6 +1,6 @@
 //! Where each key and each value stands in the text.
 
-use super::paths::{item_path, key_path};
+use crate::paths::{item_path, key_path};
 use std::alloc::{AllocError, AllocFailed, Global};
 use std::collections::BTreeMap;
 use toml_parser::text::{skip_blank, skip_ws};
@@ -11,7 +11,7 @@ const BYTE_ORDER_MARK: &str = "\u{feff}";
 
 /// Where the keys and the values of a text stand, by their whole paths.
 #[derive(Drop)]
-pub(super) struct Places {
+pub(crate) struct Places {
     /// The offset of each key or element, in bytes.
     offsets: BTreeMap<String, usize>,
     /// The offset of the value behind each key, in bytes.
@@ -283,7 +283,7 @@ impl Reader {
 
 impl Places {
     /// The places of a text that is TOML. Of another text those up to what is wrong with it.
-    pub(super) fn of(alloc: Global, text: &str) -> Result<Places, AllocError> {
+    pub(crate) fn of(alloc: Global, text: &str) -> Result<Places, AllocError> {
         let lines = lines_of(alloc, text)?;
         let mut reader = Reader {
             places: Places {
@@ -303,12 +303,12 @@ impl Places {
     }
 
     /// The offset of a key or an element.
-    pub(super) fn of_key(&self, path: &str) -> Option<usize> {
+    pub(crate) fn of_key(&self, path: &str) -> Option<usize> {
         self.offsets.get(path).copied()
     }
 
     /// The offset of a value.
-    pub(super) fn of_value(&self, path: &str) -> Option<usize> {
+    pub(crate) fn of_value(&self, path: &str) -> Option<usize> {
         match self.values.get(path) {
             Some(offset) => Some(*offset),
             None => self.of_key(path),
@@ -317,7 +317,7 @@ impl Places {
 
     /// The line and the column of an offset in the text, both from 1. A column counts letters; a
     /// byte order mark is none.
-    pub(super) fn line_and_column(&self, text: &str, offset: usize) -> (usize, usize) {
+    pub(crate) fn line_and_column(&self, text: &str, offset: usize) -> (usize, usize) {
         let line = self.lines.partition_point(|start| *start <= offset);
         let mut start = match self.lines.get(line.saturating_sub(1)) {
             Some(start) => *start,

@@ -1,7 +1,7 @@
 //! What is wrong with the default class and the riders of a text.
 
 use super::checks::{LISTED_NAMES, one_of, top};
-use super::paths::key_path;
+use crate::paths::key_path;
 use super::wrong::Wrongs;
 use hex::FromHex;
 use std::alloc::AllocError;
