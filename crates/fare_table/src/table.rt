@@ -1,7 +1,7 @@
 //! The fare table and its look-ups.
 ghost use Rattle.std.specs.Prelude.{◌≡◌, ◌≢◌, ◌⊎◌, ◌<◌, ◌≤◌, length, option_map, IfSome, IfErr};
 ghost use Rattle.std.specs.Prelude.{IfOk, IsErrOf, IsUtf8, IsOk, Err, Ok, None, Some, map};
-ghost use Rattle.std.specs.Prelude.{slice_get, string_bytes};
+ghost use Rattle.std.specs.Prelude.{All, slice_get, string_bytes};
 ghost use Rattle.toml.specs.Parse.{parse_document};
 ghost use Rattle.toml.specs.View.{table_view};
 ghost use Rattle.fare_table.specs.Fares.{class_of, is_permitted, mode_at, ride_terms, terms_at};
@@ -12,7 +12,7 @@ ghost use Rattle.fare_table.specs.Riders.{by_bytes};
 ghost use Rattle.fare_table.specs.declared.fault.TableFault.{TableFault};
 ghost use Rattle.fare_table.specs.TableMeaning.{meaning_in, meaning_of_tree};
 ghost use Rattle.fare_table.specs.Zone.{IsZoneOf, zone_rule, zone_text};
-ghost use Rattle.fare_table.specs.Terms.{AreBoundedTerms, AreRideTerms};
+ghost use Rattle.fare_table.specs.Terms.{AreBoundedTerms, AreRideTerms, IsBoundedClass};
 
 use crate::class::Class;
 use crate::clock::Clock;
@@ -210,7 +210,8 @@ impl FareTable {
 
     /// The classes by their places.
     pub fn classes(&self) -> &[Class]
-        ensures { result.now ≡ self.now.meaning.classes }
+        ensures classes { result.now ≡ self.now.meaning.classes }
+        ensures bounds { All IsBoundedClass result.now }
     {
         self.parts.classes.as_slice()
     }

@@ -1,4 +1,5 @@
 pub mod Ignored
+pub mod Prices
 pub mod Ranges
 pub mod SeenValidators
 pub mod SqlRows

@@ -1,11 +1,13 @@
 //! The lines of a table without a fault.
 
+ghost use Rattle.fare_table.specs.Terms.{IsBoundedClass};
+
 use crate::clocks::push_changes;
 use crate::names::{class_name, mode_name};
 use crate::paths::Key;
-use crate::prices::{Prices, push_fares, push_ride_transfers};
+use crate::prices::{push_fares, push_prices, push_ride_transfers};
 use crate::report::Wanted;
-use fare_table::{Class, FareTable};
+use fare_table::{Class, FareTable, Terms};
 use jiff::Timestamp;
 use std::alloc::{AllocError, Global};
 use toml::Table;
@@ -84,26 +86,33 @@ fn riders_of(alloc: Global, fares: &FareTable) -> Result<Vec<u64>, AllocError> {
 /// Appends the lines of a class. Whether it names fares of its own, or what a ride gives, only the
 /// keys of its text say.
 fn push_class(
+    alloc: Global,
     text: &mut String,
     fares: &FareTable,
     riders: u64,
     name: &str,
     class: &Class,
     keys: Option<&Table>,
-) -> Result<(), AllocError> {
-    let prices = Prices::of(class);
-    let (fare, rides, ceiling) = (prices.fare, prices.rides, prices.ceiling);
-    let name = Key(name);
+) -> Result<(), AllocError>
+    requires { IsBoundedClass class.now }
+{
+    let Terms {
+        fare,
+        rides,
+        ceiling,
+    } = class.terms;
+    let name = format!(in alloc; "{}", Key(name))?;
+    let name = name.as_str();
     write!(
         text,
         "class {name} fare {fare} rides {rides} ceiling {ceiling} riders {riders}\n"
     )?;
     let Some(keys) = keys else {
-        return prices.push(text, name);
+        return push_prices(text, name, class.terms);
     };
     match table_at(keys, "fares") {
         Some(named) => push_fares(text, name, fares, class, named)?,
-        None => prices.push(text, name)?,
+        None => push_prices(text, name, class.terms)?,
     }
     push_ride_transfers(text, name, class, keys)
 }
@@ -119,7 +128,8 @@ fn push_classes(
     let classes = fares.classes();
     let count = classes.len();
     write!(text, "classes {count}\n")?;
-    for (place, class) in classes.iter().enumerate() {
+    for place in 0..count {
+        let class = &classes[place];
         let name = class_name(fares, place);
         let riders = match counts.get(place) {
             Some(count) => *count,
@@ -129,7 +139,7 @@ fn push_classes(
             Some(classes) => table_at(classes, name),
             None => None,
         };
-        push_class(text, fares, riders, name, class, keys)?;
+        push_class(alloc, text, fares, riders, name, class, keys)?;
     }
     let name = Key(class_name(fares, fares.default_class() as usize));
     write!(text, "default {name}\n")

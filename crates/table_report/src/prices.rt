@@ -1,8 +1,12 @@
 //! What the rides of a window cost, one after the other.
 
+ghost use Rattle.std.specs.Prelude.{◌≡◌, ◌++◌, [], OnOk, if◌then◌else◌, string_bytes};
+ghost use Rattle.fare_table.specs.Terms.{AreBoundedTerms};
+ghost use Rattle.table_report.specs.Prices.{is_same, price_line, prices_text};
+
 use crate::names::mode_name;
-use crate::paths::Key;
-use fare_table::{Class, FareTable};
+use account_rule::cents_at;
+use fare_table::{Class, FareTable, Terms};
 use std::alloc::AllocError;
 use toml::Table;
 
@@ -22,7 +26,7 @@ fn fare_on(fares: &FareTable, class: &Class, name: &str) -> u32 {
 /// Appends a line for each mode of which the class names a fare.
 pub(crate) fn push_fares(
     text: &mut String,
-    name: Key<'_>,
+    name: &str,
     fares: &FareTable,
     class: &Class,
     named: &Table,
@@ -39,7 +43,7 @@ pub(crate) fn push_fares(
 /// the keys of the class say it.
 pub(crate) fn push_ride_transfers(
     text: &mut String,
-    name: Key<'_>,
+    name: &str,
     class: &Class,
     keys: &Table,
 ) -> Result<(), AllocError> {
@@ -51,44 +55,36 @@ pub(crate) fn push_ride_transfers(
     write!(text, "gives {name} transfers {taps} minutes {minutes}\n")
 }
 
-/// What a class pays.
-#[derive(Clone, Copy)]
-pub(crate) struct Prices {
-    /// The price of a ride in cents.
-    pub(crate) fare: u64,
-    /// How many rides are paid for in a window.
-    pub(crate) rides: u64,
-    /// The most that is paid in a window, in cents.
-    pub(crate) ceiling: u64,
+/// Appends the line of a ride that costs other cents than the one before it. `ride` counts from 1.
+fn push_price(
+    text: &mut String,
+    name: &str,
+    last: Option<u32>,
+    ride: u32,
+    cents: u32,
+) -> Result<(), AllocError>
+    ensures { OnOk result (string_bytes text.new ≡ string_bytes text.old
+        ++ (if is_same last cents then [] else price_line name.now ride cents)) }
+{
+    if last == Some(cents) {
+        return Ok(());
+    }
+    write!(text, "price {name} from {ride} cents {cents}\n")?;
+    Ok(())
 }
 
-impl Prices {
-    /// Those of a class.
-    pub(crate) fn of(class: &Class) -> Prices {
-        Prices {
-            fare: u64::from(class.terms.fare),
-            rides: u64::from(class.terms.rides),
-            ceiling: u64::from(class.terms.ceiling),
-        }
+/// Appends a line for each ride of a window, up to the first one past the limit, that costs other
+/// cents than the ride before it.
+pub(crate) fn push_prices(text: &mut String, name: &str, terms: Terms) -> Result<(), AllocError>
+    requires { AreBoundedTerms terms }
+    ensures { OnOk result (string_bytes text.new ≡ string_bytes text.old
+        ++ prices_text name.now terms) }
+{
+    let mut last = None;
+    for place in 0..terms.rides + 1 {
+        let cents = cents_at(terms, place);
+        push_price(text, name, last, place + 1, cents)?;
+        last = Some(cents);
     }
-
-    /// Appends lines that tell from which ride of a window on a ride costs how much.
-    pub(crate) fn push(&self, text: &mut String, name: Key<'_>) -> Result<(), AllocError> {
-        let whole = self
-            .ceiling
-            .checked_div(self.fare)
-            .unwrap_or(0)
-            .min(self.rides);
-        let fare = self.fare;
-        if whole > 0 {
-            write!(text, "price {name} from 1 cents {fare}\n")?;
-        }
-        let left = self.ceiling.saturating_sub(whole.saturating_mul(fare));
-        let mut next = whole.saturating_add(1);
-        if whole < self.rides && left > 0 {
-            write!(text, "price {name} from {next} cents {left}\n")?;
-            next = next.saturating_add(1);
-        }
-        write!(text, "price {name} from {next} cents 0\n")
-    }
+    Ok(())
 }
