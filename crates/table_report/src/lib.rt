@@ -14,4 +14,4 @@ pub use holder::KeyHolder;
 pub use ignored::ignored_keys;
 pub use ranges::unused_ranges;
 pub use seen::SeenValidators;
-pub use sql::{SqlFault, sql_of};
+pub use sql::{SqlFault, write_sql};

@@ -3,15 +3,17 @@
 ghost use Rattle.std.specs.Prelude.{◌≡◌, ◌<◌, ◌≤◌, ◌++◌, OnOk, Some, codes, length};
 ghost use Rattle.std.specs.Prelude.{map, string_bytes};
 ghost use Rattle.fare_table.specs.declared.validators.RangeRest.{RangeRest};
-ghost use Rattle.fare_table.specs.Fares.{is_permitted};
+ghost use Rattle.fare_table.specs.Fares.{class_at, is_permitted, ride_terms};
+ghost use Rattle.fare_table.specs.declared.class.Class.{Class};
 ghost use Rattle.hex.specs.Hex.{encode_lower};
 ghost use Rattle.tap_views.specs.Token.{bytes_of};
 ghost use Rattle.table_report.specs.SqlRows.{class_row, default_mark, fare_row, mode_row, name_at};
-ghost use Rattle.table_report.specs.SqlRows.{pair_row, range_row, rider_row, rows_of_zone};
+ghost use Rattle.table_report.specs.SqlRows.{pair_row, range_row, rider_row, rule_row};
+ghost use Rattle.table_report.specs.SqlRows.{two_modes};
 ghost use Rattle.table_report.specs.SqlText.{statement, statements};
 
 use super::fields::{put, put_next_number, put_next_quoted, put_number, put_quoted};
-use fare_table::{FareTable, Mode, RangeRest};
+use fare_table::{Class, FareTable, Mode, RangeRest};
 use std::alloc::AllocError;
 use tap_views::Token;
 
@@ -50,6 +52,23 @@ fn default_mark(fares: &FareTable, place: usize) -> u32
     }
 }
 
+/// The class at the place.
+fn class_at(fares: &FareTable, place: usize) -> Class
+    requires { place < length fares.now.meaning.classes }
+    ensures { result ≡ class_at fares.now place }
+{
+    fares.classes()[place]
+}
+
+/// The cents of the class for a ride on the mode.
+fn fare_at(fares: &FareTable, class: usize, mode: usize) -> u32
+    requires class { class < length fares.now.meaning.classes }
+    requires mode { mode < 32 }
+    ensures { result ≡ (ride_terms fares.now class mode).fare }
+{
+    fares.classes()[class].fares[mode]
+}
+
 /// Appends the statement of a mode.
 pub(super) fn put_mode(
     text: &mut Vec<u8>,
@@ -75,7 +94,7 @@ pub(super) fn put_class(
     ensures { OnOk result (text.new.items
         ≡ text.old.items ++ statement (codes "classes") (class_row fares.now place)) }
 {
-    let class = &fares.classes()[place];
+    let class = class_at(fares, place);
     put(text, b"INSERT INTO classes VALUES (")?;
     put_quoted(text, class_name(fares, place))?;
     put_next_number(text, class.terms.fare)?;
@@ -103,7 +122,7 @@ pub(super) fn put_fare(
     put(text, b"INSERT INTO fares VALUES (")?;
     put_quoted(text, class_name(fares, class))?;
     put_next_quoted(text, mode_name(fares, mode))?;
-    put_next_number(text, fares.classes()[class].fares[mode])?;
+    put_next_number(text, fare_at(fares, class, mode))?;
     put(text, b");\n")?;
     Ok(())
 }
@@ -121,7 +140,25 @@ fn permits(fares: &FareTable, from: usize, to: usize) -> bool
     )
 }
 
+/// Appends the statement of two modes.
+fn put_modes(
+    text: &mut Vec<u8>,
+    fares: &FareTable,
+    from: usize,
+    to: usize,
+) -> Result<(), AllocError>
+    ensures { OnOk result (text.new.items
+        ≡ text.old.items ++ statement (codes "pairs") (two_modes fares.now from to)) }
+{
+    put(text, b"INSERT INTO pairs VALUES (")?;
+    put_quoted(text, mode_name(fares, from))?;
+    put_next_quoted(text, mode_name(fares, to))?;
+    put(text, b");\n")?;
+    Ok(())
+}
+
 /// Appends the statement of a pair of modes, if there is a transfer from the one to the other.
+#[tactic(auto, using(crate::proofs::PlaceLemmas::one_statement))]
 pub(super) fn put_pair(
     text: &mut Vec<u8>,
     fares: &FareTable,
@@ -134,13 +171,9 @@ pub(super) fn put_pair(
     ensures { OnOk result (text.new.items
         ≡ text.old.items ++ statements (codes "pairs") (pair_row fares.now from to)) }
 {
-    if !permits(fares, from, to) {
-        return Ok(());
+    if permits(fares, from, to) {
+        put_modes(text, fares, from, to)?;
     }
-    put(text, b"INSERT INTO pairs VALUES (")?;
-    put_quoted(text, mode_name(fares, from))?;
-    put_next_quoted(text, mode_name(fares, to))?;
-    put(text, b");\n")?;
     Ok(())
 }
 
@@ -182,7 +215,8 @@ pub(super) fn put_rider(
         ++ statement (codes "riders") (rider_row fares.now (bytes_of token, class))) }
 {
     put(text, b"INSERT INTO riders VALUES (")?;
-    put_quoted(text, &digits_of(token)[..])?;
+    let digits = digits_of(token);
+    put_quoted(text, &digits)?;
     put_next_quoted(text, class_name(fares, class as usize))?;
     put(text, b");\n")?;
     Ok(())
@@ -191,7 +225,7 @@ pub(super) fn put_rider(
 /// Appends the statement of a zone.
 pub(super) fn put_rule(text: &mut Vec<u8>, rule: &str) -> Result<(), AllocError>
     ensures { OnOk result (text.new.items
-        ≡ text.old.items ++ statements (codes "zone") (rows_of_zone (Some rule.now))) }
+        ≡ text.old.items ++ statement (codes "zone") (rule_row rule.now)) }
 {
     put(text, b"INSERT INTO zone VALUES (")?;
     put_quoted(text, rule.as_bytes())?;
