@@ -62,10 +62,22 @@ group_put table rows old text new n so_far more =
     ∙ append_assoc old (statements table (flat_map rows (places n))) (statements table (rows n))
     ∙ ap (λ (s : List ℕ). old ++ s) (sym (groups_more table rows n))
 
+-- one row has one statement
+pub one_statement : (table : List ℕ) (row : List Field)
+    → statements table (row ∷ []) ≡ statement table row
+one_statement table row = append-nil (statement table row)
+
 -- one text was appended, and then another
 pub chain : (old mid new a rest : List ℕ) → mid ≡ old ++ a → new ≡ mid ++ rest
     → new ≡ old ++ (a ++ rest)
 chain old mid new a rest one more = more ∙ ap (λ (s : List ℕ). s ++ rest) one ∙ append_assoc old a rest
+
+-- a field was appended, and then the fields behind it and the end
+pub next_field : (old mid new field more end : List ℕ) → mid ≡ old ++ field
+    → new ≡ mid ++ (more ++ end) → new ≡ old ++ ((field ++ more) ++ end)
+next_field old mid new field more end one rest =
+    chain old mid new field (more ++ end) one rest
+    ∙ ap (λ (s : List ℕ). old ++ s) (sym (append_assoc field more end))
 
 -- the statement of the next rider was appended
 pub rider_put : (fares : Fares) (whole text new : List ℕ) (one : Token × ℕ)

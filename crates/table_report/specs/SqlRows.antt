@@ -47,12 +47,14 @@ fare_row fares class mode =
 abbrev pub fare_rows_of : Fares → ℕ → List (List Field)
 fare_rows_of fares class = map (fare_row fares class) (places (length fares.meaning.modes))
 
--- the pair of two modes, where a ride includes a transfer from the one to the other: their names
+-- two modes: their names
+abbrev pub two_modes : Fares → ℕ → ℕ → List Field
+two_modes fares from to =
+    text (name_at fares.meaning.modes from) ∷ text (name_at fares.meaning.modes to) ∷ []
+
+-- the pair of two modes, where a ride includes a transfer from the one to the other
 abbrev pub pair_row : Fares → ℕ → ℕ → List (List Field)
-pair_row fares from to =
-    if is_permitted fares from to
-    then (text (name_at fares.meaning.modes from) ∷ text (name_at fares.meaning.modes to) ∷ []) ∷ []
-    else []
+pair_row fares from to = if is_permitted fares from to then two_modes fares from to ∷ [] else []
 
 -- the pairs of one mode with each
 abbrev pub pair_rows_of : Fares → ℕ → List (List Field)
@@ -69,10 +71,14 @@ abbrev pub rider_row : Fares → List ℕ × ℕ → List Field
 rider_row fares rider =
     text (encode_lower rider.0) ∷ text (name_at fares.meaning.names rider.1) ∷ []
 
--- the row of a zone's text, and none where there is no zone
+-- a zone: its text
+abbrev pub rule_row : List ℕ → List Field
+rule_row rule = text rule ∷ []
+
+-- the row of a zone, and none where there is no zone
 abbrev pub rows_of_zone : Option (List ℕ) → List (List Field)
 rows_of_zone None = []
-rows_of_zone (Some rule) = (text rule ∷ []) ∷ []
+rows_of_zone (Some rule) = rule_row rule ∷ []
 
 -- the classes by their places
 abbrev pub class_rows : Fares → List (List Field)

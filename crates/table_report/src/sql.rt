@@ -94,11 +94,19 @@ fn sql_of(alloc: Global, fares: &FareTable) -> Result<Vec<u8>, ReportFault>
         return Err(ReportFault::Name);
     }
     let mut text = Vec::new(alloc);
-    put(&mut text, b"BEGIN;\n")?;
-    put_tables(&mut text)?;
-    put_rows(&mut text, fares)?;
-    put(&mut text, b"COMMIT;\n")?;
+    put_sql(&mut text, fares)?;
     Ok(text)
+}
+
+/// Appends the text of those statements.
+fn put_sql(text: &mut Vec<u8>, fares: &FareTable) -> Result<(), AllocError>
+    ensures { OnOk result (text.new.items ≡ text.old.items ++ sql_text fares.now) }
+{
+    put(text, b"BEGIN;\n")?;
+    put_tables(text)?;
+    put_rows(text, fares)?;
+    put(text, b"COMMIT;\n")?;
+    Ok(())
 }
 
 /// Whether no name has a control character.

@@ -79,6 +79,7 @@ pub(super) fn put_pairs(text: &mut Vec<u8>, fares: &FareTable) -> Result<(), All
 }
 
 /// Appends the statements of the ranges.
+#[tactic(auto, using(std::proofs::lemmas::List::flat_map_more))]
 pub(super) fn put_ranges(text: &mut Vec<u8>, fares: &FareTable) -> Result<(), AllocError>
     ensures { OnOk result (text.new.items
         ≡ text.old.items ++ statements (codes "ranges") (range_rows fares.now)) }
@@ -102,12 +103,14 @@ pub(super) fn put_riders(text: &mut Vec<u8>, fares: &FareTable) -> Result<(), Al
 }
 
 /// Appends the statement of the zone, if there is one.
+#[tactic(auto, using(crate::proofs::PlaceLemmas::one_statement))]
 pub(super) fn put_zone(text: &mut Vec<u8>, fares: &FareTable) -> Result<(), AllocError>
     ensures { OnOk result (text.new.items
         ≡ text.old.items ++ statements (codes "zone") (zone_rows fares.now)) }
 {
     match fares.zone_text() {
-        Some(rule) => put_rule(text, rule),
-        None => Ok(()),
+        Some(rule) => put_rule(text, rule)?,
+        None => {}
     }
+    Ok(())
 }
