@@ -1,9 +1,12 @@
 //! A fare table's text as it was understood, or why it is none.
 
-ghost use Rattle.std.specs.Prelude.{◌≡◌, ◌≢◌, true, IfErr, IfOk, IsUtf8, Ok, OnOk};
+ghost use Rattle.std.specs.Prelude.{◌≡◌, ◌≢◌, true, false, IfErr, IfOk, IsUtf8, Ok, OnOk};
 ghost use Rattle.std.specs.Io.KnownBytes.{Appends};
-ghost use Rattle.fare_table.specs.TableMeaning.{meaning_in};
-ghost use Rattle.table_report.specs.SqlText.{sql_text};
+ghost use Rattle.fare_table.specs.Meaning.{Means};
+ghost use Rattle.fare_table.specs.TableMeaning.{TableMeaning, meaning_in};
+ghost use Rattle.table_report.specs.SqlText.{has_names_in_line, sql_text};
+ghost use Rattle.table_report.specs.declared.report.Refusal.{Refusal};
+ghost use Rattle.table_report.specs.declared.sql.ReportFault.{ReportFault};
 
 use crate::lines::lines_of;
 use crate::places::Places;
@@ -57,6 +60,10 @@ pub enum Refusal {
 }
 
 impl From<AllocError> for Refusal {
+    ghost use Rattle.table_report.specs.declared.report.Refusal.TheVariants.{NoMemory as ForMemory};
+
+    ghost from_gives = { λ _ refusal. refusal ≡ ForMemory };
+
     fn from(_refused: AllocError) -> Self {
         Refusal::NoMemory
     }
@@ -73,15 +80,39 @@ pub struct TableText<'t> {
     fares: FareTable,
 }
 
+impl Model for TableText<'_> {
+    ghost use Rattle.fare_table.specs.Fares.{Fares};
+
+    ghost Value = { Fares };
+
+    ghost view = { λ t. t.fares };
+}
+
 impl<'t> TableText<'t> {
-    /// Reads the bytes of a file of this name, as lines show it.
-    pub fn read(alloc: Global, name: &str, bytes: &'t [u8]) -> Result<TableText<'t>, Refusal> {
+    ghost use Rattle.std.specs.Prelude.{◌≡◌, ◌≢◌, true, false, IfErr, IfOk, IsUtf8, Ok, OnOk};
+    ghost use Rattle.std.specs.Io.KnownBytes.{Appends};
+    ghost use Rattle.fare_table.specs.Meaning.{Means};
+    ghost use Rattle.fare_table.specs.TableMeaning.{TableMeaning, meaning_in};
+    ghost use Rattle.table_report.specs.SqlText.{has_names_in_line, sql_text};
+
+    /// Reads the bytes of a file of this name, as lines show it. A text is refused only if it means
+    /// no fare table, or for want of memory.
+    pub fn read(alloc: Global, name: &str, bytes: &'t [u8]) -> Result<TableText<'t>, Refusal>
+        ensures means { IfOk result (λ t. IsUtf8 bytes.now × Means bytes.now t) }
+        ensures refused { IfErr result (λ e. e ≢ Refusal.NoMemory → IsUtf8 bytes.now
+            → (meaning : TableMeaning) → ¬ (meaning_in bytes.now ≡ Ok meaning)) }
+    {
         let Ok(text) = str::from_utf8(bytes) else {
             return Err(Refusal::NotUtf8);
         };
         let tree = match toml::table_from_str(alloc, text) {
             Ok(tree) => tree,
-            Err(error) => return Err(not_toml(alloc, text, error)?),
+            Err(error) => {
+                if error.is_memory() {
+                    return Err(Refusal::NoMemory);
+                }
+                return Err(not_toml(alloc, text, error)?);
+            }
         };
         match FareTable::read(alloc, bytes) {
             Ok(fares) => Ok(TableText { text, tree, fares }),
@@ -98,7 +129,13 @@ impl<'t> TableText<'t> {
         wanted: &Wanted<'_>,
         seen: Option<&SeenValidators>,
         out: &mut W,
-    ) -> Result<Warnings, ReportFault> {
+    ) -> Result<Warnings, ReportFault>
+        ensures sql { OnOk result (wanted.now.is_sql ≡ true
+            → Appends (W.contents out.old) (W.contents out.new) (sql_text self.now)) }
+        ensures kept { IfErr result (λ fault. fault ≢ ReportFault.Write → out.new ≡ out.old) }
+        ensures named { IfErr result (λ fault. fault ≡ ReportFault.Name
+            → (wanted.now.is_sql ≡ true) × (has_names_in_line self.now ≡ false)) }
+    {
         let told = Told {
             name: wanted.name,
             text: self.text,
@@ -120,9 +157,6 @@ impl<'t> TableText<'t> {
 
 /// Why the text is no TOML, and where.
 fn not_toml(alloc: Global, text: &str, error: TomlError) -> Result<Refusal, AllocError> {
-    if error.is_memory() {
-        return Ok(Refusal::NoMemory);
-    }
     let start = match error.span() {
         Some(span) => span.start,
         None => 0,
