@@ -16,9 +16,7 @@ use fare_table::FareTable;
 use fields::put;
 use std::alloc::{AllocError, Global};
 use std::io::Write;
-use tables::{
-    put_classes, put_fares, put_modes, put_pairs, put_ranges, put_riders, put_zone,
-};
+use tables::{put_classes, put_fares, put_modes, put_pairs, put_ranges, put_riders, put_zone};
 
 /// Why a fare table was not written as SQL.
 #[derive(Clone, Copy, Debug, PartialEq, Eq, thiserror::Error)]
@@ -61,11 +59,7 @@ CREATE TABLE zone (rule TEXT NOT NULL);
 
 /// Writes a fare table as SQL: the statements that make its tables, and one for each row, in a
 /// transaction. On a fault of memory or of a name nothing was written.
-pub fn write_sql<W: Write>(
-    alloc: Global,
-    fares: &FareTable,
-    out: &mut W,
-) -> Result<(), SqlFault>
+pub fn write_sql<W: Write>(alloc: Global, fares: &FareTable, out: &mut W) -> Result<(), SqlFault>
     ensures ok { OnOk result
         (Appends (W.contents out.old) (W.contents out.new) (sql_text fares.now)) }
     ensures kept { IfErr result (λ fault. fault ≢ SqlFault.Write → out.new ≡ out.old) }
