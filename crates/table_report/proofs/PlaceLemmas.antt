@@ -1,14 +1,10 @@
 -- The statements of rows by the places of what they are of.
 use Rattle.std.proofs.Common.{◌≡◌, ◌∙◌, ◌+◌, ℕ, zero, suc, List, [], ◌∷◌, ◌++◌, ap, arith, append-nil}
-use Rattle.std.proofs.Common.{append_assoc, add-one, codes, map, sym}
+use Rattle.std.proofs.Common.{append_assoc, add-one, map, sym}
 use Rattle.std.proofs.lemmas.Grind.{flat_map-append}
 use Rattle.std.proofs.lemmas.List.{map-append}
 use Rattle.std.specs.List.{flat_map, range_with_len}
-use Rattle.fare_table.specs.Fares.{Fares}
-use Rattle.fare_table.specs.Riders.{by_bytes}
-use Rattle.tap_views.specs.Token.{bytes_of}
-use Rattle.tap_views.specs.declared.token.Token.{Token}
-use Rattle.table_report.specs.SqlRows.{Field, places, rider_row}
+use Rattle.table_report.specs.SqlRows.{Field, places}
 use Rattle.table_report.specs.SqlText.{statement, statements}
 
 range_more : (from n : ℕ) → range_with_len from (suc n) ≡ range_with_len from n ++ (from + n) ∷ []
@@ -79,16 +75,22 @@ next_field old mid new field more end one rest =
     chain old mid new field (more ++ end) one rest
     ∙ ap (λ (s : List ℕ). old ++ s) (sym (append_assoc field more end))
 
--- the statement of the next rider was appended
-pub rider_put : (fares : Fares) (whole text new : List ℕ) (one : Token × ℕ)
-    (left rest : List (Token × ℕ))
-    → whole ≡ text ++ statements (codes "riders") (map (rider_row fares) (by_bytes rest))
+-- the statement of the first of the rows that were left was appended
+pub first_put : {X : Type 0} (table : List ℕ) (row : X → List Field) (whole text new : List ℕ)
+    (one : X) (left rest : List X)
+    → whole ≡ text ++ statements table (map row rest)
     → rest ≡ one ∷ left
-    → new ≡ text ++ statement (codes "riders") (rider_row fares (bytes_of one.0, one.1))
-    → whole ≡ new ++ statements (codes "riders") (map (rider_row fares) (by_bytes left))
-rider_put fares whole text new one left rest all next more =
-    let row = statement (codes "riders") (rider_row fares (bytes_of one.0, one.1)) in
-    let others = statements (codes "riders") (map (rider_row fares) (by_bytes left)) in
-    all ∙ ap (λ (r : List (Token × ℕ)). text
-    ++ statements (codes "riders") (map (rider_row fares) (by_bytes r))) next
-    ∙ sym (append_assoc text row others) ∙ ap (λ (s : List ℕ). s ++ others) (sym more)
+    → new ≡ text ++ statement table (row one)
+    → whole ≡ new ++ statements table (map row left)
+first_put table row whole text new one left rest all next more =
+    let others = statements table (map row left) in
+    all ∙ ap (λ r. text ++ statements table (map row r)) next
+    ∙ sym (append_assoc text (statement table (row one)) others)
+    ∙ ap (λ (s : List ℕ). s ++ others) (sym more)
+
+-- the statements of all rows were appended
+pub none_left : {X : Type 0} (table : List ℕ) (row : X → List Field) (whole text : List ℕ)
+    (rest : List X)
+    → whole ≡ text ++ statements table (map row rest) → rest ≡ [] → text ≡ whole
+none_left table row whole text rest all none =
+    sym (all ∙ ap (λ r. text ++ statements table (map row r)) none ∙ append-nil text)

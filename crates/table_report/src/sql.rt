@@ -16,9 +16,7 @@ use fare_table::FareTable;
 use fields::put;
 use std::alloc::{AllocError, Global};
 use std::io::Write;
-use tables::{
-    put_classes, put_fares, put_modes, put_pairs, put_ranges, put_riders, put_zone,
-};
+use tables::{put_classes, put_fares, put_modes, put_pairs, put_ranges, put_riders, put_zone};
 
 /// Why a fare table was not written as SQL.
 #[derive(Clone, Copy, Debug, PartialEq, Eq, thiserror::Error)]

@@ -79,14 +79,14 @@ pub(super) fn put_pairs(text: &mut Vec<u8>, fares: &FareTable) -> Result<(), All
 }
 
 /// Appends the statements of the ranges.
-#[tactic(auto, using(std::proofs::lemmas::List::flat_map_more))]
 pub(super) fn put_ranges(text: &mut Vec<u8>, fares: &FareTable) -> Result<(), AllocError>
     ensures { OnOk result (text.new.items
         ≡ text.old.items ++ statements (codes "ranges") (range_rows fares.now)) }
 {
-    let ranges = fares.ranges();
-    for range in ranges {
+    let mut rest = fares.ranges();
+    while let Some((range, behind)) = rest.split_first() {
         put_range(text, fares, range.0, range.1)?;
+        rest = behind;
     }
     Ok(())
 }

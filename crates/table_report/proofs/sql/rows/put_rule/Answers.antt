@@ -15,5 +15,5 @@ returns c =
     chain old start new (codes "INSERT INTO zone VALUES (") (fields_text (rule_row c.args.rule.now) ++ end)
     c.in_ok-put.ensures
     (next_field start t1 new (quoted c.args.rule.now) [] end
-    c.in_ok-put_quoted.ensures
+    (c.in_ok-put_quoted.ensures ∙ ap (λ x. start ++ quoted x) c.as_bytes.ensures.value)
     c.in_ok-put-2.ensures)
