@@ -1,8 +1,8 @@
 //! The known key that is nearest to one that is ignored.
 
+use crate::holder::KeyHolder;
 use std::alloc::{AllocError, Global};
 use strsim::osa_distance;
-use crate::holder::KeyHolder;
 
 /// The keys that have a meaning at the top of a text.
 const TOP: [&str; 7] = [

@@ -59,11 +59,7 @@ CREATE TABLE zone (rule TEXT NOT NULL);
 
 /// Writes a fare table as SQL: the statements that make its tables, and one for each row, in a
 /// transaction. On a fault of memory or of a name nothing was written.
-pub fn write_sql<W: Write>(
-    alloc: Global,
-    fares: &FareTable,
-    out: &mut W,
-) -> Result<(), ReportFault>
+pub fn write_sql<W: Write>(alloc: Global, fares: &FareTable, out: &mut W) -> Result<(), ReportFault>
     ensures ok { OnOk result
         (Appends (W.contents out.old) (W.contents out.new) (sql_text fares.now)) }
     ensures kept { IfErr result (λ fault. fault ≢ ReportFault.Write → out.new ≡ out.old) }

@@ -25,11 +25,7 @@ pub(crate) struct Told<'a, 't> {
 }
 
 /// The path of the table that has a key.
-fn holder_path(
-    alloc: Global,
-    classes: &[String],
-    holder: KeyHolder,
-) -> Result<String, AllocError> {
+fn holder_path(alloc: Global, classes: &[String], holder: KeyHolder) -> Result<String, AllocError> {
     match holder {
         KeyHolder::Top => Ok(String::new(alloc)),
         KeyHolder::Class(place) => {

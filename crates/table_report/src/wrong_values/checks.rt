@@ -1,9 +1,9 @@
 //! What is wrong with the modes, the transfers, the classes and the zone of a text.
 
-use crate::paths::{item_path, key_path};
 use super::people::{check_default, check_riders};
 use super::ranges::check_ranges;
 use super::wrong::{Wrong, Wrongs};
+use crate::paths::{item_path, key_path};
 use jiff::tz::TimeZone;
 use std::alloc::{AllocError, Global};
 use toml::value::Array;

@@ -1,8 +1,8 @@
 //! What is wrong with the default class and the riders of a text.
 
 use super::checks::{LISTED_NAMES, one_of, top};
-use crate::paths::key_path;
 use super::wrong::Wrongs;
+use crate::paths::key_path;
 use hex::FromHex;
 use std::alloc::AllocError;
 use std::collections::BTreeMap;

@@ -1,8 +1,8 @@
 //! What is wrong with the ranges of validators of a text.
 
 use super::checks::{are_all, array_at, check_number, is_one_of, one_of};
-use crate::paths::{item_path, key_path};
 use super::wrong::Wrongs;
+use crate::paths::{item_path, key_path};
 use std::alloc::AllocError;
 use std::collections::BTreeMap;
 use toml::{Table, Value};
