@@ -1,5 +1,5 @@
 -- What the rides of a window cost, one after the other, where all have the same terms.
-use Rattle.std.specs.Prelude.{ℕ, suc, ◌+◌, ◌==◌, Bool, false, if◌then◌else◌, List, [], ◌∷◌, ◌++◌, map}
+use Rattle.std.specs.Prelude.{ℕ, ◌+◌, ◌==◌, Bool, false, if◌then◌else◌, List, [], ◌∷◌, ◌++◌, map}
 use Rattle.std.specs.Prelude.{Option, None, Some, codes}
 use Rattle.std.specs.Fmt.{decimal}
 use Rattle.account_rule.specs.Laws.{place_cents}
@@ -26,7 +26,7 @@ abbrev pub price_lines : List ℕ → Option ℕ → ℕ → List ℕ → List �
 price_lines name last ride [] = []
 price_lines name last ride (cents ∷ more) =
     (if is_same last cents then [] else price_line name ride cents)
-    ++ price_lines name (Some cents) (suc ride) more
+    ++ price_lines name (Some cents) (ride + 1) more
 
 -- the lines of what the rides of a class cost
 abbrev pub prices_text : List ℕ → Terms → List ℕ

@@ -55,6 +55,16 @@ pub(crate) fn push_ride_transfers(
     write!(text, "gives {name} transfers {taps} minutes {minutes}\n")
 }
 
+/// Whether the last ride, if there was one, cost the same.
+fn is_same(last: Option<u32>, cents: u32) -> bool
+    ensures { result ≡ is_same last cents }
+{
+    match last {
+        Some(last) => last == cents,
+        None => false,
+    }
+}
+
 /// Appends the line of a ride that costs other cents than the one before it. `ride` counts from 1.
 fn push_price(
     text: &mut String,
@@ -66,7 +76,7 @@ fn push_price(
     ensures { OnOk result (string_bytes text.new ≡ string_bytes text.old
         ++ (if is_same last cents then [] else price_line name.now ride cents)) }
 {
-    if last == Some(cents) {
+    if is_same(last, cents) {
         return Ok(());
     }
     write!(text, "price {name} from {ride} cents {cents}\n")?;
