@@ -1,5 +1,4 @@
 use Rattle.std.proofs.Common.{◌∙◌, ◌++◌, [], ap, codes, drop}
-use Rattle.std.specs.Fmt.{decimal}
 use Rattle.table_report.proofs.PlaceLemmas.{chain, next_field}
 use Rattle.table_report.specs.SqlRows.{two_modes, name_at}
 use Rattle.table_report.specs.SqlText.{fields_text, more_fields, quoted}

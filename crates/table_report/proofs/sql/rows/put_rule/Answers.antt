@@ -1,8 +1,7 @@
-use Rattle.std.proofs.Common.{◌∙◌, ◌++◌, [], ap, codes, drop}
-use Rattle.std.specs.Fmt.{decimal}
+use Rattle.std.proofs.Common.{◌∙◌, ◌++◌, [], ap, codes}
 use Rattle.table_report.proofs.PlaceLemmas.{chain, next_field}
 use Rattle.table_report.specs.SqlRows.{rule_row}
-use Rattle.table_report.specs.SqlText.{fields_text, more_fields, quoted}
+use Rattle.table_report.specs.SqlText.{fields_text, quoted}
 use Rattle.table_report.proofs.sql.rows.put_rule.Goals as goal
 
 pub returns : goal.returns
