@@ -4,6 +4,7 @@ use Rattle.std.proofs.Common.{append_assoc, add-one, map, sym}
 use Rattle.std.proofs.lemmas.Grind.{flat_map-append}
 use Rattle.std.proofs.lemmas.List.{map-append}
 use Rattle.std.specs.List.{flat_map, range_with_len}
+use Rattle.fare_texts.proofs.Parts.{in_parts}
 use Rattle.table_report.specs.SqlRows.{Field, places}
 use Rattle.table_report.specs.SqlText.{statement, statements}
 
@@ -63,16 +64,11 @@ pub one_statement : (table : List ℕ) (row : List Field)
     → statements table (row ∷ []) ≡ statement table row
 one_statement table row = append-nil (statement table row)
 
--- one text was appended, and then another
-pub chain : (old mid new a rest : List ℕ) → mid ≡ old ++ a → new ≡ mid ++ rest
-    → new ≡ old ++ (a ++ rest)
-chain old mid new a rest one more = more ∙ ap (λ (s : List ℕ). s ++ rest) one ∙ append_assoc old a rest
-
 -- a field was appended, and then the fields behind it and the end
 pub next_field : (old mid new field more end : List ℕ) → mid ≡ old ++ field
     → new ≡ mid ++ (more ++ end) → new ≡ old ++ ((field ++ more) ++ end)
 next_field old mid new field more end one rest =
-    chain old mid new field (more ++ end) one rest
+    in_parts old mid new field (more ++ end) one rest
     ∙ ap (λ (s : List ℕ). old ++ s) (sym (append_assoc field more end))
 
 -- the statement of the first of the rows that were left was appended

@@ -6,7 +6,7 @@ use Rattle.std.proofs.iter.Rest.{range_with_len_first, range_with_len_none}
 use Rattle.std.specs.List.{range_with_len}
 use Rattle.account_rule.specs.Laws.{place_cents}
 use Rattle.fare_table.specs.declared.terms.Terms.{Terms}
-use Rattle.table_report.specs.Prices.{is_same, price_line, price_lines}
+use Rattle.table_report.specs.inside.Prices.{is_same, price_line, price_lines}
 
 -- the lines from a ride on
 abbrev pub lines_from : List ℕ → Terms → Option ℕ → ℕ → ℕ → List ℕ

@@ -2,7 +2,7 @@
 
 ghost use Rattle.std.specs.Prelude.{◌≡◌, ◌++◌, [], OnOk, if◌then◌else◌, string_bytes};
 ghost use Rattle.fare_table.specs.Terms.{AreBoundedTerms};
-ghost use Rattle.table_report.specs.Prices.{is_same, price_line, prices_text};
+ghost use Rattle.table_report.specs.inside.Prices.{is_same, price_line, prices_text};
 
 use crate::names::mode_name;
 use account_rule::cents_at;

@@ -2,7 +2,7 @@ use Rattle.std.proofs.Common.{◌≡◌, ◌+◌, ◌-◌, ◌++◌, ℕ, None, 
 use Rattle.std.specs.List.{range_with_len}
 use Rattle.account_rule.specs.Laws.{place_cents}
 use Rattle.table_report.proofs.PriceLemmas.{all_put, price_put}
-use Rattle.table_report.specs.Prices.{price_lines, prices_text}
+use Rattle.table_report.specs.inside.Prices.{price_lines, prices_text}
 use Rattle.table_report.proofs.prices.push_prices.Goals as goal
 
 pub loop-place-init : goal.loop-place-init

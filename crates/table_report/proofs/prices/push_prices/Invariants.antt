@@ -1,6 +1,6 @@
 use Rattle.std.proofs.Common.{◌≡◌, ◌+◌, ◌++◌, string_bytes}
 use Rattle.table_report.proofs.PriceLemmas.{lines_from}
-use Rattle.table_report.specs.Prices.{prices_text}
+use Rattle.table_report.specs.inside.Prices.{prices_text}
 use Rattle.table_report.proofs.prices.push_prices.Given as goal
 
 -- the lines of all rides are those that stand there and those of the rides that are left

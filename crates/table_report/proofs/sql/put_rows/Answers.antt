@@ -1,5 +1,5 @@
 use Rattle.std.proofs.Common.{◌++◌, codes}
-use Rattle.table_report.proofs.PlaceLemmas.{chain}
+use Rattle.fare_texts.proofs.Parts.{in_parts}
 use Rattle.table_report.specs.SqlRows.{class_rows, fare_rows, mode_rows, pair_rows, range_rows}
 use Rattle.table_report.specs.SqlRows.{rider_rows, zone_rows}
 use Rattle.table_report.specs.SqlText.{statements}
@@ -15,16 +15,16 @@ returns c =
     let t5 = c.put_ranges.new.text.items in
     let t6 = c.put_riders.new.text.items in
     let t7 = c.put_zone.new.text.items in
-    chain old t1 t7 (statements (codes "classes") (class_rows c.args.fares.now))
+    in_parts old t1 t7 (statements (codes "classes") (class_rows c.args.fares.now))
     ((statements (codes "fares") (fare_rows c.args.fares.now) ++ (statements (codes "modes") (mode_rows c.args.fares.now) ++ (statements (codes "pairs") (pair_rows c.args.fares.now) ++ (statements (codes "ranges") (range_rows c.args.fares.now) ++ (statements (codes "riders") (rider_rows c.args.fares.now) ++ statements (codes "zone") (zone_rows c.args.fares.now))))))) c.in_ok-put_classes.ensures
-    (chain t1 t2 t7 (statements (codes "fares") (fare_rows c.args.fares.now))
+    (in_parts t1 t2 t7 (statements (codes "fares") (fare_rows c.args.fares.now))
     ((statements (codes "modes") (mode_rows c.args.fares.now) ++ (statements (codes "pairs") (pair_rows c.args.fares.now) ++ (statements (codes "ranges") (range_rows c.args.fares.now) ++ (statements (codes "riders") (rider_rows c.args.fares.now) ++ statements (codes "zone") (zone_rows c.args.fares.now)))))) c.in_ok-put_fares.ensures
-    (chain t2 t3 t7 (statements (codes "modes") (mode_rows c.args.fares.now))
+    (in_parts t2 t3 t7 (statements (codes "modes") (mode_rows c.args.fares.now))
     ((statements (codes "pairs") (pair_rows c.args.fares.now) ++ (statements (codes "ranges") (range_rows c.args.fares.now) ++ (statements (codes "riders") (rider_rows c.args.fares.now) ++ statements (codes "zone") (zone_rows c.args.fares.now))))) c.in_ok-put_modes.ensures
-    (chain t3 t4 t7 (statements (codes "pairs") (pair_rows c.args.fares.now))
+    (in_parts t3 t4 t7 (statements (codes "pairs") (pair_rows c.args.fares.now))
     ((statements (codes "ranges") (range_rows c.args.fares.now) ++ (statements (codes "riders") (rider_rows c.args.fares.now) ++ statements (codes "zone") (zone_rows c.args.fares.now)))) c.in_ok-put_pairs.ensures
-    (chain t4 t5 t7 (statements (codes "ranges") (range_rows c.args.fares.now))
+    (in_parts t4 t5 t7 (statements (codes "ranges") (range_rows c.args.fares.now))
     ((statements (codes "riders") (rider_rows c.args.fares.now) ++ statements (codes "zone") (zone_rows c.args.fares.now))) c.in_ok-put_ranges.ensures
-    (chain t5 t6 t7 (statements (codes "riders") (rider_rows c.args.fares.now))
+    (in_parts t5 t6 t7 (statements (codes "riders") (rider_rows c.args.fares.now))
     (statements (codes "zone") (zone_rows c.args.fares.now)) c.in_ok-put_riders.ensures
     c.in_ok-put_zone.ensures)))))

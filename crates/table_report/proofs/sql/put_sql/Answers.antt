@@ -1,5 +1,5 @@
 use Rattle.std.proofs.Common.{◌++◌, codes}
-use Rattle.table_report.proofs.PlaceLemmas.{chain}
+use Rattle.fare_texts.proofs.Parts.{in_parts}
 use Rattle.table_report.specs.SqlText.{rows_text, tables_text}
 use Rattle.table_report.proofs.sql.put_sql.Goals as goal
 
@@ -12,6 +12,6 @@ returns c =
     let new = c.put-2.new.text.items in
     let rows = rows_text c.args.fares.now in
     let end = codes "COMMIT;\n" in
-    chain old t1 new (codes "BEGIN;\n") (tables_text ++ (rows ++ end)) c.in_ok-put.ensures
-    (chain t1 t2 new tables_text (rows ++ end) c.in_ok-put_tables.ensures
-    (chain t2 t3 new rows end c.in_ok-put_rows.ensures c.in_ok-put-2.ensures))
+    in_parts old t1 new (codes "BEGIN;\n") (tables_text ++ (rows ++ end)) c.in_ok-put.ensures
+    (in_parts t1 t2 new tables_text (rows ++ end) c.in_ok-put_tables.ensures
+    (in_parts t2 t3 new rows end c.in_ok-put_rows.ensures c.in_ok-put-2.ensures))

@@ -2,7 +2,8 @@ use Rattle.std.proofs.Common.{◌∙◌, ◌++◌, [], ap, codes, drop}
 use Rattle.std.specs.Fmt.{decimal}
 use Rattle.fare_table.specs.Fares.{class_at}
 use Rattle.fare_table.specs.declared.class.Class.{Class}
-use Rattle.table_report.proofs.PlaceLemmas.{chain, next_field}
+use Rattle.fare_texts.proofs.Parts.{in_parts}
+use Rattle.table_report.proofs.PlaceLemmas.{next_field}
 use Rattle.table_report.specs.SqlRows.{class_row, default_mark, name_at}
 use Rattle.table_report.specs.SqlText.{fields_text, more_fields, quoted}
 use Rattle.table_report.proofs.sql.rows.put_class.Goals as goal
@@ -20,7 +21,7 @@ returns c =
     let t7 = c.put_next_number-6.new.text.items in
     let new = c.put-2.new.text.items in
     let end = codes ");\n" in
-    chain old start new (codes "INSERT INTO classes VALUES (") (fields_text (class_row c.args.fares.now c.args.place) ++ end)
+    in_parts old start new (codes "INSERT INTO classes VALUES (") (fields_text (class_row c.args.fares.now c.args.place) ++ end)
     c.in_ok-put.ensures
     (next_field start t1 new (quoted (name_at c.args.fares.now.meaning.names c.args.place)) (more_fields (drop 1 (class_row c.args.fares.now c.args.place))) end
     (c.in_ok-put_quoted.ensures ∙ ap (λ x. start ++ quoted x) c.class_name.ensures)

@@ -1,7 +1,8 @@
 use Rattle.std.proofs.Common.{◌∙◌, ◌++◌, [], ap, codes, drop}
 use Rattle.std.specs.Fmt.{decimal}
 use Rattle.fare_table.specs.Fares.{ride_terms}
-use Rattle.table_report.proofs.PlaceLemmas.{chain, next_field}
+use Rattle.fare_texts.proofs.Parts.{in_parts}
+use Rattle.table_report.proofs.PlaceLemmas.{next_field}
 use Rattle.table_report.specs.SqlRows.{fare_row, name_at}
 use Rattle.table_report.specs.SqlText.{fields_text, more_fields, quoted}
 use Rattle.table_report.proofs.sql.rows.put_fare.Goals as goal
@@ -15,7 +16,7 @@ returns c =
     let t3 = c.put_next_number.new.text.items in
     let new = c.put-2.new.text.items in
     let end = codes ");\n" in
-    chain old start new (codes "INSERT INTO fares VALUES (") (fields_text (fare_row c.args.fares.now c.args.class c.args.mode) ++ end)
+    in_parts old start new (codes "INSERT INTO fares VALUES (") (fields_text (fare_row c.args.fares.now c.args.class c.args.mode) ++ end)
     c.in_ok-put.ensures
     (next_field start t1 new (quoted (name_at c.args.fares.now.meaning.names c.args.class)) (more_fields (drop 1 (fare_row c.args.fares.now c.args.class c.args.mode))) end
     (c.in_ok-put_quoted.ensures ∙ ap (λ x. start ++ quoted x) c.class_name.ensures)

@@ -1,6 +1,7 @@
 use Rattle.std.proofs.Common.{◌∙◌, ◌++◌, [], ap, codes, drop}
 use Rattle.std.specs.Fmt.{decimal}
-use Rattle.table_report.proofs.PlaceLemmas.{chain, next_field}
+use Rattle.fare_texts.proofs.Parts.{in_parts}
+use Rattle.table_report.proofs.PlaceLemmas.{next_field}
 use Rattle.table_report.specs.SqlRows.{range_row, name_at}
 use Rattle.table_report.specs.SqlText.{fields_text, more_fields, quoted}
 use Rattle.table_report.proofs.sql.rows.put_range.Goals as goal
@@ -14,7 +15,7 @@ returns c =
     let t3 = c.put_next_quoted.new.text.items in
     let new = c.put-2.new.text.items in
     let end = codes ");\n" in
-    chain old start new (codes "INSERT INTO ranges VALUES (") (fields_text (range_row c.args.fares.now (c.args.first, c.args.rest)) ++ end)
+    in_parts old start new (codes "INSERT INTO ranges VALUES (") (fields_text (range_row c.args.fares.now (c.args.first, c.args.rest)) ++ end)
     c.in_ok-put.ensures
     (next_field start t1 new (decimal c.args.first) (more_fields (drop 1 (range_row c.args.fares.now (c.args.first, c.args.rest)))) end
     c.in_ok-put_number.ensures
