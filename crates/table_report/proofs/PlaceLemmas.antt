@@ -1,5 +1,6 @@
 -- The statements of rows by the places of what they are of.
-use Rattle.std.proofs.Common.{◌≡◌, ◌∙◌, ◌+◌, ℕ, zero, suc, List, [], ◌∷◌, ◌++◌, ap, arith, append-nil}
+use Rattle.std.proofs.Common.{◌≡◌, ◌∙◌, ◌+◌, ℕ, zero, suc, List, [], ◌∷◌, ◌++◌, ap, arith}
+use Rattle.std.proofs.Common.{append-nil}
 use Rattle.std.proofs.Common.{append_assoc, add-one, map, sym}
 use Rattle.std.proofs.lemmas.Grind.{flat_map-append}
 use Rattle.std.proofs.lemmas.List.{map-append}
@@ -36,7 +37,8 @@ groups_more table rows n =
     ap (λ (s : List ℕ). statements table (flat_map rows s)) (places_more n)
     ∙ ap (statements table) (flat_map-append rows (places n) (n ∷ []))
     ∙ flat_map-append (statement table) (flat_map rows (places n)) (rows n ++ [])
-    ∙ ap (λ (s : List (List Field)). statements table (flat_map rows (places n)) ++ statements table s)
+    ∙ ap (λ (s : List (List Field)). statements table (flat_map rows (places n)) ++ statements table
+    s)
     (append-nil (rows n))
 
 -- the statement of the row of one more place was appended

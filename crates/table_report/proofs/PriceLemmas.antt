@@ -1,5 +1,6 @@
 -- The lines of what the rides of a window cost.
-use Rattle.std.proofs.Common.{◌≡◌, ◌∙◌, ◌+◌, ◌-◌, ◌<◌, ◌≤◌, ℕ, List, [], ◌++◌, Option, Some, ap, append-nil}
+use Rattle.std.proofs.Common.{◌≡◌, ◌∙◌, ◌+◌, ◌-◌, ◌<◌, ◌≤◌, ℕ, List, [], ◌++◌, Option, Some, ap}
+use Rattle.std.proofs.Common.{append-nil}
 use Rattle.std.proofs.Common.{append_assoc, map, subst, sym}
 use Rattle.std.specs.Prelude.{if◌then◌else◌}
 use Rattle.std.proofs.iter.Rest.{range_with_len_first, range_with_len_none}
@@ -11,7 +12,8 @@ use Rattle.table_report.specs.inside.Prices.{is_same, price_line, price_lines}
 -- the lines from a ride on
 abbrev pub lines_from : List ℕ → Terms → Option ℕ → ℕ → ℕ → List ℕ
 lines_from name terms last place stop =
-    price_lines name last (place + 1) (map (place_cents terms) (range_with_len place (stop - place)))
+    price_lines name last (place + 1) (map (place_cents terms) (range_with_len place (stop -
+    place)))
 
 -- the line of a ride, if it costs other cents
 abbrev pub line_of : List ℕ → Option ℕ → ℕ → ℕ → List ℕ
@@ -37,7 +39,7 @@ pub price_put : (name : List ℕ) (terms : Terms) (whole text new : List ℕ) (l
     → whole ≡ new ++ lines_from name terms (Some cents) (place + 1) stop
 price_put name terms whole text new last place stop cents below is all more =
     let P : ℕ → Type 0 = λ n. new ≡ text ++ line_of name last (place + 1) n
-        → whole ≡ new ++ lines_from name terms (Some n) (place + 1) stop in
+    → whole ≡ new ++ lines_from name terms (Some n) (place + 1) stop in
     subst P (sym is) (first_line name terms whole text new last place stop below all) more
 
 -- the lines of all rides were appended

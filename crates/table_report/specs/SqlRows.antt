@@ -1,6 +1,6 @@
 -- The rows of the SQL tables that a fare table is written as.
-use Rattle.std.specs.Prelude.{ℕ, List, [], ◌∷◌, Option, None, Some, ◌==◌, if◌then◌else◌, length, map}
-use Rattle.std.specs.Prelude.{slice_index_or}
+use Rattle.std.specs.Prelude.{ℕ, List, [], ◌∷◌, Option, None, Some, ◌==◌, if◌then◌else◌, length}
+use Rattle.std.specs.Prelude.{map, slice_index_or}
 use Rattle.std.specs.List.{flat_map, range_with_len}
 use Rattle.fare_table.specs.Fares.{Fares, class_at, is_permitted, ride_terms, transfer_terms}
 use Rattle.fare_table.specs.declared.validators.RangeRest.{RangeRest}

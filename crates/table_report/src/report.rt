@@ -121,8 +121,8 @@ impl<'t> TableText<'t> {
         }
     }
 
-    /// Writes what the table is understood as, and returns its warnings. They speak of its ranges only
-    /// if the validators of some uploads were seen.
+    /// Writes what the table is understood as, and returns its warnings. They speak of its ranges
+    /// only if the validators of some uploads were seen.
     pub fn write<W: Write>(
         &self,
         alloc: Global,

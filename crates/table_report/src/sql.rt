@@ -33,9 +33,9 @@ pub enum ReportFault {
 }
 
 impl From<AllocError> for ReportFault {
-    ghost use Rattle.table_report.specs.declared.sql.ReportFault.TheVariants.{NoMemory as ForMemory};
+    ghost use Rattle.table_report.specs.declared.sql.ReportFault.TheVariants as faults;
 
-    ghost from_gives = { λ _ fault. fault ≡ ForMemory };
+    ghost from_gives = { λ _ fault. fault ≡ faults.NoMemory };
 
     fn from(_refused: AllocError) -> Self {
         ReportFault::NoMemory

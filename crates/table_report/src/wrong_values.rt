@@ -11,8 +11,8 @@ use checks::wrongs_of;
 use std::alloc::{AllocError, Global};
 use toml::Table;
 
-/// The lines of what is wrong with the text of a file of this name, key by key in the order in which
-/// its keys are read. Empty if no value was found to be wrong.
+/// The lines of what is wrong with the text of a file of this name, key by key in the order in
+/// which its keys are read. Empty if no value was found to be wrong.
 pub(crate) fn wrong_lines(
     alloc: Global,
     name: &str,

@@ -10,7 +10,8 @@ loop-place-init c =
     let stop = c.args.terms.rides + 1 in
     let same : stop ≡ stop - 0 = omega arith in
     ap (λ (n : ℕ). string_bytes c.args.text.now
-    ++ price_lines c.args.name.now None 1 (map (place_cents c.args.terms) (range_with_len 0 n))) same
+    ++ price_lines c.args.name.now None 1 (map (place_cents c.args.terms) (range_with_len 0 n)))
+    same
 
 pub loop-place-preserved : goal.loop-place-preserved
 loop-place-preserved c =

@@ -16,15 +16,27 @@ returns c =
     let t6 = c.put_riders.new.text.items in
     let t7 = c.put_zone.new.text.items in
     in_parts old t1 t7 (statements (codes "classes") (class_rows c.args.fares.now))
-    ((statements (codes "fares") (fare_rows c.args.fares.now) ++ (statements (codes "modes") (mode_rows c.args.fares.now) ++ (statements (codes "pairs") (pair_rows c.args.fares.now) ++ (statements (codes "ranges") (range_rows c.args.fares.now) ++ (statements (codes "riders") (rider_rows c.args.fares.now) ++ statements (codes "zone") (zone_rows c.args.fares.now))))))) c.in_ok-put_classes.ensures
+    ((statements (codes "fares") (fare_rows c.args.fares.now) ++ (statements (codes "modes")
+    (mode_rows c.args.fares.now) ++ (statements (codes "pairs") (pair_rows c.args.fares.now) ++
+    (statements (codes "ranges") (range_rows c.args.fares.now) ++ (statements (codes "riders")
+    (rider_rows c.args.fares.now) ++ statements (codes "zone") (zone_rows c.args.fares.now)))))))
+    c.in_ok-put_classes.ensures
     (in_parts t1 t2 t7 (statements (codes "fares") (fare_rows c.args.fares.now))
-    ((statements (codes "modes") (mode_rows c.args.fares.now) ++ (statements (codes "pairs") (pair_rows c.args.fares.now) ++ (statements (codes "ranges") (range_rows c.args.fares.now) ++ (statements (codes "riders") (rider_rows c.args.fares.now) ++ statements (codes "zone") (zone_rows c.args.fares.now)))))) c.in_ok-put_fares.ensures
+    ((statements (codes "modes") (mode_rows c.args.fares.now) ++ (statements (codes "pairs")
+    (pair_rows c.args.fares.now) ++ (statements (codes "ranges") (range_rows c.args.fares.now) ++
+    (statements (codes "riders") (rider_rows c.args.fares.now) ++ statements (codes "zone")
+    (zone_rows c.args.fares.now)))))) c.in_ok-put_fares.ensures
     (in_parts t2 t3 t7 (statements (codes "modes") (mode_rows c.args.fares.now))
-    ((statements (codes "pairs") (pair_rows c.args.fares.now) ++ (statements (codes "ranges") (range_rows c.args.fares.now) ++ (statements (codes "riders") (rider_rows c.args.fares.now) ++ statements (codes "zone") (zone_rows c.args.fares.now))))) c.in_ok-put_modes.ensures
+    ((statements (codes "pairs") (pair_rows c.args.fares.now) ++ (statements (codes "ranges")
+    (range_rows c.args.fares.now) ++ (statements (codes "riders") (rider_rows c.args.fares.now) ++
+    statements (codes "zone") (zone_rows c.args.fares.now))))) c.in_ok-put_modes.ensures
     (in_parts t3 t4 t7 (statements (codes "pairs") (pair_rows c.args.fares.now))
-    ((statements (codes "ranges") (range_rows c.args.fares.now) ++ (statements (codes "riders") (rider_rows c.args.fares.now) ++ statements (codes "zone") (zone_rows c.args.fares.now)))) c.in_ok-put_pairs.ensures
+    ((statements (codes "ranges") (range_rows c.args.fares.now) ++ (statements (codes "riders")
+    (rider_rows c.args.fares.now) ++ statements (codes "zone") (zone_rows c.args.fares.now))))
+    c.in_ok-put_pairs.ensures
     (in_parts t4 t5 t7 (statements (codes "ranges") (range_rows c.args.fares.now))
-    ((statements (codes "riders") (rider_rows c.args.fares.now) ++ statements (codes "zone") (zone_rows c.args.fares.now))) c.in_ok-put_ranges.ensures
+    ((statements (codes "riders") (rider_rows c.args.fares.now) ++ statements (codes "zone")
+    (zone_rows c.args.fares.now))) c.in_ok-put_ranges.ensures
     (in_parts t5 t6 t7 (statements (codes "riders") (rider_rows c.args.fares.now))
     (statements (codes "zone") (zone_rows c.args.fares.now)) c.in_ok-put_riders.ensures
     c.in_ok-put_zone.ensures)))))

@@ -16,12 +16,16 @@ returns c =
     let t3 = c.put_next_number.new.text.items in
     let new = c.put-2.new.text.items in
     let end = codes ");\n" in
-    in_parts old start new (codes "INSERT INTO fares VALUES (") (fields_text (fare_row c.args.fares.now c.args.class c.args.mode) ++ end)
+    in_parts old start new (codes "INSERT INTO fares VALUES (") (fields_text (fare_row
+    c.args.fares.now c.args.class c.args.mode) ++ end)
     c.in_ok-put.ensures
-    (next_field start t1 new (quoted (name_at c.args.fares.now.meaning.names c.args.class)) (more_fields (drop 1 (fare_row c.args.fares.now c.args.class c.args.mode))) end
+    (next_field start t1 new (quoted (name_at c.args.fares.now.meaning.names c.args.class))
+    (more_fields (drop 1 (fare_row c.args.fares.now c.args.class c.args.mode))) end
     (c.in_ok-put_quoted.ensures ∙ ap (λ x. start ++ quoted x) c.class_name.ensures)
-    (next_field t1 t2 new (codes ", " ++ quoted (name_at c.args.fares.now.meaning.modes c.args.mode)) (more_fields (drop 2 (fare_row c.args.fares.now c.args.class c.args.mode))) end
+    (next_field t1 t2 new (codes ", " ++ quoted (name_at c.args.fares.now.meaning.modes
+    c.args.mode)) (more_fields (drop 2 (fare_row c.args.fares.now c.args.class c.args.mode))) end
     (c.in_ok-put_next_quoted.ensures ∙ ap (λ x. t1 ++ (codes ", " ++ quoted x)) c.mode_name.ensures)
-    (next_field t2 t3 new (codes ", " ++ decimal (ride_terms c.args.fares.now c.args.class c.args.mode).fare) [] end
+    (next_field t2 t3 new (codes ", " ++ decimal (ride_terms c.args.fares.now c.args.class
+    c.args.mode).fare) [] end
     (c.in_ok-put_next_number.ensures ∙ ap (λ x. t2 ++ (codes ", " ++ decimal x)) c.fare_at.ensures)
     c.in_ok-put-2.ensures)))

@@ -12,7 +12,8 @@ returns c =
     let t1 = c.put_quoted.new.text.items in
     let new = c.put-2.new.text.items in
     let end = codes ");\n" in
-    in_parts old start new (codes "INSERT INTO modes VALUES (") (fields_text (mode_row c.args.fares.now c.args.place) ++ end)
+    in_parts old start new (codes "INSERT INTO modes VALUES (") (fields_text (mode_row
+    c.args.fares.now c.args.place) ++ end)
     c.in_ok-put.ensures
     (next_field start t1 new (quoted (name_at c.args.fares.now.meaning.modes c.args.place)) [] end
     (c.in_ok-put_quoted.ensures ∙ ap (λ x. start ++ quoted x) c.mode_name.ensures)

@@ -15,12 +15,16 @@ returns c =
     let t3 = c.put_next_quoted.new.text.items in
     let new = c.put-2.new.text.items in
     let end = codes ");\n" in
-    in_parts old start new (codes "INSERT INTO ranges VALUES (") (fields_text (range_row c.args.fares.now (c.args.first, c.args.rest)) ++ end)
+    in_parts old start new (codes "INSERT INTO ranges VALUES (") (fields_text (range_row
+    c.args.fares.now (c.args.first, c.args.rest)) ++ end)
     c.in_ok-put.ensures
-    (next_field start t1 new (decimal c.args.first) (more_fields (drop 1 (range_row c.args.fares.now (c.args.first, c.args.rest)))) end
+    (next_field start t1 new (decimal c.args.first) (more_fields (drop 1 (range_row c.args.fares.now
+    (c.args.first, c.args.rest)))) end
     c.in_ok-put_number.ensures
-    (next_field t1 t2 new (codes ", " ++ decimal c.args.rest.last) (more_fields (drop 2 (range_row c.args.fares.now (c.args.first, c.args.rest)))) end
+    (next_field t1 t2 new (codes ", " ++ decimal c.args.rest.last) (more_fields (drop 2 (range_row
+    c.args.fares.now (c.args.first, c.args.rest)))) end
     c.in_ok-put_next_number.ensures
-    (next_field t2 t3 new (codes ", " ++ quoted (name_at c.args.fares.now.meaning.modes c.args.rest.mode)) [] end
+    (next_field t2 t3 new (codes ", " ++ quoted (name_at c.args.fares.now.meaning.modes
+    c.args.rest.mode)) [] end
     (c.in_ok-put_next_quoted.ensures ∙ ap (λ x. t2 ++ (codes ", " ++ quoted x)) c.mode_name.ensures)
     c.in_ok-put-2.ensures)))

@@ -12,7 +12,8 @@ returns c =
     let t1 = c.put_quoted.new.text.items in
     let new = c.put-2.new.text.items in
     let end = codes ");\n" in
-    in_parts old start new (codes "INSERT INTO zone VALUES (") (fields_text (rule_row c.args.rule.now) ++ end)
+    in_parts old start new (codes "INSERT INTO zone VALUES (") (fields_text (rule_row
+    c.args.rule.now) ++ end)
     c.in_ok-put.ensures
     (next_field start t1 new (quoted c.args.rule.now) [] end
     (c.in_ok-put_quoted.ensures ∙ ap (λ x. start ++ quoted x) c.as_bytes.ensures.value)

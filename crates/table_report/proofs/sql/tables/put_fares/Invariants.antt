@@ -6,4 +6,5 @@ use Rattle.table_report.proofs.sql.tables.put_fares.Given as goal
 
 abbrev pub invariant-loop-class : goal.invariant-loop-class
 invariant-loop-class l = l.text.items
-    ≡ l.fn.text.items ++ statements (codes "fares") (flat_map (fare_rows_of l.fares) (places l.class))
+    ≡ l.fn.text.items ++ statements (codes "fares") (flat_map (fare_rows_of l.fares) (places
+    l.class))

@@ -6,4 +6,5 @@ use Rattle.table_report.proofs.sql.tables.put_pairs.Given as goal
 
 abbrev pub invariant-loop-from : goal.invariant-loop-from
 invariant-loop-from l = l.text.items
-    ≡ l.fn.text.items ++ statements (codes "pairs") (flat_map (pair_rows_of l.fares) (places l.from))
+    ≡ l.fn.text.items ++ statements (codes "pairs") (flat_map (pair_rows_of l.fares) (places
+    l.from))

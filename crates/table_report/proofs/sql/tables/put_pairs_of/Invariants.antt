@@ -6,4 +6,5 @@ use Rattle.table_report.proofs.sql.tables.put_pairs_of.Given as goal
 
 abbrev pub invariant-loop-to : goal.invariant-loop-to
 invariant-loop-to l = l.text.items
-    ≡ l.fn.text.items ++ statements (codes "pairs") (flat_map (pair_row l.fares l.from) (places l.to))
+    ≡ l.fn.text.items ++ statements (codes "pairs") (flat_map (pair_row l.fares l.from) (places
+    l.to))
