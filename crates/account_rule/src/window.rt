@@ -123,8 +123,7 @@ pub fn cents_at(terms: Terms, place: u32) -> u32
     requires place { place ≤ 1_000 }
     ensures { result ≡ place_cents terms place }
 {
-    let earlier = (place * terms.fare).min(terms.ceiling);
-    charge(terms, place, earlier).cents()
+    charge(terms, place, place * terms.fare).cents()
 }
 
 /// What decides the cents of a ride, if its window has had `rides` rides, which cost `cents`.
