@@ -80,7 +80,7 @@ pub struct TableText<'t> {
     fares: FareTable,
 }
 
-impl Model for TableText<'_> {
+impl<'t> Model for TableText<'t> {
     ghost use Rattle.fare_table.specs.Fares.{Fares};
 
     ghost Value = { Fares };
