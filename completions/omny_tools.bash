@@ -25,7 +25,7 @@ _omny_tools() {
     corrections) words='--tokens' ending=csv ;;
     uploads) words='--good-part --tokens --look --within --from --until --table --list' ;;
     table)
-        words='--strict --riders --from'
+        words='--strict --riders --from --sql'
         [[ ${COMP_WORDS[*]:1:COMP_CWORD - 1} == *.toml* ]] || ending=toml
         ;;
     sort) words='--merge --out --ends' ;;

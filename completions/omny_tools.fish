@@ -51,6 +51,7 @@ complete -c omny_tools -n '__fish_seen_subcommand_from corrections' -l tokens \
 set -l table '__fish_seen_subcommand_from table'
 complete -c omny_tools -n $table -l strict -d 'Let the status be 1 if there is a warning'
 complete -c omny_tools -n $table -l riders -d 'Show each rider with its class'
+complete -c omny_tools -n $table -l sql -d 'Write the table as SQL tables'
 complete -c omny_tools -n $table -l from -x -d 'Show the changes of clocks after this moment'
 complete -c omny_tools -n __omny_tools_no_table -k -a '(__omny_tools_files .toml)'
 complete -c omny_tools -n "$table; and not __omny_tools_no_table" -k -a '(__omny_tools_files .tap)'

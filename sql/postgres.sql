@@ -19,7 +19,7 @@ CREATE TABLE line (
   validator    bigint      NOT NULL CHECK (validator BETWEEN 0 AND 4294967295),
   mode         text        COLLATE "C" CHECK ((mode IS NULL) = (answer = 'unknown')),
   answer       text        COLLATE "C" NOT NULL,
-  cents        bigint      NOT NULL CHECK ((cents > 0) = (answer = 'paid')),
+  cents        bigint      NOT NULL CHECK (cents >= 0 AND (cents = 0 OR answer = 'paid')),
   window_start timestamptz CHECK ((window_start IS NOT NULL) = (answer IN ('paid', 'capped'))),
   window_end   timestamptz CHECK ((window_end IS NOT NULL) = (answer IN ('paid', 'capped'))),
   ride         bigint,
@@ -55,11 +55,20 @@ ALTER TABLE trace ADD PRIMARY KEY (token, line), ADD UNIQUE (upload, place);
 -- the views of schema.sql
 CREATE VIEW live_taps AS
   SELECT token, line, mode, answer, last_mode, last_answer,
-         round(extract(epoch FROM moment - last_moment) * 1000)::bigint AS ms
-  FROM (SELECT token, line, moment, mode, answer, lag(moment) OVER earlier AS last_moment,
-               lag(mode) OVER earlier AS last_mode, lag(answer) OVER earlier AS last_answer
-          FROM line WHERE answer IN ('paid', 'capped', 'transfer')
-          WINDOW earlier AS (PARTITION BY token ORDER BY line)) AS taps;
+         round(extract(epoch FROM moment - last_moment) * 1000)::bigint AS ms,
+         ride_line, round(extract(epoch FROM moment - ride_moment) * 1000)::bigint AS ride_ms,
+         place - ride_place - 1 AS given
+  FROM (SELECT token, line, moment, mode, answer, place, lag(moment) OVER earlier AS last_moment,
+               lag(mode) OVER earlier AS last_mode, lag(answer) OVER earlier AS last_answer,
+               max(CASE WHEN answer <> 'transfer' THEN line END) OVER all_earlier AS ride_line,
+               max(CASE WHEN answer <> 'transfer' THEN moment END) OVER all_earlier AS ride_moment,
+               max(CASE WHEN answer <> 'transfer' THEN place END) OVER all_earlier AS ride_place
+          FROM (SELECT token, line, moment, mode, answer,
+                       row_number() OVER (PARTITION BY token ORDER BY line) AS place
+                  FROM line WHERE answer IN ('paid', 'capped', 'transfer')) AS placed
+          WINDOW earlier AS (PARTITION BY token ORDER BY line),
+                 all_earlier AS (PARTITION BY token ORDER BY line
+                                 ROWS BETWEEN UNBOUNDED PRECEDING AND 1 PRECEDING)) AS taps;
 CREATE VIEW rides AS
   SELECT token, line, day, moment, window_start, window_end,
          round(extract(epoch FROM window_end - window_start) * 1000)::bigint AS ms

@@ -51,8 +51,13 @@ SELECT token, window_start FROM line WHERE answer IN ('paid', 'capped')
 SELECT 'must be empty: a transfer without its ride' AS question;
 SELECT token, line FROM transfer_ride WHERE ride_line IS NULL ORDER BY token, line LIMIT 10;
 
-SELECT 'must be empty: a ride that gives two transfers' AS question;
-SELECT token, ride_line FROM transfer_ride GROUP BY token, ride_line HAVING count(*) > 1
+SELECT 'must be empty: a transfer that points at another ride than the last one' AS question;
+SELECT t.token, t.line FROM transfer_ride AS t
+  JOIN live_taps AS l ON l.token = t.token AND l.line = t.line
+  WHERE t.ride_line <> l.ride_line ORDER BY t.token, t.line LIMIT 10;
+
+SELECT 'must be empty: a ride that gives more than nine transfers' AS question;
+SELECT token, ride_line FROM transfer_ride GROUP BY token, ride_line HAVING count(*) > 9
   ORDER BY token, ride_line LIMIT 10;
 
 SELECT 'must be empty: a stale tap that is later than what it points at' AS question;

@@ -9,7 +9,7 @@ CREATE TABLE line (
   validator    INTEGER NOT NULL CHECK (validator BETWEEN 0 AND 4294967295),
   mode         TEXT    CHECK ((mode IS NULL) = (answer = 'unknown')),
   answer       TEXT    NOT NULL,
-  cents        INTEGER NOT NULL CHECK ((cents > 0) = (answer = 'paid')),
+  cents        INTEGER NOT NULL CHECK (cents >= 0 AND (cents = 0 OR answer = 'paid')),
   window_start TEXT    CHECK ((window_start IS NOT NULL) = (answer = 'paid' OR answer = 'capped')),
   window_end   TEXT    CHECK ((window_end IS NOT NULL) = (answer = 'paid' OR answer = 'capped')),
   ride         INTEGER,                             -- the ride's place in its window, from 1
@@ -35,14 +35,25 @@ CREATE TABLE trace (
   UNIQUE (upload, place)
 ) WITHOUT ROWID;
 
--- The live taps of each token: the milliseconds since the live tap before it, its mode and answer.
+-- The live taps of each token: the milliseconds since the live tap before it, its mode and answer,
+-- then the milliseconds since the last ride before it, and how many transfers came since then.
 CREATE VIEW live_taps AS
   SELECT token, line, mode, answer, last_mode, last_answer,
-         CAST(round((julianday(moment) - julianday(last_moment)) * 86400000) AS INTEGER) AS ms
-  FROM (SELECT token, line, moment, mode, answer, lag(moment) OVER earlier AS last_moment,
-               lag(mode) OVER earlier AS last_mode, lag(answer) OVER earlier AS last_answer
-          FROM line WHERE answer IN ('paid', 'capped', 'transfer')
-          WINDOW earlier AS (PARTITION BY token ORDER BY line)) AS taps;
+         CAST(round((julianday(moment) - julianday(last_moment)) * 86400000) AS INTEGER) AS ms,
+         ride_line,
+         CAST(round((julianday(moment) - julianday(ride_moment)) * 86400000) AS INTEGER) AS ride_ms,
+         place - ride_place - 1 AS given
+  FROM (SELECT token, line, moment, mode, answer, place, lag(moment) OVER earlier AS last_moment,
+               lag(mode) OVER earlier AS last_mode, lag(answer) OVER earlier AS last_answer,
+               max(CASE WHEN answer <> 'transfer' THEN line END) OVER all_earlier AS ride_line,
+               max(CASE WHEN answer <> 'transfer' THEN moment END) OVER all_earlier AS ride_moment,
+               max(CASE WHEN answer <> 'transfer' THEN place END) OVER all_earlier AS ride_place
+          FROM (SELECT token, line, moment, mode, answer,
+                       row_number() OVER (PARTITION BY token ORDER BY line) AS place
+                  FROM line WHERE answer IN ('paid', 'capped', 'transfer')) AS placed
+          WINDOW earlier AS (PARTITION BY token ORDER BY line),
+                 all_earlier AS (PARTITION BY token ORDER BY line
+                                 ROWS BETWEEN UNBOUNDED PRECEDING AND 1 PRECEDING)) AS taps;
 
 -- The rides, and the milliseconds of their windows.
 CREATE VIEW rides AS

@@ -1,21 +1,27 @@
 -- Questions that know the fare table, in words that SQLite and PostgreSQL share: each row is a
--- fault of the ledger under that table. They read the tables that sql/table writes. The days of the
--- books are to be those of the table's zone (sql/load LEDGER BOOKS ZONE).
+-- fault of the ledger under that table. They read the tables that `omny_tools table --sql` writes.
+-- The days of the books are to be those of the table's zone (sql/load LEDGER BOOKS ZONE).
 
 SELECT 'must be empty: a validator with another mode than the table''s' AS question;
 SELECT v.validator, v.mode FROM (SELECT DISTINCT validator, mode FROM line) AS v
   LEFT JOIN ranges ON v.validator BETWEEN first_validator AND last_validator
   WHERE coalesce(v.mode, '') <> coalesce(ranges.mode, '') ORDER BY v.validator LIMIT 10;
 
-SELECT 'must be empty: a ride with other cents or another reason than its place gives' AS question;
+-- What is left of the ceiling counts the cents that the window's earlier rides have in the ledger.
+SELECT 'must be empty: a ride with other cents or another reason than its class gives' AS question;
 SELECT token, line, cents, reason FROM (
-    SELECT l.token, l.line, l.cents, l.reason, l.ride, c.fare, c.rides,
-           c.ceiling - (l.ride - 1) * c.fare AS rest
-      FROM line AS l LEFT JOIN riders AS r ON r.token = l.token
+    SELECT l.token, l.line, l.cents, l.reason, l.ride, f.fare, c.rides,
+           c.ceiling - l.earlier_cents AS rest
+      FROM (SELECT token, line, mode, cents, reason, ride,
+                   coalesce(sum(cents) OVER (PARTITION BY token, window_start ORDER BY line
+                            ROWS BETWEEN UNBOUNDED PRECEDING AND 1 PRECEDING), 0) AS earlier_cents
+              FROM line WHERE answer IN ('paid', 'capped')) AS l
+      LEFT JOIN riders AS r ON r.token = l.token
       JOIN classes AS c
            ON c.name = coalesce(r.class, (SELECT name FROM classes WHERE is_default = 1))
-      WHERE l.answer IN ('paid', 'capped') AND l.reason <> 'ride-limit') AS charged
-  WHERE ride IS NULL OR ride > rides
+      LEFT JOIN fares AS f ON f.class = c.name AND f.mode = l.mode
+      WHERE l.reason <> 'ride-limit') AS charged
+  WHERE ride IS NULL OR ride > rides OR fare IS NULL
      OR cents <> CASE WHEN rest <= 0 THEN 0 WHEN rest < fare THEN rest ELSE fare END
      OR reason <> CASE WHEN rest <= 0 THEN 'ceiling' WHEN rest < fare THEN 'ceiling-cut'
                        ELSE 'full' END
@@ -30,11 +36,30 @@ SELECT w.token, w.window_start FROM (
   JOIN classes AS c ON c.name = coalesce(r.class, (SELECT name FROM classes WHERE is_default = 1))
   WHERE w.counted <> c.rides ORDER BY w.token, w.window_start LIMIT 10;
 
-SELECT 'must be empty: a transfer that no ride gives or a ride that should be one' AS question;
-SELECT t.token, t.line, t.answer FROM live_taps AS t
+SELECT 'must be empty: a transfer between modes without a pair' AS question;
+SELECT t.token, t.line, t.last_mode, t.mode FROM live_taps AS t
   LEFT JOIN pairs AS p ON p.from_mode = t.last_mode AND p.to_mode = t.mode
-  WHERE (t.answer = 'transfer') <> (coalesce(t.last_answer, '') IN ('paid', 'capped')
-         AND t.ms <= 7200000 AND p.to_mode IS NOT NULL)
+  WHERE t.answer = 'transfer' AND p.to_mode IS NULL ORDER BY t.token, t.line LIMIT 10;
+
+SELECT 'must be empty: a ride with more transfers than its class gives' AS question;
+SELECT t.token, t.ride_line, max(t.given) + 1 AS given FROM live_taps AS t
+  LEFT JOIN riders AS r ON r.token = t.token
+  JOIN classes AS c ON c.name = coalesce(r.class, (SELECT name FROM classes WHERE is_default = 1))
+  WHERE t.answer = 'transfer' AND t.given >= c.transfers
+  GROUP BY t.token, t.ride_line ORDER BY t.token, t.ride_line LIMIT 10;
+
+SELECT 'must be empty: a transfer later after its ride than its class gives' AS question;
+SELECT t.token, t.line, t.ride_ms FROM live_taps AS t
+  LEFT JOIN riders AS r ON r.token = t.token
+  JOIN classes AS c ON c.name = coalesce(r.class, (SELECT name FROM classes WHERE is_default = 1))
+  WHERE t.answer = 'transfer' AND t.ride_ms > c.transfer_ms ORDER BY t.token, t.line LIMIT 10;
+
+SELECT 'must be empty: a ride that should be a transfer' AS question;
+SELECT t.token, t.line, t.answer FROM live_taps AS t
+  LEFT JOIN riders AS r ON r.token = t.token
+  JOIN classes AS c ON c.name = coalesce(r.class, (SELECT name FROM classes WHERE is_default = 1))
+  JOIN pairs AS p ON p.from_mode = t.last_mode AND p.to_mode = t.mode
+  WHERE t.answer <> 'transfer' AND t.given < c.transfers AND t.ride_ms <= c.transfer_ms
   ORDER BY t.token, t.line LIMIT 10;
 
 -- Under a zone a window ends at midnight: 6 to 7 days after its start, an hour more or less if the

@@ -19,4 +19,4 @@ pub use no_transfer::NoTransfer;
 pub use reason::{Charge, Reason};
 pub use reply::{Answer, Reply};
 pub use tap::TapIn;
-pub use window::WindowView;
+pub use window::{WindowView, cents_at};

@@ -5,6 +5,7 @@ ghost use Rattle.fare_table.specs.Terms.{AreRideTerms};
 ghost use Rattle.fare_table.specs.Until.{window_end_in};
 ghost use Rattle.account_rule.specs.Kept.{IsRoomy};
 ghost use Rattle.account_rule.specs.inside.Kept.{next_reason, open_window, shown_of, with_ride};
+ghost use Rattle.account_rule.specs.Laws.{place_cents};
 ghost use Rattle.account_rule.specs.Windows.{charge, charged_by, is_paid, paid_by};
 
 use crate::reason::{Charge, Reason};
@@ -112,6 +113,17 @@ impl Window {
             charge: charge(terms, u32::from(self.rides), self.cents),
         }
     }
+}
+
+/// What a ride costs, in cents, if all rides of its window have these terms. `place` is the number of
+/// rides before it in the window.
+#[tactic(auto, unfolding(crate::specs::Windows::charge, crate::specs::Laws::place_cents))]
+pub fn cents_at(terms: Terms, place: u32) -> u32
+    requires bounds { AreRideTerms terms }
+    requires place { place ≤ 1_000 }
+    ensures { result ≡ place_cents terms place }
+{
+    charge(terms, place, place * terms.fare).cents()
 }
 
 /// What decides the cents of a ride, if its window has had `rides` rides, which cost `cents`.

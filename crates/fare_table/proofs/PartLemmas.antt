@@ -1,7 +1,7 @@
 -- Rules that were read, taken apart into what each key of the text gives.
 use Rattle.std.proofs.Common.{◌≡◌, ℕ, List, [], Option, Ok, Err, refl, subst}
 use Rattle.toml.specs.Data.{Members}
-use Rattle.fare_table.specs.Classes.{classes_from, classes_of, default_of}
+use Rattle.fare_table.specs.Classes.{classes_from, classes_of, default_of, names_in}
 use Rattle.fare_table.specs.Modes.{modes_of}
 use Rattle.fare_table.specs.OrFault.{OrFault, ◌>>=◌}
 use Rattle.fare_table.specs.Riders.{riders_of}
@@ -27,18 +27,21 @@ pub record AreParts (tree : Members) (meaning : TableMeaning) : Type 0 where
   pub table : Members
   pub members : classes_of tree ≡ Ok table
   pub classes : classes_from meaning.modes [] table ≡ Ok meaning.classes
+  pub names : names_in table ≡ meaning.names
   pub standard : default_of table tree ≡ Ok meaning.standard
   pub ranges : ranges_of meaning.modes tree ≡ Ok meaning.ranges
   pub riders : riders_of table tree ≡ Ok meaning.riders
   pub zone : zone_of tree ≡ Ok meaning.zone
   pub window : window_of tree ≡ Ok meaning.window
 
-abbrev by_window : List (List ℕ) → List (ℕ × ℕ) → List Class → ℕ → List (ℕ × RangeRest)
-    → List (List ℕ × ℕ) → Option (List ℕ) → WindowSpan → OrFault TableMeaning
-by_window modes transfers classes standard ranges riders zone window = Ok (record {
+abbrev by_window : List (List ℕ) → List (ℕ × ℕ) → Members → List Class → ℕ
+    → List (ℕ × RangeRest) → List (List ℕ × ℕ) → Option (List ℕ) → WindowSpan
+    → OrFault TableMeaning
+by_window modes transfers table classes standard ranges riders zone window = Ok (record {
   modes = modes;
   transfers = transfers;
   classes = classes;
+  names = names_in table;
   standard = standard;
   ranges = ranges;
   riders = riders;
@@ -46,20 +49,20 @@ by_window modes transfers classes standard ranges riders zone window = Ok (recor
   window = window;
 })
 
-abbrev by_zone : Members → List (List ℕ) → List (ℕ × ℕ) → List Class → ℕ → List (ℕ × RangeRest)
-    → List (List ℕ × ℕ) → Option (List ℕ) → OrFault TableMeaning
-by_zone tree modes transfers classes standard ranges riders zone =
-    window_of tree >>= by_window modes transfers classes standard ranges riders zone
+abbrev by_zone : Members → List (List ℕ) → List (ℕ × ℕ) → Members → List Class → ℕ
+    → List (ℕ × RangeRest) → List (List ℕ × ℕ) → Option (List ℕ) → OrFault TableMeaning
+by_zone tree modes transfers table classes standard ranges riders zone =
+    window_of tree >>= by_window modes transfers table classes standard ranges riders zone
 
-abbrev by_riders : Members → List (List ℕ) → List (ℕ × ℕ) → List Class → ℕ → List (ℕ × RangeRest)
-    → List (List ℕ × ℕ) → OrFault TableMeaning
-by_riders tree modes transfers classes standard ranges riders =
-    zone_of tree >>= by_zone tree modes transfers classes standard ranges riders
+abbrev by_riders : Members → List (List ℕ) → List (ℕ × ℕ) → Members → List Class → ℕ
+    → List (ℕ × RangeRest) → List (List ℕ × ℕ) → OrFault TableMeaning
+by_riders tree modes transfers table classes standard ranges riders =
+    zone_of tree >>= by_zone tree modes transfers table classes standard ranges riders
 
 abbrev by_ranges : Members → List (List ℕ) → List (ℕ × ℕ) → Members → List Class → ℕ
     → List (ℕ × RangeRest) → OrFault TableMeaning
 by_ranges tree modes transfers table classes standard ranges =
-    riders_of table tree >>= by_riders tree modes transfers classes standard ranges
+    riders_of table tree >>= by_riders tree modes transfers table classes standard ranges
 
 abbrev by_default : Members → List (List ℕ) → List (ℕ × ℕ) → Members → List Class → ℕ
     → OrFault TableMeaning
@@ -109,15 +112,18 @@ parts tree meaning is =
     let ranges = bind_ok (ranges_of modes.0 tree)
     (by_ranges tree modes.0 transfers.0 table.0 classes.0 standard.0) meaning standard.2 in
     let riders = bind_ok (riders_of table.0 tree)
-    (by_riders tree modes.0 transfers.0 classes.0 standard.0 ranges.0) meaning ranges.2 in
+    (by_riders tree modes.0 transfers.0 table.0 classes.0 standard.0 ranges.0) meaning ranges.2 in
     let zone = bind_ok (zone_of tree)
-    (by_zone tree modes.0 transfers.0 classes.0 standard.0 ranges.0 riders.0) meaning riders.2 in
+    (by_zone tree modes.0 transfers.0 table.0 classes.0 standard.0 ranges.0 riders.0) meaning
+    riders.2 in
     let window = bind_ok (window_of tree)
-    (by_window modes.0 transfers.0 classes.0 standard.0 ranges.0 riders.0 zone.0) meaning zone.2 in
+    (by_window modes.0 transfers.0 table.0 classes.0 standard.0 ranges.0 riders.0 zone.0) meaning
+    zone.2 in
     let whole : TableMeaning = record {
       modes = modes.0;
       transfers = transfers.0;
       classes = classes.0;
+      names = names_in table.0;
       standard = standard.0;
       ranges = ranges.0;
       riders = riders.0;
@@ -131,6 +137,7 @@ parts tree meaning is =
       table = table.0;
       members = table.1;
       classes = classes.1;
+      names = refl;
       standard = standard.1;
       ranges = ranges.1;
       riders = riders.1;

@@ -3,7 +3,7 @@ use Rattle.std.specs.Prelude.{ℕ, List, [], Option, Ok}
 use Rattle.std.specs.Option.{ok_or}
 use Rattle.toml.specs.Data.{Members}
 use Rattle.toml.specs.Parse.{parse_document}
-use Rattle.fare_table.specs.Classes.{classes_from, classes_of, default_of}
+use Rattle.fare_table.specs.Classes.{classes_from, classes_of, default_of, names_in}
 use Rattle.fare_table.specs.Modes.{modes_of}
 use Rattle.fare_table.specs.OrFault.{OrFault, ◌>>=◌}
 use Rattle.fare_table.specs.Riders.{riders_of}
@@ -17,13 +17,14 @@ use Rattle.fare_table.specs.declared.validators.RangeRest.{RangeRest}
 use Rattle.fare_table.specs.declared.window_span.WindowSpan.{WindowSpan}
 
 -- the modes' names by their places, the pairs of places with a transfer, each once, the classes by
--- their places, the place of the default class, the ranges of validators by their first numbers,
--- rising, the places of the riders' classes by their tokens, rising, the text of the zone, and how long
--- windows are
+-- their places, their names by the same places, the place of the default class, the ranges of
+-- validators by their first numbers, rising, the places of the riders' classes by their tokens,
+-- rising, the text of the zone, and how long windows are
 pub record TableMeaning : Type 0 where
   pub modes : List (List ℕ)
   pub transfers : List (ℕ × ℕ)
   pub classes : List Class
+  pub names : List (List ℕ)
   pub standard : ℕ
   pub ranges : List (ℕ × RangeRest)
   pub riders : List (List ℕ × ℕ)
@@ -46,6 +47,7 @@ meaning_of_tree tree = do
     modes = modes;
     transfers = transfers;
     classes = classes;
+    names = names_in table;
     standard = standard;
     ranges = ranges;
     riders = riders;

@@ -21,10 +21,12 @@ mod validators;
 mod window_span;
 mod zone;
 
+pub use class::Class;
 pub use clock::Clock;
 pub use fault::{Key, TableFault};
-pub use mode::Mode;
+pub use mode::{MAX_MODES, Mode};
 pub use table::FareTable;
 pub use terms::Terms;
 pub use transfer_terms::TransferTerms;
+pub use validators::RangeRest;
 pub use window_span::WindowSpan;

@@ -1,7 +1,7 @@
 //! A mode of travel.
 
 /// The most modes of one table.
-pub(crate) const MAX_MODES: usize = 32;
+pub const MAX_MODES: usize = 32;
 
 /// A mode of travel, as subway or bus: its place in one table's list of modes.
 #[derive(Clone, Copy, Debug, PartialEq, Eq)]

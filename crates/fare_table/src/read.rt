@@ -1,6 +1,6 @@
 //! The reader of a fare table's TOML text: one file a key, in the order in which the keys are read.
 
-mod class_names;
+pub(crate) mod class_names;
 pub(crate) mod classes;
 mod members;
 pub(crate) mod modes;

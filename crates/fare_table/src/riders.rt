@@ -51,6 +51,13 @@ impl Riders {
         Ok(Riders { classes, marks })
     }
 
+    /// All riders.
+    pub(crate) fn all(&self) -> &BTreeMap<Token, u32>
+        ensures { by_bytes result.now.entries ≡ self.now }
+    {
+        &self.classes
+    }
+
     /// The place of the class of the rider with this token, if there is one.
     pub(crate) fn class_of(&self, token: &[u8]) -> Option<u32>
         requires { length token.now ≡ 16 }

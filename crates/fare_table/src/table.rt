@@ -1,23 +1,25 @@
 //! The fare table and its look-ups.
 ghost use Rattle.std.specs.Prelude.{◌≡◌, ◌≢◌, ◌⊎◌, ◌<◌, ◌≤◌, length, option_map, IfSome, IfErr};
 ghost use Rattle.std.specs.Prelude.{IfOk, IsErrOf, IsUtf8, IsOk, Err, Ok, None, Some, map};
-ghost use Rattle.std.specs.Prelude.{slice_get, string_bytes};
+ghost use Rattle.std.specs.Prelude.{All, slice_get, string_bytes};
 ghost use Rattle.toml.specs.Parse.{parse_document};
 ghost use Rattle.toml.specs.View.{table_view};
 ghost use Rattle.fare_table.specs.Fares.{class_of, is_permitted, mode_at, ride_terms, terms_at};
 ghost use Rattle.fare_table.specs.Fares.{transfer_terms};
 ghost use Rattle.fare_table.specs.inside.OrFault.{Answers};
 ghost use Rattle.fare_table.specs.inside.PosixRule.{HasRule, rule_of};
+ghost use Rattle.fare_table.specs.Riders.{by_bytes};
 ghost use Rattle.fare_table.specs.declared.fault.TableFault.{TableFault};
 ghost use Rattle.fare_table.specs.TableMeaning.{meaning_in, meaning_of_tree};
 ghost use Rattle.fare_table.specs.Meaning.{IsClockOf};
 ghost use Rattle.fare_table.specs.Zone.{zone_rule, zone_text};
-ghost use Rattle.fare_table.specs.Terms.{AreBoundedTerms, AreRideTerms};
+ghost use Rattle.fare_table.specs.Terms.{AreBoundedTerms, AreRideTerms, IsBoundedClass};
 
 use crate::class::Class;
 use crate::clock::Clock;
 use crate::fault::TableFault;
 use crate::mode::Mode;
+use crate::read::class_names::names_of;
 use crate::read::classes::{classes_from, classes_of, default_of};
 use crate::read::modes::modes_of;
 use crate::read::riders::riders_of;
@@ -29,14 +31,15 @@ use crate::riders::Riders;
 use crate::terms::Terms;
 use crate::transfer_terms::TransferTerms;
 use crate::transfers::Transfers;
-use crate::validators::Ranges;
+use crate::validators::{RangeRest, Ranges};
 use crate::window_span::WindowSpan;
 use crate::zone::Zone;
 use jiff::tz::TimeZone;
 use std::alloc::Global;
+use std::collections::BTreeMap;
 use std::marker::Model;
 use std::sync::Arc;
-use tap_views::NoMemory;
+use tap_views::{NoMemory, Token};
 use toml::Table;
 
 /// An agency's fare table. Look-ups take no memory; those of validators and riders are searches by
@@ -69,6 +72,8 @@ struct TableData {
     transfers: Transfers,
     /// The classes by their places.
     classes: Vec<Class>,
+    /// The names of the classes by their places.
+    names: Vec<String>,
     /// The place of the default class.
     standard: u32,
     /// The ranges of validators and their modes.
@@ -200,6 +205,66 @@ impl FareTable {
         self.parts.classes[class as usize].transfers
     }
 
+    /// The names of the modes by their places.
+    pub fn mode_names(&self) -> &[String]
+        ensures names { map string_bytes result.now ≡ self.now.meaning.modes }
+        ensures few { length result.now ≤ 32 }
+    {
+        self.parts.modes.as_slice()
+    }
+
+    /// The classes by their places.
+    pub fn classes(&self) -> &[Class]
+        ensures classes { result.now ≡ self.now.meaning.classes }
+        ensures bounds { All IsBoundedClass result.now }
+    {
+        self.parts.classes.as_slice()
+    }
+
+    /// The names of the classes by their places, in their byte order.
+    pub fn class_names(&self) -> &[String]
+        ensures names { map string_bytes result.now ≡ self.now.meaning.names }
+        ensures each { length result.now ≡ length self.now.meaning.classes }
+    {
+        self.parts.names.as_slice()
+    }
+
+    /// The place of the class of all riders that have none of their own.
+    pub fn default_class(&self) -> u32
+        ensures class { result ≡ self.now.meaning.standard }
+        ensures there { result < length self.now.meaning.classes }
+    {
+        self.parts.standard
+    }
+
+    /// The pairs of places of modes with a transfer, each once, in the order of the text.
+    pub fn pairs(&self) -> &[(u8, u8)]
+        ensures { result.now ≡ self.now.meaning.transfers }
+    {
+        self.parts.transfers.all()
+    }
+
+    /// The ranges of validators, each by its first number, rising.
+    pub fn ranges(&self) -> &[(u32, RangeRest)]
+        ensures { result.now ≡ self.now.meaning.ranges }
+    {
+        self.parts.ranges.all()
+    }
+
+    /// The places of the classes of riders that have their own, by their tokens, rising.
+    pub fn riders(&self) -> &BTreeMap<Token, u32>
+        ensures { by_bytes result.now.entries ≡ self.now.meaning.riders }
+    {
+        self.parts.riders.all()
+    }
+
+    /// The text of the zone, if the table names one.
+    pub fn zone_text(&self) -> Option<&str>
+        ensures { option_map (λ text. text.now) result ≡ self.now.meaning.zone }
+    {
+        text_of(&self.parts.zone)
+    }
+
     /// What the rider of a token pays, in cents, on a mode of which the rider's class, else the
     /// default class, names no fare.
     pub fn terms_of(&self, token: &[u8]) -> Terms
@@ -221,6 +286,7 @@ fn table_of(alloc: Global, table: &Table) -> Result<FareTable, TableFault>
     let transfers = transfers_of(alloc, &modes, table)?;
     let members = classes_of(table)?;
     let classes = classes_from(alloc, &modes, members)?;
+    let names = names_of(alloc, members)?;
     let standard = default_of(members, table)?;
     let ranges = ranges_of(alloc, &modes, table)?;
     let riders = riders_of(alloc, members, table)?;
@@ -230,6 +296,7 @@ fn table_of(alloc: Global, table: &Table) -> Result<FareTable, TableFault>
         modes,
         transfers,
         classes,
+        names,
         standard,
         ranges,
         riders,
@@ -239,6 +306,16 @@ fn table_of(alloc: Global, table: &Table) -> Result<FareTable, TableFault>
     Ok(FareTable {
         parts: Arc::new(alloc, parts)?,
     })
+}
+
+/// The text of a zone, if there is one.
+fn text_of(zone: &Option<Zone>) -> Option<&str>
+    ensures { option_map (λ text. text.now) result ≡ zone_text zone.now }
+{
+    match zone {
+        Some(zone) => Some(zone.text.as_str()),
+        None => None,
+    }
 }
 
 /// The rule of a zone, if there is one.

@@ -38,6 +38,13 @@ impl Transfers {
         }
     }
 
+    /// All pairs.
+    pub(crate) fn all(&self) -> &[(u8, u8)]
+        ensures { result.now ≡ self.now }
+    {
+        self.pairs.as_slice()
+    }
+
     /// Whether the pair is among them.
     pub(crate) fn permits(&self, from: u8, to: u8) -> bool
         requires from { from < 32 }

@@ -71,6 +71,13 @@ impl Ranges {
         })
     }
 
+    /// All ranges.
+    pub(crate) fn all(&self) -> &[(u32, RangeRest)]
+        ensures { result.now ≡ self.now }
+    {
+        self.ranges.as_slice()
+    }
+
     /// The rest of the range of a number.
     pub(crate) fn at(&self, number: u32) -> Option<RangeRest>
         ensures { result ≡ option_map (λ range. range.1) (range_at self.now number) }

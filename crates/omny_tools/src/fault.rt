@@ -9,6 +9,7 @@ use program_manners::LoadFault;
 use std::alloc::{AllocError, AllocFailed};
 use std::fmt;
 use std::io::Write;
+use table_report::ReportFault;
 use tap_rows::{Column, RowsFault};
 use tap_views::{LayoutFault, NoMemory};
 use toml::de::Error as TomlError;
@@ -34,6 +35,8 @@ pub(crate) enum Fault<'a> {
     NotToml(Name<'a>, usize, usize, TomlError),
     /// The text is no fare table, and no value was found to be wrong.
     Table(Name<'a>, TableFault),
+    /// The fare table cannot be written as SQL.
+    Sql(Name<'a>, ReportFault),
     /// The tap of this number, in this file, is before its predecessor.
     OutOfOrder(Name<'a>, u64),
     /// A file changed while it was read.
@@ -170,6 +173,7 @@ impl fmt::Display for Fault<'_> {
                 write!(f, "fault: {name} line {line} column {column}: {why}")
             }
             Fault::Table(name, fault) => write!(f, "fault: {name}: {fault}"),
+            Fault::Sql(name, fault) => write!(f, "fault: {name}: {fault}"),
             Fault::OutOfOrder(name, tap) => write!(f, "fault: {name}: tap {tap} is out of order"),
             Fault::Changed => f.write_str("fault: a file changed while it was read"),
             Fault::TooManyOpen(name) => {

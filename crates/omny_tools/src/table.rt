@@ -1,46 +1,14 @@
 //! `table`: a fare table as it was understood, what its rules ignore, and its faults.
-//!
-//! | module | what it does |
-//! |---|---|
-//! | `paths` | the whole path of a key |
-//! | `places` | where each key and value stands in the text |
-//! | `checks`, `ranges`, `people` | what is wrong with each value |
-//! | `wrong` | one wrong value, and what is wanted in its place |
-//! | `known` | the known key that is nearest to one that is ignored |
-//! | `prices` | what the rides of a window cost, one after the other |
-//! | `clocks` | the next changes of the zone's clocks |
-//! | `lines` | the lines of the table |
-//! | `warnings` | the lines of what the rules ignore |
-
-mod checks;
-mod clocks;
-mod known;
-mod lines;
-mod paths;
-mod people;
-mod places;
-mod prices;
-mod ranges;
-mod warnings;
-mod wrong;
 
 use crate::fault::{Fault, say};
 use crate::input::load_upload;
 use crate::names::Name;
 use crate::output::Output;
 use crate::progress::Progress;
-use checks::wrongs_of;
-use fare_table::{FareTable, TableFault};
 use jiff::Timestamp;
-use lines::lines_of;
-use places::Places;
-use std::alloc::{AllocError, Global};
 use std::io::Write;
-use table_facts::SeenValidators;
+use table_report::{Refusal, ReportFault, SeenValidators, TableText, Wanted};
 use tap_views::facts_of;
-use toml::Table;
-use warnings::{Told, warnings_of};
-use wrong::Wrong;
 
 /// What `table` is asked for.
 #[derive(Drop)]
@@ -55,40 +23,8 @@ pub(crate) struct Question<'a> {
     pub(crate) has_riders: bool,
     /// The moment after which changes of clocks are told; none: now.
     pub(crate) from: Option<Timestamp>,
-}
-
-/// Writes the lines of what is wrong.
-fn say_wrongs<E: Write>(
-    alloc: Global,
-    name: Name<'_>,
-    text: &str,
-    wrongs: &[Wrong],
-    err: &mut E,
-) -> Result<(), AllocError> {
-    let places = Places::of(alloc, text)?;
-    for wrong in wrongs {
-        let line = wrong.line(alloc, name, text, &places)?;
-        let _ = err.write_all(line.as_bytes());
-    }
-    Ok(())
-}
-
-/// Writes why the text is no fare table: each wrong value, or the fault that the rules name where
-/// no value was found to be wrong.
-fn refuse<'a, E: Write>(
-    alloc: Global,
-    name: Name<'a>,
-    text: &str,
-    tree: &Table,
-    fault: TableFault,
-    err: &mut E,
-) -> Result<bool, Fault<'a>> {
-    let wrongs = wrongs_of(alloc, tree)?;
-    if wrongs.is_empty() {
-        return Err(Fault::Table(name, fault));
-    }
-    say_wrongs(alloc, name, text, &wrongs, err)?;
-    Ok(false)
+    /// Whether the table is written as SQL, in place of its lines.
+    pub(crate) is_sql: bool,
 }
 
 /// Adds the validators of an upload. The layout fault, if any, is told on `err`. Says whether there
@@ -128,42 +64,51 @@ fn add_uploads<'a, E: Write>(
     Ok(is_well)
 }
 
-/// Writes the lines of a table that has no fault, and the warnings.
+/// The validators of the uploads, if there are any, and whether none has a layout fault.
+fn seen_in<'a, E: Write>(
+    rt: &HostRuntime,
+    names: &[Name<'a>],
+    err: &mut E,
+) -> Result<(Option<SeenValidators>, bool), Fault<'a>> {
+    if names.is_empty() {
+        return Ok((None, true));
+    }
+    let mut seen = SeenValidators::new(rt.alloc());
+    let mut progress = Progress::new(rt);
+    let added = add_uploads(rt, names, &mut seen, &mut progress, err);
+    progress.end();
+    let is_well = added?;
+    Ok((Some(seen), is_well))
+}
+
+/// Writes what a table is understood as, and its warnings. Says whether all is well.
 fn understood<'a, W: Write + Drop, E: Write>(
     rt: &HostRuntime,
     question: &Question<'a>,
-    text: &str,
-    tree: &Table,
-    fares: &FareTable,
+    shown: &str,
+    table: &TableText<'_>,
     out: &mut Output<W>,
     err: &mut E,
 ) -> Result<bool, Fault<'a>> {
-    let alloc = rt.alloc();
     let from = match question.from {
         Some(from) => from,
         None => Timestamp::now(rt).unwrap_or(Timestamp::UNIX_EPOCH),
     };
-    let mut seen = SeenValidators::new(alloc);
-    let mut progress = Progress::new(rt);
-    let added = add_uploads(rt, &question.uploads, &mut seen, &mut progress, err);
-    progress.end();
-    let is_well = added?;
-    let told = Told {
-        name: question.table,
-        text,
-        tree,
-        fares,
+    let (seen, is_well) = seen_in(rt, &question.uploads, err)?;
+    let wanted = Wanted {
+        name: shown,
+        has_riders: question.has_riders,
+        from,
+        is_sql: question.is_sql,
     };
-    let seen = if question.uploads.is_empty() {
-        None
-    } else {
-        Some(&seen)
+    let warnings = match table.write(rt.alloc(), &wanted, seen.as_ref(), out) {
+        Ok(warnings) => warnings,
+        Err(ReportFault::Write) => return Err(out.failed()),
+        Err(ReportFault::NoMemory) => return Err(Fault::NoMemory),
+        Err(ReportFault::Name) => return Err(Fault::Sql(question.table, ReportFault::Name)),
     };
-    let (warnings, count) = warnings_of(alloc, &told, seen)?;
-    let lines = lines_of(alloc, question, tree, fares, from, count)?;
-    out.put(lines.as_str())?;
-    let _ = err.write_all(warnings.as_bytes());
-    Ok(is_well && (count == 0 || !question.is_strict))
+    let _ = err.write_all(warnings.lines.as_bytes());
+    Ok(is_well && (warnings.count == 0 || !question.is_strict))
 }
 
 /// Writes what a table is understood as, or why it is none. Says whether all is well.
@@ -175,27 +120,18 @@ pub(crate) fn tell_table<'a, W: Write + Drop, E: Write>(
 ) -> Result<bool, Fault<'a>> {
     let name = question.table;
     let bytes = load_upload(rt, name)?;
-    let Ok(text) = str::from_utf8(&bytes) else {
-        return Err(Fault::NotUtf8(name));
-    };
-    let tree = match toml::table_from_str(rt.alloc(), text) {
-        Ok(tree) => tree,
-        Err(error) => {
-            if error.is_memory() {
-                return Err(Fault::NoMemory);
-            }
-            let start = match error.span() {
-                Some(span) => span.start,
-                None => 0,
-            };
-            let places = Places::of(rt.alloc(), text)?;
-            let (line, column) = places.line_and_column(text, start);
-            return Err(Fault::NotToml(name, line, column, error));
+    let shown = format!(in rt.alloc(); "{name}")?;
+    match TableText::read(rt.alloc(), &shown, &bytes) {
+        Ok(table) => understood(rt, question, &shown, &table, out, err),
+        Err(Refusal::WrongValues(lines)) => {
+            let _ = err.write_all(lines.as_bytes());
+            Ok(false)
         }
-    };
-    match FareTable::read(rt.alloc(), &bytes) {
-        Ok(fares) => understood(rt, question, text, &tree, &fares, out, err),
-        Err(TableFault::NoMemory) => Err(Fault::NoMemory),
-        Err(fault) => refuse(rt.alloc(), name, text, &tree, fault, err),
+        Err(Refusal::Fault(fault)) => Err(Fault::Table(name, fault)),
+        Err(Refusal::NotUtf8) => Err(Fault::NotUtf8(name)),
+        Err(Refusal::NotToml(line, column, error)) => {
+            Err(Fault::NotToml(name, line, column, error))
+        }
+        Err(Refusal::NoMemory) => Err(Fault::NoMemory),
     }
 }

@@ -87,6 +87,10 @@ const STRICT_HELP: &str = "Let the status be 1 also where there is a warning";
 /// The help of `--riders`.
 const RIDERS_HELP: &str = "Print each rider with its class";
 
+/// The help of `--sql`.
+const SQL_HELP: &str =
+    "Print the table as SQL tables, which SQLite and PostgreSQL read, in place of these lines";
+
 /// The help of `--from`.
 const FROM_HELP: &str =
     "Print the changes of clocks after this moment, as 2026-03-01T00:00:00Z [default: now]";
@@ -166,17 +170,21 @@ fn uploads_command<'a>(alloc: Global) -> Result<Command<'a>, AllocError> {
     add_list_args(alloc, command)?.arg(file)
 }
 
-/// `table [--strict] [--riders] [--from MOMENT] F [UPLOAD]...`
+/// `table [--strict] [--riders] [--from MOMENT] [--sql] F [UPLOAD]...`
 fn table_command<'a>(alloc: Global) -> Result<Command<'a>, AllocError> {
     let strict = flag_arg(alloc, "strict", STRICT_HELP);
     let riders = flag_arg(alloc, "riders", RIDERS_HELP);
     let from = option_arg(alloc, "from", "MOMENT", FROM_HELP);
+    let sql = flag_arg(alloc, "sql", SQL_HELP)
+        .conflicts_with("riders")?
+        .conflicts_with("from")?;
     let table = positional_arg(alloc, "F", ArgAction::Set, TABLE_HELP).required(true);
     let uploads = positional_arg(alloc, "UPLOAD", ArgAction::Append, TABLE_UPLOADS_HELP);
     subcommand(alloc, "table", TABLE_ABOUT, STATUS)
         .arg(strict)?
         .arg(riders)?
         .arg(from)?
+        .arg(sql)?
         .arg(table)?
         .arg(uploads)
 }
@@ -266,6 +274,7 @@ fn table_task<'a>(alloc: Global, matches: &ArgMatches<'a>) -> Result<Task<'a>, A
         is_strict: matches.get_flag("strict"),
         has_riders: matches.get_flag("riders"),
         from,
+        is_sql: matches.get_flag("sql"),
     }))
 }
 

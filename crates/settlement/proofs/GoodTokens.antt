@@ -23,6 +23,7 @@ some_fares = record {
     modes = [];
     transfers = [];
     classes = [];
+    names = [];
     standard = 0;
     ranges = [];
     riders = [];

@@ -15,6 +15,7 @@ fares_of parts = record {
     modes = map string_bytes parts.modes.items;
     transfers = parts.transfers;
     classes = parts.classes.items;
+    names = map string_bytes parts.names.items;
     standard = parts.standard;
     ranges = parts.ranges;
     riders = parts.riders;
@@ -25,11 +26,13 @@ fares_of parts = record {
 }
 
 -- at most 32 modes, ranges of modes of the table, classes and days of windows within their bounds,
+-- a name of each class,
 -- and places that have a class
 pub record AreSound (parts : TableData) : Type 0 where
   pub few : length parts.modes.items ≤ 32
   pub known : are_modes_below (length parts.modes.items) parts.ranges ≡ true
   pub classes : All IsBoundedClass parts.classes.items
+  pub named : length parts.names.items ≡ length parts.classes.items
   pub standard : parts.standard < length parts.classes.items
   pub window : IsBoundedSpan parts.window
   pub riders : All (λ place. place < length parts.classes.items) (values_of parts.riders)

@@ -1,10 +1,10 @@
 //! The names of the classes by their places.
-ghost use Rattle.std.specs.Prelude.{◌≡◌, ◌<◌, true, IfErr, IfOk, map};
+ghost use Rattle.std.specs.Prelude.{◌≡◌, ◌<◌, true, IfErr, IfOk, map, string_bytes, vec_len};
 ghost use Rattle.toml.specs.View.{table_view};
 ghost use Rattle.fare_table.specs.ByteOrder.{in_byte_order};
 ghost use Rattle.fare_table.specs.Classes as spec;
 ghost use Rattle.fare_table.specs.Classes.{count_of};
-ghost use Rattle.fare_table.specs.inside.Classes.{names_in};
+ghost use Rattle.fare_table.specs.Classes.{names_in};
 ghost use Rattle.fare_table.specs.inside.OrFault.{Answers};
 ghost use Rattle.fare_table.specs.declared.fault.TableFault.{TableFault};
 
@@ -63,4 +63,19 @@ fn short_place(place: usize) -> Result<u32, TableFault>
         return Err(TableFault::NoMemory);
     }
     Ok(place as u32)
+}
+
+/// Copies of the names of these classes, each at its place. `NoMemory` is answered where a growth is
+/// refused.
+pub(crate) fn names_of(alloc: Global, classes: &Table) -> Result<Vec<String>, TableFault>
+    ensures names { IfOk result
+        (λ names. map string_bytes names.items ≡ names_in (table_view classes.now)) }
+    ensures count { IfOk result (λ names. vec_len names ≡ count_of (table_view classes.now)) }
+    ensures refused { IfErr result (λ e. e ≡ TableFault.NoMemory) }
+{
+    let mut names = Vec::with_capacity(alloc, classes.len())?;
+    for (name, _value) in classes {
+        names.push(String::from_str(alloc, name.as_str())?)?;
+    }
+    Ok(names)
 }

@@ -1,2 +1,0 @@
-mod IgnoredLemmas
-mod SeenLemmas

@@ -1,3 +1,0 @@
-pub mod Ignored
-pub mod Ranges
-pub mod SeenValidators

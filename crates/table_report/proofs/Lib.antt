@@ -1,0 +1,4 @@
+mod IgnoredLemmas
+mod PlaceLemmas
+mod PriceLemmas
+mod SeenLemmas

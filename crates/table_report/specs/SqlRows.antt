@@ -1,0 +1,109 @@
+-- The rows of the SQL tables that a fare table is written as.
+use Rattle.std.specs.Prelude.{ℕ, List, [], ◌∷◌, Option, None, Some, ◌==◌, if◌then◌else◌, length}
+use Rattle.std.specs.Prelude.{map, slice_index_or}
+use Rattle.std.specs.List.{flat_map, range_with_len}
+use Rattle.fare_table.specs.Fares.{Fares, class_at, is_permitted, ride_terms, transfer_terms}
+use Rattle.fare_table.specs.declared.validators.RangeRest.{RangeRest}
+use Rattle.hex.specs.Hex.{encode_lower}
+
+-- what stands in a column of a row
+pub data Field : Type 0 where
+  number : ℕ → Field
+  text : List ℕ → Field
+
+-- the name at a place, and the empty one where the place has none
+abbrev pub name_at : List (List ℕ) → ℕ → List ℕ
+name_at names place = slice_index_or names place []
+
+-- the places of so many things
+abbrev pub places : ℕ → List ℕ
+places count = range_with_len 0 count
+
+-- the mode at a place: its name
+abbrev pub mode_row : Fares → ℕ → List Field
+mode_row fares place = text (name_at fares.meaning.modes place) ∷ []
+
+-- whether the class at the place is that of riders that have none of their own: 1, else 0
+abbrev pub default_mark : Fares → ℕ → ℕ
+default_mark fares place = if place == fares.meaning.standard then 1 else 0
+
+-- The class at a place: its name, its fare in cents, the limit of paid rides, the ceiling in cents,
+-- whether it is the default class, how many transfers a ride of it gives, and for how many
+-- milliseconds.
+abbrev pub class_row : Fares → ℕ → List Field
+class_row fares place =
+    text (name_at fares.meaning.names place) ∷ number (class_at fares place).terms.fare
+    ∷ number (class_at fares place).terms.rides ∷ number (class_at fares place).terms.ceiling
+    ∷ number (default_mark fares place) ∷ number (transfer_terms fares place).taps
+    ∷ number (transfer_terms fares place).time ∷ []
+
+-- the fare of a class for a ride on a mode: the names of both, and the cents
+abbrev pub fare_row : Fares → ℕ → ℕ → List Field
+fare_row fares class mode =
+    text (name_at fares.meaning.names class) ∷ text (name_at fares.meaning.modes mode)
+    ∷ number (ride_terms fares class mode).fare ∷ []
+
+-- the fares of a class, mode by mode
+abbrev pub fare_rows_of : Fares → ℕ → List (List Field)
+fare_rows_of fares class = map (fare_row fares class) (places (length fares.meaning.modes))
+
+-- two modes: their names
+abbrev pub two_modes : Fares → ℕ → ℕ → List Field
+two_modes fares from to =
+    text (name_at fares.meaning.modes from) ∷ text (name_at fares.meaning.modes to) ∷ []
+
+-- the pair of two modes, where a ride includes a transfer from the one to the other
+abbrev pub pair_row : Fares → ℕ → ℕ → List (List Field)
+pair_row fares from to = if is_permitted fares from to then two_modes fares from to ∷ [] else []
+
+-- the pairs of one mode with each
+abbrev pub pair_rows_of : Fares → ℕ → List (List Field)
+pair_rows_of fares from =
+    flat_map (pair_row fares from) (places (length fares.meaning.modes))
+
+-- a range of validators: its first number, its last one, and the name of its mode
+abbrev pub range_row : Fares → ℕ × RangeRest → List Field
+range_row fares range =
+    number range.0 ∷ number range.1.last ∷ text (name_at fares.meaning.modes range.1.mode) ∷ []
+
+-- a rider with a class of its own: the token as 32 digits in lower case, and the name of the class
+abbrev pub rider_row : Fares → List ℕ × ℕ → List Field
+rider_row fares rider =
+    text (encode_lower rider.0) ∷ text (name_at fares.meaning.names rider.1) ∷ []
+
+-- a zone: its text
+abbrev pub rule_row : List ℕ → List Field
+rule_row rule = text rule ∷ []
+
+-- the row of a zone, and none where there is no zone
+abbrev pub rows_of_zone : Option (List ℕ) → List (List Field)
+rows_of_zone None = []
+rows_of_zone (Some rule) = rule_row rule ∷ []
+
+-- the classes by their places
+abbrev pub class_rows : Fares → List (List Field)
+class_rows fares = map (class_row fares) (places (length fares.meaning.classes))
+
+-- the fares, class by class
+abbrev pub fare_rows : Fares → List (List Field)
+fare_rows fares = flat_map (fare_rows_of fares) (places (length fares.meaning.classes))
+
+-- the modes by their places
+abbrev pub mode_rows : Fares → List (List Field)
+mode_rows fares = map (mode_row fares) (places (length fares.meaning.modes))
+
+-- the pairs of modes with a transfer, mode by mode
+abbrev pub pair_rows : Fares → List (List Field)
+pair_rows fares = flat_map (pair_rows_of fares) (places (length fares.meaning.modes))
+
+-- the ranges, by their first numbers
+abbrev pub range_rows : Fares → List (List Field)
+range_rows fares = map (range_row fares) fares.meaning.ranges
+
+-- the riders, by their tokens
+abbrev pub rider_rows : Fares → List (List Field)
+rider_rows fares = map (rider_row fares) fares.meaning.riders
+
+-- the zone
+abbrev pub zone_rows : Fares → List (List Field)
+zone_rows fares = rows_of_zone fares.meaning.zone

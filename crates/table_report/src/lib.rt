@@ -1,0 +1,28 @@
+//! A fare table as it was understood: its lines, its SQL tables, what its rules ignore in its text,
+//! and what is wrong with a text that is none.
+#![tactic(auto)]
+
+mod clocks;
+mod holder;
+mod ignored;
+mod known;
+pub mod laws;
+mod lines;
+mod names;
+mod paths;
+mod places;
+mod prices;
+mod ranges;
+mod report;
+mod seen;
+mod sql;
+mod toml_values;
+mod warnings;
+mod wrong_values;
+
+pub use holder::KeyHolder;
+pub use ignored::ignored_keys;
+pub use ranges::unused_ranges;
+pub use report::{Refusal, TableText, Wanted, Warnings};
+pub use seen::SeenValidators;
+pub use sql::{ReportFault, write_sql};

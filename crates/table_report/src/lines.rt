@@ -1,0 +1,218 @@
+//! The lines of a table without a fault.
+
+ghost use Rattle.fare_table.specs.Terms.{IsBoundedClass};
+
+use crate::clocks::push_changes;
+use crate::names::{class_name, mode_name};
+use crate::paths::Key;
+use crate::prices::{push_fares, push_prices, push_ride_transfers};
+use crate::report::Wanted;
+use fare_table::{Class, FareTable, Terms};
+use jiff::Timestamp;
+use std::alloc::{AllocError, Global};
+use toml::Table;
+
+/// The highest number of a validator.
+const HIGHEST: u64 = 4_294_967_295;
+
+/// The table at a key; none where there is no such key.
+fn table_at<'t>(tree: &'t Table, key: &str) -> Option<&'t Table> {
+    tree.get(key)?.as_table()
+}
+
+/// Appends the lines of the zone.
+fn push_zone(text: &mut String, fares: &FareTable, from: Timestamp) -> Result<(), AllocError> {
+    match fares.zone_text() {
+        Some(zone) => {
+            write!(text, "zone {zone}\n")?;
+            push_changes(text, zone, from)
+        }
+        None => text.push_str("zone none\n"),
+    }
+}
+
+/// Appends the line of the mode at a place: how many ranges and validators it has.
+fn push_mode(text: &mut String, fares: &FareTable, place: usize) -> Result<(), AllocError> {
+    let mut count = 0u64;
+    let mut validators = 0u64;
+    for (first, rest) in fares.ranges() {
+        if rest.mode as usize == place {
+            count = count.saturating_add(1);
+            let more = u64::from(rest.last.saturating_sub(*first)).saturating_add(1);
+            validators = validators.saturating_add(more);
+        }
+    }
+    let name = mode_name(fares, place);
+    write!(text, "mode {name} ranges {count} validators {validators}\n")
+}
+
+/// Appends the lines of the modes.
+fn push_modes(text: &mut String, fares: &FareTable) -> Result<(), AllocError> {
+    let count = fares.mode_names().len();
+    write!(text, "modes {count}\n")?;
+    for place in 0..count {
+        push_mode(text, fares, place)?;
+    }
+    Ok(())
+}
+
+/// Appends the lines of the pairs of modes with a transfer, each once.
+fn push_transfers(text: &mut String, fares: &FareTable) -> Result<(), AllocError> {
+    let pairs = fares.pairs();
+    let count = pairs.len();
+    write!(text, "transfers {count}\n")?;
+    for (from, to) in pairs {
+        let from = mode_name(fares, *from as usize);
+        let to = mode_name(fares, *to as usize);
+        write!(text, "transfer {from} {to}\n")?;
+    }
+    Ok(())
+}
+
+/// How many riders each class has of its own, by the places of the classes.
+fn riders_of(alloc: Global, fares: &FareTable) -> Result<Vec<u64>, AllocError> {
+    let mut counts = Vec::new(alloc);
+    for _class in fares.classes() {
+        counts.push(0u64)?;
+    }
+    for class in fares.riders().values() {
+        if let Some(count) = counts.get_mut(*class as usize) {
+            *count = count.saturating_add(1);
+        }
+    }
+    Ok(counts)
+}
+
+/// Appends the lines of a class. Whether it names fares of its own, or what a ride gives, only the
+/// keys of its text say.
+fn push_class(
+    alloc: Global,
+    text: &mut String,
+    fares: &FareTable,
+    riders: u64,
+    name: &str,
+    class: &Class,
+    keys: Option<&Table>,
+) -> Result<(), AllocError>
+    requires { IsBoundedClass class.now }
+{
+    let Terms {
+        fare,
+        rides,
+        ceiling,
+    } = class.terms;
+    let name = format!(in alloc; "{}", Key(name))?;
+    let name = name.as_str();
+    write!(
+        text,
+        "class {name} fare {fare} rides {rides} ceiling {ceiling} riders {riders}\n"
+    )?;
+    let Some(keys) = keys else {
+        return push_prices(text, name, class.terms);
+    };
+    match table_at(keys, "fares") {
+        Some(named) => push_fares(text, name, fares, class, named)?,
+        None => push_prices(text, name, class.terms)?,
+    }
+    push_ride_transfers(text, name, class, keys)
+}
+
+/// Appends the lines of the classes.
+fn push_classes(
+    alloc: Global,
+    text: &mut String,
+    tree: &Table,
+    fares: &FareTable,
+) -> Result<(), AllocError> {
+    let counts = riders_of(alloc, fares)?;
+    let classes = fares.classes();
+    let count = classes.len();
+    write!(text, "classes {count}\n")?;
+    for place in 0..count {
+        let class = &classes[place];
+        let name = class_name(fares, place);
+        let riders = match counts.get(place) {
+            Some(count) => *count,
+            None => 0,
+        };
+        let keys = match table_at(tree, "classes") {
+            Some(classes) => table_at(classes, name),
+            None => None,
+        };
+        push_class(alloc, text, fares, riders, name, class, keys)?;
+    }
+    let name = Key(class_name(fares, fares.default_class() as usize));
+    write!(text, "default {name}\n")
+}
+
+/// Appends the line of the numbers from one to before another, which are in no range.
+fn push_gap(text: &mut String, first: u64, next: u64) -> Result<(), AllocError> {
+    if first >= next {
+        return Ok(());
+    }
+    let last = next.saturating_sub(1);
+    write!(text, "gap {first} {last}\n")
+}
+
+/// Appends the lines of the ranges and of the gaps between them.
+fn push_ranges(text: &mut String, fares: &FareTable) -> Result<(), AllocError> {
+    let ranges = fares.ranges();
+    let count = ranges.len();
+    write!(text, "ranges {count}\n")?;
+    let mut next = 0u64;
+    for (first, rest) in ranges {
+        push_gap(text, next, u64::from(*first))?;
+        let last = rest.last;
+        let mode = mode_name(fares, rest.mode as usize);
+        write!(text, "range {first} {last} {mode}\n")?;
+        next = u64::from(last).saturating_add(1);
+    }
+    push_gap(text, next, HIGHEST.saturating_add(1))
+}
+
+/// Appends the lines of the riders: their number, and each of them where that is asked for, in the
+/// order of the keys of the text, which may have digits of either case.
+fn push_riders(
+    text: &mut String,
+    tree: &Table,
+    fares: &FareTable,
+    has_each: bool,
+) -> Result<(), AllocError> {
+    let count = fares.riders().len();
+    write!(text, "riders {count}\n")?;
+    if !has_each {
+        return Ok(());
+    }
+    let Some(riders) = table_at(tree, "riders") else {
+        return Ok(());
+    };
+    for (token, value) in riders {
+        text.push_str("rider ")?;
+        for letter in token.chars() {
+            text.push(letter.to_ascii_lowercase())?;
+        }
+        let class = Key(value.as_str().unwrap_or(""));
+        write!(text, " {class}\n")?;
+    }
+    Ok(())
+}
+
+/// The lines of a table without a fault, of which so many warnings are told.
+pub(crate) fn lines_of(
+    alloc: Global,
+    wanted: &Wanted<'_>,
+    tree: &Table,
+    fares: &FareTable,
+    warnings: usize,
+) -> Result<String, AllocError> {
+    let name = wanted.name;
+    let mut text = format!(in alloc; "table {name}\n")?;
+    push_zone(&mut text, fares, wanted.from)?;
+    push_modes(&mut text, fares)?;
+    push_transfers(&mut text, fares)?;
+    push_classes(alloc, &mut text, tree, fares)?;
+    push_ranges(&mut text, fares)?;
+    push_riders(&mut text, tree, fares, wanted.has_riders)?;
+    write!(text, "warnings {warnings}\n")?;
+    Ok(text)
+}

@@ -1,0 +1,182 @@
+//! A fare table's text as it was understood, or why it is none.
+
+ghost use Rattle.std.specs.Prelude.{◌≡◌, ◌≢◌, true, false, IfErr, IfOk, IsUtf8, Ok, OnOk};
+ghost use Rattle.std.specs.Io.KnownBytes.{Appends};
+ghost use Rattle.fare_table.specs.Meaning.{Means};
+ghost use Rattle.fare_table.specs.TableMeaning.{TableMeaning, meaning_in};
+ghost use Rattle.table_report.specs.SqlText.{has_names_in_line, sql_text};
+ghost use Rattle.table_report.specs.declared.report.Refusal.{Refusal};
+ghost use Rattle.table_report.specs.declared.sql.ReportFault.{ReportFault};
+
+use crate::lines::lines_of;
+use crate::places::Places;
+use crate::seen::SeenValidators;
+use crate::sql::{ReportFault, write_sql};
+use crate::warnings::{Told, warnings_of};
+use crate::wrong_values::wrong_lines;
+use fare_table::{FareTable, TableFault};
+use jiff::Timestamp;
+use std::alloc::{AllocError, Global};
+use std::io::Write;
+use std::marker::Model;
+use toml::Table;
+use toml::de::Error as TomlError;
+
+/// What is asked of a table.
+#[derive(Clone, Copy)]
+pub struct Wanted<'a> {
+    /// The name of its file, as lines show it.
+    pub name: &'a str,
+    /// Whether each rider has a line.
+    pub has_riders: bool,
+    /// The moment after which changes of clocks have lines.
+    pub from: Timestamp,
+    /// Whether the table is written as SQL, in place of its lines.
+    pub is_sql: bool,
+}
+
+/// The lines of what the rules of a table ignore.
+#[derive(Drop)]
+pub struct Warnings {
+    /// The lines.
+    pub lines: String,
+    /// How many there are.
+    pub count: usize,
+}
+
+/// Why a text is no fare table.
+#[derive(Drop)]
+pub enum Refusal {
+    /// It is not UTF-8.
+    NotUtf8,
+    /// It is no TOML, at this line and column, from 1, for this reason.
+    NotToml(usize, usize, TomlError),
+    /// Some values are wrong: a line of each.
+    WrongValues(String),
+    /// It has this fault, and no value was found to be wrong.
+    Fault(TableFault),
+    /// Memory was refused.
+    NoMemory,
+}
+
+impl From<AllocError> for Refusal {
+    ghost use Rattle.table_report.specs.declared.report.Refusal.TheVariants.{NoMemory as ForMemory};
+
+    ghost from_gives = { λ _ refusal. refusal ≡ ForMemory };
+
+    fn from(_refused: AllocError) -> Self {
+        Refusal::NoMemory
+    }
+}
+
+/// The text of a fare table, and what it means.
+#[derive(Drop)]
+pub struct TableText<'t> {
+    /// The text.
+    text: &'t str,
+    /// Its keys and values.
+    tree: Table,
+    /// What it means.
+    fares: FareTable,
+}
+
+impl<'t> Model for TableText<'t> {
+    ghost use Rattle.fare_table.specs.Fares.{Fares};
+
+    ghost Value = { Fares };
+
+    ghost view = { λ t. t.fares };
+}
+
+impl<'t> TableText<'t> {
+    ghost use Rattle.std.specs.Prelude.{◌≡◌, ◌≢◌, true, false, IfErr, IfOk, IsUtf8, Ok, OnOk};
+    ghost use Rattle.std.specs.Io.KnownBytes.{Appends};
+    ghost use Rattle.fare_table.specs.Meaning.{Means};
+    ghost use Rattle.fare_table.specs.TableMeaning.{TableMeaning, meaning_in};
+    ghost use Rattle.table_report.specs.SqlText.{has_names_in_line, sql_text};
+
+    /// Reads the bytes of a file of this name, as lines show it. A text is refused only if it means
+    /// no fare table, or for want of memory.
+    pub fn read(alloc: Global, name: &str, bytes: &'t [u8]) -> Result<TableText<'t>, Refusal>
+        ensures means { IfOk result (λ t. IsUtf8 bytes.now × Means bytes.now t) }
+        ensures refused { IfErr result (λ e. e ≢ Refusal.NoMemory → IsUtf8 bytes.now
+            → (meaning : TableMeaning) → ¬ (meaning_in bytes.now ≡ Ok meaning)) }
+    {
+        let Ok(text) = str::from_utf8(bytes) else {
+            return Err(Refusal::NotUtf8);
+        };
+        let tree = match toml::table_from_str(alloc, text) {
+            Ok(tree) => tree,
+            Err(error) => {
+                if error.is_memory() {
+                    return Err(Refusal::NoMemory);
+                }
+                return Err(not_toml(alloc, text, error)?);
+            }
+        };
+        match FareTable::read(alloc, bytes) {
+            Ok(fares) => Ok(TableText { text, tree, fares }),
+            Err(TableFault::NoMemory) => Err(Refusal::NoMemory),
+            Err(fault) => Err(refusal_of(alloc, name, text, &tree, fault)?),
+        }
+    }
+
+    /// Writes what the table is understood as, and returns its warnings. They speak of its ranges
+    /// only if the validators of some uploads were seen.
+    pub fn write<W: Write>(
+        &self,
+        alloc: Global,
+        wanted: &Wanted<'_>,
+        seen: Option<&SeenValidators>,
+        out: &mut W,
+    ) -> Result<Warnings, ReportFault>
+        ensures sql { OnOk result (wanted.now.is_sql ≡ true
+            → Appends (W.contents out.old) (W.contents out.new) (sql_text self.now)) }
+        ensures kept { IfErr result (λ fault. fault ≢ ReportFault.Write → out.new ≡ out.old) }
+        ensures named { IfErr result (λ fault. fault ≡ ReportFault.Name
+            → (wanted.now.is_sql ≡ true) × (has_names_in_line self.now ≡ false)) }
+    {
+        let told = Told {
+            name: wanted.name,
+            text: self.text,
+            tree: &self.tree,
+            fares: &self.fares,
+        };
+        let (lines, count) = warnings_of(alloc, &told, seen)?;
+        if wanted.is_sql {
+            write_sql(alloc, &self.fares, out)?;
+        } else {
+            let text = lines_of(alloc, wanted, &self.tree, &self.fares, count)?;
+            if out.write_all(text.as_bytes()).is_err() {
+                return Err(ReportFault::Write);
+            }
+        }
+        Ok(Warnings { lines, count })
+    }
+}
+
+/// Why the text is no TOML, and where.
+fn not_toml(alloc: Global, text: &str, error: TomlError) -> Result<Refusal, AllocError> {
+    let start = match error.span() {
+        Some(span) => span.start,
+        None => 0,
+    };
+    let places = Places::of(alloc, text)?;
+    let (line, column) = places.line_and_column(text, start);
+    Ok(Refusal::NotToml(line, column, error))
+}
+
+/// Each wrong value of the text, or its fault where no value was found to be wrong.
+fn refusal_of(
+    alloc: Global,
+    name: &str,
+    text: &str,
+    tree: &Table,
+    fault: TableFault,
+) -> Result<Refusal, AllocError> {
+    let lines = wrong_lines(alloc, name, text, tree)?;
+    if lines.is_empty() {
+        return Ok(Refusal::Fault(fault));
+    }
+    Ok(Refusal::WrongValues(lines))
+}

@@ -1,0 +1,33 @@
+//! What is wrong with a text that is no fare table: each wrong value, where it stands, and what is
+//! wanted in its place.
+
+mod checks;
+mod people;
+mod ranges;
+mod wrong;
+
+use crate::places::Places;
+use checks::wrongs_of;
+use std::alloc::{AllocError, Global};
+use toml::Table;
+
+/// The lines of what is wrong with the text of a file of this name, key by key in the order in
+/// which its keys are read. Empty if no value was found to be wrong.
+pub(crate) fn wrong_lines(
+    alloc: Global,
+    name: &str,
+    text: &str,
+    tree: &Table,
+) -> Result<String, AllocError> {
+    let wrongs = wrongs_of(alloc, tree)?;
+    let mut lines = String::new(alloc);
+    if wrongs.is_empty() {
+        return Ok(lines);
+    }
+    let places = Places::of(alloc, text)?;
+    for wrong in &wrongs {
+        let line = wrong.line(alloc, name, text, &places)?;
+        lines.push_str(line.as_str())?;
+    }
+    Ok(lines)
+}

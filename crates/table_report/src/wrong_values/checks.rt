@@ -1,0 +1,393 @@
+//! What is wrong with the modes, the transfers, the classes, the zone and the window of a text.
+
+use super::people::{check_default, check_riders};
+use super::ranges::check_ranges;
+use super::wrong::{Wrong, Wrongs};
+use crate::paths::{item_path, key_path};
+use fare_table::WindowSpan;
+use jiff::tz::TimeZone;
+use std::alloc::{AllocError, Global};
+use toml::value::Array;
+use toml::{Table, Value};
+
+/// How many names are listed at most where one of them is wanted.
+pub(super) const LISTED_NAMES: usize = 12;
+
+/// What `modes` has to be.
+const MODES: &str = "1 to 32 names of modes, each of 1 to 16 letters a to z, none twice";
+
+/// What a name in `modes` has to be.
+const MODE_NAME: &str = "a name of 1 to 16 letters a to z that does not come twice";
+
+/// What `transfers` has to be.
+const TRANSFERS: &str = "an array of pairs of modes, from and to; [] for none";
+
+/// What an element of `transfers` has to be.
+const PAIR: &str = "a pair of modes, from and to";
+
+/// What `classes` has to be.
+const CLASSES: &str = "a table of at least one rider class, each with fare and rides";
+
+/// What a class has to be.
+const CLASS: &str = "a table with fare, rides and, if it has one, ceiling";
+
+/// What `fares` of a class has to be.
+const FARES: &str = "a table from modes to numbers from 0 to 100000, in cents";
+
+/// What `zone` has to be.
+const ZONE: &str = "a POSIX rule, as \"EST5EDT,M3.2.0,M11.1.0\", not a place";
+
+/// What `window` has to be.
+const WINDOW: &str = "\"7 days\" or another number of days from 1 to 31, \"calendar day\", \
+    \"calendar week\" or \"calendar month\"";
+
+/// The whole path of a key at the top.
+pub(super) fn top(alloc: Global, key: &str) -> Result<String, AllocError> {
+    key_path(alloc, "", key)
+}
+
+/// What is wanted where one of some names has to stand.
+pub(super) fn one_of(alloc: Global, what: &str, names: &[&str]) -> Result<String, AllocError> {
+    let mut text = format!(in alloc; "{what}:")?;
+    for (number, name) in names.iter().enumerate() {
+        if number == LISTED_NAMES {
+            text.push_str(" ..")?;
+            return Ok(text);
+        }
+        let comma = if number == 0 { "" } else { "," };
+        let name = crate::paths::Key(name);
+        write!(text, "{comma} {name}")?;
+    }
+    Ok(text)
+}
+
+/// The array at a key at the top, with the value that it is. None where there is none, which is
+/// told.
+pub(super) fn array_at<'t>(
+    wrongs: &mut Wrongs,
+    tree: &'t Table,
+    key: &str,
+    wanted: &str,
+) -> Result<Option<(&'t Value, &'t Array)>, AllocError> {
+    let Some(value) = tree.get(key) else {
+        wrongs.missing("", key, wanted)?;
+        return Ok(None);
+    };
+    let Some(array) = value.as_array() else {
+        wrongs.value(top(wrongs.alloc, key)?, value, wanted)?;
+        return Ok(None);
+    };
+    Ok(Some((value, array)))
+}
+
+/// Whether each element of the array at a key is well; those that are not are told.
+pub(super) fn are_all<F: Fn(&Value) -> bool>(
+    wrongs: &mut Wrongs,
+    array: &Array,
+    key: &str,
+    wanted: &str,
+    is_well: F,
+) -> Result<bool, AllocError>
+    requires { F.IsAlwaysCallable is_well }
+{
+    let mut are_well = true;
+    for (place, value) in array.iter().enumerate() {
+        if !is_well(value) {
+            let path = item_path(wrongs.alloc, key, place)?;
+            wrongs.value(path, value, wanted)?;
+            are_well = false;
+        }
+    }
+    Ok(are_well)
+}
+
+/// Whether a name can be that of a mode.
+fn is_mode_name(name: &str) -> bool {
+    !name.is_empty() && name.len() <= 16 && name.bytes().all(|byte| byte.is_ascii_lowercase())
+}
+
+/// The strings of an array of strings; none where an element is none.
+fn strings_of<'t>(
+    wrongs: &mut Wrongs,
+    array: &'t Array,
+    key: &str,
+    wanted: &str,
+) -> Result<Option<Vec<&'t str>>, AllocError> {
+    if !are_all(wrongs, array, key, wanted, |value| value.is_str())? {
+        return Ok(None);
+    }
+    let mut names = Vec::new(wrongs.alloc);
+    for value in array {
+        if let Some(name) = value.as_str() {
+            names.push(name)?;
+        }
+    }
+    Ok(Some(names))
+}
+
+/// Looks at the names of the modes.
+fn check_names(wrongs: &mut Wrongs, array: &Array) -> Result<(), AllocError> {
+    let mut earlier: Vec<&str> = Vec::new(wrongs.alloc);
+    for (place, value) in array.iter().enumerate() {
+        let name = value.as_str().unwrap_or("");
+        if !is_mode_name(name) || earlier.iter().any(|other| *other == name) {
+            let path = item_path(wrongs.alloc, "modes", place)?;
+            wrongs.value(path, value, MODE_NAME)?;
+        }
+        earlier.push(name)?;
+    }
+    Ok(())
+}
+
+/// Looks at `modes`. Gives the names, where they can be had.
+fn modes_of<'t>(wrongs: &mut Wrongs, tree: &'t Table) -> Result<Option<Vec<&'t str>>, AllocError> {
+    let Some((value, array)) = array_at(wrongs, tree, "modes", MODES)? else {
+        return Ok(None);
+    };
+    let Some(names) = strings_of(wrongs, array, "modes", MODE_NAME)? else {
+        return Ok(None);
+    };
+    if names.is_empty() || names.len() > 32 {
+        wrongs.value(top(wrongs.alloc, "modes")?, value, MODES)?;
+        return Ok(None);
+    }
+    check_names(wrongs, array)?;
+    Ok(Some(names))
+}
+
+/// Whether the value is a pair of strings.
+fn is_pair(value: &Value) -> bool {
+    match value.as_array() {
+        Some(array) => array.len() == 2 && array.iter().all(|name| name.is_str()),
+        None => false,
+    }
+}
+
+/// Looks at the two names of each pair.
+fn check_pairs(wrongs: &mut Wrongs, array: &Array, modes: &[&str]) -> Result<(), AllocError> {
+    let wanted = one_of(wrongs.alloc, "a mode of the table", modes)?;
+    for (place, value) in array.iter().enumerate() {
+        let pair = item_path(wrongs.alloc, "transfers", place)?;
+        if let Some(names) = value.as_array() {
+            for (side, name) in names.iter().enumerate() {
+                if !is_one_of(name, modes) {
+                    let path = item_path(wrongs.alloc, pair.as_str(), side)?;
+                    wrongs.value(path, name, wanted.as_str())?;
+                }
+            }
+        }
+    }
+    Ok(())
+}
+
+/// Whether the value is one of the names.
+pub(super) fn is_one_of(value: &Value, names: &[&str]) -> bool {
+    match value.as_str() {
+        Some(name) => names.iter().any(|other| *other == name),
+        None => false,
+    }
+}
+
+/// Looks at `transfers`.
+fn check_transfers(
+    wrongs: &mut Wrongs,
+    tree: &Table,
+    modes: &Option<Vec<&str>>,
+) -> Result<(), AllocError> {
+    let Some((_, array)) = array_at(wrongs, tree, "transfers", TRANSFERS)? else {
+        return Ok(());
+    };
+    let are_pairs = are_all(wrongs, array, "transfers", PAIR, |pair| is_pair(pair))?;
+    match modes {
+        Some(modes) if are_pairs => check_pairs(wrongs, array, modes),
+        _ => Ok(()),
+    }
+}
+
+/// Looks at the number at a key, which lies within its bounds. Gives it, where it does.
+pub(super) fn check_number(
+    wrongs: &mut Wrongs,
+    holder: &str,
+    entry: &Table,
+    key: &str,
+    low: i64,
+    high: i64,
+    unit: &str,
+) -> Result<Option<i64>, AllocError> {
+    let wanted = format!(in wrongs.alloc; "a number from {low} to {high}{unit}")?;
+    let Some(value) = entry.get(key) else {
+        wrongs.missing(holder, key, wanted.as_str())?;
+        return Ok(None);
+    };
+    if let Some(number) = value.as_integer() {
+        if low <= number && number <= high {
+            return Ok(Some(number));
+        }
+    }
+    let path = key_path(wrongs.alloc, holder, key)?;
+    wrongs.value(path, value, wanted.as_str())?;
+    Ok(None)
+}
+
+/// Looks at the name of a mode that is a key of the `fares` at a path.
+fn check_fare_mode(
+    wrongs: &mut Wrongs,
+    path: &str,
+    name: &str,
+    modes: &[&str],
+) -> Result<(), AllocError> {
+    if modes.iter().any(|other| *other == name) {
+        return Ok(());
+    }
+    let wanted = one_of(wrongs.alloc, "a mode of the table", modes)?;
+    let key = key_path(wrongs.alloc, path, name)?;
+    wrongs.key(key, wanted.as_str())
+}
+
+/// Looks at `fares` of the class at a path.
+fn check_fares(
+    wrongs: &mut Wrongs,
+    path: &str,
+    class: &Table,
+    modes: &Option<Vec<&str>>,
+) -> Result<(), AllocError> {
+    let Some(value) = class.get("fares") else {
+        return Ok(());
+    };
+    let path = key_path(wrongs.alloc, path, "fares")?;
+    let Some(fares) = value.as_table() else {
+        return wrongs.value(path, value, FARES);
+    };
+    for (name, _cents) in fares {
+        if let Some(modes) = modes {
+            check_fare_mode(wrongs, path.as_str(), name.as_str(), modes)?;
+        }
+        check_number(
+            wrongs,
+            path.as_str(),
+            fares,
+            name.as_str(),
+            0,
+            100_000,
+            ", in cents",
+        )?;
+    }
+    Ok(())
+}
+
+/// Looks at the keys of a class.
+fn check_class(
+    wrongs: &mut Wrongs,
+    path: &str,
+    class: &Table,
+    modes: &Option<Vec<&str>>,
+) -> Result<(), AllocError> {
+    check_number(wrongs, path, class, "fare", 1, 100_000, ", in cents")?;
+    check_number(wrongs, path, class, "rides", 1, 1_000, "")?;
+    if class.contains_key("ceiling") {
+        check_number(wrongs, path, class, "ceiling", 1, 100_000_000, ", in cents")?;
+    }
+    check_fares(wrongs, path, class, modes)?;
+    if class.contains_key("transfers") {
+        check_number(wrongs, path, class, "transfers", 0, 9, "")?;
+    }
+    if class.contains_key("transfer_minutes") {
+        check_number(
+            wrongs,
+            path,
+            class,
+            "transfer_minutes",
+            1,
+            1_440,
+            ", in minutes",
+        )?;
+    }
+    Ok(())
+}
+
+/// Looks at the classes of a table of classes.
+fn check_classes(
+    wrongs: &mut Wrongs,
+    classes: &Table,
+    modes: &Option<Vec<&str>>,
+) -> Result<(), AllocError> {
+    let mut is_well = true;
+    for (name, value) in classes {
+        if !value.is_table() {
+            let path = key_path(wrongs.alloc, "classes", name.as_str())?;
+            wrongs.value(path, value, CLASS)?;
+            is_well = false;
+        }
+    }
+    if !is_well {
+        return Ok(());
+    }
+    for (name, value) in classes {
+        let path = key_path(wrongs.alloc, "classes", name.as_str())?;
+        if let Some(class) = value.as_table() {
+            check_class(wrongs, path.as_str(), class, modes)?;
+        }
+    }
+    Ok(())
+}
+
+/// Looks at `classes`. Gives them, where they can be had.
+fn classes_of<'t>(
+    wrongs: &mut Wrongs,
+    tree: &'t Table,
+    modes: &Option<Vec<&str>>,
+) -> Result<Option<&'t Table>, AllocError> {
+    let Some(value) = tree.get("classes") else {
+        wrongs.missing("", "classes", CLASSES)?;
+        return Ok(None);
+    };
+    let Some(classes) = value.as_table() else {
+        wrongs.value(top(wrongs.alloc, "classes")?, value, CLASSES)?;
+        return Ok(None);
+    };
+    if classes.is_empty() {
+        wrongs.value(top(wrongs.alloc, "classes")?, value, CLASSES)?;
+    }
+    check_classes(wrongs, classes, modes)?;
+    Ok(Some(classes))
+}
+
+/// Looks at `zone`.
+fn check_zone(wrongs: &mut Wrongs, tree: &Table) -> Result<(), AllocError> {
+    let Some(value) = tree.get("zone") else {
+        return Ok(());
+    };
+    if let Some(text) = value.as_str() {
+        if TimeZone::posix(text).is_ok() {
+            return Ok(());
+        }
+    }
+    wrongs.value(top(wrongs.alloc, "zone")?, value, ZONE)
+}
+
+/// Looks at `window`.
+fn check_window(wrongs: &mut Wrongs, tree: &Table) -> Result<(), AllocError> {
+    let Some(value) = tree.get("window") else {
+        return Ok(());
+    };
+    if let Some(text) = value.as_str() {
+        if WindowSpan::named(text).is_some() {
+            return Ok(());
+        }
+    }
+    wrongs.value(top(wrongs.alloc, "window")?, value, WINDOW)
+}
+
+/// What is wrong with a text, key by key in the order in which its keys are read.
+pub(super) fn wrongs_of(alloc: Global, tree: &Table) -> Result<Vec<Wrong>, AllocError> {
+    let mut wrongs = Wrongs::new(alloc);
+    let modes = modes_of(&mut wrongs, tree)?;
+    check_transfers(&mut wrongs, tree, &modes)?;
+    let classes = classes_of(&mut wrongs, tree, &modes)?;
+    check_default(&mut wrongs, tree, classes)?;
+    check_ranges(&mut wrongs, tree, &modes)?;
+    check_riders(&mut wrongs, tree, classes)?;
+    check_zone(&mut wrongs, tree)?;
+    check_window(&mut wrongs, tree)?;
+    Ok(wrongs.found)
+}

@@ -1,0 +1,123 @@
+//! What is wrong with the ranges of validators of a text.
+
+use super::checks::{are_all, array_at, check_number, is_one_of, one_of};
+use super::wrong::Wrongs;
+use crate::paths::{item_path, key_path};
+use std::alloc::AllocError;
+use std::collections::BTreeMap;
+use toml::{Table, Value};
+
+/// What `validators` has to be.
+const RANGES: &str = "an array of ranges, each with first, last and mode; [] for none";
+
+/// What an element of `validators` has to be.
+const RANGE: &str = "a range: a table with first, last and mode";
+
+/// The highest number of a validator.
+const HIGHEST: i64 = 4_294_967_295;
+
+/// The ranges so far, by their first numbers: the last number and the place of each.
+type Ranges = BTreeMap<i64, (i64, usize)>;
+
+/// The earlier range that shares a number with one from `first` to `last`.
+fn shared(ranges: &Ranges, first: i64, last: i64) -> Option<(i64, i64, usize)> {
+    let (begin, (end, place)) = ranges.range(..=last).next_back()?;
+    if first <= *end {
+        Some((*begin, *end, *place))
+    } else {
+        None
+    }
+}
+
+/// Keeps a range, or tells the earlier one that it shares a number with.
+fn check_overlap(
+    wrongs: &mut Wrongs,
+    ranges: &mut Ranges,
+    path: &str,
+    place: usize,
+    first: i64,
+    last: i64,
+    value: &Value,
+) -> Result<(), AllocError> {
+    match shared(ranges, first, last) {
+        Some((begin, end, other)) => {
+            let wanted = format!(in wrongs.alloc;
+                "a range that shares no number with validators[{other}], {begin} to {end}"
+            )?;
+            let path = String::from_str(wrongs.alloc, path)?;
+            wrongs.value(path, value, wanted.as_str())
+        }
+        None => {
+            ranges.insert(first, (last, place))?;
+            Ok(())
+        }
+    }
+}
+
+/// Looks at the mode of a range.
+fn check_mode(
+    wrongs: &mut Wrongs,
+    path: &str,
+    entry: &Table,
+    modes: &Option<Vec<&str>>,
+) -> Result<(), AllocError> {
+    let wanted = match modes {
+        Some(modes) => one_of(wrongs.alloc, "a mode of the table", modes)?,
+        None => String::from_str(wrongs.alloc, "a mode of the table")?,
+    };
+    let Some(value) = entry.get("mode") else {
+        return wrongs.missing(path, "mode", wanted.as_str());
+    };
+    let is_well = match modes {
+        Some(modes) => is_one_of(value, modes),
+        None => value.is_str(),
+    };
+    if is_well {
+        return Ok(());
+    }
+    let path = key_path(wrongs.alloc, path, "mode")?;
+    wrongs.value(path, value, wanted.as_str())
+}
+
+/// Looks at one range.
+fn check_range(
+    wrongs: &mut Wrongs,
+    ranges: &mut Ranges,
+    place: usize,
+    value: &Value,
+    modes: &Option<Vec<&str>>,
+) -> Result<(), AllocError> {
+    let Some(entry) = value.as_table() else {
+        return Ok(());
+    };
+    let path = item_path(wrongs.alloc, "validators", place)?;
+    let first = check_number(wrongs, path.as_str(), entry, "first", 0, HIGHEST, "")?;
+    let low = first.unwrap_or(0);
+    let last = check_number(wrongs, path.as_str(), entry, "last", low, HIGHEST, "")?;
+    check_mode(wrongs, path.as_str(), entry, modes)?;
+    match (first, last) {
+        (Some(first), Some(last)) => {
+            check_overlap(wrongs, ranges, path.as_str(), place, first, last, value)
+        }
+        _ => Ok(()),
+    }
+}
+
+/// Looks at `validators`.
+pub(super) fn check_ranges(
+    wrongs: &mut Wrongs,
+    tree: &Table,
+    modes: &Option<Vec<&str>>,
+) -> Result<(), AllocError> {
+    let Some((_, array)) = array_at(wrongs, tree, "validators", RANGES)? else {
+        return Ok(());
+    };
+    if !are_all(wrongs, array, "validators", RANGE, |value| value.is_table())? {
+        return Ok(());
+    }
+    let mut ranges = BTreeMap::new(wrongs.alloc);
+    for (place, value) in array.iter().enumerate() {
+        check_range(wrongs, &mut ranges, place, value, modes)?;
+    }
+    Ok(())
+}
