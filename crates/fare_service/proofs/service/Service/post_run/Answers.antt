@@ -17,14 +17,13 @@ use Rattle.fare_service.proofs.service.Service.post_run.Goals as goal
 
 pub returns-then-len-eq0-clause-made : goal.returns-then-len-eq0-clause-made
 returns-then-len-eq0-clause-made g c =
-    let same = same_run c.run-run.result c.args.batch.now c.args.shard (length c.args.runs.now) (shards_of c.args.self.now) c.run-run.ensures c.requires.shards in
     λ place. run_empty (shards_of c.args.self.now) c.args.shard place c.args.batch.now c.args.posting.now.passes.items (sums_of c.args.posting.now.totals)
-    (sym (ap length same) ∙ (sym c.len-len.ensures.number ∙ c.if-len-eq0.true))
+    (sym (ap (λ shards. length (run_of c.args.shard shards c.args.batch.now)) c.requires.shards) ∙ (sym c.len_of-len.ensures.number ∙ c.if-len-eq0.true))
 
 pub returns-in_err-reserve-clause-made : goal.returns-in_err-reserve-clause-made
 returns-in_err-reserve-clause-made g c =
     let same = same_run c.run-run.result c.args.batch.now c.args.shard (length c.args.runs.now) (shards_of c.args.self.now) c.run-run.ensures c.requires.shards in
-    let some : 0 < length (run_of c.args.shard (shards_of c.args.self.now) c.args.batch.now) = omega (arith, ap length same, c.len-len.ensures.number) in
+    let some : 0 < length (run_of c.args.shard (shards_of c.args.self.now) c.args.batch.now) = omega (arith, ap (λ shards. length (run_of c.args.shard shards c.args.batch.now)) c.requires.shards, c.len_of-len.ensures.number) in
     λ place. run_refused (shards_of c.args.self.now) c.args.shard place c.args.batch.now c.args.posting.now.passes.items (sums_of c.args.posting.now.totals)
     c.from_residual.result some c.from_residual.ensures.0
 
@@ -50,7 +49,7 @@ visit-requires-clause-clock g c =
 pub returns-in_err-visit-clause-made : goal.returns-in_err-visit-clause-made
 returns-in_err-visit-clause-made g c =
     let same = same_run c.run-run.result c.args.batch.now c.args.shard (length c.args.runs.now) (shards_of c.args.self.now) c.run-run.ensures c.requires.shards in
-    let some : 0 < length (run_of c.args.shard (shards_of c.args.self.now) c.args.batch.now) = omega (arith, ap length same, c.len-len.ensures.number) in
+    let some : 0 < length (run_of c.args.shard (shards_of c.args.self.now) c.args.batch.now) = omega (arith, ap (λ shards. length (run_of c.args.shard shards c.args.batch.now)) c.requires.shards, c.len_of-len.ensures.number) in
     let within : c.args.shard < length c.args.posting.now.passes.items =
     omega (arith, c.requires.shard, ap length c.requires.passes, length-map c.args.posting.now.passes.items (λ (p : PassView). p.book)) in
     λ place. run_full (shards_of c.args.self.now) c.args.shard place c.args.batch.now c.args.posting.now.passes.items c.index_mut.result.now c.visit.new.pass (sums_of c.args.posting.now.totals)
@@ -61,12 +60,12 @@ count-requires g c =
     let made = c.in_ok-visit.ensures.visit in
     let few = visit_length (run_taps c.run-run.result) c.in_ok-visit.visit.how made.visit made.of_run in
     let items : c.visit.new.out.items ≡ map reply_of made.visit = made.items ∙ ap (λ xs. xs ++ map reply_of made.visit) (c.in_ok-reserve.ensures.items ∙ c.clear.ensures.items) in
-    omega (arith, c.requires.room, few, c.len-len.ensures.number, c.len-len.ensures.most, ap length items, length-map made.visit reply_of)
+    omega (arith, c.requires.room, few, c.len_of-len.ensures.number, c.len_of-len.ensures.most, ap length items, length-map made.visit reply_of)
 
 pub returns-in-Whole-clause-made : goal.returns-in-Whole-clause-made
 returns-in-Whole-clause-made g c =
     let same = same_run c.run-run.result c.args.batch.now c.args.shard (length c.args.runs.now) (shards_of c.args.self.now) c.run-run.ensures c.requires.shards in
-    let some : 0 < length (run_of c.args.shard (shards_of c.args.self.now) c.args.batch.now) = omega (arith, ap length same, c.len-len.ensures.number) in
+    let some : 0 < length (run_of c.args.shard (shards_of c.args.self.now) c.args.batch.now) = omega (arith, ap (λ shards. length (run_of c.args.shard shards c.args.batch.now)) c.requires.shards, c.len_of-len.ensures.number) in
     let within : c.args.shard < length c.args.posting.now.passes.items =
     omega (arith, c.requires.shard, ap length c.requires.passes, length-map c.args.posting.now.passes.items (λ (p : PassView). p.book)) in
     let made = c.in_ok-visit.ensures.visit in
@@ -84,12 +83,12 @@ returns-in-Whole-clause-few g c =
     let few = visit_length (run_taps c.run-run.result) c.in_ok-visit.visit.how made.visit made.of_run in
     let items : c.visit.new.out.items ≡ map reply_of made.visit = made.items ∙ ap (λ xs. xs ++ map reply_of made.visit) (c.in_ok-reserve.ensures.items ∙ c.clear.ensures.items) in
     let more = ap (λ s. s.taps) c.count.ensures ∙ taps_after (sums_of c.args.posting.now.totals) c.visit.new.out.items in
-    omega (arith, few, c.len-len.ensures.number, c.len-len.ensures.most, ap length items, length-map made.visit reply_of, more)
+    omega (arith, few, c.len_of-len.ensures.number, c.len_of-len.ensures.most, ap length items, length-map made.visit reply_of, more)
 
 pub returns-in-Cut-clause-made : goal.returns-in-Cut-clause-made
 returns-in-Cut-clause-made g c =
     let same = same_run c.run-run.result c.args.batch.now c.args.shard (length c.args.runs.now) (shards_of c.args.self.now) c.run-run.ensures c.requires.shards in
-    let some : 0 < length (run_of c.args.shard (shards_of c.args.self.now) c.args.batch.now) = omega (arith, ap length same, c.len-len.ensures.number) in
+    let some : 0 < length (run_of c.args.shard (shards_of c.args.self.now) c.args.batch.now) = omega (arith, ap (λ shards. length (run_of c.args.shard shards c.args.batch.now)) c.requires.shards, c.len_of-len.ensures.number) in
     let within : c.args.shard < length c.args.posting.now.passes.items =
     omega (arith, c.requires.shard, ap length c.requires.passes, length-map c.args.posting.now.passes.items (λ (p : PassView). p.book)) in
     let made = c.in_ok-visit.ensures.visit in
@@ -107,7 +106,7 @@ returns-in-Cut-clause-few g c =
     let few = visit_length (run_taps c.run-run.result) c.in_ok-visit.visit.how made.visit made.of_run in
     let items : c.visit.new.out.items ≡ map reply_of made.visit = made.items ∙ ap (λ xs. xs ++ map reply_of made.visit) (c.in_ok-reserve.ensures.items ∙ c.clear.ensures.items) in
     let more = ap (λ s. s.taps) c.count.ensures ∙ taps_after (sums_of c.args.posting.now.totals) c.visit.new.out.items in
-    omega (arith, few, c.len-len.ensures.number, c.len-len.ensures.most, ap length items, length-map made.visit reply_of, more)
+    omega (arith, few, c.len_of-len.ensures.number, c.len_of-len.ensures.most, ap length items, length-map made.visit reply_of, more)
 
 pub returns-then-len-eq0-clause-full : goal.returns-then-len-eq0-clause-full
 returns-then-len-eq0-clause-full g c = tells_ok tt _ _ (λ h. h)
