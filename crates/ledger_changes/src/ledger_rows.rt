@@ -16,7 +16,7 @@ ghost use Rattle.ledger_changes.specs.inside.Standings.{ReadsRow, standing, Stan
 use crate::fault::{Bill, CorrectionsFault};
 use crate::form::row_fields;
 use crate::row::LedgerRow;
-use reason_texts::head_line;
+use fare_texts::head_line;
 use std::alloc::Global;
 use std::io::{BufRead, ErrorKind};
 use std::mem;

@@ -4,8 +4,8 @@ use Rattle.fare_table.specs.Fares.{Fares}
 use Rattle.tap_views.specs.declared.token.Token.{Token}
 use Rattle.tap_views.specs.declared.encoder.TapFields.{TapFields}
 use Rattle.shard_book.specs.declared.entry.Entry.{Entry}
-use Rattle.reason_texts.specs.declared.teller.Teller.{Teller}
-use Rattle.ledger_texts.specs.Lines.{AreLinesAlong, HasCome, IsUpTo}
+use Rattle.fare_texts.specs.declared.teller.Teller.{Teller}
+use Rattle.fare_texts.specs.Lines.{AreLinesAlong, HasCome, IsUpTo}
 use Rattle.settlement.specs.Posted.{posted_after, token_of_tap}
 
 -- the taps' tokens never fall, from this one on

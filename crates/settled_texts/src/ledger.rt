@@ -7,16 +7,14 @@ ghost use Rattle.std.specs.Io.KnownBytes.{Appends};
 ghost use Rattle.tap_views.specs.Encoding.{AreEarly};
 ghost use Rattle.tap_parts.specs.Canonical.{tap_cmp};
 ghost use Rattle.fare_texts.specs.PrintFaults.{KeepsUnlessWrite};
-ghost use Rattle.ledger_texts.specs.Ledger.{IsLedgerOver};
+ghost use Rattle.fare_texts.specs.Ledger.{IsLedgerOver};
 ghost use Rattle.settlement.specs.Posted.{HasName, posted};
 
 use crate::lines::STRIDE_ROOM_BYTES;
 use crate::rounds::write_lists;
 use crate::seat::Seat;
 use fare_table::FareTable;
-use fare_texts::PrintFault;
-use ledger_texts::{head_with_room, pass_on};
-use reason_texts::Teller;
+use fare_texts::{PrintFault, Teller, head_with_room, pass_on};
 use std::alloc::Global;
 use std::io::Write;
 use std::marker::Sync;

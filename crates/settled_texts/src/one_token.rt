@@ -8,14 +8,13 @@ ghost use Rattle.shard_book.specs.Entry.{own};
 ghost use Rattle.shard_book.specs.declared.entry.Entry.{Entry};
 ghost use Rattle.fare_texts.specs.PrintFaults.{KeepsUnlessWrite};
 ghost use Rattle.report_texts.specs.OverHistory.{IsStatementOver};
-ghost use Rattle.ledger_texts.specs.Explained.{IsExplainedOver};
-ghost use Rattle.ledger_texts.specs.Ledger.{IsLedgerOver};
+ghost use Rattle.fare_texts.specs.Explained.{IsExplainedOver};
+ghost use Rattle.fare_texts.specs.Ledger.{IsLedgerOver};
 ghost use Rattle.settlement.specs.Posted.{posted, token_of_tap};
 ghost use Rattle.settlement.specs.Replays.{HasPosted};
 
 use fare_table::FareTable;
-use fare_texts::{PrintFault, statement_text, write_out};
-use ledger_texts::{write_explained_of, write_ledger_of};
+use fare_texts::{PrintFault, statement_text, write_explained_of, write_ledger_of, write_out};
 use settlement::Replay;
 use shard_book::{Entry, Lines, Statement, totals_of_entries};
 use std::alloc::Global;

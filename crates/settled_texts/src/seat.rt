@@ -7,7 +7,7 @@ ghost use Rattle.settled_texts.specs.inside.Seats.{HasSat, IsSoundList};
 
 use crate::lines::{tell_taps, token_of};
 use fare_table::{Clock, FareTable};
-use reason_texts::Teller;
+use fare_texts::Teller;
 use std::alloc::Global;
 use tap_views::{TapFields, Token};
 

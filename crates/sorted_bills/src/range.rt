@@ -3,16 +3,15 @@
 ghost use Rattle.std.specs.Prelude.{◌≡◌, ◌+◌, ◌≤◌, [], All, IfOk, None, OnOk, length, map};
 ghost use Rattle.std.specs.Prelude.{string_bytes};
 ghost use Rattle.fare_table.specs.Fares.{Fares};
-ghost use Rattle.reason_texts.specs.Tellers.{HasTold};
+ghost use Rattle.fare_texts.specs.Tellers.{HasTold};
 ghost use Rattle.sorted_bills.specs.inside.Ranges.{AreLinesAnywhere, IsRange};
 
 use crate::fault::BillFault;
-use crate::taking::Taker;
-use crate::telling::tell_below;
+use crate::lines_below::tell_below;
+use crate::taker::Taker;
 use fare_table::{Clock, FareTable};
-use ledger_texts::pass_on;
+use fare_texts::{Teller, pass_on};
 use placed_files::Placed;
-use reason_texts::Teller;
 use settled_texts::least_token;
 use sorted_taps::{Span, WINDOW_BYTES, copies_of};
 use std::alloc::Global;

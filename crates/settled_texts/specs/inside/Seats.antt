@@ -6,7 +6,7 @@ use Rattle.tap_views.specs.Encoding.{AreEarly}
 use Rattle.tap_views.specs.declared.encoder.TapFields.{TapFields}
 use Rattle.shard_book.specs.Entry.{own}
 use Rattle.shard_book.specs.declared.entry.Entry.{Entry}
-use Rattle.ledger_texts.specs.Lines.{AreUpTo, IsUpTo}
+use Rattle.fare_texts.specs.Lines.{AreUpTo, IsUpTo}
 use Rattle.settled_texts.specs.declared.seat.Seat.{Seat}
 use Rattle.settled_texts.specs.Telling.{AreTold, NoTapFallsFrom, last_token}
 

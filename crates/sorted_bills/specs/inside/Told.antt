@@ -4,8 +4,8 @@ use Rattle.std.specs.Io.KnownBytes.{Appends}
 use Rattle.fare_table.specs.Fares.{Fares}
 use Rattle.tap_views.specs.declared.encoder.TapFields.{TapFields}
 use Rattle.tap_views.specs.declared.token.Token.{Token}
-use Rattle.ledger_texts.specs.Lines.{IsUpTo}
-use Rattle.reason_texts.specs.declared.teller.Teller.{Teller}
+use Rattle.fare_texts.specs.Lines.{IsUpTo}
+use Rattle.fare_texts.specs.declared.teller.Teller.{Teller}
 use Rattle.settlement.specs.Posted.{HasName}
 use Rattle.settled_texts.specs.Telling.{AreTold, NoTapFallsFrom, last_token}
 use Rattle.shard_book.specs.declared.entry.Entry.{Entry}
