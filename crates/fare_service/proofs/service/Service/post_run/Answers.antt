@@ -1,7 +1,7 @@
 use Rattle.std.proofs.Common.{◌≡◌, ◌<◌, List, inr, refl, ◌++◌, length, map, sym, ◌∙◌, ap, subst, arith}
 use Rattle.std.proofs.lemmas.List.{length-map}
 use Rattle.tap_views.specs.Layout.{Tap}
-use Rattle.tap_views.specs.Shards.{run_of, run_taps}
+use Rattle.tap_views.specs.Shards.{run_of, run_taps, ShardRun}
 use Rattle.shard_book.specs.declared.run_end.RunEnd.{RunEnd}
 use Rattle.shard_book.specs.declared.run_end.RunEnd.TheVariants.{Whole, Cut}
 use Rattle.shard_book.specs.Entry.{reply_of}
@@ -57,10 +57,12 @@ returns-in_err-visit-clause-made g c =
 
 pub count-requires : goal.count-requires
 count-requires g c =
+    let whole : length (run_taps c.run-run.result) ≡ length (run_of c.args.shard (length c.args.runs.now) c.args.batch.now) =
+    ap (λ (r : ShardRun). length (run_taps r)) c.run-run.ensures in
     let made = c.in_ok-visit.ensures.visit in
     let few = visit_length (run_taps c.run-run.result) c.in_ok-visit.visit.how made.visit made.of_run in
     let items : c.visit.new.out.items ≡ map reply_of made.visit = made.items ∙ ap (λ xs. xs ++ map reply_of made.visit) (c.in_ok-reserve.ensures.items ∙ c.clear.ensures.items) in
-    omega (arith, c.requires.room, few, c.len_of-len.ensures.number, c.len_of-len.ensures.most, ap length items, length-map made.visit reply_of)
+    omega (arith, c.requires.room, few, whole, c.len_of-len.ensures.number, c.len_of-len.ensures.most, ap length items, length-map made.visit reply_of)
 
 pub returns-in-Whole-clause-made : goal.returns-in-Whole-clause-made
 returns-in-Whole-clause-made g c =
@@ -79,11 +81,13 @@ returns-in-Whole-clause-made g c =
 
 pub returns-in-Whole-clause-few : goal.returns-in-Whole-clause-few
 returns-in-Whole-clause-few g c =
+    let whole : length (run_taps c.run-run.result) ≡ length (run_of c.args.shard (length c.args.runs.now) c.args.batch.now) =
+    ap (λ (r : ShardRun). length (run_taps r)) c.run-run.ensures in
     let made = c.in_ok-visit.ensures.visit in
     let few = visit_length (run_taps c.run-run.result) c.in_ok-visit.visit.how made.visit made.of_run in
     let items : c.visit.new.out.items ≡ map reply_of made.visit = made.items ∙ ap (λ xs. xs ++ map reply_of made.visit) (c.in_ok-reserve.ensures.items ∙ c.clear.ensures.items) in
     let more = ap (λ s. s.taps) c.count.ensures ∙ taps_after (sums_of c.args.posting.now.totals) c.visit.new.out.items in
-    omega (arith, few, c.len_of-len.ensures.number, c.len_of-len.ensures.most, ap length items, length-map made.visit reply_of, more)
+    omega (arith, few, whole, c.len_of-len.ensures.number, c.len_of-len.ensures.most, ap length items, length-map made.visit reply_of, more)
 
 pub returns-in-Cut-clause-made : goal.returns-in-Cut-clause-made
 returns-in-Cut-clause-made g c =
@@ -102,11 +106,13 @@ returns-in-Cut-clause-made g c =
 
 pub returns-in-Cut-clause-few : goal.returns-in-Cut-clause-few
 returns-in-Cut-clause-few g c =
+    let whole : length (run_taps c.run-run.result) ≡ length (run_of c.args.shard (length c.args.runs.now) c.args.batch.now) =
+    ap (λ (r : ShardRun). length (run_taps r)) c.run-run.ensures in
     let made = c.in_ok-visit.ensures.visit in
     let few = visit_length (run_taps c.run-run.result) c.in_ok-visit.visit.how made.visit made.of_run in
     let items : c.visit.new.out.items ≡ map reply_of made.visit = made.items ∙ ap (λ xs. xs ++ map reply_of made.visit) (c.in_ok-reserve.ensures.items ∙ c.clear.ensures.items) in
     let more = ap (λ s. s.taps) c.count.ensures ∙ taps_after (sums_of c.args.posting.now.totals) c.visit.new.out.items in
-    omega (arith, few, c.len_of-len.ensures.number, c.len_of-len.ensures.most, ap length items, length-map made.visit reply_of, more)
+    omega (arith, few, whole, c.len_of-len.ensures.number, c.len_of-len.ensures.most, ap length items, length-map made.visit reply_of, more)
 
 pub returns-then-len-eq0-clause-full : goal.returns-then-len-eq0-clause-full
 returns-then-len-eq0-clause-full g c = tells_ok tt _ _ (λ h. h)
