@@ -3,6 +3,7 @@
 ghost use Rattle.std.specs.Prelude.{◌≡◌, ◌+◌, ◌<◌, ◌≤◌, ◌++◌, ◌∷◌, [], ℕ, length, slice_index_or};
 ghost use Rattle.std.specs.Prelude.{IfOk};
 ghost use Rattle.tap_views.specs.Runs.{AreRuns};
+ghost use Rattle.tap_views.specs.Shards.{run_of};
 
 use crate::batch::Batch;
 use crate::layout::MAX_TAPS;
@@ -135,6 +136,19 @@ impl Runs {
     {
         clear_all(&mut self.lists);
         sort_in(&mut self.lists, batch);
+    }
+
+    /// How many taps of the batch that was filled in last are of one shard. It scans nothing, so
+    /// that a shard without a tap costs little.
+    pub fn len_of(&self, batch: &Batch<'_>, shard: u32) -> u32
+        requires runs { AreRuns batch.now self.now }
+        requires below { shard < length self.now }
+        ensures number { result ≡ length (run_of shard (length self.now) batch.now) }
+        ensures most { result ≤ 4096 }
+    {
+        // proof: a batch has at most 4,096 taps, so a shard has no more
+        let _count = batch.len();
+        self.lists[shard as usize].as_slice().len() as u32
     }
 
     /// The taps of one shard, as `run_of` gives them, of the batch that was filled in last. The run

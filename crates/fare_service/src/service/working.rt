@@ -159,11 +159,11 @@ impl<'a> Service<'a> {
         ensures memory { TellsMemory shard result posting.old.passes.items
             posting.new.passes.items }
     {
-        let run = runs.run(batch, shard);
-        let len = run.len();
+        let len = runs.len_of(batch, shard);
         if len == 0 {
             return Ok(());
         }
+        let run = runs.run(batch, shard);
         buffers.replies.clear();
         buffers.replies.reserve(len)?;
         let visit = self.books[shard as usize].visit(

@@ -11,8 +11,9 @@ ghost use Rattle.shard_book.specs.Sums.{add_sums};
 ghost use Rattle.shard_book.specs.Tally.{sums_of_tally};
 
 use crate::book::ShardBook;
-use crate::sums::by_key::{SumKey, tallies_of};
+use crate::sums::by_key::SumKey;
 use crate::sums::tally::Tally;
+use crate::sums::validator_tallies::tallies_by_hints;
 use crate::token_hash::HashSeed;
 use indexmap::IndexMap;
 use std::alloc::Global;
@@ -80,7 +81,7 @@ fn tallies_by_four<R: Threads + Sync>(
         alloc,
         books,
         size,
-        &|_start, chunk: &[ShardBook]| { tallies_of::<u32>(alloc, seed, chunk) },
+        &|_start, chunk: &[ShardBook]| { tallies_by_hints(alloc, seed, chunk) },
     )?;
     let mut parts = parts.into_iter();
     let Some(first) = parts.next() else {
@@ -118,6 +119,6 @@ pub(crate) fn tallies_by_validator<R: Threads + Sync>(
     if are_worth_threads(books) {
         tallies_by_four(rt, alloc, seed, books)
     } else {
-        tallies_of::<u32>(alloc, seed, books)
+        tallies_by_hints(alloc, seed, books)
     }
 }

@@ -1,11 +1,13 @@
 //! Tallies of entries by their validators, for entries that come one by one.
 
-ghost use Rattle.std.specs.Prelude.{◌≡◌, ◌==◌, List, [], ◌∷◌, ◌++◌, map, IfOk, OnOk};
+ghost use Rattle.std.specs.Prelude.{◌≡◌, ◌==◌, ◌*◌, ◌<◌, ◌≤◌, ◌^◌, List, [], ◌∷◌, ◌++◌, length};
+ghost use Rattle.std.specs.Prelude.{map, IfOk, OnOk};
 ghost use Rattle.shard_book.specs.declared.entry.Entry.{Entry};
 ghost use Rattle.shard_book.specs.Shown.{validator_sum};
-ghost use Rattle.shard_book.specs.SumsByKey.{sums_by_validator, validator_of};
+ghost use Rattle.shard_book.specs.SumsByKey.{all_entries, sums_by_validator, validator_of};
 ghost use Rattle.shard_book.specs.TalliesByKey.{AreByKey, HasRoom, HaveRoom};
 
+use crate::book::ShardBook;
 use crate::entry::Entry;
 use crate::sums::ValidatorSum;
 use crate::sums::by_key::{add_at, add_entry, listed};
@@ -80,6 +82,21 @@ impl ValidatorTallies {
         self.look_up(&unhinted)
     }
 
+    /// Adds the entries of a book. After want of memory the tallies are of no use.
+    fn add_book(&mut self, book: &ShardBook) -> Result<(), NoMemory>
+        requires { HasRoom ◌==◌ validator_of self.old (length book.now.entries) }
+        ensures by_key { OnOk result ((before : List Entry)
+            → AreByKey ◌==◌ validator_of before self.old
+            → AreByKey ◌==◌ validator_of (before ++ book.now.entries) self.new) }
+        ensures few { length book.now.entries < 2 ^ 64 }
+    {
+        for i in 0..book.len() {
+            let entry = book.entry(i);
+            self.add(&entry)?;
+        }
+        Ok(())
+    }
+
     /// Adds an entry whose hint is wrong, and keeps a hint for it.
     #[inline(never)]
     fn look_up(&mut self, entry: &Entry) -> Result<(), NoMemory>
@@ -125,4 +142,25 @@ impl ValidatorTallies {
     {
         listed(alloc, &self.tallies)
     }
+}
+
+/// The tallies of all entries of the books by their validators.
+pub(crate) fn tallies_by_hints(
+    alloc: Global,
+    seed: HashSeed,
+    books: &[ShardBook],
+) -> Result<IndexMap<u32, Tally, HashSeed>, NoMemory>
+    requires { length books.now ≤ 64 }
+    ensures by_key { IfOk result
+        (λ tallies. AreByKey ◌==◌ validator_of (all_entries books.now) tallies.entries) }
+    ensures few { OnOk result (length (all_entries books.now) ≤ length books.now * 2 ^ 64) }
+{
+    let mut hinted = ValidatorTallies::new(alloc, seed);
+    for book in books {
+        // proof: book.len() < 2^64, so the tallies have room
+        let _ = book.len();
+        hinted.add_book(book)?;
+    }
+    let ValidatorTallies { tallies, hints: _ } = hinted;
+    Ok(tallies)
 }

@@ -2,7 +2,7 @@ use Rattle.std.proofs.Common.{◌≡◌, ◌<◌, List, inr, refl, ◌++◌, len
 use Rattle.std.proofs.Common.{arith}
 use Rattle.std.proofs.lemmas.List.{length-map}
 use Rattle.tap_views.specs.Layout.{Tap}
-use Rattle.tap_views.specs.Shards.{run_of, run_taps}
+use Rattle.tap_views.specs.Shards.{run_of, run_taps, ShardRun}
 use Rattle.shard_book.specs.declared.run_end.RunEnd.{RunEnd}
 use Rattle.shard_book.specs.declared.run_end.RunEnd.TheVariants.{Whole, Cut}
 use Rattle.shard_book.specs.Entry.{reply_of}
@@ -20,18 +20,18 @@ use Rattle.fare_service.proofs.service.Service.post_run.Goals as goal
 
 pub returns-then-len-eq0-clause-made : goal.returns-then-len-eq0-clause-made
 returns-then-len-eq0-clause-made g c =
-    let same = same_run c.run-run.result c.args.batch.now c.args.shard (length c.args.runs.now)
-    (shards_of c.args.self.now) c.run-run.ensures c.requires.shards in
     run_empty (shards_of c.args.self.now) c.args.shard c.args.batch.now
     c.args.posting.now.passes.items (sums_of c.args.posting.now.totals)
-    (sym (ap length same) ∙ (sym c.len-len.ensures.number ∙ c.if-len-eq0.true))
+    (sym (ap (λ shards. length (run_of c.args.shard shards c.args.batch.now)) c.requires.shards)
+    ∙ (sym c.len_of-len.ensures.number ∙ c.if-len-eq0.true))
 
 pub returns-in_err-reserve-clause-made : goal.returns-in_err-reserve-clause-made
 returns-in_err-reserve-clause-made g c =
     let same = same_run c.run-run.result c.args.batch.now c.args.shard (length c.args.runs.now)
     (shards_of c.args.self.now) c.run-run.ensures c.requires.shards in
     let some : 0 < length (run_of c.args.shard (shards_of c.args.self.now) c.args.batch.now) =
-    omega (arith, ap length same, c.len-len.ensures.number) in
+    omega (arith, ap (λ shards. length (run_of c.args.shard shards c.args.batch.now))
+    c.requires.shards, c.len_of-len.ensures.number) in
     run_refused (shards_of c.args.self.now) c.args.shard c.args.batch.now
     c.args.posting.now.passes.items (sums_of c.args.posting.now.totals)
     c.from_residual.result some c.from_residual.ensures.0
@@ -64,14 +64,11 @@ returns-in_err-visit-clause-made g c =
     let same = same_run c.run-run.result c.args.batch.now c.args.shard (length c.args.runs.now)
     (shards_of c.args.self.now) c.run-run.ensures c.requires.shards in
     let some : 0 < length (run_of c.args.shard (shards_of c.args.self.now) c.args.batch.now) =
-    omega (arith, ap length same, c.len-len.ensures.number) in
+    omega (arith, ap (λ shards. length (run_of c.args.shard shards c.args.batch.now))
+    c.requires.shards, c.len_of-len.ensures.number) in
     let within : c.args.shard < length c.args.posting.now.passes.items =
-    omega (
-      arith,
-      c.requires.shard,
-      ap length c.requires.passes,
-      length-map c.args.posting.now.passes.items (λ (p : PassView). p.book),
-    ) in
+    omega (arith, c.requires.shard, ap length c.requires.passes,
+    length-map c.args.posting.now.passes.items (λ (p : PassView). p.book)) in
     run_full (shards_of c.args.self.now) c.args.shard c.args.batch.now
     c.args.posting.now.passes.items c.index_mut.result.now c.visit.new.pass
     (sums_of c.args.posting.now.totals)
@@ -80,35 +77,28 @@ returns-in_err-visit-clause-made g c =
 
 pub count-requires : goal.count-requires
 count-requires g c =
+    let whole : length (run_taps c.run-run.result)
+    ≡ length (run_of c.args.shard (length c.args.runs.now) c.args.batch.now) =
+    ap (λ (r : ShardRun). length (run_taps r)) c.run-run.ensures in
     let made = c.in_ok-visit.ensures.visit in
     let few = visit_length (run_taps c.run-run.result) c.in_ok-visit.visit.how made.visit
     made.of_run in
     let items : c.visit.new.out.items ≡ map reply_of made.visit =
     made.items ∙ ap (λ xs. xs ++ map reply_of made.visit)
     (c.in_ok-reserve.ensures.items ∙ c.clear.ensures.items) in
-    omega (
-      arith,
-      c.requires.room,
-      few,
-      c.len-len.ensures.number,
-      c.len-len.ensures.most,
-      ap length items,
-      length-map made.visit reply_of,
-    )
+    omega (arith, c.requires.room, few, whole, c.len_of-len.ensures.number,
+    c.len_of-len.ensures.most, ap length items, length-map made.visit reply_of)
 
 pub returns-in-Whole-clause-made : goal.returns-in-Whole-clause-made
 returns-in-Whole-clause-made g c =
     let same = same_run c.run-run.result c.args.batch.now c.args.shard (length c.args.runs.now)
     (shards_of c.args.self.now) c.run-run.ensures c.requires.shards in
     let some : 0 < length (run_of c.args.shard (shards_of c.args.self.now) c.args.batch.now) =
-    omega (arith, ap length same, c.len-len.ensures.number) in
+    omega (arith, ap (λ shards. length (run_of c.args.shard shards c.args.batch.now))
+    c.requires.shards, c.len_of-len.ensures.number) in
     let within : c.args.shard < length c.args.posting.now.passes.items =
-    omega (
-      arith,
-      c.requires.shard,
-      ap length c.requires.passes,
-      length-map c.args.posting.now.passes.items (λ (p : PassView). p.book),
-    ) in
+    omega (arith, c.requires.shard, ap length c.requires.passes,
+    length-map c.args.posting.now.passes.items (λ (p : PassView). p.book)) in
     let made = c.in_ok-visit.ensures.visit in
     let items : c.visit.new.out.items ≡ map reply_of made.visit =
     made.items ∙ ap (λ xs. xs ++ map reply_of made.visit)
@@ -128,6 +118,9 @@ returns-in-Whole-clause-made g c =
 
 pub returns-in-Whole-clause-few : goal.returns-in-Whole-clause-few
 returns-in-Whole-clause-few g c =
+    let whole : length (run_taps c.run-run.result)
+    ≡ length (run_of c.args.shard (length c.args.runs.now) c.args.batch.now) =
+    ap (λ (r : ShardRun). length (run_taps r)) c.run-run.ensures in
     let made = c.in_ok-visit.ensures.visit in
     let few = visit_length (run_taps c.run-run.result) c.in_ok-visit.visit.how made.visit
     made.of_run in
@@ -136,29 +129,19 @@ returns-in-Whole-clause-few g c =
     (c.in_ok-reserve.ensures.items ∙ c.clear.ensures.items) in
     let more = ap (λ s. s.taps) c.count.ensures
     ∙ taps_after (sums_of c.args.posting.now.totals) c.visit.new.out.items in
-    omega (
-      arith,
-      few,
-      c.len-len.ensures.number,
-      c.len-len.ensures.most,
-      ap length items,
-      length-map made.visit reply_of,
-      more,
-    )
+    omega (arith, few, whole, c.len_of-len.ensures.number, c.len_of-len.ensures.most,
+    ap length items, length-map made.visit reply_of, more)
 
 pub returns-in-Cut-clause-made : goal.returns-in-Cut-clause-made
 returns-in-Cut-clause-made g c =
     let same = same_run c.run-run.result c.args.batch.now c.args.shard (length c.args.runs.now)
     (shards_of c.args.self.now) c.run-run.ensures c.requires.shards in
     let some : 0 < length (run_of c.args.shard (shards_of c.args.self.now) c.args.batch.now) =
-    omega (arith, ap length same, c.len-len.ensures.number) in
+    omega (arith, ap (λ shards. length (run_of c.args.shard shards c.args.batch.now))
+    c.requires.shards, c.len_of-len.ensures.number) in
     let within : c.args.shard < length c.args.posting.now.passes.items =
-    omega (
-      arith,
-      c.requires.shard,
-      ap length c.requires.passes,
-      length-map c.args.posting.now.passes.items (λ (p : PassView). p.book),
-    ) in
+    omega (arith, c.requires.shard, ap length c.requires.passes,
+    length-map c.args.posting.now.passes.items (λ (p : PassView). p.book)) in
     let made = c.in_ok-visit.ensures.visit in
     let items : c.visit.new.out.items ≡ map reply_of made.visit =
     made.items ∙ ap (λ xs. xs ++ map reply_of made.visit)
@@ -178,6 +161,9 @@ returns-in-Cut-clause-made g c =
 
 pub returns-in-Cut-clause-few : goal.returns-in-Cut-clause-few
 returns-in-Cut-clause-few g c =
+    let whole : length (run_taps c.run-run.result)
+    ≡ length (run_of c.args.shard (length c.args.runs.now) c.args.batch.now) =
+    ap (λ (r : ShardRun). length (run_taps r)) c.run-run.ensures in
     let made = c.in_ok-visit.ensures.visit in
     let few = visit_length (run_taps c.run-run.result) c.in_ok-visit.visit.how made.visit
     made.of_run in
@@ -186,15 +172,8 @@ returns-in-Cut-clause-few g c =
     (c.in_ok-reserve.ensures.items ∙ c.clear.ensures.items) in
     let more = ap (λ s. s.taps) c.count.ensures
     ∙ taps_after (sums_of c.args.posting.now.totals) c.visit.new.out.items in
-    omega (
-      arith,
-      few,
-      c.len-len.ensures.number,
-      c.len-len.ensures.most,
-      ap length items,
-      length-map made.visit reply_of,
-      more,
-    )
+    omega (arith, few, whole, c.len_of-len.ensures.number, c.len_of-len.ensures.most,
+    ap length items, length-map made.visit reply_of, more)
 
 pub returns-then-len-eq0-clause-full : goal.returns-then-len-eq0-clause-full
 returns-then-len-eq0-clause-full g c = tells_ok tt _ _ (λ h. h)
@@ -207,24 +186,16 @@ returns-in_err-reserve-clause-full g c =
 pub returns-in_err-visit-clause-full : goal.returns-in_err-visit-clause-full
 returns-in_err-visit-clause-full g c =
     let within : c.args.shard < length c.args.posting.now.passes.items =
-    omega (
-      arith,
-      c.requires.shard,
-      ap length c.requires.passes,
-      length-map c.args.posting.now.passes.items (λ (p : PassView). p.book),
-    ) in
+    omega (arith, c.requires.shard, ap length c.requires.passes,
+    length-map c.args.posting.now.passes.items (λ (p : PassView). p.book)) in
     λ h. full_here c.args.posting.now.passes.items c.args.shard c.visit.new.pass within
     (is_full c.visit.new.pass c.in_err-visit.ensures.full.1)
 
 pub returns-in-Whole-clause-full : goal.returns-in-Whole-clause-full
 returns-in-Whole-clause-full g c =
     let within : c.args.shard < length c.args.posting.now.passes.items =
-    omega (
-      arith,
-      c.requires.shard,
-      ap length c.requires.passes,
-      length-map c.args.posting.now.passes.items (λ (p : PassView). p.book),
-    ) in
+    omega (arith, c.requires.shard, ap length c.requires.passes,
+    length-map c.args.posting.now.passes.items (λ (p : PassView). p.book)) in
     tells_ok tt _ _
     (full_stays c.args.posting.now.passes.items c.args.shard c.index_mut.result.now c.visit.new.pass
     within c.index_mut.ensures.value
@@ -233,12 +204,8 @@ returns-in-Whole-clause-full g c =
 pub returns-in-Cut-clause-full : goal.returns-in-Cut-clause-full
 returns-in-Cut-clause-full g c =
     let within : c.args.shard < length c.args.posting.now.passes.items =
-    omega (
-      arith,
-      c.requires.shard,
-      ap length c.requires.passes,
-      length-map c.args.posting.now.passes.items (λ (p : PassView). p.book),
-    ) in
+    omega (arith, c.requires.shard, ap length c.requires.passes,
+    length-map c.args.posting.now.passes.items (λ (p : PassView). p.book)) in
     tells_refused _ _ _ refl
     (full_stays c.args.posting.now.passes.items c.args.shard c.index_mut.result.now c.visit.new.pass
     within c.index_mut.ensures.value
@@ -247,14 +214,10 @@ returns-in-Cut-clause-full g c =
 pub returns-in-Cut-clause-memory : goal.returns-in-Cut-clause-memory
 returns-in-Cut-clause-memory g c =
     let within : c.args.shard < length c.args.posting.now.passes.items =
-    omega (
-      arith,
-      c.requires.shard,
-      ap length c.requires.passes,
-      length-map c.args.posting.now.passes.items (λ (p : PassView). p.book),
-    ) in
+    omega (arith, c.requires.shard, ap length c.requires.passes,
+    length-map c.args.posting.now.passes.items (λ (p : PassView). p.book)) in
     λ is. inr (
       c.in_ok-visit.ensures.visit.visit,
       own_grows c.args.posting.now.passes.items c.args.shard c.index_mut.result.now c.visit.new.pass
-          _ _ within c.index_mut.ensures.value c.in_ok-visit.ensures.visit.stands,
+      _ _ within c.index_mut.ensures.value c.in_ok-visit.ensures.visit.stands,
     )
