@@ -30,8 +30,12 @@ returns-in_err-reserve-clause-made g c =
     let same = same_run c.run-run.result c.args.batch.now c.args.shard (length c.args.runs.now)
     (shards_of c.args.self.now) c.run-run.ensures c.requires.shards in
     let some : 0 < length (run_of c.args.shard (shards_of c.args.self.now) c.args.batch.now) =
-    omega (arith, ap (λ shards. length (run_of c.args.shard shards c.args.batch.now))
-    c.requires.shards, c.len_of-len.ensures.number) in
+    omega (
+      arith,
+      ap (λ shards. length (run_of c.args.shard shards c.args.batch.now))
+          c.requires.shards,
+      c.len_of-len.ensures.number,
+    ) in
     run_refused (shards_of c.args.self.now) c.args.shard c.args.batch.now
     c.args.posting.now.passes.items (sums_of c.args.posting.now.totals)
     c.from_residual.result some c.from_residual.ensures.0
@@ -64,11 +68,19 @@ returns-in_err-visit-clause-made g c =
     let same = same_run c.run-run.result c.args.batch.now c.args.shard (length c.args.runs.now)
     (shards_of c.args.self.now) c.run-run.ensures c.requires.shards in
     let some : 0 < length (run_of c.args.shard (shards_of c.args.self.now) c.args.batch.now) =
-    omega (arith, ap (λ shards. length (run_of c.args.shard shards c.args.batch.now))
-    c.requires.shards, c.len_of-len.ensures.number) in
+    omega (
+      arith,
+      ap (λ shards. length (run_of c.args.shard shards c.args.batch.now))
+          c.requires.shards,
+      c.len_of-len.ensures.number,
+    ) in
     let within : c.args.shard < length c.args.posting.now.passes.items =
-    omega (arith, c.requires.shard, ap length c.requires.passes,
-    length-map c.args.posting.now.passes.items (λ (p : PassView). p.book)) in
+    omega (
+      arith,
+      c.requires.shard,
+      ap length c.requires.passes,
+      length-map c.args.posting.now.passes.items (λ (p : PassView). p.book),
+    ) in
     run_full (shards_of c.args.self.now) c.args.shard c.args.batch.now
     c.args.posting.now.passes.items c.index_mut.result.now c.visit.new.pass
     (sums_of c.args.posting.now.totals)
@@ -86,19 +98,35 @@ count-requires g c =
     let items : c.visit.new.out.items ≡ map reply_of made.visit =
     made.items ∙ ap (λ xs. xs ++ map reply_of made.visit)
     (c.in_ok-reserve.ensures.items ∙ c.clear.ensures.items) in
-    omega (arith, c.requires.room, few, whole, c.len_of-len.ensures.number,
-    c.len_of-len.ensures.most, ap length items, length-map made.visit reply_of)
+    omega (
+      arith,
+      c.requires.room,
+      few,
+      whole,
+      c.len_of-len.ensures.number,
+      c.len_of-len.ensures.most,
+      ap length items,
+      length-map made.visit reply_of,
+    )
 
 pub returns-in-Whole-clause-made : goal.returns-in-Whole-clause-made
 returns-in-Whole-clause-made g c =
     let same = same_run c.run-run.result c.args.batch.now c.args.shard (length c.args.runs.now)
     (shards_of c.args.self.now) c.run-run.ensures c.requires.shards in
     let some : 0 < length (run_of c.args.shard (shards_of c.args.self.now) c.args.batch.now) =
-    omega (arith, ap (λ shards. length (run_of c.args.shard shards c.args.batch.now))
-    c.requires.shards, c.len_of-len.ensures.number) in
+    omega (
+      arith,
+      ap (λ shards. length (run_of c.args.shard shards c.args.batch.now))
+          c.requires.shards,
+      c.len_of-len.ensures.number,
+    ) in
     let within : c.args.shard < length c.args.posting.now.passes.items =
-    omega (arith, c.requires.shard, ap length c.requires.passes,
-    length-map c.args.posting.now.passes.items (λ (p : PassView). p.book)) in
+    omega (
+      arith,
+      c.requires.shard,
+      ap length c.requires.passes,
+      length-map c.args.posting.now.passes.items (λ (p : PassView). p.book),
+    ) in
     let made = c.in_ok-visit.ensures.visit in
     let items : c.visit.new.out.items ≡ map reply_of made.visit =
     made.items ∙ ap (λ xs. xs ++ map reply_of made.visit)
@@ -129,19 +157,35 @@ returns-in-Whole-clause-few g c =
     (c.in_ok-reserve.ensures.items ∙ c.clear.ensures.items) in
     let more = ap (λ s. s.taps) c.count.ensures
     ∙ taps_after (sums_of c.args.posting.now.totals) c.visit.new.out.items in
-    omega (arith, few, whole, c.len_of-len.ensures.number, c.len_of-len.ensures.most,
-    ap length items, length-map made.visit reply_of, more)
+    omega (
+      arith,
+      few,
+      whole,
+      c.len_of-len.ensures.number,
+      c.len_of-len.ensures.most,
+      ap length items,
+      length-map made.visit reply_of,
+      more,
+    )
 
 pub returns-in-Cut-clause-made : goal.returns-in-Cut-clause-made
 returns-in-Cut-clause-made g c =
     let same = same_run c.run-run.result c.args.batch.now c.args.shard (length c.args.runs.now)
     (shards_of c.args.self.now) c.run-run.ensures c.requires.shards in
     let some : 0 < length (run_of c.args.shard (shards_of c.args.self.now) c.args.batch.now) =
-    omega (arith, ap (λ shards. length (run_of c.args.shard shards c.args.batch.now))
-    c.requires.shards, c.len_of-len.ensures.number) in
+    omega (
+      arith,
+      ap (λ shards. length (run_of c.args.shard shards c.args.batch.now))
+          c.requires.shards,
+      c.len_of-len.ensures.number,
+    ) in
     let within : c.args.shard < length c.args.posting.now.passes.items =
-    omega (arith, c.requires.shard, ap length c.requires.passes,
-    length-map c.args.posting.now.passes.items (λ (p : PassView). p.book)) in
+    omega (
+      arith,
+      c.requires.shard,
+      ap length c.requires.passes,
+      length-map c.args.posting.now.passes.items (λ (p : PassView). p.book),
+    ) in
     let made = c.in_ok-visit.ensures.visit in
     let items : c.visit.new.out.items ≡ map reply_of made.visit =
     made.items ∙ ap (λ xs. xs ++ map reply_of made.visit)
@@ -172,8 +216,16 @@ returns-in-Cut-clause-few g c =
     (c.in_ok-reserve.ensures.items ∙ c.clear.ensures.items) in
     let more = ap (λ s. s.taps) c.count.ensures
     ∙ taps_after (sums_of c.args.posting.now.totals) c.visit.new.out.items in
-    omega (arith, few, whole, c.len_of-len.ensures.number, c.len_of-len.ensures.most,
-    ap length items, length-map made.visit reply_of, more)
+    omega (
+      arith,
+      few,
+      whole,
+      c.len_of-len.ensures.number,
+      c.len_of-len.ensures.most,
+      ap length items,
+      length-map made.visit reply_of,
+      more,
+    )
 
 pub returns-then-len-eq0-clause-full : goal.returns-then-len-eq0-clause-full
 returns-then-len-eq0-clause-full g c = tells_ok tt _ _ (λ h. h)
@@ -186,16 +238,24 @@ returns-in_err-reserve-clause-full g c =
 pub returns-in_err-visit-clause-full : goal.returns-in_err-visit-clause-full
 returns-in_err-visit-clause-full g c =
     let within : c.args.shard < length c.args.posting.now.passes.items =
-    omega (arith, c.requires.shard, ap length c.requires.passes,
-    length-map c.args.posting.now.passes.items (λ (p : PassView). p.book)) in
+    omega (
+      arith,
+      c.requires.shard,
+      ap length c.requires.passes,
+      length-map c.args.posting.now.passes.items (λ (p : PassView). p.book),
+    ) in
     λ h. full_here c.args.posting.now.passes.items c.args.shard c.visit.new.pass within
     (is_full c.visit.new.pass c.in_err-visit.ensures.full.1)
 
 pub returns-in-Whole-clause-full : goal.returns-in-Whole-clause-full
 returns-in-Whole-clause-full g c =
     let within : c.args.shard < length c.args.posting.now.passes.items =
-    omega (arith, c.requires.shard, ap length c.requires.passes,
-    length-map c.args.posting.now.passes.items (λ (p : PassView). p.book)) in
+    omega (
+      arith,
+      c.requires.shard,
+      ap length c.requires.passes,
+      length-map c.args.posting.now.passes.items (λ (p : PassView). p.book),
+    ) in
     tells_ok tt _ _
     (full_stays c.args.posting.now.passes.items c.args.shard c.index_mut.result.now c.visit.new.pass
     within c.index_mut.ensures.value
@@ -204,8 +264,12 @@ returns-in-Whole-clause-full g c =
 pub returns-in-Cut-clause-full : goal.returns-in-Cut-clause-full
 returns-in-Cut-clause-full g c =
     let within : c.args.shard < length c.args.posting.now.passes.items =
-    omega (arith, c.requires.shard, ap length c.requires.passes,
-    length-map c.args.posting.now.passes.items (λ (p : PassView). p.book)) in
+    omega (
+      arith,
+      c.requires.shard,
+      ap length c.requires.passes,
+      length-map c.args.posting.now.passes.items (λ (p : PassView). p.book),
+    ) in
     tells_refused _ _ _ refl
     (full_stays c.args.posting.now.passes.items c.args.shard c.index_mut.result.now c.visit.new.pass
     within c.index_mut.ensures.value
@@ -214,10 +278,14 @@ returns-in-Cut-clause-full g c =
 pub returns-in-Cut-clause-memory : goal.returns-in-Cut-clause-memory
 returns-in-Cut-clause-memory g c =
     let within : c.args.shard < length c.args.posting.now.passes.items =
-    omega (arith, c.requires.shard, ap length c.requires.passes,
-    length-map c.args.posting.now.passes.items (λ (p : PassView). p.book)) in
+    omega (
+      arith,
+      c.requires.shard,
+      ap length c.requires.passes,
+      length-map c.args.posting.now.passes.items (λ (p : PassView). p.book),
+    ) in
     λ is. inr (
       c.in_ok-visit.ensures.visit.visit,
       own_grows c.args.posting.now.passes.items c.args.shard c.index_mut.result.now c.visit.new.pass
-      _ _ within c.index_mut.ensures.value c.in_ok-visit.ensures.visit.stands,
+          _ _ within c.index_mut.ensures.value c.in_ok-visit.ensures.visit.stands,
     )
