@@ -12,5 +12,5 @@ pub mod Rising
 pub mod Sorting
 pub mod StatementLines
 pub mod Whole
-pub mod Writing
+pub mod PieceWriting
 pub mod Years

@@ -20,7 +20,7 @@ use Rattle.shard_book.specs.Keys.{same_token}
 use Rattle.shard_book.specs.declared.entry.Entry.{Entry}
 use Rattle.shard_book.specs.Plain.{answered, token_of_bytes}
 use Rattle.tap_views.specs.Files.{HasOneReading}
-use Rattle.fare_service.proofs.PlacedVisits.{filter_none}
+use Rattle.fare_service.proofs.OwnVisits.{filter_none}
 use Rattle.tap_parts.specs.Canonical.{tap_cmp}
 use Rattle.tap_parts.proofs.Total.{tap_cmp_total}
 use Rattle.settlement.specs.Settled.{IsSettledHistory}
@@ -32,7 +32,7 @@ use Rattle.tap_views.proofs.ReadingLemmas.{one_list}
 use Rattle.laws.specs.Bills.{bill_before, live_entries}
 use Rattle.laws.specs.TapSets.{HaveSameTapsBefore, fields_of_uploads, is_before}
 use Rattle.laws.proofs.Once.{Among}
-use Rattle.laws.proofs.Bills.{live_filter}
+use Rattle.laws.proofs.BillLemmas.{live_filter}
 use Rattle.laws.proofs.OwnTaps.{answered_alike, push_mine, push_other}
 use Rattle.laws.proofs.Posts.{after, plain_is_after}
 use Rattle.laws.proofs.Sets.{same_bill}

@@ -10,7 +10,7 @@ use Rattle.tap_views.specs.declared.token.Token.{Token}
 use Rattle.tap_views.specs.Layout.{moment_limit}
 use Rattle.tap_views.specs.declared.encoder.TapFields.{TapFields}
 use Rattle.tap_views.proofs.Lists.{all_done}
-use Rattle.fare_texts.proofs.Writing.{grown}
+use Rattle.fare_texts.proofs.PieceWriting.{grown}
 use Rattle.settlement.specs.Posted.{posted_after}
 use Rattle.settled_texts.specs.Telling.{AreTold, last_token}
 use Rattle.settled_texts.proofs.Tellings.{fall_within, halves_of, last_append, none_told}
