@@ -1,5 +1,5 @@
 -- The fault that is told is the right one.
-use Rattle.std.proofs.Common.{◌≡◌, ◌∙◌, ◌<◌, ◌∷◌, ℕ, List, [], Bool, true, false, Option, None, Some, Bor, arith, nat_eq, ap, inl, inr, length, map, refl, sym, subst}
+use Rattle.std.proofs.Common.{◌≡◌, ◌∙◌, ◌<◌, ◌∷◌, ℕ, List, [], true, Option, Some, Bor, arith, nat_eq, ap, inr, length, map, refl, sym, subst}
 use Rattle.std.specs.Prelude.{IfErr, Result, Ok, Err}
 use Rattle.std.specs.Result.{IsErrAnd}
 use Rattle.std.proofs.lemmas.Bool.Decides.{nat_tests}
@@ -8,35 +8,16 @@ use Rattle.fare_program.specs.Causes.{IsNameTold, IsRightFault, IsRightOfSorted,
 use Rattle.fare_program.specs.Options.{Asked}
 use Rattle.fare_program.specs.Program.{LoadsFiles, names_to_load}
 use Rattle.fare_program.specs.declared.fault.Fault.{Fault}
-use Rattle.fare_program.specs.declared.fault.Fault.TheVariants.{Digits, NoTable, SettleNoTable, SettleList, LedgerNoTable, LedgerList, ExplainNoToken, ExplainList, ExplainLedger, SortedNoSettle, SortedNoFile, TracedNoLedger, TracedNoSettle, TracedToken, TracedSorted, File, Table, ClassName, Unopened, Unsorted, TooManyTaps, Late, Uploads, Gather, Write, NoMemory}
+use Rattle.fare_program.specs.declared.fault.Fault.TheVariants.{Table, ClassName, Unopened, Unsorted, TooManyTaps, Late, Uploads, Gather, Write, NoMemory}
 use Rattle.fare_program.specs.inside.Causes.{IsOfOutput, IsRightOfText, IsRightOfUploads}
-use Rattle.fare_program.specs.inside.Fault.{IsRunFailure}
 use Rattle.program_manners.specs.Loads.{Loaded, TellsOne}
-use Rattle.program_manners.specs.Refusals.{IsFirstTableFault, IsOneOf}
+use Rattle.program_manners.specs.Refusals.{IsOneOf}
 use Rattle.program_manners.specs.declared.loading.LoadFault.{LoadFault}
 
 -- a fault that is handed on
 pub handed_on : {A : Type 0} (r : Result A Fault) (fault : Fault) (P : Fault → Type 0) → IsErrAnd r (λ e. e ≡ fault) → P fault → IfErr r P
 handed_on (Ok x) fault P same is = tt
 handed_on (Err e) fault P same is = subst P (sym same) is
-
--- a write that failed, or want of memory, is right of everything
-pub output_of_uploads : (settle : Bool) (uploads : ℕ) (fault : Fault) → IsOfOutput fault → IsRightOfUploads settle uploads fault
-output_of_uploads settle uploads Write is = tt
-output_of_uploads settle uploads NoMemory is = tt
-output_of_uploads settle uploads _ is = absurd is
-
--- so is a run that failed, unless the uploads are settled
-pub run_of_uploads : (settle : Bool) (uploads : ℕ) (fault : Fault) → settle ≡ false → IsRunFailure uploads fault → IsRightOfUploads settle uploads fault
-run_of_uploads settle uploads Uploads live is = (live, is)
-run_of_uploads settle uploads (Gather why) live is = live
-run_of_uploads settle uploads NoMemory live is = tt
-run_of_uploads settle uploads _ live is = absurd is
-
-pub output_of_sorted : (names : List (List ℕ)) (known : List (Option (List ℕ))) (fault : Fault) → IsOfOutput fault → IsRightOfSorted names known fault
-output_of_sorted names known Write is = tt
-output_of_sorted names known NoMemory is = tt
-output_of_sorted names known _ is = absurd is
 
 -- more than one file was loaded under as many names
 count_is : (names : List (List ℕ)) (told told' : Option (List Loaded)) (files : List (List ℕ)) → LoadsFiles (names_to_load names) told told' files

@@ -7,7 +7,7 @@ use Rattle.program_manners.specs.Loads.{Loaded}
 use Rattle.fare_program.specs.Fault.{charge_mistake_of, explain_mistake, first_of_two, ledger_mistake, mistake}
 use Rattle.fare_program.specs.Fault.{settle_mistake, sorted_mistake, sorted_mistake_of, token_mistake, traced_mistake, traced_mistake_of}
 use Rattle.fare_program.specs.Options.{Asked}
-use Rattle.fare_program.specs.Program.{Does, DoesUntraced, GaveUp, GaveUpOn, IsTokenIn, LoadsTable, RunsListing, RunsService, RunsSorted, RunsTraced}
+use Rattle.fare_program.specs.Program.{Does, DoesUntraced, IsTokenIn, LoadsTable, RunsListing, RunsService, RunsSorted, RunsTraced}
 use Rattle.fare_program.specs.Settling.{ShowsSettled}
 use Rattle.fare_program.specs.declared.fault.Fault.{Fault}
 use Rattle.fare_program.specs.declared.fault.Fault.TheVariants.{SettleNoTable, SettleList}
@@ -126,10 +126,3 @@ does_sorted asked known told between fares token out out' well right sorted load
       written = done.written;
       is_well = made.0;
     }))
-
--- nothing is written of what was given up at once
-pub gave_up_on : (asked : Asked) (fault : Fault) (said said' : Option (List ℕ)) (failed : Bool)
-    (out out' : Option (List ℕ)) → GaveUp fault said said' failed out out'
-    → GaveUpOn asked fault said said' failed out out'
-gave_up_on asked fault said said' failed out out' is =
-    record { line_told = is.line_told; kept = λ write late. is.kept write }

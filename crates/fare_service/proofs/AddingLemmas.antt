@@ -124,6 +124,7 @@ sum_by-joined : {X : Type 0} (f : Entry → ℕ) (g : X → List Entry) (xs : Li
 sum_by-joined f g [] = refl
 sum_by-joined f g (x ∷ xs) = sum_by-append f (g x) (history_of_visits (map g xs)) ∙ ap (λ k. sum_by f (g x) + k) (sum_by-joined f g xs) ∙ sym (sum_by-cons (λ y. sum_by f (g y)) x xs)
 
+-- a sum over mapped elements
 pub sum_by-map : {X Y : Type 0} (f : Y → ℕ) (g : X → Y) (xs : List X) → sum_by f (map g xs) ≡ sum_by (λ x. f (g x)) xs
 sum_by-map f g [] = refl
 sum_by-map f g (x ∷ xs) = sum_by-cons f (g x) (map g xs) ∙ ap (λ k. f (g x) + k) (sum_by-map f g xs) ∙ sym (sum_by-cons (λ y. f (g y)) x xs)

@@ -144,10 +144,6 @@ claims_else (suc shard) [] pass ne = refl
 claims_else zero (p ∷ ps) pass ne = refl
 claims_else (suc shard) (p ∷ ps) pass ne = claims_else shard ps pass (λ e. ne (ap suc e))
 
-pub claims_mid : (done : List PassView) (pass : PassView) (rest : List PassView) → claims_at (length done) (done ++ pass ∷ rest) ≡ pass.claims
-claims_mid [] pass rest = refl
-claims_mid (p ∷ done) pass rest = claims_mid done pass rest
-
 claims-set_same : (passes : List PassView) (shard : ℕ) (new : PassView) → shard < length passes → claims_at shard (set passes shard new) ≡ new.claims
 claims-set_same passes shard new within =
     ap (λ cs. get_or cs shard 0) (map-set (λ p. p.claims) passes shard new)

@@ -7,6 +7,7 @@ use Rattle.std.proofs.lemmas.Bool.{cases_lt}
 use Rattle.std.proofs.lemmas.List.Elements.{All-nil, All-weaker}
 use Rattle.std.proofs.lemmas.List.Concat.{length-flat_map}
 use Rattle.std.proofs.lemmas.Option.{slice_get-map}
+use Rattle.std.proofs.lemmas.Slice.Zip.{AllZip-long}
 use Rattle.shard_book.specs.Book.{Book}
 use Rattle.shared_books.specs.declared.turns.rule.Mark.{Mark}
 use Rattle.shared_books.specs.Claims.{all_claims}
@@ -23,7 +24,6 @@ use Rattle.fare_service.specs.ShareView.{ShareView}
 use Rattle.fare_service.specs.inside.Joining.{AreSigns, IsJoinedOf, IsSign}
 use Rattle.fare_service.specs.Shares.{books_of, marks_at}
 use Rattle.fare_service.proofs.Signing.{all_signed, signs_visits}
-use Rattle.tap_views.proofs.Lists.{AllZip-length}
 
 -- the first of some elements was taken out
 pub split_first : {A : Type 0} (xs : List A) (first : A) (rest : List A) → 0 < length xs → first ≡ get_or xs 0 first → rest ≡ remove xs 0 → xs ≡ first ∷ rest
@@ -76,7 +76,7 @@ history_of drawing opened shares drawer passes shard book all c =
     let M : List Mark → Type 0 = AreSigns (length shares) (length shares) s.signs in
     let signs = subst M marks s.of_marks in
     let O : List SharedBookView → Type 0 = λ os. slice_get os shard ≡ Some c.pass.book in
-    let number : length s.signs ≡ length (marks_at shard passes) = AllZip-length (IsSign (length shares) (length shares)) s.signs (marks_at shard passes) s.of_marks in
+    let number : length s.signs ≡ length (marks_at shard passes) = sym (AllZip-long (IsSign (length shares) (length shares)) s.signs (marks_at shard passes) s.of_marks) in
     record {
       visits = s.signs;
       history = ap (λ b. b.entries) c.all.book ∙ ap history_of_visits (sym (signs_visits (length shares) (length shares) s.signs c.pass.marks signs));

@@ -7,13 +7,12 @@ use Rattle.std.proofs.lemmas.List.{length-map}
 use Rattle.std.proofs.lemmas.List.Sums.{sum_by-cons, sum_by-append, length-filter, count_by-le-length}
 use Rattle.std.proofs.lemmas.List.Elements.{All-nil, All-cons, All-head, All-tail, All-append, All-weaker}
 use Rattle.std.proofs.lemmas.Option.{slice_get-get_or, slice_get-map, slice_get_within}
+use Rattle.std.proofs.lemmas.Slice.Zip.{AllZip-long}
 use Rattle.tap_views.specs.Layout.{Tap}
-use Rattle.tap_views.proofs.Lists.{AllZip-length}
 use Rattle.shard_book.specs.Book.{Book}
 use Rattle.shard_book.specs.Entry.{IsEntryOf}
 use Rattle.shard_book.specs.Sums.{Sums, sums}
-use Rattle.shared_books.specs.declared.turns.rule.Mark.{Mark}
-use Rattle.shared_books.specs.Passes.{PassView, SharedBookView, seen_by}
+use Rattle.shared_books.specs.Passes.{PassView, SharedBookView}
 use Rattle.tap_views.specs.Shards.{run_of}
 use Rattle.fare_service.specs.declared.service.share.Done.{Done}
 use Rattle.report_texts.specs.declared.upload_end.UploadEnd.{UploadEnd}
@@ -188,7 +187,7 @@ visits_few shards (r ∷ before) more (v ∷ visits) same some entered =
     let head : run_of_visit v ≡ r = cc in
     let tail : map run_of_visit visits ≡ before ++ more = cc in
     let taps : 0 < length v.taps = omega (arith, All-head (λ (x : PostedRun). 0 < length x.taps) r before some, ap (λ (x : PostedRun). length x.taps) head) in
-    let entries : length v.taps ≡ length v.entries = AllZip-length IsEntryOf v.taps v.entries (All-head (IsEntered shards) v visits entered).fields in
+    let entries : length v.taps ≡ length v.entries = sym (AllZip-long IsEntryOf v.taps v.entries (All-head (IsEntered shards) v visits entered).fields) in
     let both : taps_posted (v ∷ visits) ≡ length v.entries + taps_posted visits = length-append v.entries (entries_of visits) in
     let rest = visits_few shards before more visits tail (All-tail (λ (x : PostedRun). 0 < length x.taps) r before some) (All-tail (IsEntered shards) v visits entered) in
     omega (arith, taps, entries, both, rest)

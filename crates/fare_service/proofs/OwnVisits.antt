@@ -6,10 +6,11 @@ use Rattle.std.proofs.lemmas.Bool.Decides.{eqb_tells}
 use Rattle.std.proofs.lemmas.List.{length-take-le, take_at, take-append-drop}
 use Rattle.std.proofs.lemmas.List.Concat.{flat_map-append}
 use Rattle.std.proofs.lemmas.List.Elements.{All-nil, All-cons, All-head, All-tail, All-append, All-take, All-weaker, filter-append, filter_passes}
+use Rattle.std.proofs.lemmas.Slice.Zip.{AllZip-long}
 use Rattle.tap_views.specs.Layout.{Tap}
 use Rattle.tap_views.specs.Files.{IsFile}
 use Rattle.tap_views.specs.Shards.{shard_of_token, run_of}
-use Rattle.tap_views.proofs.Lists.{All-front, All-back, All-unmap, AllZip-length}
+use Rattle.tap_views.proofs.Lists.{All-front, All-back, All-unmap}
 use Rattle.shard_book.specs.Entry.{IsEntryOf}
 use Rattle.shared_books.specs.Drawing.{NoneTwice}
 use Rattle.report_texts.specs.declared.upload_end.UploadEnd.{UploadEnd}
@@ -134,7 +135,7 @@ shard_taps shard shards (v ∷ visits) all =
 visits_length : (shards : ℕ) (visits : List RunVisit) → All (IsEntered shards) visits → taps_posted visits ≡ length (flat_map (λ v. v.taps) visits)
 visits_length shards [] all = refl
 visits_length shards (v ∷ visits) all =
-    let here : length v.taps ≡ length v.entries = AllZip-length IsEntryOf v.taps v.entries (All-head (IsEntered shards) v visits all).fields in
+    let here : length v.taps ≡ length v.entries = sym (AllZip-long IsEntryOf v.taps v.entries (All-head (IsEntered shards) v visits all).fields) in
     let rest : length (entries_of visits) ≡ length (flat_map (λ x. x.taps) visits) = visits_length shards visits (All-tail (IsEntered shards) v visits all) in
     omega (arith, length-append v.entries (entries_of visits), length-append v.taps (flat_map (λ (x : RunVisit). x.taps) visits))
 

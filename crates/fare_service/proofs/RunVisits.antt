@@ -5,9 +5,9 @@ use Rattle.std.proofs.lemmas.List.Elements.{All-nil, All-cons}
 use Rattle.std.proofs.lemmas.Option.{slice_get-get_or}
 use Rattle.std.proofs.lemmas.Bool.Decides.{eqb_tells}
 use Rattle.std.proofs.lemmas.List.{get_or-map}
+use Rattle.std.proofs.lemmas.Slice.Zip.{AllZip-long}
 use Rattle.tap_views.specs.Layout.{Tap}
 use Rattle.tap_views.specs.Shards.{run_of, run_taps, ShardRun}
-use Rattle.tap_views.proofs.Lists.{AllZip-length}
 use Rattle.shard_book.specs.declared.entry.Entry.{Entry}
 use Rattle.shard_book.specs.declared.run_end.RunEnd.{RunEnd}
 use Rattle.shard_book.specs.declared.run_end.RunEnd.TheVariants.{Whole, Cut}
@@ -32,8 +32,8 @@ was_cut (Err x) runs visits e c = c
 
 -- how many entries a visit has
 pub visit_length : (taps : List Tap) (how : RunEnd) (visit : List Entry) → IsVisit taps how visit → length visit ≤ length taps
-visit_length taps Whole visit h = omega (arith, AllZip-length IsEntryOf taps visit h)
-visit_length taps (Cut posted) visit h = omega (arith, AllZip-length IsEntryOf (take posted taps) visit h.1, length-take {A = Tap})
+visit_length taps Whole visit h = omega (arith, sym (AllZip-long IsEntryOf taps visit h))
+visit_length taps (Cut posted) visit h = omega (arith, sym (AllZip-long IsEntryOf (take posted taps) visit h.1), length-take {A = Tap})
 
 abbrev pub is_whole : RunEnd → Bool
 is_whole Whole = true

@@ -220,12 +220,3 @@ joined_none marks = record {
   begins = inr (visits_of marks, refl);
   held = omega arith;
 }
-
--- the first marks are joined to none
-pub none_joined : (marks : List Mark) → AreJoined [] marks marks
-none_joined marks = record {
-  marks = refl;
-  apart = λ i. omega (arith, made_at-few i marks);
-  begins = inl (visits_of marks, refl);
-  held = omega arith;
-}

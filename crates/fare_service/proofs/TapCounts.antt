@@ -5,11 +5,11 @@ use Rattle.std.proofs.lemmas.List.Sums.{sum_by-append, sum_by-cons}
 use Rattle.std.proofs.lemmas.List.Elements.{All-head, All-tail}
 use Rattle.std.proofs.lemmas.Bool.Decides.{nat_tests}
 use Rattle.std.proofs.lemmas.Bool.{lt-ltb}
+use Rattle.std.proofs.lemmas.Slice.Zip.{AllZip-long}
 use Rattle.tap_views.specs.Layout.{Tap}
 use Rattle.tap_views.specs.Files.{IsFile}
 use Rattle.tap_views.specs.Shards.{shard_of_token, run_of}
 use Rattle.tap_views.proofs.ReadingLemmas.{batch_room}
-use Rattle.tap_views.proofs.Lists.{AllZip-length}
 use Rattle.shard_book.specs.Entry.{IsEntryOf}
 use Rattle.fare_service.specs.Runs.{PostedRun, posted_run, if_any, runs_below, runs_of, RunVisit, IsEntered, run_of_visit, ArePostedWhole, AreCut, entries_of, taps_posted}
 
@@ -24,7 +24,7 @@ pub visits_taps : (shards : ℕ) (visits : List RunVisit) → All (IsEntered sha
 visits_taps shards [] all = refl
 visits_taps shards (visit ∷ visits) all =
     let here : length visit.entries ≡ length visit.taps =
-    sym (AllZip-length IsEntryOf visit.taps visit.entries (All-head (IsEntered shards) visit visits all).fields) in
+    sym (sym (AllZip-long IsEntryOf visit.taps visit.entries (All-head (IsEntered shards) visit visits all).fields)) in
     let rest : taps_posted visits ≡ runs_taps (map run_of_visit visits) = visits_taps shards visits (All-tail (IsEntered shards) visit visits all) in
     let many : length (visit.entries ++ entries_of visits) ≡ length visit.entries + length (entries_of visits) = length-append visit.entries (entries_of visits) in
     let sum : runs_taps (run_of_visit visit ∷ map run_of_visit visits) ≡ length visit.taps + runs_taps (map run_of_visit visits) =

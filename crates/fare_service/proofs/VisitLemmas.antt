@@ -110,10 +110,6 @@ pub taps_of_replies : (replies : List Reply) → (sums_of_replies replies).taps 
 unfolding sums_of_replies
 taps_of_replies replies = refl
 
-pub one_tap : (totals : Sums) (reply : Reply) → (add_sums totals (sums_of_replies (reply ∷ []))).taps ≡ totals.taps + 1
-unfolding sums_of_replies
-one_tap totals reply = refl
-
 -- how many taps the sums count after some replies
 pub taps_after : (totals : Sums) (replies : List Reply) → (add_sums totals (sums_of_replies replies)).taps ≡ totals.taps + length replies
 unfolding sums_of_replies

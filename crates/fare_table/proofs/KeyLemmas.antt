@@ -10,6 +10,7 @@ use Rattle.toml.specs.Data.{Data, Members, get_member, member}
 pub is_itself : (key : List ℕ) → is_eq (slice_cmp nat_cmp key key) ≡ true
 is_itself key = (eq_by_cmp_equiv nat_list_cmp_total).refl key
 
+-- keys that compare as equal have the same bytes
 pub same_bytes : (key other : List ℕ) → is_eq (slice_cmp nat_cmp key other) ≡ true → key ≡ other
 same_bytes key other is = exact_bytes key other ((Equal-is (slice_cmp nat_cmp key other)).0 is)
 
@@ -20,12 +21,14 @@ choice Less o value = refl
 choice Equal o value = refl
 choice Greater o value = refl
 
+-- the first member's key has its value
 pub member-here : (key : List ℕ) (value : Data) (more : Members)
     → get_member key (member key value more) ≡ Some value
 member-here key value more =
     choice (slice_cmp nat_cmp key key) (get_member key more) value
     ∙ ap (λ b. cond b (Some value) (get_member key more)) (is_itself key)
 
+-- another key than the first member's has its value among the others
 pub member-later : (key first : List ℕ) (value : Data) (more : Members)
     → is_eq (slice_cmp nat_cmp key first) ≡ false
     → get_member key (member first value more) ≡ get_member key more

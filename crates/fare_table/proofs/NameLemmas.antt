@@ -1,8 +1,7 @@
 -- The names of classes by their places, which rise.
-use Rattle.std.proofs.Common.{◌≡◌, ℕ, zero, suc, ◌<◌, true, false, List, []}
-use Rattle.std.proofs.Common.{◌∷◌, ◌++◌, Some, refl, sym, ap, ◌∙◌, arith, length}
-use Rattle.std.proofs.Common.{get_or, map, Less, Equal}
-use Rattle.std.proofs.Common.{Bor, String, Global, string_bytes}
+use Rattle.std.proofs.Common.{◌≡◌, ℕ, zero, suc, ◌<◌, true, false, List, [], ◌∷◌, ◌++◌, Some, refl}
+use Rattle.std.proofs.Common.{sym, ap, ◌∙◌, arith, length, get_or, map, Less, Equal, Bor, String}
+use Rattle.std.proofs.Common.{Global, string_bytes}
 use Rattle.std.proofs.lemmas.Bool.{and_parts, and_from}
 use Rattle.std.proofs.lemmas.List.{get_or-map, length-map}
 use Rattle.std.proofs.lemmas.Map.Lookups.{exact_bytes}
@@ -24,7 +23,8 @@ use Rattle.fare_table.proofs.KeyLemmas.{is_itself}
 use Rattle.tap_views.proofs.Orderings.{less_of}
 
 -- the keys of a map come in byte order
-pub ordered_view : (entries : List (String Global × Value)) → IsStrictlySortedBy string_cmp (keys_of entries)
+pub ordered_view : (entries : List (String Global × Value))
+    → IsStrictlySortedBy string_cmp (keys_of entries)
     → in_byte_order (members_view entries) ≡ true
 unfolding IsStrictlySortedBy
 ordered_view [] sorted = refl
@@ -53,7 +53,8 @@ before_all key (member first value rest) (suc n) d before order below =
     (before_rest key first rest (less_of (slice_cmp nat_cmp key first) before) parts.0) parts.1
     (omega (arith, below))
 
-not_same : (name other : List ℕ) → slice_cmp nat_cmp other name ≡ Less → same_name name other ≡ false
+not_same : (name other : List ℕ) → slice_cmp nat_cmp other name ≡ Less
+    → same_name name other ≡ false
 not_same name other less =
     sym (is_eq-slice_cmp name other)
     ∙ ap is_eq ((nat_list_cmp_total).antisymm name other ∙ ap ordering_reverse less)

@@ -362,7 +362,8 @@ items_if : (read : List ℕ
     → items_are_sorted found ≡ true → items_are_sorted p.0 ≡ true
 unfolding SortsValues
 items_if read n true found start p sorts ih is sorted =
-    subst (λ (q : Items × List ℕ). items_are_sorted q.0 ≡ true) (same_Some (found, drop 1 start) p is)
+    subst (λ (q : Items × List ℕ). items_are_sorted q.0 ≡ true)
+    (same_Some (found, drop 1 start) p is)
     sorted
 items_if read n false found start p sorts ih is sorted =
     let v = and_then (read start) (λ (v : Data × List ℕ).

@@ -42,13 +42,15 @@ begun_cons : (n : ℕ) (range : ℕ × RangeRest) (more : List (ℕ × RangeRest
 begun_cons n range more =
     ap (λ b. cond b (range ∷ begun n more) (begun n more)) (not_past n range.0)
 
-begun_step : (n : ℕ) (range : ℕ × RangeRest) (more : List (ℕ × RangeRest)) → n < range.0 → begun n more ≡ []
+begun_step : (n : ℕ) (range : ℕ × RangeRest) (more : List (ℕ × RangeRest)) → n < range.0
+    → begun n more ≡ []
     → begun n (range ∷ more) ≡ []
 begun_step n range more after rest =
     let past : nat_le range.0 n ≡ false = grind (arith, nat_tests) in
     begun_cons n range more ∙ rw (past, rest)
 
-begun_none : (n : ℕ) (range : ℕ × RangeRest) (more : List (ℕ × RangeRest)) → stand_apart (range ∷ more) ≡ true
+begun_none : (n : ℕ) (range : ℕ × RangeRest) (more : List (ℕ × RangeRest))
+    → stand_apart (range ∷ more) ≡ true
     → n < range.0 → begun n (range ∷ more) ≡ []
 begun_none n range [] stands after = begun_step n range [] after refl
 begun_none n range (next ∷ more) stands after =
@@ -56,7 +58,8 @@ begun_none n range (next ∷ more) stands after =
     let later : n < next.0 = omega (arith, two.begins, two.ends) in
     begun_step n range (next ∷ more) after (begun_none n next more two.rest later)
 
-pub rest_stands : (range : ℕ × RangeRest) (more : List (ℕ × RangeRest)) → stand_apart (range ∷ more) ≡ true
+pub rest_stands : (range : ℕ × RangeRest) (more : List (ℕ × RangeRest))
+    → stand_apart (range ∷ more) ≡ true
     → stand_apart more ≡ true
 rest_stands range [] stands = refl
 rest_stands range (next ∷ more) stands = (apart range next more stands).rest
@@ -66,7 +69,8 @@ pub last_begun-begun : (n : ℕ) (ranges : List (ℕ × RangeRest)) → stand_ap
     → last_of (begun n ranges) ≡ last_begun n ranges
 last_begun-begun n [] stands = refl
 last_begun-begun n (range ∷ more) stands = elim (leb_tells range.0 n) [
-  | inl a ↦ rw (begun_cons n range more, a.0, last_begun-begun n more (rest_stands range more stands))
+  | inl a ↦ rw
+      (begun_cons n range more, a.0, last_begun-begun n more (rest_stands range more stands))
   | inr a ↦ rw (begun_none n range more stands a.1, a.0)
 ]
 
@@ -76,7 +80,8 @@ reaches number None = false
 reaches number (Some range) = nat_le number range.1.last
 
 -- the last range that begins no later than a number reaches any number that an earlier one reaches
-reached : (x n : ℕ) (range : ℕ × RangeRest) (more : List (ℕ × RangeRest)) → stand_apart (range ∷ more) ≡ true
+reached : (x n : ℕ) (range : ℕ × RangeRest) (more : List (ℕ × RangeRest))
+    → stand_apart (range ∷ more) ≡ true
     → nat_le range.0 n ≡ true → x ≤ range.1.last
     → reaches x (last_begun n (range ∷ more)) ≡ true
 reached x n range [] stands here back = rw here (le-leb _ _ back)
@@ -91,7 +96,8 @@ reached x n range (next ∷ more) stands here back =
       | inr a ↦ rw (here, a.0) (le-leb _ _ back)
     ]
 
-shares_step : (range other next : ℕ × RangeRest) (more : List (ℕ × RangeRest)) → range.0 ≤ range.1.last
+shares_step : (range other next : ℕ × RangeRest) (more : List (ℕ × RangeRest))
+    → range.0 ≤ range.1.last
     → AreApart other next more
     → list_any (share_number range) (next ∷ more)
     ≡ reaches range.0 (last_begun range.1.last (next ∷ more))
@@ -135,7 +141,8 @@ shares_step range other next more order two ih back (inl a) (inr d) =
 
 -- a range shares a number with one of those that stand apart where the last one that begins no
 -- later than it ends reaches back to it
-pub shares-last_begun : (range : ℕ × RangeRest) (ranges : List (ℕ × RangeRest)) → range.0 ≤ range.1.last
+pub shares-last_begun : (range : ℕ × RangeRest) (ranges : List (ℕ × RangeRest))
+    → range.0 ≤ range.1.last
     → stand_apart ranges ≡ true
     → list_any (share_number range) ranges ≡ reaches range.0 (last_begun range.1.last ranges)
 shares-last_begun range [] order stands = refl
@@ -179,18 +186,21 @@ comes_after range other order after = sym (nat_cmp_is range.0 other.0 Greater (o
 with_one : ℕ × RangeRest → List (ℕ × RangeRest) → List (ℕ × RangeRest)
 with_one range ranges = insert_entry nat_cmp ranges range.0 range.1
 
-one_before : (range other : ℕ × RangeRest) (more : List (ℕ × RangeRest)) → nat_cmp range.0 other.0 ≡ Less
+one_before : (range other : ℕ × RangeRest) (more : List (ℕ × RangeRest))
+    → nat_cmp range.0 other.0 ≡ Less
     → with_one range (other ∷ more) ≡ range ∷ other ∷ more
 unfolding with_one
 one_before range other more less = rw less
 
-one_after : (range other : ℕ × RangeRest) (more : List (ℕ × RangeRest)) → nat_cmp range.0 other.0 ≡ Greater
+one_after : (range other : ℕ × RangeRest) (more : List (ℕ × RangeRest))
+    → nat_cmp range.0 other.0 ≡ Greater
     → with_one range (other ∷ more) ≡ other ∷ with_one range more
 unfolding with_one
 one_after range other more greater = rw greater
 
 -- before ranges that go on with a new one stands a range that ends before both
-cons_with_one : (first range next : ℕ × RangeRest) (more : List (ℕ × RangeRest)) → first.0 ≤ first.1.last
+cons_with_one : (first range next : ℕ × RangeRest) (more : List (ℕ × RangeRest))
+    → first.0 ≤ first.1.last
     → first.1.last < range.0 → first.1.last < next.0
     → range.0 ≤ range.1.last → next.0 ≤ next.1.last → share_number range next ≡ false
     → stand_apart (with_one range (next ∷ more)) ≡ true
@@ -205,7 +215,8 @@ cons_with_one first range next more begins ends further order onward free stands
           rw same (cons_stands first next (with_one range more) begins further (rw same at stands))
     ]
 
-stands-with_one : (range other : ℕ × RangeRest) (more : List (ℕ × RangeRest)) → range.0 ≤ range.1.last
+stands-with_one : (range other : ℕ × RangeRest) (more : List (ℕ × RangeRest))
+    → range.0 ≤ range.1.last
     → stand_apart (other ∷ more) ≡ true
     → list_any (share_number range) (other ∷ more) ≡ false
     → stand_apart (with_one range (other ∷ more)) ≡ true
@@ -256,7 +267,8 @@ known_step count range other more Greater known all later =
     rw ((and_parts (nat_lt other.1.mode count) (are_modes_below count more) all).0) later
 
 -- one more range of a mode of the table
-pub known-insert : (count : ℕ) (range : ℕ × RangeRest) (ranges : List (ℕ × RangeRest)) → range.1.mode < count
+pub known-insert : (count : ℕ) (range : ℕ × RangeRest) (ranges : List (ℕ × RangeRest))
+    → range.1.mode < count
     → are_modes_below count ranges ≡ true
     → are_modes_below count (insert_entry nat_cmp ranges range.0 range.1) ≡ true
 known-insert count range [] below all = let known : nat_lt range.1.mode count ≡ true =

@@ -5,7 +5,8 @@ use Rattle.std.proofs.Common.{⊎_elim, slice_index_or, zero, suc}
 use Rattle.std.specs.Prelude.{Contains, codes, if◌then◌else◌}
 use Rattle.std.proofs.lemmas.List.Elements.{Contains-append_right, Contains-get_or}
 use Rattle.std.proofs.lemmas.List.Folds.{list_any-append}
-use Rattle.std.proofs.lemmas.Bool.{and_from, and_parts, eq-eqb, eqb-true, or_cases, or_left, or_right}
+use Rattle.std.proofs.lemmas.Bool.{and_from, and_parts, eq-eqb, eqb-true, or_cases, or_left}
+use Rattle.std.proofs.lemmas.Bool.{or_right}
 use Rattle.toml.specs.Data.{Items, Members}
 use Rattle.fare_table.proofs.PartLemmas.{bind_ok, parts}
 use Rattle.fare_table.specs.Members.{array_at}
@@ -60,7 +61,8 @@ only_if false pairs f t from to has =
     sym (list_any-append (joins from to) pairs ((f, t) ∷ [])) ∙ has in
     ⊎_elim (λ old. inl old)
     (λ last. ⊎_elim
-    (λ joined. inr (same_pair f t from to (eqb-true f from (and_parts (f == from) (t == to) joined).0)
+    (λ joined. inr
+    (same_pair f t from to (eqb-true f from (and_parts (f == from) (t == to) joined).0)
     (eqb-true t to (and_parts (f == from) (t == to) joined).1)))
     (λ none. absurd (cc (none)))
     (or_cases (joins from to (pair_by f t)) false last))

@@ -1,28 +1,25 @@
 -- What a token pays is what the text's class of the key that names it says, else the default class.
 use Rattle.std.proofs.Common.{◌≡◌, ◌⊎◌, ◌↔◌, ℕ, ◌*◌, Bool, true, false, List, [], ◌∷◌, Option, Some}
 use Rattle.std.proofs.Common.{None, Ok, Err, cond, refl, sym, ap, ◌∙◌, subst, inl, inr, ⊎_elim}
-use Rattle.std.proofs.Common.{codes, zero-add}
+use Rattle.std.proofs.Common.{codes, zero-add, ◌++◌, ◌+◌, length, suc, zero, option_map, arith}
 use Rattle.std.proofs.lemmas.Bool.{cases_Bool}
 use Rattle.std.specs.Cmp.Lexicographic.{slice_cmp}
 use Rattle.std.specs.Option.{ok_or, unwrap_or}
 use Rattle.std.specs.Ordering.{nat_cmp}
-use Rattle.std.specs.Prelude.{pos, if◌then◌else◌}
+use Rattle.std.specs.Prelude.{pos, if◌then◌else◌, slice_get, slice_index_or}
 use Rattle.toml.specs.Data.{Data, Members, no_members, member, string, integer, table}
 use Rattle.toml.specs.Data.{as_table, get_member}
 use Rattle.fare_table.proofs.ElementLemmas.{if_ok}
 use Rattle.fare_table.proofs.PartLemmas.{bind_ok, parts}
-use Rattle.fare_table.proofs.ReadLemmas.{is_number, is_table, number-read, table-read}
-use Rattle.fare_table.proofs.ReadLemmas.{text-read}
+use Rattle.fare_table.proofs.ReadLemmas.{is_number, is_table, number-read, table-read, text-read}
 use Rattle.fare_table.specs.Classes.{ceiling_of, class_in, class_named, class_of, classes_from}
 use Rattle.fare_table.specs.Classes.{classes_of, default_of, fares_of, is_empty, place_of, terms_of}
 use Rattle.fare_table.specs.Classes.{ride_transfers_of}
 use Rattle.fare_table.specs.Modes.{same_name}
 use Rattle.fare_table.specs.declared.class.Class.{Class}
-use Rattle.std.specs.Prelude.{slice_get, slice_index_or}
 use Rattle.std.proofs.lemmas.Map.Text.{is_eq-slice_cmp}
 use Rattle.fare_table.specs.Fares.{Fares, class_of as class_of_token, no_class, terms_at}
 use Rattle.std.proofs.lemmas.Option.{get_or_from_slice_get}
-use Rattle.std.proofs.Common.{◌++◌, ◌+◌, length, suc, zero, option_map, arith}
 use Rattle.fare_table.specs.Members.{hold_strings, hold_tables, number_at, of_kind, table_at}
 use Rattle.fare_table.specs.Members.{text_at}
 use Rattle.fare_table.specs.OrFault.{OrFault, ◌>>=◌}
@@ -49,7 +46,8 @@ by_rides element fare rides =
     ceiling_of (rides * fare) (get_member (codes "ceiling") element) >>= by_ceiling fare rides
 
 abbrev by_fare : Members → ℕ → OrFault Terms
-by_fare element fare = number_at (codes "rides") the_key.Rides 1 1_000 element >>= by_rides element fare
+by_fare element fare =
+    number_at (codes "rides") the_key.Rides 1 1_000 element >>= by_rides element fare
 
 is_ceiling : (price : ℕ) (value : Option Data) (ceiling : ℕ) → ceiling_of price value ≡ Ok ceiling
     → IsCeiling price value ceiling
@@ -78,7 +76,8 @@ entry_terms : (classes element : Members) (class : List ℕ) (terms : Terms)
     → IsNamed classes class terms
 unfolding terms_of
 entry_terms classes element class terms stands is =
-    let fare = bind_ok (number_at (codes "fare") the_key.Fare 1 100_000 element) (by_fare element) terms
+    let fare = bind_ok (number_at (codes "fare") the_key.Fare 1 100_000 element) (by_fare element)
+    terms
     is in
     let rides = bind_ok (number_at (codes "rides") the_key.Rides 1 1_000 element)
     (by_rides element fare.0) terms fare.2 in
@@ -94,12 +93,9 @@ entry_terms classes element class terms stands is =
           ceiling.1;
     })
 
-value_found : (o : Option Data) (value : Data) → ok_or o Rider ≡ Ok value → o ≡ Some value
-value_found None value is = absurd (cc)
-value_found (Some v) value is = let same : v ≡ value = cc in ap (λ (d : Data). Some d) same
-
 -- the member of this name reads as the class
-pub record HasClass (modes : List (List ℕ)) (classes : Members) (name : List ℕ) (one : Class) : Type 0 where
+pub record HasClass (modes : List (List ℕ)) (classes : Members) (name : List ℕ) (one : Class) : Type
+    0 where
   pub value : Data
   pub stands : get_member name classes ≡ Some value
   pub read : class_in modes value ≡ Ok one
@@ -137,7 +133,8 @@ class_parts modes element one is =
     let terms = bind_ok (terms_of element) (by_terms modes element) one is in
     let fares = bind_ok (fares_of modes terms.0.fare (get_member (codes "fares") element))
     (by_fares element terms.0) one terms.2 in
-    let transfers = bind_ok (ride_transfers_of element) (by_transfers terms.0 fares.0) one fares.2 in
+    let transfers = bind_ok (ride_transfers_of element) (by_transfers terms.0 fares.0) one
+    fares.2 in
     same_class_parts modes element (class_by terms.0 fares.0 transfers.0) one transfers.2
     (record { terms = terms.1; fares = fares.1; transfers = transfers.1 })
 
@@ -240,7 +237,8 @@ placed modes earlier list name (member key value more) place there is at same =
           }
       | inr other ↦
           let next = later_place (place_of name more) place (rw other at at) in
-          let rest = placed modes (earlier ++ first.0 ∷ []) list name more next.0 there first.2 next.1
+          let rest = placed modes (earlier ++ first.0 ∷ []) list name more next.0 there first.2
+          next.1
           (omega (arith, same, next.2, length-append-one earlier first.0)) in
           record {
             one = rest.one;
@@ -271,7 +269,8 @@ place_found None place is = absurd (cc)
 place_found (Some p) place is = let same : p ≡ place = cc in ap (λ n. Some n) same
 
 -- the class of this name has the terms in the text too
-pub has_terms : (modes : List (List ℕ)) (tree classes : Members) (list : List Class) (class : List ℕ)
+pub has_terms : (modes : List (List ℕ)) (tree classes : Members) (list : List Class)
+    (class : List ℕ)
     (place : ℕ) → classes_of tree ≡ Ok classes → classes_from modes [] classes ≡ Ok list
     → class_named classes class ≡ Ok place
     → HasTerms tree class (slice_index_or list place no_class).terms
@@ -323,14 +322,17 @@ one_terms tree class terms terms' one two =
     (ap (get_member (codes "rides")) (sym element) ∙ one.rides) two.rides in
     let price : terms.rides * terms.fare ≡ terms'.rides * terms'.fare =
     ap (λ n. n * terms.fare) rides ∙ ap (λ n. terms'.rides * n) fare in
-    let same_price : IsCeiling (terms'.rides * terms'.fare) (get_member (codes "ceiling") one.element)
+    let same_price : IsCeiling (terms'.rides * terms'.fare)
+    (get_member (codes "ceiling") one.element)
     terms.ceiling = subst (λ p.
     IsCeiling p (get_member (codes "ceiling") one.element) terms.ceiling) price one.ceiling in
-    let same_entry : IsCeiling (terms'.rides * terms'.fare) (get_member (codes "ceiling") two.element)
+    let same_entry : IsCeiling (terms'.rides * terms'.fare)
+    (get_member (codes "ceiling") two.element)
     terms.ceiling = subst (λ (e : Members).
     IsCeiling (terms'.rides * terms'.fare) (get_member (codes "ceiling") e) terms.ceiling) element
     same_price in
-    let ceiling = one_ceiling (terms'.rides * terms'.fare) (get_member (codes "ceiling") two.element)
+    let ceiling = one_ceiling (terms'.rides * terms'.fare)
+    (get_member (codes "ceiling") two.element)
     terms.ceiling terms'.ceiling same_entry two.ceiling in
     all_same terms.fare terms'.fare terms.rides terms'.rides terms.ceiling terms'.ceiling fare rides
     ceiling
@@ -492,7 +494,8 @@ one_class tree meaning token class class' is (inr one) (inr two) =
     text_of (get_member (codes "default_class") tree) class class' one.0 two.0
 
 pub pays-terms : (tree : Members) (fares : Fares) (token : List ℕ) (terms : Terms)
-    → meaning_of_tree tree ≡ Ok fares.meaning → (terms_at fares token ≡ terms) ↔ Pays tree token terms
+    → meaning_of_tree tree ≡ Ok fares.meaning
+    → (terms_at fares token ≡ terms) ↔ Pays tree token terms
 pays-terms tree fares token terms is =
     let p = pays tree fares token is in (
       λ same. subst (λ (t : Terms). Pays tree token t) same p,

@@ -1,9 +1,9 @@
 -- What a token pays for a ride on a mode, and what its rides give, is what its class of the text
 -- says.
-use Rattle.std.proofs.Common.{◌≡◌, ◌≢◌, ℕ, ◌*◌, ◌<◌, ◌≤◌, ◌&&◌, Bool, true, false, List, []}
-use Rattle.std.proofs.Common.{Option, Some, None, Ok, Err, cond, refl, sym, ap, ◌∙◌, subst, inl, inr}
-use Rattle.std.proofs.Common.{arith, codes, get_or, get_or-set_other, length, length-set, set}
-use Rattle.std.proofs.Common.{replicate, zero-add}
+use Rattle.std.proofs.Common.{◌≡◌, ◌≢◌, ℕ, ◌*◌, ◌<◌, ◌≤◌, ◌&&◌, Bool, true, false, List, [], Option}
+use Rattle.std.proofs.Common.{Some, None, Ok, Err, cond, refl, sym, ap, ◌∙◌, subst, inl, inr, arith}
+use Rattle.std.proofs.Common.{codes, get_or, get_or-set_other, length, length-set, set, replicate}
+use Rattle.std.proofs.Common.{zero-add}
 use Rattle.std.proofs.lemmas.Bool.{and_parts, cases_Bool, false≢true, leb-true, ltb-true}
 use Rattle.std.proofs.lemmas.Grind.{get_or-set_at}
 use Rattle.std.proofs.lemmas.List.{get_or-replicate, length-replicate}
@@ -22,14 +22,12 @@ use Rattle.fare_table.proofs.ElementLemmas.{if_ok}
 use Rattle.fare_table.proofs.OrderLemmas.{nested-ordered}
 use Rattle.fare_table.proofs.PartLemmas.{bind_ok, parts}
 use Rattle.fare_table.proofs.PayLemmas.{AreClassParts, class_if, class_parts, classes_read}
-use Rattle.fare_table.proofs.PayLemmas.{has_terms}
-use Rattle.fare_table.proofs.PayLemmas.{place_found, placed, riders_read, same_ok}
+use Rattle.fare_table.proofs.PayLemmas.{has_terms, place_found, placed, riders_read, same_ok}
 use Rattle.fare_table.proofs.ReadLemmas.{is_number, is_table}
 use Rattle.fare_table.specs.ByteOrder.{in_byte_order}
 use Rattle.fare_table.specs.Classes.{class_of as class_by, fares_from, fares_of, place_of}
 use Rattle.fare_table.specs.Classes.{ride_transfers_of}
-use Rattle.fare_table.specs.Fares.{Fares, class_at, class_of, no_class, ride_terms}
-use Rattle.fare_table.specs.Fares.{transfer_terms}
+use Rattle.fare_table.specs.Fares.{Fares, class_at, class_of, no_class, ride_terms, transfer_terms}
 use Rattle.fare_table.specs.Members.{array_at, hold_numbers, number_in, number_or, of_kind}
 use Rattle.fare_table.specs.Modes.{are_distinct, are_mode_names, is_mode_name, mode_named, modes_of}
 use Rattle.fare_table.specs.Modes.{same_name, strings_from}
@@ -118,7 +116,8 @@ fare_named modes name mode fares list no_members own at below order is has =
 fare_named modes name mode fares list (member key value more) own at below order is has =
     let parts = and_parts (is_before key more) (in_byte_order more) order in
     let place = bind_ok (mode_named modes key) (by_place modes fares value more) list is in
-    let cents = bind_ok (number_in the_key.Fares 0 100_000 value) (by_cents modes fares more place.0)
+    let cents = bind_ok (number_in the_key.Fares 0 100_000 value)
+    (by_cents modes fares more place.0)
     list place.2 in
     let found = mode_found (position (same_name key) modes) place.0 place.1 in
     let next = set fares place.0 cents.0 in

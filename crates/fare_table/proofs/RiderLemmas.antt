@@ -10,15 +10,13 @@ use Rattle.std.specs.Map.{lookup}
 use Rattle.std.specs.Option.{is_some}
 use Rattle.std.specs.Ordering.{is_eq, match_ordering, nat_cmp}
 use Rattle.std.specs.Prelude.{if◌then◌else◌}
-use Rattle.toml.specs.Data.{Data, Members, no_members, member, string, as_str}
-use Rattle.toml.specs.Data.{get_member}
+use Rattle.toml.specs.Data.{Data, Members, no_members, member, string, as_str, get_member}
 use Rattle.fare_table.proofs.PartLemmas.{bind_ok}
 use Rattle.fare_table.proofs.ReadLemmas.{is_text}
 use Rattle.fare_table.specs.Classes.{class_named}
 use Rattle.fare_table.specs.Members.{of_kind}
 use Rattle.fare_table.specs.OrFault.{OrFault, ◌>>=◌}
-use Rattle.fare_table.specs.Riders.{is_rider, rider_of, riders_from}
-use Rattle.fare_table.specs.Riders.{token_of_digits, with_rider}
+use Rattle.fare_table.specs.Riders.{is_rider, rider_of, riders_from, token_of_digits, with_rider}
 use Rattle.fare_table.specs.declared.fault.Key.TheVariants as the_key
 use Rattle.fare_table.specs.declared.fault.TableFault.TheVariants.{Rider}
 use Rattle.fare_table.proofs.KeyLemmas.{is_itself, same_bytes, member-here, member-later}
@@ -48,7 +46,8 @@ one_of Greater token other terms first more is free ih =
           let here : token ≡ first.0 =
           sym (same_bytes other token both) ∙ same_bytes other first.0 same in
           let order : slice_cmp nat_cmp token first.0 ≡ Equal =
-          (Equal-is _).0 (ap (λ k. is_eq (slice_cmp nat_cmp token k)) (sym here) ∙ is_itself token) in
+          (Equal-is _).0
+          (ap (λ k. is_eq (slice_cmp nat_cmp token k)) (sym here) ∙ is_itself token) in
           absurd (cc (is, order))
       | inr none ↦ none
     ])

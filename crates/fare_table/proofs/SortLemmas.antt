@@ -102,7 +102,8 @@ riders-rise tree meaning is =
     rise_all p.table (get_member (codes "riders") tree) meaning.riders
     (riders_read p.table tree meaning.riders p.riders)
 
-stands_from : (modes : List (List ℕ)) (earlier : List (ℕ × RangeRest)) (part : Items) (ranges : List (ℕ
+stands_from : (modes : List (List ℕ)) (earlier : List (ℕ × RangeRest)) (part : Items)
+    (ranges : List (ℕ
     × RangeRest)) → ranges_from modes earlier part ≡ Ok ranges → stand_apart earlier ≡ true
     → stand_apart ranges ≡ true
 stands_from modes earlier no_items ranges is stands = let same : earlier ≡ ranges = cc in

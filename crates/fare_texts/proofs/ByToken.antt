@@ -5,6 +5,7 @@ use Rattle.std.specs.List.Sorted.{IsStrictlySortedBy}
 use Rattle.std.specs.Ordering.{eq_by_cmp}
 use Rattle.std.proofs.lemmas.Bool.{cases_Bool}
 use Rattle.std.proofs.lemmas.List.Sorted.{IsPermutation-map, list_any-IsPermutation}
+use Rattle.std.proofs.Math.Bool.{or_self_left}
 use Rattle.fare_table.specs.Fares.{Fares}
 use Rattle.shard_book.specs.Entry.{own}
 use Rattle.shard_book.specs.SumsByKey.{token_of, tokens}
@@ -14,7 +15,6 @@ use Rattle.shard_book.specs.declared.entry.Entry.{Entry}
 use Rattle.tap_views.specs.declared.token.Token.{Token}
 use Rattle.tap_views.proofs.TokenLemmas.{same_token, token_eq-refl, token_eq-sym, token_cmp-total, token_cmp-ties}
 use Rattle.tap_views.proofs.TokenLemmas.{among}
-use Rattle.tap_views.proofs.Choices.{or_twice}
 use Rattle.shard_book.proofs.RisingLemmas.{rising-only, below_all}
 use Rattle.shard_book.proofs.OwnEntries.{own-append, own_none, own_other, own_same}
 use Rattle.fare_texts.specs.LedgerLines.{AreLedgerLinesAfter, AreLedgerLines, IsLedgerLine, reason_after}
@@ -69,7 +69,7 @@ module _ (fares : Fares) (whole before : List Entry) (entry : Entry) (rest : Lis
         others = g.others;
         rises = g.rises;
         members = λ key.
-            g.members key ∙ or_twice (ties key token) (among (map token_of rest) key)
+            g.members key ∙ sym (or_self_left (ties key token) (among (map token_of rest) key))
             ∙ ap (λ (t : Token). ties key token || (ties key t || among (map token_of rest) key))
             (sym same);
         other_lines = g.other_lines;

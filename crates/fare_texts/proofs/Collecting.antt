@@ -1,5 +1,5 @@
 -- Entries that are collected one after another.
-use Rattle.std.proofs.Common.{◌≡◌, ℕ, ◌+◌, List, [], ◌∷◌, ◌++◌, Option, Some, None, unwrap_or, take, sym, ap, ◌∙◌, append_assoc, ◌<◌, length, get_or}
+use Rattle.std.proofs.Common.{◌≡◌, ℕ, ◌+◌, List, [], ◌∷◌, ◌++◌, Option, Some, unwrap_or, take, sym, ap, ◌∙◌, append_assoc, ◌<◌, length, get_or}
 use Rattle.std.specs.Prelude.{option_and_then, slice_get}
 use Rattle.std.proofs.lemmas.List.{flat_map_more, map-append, take_more}
 use Rattle.std.proofs.lemmas.Option.{slice_get_within, slice_get-get_or, get_or_from_slice_get}
@@ -22,11 +22,6 @@ spot_entry books spot index place book entry at_book at_place there at =
     ∙ ap (λ (i : ℕ). unwrap_or (entry_in books index i) no_entry) at_place
     ∙ ap (λ (found : Option Book). unwrap_or (option_and_then (λ (b : Book). slice_get b.entries place) found) no_entry) there
     ∙ ap (λ (found : Option Entry). unwrap_or found no_entry) at
-
--- where there is no book, or no entry in it
-pub spot_none : (books : List Book) (spot : Spot) → entry_in books (book_at spot) (place_at spot) ≡ None → entry_at_spot books spot ≡ no_entry
-unfolding entry_at_spot
-spot_none books spot none = ap (λ (found : Option Entry). unwrap_or found no_entry) none
 
 pub seen_more : (books : List Book) (first old new : List Spot) (one : Spot) (index i : ℕ) (book : Book) → new ≡ old ++ one ∷ [] → entries_at_spots books old ≡ entries_at_spots books first ++ take i book.entries
     → book_at one ≡ index → place_at one ≡ i → slice_get books index ≡ Some book → i < length book.entries → entries_at_spots books new ≡ entries_at_spots books first ++ take (i + 1) book.entries

@@ -10,9 +10,9 @@ use Rattle.std.proofs.Common.{refl, sym, ◌∙◌, ap, subst, arith}
 use Rattle.std.proofs.lemmas.List.{length-map}
 use Rattle.std.proofs.lemmas.List.Elements.{All-cons, All-head, All-nil, All-tail}
 use Rattle.std.proofs.lemmas.List.Elements.{All-from_recursion, All-weaker, recursion_from_All}
+use Rattle.std.proofs.lemmas.Slice.Zip.{AllZip-long}
 use Rattle.fare_table.specs.Fares.{Fares}
 use Rattle.tap_views.specs.declared.token.Token.{Token}
-use Rattle.tap_views.proofs.Lists.{AllZip-length}
 use Rattle.shard_book.specs.declared.entry.Entry.{Entry}
 use Rattle.shard_book.specs.SumsByKey.{sums_by_token, sums_by_validator}
 use Rattle.shard_book.specs.Sums.{Sums, add_all, sums}
@@ -88,7 +88,7 @@ own_can_be_told part ends can plain = record {
   number = omega (
     arith,
     can.number,
-    AllZip-length IsPlainEnd part.files ends plain,
+    sym (AllZip-long IsPlainEnd part.files ends plain),
     length-map ends end_of,
   );
   ends = All-from_recursion IsUploadEnd (map end_of ends)

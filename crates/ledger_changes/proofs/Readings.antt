@@ -72,11 +72,6 @@ reads_end left line after taken behind none =
     let end : left ≡ [] = taken_none left (sym taken ∙ none) in
     (end, behind ∙ ap (λ (bytes : List ℕ). Some (drop_through 10 bytes)) end)
 
-pub reads_row : (left line : List ℕ) (after : Option (List ℕ)) (row : Row)
-    → line ≡ take_through 10 left → after ≡ Some (drop_through 10 left) → IsRowLine row line
-    → ReadsRow left (Some row) after
-reads_row left line after row taken behind is = (subst (IsRowLine row) taken is, behind)
-
 pub no_row_lines : (left line : List ℕ) → line ≡ take_through 10 left → ¬ (line ≡ [])
     → ((row : Row) → ¬ (IsRowLine row line)) → (rows : List Row) → ¬ (AreRowLines rows left)
 no_row_lines left line taken some none [] are = some (taken ∙ ap (take_through 10) are)

@@ -1,7 +1,6 @@
 -- What a balance is after one tap more, and what it tells.
 use Rattle.std.proofs.Common.{◌≡◌, ℕ, ◌+◌, ◌<◌, Bool, true, false, List, [], ◌∷◌, ◌++◌, cond}
 use Rattle.std.proofs.Common.{Option, Some, None, is_some, refl, sym, ap, ◌∙◌, arith}
-use Rattle.std.proofs.Common.{append_assoc}
 use Rattle.std.proofs.lemmas.List.Sums.{sum_by-append, sum_by-cons}
 use Rattle.std.specs.Prelude.{IfSome, MatchOption}
 use Rattle.std.specs.BTreeMap.{BTreeMap}
@@ -42,15 +41,6 @@ added old new None good tap more is = λ t.
     omega (arith, push, here, before)
 added old new (Some s) good tap more is = absurd (nowhere is.before is.after s is.stands)
 
-pub struck_out : (old new : BTreeMap TapFields ℕ) (good struck : List TapFields) (tap : TapFields)
-    → HasOneMore old new tap
-    → Balances old None good struck → Balances new None good (struck ++ tap ∷ [])
-struck_out old new good struck tap more is = λ t.
-    let push = times_push t struck tap in
-    let here = more t in
-    let before = is t in
-    omega (arith, push, here, before)
-
 pub none_left : (left : BTreeMap TapFields ℕ) (good struck : List TapFields) (tap : TapFields)
     → left_at left tap ≡ 0
     → Balances left None good struck → IsFirstSurplus good (struck ++ tap ∷ []) tap
@@ -65,17 +55,6 @@ none_left left good struck tap none is =
       none_before = λ other. let e = is other in omega (arith, e);
       more = omega (arith, push, self, here, none);
     }
-
-pub still_more : (left new : BTreeMap TapFields ℕ) (good struck : List TapFields) (tap s : TapFields)
-    → Balances left (Some s) good struck → Balances new (Some s) good (struck ++ tap ∷ [])
-still_more left new good struck tap s is = record {
-  before = is.before;
-  after = is.after ++ tap ∷ [];
-  stands = ap (λ (ts : List TapFields). ts ++ tap ∷ []) is.stands
-      ∙ append_assoc is.before (s ∷ is.after) (tap ∷ []);
-  none_before = is.none_before;
-  more = is.more;
-}
 
 -- the first surplus tap is more often among all of the others
 pub surplus_is_more : (good others : List TapFields) (tap : TapFields)

@@ -1,28 +1,25 @@
 -- What a recount of a text in pieces knows, by what its parts found.
-use Rattle.std.proofs.Common.{◌≡◌, ◌≢◌, ℕ, ◌+◌, ◌^◌, ◌<◌, ◌≤◌, ◌⊎◌, inl, inr, ⊎_elim, Bool, true, false, cond, List, [], ◌∷◌, ◌++◌, length, Option, None, Some, refl, sym, ap, subst, ◌∙◌, arith, append_assoc, append-nil, length-append, codes, string_bytes, if◌then◌else◌}
+use Rattle.std.proofs.Common.{◌≡◌, ℕ, ◌+◌, ◌<◌, ◌≤◌, inl, inr, Bool, true, false, List, [], ◌∷◌, ◌++◌, length, Option, None, Some, refl, sym, ap, subst, ◌∙◌, arith, append_assoc, append-nil, length-append, string_bytes, if◌then◌else◌}
 use Rattle.std.proofs.lemmas.Slice.Eq.{bytes_eq-Decides}
 use Rattle.std.specs.Str.{bytes_eq}
 use Rattle.fare_table.specs.Fares.{Fares}
 use Rattle.shard_book.specs.Entry.{own}
 use Rattle.shard_book.specs.declared.entry.Entry.{Entry}
-use Rattle.ledger_check.specs.FullBalances.{IsFullBalance}
 use Rattle.ledger_check.specs.declared.full_balance.FullBalance.{FullBalance}
 use Rattle.tap_views.specs.declared.encoder.TapFields.{TapFields}
 use Rattle.tap_views.specs.declared.token.Token.{Token}
 use Rattle.fare_texts.specs.LedgerLines.{head_text}
-use Rattle.fare_texts.specs.declared.teller.Teller.{Teller}
 use Rattle.ledger_check.specs.Lines.{IsLine, Lacks, lines_of}
-use Rattle.ledger_check.specs.Recounts.{IsJudged, IsLineOfTap, IsTaken, TakenLine, lines_from, run_of, run_with, taps_from, told_lines, told_text}
+use Rattle.ledger_check.specs.Recounts.{IsJudged, IsLineOfTap, IsTaken, TakenLine, lines_from, run_of, run_with, told_text}
 use Rattle.ledger_check.specs.RecountStates.{AreSums, HasRecounted, HasRunTeller, HasTakenLines, IsKept}
 use Rattle.ledger_check.specs.inside.Recounts.{HasFound, HasJudged, IsFirstFinding, TookLine}
 use Rattle.ledger_check.specs.declared.recount.LinesTaken.{LinesTaken}
 use Rattle.ledger_check.specs.declared.recount.Recount.{Recount}
 use Rattle.ledger_check.specs.declared.walk.CountedTap.{CountedTap}
 use Rattle.ledger_check.specs.declared.walk.LineFinding.{LineFinding}
-use Rattle.ledger_check.specs.declared.walk.Told.{Told}
 use Rattle.ledger_check.specs.declared.walk.Told.TheVariants.{Nothing, NoLine}
 use Rattle.ledger_check.specs.declared.walk.Walk.{Walk}
-use Rattle.ledger_check.proofs.LineLemmas.{lacks-append, lacks-last, lines-line, lines-part}
+use Rattle.ledger_check.proofs.LineLemmas.{lacks-append, lacks-last, lines-line}
 use Rattle.ledger_check.proofs.TokenOrder.{own-few}
 
 head_short : length head_text ≤ 255
@@ -133,34 +130,6 @@ lines_more fares so_far after taken line finding lines found sums = record {
       omega (arith, size);
   teller = found.teller;
 }
-
--- what is kept of a line that grows
-pub kept_all : (old new before text : List ℕ) → IsKept old before → new ≡ old ++ text → IsKept new (before ++ text)
-kept_all old new before text (inl same) grown = inl (grown ∙ ap (λ (l : List ℕ). l ++ text) same)
-kept_all old new before text (inr (left, right)) grown =
-    let size = length-append old text in
-    let size_too = length-append before text in
-    let is : length new ≡ length (old ++ text) = ap (λ (l : List ℕ). length l) grown in
-    inr (omega (arith, left, size, is), omega (arith, right, size_too))
-
-pub kept_full : (old before text : List ℕ) → IsKept old before → 255 < length old → IsKept old (before ++ text)
-kept_full old before text same long =
-    let longer = kept_long old before same long in
-    inr (long, omega (arith, longer, length-append before text))
-
-pub kept_front : (old new before text front : List ℕ) → IsKept old before → new ≡ old ++ front → length old + length front ≡ 256
-    → length front < length text → IsKept new (before ++ text)
-kept_front old new before text front (inl same) grown full less =
-    let size = length-append old front in
-    let size_too = length-append before text in
-    let is : length new ≡ length (old ++ front) = ap (λ (l : List ℕ). length l) grown in
-    let old_is : length old ≡ length before = ap (λ (l : List ℕ). length l) same in
-    inr (omega (arith, is, size, full), omega (arith, size_too, old_is, full, less))
-kept_front old new before text front (inr (left, right)) grown full less =
-    let size = length-append old front in
-    let size_too = length-append before text in
-    let is : length new ≡ length (old ++ front) = ap (λ (l : List ℕ). length l) grown in
-    inr (omega (arith, is, size, full), omega (arith, size_too, right))
 
 pub kept_none : (kept begun : List ℕ) → IsKept kept begun → kept ≡ [] → begun ≡ []
 kept_none kept begun (inl same) none = sym same ∙ none

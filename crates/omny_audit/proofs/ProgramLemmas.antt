@@ -88,14 +88,6 @@ is_one_last : (name : Text) (names : List Text) (last : Text) → name ≡ last 
 is_one_last name [] last is = inl is
 is_one_last name (n ∷ names) last is = inr (is_one_last name names last is)
 
--- of the files that are asked for
-pub at_table : (asked : AuditAsked) (fault : Fault) → IfSome (named_by fault) (λ told. told ≡ asked.table) → NamesOneOf (files_of asked) fault
-at_table asked fault is = weaker (named_by fault) is
-  where
-    weaker : (o : Option Text) → IfSome o (λ told. told ≡ asked.table) → IfSome o (λ name. IsOneOf name (files_of asked))
-    weaker None is = tt
-    weaker (Some name) is = inl is
-
 pub at_uploads : (asked : AuditAsked) (fault : Fault) → NamesOneOf asked.uploads fault → NamesOneOf (files_of asked) fault
 at_uploads asked fault is = weaker (named_by fault) is
   where

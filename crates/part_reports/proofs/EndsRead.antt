@@ -162,20 +162,6 @@ adding_more before now after (Some text) left then_left line items end same addi
       left_is = here.left;
     }
 
-pub adding_done : (before now : UploadEnds) (text left then_left : Option (List ℕ)) (items : List ℕ)
-    → AddingSome before now text left → IsNextEnd now.uploads left then_left items (Ok None)
-    → AreEndsAdded before now text (Ok tt)
-adding_done before now None left then_left items adding next = tt
-adding_done before now (Some text) left then_left items adding next =
-    let over : adding.rest ≡ [] = subst (λ left. IsNextEnd now.uploads left then_left items
-    (Ok None)) adding.left_is next in (
-      adding.more,
-      adding.is,
-      adding.shown ∙ ap
-          (λ rest. upload_lines before.uploads adding.more ++ rest) over
-          ∙ append-nil (upload_lines before.uploads adding.more),
-    )
-
 pub some_line : (number : ℕ) (end : UploadEnd) (rest : List ℕ) → ¬ ([] ≡ upload_line number end ++ rest)
 some_line number end rest is =
     let words : [] ≡ (codes "upload " ++ (decimal number ++ end_words end)) ++ rest =

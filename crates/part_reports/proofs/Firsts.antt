@@ -34,14 +34,6 @@ one_is_some line is none = not_nothing is.front 10 (sym is.shown ∙ none)
 pub line_is_some : (kind : LineKind) (line : TokenLine) → IsLineOfKind kind line → ¬ (line.text ≡ [])
 line_is_some kind line is = one_is_some line.text (line_is_one kind line is)
 
--- the kind of a line is not in how many are left
-pub same_line : (kind behind : LineKind) (line : TokenLine) → IsBehindOne kind line behind
-    → IsLineOfKind kind line → IsLineOfKind behind line
-same_line (Tokens left rest) (Tokens behind after) line one is = is
-same_line (Tokens left rest) Entries line one is = elim one [ ]
-same_line Entries (Tokens behind after) line one is = elim one [ ]
-same_line Entries Entries line one is = is
-
 sum_line_unique : (a b : TokenLine) (x y : List ℕ) → IsSumLine a → IsSumLine b
     → a.text ++ x ≡ b.text ++ y → (a ≡ b) × (x ≡ y)
 sum_line_unique a b x y is also same =
@@ -86,11 +78,6 @@ first_is_source kind text at taken left first = by_head at.token first
       line = is.0;
       behind = is.1;
     }
-
--- no line may stand first where none does
-pub no_first_line : (kind : LineKind) (token : Token)
-    → ¬ (IsLineOfKind kind (record { token = token; text = [] }))
-no_first_line kind token is = line_is_some kind (record { token = token; text = [] }) is refl
 
 behind_of : (kind : LineKind) (line : TokenLine) (lines : List TokenLine) (text : List ℕ)
     → IsTextOf (kind, text) (line ∷ lines)

@@ -1,15 +1,14 @@
 -- The least token of the first places.
 use Rattle.std.proofs.Common.{◌≡◌, ◌≢◌, ◌<◌, ◌≤◌, ◌+◌, ℕ, List, Some, None, Option, get_or, length}
-use Rattle.std.proofs.Common.{refl, sym, ap, subst, ◌∙◌, arith, ⊎_elim}
-use Rattle.std.specs.Ordering.{ordering_reverse, ordering_then}
-use Rattle.std.specs.declared.cmp.Ordering.{Ordering}
-use Rattle.std.specs.declared.cmp.Ordering.TheVariants.{Less, Equal, Greater}
+use Rattle.std.proofs.Common.{sym, ap, subst, ◌∙◌, arith, ⊎_elim}
+use Rattle.std.specs.Ordering.{ordering_reverse}
+use Rattle.std.specs.declared.cmp.Ordering.TheVariants.{Less, Greater}
 use Rattle.std.proofs.lemmas.Bool.{cases_eq, cases_lt}
 use Rattle.std.proofs.lemmas.Option.{slice_get-get_or, slice_get_within}
 use Rattle.tap_views.specs.Token.{token_cmp}
 use Rattle.tap_views.specs.declared.token.Token.{Token}
-use Rattle.tap_views.proofs.TokenLemmas.{token_cmp-ties, token_cmp-total}
-use Rattle.part_reports.specs.inside.Least.{IsBelowOthers, IsLeast, StandsTwice, StandsAt}
+use Rattle.tap_views.proofs.TokenLemmas.{token_cmp-total}
+use Rattle.part_reports.specs.inside.Least.{IsBelowOthers, IsLeast, StandsAt}
 
 -- of the places before the end, the one found has the least token
 abbrev pub IsLeastBelow : List (Option Token) → ℕ → Option (ℕ × Token) → Type 0
@@ -18,11 +17,6 @@ IsLeastBelow tokens end (Some (place, token)) =
     (place < end) × StandsAt tokens place token
     × ((k : ℕ) (above : Token) → k < end → k ≢ place → StandsAt tokens k above
     → token_cmp token above ≡ Less)
-
-first_equal : (r s : Ordering) → ordering_then r s ≡ Equal → (r ≡ Equal) × (s ≡ Equal)
-first_equal Less s e = absurd (let h : Less ≡ Equal = e in cc)
-first_equal Equal s e = (refl, e)
-first_equal Greater s e = absurd (let h : Greater ≡ Equal = e in cc)
 
 one_there : (tokens : List (Option Token)) (k : ℕ) (a b : Token) → StandsAt tokens k a
     → StandsAt tokens k b → a ≡ b
@@ -101,17 +95,6 @@ below_there tokens at place token least below there greater =
           token_cmp-total.trans token least above less
           (below.2 k above (at_or_before k at within other) differs stands)) (cases_eq k place),
     )
-
-pub twin_there : (tokens : List (Option Token)) (at place : ℕ) (token least : Token)
-    → IsLeastBelow tokens at (Some (place, least)) → StandsAt tokens at token
-    → token_cmp least token ≡ Equal → StandsTwice tokens at
-twin_there tokens at place token least below there equal = record {
-  token = token;
-  earlier = place;
-  before = below.0;
-  there = there;
-  first = subst (λ t. StandsAt tokens place t) (token_cmp-ties least token equal) below.1;
-}
 
 pub none_at_all : (tokens : List (Option Token)) → IsLeastBelow tokens (length tokens) None
     → IsLeast tokens None

@@ -108,9 +108,6 @@ no_feed_before (x ∷ left) front e =
     cons_cases x left (x == 10) refl front (no_feed_before left) e
 
 -- ---- texts with no line feed
-none_joined : (a b : List ℕ) → HasNoFeed a → HasNoFeed b → HasNoFeed (a ++ b)
-none_joined [] b is also = also
-none_joined (x ∷ a) b is also = (is.0, none_joined a b is.1 also)
 
 pub none_behind : (a b : List ℕ) → HasNoFeed (a ++ b) → HasNoFeed b
 none_behind [] b is = is

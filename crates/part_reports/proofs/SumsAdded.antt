@@ -8,7 +8,7 @@ use Rattle.std.specs.Prelude.{filter, map, flat_map, sum_by, if◌then◌else◌
 use Rattle.std.specs.Option.{option_map}
 use Rattle.std.specs.BTreeMap.{Updates, get, is_at}
 use Rattle.std.specs.BTreeMap.{BTreeMap}
-use Rattle.std.specs.Map.{keys_of, lookup}
+use Rattle.std.specs.Map.{keys_of}
 use Rattle.std.specs.Ordering.{eq_by_cmp, is_eq, nat_cmp}
 use Rattle.std.specs.Set.{is_member}
 use Rattle.std.proofs.lemmas.Bool.{cases_eq, ne_eqb, eq-eqb}
@@ -298,14 +298,6 @@ validators_more : (fronts : List ToldFront) (told : ToldFront)
 validators_more fronts told = flat_map-append (λ (told : ToldFront). told.validators) fronts (told ∷ [])
     ∙ ap (λ more. validators_in fronts ++ more) (append-nil told.validators)
 
-pub counted_none : (sums : WholeSums) → sums_of sums.totals ≡ sums_of_replies []
-    → sums.validators.entries ≡ [] → sums.tokens ≡ 0 → AreFrontsCounted sums []
-counted_none sums totals none tokens = record {
-  totals = totals;
-  validators = λ q. ap (λ es. option_map sums_of (lookup (is_at (nat_cmp q)) es)) none;
-  tokens = tokens;
-}
-
 pub front_added : (before after : WholeSums) (front : Front) (fronts : List ToldFront) (told : ToldFront)
     → after.tokens ≡ before.tokens + front.tokens
     → sums_of after.totals ≡ add_sums (sums_of before.totals) (sums_of front.totals)
@@ -333,16 +325,6 @@ front_full before after validators_now front fronts told full counted is few =
     full (validators_in fronts) counted.validators
     (subst (λ list. AreSmall list) (validators_more fronts told
     ∙ ap (λ more. validators_in fronts ++ more) (sym is.validators)) few.validators)
-
-pub tokens_full : (before : WholeSums) (front : Front) (fronts : List ToldFront) (told : ToldFront)
-    → 2 ^ 128 ≤ before.tokens + front.tokens
-    → AreFrontsCounted before fronts → IsFront front told → ¬ (AreFew (fronts ++ told ∷ []))
-tokens_full before front fronts told over counted is few =
-    let sums = sum_by-append (λ (told : ToldFront). told.tokens) fronts (told ∷ []) in
-    let old_tokens = counted.tokens in
-    let more_tokens = is.tokens in
-    let most = few.tokens in
-    absurd (omega (arith, over, sums, old_tokens, more_tokens, most))
 
 pub totals_full : (before : WholeSums) (front : Front) (fronts : List ToldFront) (told : ToldFront)
     → 2 ^ 95 < before.totals.taps + front.totals.taps

@@ -1,11 +1,11 @@
 -- Two texts, held against each other line by line.
 use Rattle.std.proofs.Common.{◌≡◌, ◌==◌, ℕ, ◌+◌, ◌<◌, ◌≤◌, ◌⊎◌, Bool, cond, List, [], ◌∷◌, ◌++◌, length, refl, sym, ap}
-use Rattle.std.proofs.Common.{◌∙◌, inl, inr, arith, append_assoc, append-nil, length-append}
+use Rattle.std.proofs.Common.{◌∙◌, inl, inr, arith, append_assoc, length-append}
 use Rattle.std.proofs.lemmas.Bool.{ne_eqb}
 use Rattle.std.proofs.lemmas.List.Sums.{sum_by-append, sum_by-cons}
 use Rattle.ledger_check.specs.Lines.{IsLine, Lacks}
 use Rattle.ledger_check.proofs.LineLemmas.{lacks-last}
-use Rattle.report_check.specs.Reports.{EndsLine, HasLineBehind, IsWrongLine, line_feeds}
+use Rattle.report_check.specs.Reports.{EndsLine, IsWrongLine, line_feeds}
 use Rattle.report_check.specs.inside.Differences.{EndsWithFeed}
 use Rattle.report_check.proofs.Through.{taken_line}
 
@@ -85,20 +85,3 @@ wrong_line text wanted before left rest line behind number whole wants has count
       has = has;
       wrong = wrong;
     }
-
-pub line_behind : (text wanted before left rest : List ℕ) (number : ℕ) → wanted ≡ before ++ left
-    → text ≡ before ++ rest → number ≡ line_feeds before + 1 → left ≡ [] → ¬ (rest ≡ [])
-    → HasLineBehind text wanted number
-line_behind text wanted before left rest number wants has counted none some =
-    let all : wanted ≡ before = wants ∙ ap (λ (t : List ℕ). before ++ t) none ∙ append-nil before in
-    record {
-      more = rest;
-      some = some;
-      has = has ∙ ap (λ (t : List ℕ). t ++ rest) (sym all);
-      counted = counted ∙ ap (λ (t : List ℕ). line_feeds t + 1) (sym all);
-    }
-
-pub same_texts : (text wanted before left rest : List ℕ) → wanted ≡ before ++ left
-    → text ≡ before ++ rest → left ≡ [] → rest ≡ [] → text ≡ wanted
-same_texts text wanted before left rest wants has none over =
-    has ∙ ap (λ (t : List ℕ). before ++ t) (over ∙ sym none) ∙ sym wants

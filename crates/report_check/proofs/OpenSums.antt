@@ -8,8 +8,6 @@ use Rattle.std.proofs.lemmas.List.Elements.{All-weaker}
 use Rattle.ledger_check.specs.Ledger.{token_number}
 use Rattle.ledger_check.proofs.TokenOrder.{greater_number}
 use Rattle.settlement.specs.inside.Apart.{AreBelow}
-use Rattle.settlement.proofs.Concats.{by_token_joined}
-use Rattle.settlement.proofs.TokenRuns.{below_same, nothing_billed, one_token_list}
 use Rattle.shard_book.specs.Entry.{reply_of}
 use Rattle.shard_book.specs.Sums.{Sums, add_sums, sums_of_replies}
 use Rattle.shard_book.specs.SumsByKey.{sums_by_token, token_of, validator_of}
@@ -17,6 +15,7 @@ use Rattle.shard_book.specs.TalliesByKey.{AreByKey}
 use Rattle.shard_book.specs.Tally.{sums_of_tally}
 use Rattle.shard_book.specs.declared.entry.Entry.{Entry}
 use Rattle.shard_book.proofs.SumsLemmas.{sums-append, sums-taps}
+use Rattle.shard_book.proofs.SumsByToken.{by_token_joined, no_sums, one_token_list, below_same}
 use Rattle.tap_views.specs.Token.{Fits, token_cmp}
 use Rattle.tap_views.specs.declared.token.Token.{Token}
 use Rattle.tap_views.proofs.TokenLemmas.{token_cmp-total}
@@ -37,7 +36,7 @@ run_of_none entries tokens held fits tally none empty = record {
   below = All-nil (λ (e : Entry). token_cmp e.token held.token ≡ Less);
   its = All-nil (λ (e : Entry). e.token ≡ held.token);
   tally = tally;
-  tokens_are = nothing_billed tokens empty;
+  tokens_are = no_sums tokens empty;
 }
 
 -- the tokens of entries that are below one, as a list
@@ -182,4 +181,4 @@ all_few entries held are = ap (λ (s : Sums). s.taps) are.totals ∙ sums-taps e
 -- the sums of the tokens of no entries
 pub none_closed : (entries : List Entry) (tokens : List (Token × Sums)) → entries ≡ [] → tokens ≡ []
     → tokens ≡ sums_by_token entries
-none_closed entries tokens none empty = nothing_billed tokens empty ∙ ap sums_by_token (sym none)
+none_closed entries tokens none empty = no_sums tokens empty ∙ ap sums_by_token (sym none)

@@ -2,7 +2,7 @@
 use Rattle.std.proofs.Common.{◌≡◌, ℕ, ◌<◌, ◌≤◌, ◌^◌, Bool, true, false, List, [], ◌∷◌, ◌++◌, length, map}
 use Rattle.std.proofs.Common.{Some, None, All, refl, sym, ap, subst, ◌∙◌, arith, append_assoc, append-nil, length-append, ⊎_elim}
 use Rattle.std.specs.Prelude.{MatchBool}
-use Rattle.std.proofs.lemmas.Bool.{cases_Bool}
+use Rattle.std.proofs.lemmas.Bool.{cases_Bool, MatchBool-at_true, MatchBool-at_false}
 use Rattle.std.proofs.lemmas.List.{length-map, map-append}
 use Rattle.std.proofs.lemmas.List.Elements.{All-map}
 use Rattle.fare_table.specs.Fares.{Fares}
@@ -297,13 +297,6 @@ all_added fares sums text made is none are entries ledger =
     (subst (λ (es : List Entry). AreSumsOf es made) (sym (behind.1 entries ledger.are)) are)
 
 -- ---- by whether a ledger may have the lines
-held_true : (A B : Type 0) (test : Bool) → test ≡ true → MatchBool test A B → A
-held_true A B true is held = held
-held_true A B false is held = absurd (cc)
-
-held_false : (A B : Type 0) (test : Bool) → test ≡ false → MatchBool test A B → B
-held_false A B true is held = absurd (cc)
-held_false A B false is held = held
 
 put_true : (A B : Type 0) (test : Bool) → test ≡ true → A → MatchBool test A B
 put_true A B true is held = held
@@ -316,11 +309,11 @@ put_false A B false is held = held
 -- what was read of a text that a ledger may begin with
 pub summed_of : (fares : Fares) (sums : LedgerSums) (text : List ℕ) → sums.lines.may_be ≡ true
     → HasSummed fares sums text → IsSummed fares sums text
-summed_of fares sums text may is = held_true _ _ sums.lines.may_be may is
+summed_of fares sums text may is = MatchBool-at_true _ _ may is
 
 pub none_of : (fares : Fares) (sums : LedgerSums) (text : List ℕ) → sums.lines.may_be ≡ false
     → HasSummed fares sums text → (more : List ℕ) → ¬ (IsLedger fares (text ++ more))
-none_of fares sums text cannot is = held_false _ _ sums.lines.may_be cannot is
+none_of fares sums text cannot is = MatchBool-at_false _ _ cannot is
 
 pub summed_by : (fares : Fares) (sums : LedgerSums) (text : List ℕ) → sums.lines.may_be ≡ true
     → IsSummed fares sums text → HasSummed fares sums text

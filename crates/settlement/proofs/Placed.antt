@@ -1,5 +1,5 @@
 -- Settled files: whose taps are where, and in which order.
-use Rattle.std.proofs.Common.{◌≡◌, suc, ◌<◌, ◌≤◌, ◌==◌, List, ◌∷◌, ◌++◌, []}
+use Rattle.std.proofs.Common.{◌≡◌, suc, ◌<◌, ◌≤◌, ◌==◌, List, ◌∷◌, []}
 use Rattle.std.proofs.Common.{true, false, cond, sym, ap, ◌∙◌}
 use Rattle.std.proofs.Common.{arith, All, inl, inr}
 use Rattle.std.specs.Prelude.{◌⊎◌}
@@ -10,7 +10,6 @@ use Rattle.std.specs.declared.cmp.Ordering.TheVariants.{Less, Equal, Greater}
 use Rattle.std.specs.Cmp.{tied_itself}
 use Rattle.std.proofs.lemmas.Bool.{cases_lt, lt-ltb}
 use Rattle.std.proofs.lemmas.Cmp.{nat_list_cmp_total}
-use Rattle.std.proofs.lemmas.List.Elements.{All-head, All-tail, All-append}
 use Rattle.std.proofs.lemmas.List.Elements.{All-weaker}
 use Rattle.std.proofs.lemmas.List.Sorted.{ranks_by, sorted_far}
 use Rattle.tap_views.specs.declared.encoder.TapFields.{TapFields}
@@ -30,14 +29,6 @@ NotLess a b = is_lt (tap_cmp b a) ≡ false
 -- of one token, the second is not before the first
 abbrev pub Rises : TapFields → TapFields → Type 0
 Rises a b = a.token ≡ b.token → NotLess a b
-
-pub pairs_append : {X : Type 0} (R : X → X → Type 0) (xs ys : List X) → Pairs R xs → Pairs R ys
-    → All (λ x. All (R x) ys) xs → Pairs R (xs ++ ys)
-pairs_append R [] ys one other cross = other
-pairs_append R (x ∷ xs) ys one other cross = (
-  All-append (R x) xs ys one.0 (All-head (λ z. All (R z) ys) x xs cross),
-  pairs_append R xs ys one.1 other (All-tail (λ z. All (R z) ys) x xs cross),
-)
 
 pub no_earlier : (a b : TapFields) → NotLess a b → a.token ≡ b.token → a.moment ≤ b.moment
 no_earlier a b not same = by_order (cases_lt b.moment a.moment)

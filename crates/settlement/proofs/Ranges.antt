@@ -30,11 +30,12 @@ use Rattle.shard_book.specs.declared.entry.Entry.{Entry}
 use Rattle.tap_views.proofs.TokenLemmas.{token_eq-sym, less_apart}
 use Rattle.tap_views.proofs.Lists.{All-unmap}
 use Rattle.shard_book.specs.Plain.{token_of_bytes}
+use Rattle.shard_book.proofs.SumsByToken.{none_of}
 use Rattle.settlement.specs.inside.Apart.{AreBelow, AreOthers}
 use Rattle.settlement.specs.Posted.{HasName, posted, posted_after, token_of_tap}
 use Rattle.settlement.specs.inside.Billing.{ArePartsInOrder}
 use Rattle.settlement.proofs.TokenRuns.{tokens_posted}
-use Rattle.settlement.proofs.Concats.{none_of, posted_apart}
+use Rattle.settlement.proofs.Concats.{posted_apart}
 use Rattle.settlement.proofs.Own.{IsNamedBy}
 
 -- ---- tokens of 16 bytes

@@ -6,11 +6,11 @@ use Rattle.std.proofs.lemmas.Bool.{eqb-true}
 use Rattle.std.proofs.lemmas.List.{get_or_default}
 use Rattle.std.proofs.lemmas.List.Elements.{All-filter, filter_passes}
 use Rattle.std.proofs.lemmas.List.Sorted.{sum_by-IsPermutation}
+use Rattle.std.proofs.lemmas.Slice.Zip.{AllZip-long}
 use Rattle.fare_table.specs.Fares.{Fares}
 use Rattle.tap_views.specs.Encoding.{AreEarly, fields_of}
 use Rattle.tap_views.specs.Layout.{Tap}
 use Rattle.tap_views.specs.declared.encoder.TapFields.{TapFields}
-use Rattle.tap_views.proofs.Lists.{AllZip-length}
 use Rattle.tap_parts.specs.Canonical.{HasTokenBytes, IsCanonical, tap_cmp}
 use Rattle.tap_parts.specs.Parts.{taps_of_uploads}
 use Rattle.tap_parts.specs.Ranges.{range_of_token}
@@ -106,7 +106,7 @@ module _ (uploads : List (List ℕ)) (ends : List UploadEnd) (parts : List (List
   pub whole_order : (lists : List (List TapFields)) → AllZip IsCanonical parts lists
       → IsCanonical (map fields_of good) (flat_map (λ list. list) lists)
   whole_order lists zip =
-      let as_many = AllZip-length IsCanonical parts lists zip in
+      let as_many = sym (AllZip-long IsCanonical parts lists zip) in
       places_are_canonical place_of (ranges_in_order split.bounds) (map fields_of good) split.tokens lists
       (subst (λ n. All (λ tap. place_of tap < n) (map fields_of good)) as_many all_within)
       (λ place inside.

@@ -15,5 +15,6 @@ pub mod SameUnderKeys
 pub mod SoundLemmas
 pub mod SummedLemmas
 pub mod TallyLemmas
+pub mod SumsByToken
 pub mod SumsLemmas
 pub mod WindowsLemmas

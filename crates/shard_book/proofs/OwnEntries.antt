@@ -8,6 +8,7 @@ use Rattle.tap_views.proofs.TokenLemmas.{token_eq-refl}
 use Rattle.shard_book.specs.declared.entry.Entry.{Entry}
 use Rattle.shard_book.specs.Entry.{is_of, own}
 
+-- no entries have none of the token
 pub own_none : (token : Token) → own token [] ≡ []
 unfolding own
 own_none token = refl
@@ -25,6 +26,7 @@ unfolding own
 own_other token entry entries is =
     ap (λ b. cond b (entry ∷ filter (is_of token) entries) (filter (is_of token) entries)) is
 
+-- the token's entries of two lists
 pub own-append : (token : Token) (xs ys : List Entry)
     → own token (xs ++ ys) ≡ own token xs ++ own token ys
 unfolding own
@@ -36,7 +38,8 @@ pub own_all : (token : Token) (entries : List Entry) → All (λ entry. entry.to
 own_all token [] all = own_none token
 own_all token (entry ∷ entries) all =
     let here : token_eq entry.token token ≡ true =
-    ap (λ (t : Token). token_eq t token) (All-head (λ (e : Entry). e.token ≡ token) entry entries all)
+    ap (λ (t : Token). token_eq t token)
+    (All-head (λ (e : Entry). e.token ≡ token) entry entries all)
     ∙ token_eq-refl token in
     own_same token entry entries here
     ∙ ap (λ (es : List Entry). entry ∷ es)

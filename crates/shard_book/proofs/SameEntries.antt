@@ -1,7 +1,5 @@
 -- Histories with the same entries of each token have the same sums, in all and by key.
-use Rattle.std.specs.Prelude.{ℕ, ◌≡◌, ◌↔◌, cond, List}
-use Rattle.std.specs.Prelude.{map, filter}
-use Rattle.std.specs.Prelude.{IsPermutation}
+use Rattle.std.specs.Prelude.{ℕ, ◌≡◌, ◌↔◌, cond, List, map, filter, IsPermutation}
 use Rattle.std.specs.Ordering.{eq_by_cmp, nat_cmp}
 use Rattle.std.specs.declared.cmp.Ordering.{Ordering}
 use Rattle.std.proofs.Common.{refl, sym, ◌∙◌, ap}
@@ -11,8 +9,8 @@ use Rattle.account_rule.specs.declared.reply.Reply.{Reply}
 use Rattle.shard_book.specs.declared.entry.Entry.{Entry}
 use Rattle.tap_views.specs.declared.token.Token.{Token}
 use Rattle.shard_book.specs.Entry.{is_of, is_at, own, reply_of}
-use Rattle.shard_book.specs.SumsByKey.{entries_of_validator, validators, tokens, sums_by_validator, sums_by_token}
-use Rattle.shard_book.specs.SumsByKey.{validator_of, token_of}
+use Rattle.shard_book.specs.SumsByKey.{entries_of_validator, validators, tokens, sums_by_validator}
+use Rattle.shard_book.specs.SumsByKey.{sums_by_token, validator_of, token_of}
 use Rattle.shard_book.specs.Keys.{same_token}
 use Rattle.shard_book.specs.Rising.{rising, IsRising}
 use Rattle.shard_book.specs.Sums.{sums, sums_of_replies, is_paid, is_transfer, is_capped, is_stale}
@@ -62,6 +60,7 @@ unfolding own
 same_entries xs ys same =
     same_elements (λ (entry : Entry). entry.token) token_eq token_eq-refl same_token xs ys same
 
+-- so have those of one validator
 pub same_at : (validator : ℕ) (xs ys : List Entry) → ((token : Token) → own token xs ≡ own token ys)
     → (token : Token)
     → own token (entries_of_validator validator xs) ≡ own token (entries_of_validator validator ys)
@@ -70,15 +69,18 @@ same_at validator xs ys same token =
     filter-filter (is_of token) (is_at validator) xs ∙ ap (filter (is_at validator)) (same token)
     ∙ sym (filter-filter (is_of token) (is_at validator) ys)
 
+-- numbers rise to one list
 abbrev pub RisingNumbers : Type 0
 RisingNumbers = (keys risen : List ℕ) → IsRising nat_cmp keys risen ↔ (risen ≡ rising nat_cmp keys)
 
+-- tokens rise to one list
 abbrev pub RisingTokens : Type 0
 RisingTokens = (keys risen : List Token) → IsRising token_cmp keys risen
     ↔ (risen ≡ rising token_cmp keys)
 
 module _ (numbers : RisingNumbers) (names : RisingTokens) (xs ys : List Entry)
     (same : (token : Token) → own token xs ≡ own token ys) where
+  -- the sums by validator are the same
   pub same_by_validator : sums_by_validator xs ≡ sums_by_validator ys
   unfolding sums_by_validator validators
   same_by_validator =
@@ -86,10 +88,12 @@ module _ (numbers : RisingNumbers) (names : RisingTokens) (xs ys : List Entry)
       (IsPermutation-map validator_of xs ys (same_entries xs ys same)) in
       let each : (v : ℕ) → sums (entries_of_validator v xs) ≡ sums (entries_of_validator v ys) =
       λ v. same_sums (entries_of_validator v xs) (entries_of_validator v ys)
-      (same_entries (entries_of_validator v xs) (entries_of_validator v ys) (same_at v xs ys same)) in
+      (same_entries (entries_of_validator v xs) (entries_of_validator v ys)
+      (same_at v xs ys same)) in
       ap (map (λ (v : ℕ). (v, sums (entries_of_validator v xs)))) keys
       ∙ (λ i. map (λ (v : ℕ). (v, each v i)) (rising nat_cmp (map validator_of ys)))
 
+  -- the sums by token are the same
   pub same_by_token : sums_by_token xs ≡ sums_by_token ys
   unfolding sums_by_token tokens
   same_by_token =

@@ -1,5 +1,5 @@
 -- Each step of drawing keeps its rule.
-use Rattle.std.proofs.Common.{◌≡◌, ℕ, ◌+◌, ◌<◌, ◌≤◌, ◌≢◌, zero, suc, eqb, true, false, length, List, [], ◌∷◌, ◌++◌, set, get_or, refl, sym, ap, ◌∙◌, subst, arith, inl, inr, ⊎_elim, max, length-set, get_or-set_same, lt_of_not-le, true≢false}
+use Rattle.std.proofs.Common.{◌≡◌, ℕ, ◌+◌, ◌<◌, ◌≤◌, ◌≢◌, eqb, true, length, List, [], ◌∷◌, ◌++◌, set, get_or, refl, sym, ap, ◌∙◌, subst, arith, ⊎_elim, max, length-set, get_or-set_same, lt_of_not-le, true≢false}
 use Rattle.std.proofs.lemmas.List.{set-get_or}
 use Rattle.std.proofs.lemmas.List.Sums.{sum_by-append}
 use mathlib.Core.Option.{some, none, some-ne-none, some-injective}
@@ -7,13 +7,13 @@ use mathlib.Core.Logic.{dite}
 use native.Mathlib.Decide.{ℕ_discrete, dec_le}
 use prog.Atomic.{either}
 use lib.ListN.{get_elem?}
-use Rattle.atomic_table.specs.Table.{State, Me, step, keeps, Allows, Splits, Joins, opening, Seen, Final}
-use Rattle.atomic_table.proofs.Lists.{at_set, at_snoc, set_again, set_else, exchanged}
+use Rattle.atomic_table.specs.Table.{State, Me, step, keeps, Allows, Splits, Joins, Seen, Final}
+use Rattle.atomic_table.proofs.Lists.{at_set, at_snoc, set_else, exchanged}
 use Rattle.shared_books.specs.declared.drawing.rule.DrawerState.{DrawerState}
 use Rattle.shared_books.specs.Claims.{all_claims}
 use Rattle.shared_books.specs.Drawing.{times, NoneTwice, AllBelow, HasAll}
 use Rattle.shared_books.specs.inside.Drawing.{IsSpentDrawer, times_drawn, IsDrawn}
-use Rattle.shared_books.specs.inside.DrawerStates.{drawer_state, empty_drawer_state, left_drawer_state, new_drawer_state, spent_drawer_state, both_drawer_states, HasTried, HasLooked}
+use Rattle.shared_books.specs.inside.DrawerStates.{drawer_state, left_drawer_state, new_drawer_state, spent_drawer_state, both_drawer_states, HasTried, HasLooked}
 use Rattle.shared_books.proofs.Changed.{sum_set, sum_part, sum_only}
 use Rattle.shared_books.proofs.ClaimSteps.{claims_set, claims_split, claims_join, claims_most, others_spent}
 use Rattle.shared_books.proofs.Numbers.{times-append, times-same, times-other, as_many}
@@ -62,24 +62,6 @@ drawn_next n s j h r at unjoined lt =
           (λ (t : (i ≢ j) × (get_elem? s.views i ≡ some v)). let p = r.each i v t.1 l in (p.0, rw word (omega (arith, p.1)))) (at_set s.views j i w v e);
       claims = claims_set (λ u. u.claims) IsSpentDrawer s.views j h w at refl (acts h unjoined) r.claims;
     }
-
-pub opens : (n : ℕ) → IsDrawn n (opening (0 ∷ []) [] (empty_drawer_state all_claims n 0))
-opens n = record {
-  one_word = refl;
-  within = omega arith;
-  once = λ x lt. absurd (omega arith);
-  no_other = λ x ge. refl;
-  each = λ j h e l. go j h e;
-  claims = inr (refl, λ j h e gone. absurd (some_claim j h e gone));
-}
-  where
-    some_claim : (j : ℕ) (h : DrawerState) → get_elem? (empty_drawer_state all_claims n 0 ∷ []) j ≡ some h → h.claims ≡ 0 → ⊥
-    some_claim zero h e gone = let same = ap (λ (u : DrawerState). u.claims) (some-injective _ h e) in omega arith
-    some_claim (suc j) h e gone = some-ne-none h (sym e)
-
-    go : (j : ℕ) (h : DrawerState) → get_elem? (empty_drawer_state all_claims n 0 ∷ []) j ≡ some h → (h.numbers ≡ n) × (h.seen ≤ 0)
-    go zero h e = subst (λ (u : DrawerState). (u.numbers ≡ n) × (u.seen ≤ 0)) (some-injective _ h e) (refl, omega arith)
-    go (suc j) h e = absurd (some-ne-none h (sym e))
 
 -- a try to draw the number that the drawer saw last
 pub draws : (n slots id : ℕ) (me : Me (Unit {0}) DrawerState) (old : ℕ) → me.0.unjoined ≡ true → me.0.seen ≡ old → old < me.0.numbers
@@ -202,14 +184,6 @@ ends n id h ws xs count f at unjoined =
       claims_most (λ u. u.claims) IsSpentDrawer s.views id h f.1.1 r.claims,
       λ whole. as_many count h.drawn below (subst (λ k. HasAll k h.drawn) here (drew_all n s id h r f.1.1 whole)),
     )
-  where
-    first : (us : List ℕ) (k : ℕ) → get_elem? us 0 ≡ some k → get_or us 0 0 ≡ k
-    first [] k e = absurd (some-ne-none k (sym e))
-    first (u ∷ us) k e = some-injective u k e
-
--- and without one
-pub ends_unseen : (n : ℕ) (ws : List ℕ) (xs : List (Unit {0})) (count : ℕ) → Final (IsDrawn n) ws xs → get_elem? ws 0 ≡ some count → count ≤ n
-ends_unseen n ws xs count f at = subst (λ k. k ≤ n) (ap (λ us. get_or us 0 0) f.2 ∙ first ws count at) f.1.within
   where
     first : (us : List ℕ) (k : ℕ) → get_elem? us 0 ≡ some k → get_or us 0 0 ≡ k
     first [] k e = absurd (some-ne-none k (sym e))

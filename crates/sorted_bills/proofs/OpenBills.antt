@@ -19,15 +19,16 @@ use Rattle.shard_book.specs.Tally.{sums_of_tally}
 use Rattle.shard_book.specs.declared.sums.tally.Tally.{Tally}
 use Rattle.shard_book.proofs.SumsLemmas.{sums-append, sums-taps}
 use Rattle.shard_book.specs.declared.entry.Entry.{Entry}
+use Rattle.shard_book.proofs.SumsByToken.{by_token_joined, one_token_list, below_same}
 use Rattle.fare_texts.specs.Lines.{IsUpTo}
 use Rattle.settlement.specs.Posted.{posted, posted_after, token_of_tap, unposted}
 use Rattle.settlement.specs.Bills.{IsBillOf}
 use Rattle.settlement.specs.Replays.{HasPosted}
 use Rattle.settlement.specs.declared.bill.Bill.{Bill}
 use Rattle.settlement.specs.inside.Apart.{AreBelow}
-use Rattle.settlement.proofs.Concats.{by_token_joined, posted_append}
+use Rattle.settlement.proofs.Concats.{posted_append}
 use Rattle.settlement.proofs.Ranges.{posted_below}
-use Rattle.settlement.proofs.TokenRuns.{below_same, one_token_list, posted_length, tokens_are}
+use Rattle.settlement.proofs.TokenRuns.{posted_length, tokens_are}
 use Rattle.settlement.proofs.TokenRuns.{tokens_posted, up_apart}
 use Rattle.tap_views.proofs.TokenLemmas.{token_cmp-total}
 use Rattle.sorted_bills.specs.declared.open_bill.OpenBill.{OpenBill}

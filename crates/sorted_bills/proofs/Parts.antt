@@ -57,10 +57,8 @@ below_bound taps others last first up less from =
     All-map P token_of_tap taps
     (All-weaker (UpTo last) (λ (tap : TapFields). P (token_of_tap tap)) (λ (tap : TapFields) below.
     All-map (λ o. token_cmp (token_of_tap tap) o ≡ Less) token_of_tap others
-    (all_map (From first) (λ (other : TapFields). token_cmp (token_of_tap tap) (token_of_tap other) ≡ Less)
-    others
-    (λ (other : TapFields) above. less_up (token_of_tap tap) first (token_of_tap other)
-    (up_less (token_of_tap tap) last first below less) above) from)) taps up)
+    (All-weaker (From first) (λ (other : TapFields). token_cmp (token_of_tap tap) (token_of_tap other) ≡ Less) (λ (other : TapFields) above. less_up (token_of_tap tap) first (token_of_tap other)
+    (up_less (token_of_tap tap) last first below less) above) others from)) taps up)
 
 -- no tap of both is above the last token
 pub up_to_next : (taps others : List TapFields) (last first next : Token) → All (UpTo last) taps

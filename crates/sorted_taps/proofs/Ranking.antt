@@ -162,41 +162,6 @@ pub record HasLeavesBelow (readers : List TapReader) (tree : List Head) (below :
       → (get_or tree (length readers + k) d).tap ≡ head_of (get_or readers k e)
   pub at : (k : ℕ) (d : Head) → k < below → (get_or tree (length readers + k) d).at ≡ k
 
--- one head more
-pub one_leaf_more : (readers : List TapReader) (tree : List Head) (below : ℕ) (reader : TapReader)
-    (head : Head) → HasLeavesBelow readers tree below → below < length readers
-    → reader ≡ get_or readers below reader → head.tap ≡ head_of reader → head.at ≡ below
-    → HasLeavesBelow readers (set tree (length readers + below) head) (below + 1)
-one_leaf_more readers tree below reader head has low there tap number = record {
-  size = length-set tree (length readers + below) head ∙ has.size;
-  tap = λ k d e within. by_tap k d e (cases_lt k below) within;
-  at = λ k d within. by_at k d (cases_lt k below) within;
-}
-  where
-    room : length readers + below < length tree
-    room = let size = has.size in omega (arith, size, low)
-
-    by_tap : (k : ℕ) (d : Head) (e : TapReader) → (k < below) ⊎ (below ≤ k) → k < below + 1
-        → (get_or (set tree (length readers + below) head) (length readers + k) d).tap ≡ head_of (get_or readers k e)
-    by_tap k d e (inl less) within =
-        ap (λ (h : Head). h.tap) (get_or-set_other tree (length readers + below) (length readers + k)
-        head d (λ e. absurd (omega (arith, e, less)))) ∙ has.tap k d e less
-    by_tap k d e (inr last) within =
-        let same : below ≡ k = omega (arith, last, within) in
-        subst (λ j. (get_or (set tree (length readers + below) head) (length readers + j) d).tap ≡ head_of (get_or readers j e)) same
-        (ap (λ (h : Head). h.tap) (get_or-set_same tree (length readers + below) head d room) ∙ tap
-        ∙ ap head_of (there ∙ get_or_default readers below reader e low))
-
-    by_at : (k : ℕ) (d : Head) → (k < below) ⊎ (below ≤ k) → k < below + 1
-        → (get_or (set tree (length readers + below) head) (length readers + k) d).at ≡ k
-    by_at k d (inl less) within =
-        ap (λ (h : Head). h.at) (get_or-set_other tree (length readers + below) (length readers + k)
-        head d (λ e. absurd (omega (arith, e, less)))) ∙ has.at k d less
-    by_at k d (inr last) within =
-        let same : below ≡ k = omega (arith, last, within) in
-        subst (λ j. (get_or (set tree (length readers + below) head) (length readers + j) d).at ≡ j) same
-        (ap (λ (h : Head). h.at) (get_or-set_same tree (length readers + below) head d room) ∙ number)
-
 -- each place of the first half, from 1 on, has the one chosen of two, but for the place above this
 abbrev pub AreChosenBut : ℕ → List Head → ℕ → Type 0
 AreChosenBut n tree last =

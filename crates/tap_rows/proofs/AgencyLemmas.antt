@@ -8,7 +8,7 @@ use Rattle.std.proofs.lemmas.List.Elements.{Contains-append_left, Contains-appen
 use Rattle.std.proofs.lemmas.List.Sums.{sum_by-append}
 use Rattle.tap_views.specs.Facts.{IsSpan, IsWithin}
 use Rattle.tap_views.specs.declared.span.MomentSpan.{MomentSpan}
-use Rattle.tap_rows.specs.Agencies.{IsSummary, Refusal, first_refusal, left_out_in, left_out_of, refusal_of, refusals, refusals_from, refusals_text, refusal_text, refusals_head, tap_of, taps_in, IsAgencyFault}
+use Rattle.tap_rows.specs.Agencies.{IsSummary, Refusal, first_refusal, left_out_in, left_out_of, refusal_of, refusals, refusals_from, refusals_text, refusal_text, refusals_head, tap_of, taps_in}
 use Rattle.tap_rows.specs.AgencyRows.{IsReadingOf}
 use Rattle.tap_rows.specs.declared.agency.choice.Choice.{Choice}
 use Rattle.tap_rows.specs.declared.agency.choice.Separator.{Separator}
@@ -18,17 +18,8 @@ use Rattle.tap_rows.specs.declared.agency.reading.Reason.{Reason}
 use Rattle.tap_rows.specs.declared.agency.summary.Summary.{Summary}
 use Rattle.tap_rows.specs.declared.agency.fault.AgencyFault.{AgencyFault}
 use Rattle.tap_rows.specs.declared.agency.fault.AgencyFault.TheVariants as fault
-use Rattle.tap_rows.specs.inside.Goings.{IsOfSystem}
 
 -- ---- faults
-pub of_system : (choice : Choice) (text : List ℕ) (f : AgencyFault) → IsOfSystem f → IsAgencyFault choice text f
-of_system choice text (fault.Column wanted) is = absurd is
-of_system choice text (fault.Row number reason) is = absurd is
-of_system choice text fault.Changed is = absurd is
-of_system choice text fault.Unread is = tt
-of_system choice text fault.Write is = tt
-of_system choice text fault.RefusedWrite is = tt
-of_system choice text fault.NoMemory is = tt
 
 -- ---- one row more
 pub readings_more : (choice : Choice) (head : List (List ℕ)) (rows : List (List (List ℕ))) (readings : List Reading) (row : List (List ℕ)) (reading : Reading)

@@ -42,14 +42,3 @@ with_offset text (Some number) clock offset is = inr (record { clock = clock; of
 pub no_local_time : (text : List ℕ) (number : ℕ) → HasClock text → ¬ (HasOffset text) → ¬ (IsAgencyTime text number)
 no_local_time text number clock none (inl is) = no_decimal text number clock is
 no_local_time text number clock none (inr is) = none is.offset
-
--- and of one without a clock's marks
-pub without_clock : (text : List ℕ) (found : Option ℕ) → ¬ (HasClock text)
-    → MatchOption found ((number : ℕ) → number < 2 ^ 64 → ¬ (IsDecimal text number)) (λ number. IsDecimal text number)
-    → MatchOption found ((number : ℕ) → number < 2 ^ 64 → ¬ (IsAgencyTime text number)) (λ number. IsAgencyTime text number)
-without_clock text None no_clock none = no_time
-  where
-    no_time : (number : ℕ) → number < 2 ^ 64 → ¬ (IsAgencyTime text number)
-    no_time number small (inl is) = none number small is
-    no_time number small (inr is) = no_clock is.clock
-without_clock text (Some number) no_clock is = inl is

@@ -76,12 +76,6 @@ places_more head only places more k d place all within pushed is =
     (subst (λ cs. AllZip (IsPlaceOf head) cs (places ++ place ∷ [])) (sym (take_more only k d within))
     (zip_more (IsPlaceOf head) (take k only) places (slice_index_or only k d) place all is))
 
--- the condition whose column the head has not
-pub wanting_there : (choice : Choice) (head : List (List ℕ)) (k : ℕ) (d : Condition) → k < length choice.only.now → HasNoColumn head (slice_index_or choice.only.now k d).column.now
-    → IsWanting choice head (wanted.Only k)
-wanting_there choice head k d within none =
-    subst (λ o. IsSomeAnd o (λ condition. HasNoColumn head condition.column.now)) (sym (slice_get-get_or choice.only.now k d within)) none
-
 -- what a search of the whole head has found
 pub column_found : (head : List (List ℕ)) (name : List ℕ) (end : ℕ) (found : Option ℕ) → length head ≤ end
     → MatchOption found ((k : ℕ) → k < end → ¬ (field_at head k ≡ Some name))

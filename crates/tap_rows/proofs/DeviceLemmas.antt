@@ -1,6 +1,6 @@
 -- The devices of a table, and the rows that give them.
 use Rattle.std.proofs.Common.{◌≡◌, ℕ, ◌+◌, Bool, true, false, cond, List, [], ◌∷◌, ◌++◌, length, Option, None, Some, inl, inr, refl, sym, ap, subst, ◌∙◌, arith, length-append, eqb-true}
-use Rattle.std.specs.Prelude.{Result, Ok, Err, IfOk, IfErr, map, codes, is_some, nat_eq, ◌||◌}
+use Rattle.std.specs.Prelude.{map, codes, is_some, nat_eq, ◌||◌}
 use Rattle.std.specs.Cmp.Lexicographic.{nat_list_eq_equiv}
 use Rattle.std.specs.List.{IsDistinct, list_any}
 use Rattle.std.specs.Map.{keys_of, lookup}
@@ -13,12 +13,11 @@ use Rattle.csv.specs.Records.{field_at}
 use Rattle.csv.specs.declared.parser.State.TheVariants.{StartRecord}
 use Rattle.csv.specs.declared.reader.Reader.{Reader}
 use Rattle.tap_rows.specs.AgencyTexts.{HasRecords, config_of, fields_read, first_record}
-use Rattle.tap_rows.specs.Devices.{AreDevices, AreDevicesBy, Device, HasDeviceHead, IsDeviceRow, IsDevicesFault, device_head, devices_of, validator_of}
+use Rattle.tap_rows.specs.Devices.{AreDevices, AreDevicesBy, Device, HasDeviceHead, IsDeviceRow, IsDevicesFault, device_head, validator_of}
 use Rattle.tap_rows.specs.declared.agency.choice.Separator.{Separator}
 use Rattle.tap_rows.specs.declared.agency.choice.Separator.TheVariants.{Comma}
 use Rattle.tap_rows.specs.declared.devices.fault.DevicesFault.{DevicesFault}
 use Rattle.tap_rows.specs.declared.devices.fault.DevicesFault.TheVariants as fault
-use Rattle.tap_rows.specs.declared.devices.table.DeviceTable.{DeviceTable}
 use Rattle.tap_rows.specs.inside.DeviceRows.{HasDevices, IsFaultBy, IsHeadRow, IsRowFault}
 use Rattle.tap_rows.specs.inside.RecordReaders.{HasCome}
 use Rattle.tap_rows.proofs.AgencyRowLemmas.{zip_more}
@@ -119,16 +118,6 @@ devices_more remaining separator text count reader after old new row device has 
   number = omega (arith, has.number, length-append has.rows (row ∷ []));
 })
 
-pub devices_end : {R : Type 0} (remaining : R → Option (List ℕ)) (separator : Separator) (text : List ℕ) (count : ℕ) (reader : Reader R) (devices : List Device)
-    → HasDevices remaining separator text count reader devices → ((rows : List (List (List ℕ))) → HasCome remaining separator text rows reader → HasRecords separator text rows)
-    → AreDevicesBy separator text devices
-devices_end remaining separator text count reader devices has end = record {
-  rows = has.rows;
-  records = end (device_head ∷ has.rows) has.come;
-  each = has.each;
-  once = has.once;
-}
-
 -- a row that was not added is the first that is wrong
 pub row_fault : {R : Type 0} (remaining : R → Option (List ℕ)) (separator : Separator) (text : List ℕ) (count number : ℕ) (reader after : Reader R) (devices : List Device) (row : List (List ℕ)) (f : DevicesFault)
     → HasDevices remaining separator text count reader devices
@@ -161,14 +150,3 @@ own_fault separator text fault.Head other is = absurd (other refl)
 own_fault separator text (fault.Row number why) other is =
     (separator, inl (sym (head_is separator text device_head (is.before ++ is.row ∷ []) is.records.state is.records.left is.records.reached), refl), is)
 own_fault separator text fault.NoMemory other is = tt
-
-pub comma_fault : (separator : Separator) (text : List ℕ) (f : DevicesFault) → ¬ (HasDeviceHead separator text) → IsFaultBy Comma text f → IsDevicesFault separator text f
-comma_fault separator text fault.Head none is = (none, is)
-comma_fault separator text (fault.Row number why) none is = (Comma, inr (none, refl), is)
-comma_fault separator text fault.NoMemory none is = tt
-
--- a text whose head has not the names by its own separator is read with commas
-pub by_comma : (separator : Separator) (text : List ℕ) (made : Result DeviceTable DevicesFault) → ¬ (HasDeviceHead separator text) → IfOk made (λ table. AreDevicesBy Comma text (devices_of table))
-    → IfErr made (IsFaultBy Comma text) → IfOk made (λ table. AreDevices separator text (devices_of table)) × IfErr made (IsDevicesFault separator text)
-by_comma separator text (Ok table) none are is = (comma_devices separator text (devices_of table) none are, tt)
-by_comma separator text (Err f) none are is = (tt, comma_fault separator text f none is)

@@ -41,14 +41,3 @@ from_instant text None marks none = no_time
     no_time number small (inl is) = no_number text number marks is
     no_time number small (inr is) = none number small is.instant
 from_instant text (Some number) marks is = inr (record { punctuation = marks; instant = is })
-
--- and of one without them
-pub from_number : (text : List ℕ) (found : Option ℕ) → ¬ (HasUtcPunctuation text)
-    → MatchOption found ((number : ℕ) → number < 2 ^ 64 → ¬ (IsDecimal text number)) (λ number. IsDecimal text number)
-    → MatchOption found ((number : ℕ) → number < 2 ^ 64 → ¬ (IsTime text number)) (λ number. IsTime text number)
-from_number text None marks none = no_time
-  where
-    no_time : (number : ℕ) → number < 2 ^ 64 → ¬ (IsTime text number)
-    no_time number small (inl is) = none number small is
-    no_time number small (inr is) = marks is.punctuation
-from_number text (Some number) marks is = inl is

@@ -4,14 +4,11 @@ use Rattle.std.proofs.Common.{refl, sym, subst}
 use Rattle.std.specs.Prelude.{IfErr, IsErrAnd, MatchOption, OnErr}
 use Rattle.std.proofs.lemmas.Bool.{false≢true}
 
+-- of two tests the order is free
 pub or_swap : (a b c : Bool) → (a || (b || c)) ≡ (b || (a || c))
 or_swap true true c = refl
 or_swap true false c = refl
 or_swap false b c = refl
-
-pub or_twice : (a b : Bool) → (a || b) ≡ (a || (a || b))
-or_twice true b = refl
-or_twice false b = refl
 
 -- of two choices that exclude each other the order is free
 pub cond_swap : {A : Type 0} (a b : Bool) (x y z : A) → (a ≡ true → b ≡ false)

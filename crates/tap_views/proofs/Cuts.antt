@@ -8,8 +8,7 @@ use Rattle.std.proofs.lemmas.List.{take-take, drop-drop, drop-take, take_all}
 use Rattle.std.specs.List.{AllByRecursion}
 use Rattle.tap_views.specs.Layout.{Tap, IsTap, Layout}
 use Rattle.tap_views.specs.Faults.{width}
-use Rattle.tap_views.specs.inside.Records.{first_records}
-use Rattle.tap_views.specs.inside.Records.{taps_in, tap_at, AreRecords}
+use Rattle.tap_views.specs.inside.Records.{first_records, taps_in, tap_at, AreRecords}
 use Rattle.tap_views.proofs.Lists.{each-back, each-front}
 
 module _ (w : ℕ) (tap_of : List ℕ → Tap) where

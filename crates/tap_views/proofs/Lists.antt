@@ -1,12 +1,11 @@
 -- What holds of each element of a list holds of its parts; and one filter after another.
-use Rattle.std.proofs.Common.{◌≡◌, ℕ, ◌==◌, Bool, true, false, List, [], ◌∷◌, ◌++◌, length, map, All}
-use Rattle.std.proofs.Common.{refl, sym, ap, ◌∙◌, append-nil, ◌+◌, Some, slice_get, take}
+use Rattle.std.proofs.Common.{◌≡◌, ℕ, ◌==◌, Bool, true, false, List, [], ◌∷◌, ◌++◌, length, map}
+use Rattle.std.proofs.Common.{All, refl, sym, ap, ◌∙◌, append-nil, ◌+◌, Some, slice_get, take}
 use Rattle.std.specs.List.{AllByRecursion, filter, AllZip}
 use Rattle.std.proofs.lemmas.Bool.{eqb-true}
 use Rattle.std.proofs.lemmas.List.{nil_from_length, take_more}
 use Rattle.std.proofs.lemmas.List.Elements.{All-cons, All-head, All-nil, All-tail}
 use Rattle.std.proofs.lemmas.Option.{get_or_from_slice_get, slice_get_within}
-use Rattle.std.proofs.lemmas.Slice.Zip.{AllZip-long}
 
 -- ---- of two lists, one behind the other
 pub All-front : {X : Type 0} (P : X → Type 0) (xs ys : List X) → All P (xs ++ ys) → All P xs
@@ -14,10 +13,12 @@ All-front P [] ys all = All-nil P
 All-front P (x ∷ xs) ys all =
     All-cons P x xs (All-head P x (xs ++ ys) all) (All-front P xs ys (All-tail P x (xs ++ ys) all))
 
+-- what holds of both lists holds of the second
 pub All-back : {X : Type 0} (P : X → Type 0) (xs ys : List X) → All P (xs ++ ys) → All P ys
 All-back P [] ys all = all
 All-back P (x ∷ xs) ys all = All-back P xs ys (All-tail P x (xs ++ ys) all)
 
+-- what holds of both lists holds of each
 pub All-split : {X : Type 0} (P : X → Type 0) (xs ys : List X) → All P (xs ++ ys)
     → All P xs × All P ys
 All-split P xs ys all = (All-front P xs ys all, All-back P xs ys all)
@@ -30,11 +31,7 @@ All-unmap P f (x ∷ xs) all =
     All-cons (λ x. P (f x)) x xs (All-head P (f x) (map f xs) all)
     (All-unmap P f xs (All-tail P (f x) (map f xs) all))
 
--- lists whose elements are related place by place are of one length
-pub AllZip-length : {A B : Type 0} (R : A → B → Type 0) (xs : List A) (ys : List B)
-    → AllZip R xs ys → length xs ≡ length ys
-AllZip-length R xs ys zip = sym (AllZip-long R xs ys zip)
-
+-- lists that are related place by place, joined
 pub AllZip-append : {A B : Type 0} (R : A → B → Type 0) (xs : List A) (ys : List B) (us : List A)
     (vs : List B) → AllZip R xs ys → AllZip R us vs → AllZip R (xs ++ us) (ys ++ vs)
 AllZip-append R [] [] us vs one other = other
@@ -54,11 +51,13 @@ pub each-front : {X : Type 0} (P : X → Type 0) (xs ys : List X) → AllByRecur
 each-front P [] ys each = tt
 each-front P (x ∷ xs) ys each = (each.0, each-front P xs ys each.1)
 
+-- what holds of both lists holds of the second
 pub each-back : {X : Type 0} (P : X → Type 0) (xs ys : List X) → AllByRecursion P (xs ++ ys)
     → AllByRecursion P ys
 each-back P [] ys each = each
 each-back P (x ∷ xs) ys each = each-back P xs ys each.1
 
+-- what holds of each element gives what follows from it
 pub each-weaker : {X : Type 0} (P Q : X → Type 0) (xs : List X) → ((x : X) → P x → Q x)
     → AllByRecursion P xs → AllByRecursion Q xs
 each-weaker P Q [] weaker each = tt

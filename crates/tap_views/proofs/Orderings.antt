@@ -10,12 +10,15 @@ use Rattle.std.proofs.lemmas.Bool.{false≢true}
 pub less : (a b : ℕ) → a < b → nat_cmp a b ≡ Less
 less a b h = grind (arith, nat_tests)
 
+-- the same number
 pub equal : (a b : ℕ) → a ≡ b → nat_cmp a b ≡ Equal
 equal a b h = grind (arith, nat_tests)
 
+-- the second number is less
 pub greater : (a b : ℕ) → b < a → nat_cmp a b ≡ Greater
 greater a b h = grind (arith, nat_tests)
 
+-- an order that tests as less
 pub less_of : (r : Ordering) → is_lt r ≡ true → r ≡ Less
 less_of Less is = refl
 less_of Equal is = absurd (false≢true is)
@@ -27,11 +30,13 @@ first_equal Less s e = e
 first_equal Equal s e = refl
 first_equal Greater s e = e
 
+-- if both tie, the second ties
 pub then_equal : (r s : Ordering) → ordering_then r s ≡ Equal → s ≡ Equal
 then_equal Less s e = absurd (let h : Less ≡ Equal = e in cc)
 then_equal Equal s e = e
 then_equal Greater s e = absurd (let h : Greater ≡ Equal = e in cc)
 
+-- if both, one after the other, are not less, the first is not
 pub first_not_less : (r s : Ordering) → is_lt (ordering_then r s) ≡ false → is_lt r ≡ false
 first_not_less Less s not = not
 first_not_less Equal s not = refl

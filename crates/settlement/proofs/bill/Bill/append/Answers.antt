@@ -5,8 +5,8 @@ use Rattle.shard_book.specs.SumsByKey.{sums_by_token}
 use Rattle.shard_book.specs.TalliesByKey.{HaveRoom}
 use Rattle.shard_book.specs.Tally.{sums_of_tally}
 use Rattle.shard_book.proofs.SumsLemmas.{sums-append, sums-taps}
+use Rattle.shard_book.proofs.SumsByToken.{by_token_joined}
 use Rattle.settlement.specs.inside.Billing.{HaveBillRoom}
-use Rattle.settlement.proofs.Concats.{by_token_joined}
 use Rattle.settlement.proofs.bill.Bill.append.Goals as goal
 
 pub add_all-requires : goal.add_all-requires

@@ -1,4 +1,5 @@
-use Rattle.std.proofs.Common.{◌≡◌, ◌∙◌, ◌++◌, ◌∷◌, [], List, ℕ, ap, append-nil, map, string_bytes, sym}
+use Rattle.std.proofs.Common.{◌≡◌, ◌∙◌, ◌++◌, ◌∷◌, [], List, ℕ, ap, append-nil, map, string_bytes}
+use Rattle.std.proofs.Common.{sym}
 use Rattle.toml.specs.Data.{Members, member}
 use Rattle.toml.specs.View.{members_view, view}
 use Rattle.fare_table.proofs.NameLemmas.{names_push, ordered_view}
