@@ -183,7 +183,7 @@ length_sum (x ∷ xs) = omega (arith, length_sum xs, sum_by-cons (λ y. 1) x xs)
 same_sums : (xs ys : List Entry) → ((f : Entry → ℕ) → sum_by f xs ≡ sum_by f ys) → sums xs ≡ sums ys
 unfolding sums_of_replies
 same_sums xs ys same =
-    same_seven _ _ _ _ _ _ _ _ _ _ _ _ _ _
+    same_seven
     (length_sum (map reply_of xs) ∙ each (λ r. 1) ∙ sym (length_sum (map reply_of ys)))
     (each (λ r. cond (is_paid r.answer) 1 0))
     (each (λ r. cond (is_transfer r.answer) 1 0))
@@ -312,7 +312,7 @@ pub from_nothing : (none s : Sums) → none ≡ sums_of_replies [] → add_sums 
 unfolding sums_of_replies
 from_nothing none s is =
     ap (λ n. add_sums n s) is
-    ∙ same_seven _ _ _ _ _ _ _ _ _ _ _ _ _ _ (zero_add s.taps) (zero_add s.paid) (zero_add s.transfers) (zero_add s.capped) (zero_add s.stale) (zero_add s.unknown) (zero_add s.cents)
+    ∙ same_seven (zero_add s.taps) (zero_add s.paid) (zero_add s.transfers) (zero_add s.capped) (zero_add s.stale) (zero_add s.unknown) (zero_add s.cents)
 
 -- the totals of the shares are those of the books that were closed with them
 pub shares_add_up : (service : ServiceView) → IsService service → (shares : List ShareView) → All (IsShareOf service) shares → (closed : List Book) → IsClosedWork service.books shares closed

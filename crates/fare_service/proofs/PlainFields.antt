@@ -18,9 +18,11 @@ use Rattle.fare_service.specs.Plain.{IsPlain}
 use Rattle.shard_book.specs.Plain.{answered, unanswered, plain_after, token_of_bytes}
 use Rattle.fare_service.proofs.PlainRuns.{IsName}
 
+-- each is a byte
 abbrev pub AreBytes : List ℕ → Type 0
 AreBytes bytes = All (λ byte. byte < 256) bytes
 
+-- the byte at a place, or 0 behind the last one, is a byte
 pub byte_at : (bytes : List ℕ) → AreBytes bytes → (i : ℕ) → get_or bytes i 0 < 256
 byte_at bytes all i = by_place (cases_lt i (length bytes))
   where
@@ -85,6 +87,7 @@ fields_after fares earlier (tap ∷ taps) names = (
   fields_after fares (earlier ++ answered fares earlier (unanswered tap) ∷ []) taps (All-tail IsName tap taps names),
 )
 
+-- the entries of a plain history have the fields of its taps
 pub plain_fields : (fares : Fares) (files : List (List ℕ)) (history : List Entry) → All AreBytes files → (is : IsPlain fares files history) → AreEntriesOf (flat_map (λ ts. ts) is.taps) history
 plain_fields fares files history all is =
     let E : List Entry → Type 0 = λ es. AreEntriesOf (flat_map (λ ts. ts) is.taps) es in

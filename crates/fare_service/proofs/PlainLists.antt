@@ -34,6 +34,7 @@ All-at P [] i x all at = absurd (cc)
 All-at P (y ∷ xs) zero x all at = subst P (let same : y ≡ x = cc in same) (All-head P y xs all)
 All-at P (y ∷ xs) (suc i) x all at = All-at P xs i x (All-tail P y xs all) at
 
+-- what is at a place of mapped elements is that of the element there
 pub mapped_at : {A B : Type 0} (f : A → B) (xs : List A) (i : ℕ) (y : B) → slice_get (map f xs) i ≡ Some y → (x : A) × (slice_get xs i ≡ Some x) × (y ≡ f x)
 mapped_at f [] i y at = absurd (cc)
 mapped_at f (x ∷ xs) zero y at = (x, refl, let same : f x ≡ y = cc in sym same)

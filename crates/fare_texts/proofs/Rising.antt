@@ -20,12 +20,15 @@ use Rattle.fare_texts.specs.Lines.{AreUpTo, IsUpTo, NoFallFrom}
 ranked : IsStrictWeakOrder (λ (a b : Token). is_lt (token_cmp a b))
 ranked = ranks_by token_cmp-total (λ (token : Token). token)
 
+-- tokens that do not fall, one after another
 pub up_chain : (a b c : Token) → IsUpTo a b → IsUpTo b c → IsUpTo a c
 up_chain a b c first second = ranked.chain c b a second first
 
+-- a token does not fall from itself
 pub up_itself : (a : Token) → IsUpTo a a
 up_itself a = ap is_lt (tied_itself token_cmp-total a)
 
+-- a token that another is not above is not greater
 pub not_greater : (a b : Token) → IsUpTo a b → token_cmp a b ≡ Greater → ⊥
 not_greater a b up greater =
     let less : token_cmp b a ≡ Less = token_cmp-total.antisymm b a ∙ ap ordering_reverse greater in
@@ -92,6 +95,7 @@ none_above token from (entry ∷ entries) to apart no_fall =
         absurd (not_apart from token
         (up_both from token (subst (λ (t : Token). IsUpTo from t) same no_fall.0) to) apart)
 
+-- entries up to a token are up to a token that is not below it
 pub up_weaker : (entries : List Entry) (a b : Token) → AreUpTo entries a → IsUpTo a b
     → AreUpTo entries b
 up_weaker [] a b up to = tt

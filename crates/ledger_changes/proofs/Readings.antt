@@ -39,6 +39,7 @@ same_fields : (a b c d e f g h i j k l a' b' c' d' e' f' g' h' i' j' k' l' : Lis
 same_fields a b c d e f g h i j k l a' b' c' d' e' f' g' h' i' j' k' l' is =
     record { token = cc; moment = cc; validator = cc; answer = cc; cents = cc; reason = cc }
 
+-- a line has one row
 pub one_row : (a b : Row) (line : List ℕ) → IsRowLine a line → IsRowLine b line → a ≡ b
 one_row a b line is also =
     let text : is.text ≡ also.text =

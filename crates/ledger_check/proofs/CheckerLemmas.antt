@@ -6,8 +6,7 @@ use Rattle.shard_book.specs.declared.entry.Entry.{Entry}
 use Rattle.fare_texts.specs.LedgerLines.{head_text, line_head, entry_fields}
 use Rattle.ledger_check.specs.Ledger.{IsNext}
 use Rattle.ledger_check.specs.Lines.{IsLine, Lacks, lines_of}
-use Rattle.ledger_check.specs.Replays.{HasRead, IsWanted, IsWrongAfter}
-use Rattle.ledger_check.specs.inside.Replays.{IsStep}
+use Rattle.ledger_check.specs.Replays.{HasRead, IsWrongAfter}
 use Rattle.ledger_check.specs.Verdicts.{HasFed, HasTaken, IsFed, IsFirstWrong, IsTrueOf, IsVerdict}
 use Rattle.ledger_check.specs.inside.Verdicts.{IsTaken, number_after}
 use Rattle.ledger_check.specs.declared.checker.Checker.{Checker}
@@ -15,7 +14,7 @@ use Rattle.ledger_check.specs.declared.checker.LinesSoFar.{LinesSoFar}
 use Rattle.ledger_check.specs.declared.checker.Verdict.{Verdict}
 use Rattle.ledger_check.specs.declared.checker.Verdict.TheVariants.{Legal, NoLine}
 use Rattle.ledger_check.specs.declared.replay.Replay.{Replay}
-use Rattle.ledger_check.proofs.LineLemmas.{Opens, lacks-append, lacks-end, lacks-last, lines-line, lines-open, lines-part}
+use Rattle.ledger_check.proofs.LineLemmas.{lacks-append, lacks-end, lacks-last, lines-line, lines-open, lines-part}
 use Rattle.ledger_check.proofs.ReplayLemmas.{wrong, wrong_long}
 
 apart : true ≡ false → ⊥
@@ -87,6 +86,7 @@ next_ends fares earlier entry line is lacks =
     let four = lacks-end 10 shown.reason_fields (10 ∷ []) three in
     four.0 refl
 
+-- a line without a line feed is not the head
 pub head_ends : (line : List ℕ) → Lacks 10 line → line ≢ head_text
 head_ends line lacks is =
     lacks-last 10 (codes "token,line,moment,validator,mode,answer,cents,window_start,window_end,ride,reason,points_at") line is lacks
@@ -236,6 +236,7 @@ pub fed_none : (fares : Fares) (after : Checker) (text : List ℕ) (told : Optio
 fed_none fares after text None none fed = fed
 fed_none fares after text (Some verdict) none fed = absurd (apart none)
 
+-- a text of no bytes is empty
 pub empty_list : (text : List ℕ) → length text ≤ 0 → text ≡ []
 empty_list [] none = refl
 empty_list (b ∷ text) none = absurd (omega arith)

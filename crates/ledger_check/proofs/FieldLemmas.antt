@@ -28,6 +28,7 @@ digits_lack (c ∷ text) digits =
     let first = digits.0 in
     (λ is. absurd (grind (arith, nat_tests)), digits_lack text digits.1)
 
+-- a decimal number has no comma
 pub decimal_lacks : (n : ℕ) → n < 2 ^ 64 → Lacks 44 (decimal n)
 decimal_lacks n small = digits_lack (decimal n) (decimal_is_IsNumeral n small).0.1
 
@@ -107,6 +108,7 @@ clock_lacks ms = (
   ),
 )
 
+-- a moment's text has no comma
 pub moment_lacks : (moment : ℕ) (text : List ℕ) → moment < 4_102_444_800_000 → IsMomentText moment text → Lacks 44 text
 moment_lacks moment text small is =
     let civil = is.civil (omega arith) in

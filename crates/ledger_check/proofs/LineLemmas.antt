@@ -1,5 +1,5 @@
 -- Texts that lack a byte, and texts split into lines.
-use Rattle.std.proofs.Common.{◌≡◌, ◌≢◌, ℕ, ◌+◌, ◌<◌, Bool, true, false, cond, not, ◌&&◌, ◌==◌, List, [], ◌∷◌, ◌++◌, length, get_or, take, drop, refl, sym, ap, ◌∙◌, subst, arith, append_assoc, append-nil, zero, suc, ◌-◌, take_all, length-drop, add-one}
+use Rattle.std.proofs.Common.{◌≡◌, ◌≢◌, ℕ, ◌+◌, ◌<◌, Bool, true, cond, not, ◌&&◌, ◌==◌, List, [], ◌∷◌, ◌++◌, length, get_or, take, drop, refl, ap, ◌∙◌, subst, arith, zero, suc, ◌-◌, take_all, length-drop, add-one}
 use Rattle.std.proofs.lemmas.Bool.{and_parts, eqb-false, ne_eqb, not-true}
 use Rattle.ledger_check.specs.Lines.{IsLine, Lacks, begun_with, lines_of}
 
@@ -8,16 +8,19 @@ abbrev pub has_none : ℕ → List ℕ → Bool
 has_none byte [] = true
 has_none byte (other ∷ text) = not (other == byte) && has_none byte text
 
+-- a text in which the test finds no such byte has none
 pub lacks-tested : (byte : ℕ) (text : List ℕ) → has_none byte text ≡ true → Lacks byte text
 lacks-tested byte [] is = tt
 lacks-tested byte (other ∷ text) is =
     let parts = and_parts (not (other == byte)) (has_none byte text) is in
     (eqb-false other byte (not-true (other == byte) parts.0), lacks-tested byte text parts.1)
 
+-- two texts without the byte, joined
 pub lacks-append : (byte : ℕ) (a b : List ℕ) → Lacks byte a → Lacks byte b → Lacks byte (a ++ b)
 lacks-append byte [] b la lb = lb
 lacks-append byte (x ∷ a) b la lb = (la.0, lacks-append byte a b la.1 lb)
 
+-- the end of a text without the byte
 pub lacks-end : (byte : ℕ) (a b : List ℕ) → Lacks byte (a ++ b) → Lacks byte b
 lacks-end byte [] b lacks = lacks
 lacks-end byte (x ∷ a) b lacks = lacks-end byte a b lacks.1
@@ -31,6 +34,7 @@ lacks-reads byte [] none = tt
 lacks-reads byte (other ∷ text) none =
     (none 0 (omega arith), lacks-reads byte text (λ k within. none (suc k) (omega arith)))
 
+-- no byte of a text without the byte is that byte
 pub lacks-at : (byte : ℕ) (text : List ℕ) (k : ℕ) → Lacks byte text → 0 ≢ byte → get_or text k 0 ≢ byte
 lacks-at byte [] k lacks zeros = zeros
 lacks-at byte (other ∷ text) zero lacks zeros = lacks.0
@@ -88,6 +92,7 @@ unfolding begun_with
 begun-open byte [] = record { rest = []; after = []; is = refl }
 begun-open byte (line ∷ lines) = record { rest = line; after = lines; is = refl }
 
+-- a line that has begun, before more text, is the first line
 pub lines-open : (begun more : List ℕ) → Lacks 10 begun → 0 < length begun → Opens begun (lines_of (begun ++ more))
 unfolding begun_with
 lines-open [] more lacks some = absurd (omega arith)

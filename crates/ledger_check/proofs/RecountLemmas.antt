@@ -172,6 +172,7 @@ split_line_at lines text begun line split lacks is more =
     ∙ ap (λ (l : List ℕ). lines ++ l ∷ lines_of more) (sym whole)
     ∙ sym (append_assoc lines ((begun ++ line) ∷ []) (lines_of more))
 
+-- a line that has begun ends with the line behind it
 pub line_ends : (begun line : List ℕ) → Lacks 10 begun → (is : IsLine line) → IsLine (begun ++ line)
 line_ends begun line lacks is = record {
   front = begun ++ is.front;

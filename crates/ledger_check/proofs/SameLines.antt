@@ -1,5 +1,5 @@
 -- An entry has one line.
-use Rattle.std.proofs.Common.{◌≡◌, ℕ, ◌+◌, ◌<◌, ◌≤◌, ◌%◌, ℤ, List, ◌∷◌, [], ◌++◌, length, refl, sym, ap, subst, ◌∙◌, arith, ⊎_elim}
+use Rattle.std.proofs.Common.{◌≡◌, ℕ, ◌+◌, ◌<◌, ◌≤◌, ◌%◌, ℤ, List, ◌∷◌, [], ◌++◌, sym, ap, subst, ◌∙◌, ⊎_elim}
 use Rattle.std.proofs.lemmas.Bool.{cases_lt}
 use Rattle.jiff_core.specs.declared.civil.date.Date.{Date}
 use Rattle.jiff_core.proofs.DateLemmas.{epoch_day_injective}
@@ -21,8 +21,6 @@ use Rattle.tap_views.specs.declared.token.Token.{Token}
 use Rattle.fare_texts.specs.Moments.{IsCivilText, IsMomentText, clock_text}
 use Rattle.fare_texts.specs.LedgerLines.{IsReasonFields, IsLedgerLine, IsPointing, IsRideFields, entry_fields, line_head, ride_rest}
 use Rattle.ledger_check.specs.Ledger.{IsNextLine, IsNext}
-use Rattle.ledger_check.specs.inside.Taps.{IsEntryOfTap}
-use Rattle.ledger_check.specs.declared.tap.Tap.{Tap}
 
 abbrev date_by : ℤ → ℕ → ℕ → List ℕ
 date_by year month day = year_text year ++ 45 ∷ [] ++ pad2 month ++ 45 ∷ [] ++ pad2 day
@@ -39,6 +37,7 @@ civil_same moment a b is also =
     ∙ ap (λ (t : List ℕ). t ++ clock_text (moment % 86_400_000)) (date_same is.date also.date (epoch_day_injective is.date also.date (is.day ∙ sym also.day)))
     ∙ sym also.shown
 
+-- a moment has one text
 pub moment_same : (moment : ℕ) (a b : List ℕ) → IsMomentText moment a → IsMomentText moment b → a ≡ b
 moment_same moment a b is also =
     ⊎_elim
@@ -64,6 +63,7 @@ reason_fields_same (Stale latest) a b is also = pointing_same _ latest a b is al
 reason_fields_same (Transfer moment mode) a b is also = pointing_same _ moment a b is also
 reason_fields_same (Ride start until charge) a b is also = ride_same start until charge a b is also
 
+-- an entry has one line
 pub line_same : (fares : Fares) (token : Token) (number : ℕ) (entry : Entry) (why : Reason) (a b : List ℕ)
     → IsLedgerLine fares token number entry why a → IsLedgerLine fares token number entry why b → a ≡ b
 line_same fares token number entry why a b is also =

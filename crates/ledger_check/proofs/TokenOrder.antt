@@ -10,9 +10,11 @@ use Rattle.tap_views.specs.declared.token.Token.{Token}
 use Rattle.tap_views.proofs.TokenLemmas.{same_token, token_eq-refl}
 use Rattle.ledger_check.specs.Ledger.{token_number}
 
+-- of two tokens the lesser has the lesser number
 pub less_number : (a b : Token) → Fits a → Fits b → token_cmp a b ≡ Less → token_number a < token_number b
 less_number a b fits_a fits_b less = grind (arith, nat_tests)
 
+-- of two tokens the greater has the greater number
 pub greater_number : (a b : Token) → Fits a → Fits b → token_cmp a b ≡ Greater → token_number b < token_number a
 greater_number a b fits_a fits_b greater = grind (arith, nat_tests)
 

@@ -56,6 +56,7 @@ both_parts : (b : Bool) (x : ℕ) (xs ys zs : List ℕ) → ys ++ zs ≡ xs
 both_parts true x xs ys zs is = refl
 both_parts false x xs ys zs is = ap (λ rest. x ∷ rest) is
 
+-- a text is its first line and what is behind it
 pub taken_and_left : (text : List ℕ) → take_through 10 text ++ drop_through 10 text ≡ text
 taken_and_left [] = refl
 taken_and_left (x ∷ xs) = both_parts (x == 10) x xs (take_through 10 xs) (drop_through 10 xs)

@@ -24,13 +24,16 @@ gt_is Greater = refl
 turned : (a b : Token) → is_lt (token_cmp b a) ≡ is_gt (token_cmp a b)
 turned a b = ap is_lt (token_cmp-total.antisymm b a) ∙ gt_is (token_cmp a b)
 
+-- tokens that do not fall, one after another
 pub not_below_trans : (a b c : Token) → NotBelow a b → NotBelow b c → NotBelow a c
 not_below_trans a b c first second =
     turned a c ∙ upto token_cmp-total a b c (sym (turned a b) ∙ first) (sym (turned b c) ∙ second)
 
+-- a token that is below another is not above it
 pub below_not_below : (a b : Token) → token_cmp a b ≡ Less → NotBelow a b
 below_not_below a b less = turned a b ∙ ap is_gt less
 
+-- a token is not below itself
 pub not_below_itself : (a : Token) → NotBelow a a
 not_below_itself a = ap is_lt (tied_itself token_cmp-total a)
 

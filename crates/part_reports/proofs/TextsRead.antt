@@ -141,6 +141,7 @@ joined_more : (lists : List (List UploadEnd)) (ends : List UploadEnd)
 joined_more lists ends = flat_map-append (λ (some : List UploadEnd). some) lists (ends ∷ [])
     ∙ ap (λ more. all_ends lists ++ more) (append-nil ends)
 
+-- the lines of two lists of uploads are joined
 pub end_lines_joined : (first : ℕ) (some more : List UploadEnd)
     → upload_lines first (some ++ more) ≡ upload_lines first some ++ upload_lines (first + length some) more
 end_lines_joined first [] more = let at : first ≡ first + 0 = omega arith in

@@ -38,6 +38,7 @@ head_counted word n x small = record {
       ∙ ap (λ (t : List ℕ). word ++ t) (append_assoc (decimal n) (codes "\n") x);
 }
 
+-- a line's number, and what is behind the line, are determined by the text
 pub number_line_unique : (word : List ℕ) (n m : ℕ) (x y : List ℕ) → n < 2 ^ 64 → m < 2 ^ 64
     → number_line word n ++ x ≡ number_line word m ++ y → (n ≡ m) × (x ≡ y)
 number_line_unique word n m x y small small_too is =
@@ -128,6 +129,7 @@ end_text_unique (Posted a) Undrawn x y fits fits_too is = absurd fits_too
 end_text_unique (Refused a offset fault) (Cut b) x y fits fits_too is = absurd fits_too
 end_text_unique (Refused a offset fault) Undrawn x y fits fits_too is = absurd fits_too
 
+-- an upload's end, and what is behind its line, are determined by the text
 pub end_line_unique : (number : ℕ) (a b : UploadEnd) (x y : List ℕ) → IsUploadEnd a → IsUploadEnd b
     → upload_line number a ++ x ≡ upload_line number b ++ y → (a ≡ b) × (x ≡ y)
 end_line_unique number a b x y fits fits_too is =
@@ -201,6 +203,7 @@ entry_unique a b fits fits_too is =
 same_line : (a b : TokenLine) → a.token ≡ b.token → a.text ≡ b.text → a ≡ b
 same_line a b token text = λ i. record { token = token i; text = text i }
 
+-- a ledger's line, and what is behind it, are determined by the text
 pub entry_line_unique : (a b : TokenLine) (x y : List ℕ) → IsLedgerEntryLine a → IsLedgerEntryLine b
     → a.text ++ x ≡ b.text ++ y → (a ≡ b) × (x ≡ y)
 entry_line_unique a b x y fits fits_too is =

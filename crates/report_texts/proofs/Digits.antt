@@ -16,6 +16,7 @@ use Rattle.report_texts.specs.inside.Counted.{BeginsWithNoDigit, IsCounted}
 own : IsNumeralModel (λ ds. all_ascii_digits ds ≡ true) (digits_value 10)
 own = numerals_by_value _ tells_all_ascii_digits
 
+-- a decimal number is all digits
 pub decimal_digits : (n : ℕ) → n < 2 ^ 64 → all_ascii_digits (decimal n) ≡ true
 decimal_digits n small = digits_decimal own n small
 

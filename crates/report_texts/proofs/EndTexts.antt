@@ -16,6 +16,7 @@ use Rattle.report_texts.specs.declared.upload_end.UploadEnd.TheVariants.{Posted,
 pub end_begins : (end : UploadEnd) → BeginsWithNoDigit (end_words end)
 end_begins end = refl
 
+-- an upload's line by its words
 pub line_words : (number : ℕ) (end : UploadEnd)
     → upload_line number end ≡ codes "upload " ++ (decimal number ++ end_words end)
 unfolding upload_line
@@ -44,6 +45,7 @@ refused_spelt taps offset fault =
     ++ (decimal offset ++ (codes " " ++ fault_name fault))) (codes "\n")
     ∙ ap (λ (t : List ℕ). decimal taps ++ (codes " at " ++ t)) behind)
 
+-- the number that a fault shows has 64 bits
 pub small_number : (fault : LayoutFault) → fault_number fault < 2 ^ 64
 small_number (Short have) = omega arith
 small_number Magic = omega arith

@@ -12,6 +12,7 @@ use Rattle.tap_views.specs.declared.token.Token.{Token}
 use Rattle.tap_views.proofs.TokenLemmas.{bytes_of-injective}
 use Rattle.tap_views.proofs.TokenBytes.{token_bytes, token_length}
 
+-- a token has 32 digits
 pub token_digits : (token : Token) → length (encode_lower (bytes_of token)) ≡ 32
 token_digits token =
     length-encode_with lower_digits (bytes_of token) ∙ ap (λ n. 2 * n) (token_length token)

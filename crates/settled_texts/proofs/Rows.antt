@@ -82,6 +82,7 @@ falls_whole : (token : Token) (entries : List Entry) → NoFallFrom token entrie
 falls_whole token [] no_fall = tt
 falls_whole token (entry ∷ entries) no_fall = no_fall.1
 
+-- entries posted in canonical order have tokens that do not fall
 pub posted_falls : (fares : Fares) (token : Token) (taps : List TapFields)
     → NoTapFallsFrom token taps → NoFall (posted_after fares [] taps)
 posted_falls fares token taps no_fall =

@@ -28,6 +28,7 @@ fall_append token [] ys no_fall = (tt, no_fall)
 fall_append token (x ∷ xs) ys (up, no_fall) =
     let both = fall_append (token_of_tap x) xs ys no_fall in ((up, both.0), both.1)
 
+-- the last token of two lists of taps
 pub last_append : (token : Token) (xs ys : List TapFields)
     → last_token token (xs ++ ys) ≡ last_token (last_token token xs) ys
 last_append token [] ys = refl
@@ -35,6 +36,7 @@ last_append token (x ∷ xs) ys = last_append (token_of_tap x) xs ys
 
 -- ---- the lines
 
+-- no taps have no lines
 pub none_told : (fares : Fares) (earlier : List Entry) (teller : Teller)
     → HasCome fares teller earlier → AreTold fares earlier [] teller []
 unfolding posted_after
@@ -43,6 +45,7 @@ none_told fares earlier teller come = record {
   come = subst (λ (es : List Entry). HasCome fares teller es) (sym (append-nil earlier)) come;
 }
 
+-- the lines of two lists of taps, one after the other
 pub told_append : (fares : Fares) (earlier : List Entry) (xs ys : List TapFields)
     (teller next : Teller) (lines more : List ℕ) → AreTold fares earlier xs teller lines
     → AreTold fares (earlier ++ posted_after fares earlier xs) ys next more

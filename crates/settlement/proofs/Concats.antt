@@ -39,6 +39,7 @@ after_others fares front earlier (tap ∷ taps) others =
     ∙ ap (λ (es : List Entry). entry ∷ es)
     (after_others fares front (earlier ++ entry ∷ []) taps others.1)
 
+-- the entries of two lists of taps, one after the other
 pub posted_append : (fares : Fares) (earlier : List Entry) (xs ys : List TapFields)
     → posted_after fares earlier (xs ++ ys)
     ≡ posted_after fares earlier xs ++ posted_after fares (earlier ++ posted_after fares earlier xs) ys

@@ -6,6 +6,7 @@ use Rattle.tap_parts.specs.Parts.{taps_of_uploads}
 use Rattle.tap_parts.proofs.Early.{Early, file_early}
 use Rattle.tap_views.specs.Files.{AreGoodTapsOfEach}
 
+-- the taps of uploads have moments that fit
 pub uploads_early : (uploads : List (List ℕ)) (taps : List (List Tap)) → AreGoodTapsOfEach uploads taps
     → All Early (taps_of_uploads taps)
 uploads_early [] [] each = All-nil Early

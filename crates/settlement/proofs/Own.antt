@@ -14,6 +14,7 @@ use Rattle.shard_book.specs.Plain.{token_of_bytes}
 abbrev pub IsNamedBy : TapFields → Type 0
 IsNamedBy f = bytes_of (token_of_bytes f.token) ≡ f.token
 
+-- an entry is one of its own token
 pub own_entry : (entry : Entry) → is_of entry.token entry ≡ true
 own_entry entry = grind (arith, nat_tests)
 

@@ -30,6 +30,7 @@ NotLess a b = is_lt (tap_cmp b a) ≡ false
 abbrev pub Rises : TapFields → TapFields → Type 0
 Rises a b = a.token ≡ b.token → NotLess a b
 
+-- of one token, a tap that is not less is not earlier
 pub no_earlier : (a b : TapFields) → NotLess a b → a.token ≡ b.token → a.moment ≤ b.moment
 no_earlier a b not same = by_order (cases_lt b.moment a.moment)
   where
@@ -47,6 +48,7 @@ no_earlier a b not same = by_order (cases_lt b.moment a.moment)
         ∙ ap (λ r. ordering_then r validators) less in
         absurd (let t : true ≡ false = sym (ap is_lt whole) ∙ not in cc)
 
+-- no tap of a sorted list is less than one before it
 pub sorted_pairs : (xs : List TapFields) → IsSorted tap_cmp xs → Pairs NotLess xs
 sorted_pairs [] up = tt
 sorted_pairs (x ∷ xs) up = (

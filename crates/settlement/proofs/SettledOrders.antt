@@ -31,6 +31,7 @@ use Rattle.settlement.proofs.SettledBills.{posted_of, whole_order}
 use Rattle.settlement.proofs.Sorting.{canonical_order}
 use Rattle.settlement.proofs.Unique.{same_sorted}
 
+-- taps in canonical order, with their tokens' names, are a settled order
 pub settled_order : (uploads : List (List ℕ)) (taps : List (List Tap)) (order : List TapFields)
     → AreGoodTapsOfEach uploads taps → All HasTokenBytes (map fields_of (taps_of_uploads taps))
     → IsCanonical (map fields_of (taps_of_uploads taps)) order → AreSettledTaps uploads order

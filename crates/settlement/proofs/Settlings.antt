@@ -94,6 +94,7 @@ some_history fares uploads taps each =
       },
     )
 
+-- a settled history is legal
 pub legal_history : (fares : Fares) (uploads : List (List ℕ)) (history : List Entry)
     → IsSettledHistory fares uploads history → IsLegal fares history
 legal_history fares uploads history is =

@@ -40,6 +40,7 @@ tokens_posted fares earlier (tap ∷ taps) =
     ap (λ (ts : List Token). token_of_tap tap ∷ ts)
     (tokens_posted fares (earlier ++ answered fares earlier (unposted tap) ∷ []) taps)
 
+-- each tap has one entry
 pub posted_length : (fares : Fares) (earlier : List Entry) (taps : List TapFields)
     → length (posted_after fares earlier taps) ≡ length taps
 unfolding posted_after
@@ -86,6 +87,7 @@ up_apart a b up apart = by (token_cmp a b) refl
     by Equal tied = absurd (apart (token_cmp-ties a b tied))
     by Greater greater = absurd (not_greater a b up greater)
 
+-- a token that is not above one that is less is less
 pub up_less : (a b c : Token) → IsUpTo a b → token_cmp b c ≡ Less → token_cmp a c ≡ Less
 up_less a b c up less = by (token_cmp a b) refl
   where
@@ -94,6 +96,7 @@ up_less a b c up less = by (token_cmp a b) refl
     by Equal tied = ap (λ (t : Token). token_cmp t c) (token_cmp-ties a b tied) ∙ less
     by Greater greater = absurd (not_greater a b up greater)
 
+-- a token that is less than one that is not above another is less than that
 pub less_up : (a b c : Token) → token_cmp a b ≡ Less → IsUpTo b c → token_cmp a c ≡ Less
 less_up a b c less up = by (token_cmp b c) refl
   where
@@ -157,6 +160,7 @@ next_edge taps place run token sorted names edge within same next some =
 token_back : (token : Token) → Fits token → token_of_bytes (bytes_of token) ≡ token
 token_back token fits = λ i. record { high = high_back token fits i; low = low_back token fits i }
 
+-- a tap's token by its bytes
 pub named_token : (tap : TapFields) (bytes : List ℕ) (token : Token) → tap.token ≡ bytes
     → bytes_of token ≡ bytes → Fits token → token_of_tap tap ≡ token
 named_token tap bytes token same is fits =

@@ -23,6 +23,7 @@ pub others-append : (vs ws : List (List Entry)) → others (vs ++ ws) ≡ others
 others-append [] ws = refl
 others-append (v ∷ vs) ws = λ k. mark false v ∷ others-append vs ws k
 
+-- the histories of two lists of visits are joined
 pub joined-append : (vs ws : List (List Entry)) → history_of_visits (vs ++ ws) ≡ history_of_visits vs ++ history_of_visits ws
 joined-append [] ws = refl
 joined-append (v ∷ vs) ws = ap (λ es. v ++ es) (joined-append vs ws) ∙ sym (append_assoc v (history_of_visits vs) (history_of_visits ws))
@@ -39,6 +40,7 @@ one_or_none : (b : Bool) → cond b 1 0 ≤ 1
 one_or_none true = omega arith
 one_or_none false = omega arith
 
+-- at a place one visit is made, or none
 pub made_at-few : (i : ℕ) (ms : List Mark) → made_at i ms ≤ 1
 made_at-few i [] = omega arith
 made_at-few zero (m ∷ ms) = one_or_none m.mine
@@ -93,6 +95,7 @@ few_step : (b : Bool) (x : ℕ × List Entry) (made : List (ℕ × List Entry)) 
 few_step true x made k le = omega arith
 few_step false x made k le = omega arith
 
+-- no more visits are made than there are marks
 pub made_few : (n : ℕ) (ms : List Mark) → length (made_from n ms) ≤ length ms
 made_few n [] = omega arith
 made_few n (m ∷ ms) = few_step m.mine (n, m.visit) (made_from (n + 1) ms) (length ms) (made_few (n + 1) ms)

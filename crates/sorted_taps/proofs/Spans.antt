@@ -25,6 +25,7 @@ taken_append files old mid new (x ∷ xs) ys (next, one, first) rest =
 pub stands_alone : (reader : TapReader) → StandsAs 0 reader reader
 stands_alone reader = record { offset = refl; ahead = refl; number = omega arith }
 
+-- readers stand as themselves
 pub stand_alone : (readers : List TapReader) → StandAs readers readers
 stand_alone readers = record { number = refl; each = λ k d within. stands_alone (get_or readers k d) }
 

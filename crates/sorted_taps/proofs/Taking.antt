@@ -117,6 +117,7 @@ record AreLeft (files : List (List ℕ)) (readers end : List TapReader) (taps : 
   passed : (k : ℕ) (d : TapReader) → k < length readers
       → (get_or end k d).passed ≡ (get_or readers k d).passed + length (get_or lists k [])
 
+-- a list has one first tap
 pub same_head : (was : List TapFields) (one other : TapFields) (rest more : List TapFields)
     → was ≡ one ∷ rest → was ≡ other ∷ more → one ≡ other
 same_head was one other rest more e f = let h : one ∷ rest ≡ other ∷ more = sym e ∙ f in cc
