@@ -34,7 +34,7 @@ counted (x ∷ xs) (suc k) n within low high =
 pub rising_far : (xs : List ℕ) → IsSorted nat_cmp xs → (i j : ℕ) → i ≤ j → j < length xs
     → get_or xs i 0 ≤ get_or xs j 0
 rising_far xs sorted i j order inside =
-    ge_from_not_lt (get_or xs i 0) (get_or xs j 0)
+    ge_from_not_lt (get_or xs j 0) (get_or xs i 0)
     (sorted_far (λ a b. is_lt (nat_cmp a b)) (ranks_by nat_cmp_total (λ (x : ℕ). x)) xs sorted i j 0
     order inside)
 
