@@ -1,5 +1,6 @@
 -- The fault that is told is the right one.
-use Rattle.std.proofs.Common.{◌≡◌, ◌∙◌, ◌<◌, ◌∷◌, ℕ, List, [], true, Option, Some, Bor, arith, nat_eq, ap, inr, length, map, refl, sym, subst}
+use Rattle.std.proofs.Common.{◌≡◌, ◌∙◌, ◌<◌, ◌∷◌, ℕ, List, [], true, Option, Some, Bor, arith}
+use Rattle.std.proofs.Common.{nat_eq, ap, inr, length, map, refl, sym, subst}
 use Rattle.std.specs.Prelude.{IfErr, Result, Ok, Err}
 use Rattle.std.specs.Result.{IsErrAnd}
 use Rattle.std.proofs.lemmas.Bool.Decides.{nat_tests}
@@ -8,7 +9,9 @@ use Rattle.fare_program.specs.Causes.{IsNameTold, IsRightFault, IsRightOfSorted,
 use Rattle.fare_program.specs.Options.{Asked}
 use Rattle.fare_program.specs.Program.{LoadsFiles, names_to_load}
 use Rattle.fare_program.specs.declared.fault.Fault.{Fault}
-use Rattle.fare_program.specs.declared.fault.Fault.TheVariants.{Table, ClassName, Unopened, Unsorted, TooManyTaps, Late, Uploads, Gather, Write, NoMemory}
+use Rattle.fare_program.specs.declared.fault.Fault.TheVariants.{Table, ClassName, Unopened}
+use Rattle.fare_program.specs.declared.fault.Fault.TheVariants.{Unsorted, TooManyTaps, Late}
+use Rattle.fare_program.specs.declared.fault.Fault.TheVariants.{Uploads, Gather, Write, NoMemory}
 use Rattle.fare_program.specs.inside.Causes.{IsOfOutput, IsRightOfText, IsRightOfUploads}
 use Rattle.program_manners.specs.Loads.{Loaded, TellsOne}
 use Rattle.program_manners.specs.Refusals.{IsOneOf}

@@ -87,7 +87,8 @@ module _ (c : List Rule) (p : Rule) (takes : TakesFiles c p) where
       subst (λ (r : Option Rule). IsAtFiles (to_positional c r word w h) behind) (sym found) (record {
         position = ap (λ (b : Bool). cond b w.position (min (w.position + 1) usize_max)) takes.many ∙ at.position;
         stopped = refl;
-        is_trailing = ap (λ (b : Bool). w.is_trailing || b) takes.open_end ∙ or-false w.is_trailing ∙ at.is_trailing;
+        is_trailing = ap (λ (b : Bool). w.is_trailing || b) takes.open_end ∙ or-false w.is_trailing
+            ∙ at.is_trailing;
       })
 
   plain_at : (w : Walk) (word : Text) (h : Held) (s : Step) (behind : Bool) → IsPlainStep s → IsAtFiles w behind → IsAtFiles (after_step c word w h s) behind
@@ -129,7 +130,8 @@ module _ (c : List Rule) (p : Rule) (takes : TakesFiles c p) where
       ap (λ (v : Walk). v.held) (step_is w name true at)
       ∙ ap (λ (r : Option Rule). (to_positional c r name w w.held).held) (ap (arg_by_index c) at.position ∙ takes.first)
       ∙ ap (λ (b : Bool). pushed p.id name (cond b w.held (settled c w.held)))
-      (ap (λ (b : Bool). is_pending p w.held.pending && b) takes.alone ∙ and-false (is_pending p w.held.pending))
+      (ap (λ (b : Bool). is_pending p w.held.pending && b) takes.alone
+      ∙ and-false (is_pending p w.held.pending))
 
   all_behind : (words : List Text) (w : Walk) → IsAtFiles w true → IsAtFiles (fold (walked c []) w words) true
   all_behind [] w at = at

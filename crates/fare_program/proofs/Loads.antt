@@ -1,5 +1,6 @@
 -- One more file that was loaded.
-use Rattle.std.proofs.Common.{◌≡◌, ◌∙◌, ◌<◌, ℕ, List, [], ◌∷◌, ◌++◌, length, map, refl, ap, arith, Option, Some, Bor}
+use Rattle.std.proofs.Common.{◌≡◌, ◌∙◌, ◌<◌, ℕ, List, [], ◌∷◌, ◌++◌, length, map, refl, ap, arith}
+use Rattle.std.proofs.Common.{Option, Some, Bor}
 use Rattle.std.proofs.lemmas.List.{map-append}
 use Rattle.fare_program.specs.Program.{LoadsFiles, names_to_load}
 use Rattle.program_manners.specs.Loads.{Loaded, TellsOne}

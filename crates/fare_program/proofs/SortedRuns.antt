@@ -7,7 +7,8 @@ use Rattle.program_manners.specs.Loads.{Loaded}
 use Rattle.fare_program.specs.Fault.{charge_mistake_of, explain_mistake, first_of_two, ledger_mistake, mistake}
 use Rattle.fare_program.specs.Fault.{settle_mistake, sorted_mistake, sorted_mistake_of, token_mistake, traced_mistake, traced_mistake_of}
 use Rattle.fare_program.specs.Options.{Asked}
-use Rattle.fare_program.specs.Program.{Does, DoesUntraced, IsTokenIn, LoadsTable, RunsListing, RunsService, RunsSorted, RunsTraced}
+use Rattle.fare_program.specs.Program.{Does, DoesUntraced, IsTokenIn, LoadsTable, RunsListing}
+use Rattle.fare_program.specs.Program.{RunsService, RunsSorted, RunsTraced}
 use Rattle.fare_program.specs.Settling.{ShowsSettled}
 use Rattle.fare_program.specs.declared.fault.Fault.{Fault}
 use Rattle.fare_program.specs.declared.fault.Fault.TheVariants.{SettleNoTable, SettleList}

@@ -312,7 +312,8 @@ pub from_nothing : (none s : Sums) → none ≡ sums_of_replies [] → add_sums 
 unfolding sums_of_replies
 from_nothing none s is =
     ap (λ n. add_sums n s) is
-    ∙ same_seven (zero_add s.taps) (zero_add s.paid) (zero_add s.transfers) (zero_add s.capped) (zero_add s.stale) (zero_add s.unknown) (zero_add s.cents)
+    ∙ same_seven (zero_add s.taps) (zero_add s.paid) (zero_add s.transfers) (zero_add s.capped)
+    (zero_add s.stale) (zero_add s.unknown) (zero_add s.cents)
 
 -- the totals of the shares are those of the books that were closed with them
 pub shares_add_up : (service : ServiceView) → IsService service → (shares : List ShareView) → All (IsShareOf service) shares → (closed : List Book) → IsClosedWork service.books shares closed

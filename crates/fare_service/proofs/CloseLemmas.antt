@@ -76,7 +76,9 @@ history_of drawing opened shares drawer passes shard book all c =
     let M : List Mark → Type 0 = AreSigns (length shares) (length shares) s.signs in
     let signs = subst M marks s.of_marks in
     let O : List SharedBookView → Type 0 = λ os. slice_get os shard ≡ Some c.pass.book in
-    let number : length s.signs ≡ length (marks_at shard passes) = sym (AllZip-long (IsSign (length shares) (length shares)) s.signs (marks_at shard passes) s.of_marks) in
+    let number : length s.signs ≡ length (marks_at shard passes) =
+    sym (AllZip-long (IsSign (length shares) (length shares)) s.signs (marks_at shard passes)
+    s.of_marks) in
     record {
       visits = s.signs;
       history = ap (λ b. b.entries) c.all.book ∙ ap history_of_visits (sym (signs_visits (length shares) (length shares) s.signs c.pass.marks signs));

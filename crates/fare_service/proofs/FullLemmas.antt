@@ -23,14 +23,31 @@ marks_seen pass = length-map pass.marks (λ (m : Mark). m.visit)
 -- a pass has seen no less later
 pub knows_more : (old new : PassView) (more : List Mark) → new.book ≡ old.book → new.marks ≡ old.marks ++ more → KnowsFull old → KnowsFull new
 knows_more old new more book marks full =
-    omega (arith, full, ap (λ b. b.first) book, marks_seen old, marks_seen new, ap length marks, length-append old.marks more)
+    omega (
+      arith,
+      full,
+      ap (λ b. b.first) book,
+      marks_seen old,
+      marks_seen new,
+      ap length marks,
+      length-append old.marks more,
+    )
 
 pub later_full : (old new : PassView) → HasSeenMore old new → KnowsFull old → KnowsFull new
 later_full old new l = knows_more old new (others l.between) l.book l.marks
 
 pub visits_full : (old new : PassView) (number : ℕ) (visit : List Entry) → Visits old new number visit → KnowsFull old → KnowsFull new
 visits_full old new number visit v full =
-    omega (arith, full, ap (λ b. b.first) v.book, marks_seen old, marks_seen new, ap length v.marks, length-append (old.marks ++ others v.between) (mark true visit ∷ []), length-append old.marks (others v.between))
+    omega (
+      arith,
+      full,
+      ap (λ b. b.first) v.book,
+      marks_seen old,
+      marks_seen new,
+      ap length v.marks,
+      length-append (old.marks ++ others v.between) (mark true visit ∷ []),
+      length-append old.marks (others v.between),
+    )
 
 pub is_full : (pass : PassView) → IsFull pass → KnowsFull pass
 is_full pass f = omega (arith, f.count)

@@ -135,7 +135,9 @@ shard_taps shard shards (v ∷ visits) all =
 visits_length : (shards : ℕ) (visits : List RunVisit) → All (IsEntered shards) visits → taps_posted visits ≡ length (flat_map (λ v. v.taps) visits)
 visits_length shards [] all = refl
 visits_length shards (v ∷ visits) all =
-    let here : length v.taps ≡ length v.entries = sym (AllZip-long IsEntryOf v.taps v.entries (All-head (IsEntered shards) v visits all).fields) in
+    let here : length v.taps ≡ length v.entries =
+    sym (AllZip-long IsEntryOf v.taps v.entries
+    (All-head (IsEntered shards) v visits all).fields) in
     let rest : length (entries_of visits) ≡ length (flat_map (λ x. x.taps) visits) = visits_length shards visits (All-tail (IsEntered shards) v visits all) in
     omega (arith, length-append v.entries (entries_of visits), length-append v.taps (flat_map (λ (x : RunVisit). x.taps) visits))
 

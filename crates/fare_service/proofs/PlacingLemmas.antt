@@ -353,9 +353,11 @@ exactly_posted : (given : Given) (works : List (List Worked)) → All (λ done. 
 exactly_posted given works each once shard upload made own all =
     origins_for upload made
     ∙ (ap taps_made (filter_within (λ y. y.made.upload == upload) (λ y. y.worker == s.worker) made implied)
-    ∙ (sym (flat_map-map (λ (x : Labelled). x.visit.taps) (λ (y : By). y.made) (made_for upload (filter (λ y. y.worker == s.worker) made)))
+    ∙ (sym (flat_map-map (λ (x : Labelled). x.visit.taps) (λ (y : By). y.made)
+    (made_for upload (filter (λ y. y.worker == s.worker) made)))
     ∙ (ap (flat_map (λ (x : Labelled). x.visit.taps)) labels
-    ∙ (sym (flat_map-map (λ (v : RunVisit). v.taps) (λ (x : Labelled). x.visit) (to_shard shard (works_on upload (all_works works))))
+    ∙ (sym (flat_map-map (λ (v : RunVisit). v.taps) (λ (x : Labelled). x.visit)
+    (to_shard shard (works_on upload (all_works works))))
     ∙ (ap (flat_map (λ (v : RunVisit). v.taps)) (unlabelled_to shard (works_on upload (all_works works)))
     ∙ sym (shard_taps shard given.shards (all_visits (works_on upload (all_works works)))
     (own_all given (works_on upload (all_works works)) (All-filter (λ w. w.upload == upload) (IsWorkOf given.shards given.uploads) (all_works works) (each_work given works each)))))))))
@@ -375,7 +377,8 @@ exactly_posted given works each once shard upload made own all =
     labels =
         sym (filter-map (λ (x : Labelled). x.upload == upload) (λ (y : By). y.made) (filter (λ y. y.worker == s.worker) made))
         ∙ (ap (filter (λ (x : Labelled). x.upload == upload)) (own s.worker)
-        ∙ (filter-filter (λ (x : Labelled). x.upload == upload) (λ x. x.visit.shard == shard) (labelled (works_at s.worker works))
+        ∙ (filter-filter (λ (x : Labelled). x.upload == upload) (λ x. x.visit.shard == shard)
+        (labelled (works_at s.worker works))
         ∙ (ap (filter (λ (x : Labelled). x.visit.shard == shard)) (labels_for upload (works_at s.worker works)) ∙ ap (to_shard shard) (sym s.found))))
 
 by_worker_at : (given : Given) (shard : ℕ) (works : List (List Worked)) (book : Book) → (is : IsBookOfWork given.table shard given.shards works book) → (w : ℕ)

@@ -1,5 +1,7 @@
 -- The entries of a token in what was gathered are those of the plain history.
-use Rattle.std.specs.Prelude.{ℕ, zero, suc, ◌≡◌, ◌≢◌, ◌⊎◌, ◌<◌, ◌==◌, Bool, true, false, cond, List, [], ◌∷◌, ◌++◌, length, map, filter, All, Contains, Some, slice_get, slice_index_or}
+use Rattle.std.specs.Prelude.{ℕ, zero, suc, ◌≡◌, ◌≢◌, ◌⊎◌, ◌<◌, ◌==◌, Bool, true, false, cond, List}
+use Rattle.std.specs.Prelude.{[], ◌∷◌, ◌++◌, length, map, filter, All, Contains, Some, slice_get}
+use Rattle.std.specs.Prelude.{slice_index_or}
 use Rattle.std.specs.List.{flat_map, AllZip}
 use Rattle.std.proofs.Common.{refl, sym, ◌∙◌, ap, inl, inr, subst, arith, get_or, eq-eqb, mod-lt}
 use Rattle.std.proofs.lemmas.Bool.Decides.{eqb_tells}
@@ -29,7 +31,9 @@ use Rattle.fare_service.specs.Plain.{AreApart, WasNotCut}
 use Rattle.shard_book.specs.Plain.{IsNamed, unanswered, token_of_bytes, plain}
 use Rattle.fare_service.specs.Runs.{RunVisit, ArePostedWhole, runs_of, entries_to}
 use Rattle.fare_service.specs.Shares.{Worked, all_visits, IsWorkOf, IsEndOf, all_works, file_at}
-use Rattle.fare_service.proofs.PlainLists.{All-flat, flat-All, All-at, mapped_at, count, count_same, count_other, DoTheirs, done_alone, done_none, flat_alone, flat_none, HasOne, none_or_one}
+use Rattle.fare_service.proofs.PlainLists.{All-flat, flat-All, All-at, mapped_at, count, count_same}
+use Rattle.fare_service.proofs.PlainLists.{count_other, DoTheirs, done_alone, done_none, flat_alone}
+use Rattle.fare_service.proofs.PlainLists.{flat_none, HasOne, none_or_one}
 use Rattle.shard_book.proofs.PlainReplies.{bare, own_bare, plain_bare, plain_legal, same_replies}
 use Rattle.shard_book.proofs.OwnEntries.{own-append, own_none}
 use Rattle.fare_service.proofs.PlainRuns.{IsName, shard_entries, named_entries, all_shards, own_run}
@@ -128,7 +132,12 @@ drawn_count (w ∷ works) upload ended = by_test (eqb_tells w.upload upload) (dr
   where
     by_test : Tells w.upload upload → (end_of upload works ≢ Undrawn → 0 < count upload (map (λ x. x.upload) works)) → 0 < count upload (map (λ x. x.upload) (w ∷ works))
     by_test (inl (is, same)) more = omega (arith, count_same upload w.upload (map (λ x. x.upload) works) is)
-    by_test (inr (is, apart)) more = omega (arith, count_other upload w.upload (map (λ x. x.upload) works) is, more (λ e. ended (end_other w works upload is ∙ e)))
+    by_test (inr (is, apart)) more =
+        omega (
+          arith,
+          count_other upload w.upload (map (λ x. x.upload) works) is,
+          more (λ e. ended (end_other w works upload is ∙ e)),
+        )
 
 not_again : (works : List Worked) (upload : ℕ) → count upload (map (λ w. w.upload) works) ≡ 0 → All (λ w. w.upload ≢ upload) works
 not_again [] upload none = All-nil (λ w. w.upload ≢ upload)
@@ -254,7 +263,8 @@ mine_none token (ts ∷ taps) none zero = none 0 (own token (map unanswered ts))
 mine_none token (ts ∷ taps) none (suc upload) = mine_none token taps (λ place es at. none (suc place) es at) upload
 
 mine_within : (token : Token) (taps : List (List Tap)) (upload : ℕ) (first : Entry) (rest : List Entry) → mine_of token taps upload ≡ first ∷ rest → upload < length taps
-mine_within token [] upload first rest is = absurd (let h : [] ≡ first ∷ rest = sym (own_none token) ∙ is in cc)
+mine_within token [] upload first rest is =
+    absurd (let h : [] ≡ first ∷ rest = sym (own_none token) ∙ is in cc)
 mine_within token (ts ∷ taps) zero first rest is = omega arith
 mine_within token (ts ∷ taps) (suc upload) first rest is = omega (arith, mine_within token taps upload first rest is)
 

@@ -1,5 +1,6 @@
 -- Lists of lists of which one alone has elements, and lists that have the same elements under each key.
-use Rattle.std.specs.Prelude.{ℕ, zero, suc, ◌≡◌, ◌≢◌, ◌⊎◌, ◌+◌, ◌<◌, ◌==◌, true, false, cond, List, [], ◌∷◌, ◌++◌, length, map, filter, All, Some, slice_get, count_by}
+use Rattle.std.specs.Prelude.{ℕ, zero, suc, ◌≡◌, ◌≢◌, ◌⊎◌, ◌+◌, ◌<◌, ◌==◌, true, false, cond, List}
+use Rattle.std.specs.Prelude.{[], ◌∷◌, ◌++◌, length, map, filter, All, Some, slice_get, count_by}
 use Rattle.std.specs.List.{flat_map}
 use Rattle.std.proofs.Common.{refl, sym, ◌∙◌, ap, inl, inr, subst, arith, get_or, append-nil, eq-eqb}
 use Rattle.std.proofs.lemmas.Bool.Decides.{eqb_tells}

@@ -1,5 +1,6 @@
 -- The sums over the books are those over the plain history.
-use Rattle.std.specs.Prelude.{ℕ, zero, suc, ◌≡◌, ◌≢◌, ◌<◌, Bool, true, false, List, [], ◌∷◌, ◌++◌, length, map, filter, All, Some, slice_get}
+use Rattle.std.specs.Prelude.{ℕ, zero, suc, ◌≡◌, ◌≢◌, ◌<◌, Bool, true, false, List, [], ◌∷◌, ◌++◌}
+use Rattle.std.specs.Prelude.{length, map, filter, All, Some, slice_get}
 use Rattle.std.specs.List.{flat_map}
 use Rattle.std.proofs.Common.{refl, sym, ◌∙◌, ap, subst, get_or, mod-lt}
 use Rattle.std.proofs.lemmas.List.Elements.{All-head, All-tail}
@@ -13,7 +14,8 @@ use Rattle.shard_book.specs.SumsByKey.{all_entries, sums_by_validator, sums_by_t
 use Rattle.shard_book.specs.Keys.{same_token}
 use Rattle.shard_book.specs.Sums.{sums}
 use Rattle.shard_book.proofs.OwnEntries.{own-append}
-use Rattle.shard_book.proofs.SameEntries.{RisingNumbers, RisingTokens, same_by_token, same_by_validator, same_entries, same_sums}
+use Rattle.shard_book.proofs.SameEntries.{RisingNumbers, RisingTokens, same_by_token}
+use Rattle.shard_book.proofs.SameEntries.{same_by_validator, same_entries, same_sums}
 use Rattle.tap_views.specs.Token.{bytes_of}
 use Rattle.fare_service.specs.Outcomes.{OutcomeView}
 use Rattle.fare_service.specs.Plain.{IsUncutGathering}

@@ -17,7 +17,8 @@ use Rattle.fare_service.specs.ShareView.{ShareView}
 use Rattle.fare_service.specs.Runs.{RunVisit, entries_to, entries_of}
 use Rattle.fare_service.specs.Shares.{Worked, all_visits, done_of, IsWorked, KeepsWorks, IsShareOf, IsFresh, HasWorked, WentOn, HasVisited, made_visits_at, made_visits, books_of}
 use Rattle.fare_service.specs.inside.Shares.{worked}
-use Rattle.fare_service.proofs.VisitLemmas.{made_none, made_more, entries_to-append, own-others, no_taps}
+use Rattle.fare_service.proofs.VisitLemmas.{made_none, made_more, entries_to-append, own-others}
+use Rattle.fare_service.proofs.VisitLemmas.{no_taps}
 
 pub all_visits-append : (xs ys : List Worked) → all_visits (xs ++ ys) ≡ all_visits xs ++ all_visits ys
 all_visits-append xs ys = flat_map-append (λ w. w.visits) xs ys

@@ -1,6 +1,7 @@
 -- Who made which visit to a book. A sign is a visit with the worker that made it; a visit that no joined worker made is signed by nobody, who
 -- is told by a number above all workers.
-use Rattle.std.specs.Prelude.{ℕ, suc, ◌≡◌, ◌≢◌, ◌⊎◌, ◌+◌, ◌<◌, ◌≤◌, ◌==◌, ◌||◌, nat_lt, Bool, true, false, cond, List, [], ◌∷◌, ◌++◌, length, map, filter, All}
+use Rattle.std.specs.Prelude.{ℕ, suc, ◌≡◌, ◌≢◌, ◌⊎◌, ◌+◌, ◌<◌, ◌≤◌, ◌==◌, ◌||◌, nat_lt, Bool, true}
+use Rattle.std.specs.Prelude.{false, cond, List, [], ◌∷◌, ◌++◌, length, map, filter, All}
 use Rattle.std.proofs.Common.{refl, sym, ◌∙◌, ap, inl, inr, subst, arith, eq-eqb, ne_eqb}
 use Rattle.std.proofs.lemmas.Bool.Decides.{nat_tests}
 use Rattle.std.proofs.lemmas.List.{length-map}
@@ -9,7 +10,8 @@ use Rattle.std.proofs.lemmas.Bool.{ltb-true}
 use Rattle.std.proofs.Math.Bool.{or-false, or-true}
 use Rattle.shard_book.specs.declared.entry.Entry.{Entry}
 use Rattle.shared_books.specs.declared.turns.rule.Mark.{Mark}
-use Rattle.shared_books.specs.Marks.{mark, visits_of, joined_marks, Apart, Begins, made_from, numbered}
+use Rattle.shared_books.specs.Marks.{mark, visits_of, joined_marks, Apart, Begins, made_from}
+use Rattle.shared_books.specs.Marks.{numbered}
 use Rattle.shared_books.proofs.MarkLists.{made_at-few, made_few}
 use Rattle.fare_service.specs.Headline.{Signed, by_worker}
 use Rattle.fare_service.specs.inside.Joining.{IsSign, AreSigns, AreJoined}
@@ -51,8 +53,20 @@ sign_kept i nobody s m false e below is = record { visit = is.visit; mine = e �
 
 -- the sign of a visit, after the next worker
 sign_by : (i nobody : ℕ) (s : Signed) (x : Mark) (b : Bool) → i < nobody → IsSign (suc i) nobody s x → IsSign (suc i) nobody (sign (cond b i s.worker) s.entries) (mark (x.mine || b) x.visit)
-sign_by i nobody s x true below is = record { visit = is.visit; mine = or-true x.mine ∙ sym (lt_self i); other = λ h. absurd (let e : true ≡ false = sym (or-true x.mine) ∙ h in cc) }
-sign_by i nobody s x false below is = record { visit = is.visit; mine = or-false x.mine ∙ is.mine; other = λ h. is.other (sym (or-false x.mine) ∙ h) }
+sign_by i nobody s x true below is =
+    record {
+      visit = is.visit;
+      mine = or-true x.mine ∙ sym (lt_self i);
+      other =
+          λ h. absurd (let e : true ≡ false = sym (or-true x.mine) ∙ h in cc);
+    }
+sign_by i nobody s x false below is =
+    record {
+      visit = is.visit;
+      mine = or-false x.mine ∙ is.mine;
+      other =
+          λ h. is.other (sym (or-false x.mine) ∙ h);
+    }
 
 -- the marks of a worker where nothing was seen before
 signed_first : (i nobody : ℕ) (marks : List Mark) → i < nobody → AreSigns (suc i) nobody (signed i nobody [] marks) marks
@@ -146,7 +160,8 @@ own_first i nobody [] below = refl
 own_first i nobody (m ∷ ms) below = own_first_step i nobody m ms m.mine refl below (own_first i nobody ms below)
 
 free_sign : (i nobody : ℕ) (s : Signed) (x : Mark) (b : Bool) → x.mine ≡ b → i < nobody → IsSign i nobody s x → s.worker ≢ i
-free_sign i nobody s x true e below is = λ h. omega (arith, h, ltb-true s.worker i (sym is.mine ∙ e))
+free_sign i nobody s x true e below is =
+    λ h. omega (arith, h, ltb-true s.worker i (sym is.mine ∙ e))
 free_sign i nobody s x false e below is = λ h. omega (arith, h, is.other e)
 
 new_own_step : (i nobody : ℕ) (s : Signed) (x y : Mark) (signs : List Signed) (other : List Mark) (b : Bool) → y.mine ≡ b → i < nobody → IsSign i nobody s x → x.visit ≡ y.visit

@@ -24,7 +24,8 @@ pub visits_taps : (shards : ℕ) (visits : List RunVisit) → All (IsEntered sha
 visits_taps shards [] all = refl
 visits_taps shards (visit ∷ visits) all =
     let here : length visit.entries ≡ length visit.taps =
-    sym (sym (AllZip-long IsEntryOf visit.taps visit.entries (All-head (IsEntered shards) visit visits all).fields)) in
+    sym (sym (AllZip-long IsEntryOf visit.taps visit.entries
+    (All-head (IsEntered shards) visit visits all).fields)) in
     let rest : taps_posted visits ≡ runs_taps (map run_of_visit visits) = visits_taps shards visits (All-tail (IsEntered shards) visit visits all) in
     let many : length (visit.entries ++ entries_of visits) ≡ length visit.entries + length (entries_of visits) = length-append visit.entries (entries_of visits) in
     let sum : runs_taps (run_of_visit visit ∷ map run_of_visit visits) ≡ length visit.taps + runs_taps (map run_of_visit visits) =
@@ -135,7 +136,9 @@ all_below : (shards : ℕ) (taps : List Tap) → ((token : List ℕ) → shard_o
 all_below shards [] within = refl
 all_below shards (p ∷ taps) within =
     let below = filter (λ (q : Tap). nat_lt (shard_of_token q.token shards) shards) taps in
-    ap (λ b. cond b (p ∷ below) below) (lt-ltb (shard_of_token p.token shards) shards (within p.token)) ∙ ap (λ ps. p ∷ ps) (all_below shards taps within)
+    ap (λ b. cond b (p ∷ below) below)
+    (lt-ltb (shard_of_token p.token shards) shards (within p.token))
+    ∙ ap (λ ps. p ∷ ps) (all_below shards taps within)
 
 -- where each token has one of the shards, the runs of batches have all their taps
 pub all_runs_taps : (shards : ℕ) (batches : List (List Tap)) → ((token : List ℕ) → shard_of_token token shards < shards) → runs_taps (runs_of shards batches) ≡ batches_taps batches

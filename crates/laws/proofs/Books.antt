@@ -35,7 +35,8 @@ own_elsewhere token shard shards (entry ∷ entries) here apart =
     (λ (is : is_of token entry ≡ true).
     absurd (apart (sym (ap (λ (t : Token). shard_of_token (bytes_of t) shards) (same_token entry.token token is)) ∙ here 0 entry (omega arith))))
     (λ (other : is_of token entry ≡ false).
-    own_other token entry entries other ∙ own_elsewhere token shard shards entries (λ k d within. here (suc k) d (omega arith)) apart)
+    own_other token entry entries other
+    ∙ own_elsewhere token shard shards entries (λ k d within. here (suc k) d (omega arith)) apart)
     (cases_Bool (is_of token entry))
 
 -- books of the shards from this one on

@@ -181,7 +181,8 @@ tells_by : (token k : Token) (a b : Bool) → token_eq token k ≡ a → is_eq (
 tells_by token k true true is also = refl
 tells_by token k true false is also =
     let yes : is_eq (token_cmp token k) ≡ true =
-    ap (λ (other : Token). is_eq (token_cmp token other)) (sym (same_token token k is)) ∙ token_same token
+    ap (λ (other : Token). is_eq (token_cmp token other)) (sym (same_token token k is))
+    ∙ token_same token
     in
     absurd (true≢false (sym yes ∙ also))
 tells_by token k false true is also =

@@ -89,7 +89,9 @@ module _ (fares : Fares) (moment : ℕ) where
           let alike = answered_alike fares (token_of_bytes f.token) one other (entry_of f) refl
           (All-head (SameFor one other) f fs same e) in
           ap (λ es. entry ∷ es) (more (one ++ entry ∷ []) (other ++ entry ∷ [])
-          (All-weaker (SameFor one other) (SameFor (one ++ entry ∷ []) (other ++ entry ∷ [])) (λ g here before. push_mine fares (token_of_bytes g.token) one other entry (here before)) fs
+          (All-weaker (SameFor one other) (SameFor (one ++ entry ∷ []) (other ++ entry ∷ []))
+          (λ g here before. push_mine fares (token_of_bytes g.token) one other entry (here before))
+          fs
           (All-tail (SameFor one other) f fs same)))
           ∙ ap (λ (g : Entry). g ∷ after fares (other ++ g ∷ [])
           (filter (is_tap_before moment) fs)) alike

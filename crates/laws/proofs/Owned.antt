@@ -1,5 +1,6 @@
 -- The entries of one token among entries, and what holds of each of them.
-use Rattle.std.proofs.Common.{◌≡◌, true, false, List, [], ◌∷◌, ◌++◌, map, refl, sym, ap, subst, ◌∙◌, ⊎_elim}
+use Rattle.std.proofs.Common.{◌≡◌, true, false, List, [], ◌∷◌, ◌++◌, map, refl, sym, ap, subst, ◌∙◌}
+use Rattle.std.proofs.Common.{⊎_elim}
 use Rattle.std.specs.List.{AllByRecursion}
 use Rattle.std.specs.declared.cmp.Ordering.TheVariants.{Less, Equal}
 use Rattle.std.proofs.lemmas.Bool.{cases_Bool}
@@ -30,7 +31,8 @@ is_own token entry is = ap (λ (t : Token). token_eq t token) is ∙ token_eq-re
 pub own_all : (token : Token) (entries : List Entry) → AllOf token entries → own token entries ≡ entries
 own_all token [] all = own_none token
 own_all token (entry ∷ entries) all =
-    own_same token entry entries (is_own token entry all.0) ∙ ap (λ (es : List Entry). entry ∷ es) (own_all token entries all.1)
+    own_same token entry entries (is_own token entry all.0)
+    ∙ ap (λ (es : List Entry). entry ∷ es) (own_all token entries all.1)
 
 -- of the token's own entries holds what holds of all, and they are its
 pub own_each : (P : Entry → Type 0) (token : Token) (entries : List Entry) → AllByRecursion P entries → AllByRecursion P (own token entries) × AllOf token (own token entries)
@@ -38,7 +40,8 @@ own_each P token [] all = rw own_none (tt, tt)
 own_each P token (entry ∷ entries) all =
     let rest = own_each P token entries all.1 in
     ⊎_elim
-    (λ (is : is_of token entry ≡ true). rw (own_same token entry entries is) ((all.0, rest.0), (same_token entry.token token is, rest.1)))
+    (λ (is : is_of token entry ≡ true). rw (own_same token entry entries is)
+    ((all.0, rest.0), (same_token entry.token token is, rest.1)))
     (λ (other : is_of token entry ≡ false). rw (own_other token entry entries other) rest)
     (cases_Bool (is_of token entry))
 
@@ -57,7 +60,8 @@ less_apart a b less =
 pub own_below : (token : Token) (entries : List Entry) → AllByRecursion (λ entry. token_cmp entry.token token ≡ Less) entries → own token entries ≡ []
 own_below token [] below = own_none token
 own_below token (entry ∷ entries) below =
-    own_other token entry entries (less_apart entry.token token below.0) ∙ own_below token entries below.1
+    own_other token entry entries (less_apart entry.token token below.0)
+    ∙ own_below token entries below.1
 
 -- ---- legal histories
 -- a reply depends on the token's own entries before
@@ -81,10 +85,12 @@ place_of token [] [] entry after is = let bad : [] ≡ entry ∷ after = sym (ow
 place_of token [] (b ∷ before) entry after is = let bad : [] ≡ b ∷ (before ++ entry ∷ after) = sym (own_none token) ∙ is in cc
 place_of token (e ∷ history) before entry after is =
     ⊎_elim
-    (λ (here : is_of token e ≡ true). at before (sym (own_same token e history here) ∙ is) (same_token e.token token here)
+    (λ (here : is_of token e ≡ true). at before (sym (own_same token e history here) ∙ is)
+    (same_token e.token token here)
     (λ b same. place_of token history b entry after same))
     (λ (other : is_of token e ≡ false).
-    let place = place_of token history before entry after (sym (own_other token e history other) ∙ is) in
+    let place = place_of token history before entry after
+    (sym (own_other token e history other) ∙ is) in
     record {
       front = e ∷ place.front;
       behind = place.behind;
@@ -113,7 +119,8 @@ place_of token (e ∷ history) before entry after is =
           front = e ∷ place.front;
           behind = place.behind;
           whole = ap (λ (es : List Entry). e ∷ es) place.whole;
-          own_front = own_same token e place.front (is_own token e of) ∙ ap (λ (es : List Entry). e ∷ es) place.own_front
+          own_front = own_same token e place.front (is_own token e of)
+              ∙ ap (λ (es : List Entry). e ∷ es) place.own_front
               ∙ ap (λ (x : Entry). x ∷ before) first;
           is = place.is;
         }

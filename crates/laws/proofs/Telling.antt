@@ -78,7 +78,8 @@ module _ (fares : Fares) (letters : AreLetters fares.meaning.modes) (token : Tok
   own_is : (earlier : List Entry) → AllOf token earlier → own token (done ++ earlier) ≡ earlier
   own_is earlier all =
       own-append token done earlier
-      ∙ ap (λ (es : List Entry). es ++ own token earlier) (own_below token done (each-weaker _ _ done (λ entry known. known.1) below))
+      ∙ ap (λ (es : List Entry). es ++ own token earlier)
+      (own_below token done (each-weaker _ _ done (λ entry known. known.1) below))
       ∙ own_all token earlier all
 
   next_is : (earlier rest : List Entry) (entry : Entry) (line : List ℕ) → IsOwn fares token (earlier ++ entry ∷ rest) → length (done ++ (earlier ++ entry ∷ rest)) ≤ 2 ^ 62
@@ -93,7 +94,9 @@ module _ (fares : Fares) (letters : AreLetters fares.meaning.modes) (token : Tok
       = subst (λ (t : Token). IsLedgerLine fares t (length earlier + 1) entry (reason_after fares t earlier entry) line) (sym is) shown in
       record {
         postable = postable;
-        no_fall = All-from_recursion (λ (before : Entry). token_number before.token ≤ token_number entry.token) (done ++ earlier) (no_fall earlier entry of.0 is postable);
+        no_fall = All-from_recursion
+            (λ (before : Entry). token_number before.token ≤ token_number entry.token)
+            (done ++ earlier) (no_fall earlier entry of.0 is postable);
         replied = replied_same fares earlier (done ++ earlier) entry (alone ∙ sym owned) (known.legal.each earlier entry rest refl);
         shown = subst (λ (es : List Entry). IsNextLine fares es entry line) (sym owned) line_is;
         short = short;
@@ -153,8 +156,11 @@ goes_on fares history done token list known goes = record {
     by : (ts : List Token) → AllByRecursion (λ z. token_cmp token z ≡ Less) ts → AllByRecursion (λ t. AreBelow t done) ts
         → AllByRecursion (λ t. AreBelow t (done ++ own token history)) ts
     by [] less before = tt
-    by (t ∷ ts) less before =
-        (each-append _ done (own token history) before.0 (own_are_below fares token t (own token history) known less.0), by ts less.1 before.1)
+    by (t ∷ ts) less before = (
+      each-append _ done (own token history) before.0
+          (own_are_below fares token t (own token history) known less.0),
+      by ts less.1 before.1,
+    )
 
 told_each : (fares : Fares) (history done : List Entry) (list : List Token) (text : List ℕ) → AreLetters fares.meaning.modes → ((t : Token) → IsLegal fares (own t history))
     → AllByRecursion IsPostable history → Goes fares history done list → AreLinesOfEach fares history list text

@@ -568,5 +568,6 @@ finished old_text new_text old new out mid end removed begun_old begun_new head 
         shown = refl;
         counted = is.told.counted;
       },
-      Appends-trans out mid end corrections_head (corrections_lines is.changes) head is.told.written,
+      Appends-trans out mid end corrections_head (corrections_lines is.changes) head
+          is.told.written,
     )

@@ -134,7 +134,8 @@ pub summed_all : (out0 out out' : Option (List ℕ)) (last : Option TokenSum) (r
 summed_all out0 out out' last removed changes appends summed = record {
   written = subst (λ (l : Option TokenSum). Appends out0 out' (ended_lines None changes ++ sums_line l))
       summed.is_last
-      (Appends-trans out0 out out' (ended_lines None changes) (sums_line last) summed.written appends);
+      (Appends-trans out0 out out' (ended_lines None changes) (sums_line last) summed.written
+      appends);
   counted = summed.counted;
 }
 

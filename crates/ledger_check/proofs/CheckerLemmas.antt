@@ -14,7 +14,8 @@ use Rattle.ledger_check.specs.declared.checker.LinesSoFar.{LinesSoFar}
 use Rattle.ledger_check.specs.declared.checker.Verdict.{Verdict}
 use Rattle.ledger_check.specs.declared.checker.Verdict.TheVariants.{Legal, NoLine}
 use Rattle.ledger_check.specs.declared.replay.Replay.{Replay}
-use Rattle.ledger_check.proofs.LineLemmas.{lacks-append, lacks-end, lacks-last, lines-line, lines-open, lines-part}
+use Rattle.ledger_check.proofs.LineLemmas.{lacks-append, lacks-end, lacks-last, lines-line}
+use Rattle.ledger_check.proofs.LineLemmas.{lines-open, lines-part}
 use Rattle.ledger_check.proofs.ReplayLemmas.{wrong, wrong_long}
 
 apart : true ≡ false → ⊥

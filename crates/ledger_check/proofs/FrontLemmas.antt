@@ -1,5 +1,6 @@
 -- A line tells one tap.
-use Rattle.std.proofs.Common.{◌≡◌, ℕ, ◌+◌, ◌/◌, ◌%◌, ◌^◌, ◌<◌, pos, List, ◌∷◌, ◌++◌, get_or, Ok, refl, sym, ap, subst, ◌∙◌, arith, decimal}
+use Rattle.std.proofs.Common.{◌≡◌, ℕ, ◌+◌, ◌/◌, ◌%◌, ◌^◌, ◌<◌, pos, List, ◌∷◌, ◌++◌, get_or, Ok}
+use Rattle.std.proofs.Common.{refl, sym, ap, subst, ◌∙◌, arith, decimal}
 use Rattle.std.proofs.lemmas.Fmt.{decimal_injective}
 use Rattle.hex.specs.Hex.{decode_sized, encode_lower}
 use Rattle.hex.proofs.HexLemmas.{decode_sized-encode_lower}
@@ -15,7 +16,8 @@ use Rattle.tap_views.proofs.TokenLemmas.{bytes_of-injective}
 use Rattle.tap_views.proofs.TokenBytes.{token_bytes, token_length}
 use Rattle.ledger_check.specs.Recounts.{IsLineOfTap}
 use Rattle.ledger_check.specs.inside.Fronts.{HasFront}
-use Rattle.ledger_check.proofs.FieldLemmas.{date_bytes, date_shown, decimal_lacks, moment_lacks, moment_parts, token_lacks}
+use Rattle.ledger_check.proofs.FieldLemmas.{date_bytes, date_shown, decimal_lacks, moment_lacks}
+use Rattle.ledger_check.proofs.FieldLemmas.{moment_parts, token_lacks}
 use Rattle.ledger_check.proofs.LineLemmas.{same_cut}
 use Rattle.ledger_check.proofs.MomentLemmas.{clock_number}
 

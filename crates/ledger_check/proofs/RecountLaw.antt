@@ -1,5 +1,7 @@
 -- A recount finds no line wrong exactly if the text is a ledger.
-use Rattle.std.proofs.Common.{◌≡◌, ◌≢◌, ℕ, ◌+◌, ◌^◌, ◌<◌, ◌≤◌, inl, Bool, true, false, List, [], ◌∷◌, ◌++◌, length, map, All, Option, None, Some, refl, sym, ap, subst, ◌∙◌, arith, append_assoc, length-append, if◌then◌else◌}
+use Rattle.std.proofs.Common.{◌≡◌, ◌≢◌, ℕ, ◌+◌, ◌^◌, ◌<◌, ◌≤◌, inl, Bool, true, false, List, []}
+use Rattle.std.proofs.Common.{◌∷◌, ◌++◌, length, map, All, Option, None, Some, refl, sym, ap, subst}
+use Rattle.std.proofs.Common.{◌∙◌, arith, append_assoc, length-append, if◌then◌else◌}
 use Rattle.std.proofs.lemmas.List.{map-append}
 use Rattle.std.proofs.lemmas.Slice.Eq.{bytes_eq-Decides}
 use Rattle.std.specs.Str.{bytes_eq}
@@ -13,7 +15,10 @@ use Rattle.fare_texts.specs.Tellers.{next_entry}
 use Rattle.ledger_check.specs.Ledger.{AreNext, IsNext, IsNextLine, token_number}
 use Rattle.ledger_check.specs.Lines.{lines_of}
 use Rattle.ledger_check.specs.Struck.{tap_of_entry}
-use Rattle.ledger_check.specs.Recounts.{AreTaken, IsCounted, IsJudged, IsLineOfTap, RecountsDecide, TakenLine, falls_after, lines_from, one_wrong, run_of, run_with, taps_from, taps_with, told_for, with_first, wrong_count}
+use Rattle.ledger_check.specs.Recounts.{AreTaken, IsCounted, IsJudged, IsLineOfTap, RecountsDecide}
+use Rattle.ledger_check.specs.Recounts.{TakenLine, falls_after, lines_from, one_wrong, run_of}
+use Rattle.ledger_check.specs.Recounts.{run_with, taps_from, taps_with, told_for, with_first}
+use Rattle.ledger_check.specs.Recounts.{wrong_count}
 use Rattle.ledger_check.specs.declared.walk.CountedTap.{CountedTap}
 use Rattle.ledger_check.specs.declared.walk.Told.{Told}
 use Rattle.ledger_check.specs.declared.walk.Told.TheVariants.{Nothing, NoLine}
@@ -228,7 +233,9 @@ all_right_at : (fares : Fares) (next : TakenLine) (taken : List TakenLine) → A
 all_right_at fares first [] are before entries lines split next =
     let head : first.line ≡ head_text = cc in
     let empty : lines ≡ [] = cc in
-    let none : entries ≡ [] = none_left fares [] entries (subst (λ (ls : List (List ℕ)). AreNext fares [] entries ls) empty next) in
+    let none : entries ≡ [] =
+    none_left fares [] entries
+    (subst (λ (ls : List (List ℕ)). AreNext fares [] entries ls) empty next) in
     let told : first.finding.told ≡ Nothing = are.1.1 ∙ ap (λ (b : Bool). if b then Nothing else NoLine) ((bytes_eq-Decides first.line head_text).1 head) in
     let here : one_wrong first.finding.told ≡ 0 = ap one_wrong told in
     record {
@@ -243,7 +250,9 @@ all_right_at fares next (last ∷ earlier) are before entries lines split nexts 
     let parts = next-parts fares [] entries cut.rest next.line [] (subst (λ (ls : List (List ℕ)). AreNext fares [] entries ls) cut.whole nexts) in
     let rest = before parts.entries cut.rest cut.front parts.are in
     let one = legal_step fares (run_of taken) parts.entries next.line next.finding.tap next.finding.told next.wanted parts.entry are.1 rest.legal.state parts.is in
-    let whole : entries ≡ parts.entries ++ parts.entry ∷ [] = parts.whole ∙ ap (λ (es : List Entry). parts.entries ++ parts.entry ∷ es) (none_left fares _ parts.after parts.rest) in
+    let whole : entries ≡ parts.entries ++ parts.entry ∷ [] =
+    parts.whole ∙ ap (λ (es : List Entry). parts.entries ++ parts.entry ∷ es)
+    (none_left fares _ parts.after parts.rest) in
     let before_none : wrong_count taken ≡ 0 = rest.none in
     let here : one_wrong next.finding.told ≡ 0 = one.none in
     record {

@@ -1,5 +1,7 @@
 -- What a recount of a text in pieces knows, by what its parts found.
-use Rattle.std.proofs.Common.{◌≡◌, ℕ, ◌+◌, ◌<◌, ◌≤◌, inl, inr, Bool, true, false, List, [], ◌∷◌, ◌++◌, length, Option, None, Some, refl, sym, ap, subst, ◌∙◌, arith, append_assoc, append-nil, length-append, string_bytes, if◌then◌else◌}
+use Rattle.std.proofs.Common.{◌≡◌, ℕ, ◌+◌, ◌<◌, ◌≤◌, inl, inr, Bool, true, false, List, [], ◌∷◌}
+use Rattle.std.proofs.Common.{◌++◌, length, Option, None, Some, refl, sym, ap, subst, ◌∙◌, arith}
+use Rattle.std.proofs.Common.{append_assoc, append-nil, length-append, string_bytes, if◌then◌else◌}
 use Rattle.std.proofs.lemmas.Slice.Eq.{bytes_eq-Decides}
 use Rattle.std.specs.Str.{bytes_eq}
 use Rattle.fare_table.specs.Fares.{Fares}
@@ -10,7 +12,8 @@ use Rattle.tap_views.specs.declared.encoder.TapFields.{TapFields}
 use Rattle.tap_views.specs.declared.token.Token.{Token}
 use Rattle.fare_texts.specs.LedgerLines.{head_text}
 use Rattle.ledger_check.specs.Lines.{IsLine, Lacks, lines_of}
-use Rattle.ledger_check.specs.Recounts.{IsJudged, IsLineOfTap, IsTaken, TakenLine, lines_from, run_of, run_with, told_text}
+use Rattle.ledger_check.specs.Recounts.{IsJudged, IsLineOfTap, IsTaken, TakenLine, lines_from}
+use Rattle.ledger_check.specs.Recounts.{run_of, run_with, told_text}
 use Rattle.ledger_check.specs.RecountStates.{AreSums, HasRecounted, HasRunTeller, HasTakenLines, IsKept}
 use Rattle.ledger_check.specs.inside.Recounts.{HasFound, HasJudged, IsFirstFinding, TookLine}
 use Rattle.ledger_check.specs.declared.recount.LinesTaken.{LinesTaken}

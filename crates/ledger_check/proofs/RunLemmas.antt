@@ -1,5 +1,7 @@
 -- The entries of the last token, and the entries of all.
-use Rattle.std.proofs.Common.{◌≡◌, ℕ, ◌+◌, ◌<◌, ◌≤◌, ◌⊎◌, inl, inr, ⊎_elim, Bool, true, false, cond, List, [], ◌∷◌, ◌++◌, length, get_or, filter, All, refl, sym, ap, subst, ◌∙◌, arith, zero, suc, length-append, le_of_eq}
+use Rattle.std.proofs.Common.{◌≡◌, ℕ, ◌+◌, ◌<◌, ◌≤◌, ◌⊎◌, inl, inr, ⊎_elim, Bool, true, false, cond}
+use Rattle.std.proofs.Common.{List, [], ◌∷◌, ◌++◌, length, get_or, filter, All, refl, sym, ap}
+use Rattle.std.proofs.Common.{subst, ◌∙◌, arith, zero, suc, length-append, le_of_eq}
 use Rattle.std.specs.Prelude.{nat_lt}
 use Rattle.std.proofs.lemmas.Bool.{cases_lt}
 use Rattle.std.proofs.lemmas.Bool.Decides.{nat_tests}
@@ -80,7 +82,8 @@ unfallen run entries token (inr last) fits up =
     let most : token_number last.last ≤ token_number token = grind (arith, nat_tests) in
     let is : last.last ≡ token = number_exact last.last token last.fits fits (omega (arith, least, most)) in
     record {
-      same = subst (λ (t : Token). own t run ≡ own t entries) is (own_all last.last run last.all ∙ sym last.owned);
+      same = subst (λ (t : Token). own t run ≡ own t entries) is
+          (own_all last.last run last.all ∙ sym last.owned);
       up_to = λ k d within. let at = last.up_to k d within in omega (arith, at, most);
     })
     (cases_lt (token_number last.last) (token_number token))

@@ -1,5 +1,6 @@
 -- What was struck out, by the lines that were read.
-use Rattle.std.proofs.Common.{◌≡◌, ℕ, true, false, List, [], ◌∷◌, ◌++◌, map, Option, Some, None, is_some, sym, ap, subst, ◌∙◌}
+use Rattle.std.proofs.Common.{◌≡◌, ℕ, true, false, List, [], ◌∷◌, ◌++◌, map, Option, Some, None}
+use Rattle.std.proofs.Common.{is_some, sym, ap, subst, ◌∙◌}
 use Rattle.std.proofs.lemmas.List.{map-append}
 use Rattle.fare_table.specs.Fares.{Fares}
 use Rattle.fare_texts.specs.LedgerLines.{head_text}
@@ -38,7 +39,9 @@ line_more : (fares : Fares) (rest : List (List ℕ)) (line : List ℕ) (taps : L
     → AreTapsOfLines fares (head_text ∷ rest) taps → AreTapsOfLines fares (head_text ∷ (rest ++ line ∷ [])) (taps ++ tap_fields tap ∷ [])
 line_more fares rest line taps tap tells told = λ entries are.
     let parts = next-parts fares [] entries rest line [] are in
-    let whole : entries ≡ parts.entries ++ parts.entry ∷ [] = parts.whole ∙ ap (λ (es : List Entry). parts.entries ++ parts.entry ∷ es) (none_left fares _ parts.after parts.rest) in
+    let whole : entries ≡ parts.entries ++ parts.entry ∷ [] =
+    parts.whole ∙ ap (λ (es : List Entry). parts.entries ++ parts.entry ∷ es)
+    (none_left fares _ parts.after parts.rest) in
     let of = tap_of_next fares parts.entries parts.entry line tap tells parts.is in
     ap (map tap_of_entry) whole ∙ map-append tap_of_entry parts.entries (parts.entry ∷ [])
     ∙ ap (λ (ts : List TapFields). ts ++ tap_of_entry parts.entry ∷ []) (told parts.entries parts.are)

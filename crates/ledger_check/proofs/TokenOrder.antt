@@ -1,5 +1,6 @@
 -- Tokens in their order, and the entries of one of them.
-use Rattle.std.proofs.Common.{◌≡◌, ℕ, ◌+◌, ◌<◌, ◌≤◌, Bool, true, false, cond, List, [], ◌∷◌, ◌++◌, length, filter, All, Less, Greater, refl, ap, ◌∙◌, arith, ⊎_elim}
+use Rattle.std.proofs.Common.{◌≡◌, ℕ, ◌+◌, ◌<◌, ◌≤◌, Bool, true, false, cond, List, [], ◌∷◌, ◌++◌}
+use Rattle.std.proofs.Common.{length, filter, All, Less, Greater, refl, ap, ◌∙◌, arith, ⊎_elim}
 use Rattle.std.proofs.lemmas.Bool.{cases_Bool}
 use Rattle.std.proofs.lemmas.Bool.Decides.{nat_tests}
 use Rattle.std.proofs.lemmas.List.Elements.{filter-append, All-tail}
@@ -32,7 +33,8 @@ own-above token [] limit up_to above = refl
 own-above token (e ∷ entries) limit up_to above =
     let first : token_number e.token ≤ limit = up_to 0 e (omega arith) in
     ap (λ (test : Bool). cond test (e ∷ filter (is_of token) entries) (filter (is_of token) entries)) (not_of e.token token (omega arith))
-    ∙ own-above token entries limit (All-tail (λ (x : Entry). token_number x.token ≤ limit) e entries up_to) above
+    ∙ own-above token entries limit
+    (All-tail (λ (x : Entry). token_number x.token ≤ limit) e entries up_to) above
 
 -- a token's entries with one more of its own
 pub own-more : (token : Token) (entries : List Entry) (entry : Entry) → entry.token ≡ token → own token (entries ++ entry ∷ []) ≡ own token entries ++ entry ∷ []

@@ -1,5 +1,6 @@
 -- A walk's teller, and the entries of the last token.
-use Rattle.std.proofs.Common.{◌≡◌, ◌+◌, ◌<◌, Bool, true, false, cond, List, [], ◌∷◌, ◌++◌, filter, All, Some, refl, sym, ap, subst, ◌∙◌, arith, length-append}
+use Rattle.std.proofs.Common.{◌≡◌, ◌+◌, ◌<◌, Bool, true, false, cond, List, [], ◌∷◌, ◌++◌, filter}
+use Rattle.std.proofs.Common.{All, Some, refl, sym, ap, subst, ◌∙◌, arith, length-append}
 use Rattle.std.specs.Prelude.{nat_lt}
 use Rattle.std.proofs.lemmas.Bool.{lt-ltb}
 use Rattle.std.proofs.lemmas.Bool.Decides.{nat_tests}
@@ -56,7 +57,8 @@ pub run_equal : (fares : Fares) (teller : Teller) (run : List Entry) (token : To
     → (own token run ≡ run) × (falls_after run token ≡ false)
 run_equal fares teller run token stands same =
     let number : token_number teller.token ≡ token_number token = ap (λ (t : Token). token_number t) same in (
-      own_all token run (subst (λ (t : Token). All (λ (e : Entry). e.token ≡ t) run) same stands.of_token),
+      own_all token run
+          (subst (λ (t : Token). All (λ (e : Entry). e.token ≡ t) run) same stands.of_token),
       falls_is run teller.token token stands.of_token stands.some ∙ (let e : nat_lt (token_number token) (token_number teller.token) ≡ false = grind (arith, nat_tests) in e),
     )
 

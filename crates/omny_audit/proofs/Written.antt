@@ -1,5 +1,6 @@
 -- What was written, piece by piece.
-use Rattle.std.proofs.Common.{◌≡◌, ℕ, List, ◌++◌, sym, ap, ◌∙◌, append_assoc, arith, drop, length, length-drop, take, take_all, ◌-◌}
+use Rattle.std.proofs.Common.{◌≡◌, ℕ, List, ◌++◌, sym, ap, ◌∙◌, append_assoc, arith, drop, length}
+use Rattle.std.proofs.Common.{length-drop, take, take_all, ◌-◌}
 use Rattle.std.proofs.lemmas.List.{take-append-drop}
 
 -- a beginning of a text, and some bytes more of the rest

@@ -158,7 +158,8 @@ adding_more before now after (Some text) left then_left line items end same addi
           ∙ ap (λ k. upload_line k told ++ here.rest) number)
           ∙ sym (append_assoc (upload_lines before.uploads adding.more)
           (upload_line (before.uploads + length adding.more) told) here.rest)
-          ∙ ap (λ text. text ++ here.rest) (sym (upload_lines-push before.uploads adding.more told));
+          ∙ ap (λ text. text ++ here.rest)
+          (sym (upload_lines-push before.uploads adding.more told));
       left_is = here.left;
     }
 

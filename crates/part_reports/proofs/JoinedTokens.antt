@@ -67,7 +67,8 @@ others_by : (token : Token) (line : TokenLine) (lines : List TokenLine) (b : Boo
 others_by token line lines true is rest none = absurd (cc)
 others_by token line lines false is rest none = (
   λ same. (let at : token_eq token line.token ≡ true =
-      subst (λ other. token_eq token other ≡ true) same (token_eq-refl token) in absurd (cc (at, is))),
+      subst (λ other. token_eq token other ≡ true) same (token_eq-refl token) in
+      absurd (cc (at, is))),
   rest none,
 )
 
@@ -144,7 +145,8 @@ once_by : (token : Token) (line : TokenLine) (lines : List TokenLine) (b : Bool)
     → length (if b then line ∷ lines_of_token token lines else lines_of_token token lines) ≤ 1
 once_by token line lines true is rest below =
     let none : lines_of_token token lines ≡ [] = no_line token lines
-    (subst (λ t. AllByRecursion (λ line. t ≢ line.token) lines) (sym (same_token token line.token is))
+    (subst (λ t. AllByRecursion (λ line. t ≢ line.token) lines)
+    (sym (same_token token line.token is))
     (below_others line.token lines below)) in
     let size = ap length none in
     omega (arith, size)
@@ -189,8 +191,11 @@ some_by : (token : Token) (first : TokenLine) (lines : List TokenLine) (line : T
     → (if b then first ∷ lines_of_token token lines else lines_of_token token lines) ≡ line ∷ more
     → P line × (token ≡ line.token)
 some_by token first lines line more P true test holds rest is =
-    let same : first ≡ line = cc in
-    (subst P same holds, same_token token first.token test ∙ ap (λ (line : TokenLine). line.token) same)
+    let same : first ≡ line = cc in (
+      subst P same holds,
+      same_token token first.token test
+          ∙ ap (λ (line : TokenLine). line.token) same,
+    )
 some_by token first lines line more P false test holds rest is = rest is
 
 pub some_of : (token : Token) (lines : List TokenLine) (line : TokenLine) (more : List TokenLine)

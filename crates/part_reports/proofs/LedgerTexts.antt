@@ -31,7 +31,8 @@ pub behind_head : (file line : List ℕ) (now : Option (List ℕ)) (at : Standin
 behind_head file line now at taken left head source = record {
   left = drop_through 10 file;
   shown = sym (taken_and_left file) ∙ ap (λ line. line ++ drop_through 10 file) (sym taken ∙ head);
-  stands = MatchOption-at_some (Unit {0}) (λ left. StandsInText (Entries, left) at) (drop_through 10 file) left source;
+  stands = MatchOption-at_some (Unit {0}) (λ left. StandsInText (Entries, left) at)
+      (drop_through 10 file) left source;
 }
 
 pub no_head : (file line : List ℕ) → line ≡ take_through 10 file → line ≢ head_text
@@ -43,7 +44,9 @@ pub no_lines : (file : List ℕ) (now : Option (List ℕ)) → now ≡ Some (dro
     → IfSome now (λ left. (list : List TokenLine) → ¬ (IsTextOf (Entries, left) list))
     → IsNoLedger file
 no_lines file now left none lines is =
-    MatchOption-at_some (Unit {0}) (λ left. (list : List TokenLine) → ¬ (IsTextOf (Entries, left) list)) (drop_through 10 file) left none lines
+    MatchOption-at_some (Unit {0})
+    (λ left. (list : List TokenLine) → ¬ (IsTextOf (Entries, left) list)) (drop_through 10 file)
+    left none lines
     ((is.each, is.no_fall), ap (drop_through 10) is.shown ∙ head_left (text_of lines))
 
 -- ---- several ledgers
@@ -87,7 +90,8 @@ lefts_of (first ∷ files) (file ∷ knowns) [] same are = elim are [ ]
 lefts_of (first ∷ files) (file ∷ knowns) (at ∷ ats) same are =
     let is : file ≡ Some first = cc in
     let rest : knowns ≡ map (λ file. Some file) files = cc in
-    let begun : IsBegunLedger first at = MatchOption-at_some (Unit {0}) (λ file. IsBegunLedger file at) first is are.0 in
+    let begun : IsBegunLedger first at =
+    MatchOption-at_some (Unit {0}) (λ file. IsBegunLedger file at) first is are.0 in
     let more = lefts_of files knowns ats rest are.1 in
     record {
       lefts = begun.left ∷ more.lefts;

@@ -423,7 +423,8 @@ no_reports [] back file [] lists same are none = absurd (cc)
 no_reports [] back file (first ∷ files) [] same are none = elim are [ ]
 no_reports [] back file (first ∷ files) (charges ∷ lists) same are none =
     let is : file ≡ Some first = cc in
-    MatchOption-at_some (Unit {0}) (λ file. (charges : List LineCharge) → ¬ (AddUpToText charges file)) first is none
+    MatchOption-at_some (Unit {0})
+    (λ file. (charges : List LineCharge) → ¬ (AddUpToText charges file)) first is none
     charges are.0
 no_reports (other ∷ front) back file [] lists same are none = absurd (cc)
 no_reports (other ∷ front) back file (first ∷ files) [] same are none = elim are [ ]

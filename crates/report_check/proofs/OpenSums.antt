@@ -45,7 +45,9 @@ as_below : (token : Token) (entries : List Entry)
     → AreBelow (map token_of entries) (token ∷ [])
 as_below token entries below =
     All-map (λ (t : Token). All (λ (o : Token). token_cmp t o ≡ Less) (token ∷ [])) token_of entries
-    (All-weaker (λ (e : Entry). token_cmp e.token token ≡ Less) (λ (e : Entry). All (λ (o : Token). token_cmp e.token o ≡ Less) (token ∷ [])) (λ e less. All-cons (λ (o : Token). token_cmp e.token o ≡ Less) token [] less
+    (All-weaker (λ (e : Entry). token_cmp e.token token ≡ Less)
+    (λ (e : Entry). All (λ (o : Token). token_cmp e.token o ≡ Less) (token ∷ []))
+    (λ e less. All-cons (λ (o : Token). token_cmp e.token o ≡ Less) token [] less
     (All-nil (λ (o : Token). token_cmp e.token o ≡ Less))) entries below)
 
 -- the sums by token, with those of the last
@@ -70,8 +72,10 @@ all_below entries tokens held is next less =
     let P : Entry → Type 0 = λ e. token_cmp e.token next ≡ Less in
     subst (λ (es : List Entry). All P es) (sym is.both)
     (All-append P is.lower is.run
-    (All-weaker (λ (e : Entry). token_cmp e.token held.token ≡ Less) P (λ e low. token_cmp-total.trans e.token held.token next low less) is.lower is.below)
-    (All-weaker (λ (e : Entry). e.token ≡ held.token) P (λ e same. ap (λ (t : Token). token_cmp t next) same ∙ less) is.run is.its))
+    (All-weaker (λ (e : Entry). token_cmp e.token held.token ≡ Less) P
+    (λ e low. token_cmp-total.trans e.token held.token next low less) is.lower is.below)
+    (All-weaker (λ (e : Entry). e.token ≡ held.token) P
+    (λ e same. ap (λ (t : Token). token_cmp t next) same ∙ less) is.run is.its))
 
 -- a run that a higher token follows, of which no entry was added yet
 pub run_of_next : (entries : List Entry) (tokens tokens' : List (Token × Sums)) (last held : OpenToken)

@@ -33,7 +33,8 @@ digits_unique (c ∷ a) [] x y is also none none_too e =
 digits_unique (c ∷ a) (d ∷ b) x y is also none none_too e =
     let first : c ≡ d = cc in
     let more : a ++ x ≡ b ++ y = cc in
-    let (same, rest) = digits_unique a b x y (and_parts (is_ascii_digit c) (all_ascii_digits a) is).1
+    let (same, rest) = digits_unique a b x y
+    (and_parts (is_ascii_digit c) (all_ascii_digits a) is).1
     (and_parts (is_ascii_digit d) (all_ascii_digits b) also).1 none none_too more in
     (let t : c ∷ a ≡ d ∷ b = cc in t, rest)
 

@@ -31,7 +31,10 @@ four_counts start one two three done a m b n c o d p first second third fourth =
 pub next_token : (a b c : Option (List ℕ)) (line : List ℕ) (sums : List (Token × Sums)) (i : ℕ) (sum : Token × Sums) → slice_get sums i ≡ Some sum
     → Appends a b (flat_map token_line (take i sums)) → line ≡ token_line sum → Appends b c line → Appends a c (flat_map token_line (take (i + 1) sums))
 next_token a b c line sums i sum at before shown more =
-    subst (λ (text : List ℕ). Appends a c text) (ap (λ (last : List ℕ). flat_map token_line (take i sums) ++ last) shown ∙ (flat_map_more token_line [] (take i sums) sum ∙ ap (λ taken. flat_map token_line taken) (take_next sums i sum at)))
+    subst (λ (text : List ℕ). Appends a c text)
+    (ap (λ (last : List ℕ). flat_map token_line (take i sums) ++ last) shown
+    ∙ (flat_map_more token_line [] (take i sums) sum
+    ∙ ap (λ taken. flat_map token_line taken) (take_next sums i sum at)))
     (Appends-trans a b c (flat_map token_line (take i sums)) line before more)
 
 -- what waits is written after what was
@@ -49,7 +52,9 @@ last_out a b c start waits sums i all p q =
     subst (λ (taken : List (Token × Sums)). Appends a c (start ++ flat_map token_line taken)) (take_all i sums all) (waits_out a b c start waits (flat_map token_line (take i sums)) p q)
 
 -- one upload more
-pub upload_lines-push : (upload : ℕ) (ends : List UploadEnd) (end : UploadEnd) → upload_lines upload (ends ++ end ∷ []) ≡ upload_lines upload ends ++ upload_line (upload + length ends) end
+pub upload_lines-push : (upload : ℕ) (ends : List UploadEnd) (end : UploadEnd)
+    → upload_lines upload (ends ++ end ∷ [])
+    ≡ upload_lines upload ends ++ upload_line (upload + length ends) end
 upload_lines-push upload [] end = append-nil (upload_line upload end) ∙ ap (λ n. upload_line n end) (sym (add-zero upload))
 upload_lines-push upload (first ∷ ends) end =
     let next : (upload + 1) + length ends ≡ upload + length (first ∷ ends) = omega arith in

@@ -62,4 +62,3 @@ posted_apart fares xs ys others =
     (sym (append-nil (posted fares xs)))
     ∙ ap (λ (es : List Entry). posted fares xs ++ es)
     (after_others fares (posted fares xs) [] ys others)
-

@@ -61,7 +61,8 @@ sorted_pairs (x ∷ xs) up = (
 pub pairs_map : {X : Type 0} (R S : X → X → Type 0) (xs : List X) → ((x y : X) → R x y → S x y)
     → Pairs R xs → Pairs S xs
 pairs_map R S [] f pairs = tt
-pairs_map R S (x ∷ xs) f pairs = (All-weaker (R x) (S x) (f x) xs pairs.0, pairs_map R S xs f pairs.1)
+pairs_map R S (x ∷ xs) f pairs =
+    (All-weaker (R x) (S x) (f x) xs pairs.0, pairs_map R S xs f pairs.1)
 
 -- in order, and so in order within each token
 pub all_rising : (xs : List TapFields) → IsSorted tap_cmp xs → Pairs Rises xs

@@ -99,8 +99,11 @@ to_tokens taps others below =
     All-map (λ token. All (λ other. token_cmp token other ≡ Less) (map token_of_tap others))
     token_of_tap taps
     (All-weaker (λ (tap : TapFields). All (λ (other : TapFields).
-    token_cmp (token_of_tap tap) (token_of_tap other) ≡ Less) others) (λ (tap : TapFields). All (λ other. token_cmp (token_of_tap tap) other ≡ Less)
-    (map token_of_tap others)) (λ tap all. All-map (λ other. token_cmp (token_of_tap tap) other ≡ Less) token_of_tap others all) taps
+    token_cmp (token_of_tap tap) (token_of_tap other) ≡ Less) others)
+    (λ (tap : TapFields). All (λ other. token_cmp (token_of_tap tap) other ≡ Less)
+    (map token_of_tap others))
+    (λ tap all. All-map (λ other. token_cmp (token_of_tap tap) other ≡ Less) token_of_tap others
+    all) taps
     below)
 
 pub to_taps : (taps others : List TapFields)
@@ -108,8 +111,11 @@ pub to_taps : (taps others : List TapFields)
 to_taps taps others below =
     All-weaker (λ (tap : TapFields). All (λ other. token_cmp (token_of_tap tap) other ≡ Less)
     (map token_of_tap others)) (λ (tap : TapFields). All (λ (other : TapFields).
-    token_cmp (token_of_tap tap) (token_of_tap other) ≡ Less) others) (λ tap all. All-unmap (λ other. token_cmp (token_of_tap tap) other ≡ Less) token_of_tap others all) taps
-    (All-unmap (λ token. All (λ other. token_cmp token other ≡ Less) (map token_of_tap others)) token_of_tap taps
+    token_cmp (token_of_tap tap) (token_of_tap other) ≡ Less) others)
+    (λ tap all. All-unmap (λ other. token_cmp (token_of_tap tap) other ≡ Less) token_of_tap others
+    all) taps
+    (All-unmap (λ token. All (λ other. token_cmp token other ≡ Less) (map token_of_tap others))
+    token_of_tap taps
     below)
 
 -- the order of the taps is of no account
@@ -117,8 +123,10 @@ moved_below : (taps others list more : List TapFields) → IsCanonical taps list
     → IsCanonical others more → AreTapsBelow taps others → AreTapsBelow list more
 moved_below taps others list more one other below =
     All-weaker (λ (tap : TapFields). All (λ (o : TapFields).
-    token_cmp (token_of_tap tap) (token_of_tap o) ≡ Less) others) (λ (tap : TapFields). All (λ (o : TapFields).
-    token_cmp (token_of_tap tap) (token_of_tap o) ≡ Less) more) (λ tap all. All-permutation (λ (o : TapFields).
+    token_cmp (token_of_tap tap) (token_of_tap o) ≡ Less) others)
+    (λ (tap : TapFields). All (λ (o : TapFields).
+    token_cmp (token_of_tap tap) (token_of_tap o) ≡ Less) more)
+    (λ tap all. All-permutation (λ (o : TapFields).
     token_cmp (token_of_tap tap) (token_of_tap o) ≡ Less) others more other.moved all) list
     (All-permutation (λ (tap : TapFields). All (λ (o : TapFields).
     token_cmp (token_of_tap tap) (token_of_tap o) ≡ Less) others) taps list one.moved below)

@@ -137,7 +137,8 @@ run_below fares taps place run before edge within is below =
     let P : Token → Type 0 =
     λ token. All (λ o. token_cmp token o ≡ Less) (map token_of_tap (take run (drop place taps))) in
     let old : AreBelow (map token_of before) (map token_of_tap (take run (drop place taps))) =
-    All-weaker (λ token. All (λ o. token_cmp token o ≡ Less) (map token_of_tap taps)) P (λ token all. narrow token taps place run all) (map token_of before) below in
+    All-weaker (λ token. All (λ o. token_cmp token o ≡ Less) (map token_of_tap taps)) P
+    (λ token all. narrow token taps place run all) (map token_of before) below in
     let new : AreBelow (map token_of (posted fares (take place taps)))
     (map token_of_tap (take run (drop place taps))) =
     subst (λ tokens. AreBelow tokens (map token_of_tap (take run (drop place taps))))

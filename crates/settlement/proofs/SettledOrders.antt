@@ -116,5 +116,6 @@ module _ (uploads : List (List ℕ)) (token : Token) (taps : List TapFields)
 
   pub own_its : All (λ tap. token_of_tap tap ≡ token) taps
   own_its = subst (All (λ tap. token_of_tap tap ≡ token)) (sym is.own)
-      (All-weaker (λ tap. is_its token tap ≡ true) (λ tap. token_of_tap tap ≡ token) (λ tap same. same_token (token_of_tap tap) token same) (only token is.order)
+      (All-weaker (λ tap. is_its token tap ≡ true) (λ tap. token_of_tap tap ≡ token)
+      (λ tap same. same_token (token_of_tap tap) token same) (only token is.order)
       (filter_passes (is_its token) is.order))

@@ -1,5 +1,6 @@
 -- The book on its way out of the slot and back.
-use Rattle.std.proofs.Common.{◌≡◌, ℕ, ◌+◌, ◌*◌, ◌^◌, ◌<◌, List, [], ◌∷◌, sym, ap, ◌∙◌, subst, Option, Some, None}
+use Rattle.std.proofs.Common.{◌≡◌, ℕ, ◌+◌, ◌*◌, ◌^◌, ◌<◌, List, [], ◌∷◌, sym, ap, ◌∙◌, subst}
+use Rattle.std.proofs.Common.{Option, Some, None}
 use Rattle.atomic_table.specs.Table.{Allows, rest}
 use Rattle.shared_books.specs.declared.turns.rule.Opening.{Opening}
 use Rattle.shared_books.specs.Turns.{Boxed, IsTurn}

@@ -80,10 +80,13 @@ module _ (fares : Fares) (token : Token) (lower last : List TapFields)
       λ t is. All-cons (λ o. token_cmp t o ≡ Less) next [] is (All-nil (λ o. token_cmp t o ≡ Less)) in
       subst (λ (ts : List Token). AreBelow ts (next ∷ [])) (sym (map-append token_of_tap lower last))
       (All-append P (map token_of_tap lower) (map token_of_tap last)
-      (All-weaker (λ t. All (λ o. token_cmp t o ≡ Less) (token ∷ [])) P (λ t all. one t (token_cmp-total.trans t token next
+      (All-weaker (λ t. All (λ o. token_cmp t o ≡ Less) (token ∷ [])) P
+      (λ t all. one t (token_cmp-total.trans t token next
       (All-head (λ o. token_cmp t o ≡ Less) token [] all) less)) (map token_of_tap lower) below)
       (All-map P token_of_tap last
-      (All-weaker (λ (tap : TapFields). token_of_tap tap ≡ token) (λ (tap : TapFields). P (token_of_tap tap)) (λ tap same. subst P (sym same) (one token less)) last its)))
+      (All-weaker (λ (tap : TapFields). token_of_tap tap ≡ token)
+      (λ (tap : TapFields). P (token_of_tap tap)) (λ tap same. subst P (sym same) (one token less))
+      last its)))
 
 -- the entries of all taps are those of the lower tokens, and then those of the last
 entries_both : (fares : Fares) (taps : List TapFields) (bill : OpenBill)

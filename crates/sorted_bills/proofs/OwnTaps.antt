@@ -185,7 +185,8 @@ own_in_order token files own list numbers are canonical =
       ended = own_ends token files own numbers are;
     })
     (subst (λ (ts : List TapFields). All HasTokenBytes ts) (sym of.fields)
-    (All-weaker HasName HasTokenBytes (λ tap name. has_token_bytes tap name.named) (flat_map (λ list. list) are.lists) are.named)) canonical
+    (All-weaker HasName HasTokenBytes (λ tap name. has_token_bytes tap name.named)
+    (flat_map (λ list. list) are.lists) are.named)) canonical
 
 -- they stay the token's, with moments before 2100
 pub sound_list : (token : Token) (taps list : List TapFields) → AreSound token taps

@@ -40,7 +40,8 @@ fall_between from (tap ∷ taps) (up, no_fall) =
     let last = last_token token taps in
     let (least, most, end) = fall_between token taps no_fall in (
       All-cons (From from) tap taps up
-          (All-weaker (From token) (From from) (λ (t : TapFields) above. up_chain from token (token_of_tap t) up above) taps least),
+          (All-weaker (From token) (From from)
+          (λ (t : TapFields) above. up_chain from token (token_of_tap t) up above) taps least),
       All-cons (UpTo last) tap taps end most,
       up_chain from token last up end,
     )
@@ -57,7 +58,9 @@ below_bound taps others last first up less from =
     All-map P token_of_tap taps
     (All-weaker (UpTo last) (λ (tap : TapFields). P (token_of_tap tap)) (λ (tap : TapFields) below.
     All-map (λ o. token_cmp (token_of_tap tap) o ≡ Less) token_of_tap others
-    (All-weaker (From first) (λ (other : TapFields). token_cmp (token_of_tap tap) (token_of_tap other) ≡ Less) (λ (other : TapFields) above. less_up (token_of_tap tap) first (token_of_tap other)
+    (All-weaker (From first)
+    (λ (other : TapFields). token_cmp (token_of_tap tap) (token_of_tap other) ≡ Less)
+    (λ (other : TapFields) above. less_up (token_of_tap tap) first (token_of_tap other)
     (up_less (token_of_tap tap) last first below less) above) others from)) taps up)
 
 -- no tap of both is above the last token
@@ -66,14 +69,16 @@ pub up_to_next : (taps others : List TapFields) (last first next : Token) → Al
     → All (UpTo next) (taps ++ others)
 up_to_next taps others last first next before above up most =
     All-append (UpTo next) taps others
-    (All-weaker (UpTo last) (UpTo next) (λ (tap : TapFields) below. up_chain (token_of_tap tap) last next below
+    (All-weaker (UpTo last) (UpTo next)
+    (λ (tap : TapFields) below. up_chain (token_of_tap tap) last next below
     (up_chain last first next (less_is_up last first above) up)) taps before) most
 
 -- taps from a token on that is above another are from that on
 pub from_lower : (others : List TapFields) (lower last first : Token) → IsUpTo lower last
     → token_cmp last first ≡ Less → All (From first) others → All (From lower) others
 from_lower others lower last first up above from =
-    All-weaker (From first) (From lower) (λ (tap : TapFields) is. up_chain lower first (token_of_tap tap)
+    All-weaker (From first) (From lower)
+    (λ (tap : TapFields) is. up_chain lower first (token_of_tap tap)
     (up_chain lower last first up (less_is_up last first above)) is) others from
 
 -- the bill of the taps of two parts

@@ -176,7 +176,8 @@ lines_out a b c left lines kept none more =
 pub none_made : (fares : Fares) (known : List (Option (List ℕ))) (ranges : List Range)
     → All (λ range. range.span ≡ None) ranges → All (IsRange fares known) ranges
 none_made fares known ranges none =
-    All-weaker (λ (range : Range). range.span ≡ None) (IsRange fares known) (λ (range : Range) is. not_made fares known range is) ranges none
+    All-weaker (λ (range : Range). range.span ≡ None) (IsRange fares known)
+    (λ (range : Range) is. not_made fares known range is) ranges none
   where
     not_made : (fares : Fares) (known : List (Option (List ℕ))) (range : Range) → range.span ≡ None
         → IsRange fares known range

@@ -8,7 +8,9 @@ use Rattle.std.proofs.lemmas.List.Elements.{Contains-append_left, Contains-appen
 use Rattle.std.proofs.lemmas.List.Sums.{sum_by-append}
 use Rattle.tap_views.specs.Facts.{IsSpan, IsWithin}
 use Rattle.tap_views.specs.declared.span.MomentSpan.{MomentSpan}
-use Rattle.tap_rows.specs.Agencies.{IsSummary, Refusal, first_refusal, left_out_in, left_out_of, refusal_of, refusals, refusals_from, refusals_text, refusal_text, refusals_head, tap_of, taps_in}
+use Rattle.tap_rows.specs.Agencies.{IsSummary, Refusal, first_refusal, left_out_in, left_out_of}
+use Rattle.tap_rows.specs.Agencies.{refusal_of, refusals, refusals_from, refusals_text}
+use Rattle.tap_rows.specs.Agencies.{refusal_text, refusals_head, tap_of, taps_in}
 use Rattle.tap_rows.specs.AgencyRows.{IsReadingOf}
 use Rattle.tap_rows.specs.declared.agency.choice.Choice.{Choice}
 use Rattle.tap_rows.specs.declared.agency.choice.Separator.{Separator}

@@ -13,7 +13,8 @@ use Rattle.csv.specs.Records.{field_at}
 use Rattle.csv.specs.declared.parser.State.TheVariants.{StartRecord}
 use Rattle.csv.specs.declared.reader.Reader.{Reader}
 use Rattle.tap_rows.specs.AgencyTexts.{HasRecords, config_of, fields_read, first_record}
-use Rattle.tap_rows.specs.Devices.{AreDevices, AreDevicesBy, Device, HasDeviceHead, IsDeviceRow, IsDevicesFault, device_head, validator_of}
+use Rattle.tap_rows.specs.Devices.{AreDevices, AreDevicesBy, Device, HasDeviceHead, IsDeviceRow}
+use Rattle.tap_rows.specs.Devices.{IsDevicesFault, device_head, validator_of}
 use Rattle.tap_rows.specs.declared.agency.choice.Separator.{Separator}
 use Rattle.tap_rows.specs.declared.agency.choice.Separator.TheVariants.{Comma}
 use Rattle.tap_rows.specs.declared.devices.fault.DevicesFault.{DevicesFault}

@@ -69,7 +69,8 @@ going_first remaining choice places text reader waiting summary out old_refused 
   each = tt;
   number = refl;
   room = subst (λ taps. AreEncodable (λ tap. tap.moment) taps) (sym none) (omega arith, λ k d within. absurd (omega (arith, within)));
-  written = subst (λ taps. AreWritten out out taps []) (sym none) (record { done = []; file = []; upload = no_text; written = Appends-nil out; all = refl });
+  written = subst (λ taps. AreWritten out out taps []) (sym none)
+      (record { done = []; file = []; upload = no_text; written = Appends-nil out; all = refl });
   refused = subst (λ bytes. Appends old_refused new_refused bytes) (sym (append-nil (refusals_head choice.separator head))) appended;
   summary_is = summary_is;
 }

@@ -56,7 +56,9 @@ reached_first text now (is, left) = record { left = drop_through 10 text; head_l
 pub reached_more : (text : List ℕ) (now new : Option (List ℕ)) (number : ℕ) (taps : List TapFields) (tap : TapFields) → Reached text now taps
     → IfSome now (λ left. IsNextRow left number new (Ok (Some tap))) → Reached text new (taps ++ tap ∷ [])
 reached_more text now new number taps tap reached next =
-    let (some, row, after) = MatchOption-at_some (Unit {0}) (λ left. IsNextRow left number new (Ok (Some tap))) reached.left reached.now_is next in
+    let (some, row, after) =
+    MatchOption-at_some (Unit {0}) (λ left. IsNextRow left number new (Ok (Some tap))) reached.left
+    reached.now_is next in
     record { left = drop_through 10 reached.left; head_line = reached.head_line; now_is = after; rows = more_rows (drop_through 10 text) taps reached.left tap reached.rows row }
 
 -- the same, of a row that was answered
@@ -68,13 +70,18 @@ next_of now new number result other is next = subst (λ r. IfSome now (λ left. 
 pub reached_end : (text : List ℕ) (now new : Option (List ℕ)) (number : ℕ) (taps : List TapFields) → Reached text now taps
     → IfSome now (λ left. IsNextRow left number new (Ok None)) → IsTapTable text taps
 reached_end text now new number taps reached next =
-    let none : reached.left ≡ [] = MatchOption-at_some (Unit {0}) (λ left. IsNextRow left number new (Ok None)) reached.left reached.now_is next in
+    let none : reached.left ≡ [] =
+    MatchOption-at_some (Unit {0}) (λ left. IsNextRow left number new (Ok None)) reached.left
+    reached.now_is next in
     record { head_line = reached.head_line; rows = subst (λ left. BeginsWithRows (drop_through 10 text) taps left) none reached.rows }
 
 -- a fault tells of the row behind those that were read
 pub reached_fault : (text : List ℕ) (now new : Option (List ℕ)) (number : ℕ) (taps : List TapFields) (fault : RowsFault) → Reached text now taps → number ≡ length taps + 2
     → IfSome now (λ left. IsNextRow left number new (Err fault)) → IsRowsFault text fault
-reached_fault text now new number taps fault reached place next = by_fault fault (MatchOption-at_some (Unit {0}) (λ left. IsNextRow left number new (Err fault)) reached.left reached.now_is next)
+reached_fault text now new number taps fault reached place next =
+    by_fault fault
+    (MatchOption-at_some (Unit {0}) (λ left. IsNextRow left number new (Err fault)) reached.left
+    reached.now_is next)
   where
     by_fault : (fault : RowsFault) → IsNextRow reached.left number new (Err fault) → IsRowsFault text fault
     by_fault Head is = elim is [ ]
@@ -207,7 +214,9 @@ pub ready_written : (old now out0 here there out : Option (List ℕ)) (count : �
     → IfSome old (λ text. Writing text now count pending out0 here) → IsEncodedAs pending here there → Ready old now out0 out count after
 ready_written old now out0 here there out count pending after none same writing encoded =
     let P : List TapFields → Option (List ℕ) → Type 0 = λ taps o. IfSome old (λ text. Writing text now count taps out0 o) in
-    let done : P [] there = IfSome_then old writing (λ text w. writing_batch text now count pending out0 here there w encoded) in
+    let done : P [] there =
+    IfSome_then old writing
+    (λ text w. writing_batch text now count pending out0 here there w encoded) in
     record {
       room = omega (arith, ap length none);
       early = λ k d within. absurd (omega (arith, within, ap length none));

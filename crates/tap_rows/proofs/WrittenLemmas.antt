@@ -124,7 +124,10 @@ all_above limit (x ∷ text) = nat_lt limit x && all_above limit text
 
 above_test : (limit : ℕ) (text : List ℕ) → all_above limit text ≡ true → AllByRecursion (λ byte. limit < byte) text
 above_test limit [] is = tt
-above_test limit (x ∷ text) is = (ltb-true limit x (and_parts (nat_lt limit x) (all_above limit text) is).0, above_test limit text (and_parts (nat_lt limit x) (all_above limit text) is).1)
+above_test limit (x ∷ text) is = (
+  ltb-true limit x (and_parts (nat_lt limit x) (all_above limit text) is).0,
+  above_test limit text (and_parts (nat_lt limit x) (all_above limit text) is).1,
+)
 
 -- ---- fields
 no_quote : (text : List ℕ) → AreHigh text → (rest : List ℕ) → ¬ (text ≡ 34 ∷ rest)

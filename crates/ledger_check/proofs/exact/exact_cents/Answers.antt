@@ -5,7 +5,8 @@ use Rattle.tap_views.proofs.Choices.{MatchOption_none}
 
 pub returns-in_err-digits : goal.returns-in_err-digits
 returns-in_err-digits c =
-    MatchOption_none _ _ c.from_residual-in_err-digits.result c.from_residual-in_err-digits.ensures (λ cents is.
+    MatchOption_none _ _ c.from_residual-in_err-digits.result c.from_residual-in_err-digits.ensures
+    (λ cents is.
     let small : cents < 2 ^ 32 = is.small in
     let one = c.in_ok-_mode.ensures.found is.mode _ is.mode_field is.shown in
     let two = c.in_ok-_answer.ensures.found is.answer _ is.answer_field one.1 in
@@ -13,7 +14,8 @@ returns-in_err-digits c =
 
 pub returns-in_err-cents : goal.returns-in_err-cents
 returns-in_err-cents c =
-    MatchOption_none _ _ c.from_residual-in_err-cents.result c.from_residual-in_err-cents.ensures (λ cents is.
+    MatchOption_none _ _ c.from_residual-in_err-cents.result c.from_residual-in_err-cents.ensures
+    (λ cents is.
     let small : cents < 2 ^ 32 = is.small in
     let one = c.in_ok-_mode.ensures.found is.mode _ is.mode_field is.shown in
     let two = c.in_ok-_answer.ensures.found is.answer _ is.answer_field one.1 in

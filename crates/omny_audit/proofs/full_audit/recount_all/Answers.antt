@@ -13,7 +13,11 @@ pub loop-piece-init : goal.loop-piece-init
 loop-piece-init g c = record {
   text = [];
   read = Consumes-nil _;
-  known = λ good struck. ([], c.new-recount.ensures c.args.table.now c.args.has_uploads c.args.full.now good struck, Appends-nil _);
+  known = λ good struck. (
+    [],
+    c.new-recount.ensures c.args.table.now c.args.has_uploads c.args.full.now good struck,
+    Appends-nil _,
+  );
   sums = c.requires.sums;
   report = refl;
 }

@@ -19,7 +19,8 @@ returns-in_err-text c =
 
 pub returns-in_err-_fields : goal.returns-in_err-_fields
 returns-in_err-_fields c =
-    MatchOption_none _ _ c.from_residual-in_err-_fields.result c.from_residual-in_err-_fields.ensures
+    MatchOption_none _ _ c.from_residual-in_err-_fields.result
+    c.from_residual-in_err-_fields.ensures
     (λ entry fits is.
     let (same, rest) = token_text_unique c.in_ok-token.token entry.token c.in_ok-token.rest.now
     (codes "," ++ (fits.fields ++ codes "\n")) c.in_ok-token.ensures.0 fits.fits

@@ -52,7 +52,8 @@ returns-then-eq-clause-refused g c =
     IfErr-weaker c.begin.result _ _ (λ fault refused of_texts.
     subst (λ known. IfSome known IsNoLedger) (ap remaining c.new-reader.ensures.from)
     (IfSome_then (remaining c.new-reader.result.from) c.in_ok-next.ensures.line (λ file read.
-    no_lines file (remaining c.next.new.self.from) read.1 (refused of_texts)))) c.begin.ensures.refused
+    no_lines file (remaining c.next.new.self.from) read.1 (refused of_texts))))
+    c.begin.ensures.refused
 
 pub returns-else-eq-clause-refused : goal.returns-else-eq-clause-refused
 returns-else-eq-clause-refused g c =

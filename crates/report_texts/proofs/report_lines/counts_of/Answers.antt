@@ -21,7 +21,8 @@ returns-in_err-taps c =
 
 pub returns-in_err-paid : goal.returns-in_err-paid
 returns-in_err-paid c =
-    MatchOption_none _ _ c.from_residual-in_err-paid.result c.from_residual-in_err-paid.ensures (λ t fits is.
+    MatchOption_none _ _ c.from_residual-in_err-paid.result c.from_residual-in_err-paid.ensures
+    (λ t fits is.
     let e0 = is ∙ counts_read t in
     let (n1, e1) = behind_taps t fits c.args.text.now e0 c.in_ok-taps.taps c.in_ok-taps.text.now
     c.in_ok-taps.ensures in
@@ -29,7 +30,8 @@ returns-in_err-paid c =
 
 pub returns-in_err-transfers : goal.returns-in_err-transfers
 returns-in_err-transfers c =
-    MatchOption_none _ _ c.from_residual-in_err-transfers.result c.from_residual-in_err-transfers.ensures
+    MatchOption_none _ _ c.from_residual-in_err-transfers.result
+    c.from_residual-in_err-transfers.ensures
     (λ t fits is.
     let e0 = is ∙ counts_read t in
     let (n1, e1) = behind_taps t fits c.args.text.now e0 c.in_ok-taps.taps c.in_ok-taps.text.now
@@ -68,7 +70,8 @@ returns-in_err-stale c =
 
 pub returns-in_err-unknown : goal.returns-in_err-unknown
 returns-in_err-unknown c =
-    MatchOption_none _ _ c.from_residual-in_err-unknown.result c.from_residual-in_err-unknown.ensures
+    MatchOption_none _ _ c.from_residual-in_err-unknown.result
+    c.from_residual-in_err-unknown.ensures
     (λ t fits is.
     let e0 = is ∙ counts_read t in
     let (n1, e1) = behind_taps t fits c.args.text.now e0 c.in_ok-taps.taps c.in_ok-taps.text.now

@@ -7,7 +7,8 @@ use Rattle.tap_views.proofs.Choices.{MatchOption_none}
 
 pub returns-in_err-validator : goal.returns-in_err-validator
 returns-in_err-validator c =
-    MatchOption_none _ _ c.from_residual-in_err-validator.result c.from_residual-in_err-validator.ensures
+    MatchOption_none _ _ c.from_residual-in_err-validator.result
+    c.from_residual-in_err-validator.ensures
     (λ sum fits is.
     let (same, rest) = counted_unique c.args.line.now (codes "validator ") c.in_ok-number.number
     sum.0 c.in_ok-number.rest.now (codes " " ++ counts_text sum.1) c.in_ok-number.ensures

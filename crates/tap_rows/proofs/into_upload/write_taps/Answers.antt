@@ -5,7 +5,8 @@ use Rattle.std.proofs.lemmas.Bool.Decides.{nat_tests}
 use Rattle.std.proofs.lemmas.Option.{IfSome_then}
 use Rattle.tap_views.specs.declared.encoder.TapFields.{TapFields}
 use Rattle.tap_rows.specs.inside.TapTables.{IsEncodedAs}
-use Rattle.tap_rows.proofs.TableLemmas.{Ready, next_of, reached_fault, writing_first, writing_row, writing_end, ready_written, ready_same, ready_early}
+use Rattle.tap_rows.proofs.TableLemmas.{Ready, next_of, reached_fault, writing_first, writing_row}
+use Rattle.tap_rows.proofs.TableLemmas.{writing_end, ready_written, ready_same, ready_early}
 use Rattle.tap_rows.proofs.into_upload.write_taps.Goals as goal
 use Rattle.tap_rows.proofs.into_upload.write_taps.Goals.{then-len-eq-MAX_TAPS+in_ok-write_batch-in-Some, else-len-eq-MAX_TAPS}
 
@@ -15,7 +16,9 @@ loop-count-init g c =
     record {
       most = omega (arith, ap length none);
       early = λ k d within. absurd (omega (arith, within, ap length none));
-      writing = IfSome_then (g.R.Read.remaining c.args.table.now) c.in_ok-read_head.ensures.head (λ text is. writing_first text (g.R.Read.remaining c.read_head.new.text) c.in_ok-taps.taps.items (g.W.Write.contents c.args.out.now) none is);
+      writing = IfSome_then (g.R.Read.remaining c.args.table.now) c.in_ok-read_head.ensures.head
+          (λ text is. writing_first text (g.R.Read.remaining c.read_head.new.text)
+          c.in_ok-taps.taps.items (g.W.Write.contents c.args.out.now) none is);
     }
 
 pub returns-in_err-tap-clause-refused : goal.returns-in_err-tap-clause-refused
@@ -25,8 +28,11 @@ returns-in_err-tap-clause-refused g c =
     let fault = c.in_err-tap.field-0.0 in
     let next = next_of now new (c.loop-count.count + 2) c.next_row.result (Err fault) c.in_err-tap.was c.next_row.ensures.row in
     let p = err_from_is_err_and c.from_residual-in_err-tap.result c.from_residual-in_err-tap.ensures.1 in
-    rw (p.1, p.2) (IfSome_then (g.R.Read.remaining c.args.table.now) c.loop-count.invariant.writing (λ text writing.
-    reached_fault text now new (c.loop-count.count + 2) (writing.done ++ c.loop-count.taps.items) fault writing.reached (omega (arith, writing.number)) next))
+    rw (p.1, p.2)
+    (IfSome_then (g.R.Read.remaining c.args.table.now) c.loop-count.invariant.writing
+    (λ text writing.
+    reached_fault text now new (c.loop-count.count + 2) (writing.done ++ c.loop-count.taps.items)
+    fault writing.reached (omega (arith, writing.number)) next))
 
 pub returns-in-None-clause-upload : goal.returns-in-None-clause-upload
 returns-in-None-clause-upload g c =
@@ -37,8 +43,10 @@ returns-in-None-clause-upload g c =
     let next = next_of now new (c.loop-count.count + 2) c.next_row.result (Ok None) (c.in_ok-tap.was ∙ ap (λ row. Ok row) c.in-None.is) c.next_row.ensures.row in
     let P : List TapFields → Type 0 = λ taps. IsEncodedAs taps here there in
     let encoded = subst P c.deref-in-None.ensures.value c.in_ok-write_batch-in-None.ensures.upload in
-    IfSome_then (g.R.Read.remaining c.args.table.now) c.loop-count.invariant.writing (λ text writing.
-    writing_end text now new c.loop-count.count (c.loop-count.count + 2) c.loop-count.taps.items (g.W.Write.contents c.args.out.now) here there writing next encoded)
+    IfSome_then (g.R.Read.remaining c.args.table.now) c.loop-count.invariant.writing
+    (λ text writing.
+    writing_end text now new c.loop-count.count (c.loop-count.count + 2) c.loop-count.taps.items
+    (g.W.Write.contents c.args.out.now) here there writing next encoded)
 
 pub loop-count-preserved : goal.loop-count-preserved
 loop-count-preserved g c =
@@ -71,5 +79,7 @@ loop-count-preserved g c =
     record {
       most = omega (arith, ready.room, ap length more, length-append pending (tap ∷ []));
       early = ready_early old now out0 out count pending c.push.new.self.items tap ready more early;
-      writing = IfSome_then old ready.writing (λ text writing. writing_row text now new count (count + 2) pending c.push.new.self.items out0 out tap writing more next);
+      writing = IfSome_then old ready.writing
+          (λ text writing. writing_row text now new count (count + 2) pending c.push.new.self.items
+          out0 out tap writing more next);
     }

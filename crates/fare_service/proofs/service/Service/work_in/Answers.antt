@@ -1,4 +1,5 @@
-use Rattle.std.proofs.Common.{◌≡◌, List, [], ◌∷◌, ◌++◌, All, length, map, length-append, append_assoc, append-nil, sym, ◌∙◌, ap, subst, arith}
+use Rattle.std.proofs.Common.{◌≡◌, List, [], ◌∷◌, ◌++◌, All, length, map, length-append}
+use Rattle.std.proofs.Common.{append_assoc, append-nil, sym, ◌∙◌, ap, subst, arith}
 use Rattle.std.proofs.lemmas.List.{map-append, nil_from_length}
 use Rattle.std.proofs.lemmas.List.Elements.{All-nil, All-cons, All-append}
 use Rattle.std.specs.Vec.Iter.{into_iter_items}
@@ -34,7 +35,8 @@ pub returns-clause-worked : goal.returns-clause-worked
 returns-clause-worked g c =
     let inv = c.loop-share.invariant in
     let left = into_iter_items c.loop-share.share-iterator in
-    let none : left ≡ [] = nil_from_length left (omega (arith, c.in-None.ensures.steps.0, inv.left_len)) in
+    let none : left ≡ [] =
+    nil_from_length left (omega (arith, c.in-None.ensures.steps.0, inv.left_len)) in
     let all : c.loop-share.yielded ≡ c.args.shares.items = sym (append-nil c.loop-share.yielded) ∙ (ap (λ ss. c.loop-share.yielded ++ ss) (sym none) ∙ inv.left) in
     let rs = c.in-Ok-join_promised.worked.items in
     let P : List ShareView → Type 0 = λ ss. AllZip (WorkedOn c.args.self.now) ss rs in

@@ -7,7 +7,10 @@ use Rattle.fare_service.specs.declared.faults.GatherFault.{GatherFault}
 use Rattle.fare_service.specs.Closing.{TellsFirst}
 use Rattle.fare_service.specs.inside.Closing.{IsClosedWork}
 use Rattle.fare_service.specs.inside.Joining.{IsJoinedOf}
-use Rattle.fare_service.proofs.CloseLemmas.{split_first, closed_none, closed_all, held_drawn, joined_whole, any_ok, some_shares, none_there, first_missing, first_unseen, first_drawn, first_undrawn, any_err, none_whole, lacks_whole, drawer_whole}
+use Rattle.fare_service.proofs.CloseLemmas.{split_first, closed_none, closed_all, held_drawn}
+use Rattle.fare_service.proofs.CloseLemmas.{joined_whole, any_ok, some_shares, none_there}
+use Rattle.fare_service.proofs.CloseLemmas.{first_missing, first_unseen, first_drawn, first_undrawn}
+use Rattle.fare_service.proofs.CloseLemmas.{any_err, none_whole, lacks_whole, drawer_whole}
 use Rattle.fare_service.specs.Claims.{HaveAllClaims}
 use Rattle.fare_service.proofs.service.gathering.close_with.Goals as goal
 use Rattle.fare_service.proofs.service.gathering.close_with.Goals.{in-Ok, in-Err-finish_unseen}
@@ -16,7 +19,11 @@ pub returns-then-is_empty-clause-ok : goal.returns-then-is_empty-clause-ok
 returns-then-is_empty-clause-ok c =
     let ok = c.in_default.ensures in
     any_ok c.match-finish_unseen.result (IsClosedWork c.args.books.items c.args.shares.items c.close_unseen.new.closed.items)
-    (closed_none c.args.books.items c.args.shares.items c.close_unseen.new.closed.items (nil_from_length c.args.shares.items (sym c.args.shares.ok.0 ∙ none_there c.is_empty.result (vec_len c.args.shares) c.is_empty.ensures c.if-is_empty.true)) ok.number ok.ok)
+    (closed_none c.args.books.items c.args.shares.items c.close_unseen.new.closed.items
+    (nil_from_length c.args.shares.items
+    (sym c.args.shares.ok.0
+    ∙ none_there c.is_empty.result (vec_len c.args.shares) c.is_empty.ensures c.if-is_empty.true))
+    ok.number ok.ok)
 
 pub returns-in-Ok-finish-clause-ok : goal.returns-in-Ok-finish-clause-ok
 returns-in-Ok-finish-clause-ok c =
@@ -39,12 +46,17 @@ returns-in-Err-finish-clause-fault c =
 pub returns-in-Err-clause-first : goal.returns-in-Err-clause-first
 returns-in-Err-clause-first c =
     first_unseen c.args.books.items c.args.draw.numbers c.args.shares.items c.close_unseen.new.closed.items c.in-Err.fault
-    (nil_from_length c.args.shares.items (sym c.args.shares.ok.0 ∙ none_there c.is_empty.result (vec_len c.args.shares) c.is_empty.ensures c.if-is_empty.true)) c.in-Err.ensures.first
+    (nil_from_length c.args.shares.items
+    (sym c.args.shares.ok.0
+    ∙ none_there c.is_empty.result (vec_len c.args.shares) c.is_empty.ensures c.if-is_empty.true))
+    c.in-Err.ensures.first
 
 pub returns-then-is_empty-clause-first : goal.returns-then-is_empty-clause-first
 returns-then-is_empty-clause-first c =
     let ok = c.in_default.ensures in
-    let none = nil_from_length c.args.shares.items (sym c.args.shares.ok.0 ∙ none_there c.is_empty.result (vec_len c.args.shares) c.is_empty.ensures c.if-is_empty.true) in
+    let none = nil_from_length c.args.shares.items
+    (sym c.args.shares.ok.0
+    ∙ none_there c.is_empty.result (vec_len c.args.shares) c.is_empty.ensures c.if-is_empty.true) in
     let R : Result (Unit {0}) GatherFault → Type 0 = λ r. IfErr r (TellsFirst c.args.books.items c.args.draw.numbers c.args.shares.items) in
     elim c.match-finish_unseen.branch [
       | in-Ok w ↦ subst R (sym w.result-is) tt
@@ -73,11 +85,16 @@ returns-in-Err-finish-clause-first c =
 
 pub returns-in-Err-clause-claims : goal.returns-in-Err-clause-claims
 returns-in-Err-clause-claims c =
-    none_whole (length c.args.books.items) c.args.shares.items (nil_from_length c.args.shares.items (sym c.args.shares.ok.0 ∙ none_there c.is_empty.result (vec_len c.args.shares) c.is_empty.ensures c.if-is_empty.true))
+    none_whole (length c.args.books.items) c.args.shares.items
+    (nil_from_length c.args.shares.items
+    (sym c.args.shares.ok.0
+    ∙ none_there c.is_empty.result (vec_len c.args.shares) c.is_empty.ensures c.if-is_empty.true))
 
 pub returns-then-is_empty-clause-claims : goal.returns-then-is_empty-clause-claims
 returns-then-is_empty-clause-claims c =
-    let none = nil_from_length c.args.shares.items (sym c.args.shares.ok.0 ∙ none_there c.is_empty.result (vec_len c.args.shares) c.is_empty.ensures c.if-is_empty.true) in
+    let none = nil_from_length c.args.shares.items
+    (sym c.args.shares.ok.0
+    ∙ none_there c.is_empty.result (vec_len c.args.shares) c.is_empty.ensures c.if-is_empty.true) in
     any_err c.match-finish_unseen.result (HaveAllClaims (length c.args.books.items) c.args.shares.items → ⊥) (none_whole (length c.args.books.items) c.args.shares.items none)
 
 pub returns-in-Err-close_all-clause-claims : goal.returns-in-Err-close_all-clause-claims

@@ -11,4 +11,5 @@ returns-else-may_stand-clause-refused g c = λ of_texts.
     let at = standing g.R.Read.remaining c.read.new.self in
     let wrong : ¬ (MayFollowToken lines before c.read.new.self.token) = λ may.
     false≢true (c.if-may_stand.ensures.1 may) in
-    IfSome_then (g.R.Read.remaining c.args.self.now.reader.from) c.in_ok-read.ensures.read (λ text source list is. no_order lines text at before source wrong list is)
+    IfSome_then (g.R.Read.remaining c.args.self.now.reader.from) c.in_ok-read.ensures.read
+    (λ text source list is. no_order lines text at before source wrong list is)

@@ -13,7 +13,8 @@ returns-in_err-lines-clause-refused g c =
     let p = err_from_is_err_and c.from_residual-in_err-lines.result
     c.from_residual-in_err-lines.ensures.1 in
     rw (p.1) (λ of_texts.
-    IfSome_then (g.R.Read.remaining c.args.self.now.reader.from) c.in_ok-next.ensures.line (λ text read list is.
+    IfSome_then (g.R.Read.remaining c.args.self.now.reader.from) c.in_ok-next.ensures.line
+    (λ text read list is.
     no_text lines text c.next.new.self.line.items read.0
     (λ behind head first. none behind head
     (subst (λ line. IsFirstLine lines line behind head) (sym c.line.ensures) first)) list is))
@@ -22,7 +23,8 @@ pub returns-clause-read : goal.returns-clause-read
 returns-clause-read g c =
     let lines = c.args.self.now.lines in
     let first = MatchResult-at_ok _ _ _ c.in_ok-lines.ensures.value c.first_of.ensures in
-    IfSome_then (g.R.Read.remaining c.args.self.now.reader.from) c.in_ok-next.ensures.line (λ text read.
+    IfSome_then (g.R.Read.remaining c.args.self.now.reader.from) c.in_ok-next.ensures.line
+    (λ text read.
     first_is_source lines text (record {
       left = g.R.Read.remaining c.next.new.self.from;
       line = c.next.new.self.line.items;

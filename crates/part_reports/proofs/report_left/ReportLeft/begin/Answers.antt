@@ -14,7 +14,10 @@ use Rattle.part_reports.proofs.report_left.ReportLeft.begin.Goals as goal
 pub returns-in_err-report-clause-refused : goal.returns-in_err-report-clause-refused
 returns-in_err-report-clause-refused g c =
     let p = err_from_is_err_and c.from_residual.result c.from_residual.ensures.1 in
-    rw (p.1, p.2) (λ of_texts. IfSome_then (g.R.Read.remaining c.args.from) (c.in_err-report.ensures.refused of_texts) (λ file no_part charges. not_begun file c.no_sums-sums.result charges c.no_sums-sums.ensures
+    rw (p.1, p.2)
+    (λ of_texts. IfSome_then (g.R.Read.remaining c.args.from)
+    (c.in_err-report.ensures.refused of_texts)
+    (λ file no_part charges. not_begun file c.no_sums-sums.result charges c.no_sums-sums.ensures
     no_part))
 
 pub returns-clause-begun : goal.returns-clause-begun
