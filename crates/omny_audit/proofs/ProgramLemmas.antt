@@ -22,7 +22,7 @@ use Rattle.omny_audit.specs.inside.Fault.{is_of_loading}
 use Rattle.omny_audit.specs.inside.Source.{IsAllOf}
 use Rattle.program_manners.specs.Loads.{Loaded, Tells, TellsOne}
 use Rattle.program_manners.specs.declared.loading.LoadFault.{LoadFault}
-use Rattle.program_manners.proofs.Loading.{tells_on}
+use Rattle.program_manners.proofs.LoadsOn.{tells_on}
 
 pub tells_none : (told : Option (List Loaded)) → Tells told told []
 tells_none None = tt
