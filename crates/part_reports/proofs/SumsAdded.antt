@@ -4,7 +4,7 @@ use Rattle.std.proofs.Common.{None, suc, length, get_or, take, drop, refl, sym, 
 use Rattle.std.proofs.Common.{arith, append_assoc, Bool, true, false, cond, ◌==◌, ◌||◌}
 use Rattle.std.proofs.lemmas.List.{append-nil, map-append, take-append-drop, take_all}
 use Rattle.std.proofs.Math.Seq.{drop-cons, take-suc}
-use Rattle.std.specs.Prelude.{filter, map, flat_map, sum_by, if◌then◌else◌}
+use Rattle.std.specs.Prelude.{filter, map, flat_map, if◌then◌else◌}
 use Rattle.std.specs.Option.{option_map}
 use Rattle.std.specs.BTreeMap.{Updates, get, is_at}
 use Rattle.std.specs.BTreeMap.{BTreeMap}
@@ -284,9 +284,6 @@ totals_in fronts = add_all (map (λ told. told.totals) fronts)
 
 abbrev validators_in : List ToldFront → List (ℕ × Sums)
 validators_in fronts = flat_map (λ told. told.validators) fronts
-
-abbrev tokens_in : List ToldFront → ℕ
-tokens_in fronts = sum_by (λ told. told.tokens) fronts
 
 totals_more : (fronts : List ToldFront) (told : ToldFront)
     → totals_in (fronts ++ told ∷ []) ≡ add_sums (totals_in fronts) told.totals

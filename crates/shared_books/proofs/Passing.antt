@@ -8,7 +8,7 @@ use Rattle.shared_books.specs.declared.turns.rule.Opening.{Opening}
 use Rattle.shared_books.specs.declared.turns.rule.Mark.{Mark}
 use Rattle.shared_books.specs.declared.turns.rule.PassState.{PassState}
 use Rattle.shared_books.specs.Claims.{all_claims}
-use Rattle.shared_books.specs.Marks.{mark, others, visits_of, history_of_visits, made_from, numbered, joined_marks, Apart}
+use Rattle.shared_books.specs.Marks.{mark, others, visits_of, history_of_visits, made_from, joined_marks, Apart}
 use Rattle.shared_books.specs.Passes.{PassView, seen_by, book_of, HasSeenMore, Visits, IsFull, IsJoined, HasMadeAll}
 use Rattle.shared_books.specs.inside.Passes.{opened_of}
 use Rattle.shared_books.specs.Turns.{Boxed, book_after}
@@ -130,9 +130,6 @@ later_of home a b g legal = record {
 
 pub later_by_look : (home : TableId) (a : Seat) (found : ℕ) (b : Seat) → HasSeen a found b → HasSeenMore (knows home a) (knows home b)
 later_by_look home a found b h = later_of home a b (seen_goes_on a found b h) (subst (λ (v : PassState). IsLegal v.opened.book.value.table (history_of_visits (visits_of v.marks))) (sym h.state_is) h.legal)
-
-pub head_is : (home : TableId) (a : Seat) (found : ℕ) (b : Seat) → HasSeen a found b → found / 2 ≡ b.0.opened.first + length (visits_of b.0.marks)
-head_is home a found b h = half_of found _ h.word ∙ (sym (ap (λ v. v.opened.first + length v.marks) h.state_is) ∙ ap (λ n. b.0.opened.first + n) (sym (length-visits b.0.marks)))
 
 pub full_pass : (home : TableId) (b : Seat) → b.0.opened.first + length b.0.marks ≡ 2 ^ 62 → IsFull (knows home b)
 full_pass home b e = record { count = ap (λ n. b.0.opened.first + n) (length-visits b.0.marks) ∙ e }

@@ -1,5 +1,5 @@
 -- The devices of a table, and the rows that give them.
-use Rattle.std.proofs.Common.{◌≡◌, ℕ, ◌+◌, Bool, true, false, cond, List, [], ◌∷◌, ◌++◌, length, Option, None, Some, inl, inr, refl, sym, ap, subst, ◌∙◌, arith, length-append, eqb-true}
+use Rattle.std.proofs.Common.{◌≡◌, ℕ, ◌+◌, Bool, true, false, cond, List, [], ◌∷◌, ◌++◌, length, Option, None, Some, inl, refl, sym, ap, subst, ◌∙◌, arith, length-append, eqb-true}
 use Rattle.std.specs.Prelude.{map, codes, is_some, nat_eq, ◌||◌}
 use Rattle.std.specs.Cmp.Lexicographic.{nat_list_eq_equiv}
 use Rattle.std.specs.List.{IsDistinct, list_any}
@@ -16,7 +16,6 @@ use Rattle.tap_rows.specs.AgencyTexts.{HasRecords, config_of, fields_read, first
 use Rattle.tap_rows.specs.Devices.{AreDevices, AreDevicesBy, Device, HasDeviceHead, IsDeviceRow}
 use Rattle.tap_rows.specs.Devices.{IsDevicesFault, device_head, validator_of}
 use Rattle.tap_rows.specs.declared.agency.choice.Separator.{Separator}
-use Rattle.tap_rows.specs.declared.agency.choice.Separator.TheVariants.{Comma}
 use Rattle.tap_rows.specs.declared.devices.fault.DevicesFault.{DevicesFault}
 use Rattle.tap_rows.specs.declared.devices.fault.DevicesFault.TheVariants as fault
 use Rattle.tap_rows.specs.inside.DeviceRows.{HasDevices, IsFaultBy, IsHeadRow, IsRowFault}
@@ -142,9 +141,6 @@ row_fault remaining separator text count number reader after devices row fault.N
 -- ---- the separator
 pub own_devices : (separator : Separator) (text : List ℕ) (devices : List Device) → AreDevicesBy separator text devices → AreDevices separator text devices
 own_devices separator text devices are = record { its = separator; is_its = inl (has_head separator text devices are, refl); are = are }
-
-pub comma_devices : (separator : Separator) (text : List ℕ) (devices : List Device) → ¬ (HasDeviceHead separator text) → AreDevicesBy Comma text devices → AreDevices separator text devices
-comma_devices separator text devices none are = record { its = Comma; is_its = inr (none, refl); are = are }
 
 pub own_fault : (separator : Separator) (text : List ℕ) (f : DevicesFault) → ¬ (f ≡ fault.Head) → IsFaultBy separator text f → IsDevicesFault separator text f
 own_fault separator text fault.Head other is = absurd (other refl)
