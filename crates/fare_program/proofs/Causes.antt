@@ -1,6 +1,6 @@
 -- The fault that is told is the right one.
-use Rattle.std.proofs.Common.{◌≡◌, ◌∙◌, ◌<◌, ◌∷◌, ℕ, List, [], true, Option}
-use Rattle.std.proofs.Common.{Some, Bor, arith, nat_eq, ap, inr, length, map, refl, sym, subst}
+use Rattle.std.proofs.Common.{◌≡◌, ◌∙◌, ◌<◌, ◌∷◌, ℕ, List, [], true, Option, Some, Bor, arith}
+use Rattle.std.proofs.Common.{nat_eq, ap, inr, length, map, refl, sym, subst}
 use Rattle.std.specs.Prelude.{IfErr, Result, Ok, Err}
 use Rattle.std.specs.Result.{IsErrAnd}
 use Rattle.std.proofs.lemmas.Bool.Decides.{nat_tests}

@@ -4,7 +4,7 @@ use Rattle.std.proofs.Common.{Option, Some, Bor}
 use Rattle.std.proofs.lemmas.List.{map-append}
 use Rattle.fare_program.specs.Program.{LoadsFiles, names_to_load}
 use Rattle.program_manners.specs.Loads.{Loaded, TellsOne}
-use Rattle.program_manners.proofs.LoadedFiles.{tells_on}
+use Rattle.program_manners.proofs.LoadsOn.{tells_on}
 
 pub loads_push : (names : List (Option (List ℕ))) (name : Option (List ℕ))
     (told told' told'' : Option (List Loaded)) (files : List (List ℕ)) (bytes : List ℕ)

@@ -10,8 +10,8 @@ use Rattle.fare_program.specs.Fault.{ledger_mistake, mistake}
 use Rattle.fare_program.specs.Fault.{settle_mistake, sorted_mistake, sorted_mistake_of}
 use Rattle.fare_program.specs.Fault.{token_mistake, traced_mistake, traced_mistake_of}
 use Rattle.fare_program.specs.Options.{Asked}
-use Rattle.fare_program.specs.Program.{Does, DoesUntraced, IsTokenIn, LoadsTable}
-use Rattle.fare_program.specs.Program.{RunsListing, RunsService, RunsSorted, RunsTraced}
+use Rattle.fare_program.specs.Program.{Does, DoesUntraced, IsTokenIn, LoadsTable, RunsListing}
+use Rattle.fare_program.specs.Program.{RunsService, RunsSorted, RunsTraced}
 use Rattle.fare_program.specs.Settling.{ShowsSettled}
 use Rattle.fare_program.specs.declared.fault.Fault.{Fault}
 use Rattle.fare_program.specs.declared.fault.Fault.TheVariants.{SettleNoTable, SettleList}

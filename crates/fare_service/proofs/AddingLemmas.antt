@@ -158,8 +158,7 @@ sum_by-joined f g (x ∷ xs) =
     ∙ sym (sum_by-cons (λ y. sum_by f (g y)) x xs)
 
 -- a sum over mapped elements
-pub sum_by-map : {X Y : Type 0} (f : Y → ℕ) (g : X → Y) (xs : List X)
-    → sum_by f (map g xs) ≡ sum_by (λ x. f (g x)) xs
+pub sum_by-map : {X Y : Type 0} (f : Y → ℕ) (g : X → Y) (xs : List X) → sum_by f (map g xs) ≡ sum_by (λ x. f (g x)) xs
 sum_by-map f g [] = refl
 sum_by-map f g (x ∷ xs) =
     sum_by-cons f (g x) (map g xs) ∙ ap (λ k. f (g x) + k) (sum_by-map f g xs)
@@ -419,9 +418,8 @@ pub from_nothing : (none s : Sums) → none ≡ sums_of_replies [] → add_sums 
 unfolding sums_of_replies
 from_nothing none s is =
     ap (λ n. add_sums n s) is
-    ∙ same_seven (zero_add s.taps) (zero_add s.paid)
-    (zero_add s.transfers) (zero_add s.capped) (zero_add s.stale) (zero_add s.unknown)
-    (zero_add s.cents)
+    ∙ same_seven (zero_add s.taps) (zero_add s.paid) (zero_add s.transfers) (zero_add s.capped)
+    (zero_add s.stale) (zero_add s.unknown) (zero_add s.cents)
 
 -- the totals of the shares are those of the books that were closed with them
 pub shares_add_up : (service : ServiceView) → IsService service → (shares : List ShareView)

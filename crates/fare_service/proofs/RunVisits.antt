@@ -1,12 +1,11 @@
 -- One run: the visit that it makes, and what that changes.
 use Rattle.std.specs.Prelude.{ℕ, ◌≡◌, ◌≢◌, ◌<◌, ◌≤◌, ◌==◌, Bool, true, false, cond, ◌⊎◌, List, []}
 use Rattle.std.specs.Prelude.{◌∷◌, ◌++◌, length, map, take, Result, Ok, Err, is_ok, IsErr, Some}
-use Rattle.std.proofs.Common.{refl, sym, ◌∙◌, ap, inl, inr, subst, append-nil, arith, get_or, set}
-use Rattle.std.proofs.Common.{eq-eqb, length-take}
-use Rattle.std.proofs.lemmas.List.{get_or-map}
+use Rattle.std.proofs.Common.{refl, sym, ◌∙◌, ap, inl, inr, subst, append-nil, arith, get_or, set, eq-eqb, length-take}
 use Rattle.std.proofs.lemmas.List.Elements.{All-nil, All-cons}
 use Rattle.std.proofs.lemmas.Option.{slice_get-get_or}
 use Rattle.std.proofs.lemmas.Bool.Decides.{eqb_tells}
+use Rattle.std.proofs.lemmas.List.{get_or-map}
 use Rattle.std.proofs.lemmas.Slice.Zip.{AllZip-long}
 use Rattle.tap_views.specs.Layout.{Tap}
 use Rattle.tap_views.specs.Shards.{run_of, run_taps, ShardRun}
@@ -15,7 +14,7 @@ use Rattle.shard_book.specs.declared.run_end.RunEnd.{RunEnd}
 use Rattle.shard_book.specs.declared.run_end.RunEnd.TheVariants.{Whole, Cut}
 use Rattle.shard_book.specs.Entry.{IsEntryOf}
 use Rattle.shard_book.specs.Sums.{Sums, sums, add_sums}
-use Rattle.shard_book.specs.Visits.{AreEntriesOf, IsVisit}
+use Rattle.shard_book.specs.Visits.{IsVisit}
 use Rattle.shard_book.proofs.SumsLemmas.{add_none}
 use Rattle.shared_books.specs.Passes.{PassView, SharedBookView, HasSeenMore, Visits}
 use Rattle.fare_service.specs.declared.service.working.Stop.{Stop}
@@ -25,8 +24,7 @@ use Rattle.fare_service.specs.Runs.{PostedRun, if_any, RunVisit}
 use Rattle.fare_service.specs.Runs.{IsEntered, ArePostedWhole, AreCut, entries_to}
 use Rattle.fare_service.specs.inside.Runs.{ArePostedOrCut}
 use Rattle.fare_service.specs.Shares.{made_visits, marks_at, made_visits_at, HasVisited}
-use Rattle.fare_service.proofs.RunLemmas.{no_run, cut_none}
-use Rattle.fare_service.proofs.RunLemmas.{cut_some, whole_run}
+use Rattle.fare_service.proofs.RunLemmas.{no_run, cut_none, cut_some, whole_run}
 use Rattle.fare_service.proofs.VisitLemmas.{made_none, made_by_pass, own-visits, own-later}
 
 -- an answer that is an error tells of a cut
@@ -36,8 +34,7 @@ was_cut (Ok x) runs visits e c = absurd (cc)
 was_cut (Err x) runs visits e c = c
 
 -- how many entries a visit has
-pub visit_length : (taps : List Tap) (how : RunEnd) (visit : List Entry) → IsVisit taps how visit
-    → length visit ≤ length taps
+pub visit_length : (taps : List Tap) (how : RunEnd) (visit : List Entry) → IsVisit taps how visit → length visit ≤ length taps
 visit_length taps Whole visit h = omega (arith, sym (AllZip-long IsEntryOf taps visit h))
 visit_length taps (Cut posted) visit h =
     omega (arith, sym (AllZip-long IsEntryOf (take posted taps) visit h.1), length-take {A = Tap})

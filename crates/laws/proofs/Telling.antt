@@ -117,8 +117,7 @@ module _ (fares : Fares) (letters : AreLetters fares.meaning.modes) (token : Tok
         no_fall = All-from_recursion
             (λ (before : Entry). token_number before.token ≤ token_number entry.token)
             (done ++ earlier) (no_fall earlier entry of.0 is postable);
-        replied = replied_same fares earlier (done ++ earlier) entry (alone ∙ sym owned)
-            (known.legal.each earlier entry rest refl);
+        replied = replied_same fares earlier (done ++ earlier) entry (alone ∙ sym owned) (known.legal.each earlier entry rest refl);
         shown = subst (λ (es : List Entry). IsNextLine fares es entry line) (sym owned) line_is;
         short = short;
         few = omega (

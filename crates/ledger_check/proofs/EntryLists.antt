@@ -1,6 +1,6 @@
 -- The lines of entries: one more, and the last one.
-use Rattle.std.proofs.Common.{◌≡◌, ℕ, ◌+◌, List, [], ◌∷◌, ◌++◌, refl, sym, ap, subst}
-use Rattle.std.proofs.Common.{append_assoc, append-nil}
+use Rattle.std.proofs.Common.{◌≡◌, ℕ, ◌+◌, List, [], ◌∷◌, ◌++◌, refl, sym, ap, subst, append_assoc}
+use Rattle.std.proofs.Common.{append-nil}
 use Rattle.fare_table.specs.Fares.{Fares}
 use Rattle.shard_book.specs.declared.entry.Entry.{Entry}
 use Rattle.ledger_check.specs.Ledger.{AreNext, IsNext}
@@ -32,10 +32,8 @@ pub record Parts (fares : Fares) (earlier others : List Entry) (lines : List (Li
   pub rest : AreNext fares ((earlier ++ entries) ++ entry ∷ []) after more
 
 -- the entries before a line, its own, and those behind it
-pub next-parts : (fares : Fares) (earlier others : List Entry) (lines : List (List ℕ))
-    (line : List ℕ) (more : List (List ℕ))
-    → AreNext fares earlier others (lines ++ line ∷ more)
-    → Parts fares earlier others lines line more
+pub next-parts : (fares : Fares) (earlier others : List Entry) (lines : List (List ℕ)) (line : List ℕ) (more : List (List ℕ))
+    → AreNext fares earlier others (lines ++ line ∷ more) → Parts fares earlier others lines line more
 next-parts fares earlier [] [] line more are = absurd are
 next-parts fares earlier [] (l ∷ lines) line more are = absurd are
 next-parts fares earlier (e ∷ others) [] line more are = record {

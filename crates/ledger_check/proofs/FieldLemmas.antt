@@ -116,8 +116,7 @@ clock_lacks ms = (
 )
 
 -- a moment's text has no comma
-pub moment_lacks : (moment : ℕ) (text : List ℕ) → moment < 4_102_444_800_000
-    → IsMomentText moment text → Lacks 44 text
+pub moment_lacks : (moment : ℕ) (text : List ℕ) → moment < 4_102_444_800_000 → IsMomentText moment text → Lacks 44 text
 moment_lacks moment text small is =
     let civil = is.civil (omega arith) in
     subst (Lacks 44) (sym civil.shown)

@@ -288,9 +288,7 @@ all_right_at fares first [] are before entries lines split next =
     let none : entries ≡ [] =
     none_left fares [] entries
     (subst (λ (ls : List (List ℕ)). AreNext fares [] entries ls) empty next) in
-    let told : first.finding.told ≡ Nothing =
-    are.1.1 ∙ ap (λ (b : Bool). if b then Nothing else NoLine)
-    ((bytes_eq-Decides first.line head_text).1 head) in
+    let told : first.finding.told ≡ Nothing = are.1.1 ∙ ap (λ (b : Bool). if b then Nothing else NoLine) ((bytes_eq-Decides first.line head_text).1 head) in
     let here : one_wrong first.finding.told ≡ 0 = ap one_wrong told in
     record {
       none = omega (arith, here);
@@ -306,8 +304,7 @@ all_right_at fares next (last ∷ earlier) are before entries lines split nexts 
     let parts = next-parts fares [] entries cut.rest next.line []
     (subst (λ (ls : List (List ℕ)). AreNext fares [] entries ls) cut.whole nexts) in
     let rest = before parts.entries cut.rest cut.front parts.are in
-    let one = legal_step fares (run_of taken) parts.entries next.line next.finding.tap
-    next.finding.told next.wanted parts.entry are.1 rest.legal.state parts.is in
+    let one = legal_step fares (run_of taken) parts.entries next.line next.finding.tap next.finding.told next.wanted parts.entry are.1 rest.legal.state parts.is in
     let whole : entries ≡ parts.entries ++ parts.entry ∷ [] =
     parts.whole ∙ ap (λ (es : List Entry). parts.entries ++ parts.entry ∷ es)
     (none_left fares _ parts.after parts.rest) in

@@ -14,8 +14,7 @@ use Rattle.fare_texts.specs.LedgerLines.{head_text}
 use Rattle.ledger_check.specs.Lines.{IsLine, Lacks, lines_of}
 use Rattle.ledger_check.specs.Recounts.{IsJudged, IsLineOfTap, IsTaken, TakenLine, lines_from}
 use Rattle.ledger_check.specs.Recounts.{run_of, run_with, told_text}
-use Rattle.ledger_check.specs.RecountStates.{AreSums, HasRecounted, HasRunTeller, HasTakenLines}
-use Rattle.ledger_check.specs.RecountStates.{IsKept}
+use Rattle.ledger_check.specs.RecountStates.{AreSums, HasRecounted, HasRunTeller, HasTakenLines, IsKept}
 use Rattle.ledger_check.specs.inside.Recounts.{HasFound, HasJudged, IsFirstFinding, TookLine}
 use Rattle.ledger_check.specs.declared.recount.LinesTaken.{LinesTaken}
 use Rattle.ledger_check.specs.declared.recount.Recount.{Recount}

@@ -1,6 +1,6 @@
 -- An entry has one line.
-use Rattle.std.proofs.Common.{◌≡◌, ℕ, ◌+◌, ◌<◌, ◌≤◌, ◌%◌, ℤ, List, ◌∷◌, [], ◌++◌, sym}
-use Rattle.std.proofs.Common.{ap, subst, ◌∙◌, ⊎_elim}
+use Rattle.std.proofs.Common.{◌≡◌, ℕ, ◌+◌, ◌<◌, ◌≤◌, ◌%◌, ℤ, List, ◌∷◌, [], ◌++◌, sym, ap, subst}
+use Rattle.std.proofs.Common.{◌∙◌, ⊎_elim}
 use Rattle.std.proofs.lemmas.Bool.{cases_lt}
 use Rattle.jiff_core.specs.declared.civil.date.Date.{Date}
 use Rattle.jiff_core.proofs.DateLemmas.{epoch_day_injective}
@@ -42,8 +42,7 @@ civil_same moment a b is also =
     ∙ sym also.shown
 
 -- a moment has one text
-pub moment_same : (moment : ℕ) (a b : List ℕ) → IsMomentText moment a → IsMomentText moment b
-    → a ≡ b
+pub moment_same : (moment : ℕ) (a b : List ℕ) → IsMomentText moment a → IsMomentText moment b → a ≡ b
 moment_same moment a b is also =
     ⊎_elim
     (λ (below : moment < 253_402_207_200_000). civil_same moment a b (is.civil below)
@@ -76,10 +75,8 @@ reason_fields_same (Transfer moment mode) a b is also = pointing_same _ moment a
 reason_fields_same (Ride start until charge) a b is also = ride_same start until charge a b is also
 
 -- an entry has one line
-pub line_same : (fares : Fares) (token : Token) (number : ℕ) (entry : Entry) (why : Reason)
-    (a b : List ℕ)
-    → IsLedgerLine fares token number entry why a → IsLedgerLine fares token number entry why b
-    → a ≡ b
+pub line_same : (fares : Fares) (token : Token) (number : ℕ) (entry : Entry) (why : Reason) (a b : List ℕ)
+    → IsLedgerLine fares token number entry why a → IsLedgerLine fares token number entry why b → a ≡ b
 line_same fares token number entry why a b is also =
     let head = line_head token number in
     let fields = entry_fields fares entry in

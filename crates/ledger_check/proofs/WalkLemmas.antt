@@ -66,13 +66,10 @@ pub run_equal : (fares : Fares) (teller : Teller) (run : List Entry) (token : To
     → StandsForRun fares teller run → teller.token ≡ token
     → (own token run ≡ run) × (falls_after run token ≡ false)
 run_equal fares teller run token stands same =
-    let number : token_number teller.token ≡ token_number token =
-    ap (λ (t : Token). token_number t) same in (
+    let number : token_number teller.token ≡ token_number token = ap (λ (t : Token). token_number t) same in (
       own_all token run
           (subst (λ (t : Token). All (λ (e : Entry). e.token ≡ t) run) same stands.of_token),
-      falls_is run teller.token token stands.of_token stands.some
-          ∙ (let e : nat_lt (token_number token) (token_number teller.token) ≡ false =
-          grind (arith, nat_tests) in e),
+      falls_is run teller.token token stands.of_token stands.some ∙ (let e : nat_lt (token_number token) (token_number teller.token) ≡ false = grind (arith, nat_tests) in e),
     )
 
 -- the teller that has told one entry more stands for the run with it

@@ -24,7 +24,7 @@ use Rattle.omny_audit.specs.inside.Fault.{is_of_loading}
 use Rattle.omny_audit.specs.inside.Source.{IsAllOf}
 use Rattle.program_manners.specs.Loads.{Loaded, Tells, TellsOne}
 use Rattle.program_manners.specs.declared.loading.LoadFault.{LoadFault}
-use Rattle.program_manners.proofs.LoadedFiles.{tells_on}
+use Rattle.program_manners.proofs.LoadsOn.{tells_on}
 
 pub tells_none : (told : Option (List Loaded)) → Tells told told []
 tells_none None = tt
@@ -107,8 +107,7 @@ is_one_last : (name : Text) (names : List Text) (last : Text) → name ≡ last
 is_one_last name [] last is = inl is
 is_one_last name (n ∷ names) last is = inr (is_one_last name names last is)
 
-pub at_uploads : (asked : AuditAsked) (fault : Fault) → NamesOneOf asked.uploads fault
-    → NamesOneOf (files_of asked) fault
+pub at_uploads : (asked : AuditAsked) (fault : Fault) → NamesOneOf asked.uploads fault → NamesOneOf (files_of asked) fault
 at_uploads asked fault is = weaker (named_by fault) is
   where
     weaker : (o : Option Text) → IfSome o (λ name. IsOneOf name asked.uploads)

@@ -4,9 +4,10 @@ use Rattle.std.proofs.Common.{None, suc, length, get_or, take, drop, refl, sym, 
 use Rattle.std.proofs.Common.{arith, append_assoc, Bool, true, false, cond, ◌==◌, ◌||◌}
 use Rattle.std.proofs.lemmas.List.{append-nil, map-append, take-append-drop, take_all}
 use Rattle.std.proofs.Math.Seq.{drop-cons, take-suc}
-use Rattle.std.specs.Prelude.{filter, map, flat_map, sum_by, if◌then◌else◌}
+use Rattle.std.specs.Prelude.{filter, map, flat_map, if◌then◌else◌}
 use Rattle.std.specs.Option.{option_map}
-use Rattle.std.specs.BTreeMap.{Updates, get, is_at, BTreeMap}
+use Rattle.std.specs.BTreeMap.{Updates, get, is_at}
+use Rattle.std.specs.BTreeMap.{BTreeMap}
 use Rattle.std.specs.Map.{keys_of}
 use Rattle.std.specs.Ordering.{eq_by_cmp, is_eq, nat_cmp}
 use Rattle.std.specs.Set.{is_member}
@@ -291,9 +292,6 @@ totals_in fronts = add_all (map (λ told. told.totals) fronts)
 abbrev validators_in : List ToldFront → List (ℕ × Sums)
 validators_in fronts = flat_map (λ told. told.validators) fronts
 
-abbrev tokens_in : List ToldFront → ℕ
-tokens_in fronts = sum_by (λ told. told.tokens) fronts
-
 totals_more : (fronts : List ToldFront) (told : ToldFront)
     → totals_in (fronts ++ told ∷ []) ≡ add_sums (totals_in fronts) told.totals
 totals_more fronts told =
@@ -306,8 +304,7 @@ validators_more fronts told =
     flat_map-append (λ (told : ToldFront). told.validators) fronts (told ∷ [])
     ∙ ap (λ more. validators_in fronts ++ more) (append-nil told.validators)
 
-pub front_added : (before after : WholeSums) (front : Front) (fronts : List ToldFront)
-    (told : ToldFront)
+pub front_added : (before after : WholeSums) (front : Front) (fronts : List ToldFront) (told : ToldFront)
     → after.tokens ≡ before.tokens + front.tokens
     → sums_of after.totals ≡ add_sums (sums_of before.totals) (sums_of front.totals)
     → WithValidators before.validators after.validators front.validators.items true

@@ -1,5 +1,5 @@
 pub mod Flags
-pub mod LoadedFiles
+pub mod LoadsOn
 pub mod NameLists
 pub mod Refusals
 pub mod WordLists

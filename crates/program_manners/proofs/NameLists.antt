@@ -1,10 +1,8 @@
 -- Texts that list names, and how one more name is read.
-use Rattle.std.proofs.Common.{◌≡◌, ◌≢◌, ◌<◌, ◌⊎◌, ◌∙◌, ◌+◌, ◌==◌, ℕ, true, false, true≢false, zero}
-use Rattle.std.proofs.Common.{suc, List, [], ◌∷◌, ◌++◌, length, get_or, take, drop, refl, sym, ap}
-use Rattle.std.proofs.Common.{inl, inr, arith, append_assoc, append-nil}
+use Rattle.std.proofs.Common.{◌≡◌, ◌≢◌, ◌<◌, ◌⊎◌, ◌∙◌, ◌+◌, ◌==◌, ℕ, false, true≢false, zero, suc, List, [], ◌∷◌, ◌++◌, length, get_or, take, drop, refl, sym, ap, inl, inr, arith, append_assoc, append-nil}
 use Rattle.std.proofs.lemmas.List.{get_or-take, length-take}
 use Rattle.std.proofs.lemmas.List.Concat.{flat_map-append}
-use Rattle.std.proofs.lemmas.List.Elements.{All-nil, All-push}
+use Rattle.std.proofs.lemmas.List.Elements.{All-push}
 use Rattle.program_manners.specs.FileLists.{IsFirstWrong, IsListedName, IsWrongBy, Lacks, ended_by}
 use Rattle.program_manners.specs.declared.file_list.WrongName.{WrongName}
 use Rattle.program_manners.specs.inside.FileLists.{AreReadFrom}
@@ -33,9 +31,6 @@ ended_push : (end : ℕ) (names : List (List ℕ)) (name : List ℕ)
 ended_push end names name =
     flat_map-append (λ n. n ++ end ∷ []) names (name ∷ [])
     ∙ ap (λ (t : List ℕ). ended_by end names ++ t) (append-nil (name ++ end ∷ []))
-
-pub none_read : (end : ℕ) (text : List ℕ) → AreReadFrom end text [] text
-none_read end text = record { are_names = All-nil (IsListedName end); whole = inl refl }
 
 -- before something is read, the names are all that stands before it
 pub read_whole : (end : ℕ) (text : List ℕ) (names : List (List ℕ)) (rest : List ℕ)

@@ -6,8 +6,7 @@ use Rattle.report_texts.specs.declared.upload_end.UploadEnd.{UploadEnd}
 use Rattle.shard_book.specs.Sums.{Sums}
 use Rattle.shard_book.specs.declared.entry.Entry.{Entry}
 use Rattle.shard_book.proofs.SumsLemmas.{sums-taps}
-use Rattle.report_check.specs.Reports.{BeginsWithUploads, HasOtherTaps, HaveTapsOf, IsReportVerdict}
-use Rattle.report_check.specs.Reports.{report_of}
+use Rattle.report_check.specs.Reports.{BeginsWithUploads, HasOtherTaps, HaveTapsOf, IsReportVerdict, report_of}
 use Rattle.report_check.specs.Sums.{AreSumsOf}
 use Rattle.report_check.specs.declared.open_sums.EntrySums.{EntrySums}
 use Rattle.report_check.specs.declared.verdict.ReportVerdict.{ReportVerdict}

@@ -67,8 +67,7 @@ last_out a b c start waits sums i all p q =
 pub upload_lines-push : (upload : ℕ) (ends : List UploadEnd) (end : UploadEnd)
     → upload_lines upload (ends ++ end ∷ [])
     ≡ upload_lines upload ends ++ upload_line (upload + length ends) end
-upload_lines-push upload [] end =
-    append-nil (upload_line upload end) ∙ ap (λ n. upload_line n end) (sym (add-zero upload))
+upload_lines-push upload [] end = append-nil (upload_line upload end) ∙ ap (λ n. upload_line n end) (sym (add-zero upload))
 upload_lines-push upload (first ∷ ends) end =
     let next : (upload + 1) + length ends ≡ upload + length (first ∷ ends) = omega arith in
     ap (λ text. upload_line upload first ++ text)

@@ -12,9 +12,6 @@ use Rattle.tap_views.proofs.ReadingLemmas.{taps_more}
 use Rattle.settled_texts.specs.Traces.{AreReadAs, good_fields, is_whole, numbered, traced_from}
 use Rattle.settled_texts.specs.declared.trace.TracedTap.{TracedTap}
 
-next_is : (place count : ℕ) → (place + 1) + count ≡ place + (count + 1)
-next_is place count = omega arith
-
 -- taps behind others go on with the place behind these
 pub numbered_append : (upload place : ℕ) (xs ys : List TapFields)
     → numbered upload place (xs ++ ys)

@@ -1,6 +1,7 @@
 -- Settled files: whose taps are where, and in which order.
-use Rattle.std.proofs.Common.{◌≡◌, suc, ◌<◌, ◌≤◌, ◌==◌, List, ◌∷◌, [], true, false, cond, sym, ap}
-use Rattle.std.proofs.Common.{◌∙◌, arith, All, inl, inr}
+use Rattle.std.proofs.Common.{◌≡◌, suc, ◌<◌, ◌≤◌, ◌==◌, List, ◌∷◌, []}
+use Rattle.std.proofs.Common.{true, false, cond, sym, ap, ◌∙◌}
+use Rattle.std.proofs.Common.{arith, All, inl, inr}
 use Rattle.std.specs.Prelude.{◌⊎◌}
 use Rattle.std.specs.Cmp.Lexicographic.{slice_cmp}
 use Rattle.std.specs.List.Sorted.{IsSorted}

@@ -29,8 +29,7 @@ others-append [] ws = refl
 others-append (v ∷ vs) ws = λ k. mark false v ∷ others-append vs ws k
 
 -- the histories of two lists of visits are joined
-pub joined-append : (vs ws : List (List Entry))
-    → history_of_visits (vs ++ ws) ≡ history_of_visits vs ++ history_of_visits ws
+pub joined-append : (vs ws : List (List Entry)) → history_of_visits (vs ++ ws) ≡ history_of_visits vs ++ history_of_visits ws
 joined-append [] ws = refl
 joined-append (v ∷ vs) ws =
     ap (λ es. v ++ es) (joined-append vs ws)

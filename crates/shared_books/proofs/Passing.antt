@@ -11,10 +11,8 @@ use Rattle.shared_books.specs.declared.turns.rule.Opening.{Opening}
 use Rattle.shared_books.specs.declared.turns.rule.Mark.{Mark}
 use Rattle.shared_books.specs.declared.turns.rule.PassState.{PassState}
 use Rattle.shared_books.specs.Claims.{all_claims}
-use Rattle.shared_books.specs.Marks.{mark, others, visits_of, history_of_visits, made_from}
-use Rattle.shared_books.specs.Marks.{joined_marks, Apart}
-use Rattle.shared_books.specs.Passes.{PassView, seen_by, book_of, HasSeenMore, Visits, IsFull}
-use Rattle.shared_books.specs.Passes.{IsJoined, HasMadeAll}
+use Rattle.shared_books.specs.Marks.{mark, others, visits_of, history_of_visits, made_from, joined_marks, Apart}
+use Rattle.shared_books.specs.Passes.{PassView, seen_by, book_of, HasSeenMore, Visits, IsFull, IsJoined, HasMadeAll}
 use Rattle.shared_books.specs.inside.Passes.{opened_of}
 use Rattle.shared_books.specs.Turns.{Boxed, book_after}
 use Rattle.shared_books.specs.PassStates.{pass_state}
@@ -181,8 +179,7 @@ later_by_look home a found b h =
     (subst (λ (v : PassState). IsLegal v.opened.book.value.table
     (history_of_visits (visits_of v.marks))) (sym h.state_is) h.legal)
 
-pub full_pass : (home : TableId) (b : Seat) → b.0.opened.first + length b.0.marks ≡ 2 ^ 62
-    → IsFull (knows home b)
+pub full_pass : (home : TableId) (b : Seat) → b.0.opened.first + length b.0.marks ≡ 2 ^ 62 → IsFull (knows home b)
 full_pass home b e = record { count = ap (λ n. b.0.opened.first + n) (length-visits b.0.marks) ∙ e }
 
 -- a new pass

@@ -28,7 +28,8 @@ use Rattle.settlement.specs.declared.bill.Bill.{Bill}
 use Rattle.settlement.specs.inside.Apart.{AreBelow}
 use Rattle.settlement.proofs.Concats.{posted_append}
 use Rattle.settlement.proofs.Ranges.{posted_below}
-use Rattle.settlement.proofs.TokenRuns.{posted_length, tokens_are, tokens_posted, up_apart}
+use Rattle.settlement.proofs.TokenRuns.{posted_length, tokens_are}
+use Rattle.settlement.proofs.TokenRuns.{tokens_posted, up_apart}
 use Rattle.tap_views.proofs.TokenLemmas.{token_cmp-total}
 use Rattle.sorted_bills.specs.declared.open_bill.OpenBill.{OpenBill}
 use Rattle.sorted_bills.specs.inside.OpenBills.{IsOpenBill}

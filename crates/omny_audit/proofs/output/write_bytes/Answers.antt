@@ -12,8 +12,7 @@ loop-write-preserved g c =
     elim c.match-write.branch [
       | in-Ok w ↦ record {
         front = before.front ++ take w.in-Ok.count rest;
-        whole = begun_more c.args.text.now before.front rest c.match-write.rest.now w.in-Ok.count
-            before.whole (ap (λ (b : Bor (List ℕ)). b.now) w.rest-is);
+        whole = begun_more c.args.text.now before.front rest c.match-write.rest.now w.in-Ok.count before.whole (ap (λ (b : Bor (List ℕ)). b.now) w.rest-is);
         written = Appends-trans _ _ _ before.front (take w.in-Ok.count rest) before.written
             w.in-Ok.ensures.bytes;
       }

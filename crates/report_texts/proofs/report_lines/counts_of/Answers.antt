@@ -7,8 +7,9 @@ use Rattle.report_texts.specs.inside.Counted.{sums_with}
 use Rattle.report_texts.proofs.Counts.{counts_read, from_taps, from_paid, from_transfers}
 use Rattle.report_texts.proofs.Counts.{from_capped, from_stale, from_unknown, from_cents, same_sums}
 use Rattle.report_texts.proofs.Counts.{behind_taps, behind_paid, behind_transfers, behind_capped}
-use Rattle.report_texts.proofs.Counts.{behind_stale, behind_unknown, behind_cents, no_taps, no_paid}
-use Rattle.report_texts.proofs.Counts.{no_transfers, no_capped, no_stale, no_unknown, no_cents}
+use Rattle.report_texts.proofs.Counts.{behind_stale, behind_unknown, behind_cents}
+use Rattle.report_texts.proofs.Counts.{no_taps, no_paid, no_transfers, no_capped, no_stale}
+use Rattle.report_texts.proofs.Counts.{no_unknown, no_cents}
 use Rattle.report_texts.proofs.report_lines.counts_of.Goals as goal
 use Rattle.tap_views.proofs.Choices.{MatchOption_none}
 

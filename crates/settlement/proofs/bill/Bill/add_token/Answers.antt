@@ -19,7 +19,8 @@ use Rattle.shard_book.proofs.SumsByToken.{by_token_joined, one_token_list, below
 use Rattle.settlement.specs.Bills.{IsCountOf}
 use Rattle.settlement.specs.Posted.{posted, posted_after, token_of_tap, unposted}
 use Rattle.settlement.specs.Replays.{HasPosted}
-use Rattle.settlement.proofs.TokenRuns.{few_posted, no_tap, posted_length, posted_more, tokens_are}
+use Rattle.settlement.proofs.TokenRuns.{few_posted, no_tap, posted_length}
+use Rattle.settlement.proofs.TokenRuns.{posted_more, tokens_are}
 use Rattle.settlement.proofs.bill.Bill.add_token.Goals as goal
 
 pub loop-tap-init : goal.loop-tap-init
