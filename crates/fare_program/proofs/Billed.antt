@@ -6,7 +6,7 @@ use Rattle.tap_views.specs.declared.token.Token.{Token}
 use Rattle.fare_program.specs.Options.{Asked}
 use Rattle.fare_program.specs.Settling.{IsTextOver, ShowsSettled}
 use Rattle.fare_program.specs.inside.Settling.{ShowsBill}
-use Rattle.ledger_texts.specs.Ledger.{IsLedgerOver}
+use Rattle.fare_texts.specs.Ledger.{IsLedgerOver}
 
 pub shows_bill : (asked : Asked) (fares : Fares) (files : List (List ℕ)) (token : Option Token)
     (text : List ℕ) (well : Bool) → asked.ledger ≡ false → token ≡ None

@@ -8,7 +8,7 @@ use Rattle.shard_book.specs.SumsByKey.{all_entries}
 use Rattle.shard_book.specs.declared.entry.Entry.{Entry}
 use Rattle.tap_views.specs.declared.token.Token.{Token}
 use Rattle.fare_service.specs.Outcomes.{OutcomeView}
-use Rattle.ledger_texts.specs.Explained.{IsExplained, IsExplainedOf, IsExplainedOver}
+use Rattle.fare_texts.specs.Explained.{IsExplained, IsExplainedOf, IsExplainedOver}
 
 pub explained_same : (fares : Fares) (outcome : OutcomeView) (history : List Entry) (token : Token) (text : List ℕ)
     → own token (all_entries outcome.books) ≡ own token history

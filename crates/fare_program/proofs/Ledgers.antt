@@ -15,8 +15,8 @@ use Rattle.shard_book.proofs.RisingLemmas.{rising-is, rising-only}
 use Rattle.tap_views.proofs.TokenLemmas.{token_cmp-total, token_cmp-ties}
 use Rattle.fare_service.specs.Outcomes.{OutcomeView}
 use Rattle.fare_service.proofs.PlainSums.{same_entries}
-use Rattle.ledger_texts.specs.Ledger.{AreLinesOfEach, IsLedgerOfBooks, IsLedgerOver, tokens_told}
-use Rattle.ledger_texts.proofs.ByToken.{each_same}
+use Rattle.fare_texts.specs.Ledger.{AreLinesOfEach, IsLedgerOfBooks, IsLedgerOver, tokens_told}
+use Rattle.fare_texts.proofs.ByToken.{each_same}
 
 same_tokens : (entries others : List Entry) → ((token : Token) → own token entries ≡ own token others) → tokens entries ≡ tokens others
 unfolding tokens

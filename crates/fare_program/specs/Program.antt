@@ -19,15 +19,15 @@ use Rattle.report_texts.specs.UploadEnds.{are_posted}
 use Rattle.fare_program.specs.Settling.{ShowsOver, ShowsSettled}
 use Rattle.fare_program.specs.declared.fault.Fault.{Fault}
 use Rattle.fare_program.specs.declared.fault.Fault.TheVariants.{Write}
-use Rattle.ledger_texts.specs.Explained.{IsExplainedOf}
-use Rattle.ledger_texts.specs.Ledger.{IsLedgerOfBooks}
+use Rattle.fare_texts.specs.Explained.{IsExplainedOf}
+use Rattle.fare_texts.specs.Ledger.{IsLedgerOfBooks}
 use Rattle.program_manners.specs.Loads.{Loaded, Tells, TellsOne}
 use Rattle.program_manners.specs.LineWritten.{LineWritten}
 use Rattle.fare_program.specs.Uploads.{IsListing}
 use Rattle.toml.specs.Data.{Members}
 use Rattle.toml.specs.Parse.{parse_document}
-use Rattle.traced_ledgers.specs.Classes.{class_of_token}
-use Rattle.traced_ledgers.specs.Ledgers.{IsTracedLedger}
+use Rattle.settled_texts.specs.Classes.{class_of_token}
+use Rattle.settled_texts.specs.Ledgers.{IsTracedLedger}
 
 -- Where a table is named, its file was loaded under that name, and its text means these fares.
 abbrev pub LoadsTable : Option (List ℕ) → Option (List Loaded) → Option (List Loaded) → Option Fares

@@ -6,8 +6,8 @@ use Rattle.tap_views.specs.declared.token.Token.{Token}
 use Rattle.report_texts.specs.UploadEnds.{ArePlainEnds}
 use Rattle.report_texts.specs.OverHistory.{IsReportOver, IsStatementOver}
 use Rattle.report_texts.specs.declared.upload_end.UploadEnd.{UploadEnd}
-use Rattle.ledger_texts.specs.Explained.{IsExplainedOver}
-use Rattle.ledger_texts.specs.Ledger.{IsLedgerOver}
+use Rattle.fare_texts.specs.Explained.{IsExplainedOver}
+use Rattle.fare_texts.specs.Ledger.{IsLedgerOver}
 use Rattle.settlement.specs.Settled.{IsSettledHistory}
 use Rattle.fare_program.specs.Options.{Asked}
 use Rattle.report_texts.specs.UploadEnds.{are_posted}

@@ -15,7 +15,7 @@ use crate::run::{are_posted, post_live};
 use crate::settle::charge_settled;
 use fare_service::Outcome;
 use fare_table::FareTable;
-use ledger_texts::{write_explained, write_ledger};
+use fare_texts::{write_explained, write_ledger};
 use std::alloc::Global;
 use std::io::Write;
 use std::marker::Sync;

@@ -5,7 +5,7 @@ ghost use Rattle.tap_views.specs.Encoding.{AreEarly};
 ghost use Rattle.shard_book.specs.Entry.{own};
 ghost use Rattle.shard_book.specs.declared.entry.Entry.{Entry};
 ghost use Rattle.report_texts.specs.OverHistory.{IsStatementOver};
-ghost use Rattle.ledger_texts.specs.Explained.{IsExplainedOver};
+ghost use Rattle.fare_texts.specs.Explained.{IsExplainedOver};
 ghost use Rattle.settlement.specs.Posted.{posted, token_of_tap};
 ghost use Rattle.settlement.specs.Reading.{AreRead};
 ghost use Rattle.fare_program.specs.Fault.{status_of};

@@ -6,16 +6,16 @@ ghost use Rattle.toml.specs.Parse.{parse_document};
 ghost use Rattle.fare_table.specs.Meaning.{Means};
 ghost use Rattle.fare_program.specs.Fault.{status_of};
 ghost use Rattle.fare_program.specs.inside.Causes.{IsOfOutput, IsRightOfText};
-ghost use Rattle.traced_ledgers.specs.Classes.{class_of_token};
-ghost use Rattle.traced_ledgers.specs.Ledgers.{IsTracedLedger};
-ghost use Rattle.traced_ledgers.specs.Names.{class_by};
+ghost use Rattle.settled_texts.specs.Classes.{class_of_token};
+ghost use Rattle.settled_texts.specs.Ledgers.{IsTracedLedger};
+ghost use Rattle.settled_texts.specs.Names.{class_by};
 
 use crate::fault::Fault;
 use crate::output::flush;
 use fare_table::FareTable;
+use settled_texts::{ClassFault, ClassNames, write_traced_ledger};
 use std::alloc::Global;
 use std::io::Write;
-use traced_ledgers::{ClassFault, ClassNames, write_traced_ledger};
 
 /// A fare table, and the names of its classes.
 #[derive(Drop)]

@@ -1,6 +1,14 @@
 pub mod Counts
+pub mod Explained
+pub mod Ledger
+pub mod LedgerLines
+pub mod Lines
 pub mod Local
 pub mod Moments
+pub mod NoTransferWords
 pub mod PrintFaults
+pub mod ReasonWords
 pub mod ReportLines
 pub mod StatementText
+pub mod Tellers
+pub mod inside

@@ -1,20 +1,40 @@
-//! The texts of moments, tokens, counts and statements, as bytes that definitions name.
+//! The texts of a history, as bytes that definitions name: moments, tokens, counts, statements, why
+//! each line costs what it costs, the ledger as CSV, and the explained statement of one token.
 #![tactic(auto)]
 
 mod counts;
 mod digits;
+mod entries;
+mod explained;
+mod ledger;
+mod ledger_line;
+mod ledger_lines;
+mod lines;
 mod local;
 mod moment;
 mod names;
+mod no_transfer_words;
 mod print_fault;
+mod reason_fields;
+mod reason_words;
+mod spot;
 mod statement;
+mod teller;
 mod writing;
 
 pub use counts::{write_counts, write_totals};
 pub use digits::Digits;
+pub use explained::{write_explained, write_explained_of};
+pub use ledger::{LINE_ROOM_BYTES, head_with_room, write_ledger, write_ledger_of};
+pub use ledger_line::write_line;
+pub use ledger_lines::{head_line, write_token_lines};
+pub use lines::{PIECE_BYTES, go_on_to, pass_on, pass_piece};
 pub use local::write_local;
 pub use moment::write_moment;
 pub use names::answer_name;
+pub use no_transfer_words::write_no_transfer;
 pub use print_fault::PrintFault;
+pub use reason_words::write_reason_words;
 pub use statement::{statement_text, write_entry_words, write_statement_head, write_window_words};
+pub use teller::Teller;
 pub use writing::write_out;

@@ -6,7 +6,7 @@ use Rattle.std.specs.Io.BufRead.{drop_through, take_through}
 use Rattle.std.proofs.lemmas.Fmt.{decimal_injective}
 use Rattle.std.proofs.lemmas.List.{append_cancel_right}
 use Rattle.ledger_changes.specs.Ledgers.{AreRowLines, IsRowLine, IsSettledLedger, fields_of}
-use Rattle.reason_texts.specs.Ledger.{head_text}
+use Rattle.fare_texts.specs.LedgerLines.{head_text}
 use Rattle.ledger_changes.specs.Rows.{Row}
 use Rattle.ledger_changes.specs.inside.LedgerRows.{rows_in}
 use Rattle.ledger_changes.specs.inside.Standings.{HasRowsAt, IsAtRow, IsKnown, IsMoved, MayFollow}

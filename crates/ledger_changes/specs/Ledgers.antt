@@ -5,7 +5,7 @@ use Rattle.std.specs.Fmt.{decimal}
 use Rattle.std.specs.Io.BufRead.{drop_through, take_through}
 use Rattle.std.specs.List.{slice_split}
 use Rattle.std.specs.List.Sorted.{IsSorted}
-use Rattle.reason_texts.specs.Ledger.{head_text}
+use Rattle.fare_texts.specs.LedgerLines.{head_text}
 use Rattle.ledger_changes.specs.Rows.{Row, key_cmp}
 
 -- the fields of a line, cut at its commas

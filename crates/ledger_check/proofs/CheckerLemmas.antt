@@ -3,7 +3,7 @@ use Rattle.std.proofs.Common.{◌≡◌, ◌≢◌, ℕ, ◌+◌, ◌<◌, ◌�
 use Rattle.std.proofs.lemmas.Bool.{cases_lt}
 use Rattle.fare_table.specs.Fares.{Fares}
 use Rattle.shard_book.specs.declared.entry.Entry.{Entry}
-use Rattle.reason_texts.specs.Ledger.{head_text, line_head, entry_fields}
+use Rattle.fare_texts.specs.LedgerLines.{head_text, line_head, entry_fields}
 use Rattle.ledger_check.specs.Ledger.{IsNext}
 use Rattle.ledger_check.specs.Lines.{IsLine, Lacks, lines_of}
 use Rattle.ledger_check.specs.Replays.{HasRead, IsWanted, IsWrongAfter}

@@ -4,10 +4,10 @@ use Rattle.std.proofs.lemmas.Slice.Eq.{bytes_eq-Decides}
 use Rattle.std.specs.Prelude.{nat_eq}
 use Rattle.std.specs.Str.{bytes_eq}
 use Rattle.fare_table.specs.Fares.{Fares}
-use Rattle.tap_balance.specs.FullBalances.{IsFullBalance}
-use Rattle.tap_balance.specs.declared.full_balance.FullBalance.{FullBalance}
+use Rattle.ledger_check.specs.FullBalances.{IsFullBalance}
+use Rattle.ledger_check.specs.declared.full_balance.FullBalance.{FullBalance}
 use Rattle.tap_views.specs.declared.encoder.TapFields.{TapFields}
-use Rattle.reason_texts.specs.Ledger.{head_text}
+use Rattle.fare_texts.specs.LedgerLines.{head_text}
 use Rattle.ledger_check.specs.Lines.{Lacks, lines_of}
 use Rattle.ledger_check.specs.Recounts.{IsTaken, TakenLine, lines_from, no_line_text, taps_from, taps_with, told_lines, told_text, with_first}
 use Rattle.ledger_check.specs.RecountStates.{AreSums, HasRecounted}

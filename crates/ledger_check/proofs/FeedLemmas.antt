@@ -1,7 +1,7 @@
 -- Pieces of a text, fed to a recount one after another.
 use Rattle.std.proofs.Common.{◌≡◌, ℕ, Bool, List, [], ◌++◌, refl, sym, ap, subst, ◌∙◌, append_assoc, append-nil}
 use Rattle.fare_table.specs.Fares.{Fares}
-use Rattle.tap_balance.specs.declared.full_balance.FullBalance.{FullBalance}
+use Rattle.ledger_check.specs.declared.full_balance.FullBalance.{FullBalance}
 use Rattle.tap_views.specs.declared.encoder.TapFields.{TapFields}
 use Rattle.ledger_check.specs.RecountStates.{HasRecounted}
 use Rattle.ledger_check.specs.declared.recount.Recount.{Recount}

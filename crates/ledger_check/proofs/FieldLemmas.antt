@@ -22,7 +22,7 @@ use Rattle.fare_table.specs.Fares.{Fares}
 use Rattle.account_rule.specs.declared.reason.Reason.{Reason}
 use Rattle.fare_texts.specs.StatementText.{answer_text}
 use Rattle.shard_book.specs.declared.entry.Entry.{Entry}
-use Rattle.reason_texts.specs.Ledger.{IsLedgerLine, entry_fields, line_head, mode_field}
+use Rattle.fare_texts.specs.LedgerLines.{IsLedgerLine, entry_fields, line_head, mode_field}
 use Rattle.ledger_check.specs.Lines.{Lacks}
 use Rattle.ledger_check.proofs.LineLemmas.{lacks-append, lacks-at, lacks-tested}
 

@@ -1,9 +1,12 @@
+mod Balanced
 pub mod CheckerLemmas
 pub mod EndLemmas
 pub mod EntryLists
 pub mod FeedLemmas
 pub mod FieldLemmas
+mod Firsts
 pub mod FrontLemmas
+mod FullyBalanced
 pub mod LineLemmas
 pub mod MomentLemmas
 pub mod Nones
@@ -12,8 +15,11 @@ pub mod RecountLemmas
 pub mod ReplayLemmas
 pub mod RunLemmas
 pub mod SameLines
+mod SameTaps
+mod Spread
 pub mod StruckLemmas
 pub mod TellerLemmas
+mod Times
 pub mod TokenOrder
 pub mod VerdictLemmas
 pub mod WalkLemmas

@@ -8,8 +8,8 @@ use Rattle.shard_book.specs.Entry.{own}
 use Rattle.shard_book.specs.declared.entry.Entry.{Entry}
 use Rattle.tap_views.specs.declared.encoder.TapFields.{TapFields}
 use Rattle.tap_views.specs.declared.token.Token.{Token}
-use Rattle.reason_texts.specs.Ledger.{head_text, IsLedgerLineAfter, line_head, entry_fields}
-use Rattle.reason_texts.specs.Tellers.{next_entry}
+use Rattle.fare_texts.specs.LedgerLines.{head_text, IsLedgerLineAfter, line_head, entry_fields}
+use Rattle.fare_texts.specs.Tellers.{next_entry}
 use Rattle.ledger_check.specs.Ledger.{AreNext, IsLedger, IsLedgerOf, IsNext, IsNextLine, token_number}
 use Rattle.ledger_check.specs.Lines.{lines_of}
 use Rattle.ledger_check.specs.Struck.{tap_of_entry}

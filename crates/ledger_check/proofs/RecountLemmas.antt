@@ -5,12 +5,12 @@ use Rattle.std.specs.Str.{bytes_eq}
 use Rattle.fare_table.specs.Fares.{Fares}
 use Rattle.shard_book.specs.Entry.{own}
 use Rattle.shard_book.specs.declared.entry.Entry.{Entry}
-use Rattle.tap_balance.specs.FullBalances.{IsFullBalance}
-use Rattle.tap_balance.specs.declared.full_balance.FullBalance.{FullBalance}
+use Rattle.ledger_check.specs.FullBalances.{IsFullBalance}
+use Rattle.ledger_check.specs.declared.full_balance.FullBalance.{FullBalance}
 use Rattle.tap_views.specs.declared.encoder.TapFields.{TapFields}
 use Rattle.tap_views.specs.declared.token.Token.{Token}
-use Rattle.reason_texts.specs.Ledger.{head_text}
-use Rattle.reason_texts.specs.declared.teller.Teller.{Teller}
+use Rattle.fare_texts.specs.LedgerLines.{head_text}
+use Rattle.fare_texts.specs.declared.teller.Teller.{Teller}
 use Rattle.ledger_check.specs.Lines.{IsLine, Lacks, lines_of}
 use Rattle.ledger_check.specs.Recounts.{IsJudged, IsLineOfTap, IsTaken, TakenLine, lines_from, run_of, run_with, taps_from, told_lines, told_text}
 use Rattle.ledger_check.specs.RecountStates.{AreSums, HasRecounted, HasRunTeller, HasTakenLines, IsKept}

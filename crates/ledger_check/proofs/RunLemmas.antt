@@ -13,7 +13,7 @@ use Rattle.shard_book.specs.declared.entry.Entry.{Entry}
 use Rattle.tap_views.proofs.TokenLemmas.{same_token, token_eq-refl}
 use Rattle.tap_views.specs.Token.{Fits, token_eq}
 use Rattle.tap_views.specs.declared.token.Token.{Token}
-use Rattle.reason_texts.specs.Tellers.{next_entry}
+use Rattle.fare_texts.specs.Tellers.{next_entry}
 use Rattle.ledger_check.specs.Ledger.{token_number}
 use Rattle.ledger_check.specs.Recounts.{falls_after}
 use Rattle.ledger_check.proofs.TokenOrder.{own-above, own-more}

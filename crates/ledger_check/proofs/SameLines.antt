@@ -19,7 +19,7 @@ use Rattle.tap_views.specs.Token.{bytes_of}
 use Rattle.shard_book.specs.declared.entry.Entry.{Entry}
 use Rattle.tap_views.specs.declared.token.Token.{Token}
 use Rattle.fare_texts.specs.Moments.{IsCivilText, IsMomentText, clock_text}
-use Rattle.reason_texts.specs.Ledger.{IsReasonFields, IsLedgerLine, IsPointing, IsRideFields, entry_fields, line_head, ride_rest}
+use Rattle.fare_texts.specs.LedgerLines.{IsReasonFields, IsLedgerLine, IsPointing, IsRideFields, entry_fields, line_head, ride_rest}
 use Rattle.ledger_check.specs.Ledger.{IsNextLine, IsNext}
 use Rattle.ledger_check.specs.inside.Taps.{IsEntryOfTap}
 use Rattle.ledger_check.specs.declared.tap.Tap.{Tap}

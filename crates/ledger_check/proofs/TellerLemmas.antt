@@ -15,9 +15,9 @@ use Rattle.shard_book.specs.History.{IsReplied}
 use Rattle.tap_views.specs.Token.{Fits, bytes_of}
 use Rattle.shard_book.specs.declared.entry.Entry.{Entry}
 use Rattle.tap_views.specs.declared.token.Token.{Token}
-use Rattle.reason_texts.specs.Ledger.{IsLedgerLine, IsLedgerLineAfter, reason_after}
-use Rattle.reason_texts.specs.Tellers.{HasTold}
-use Rattle.reason_texts.specs.declared.teller.Teller.{Teller}
+use Rattle.fare_texts.specs.LedgerLines.{IsLedgerLine, IsLedgerLineAfter, reason_after}
+use Rattle.fare_texts.specs.Tellers.{HasTold}
+use Rattle.fare_texts.specs.declared.teller.Teller.{Teller}
 use Rattle.ledger_check.specs.Ledger.{token_number}
 use Rattle.ledger_check.specs.Replays.{StandsForOwn}
 use Rattle.ledger_check.specs.inside.Replays.{GoesOn}

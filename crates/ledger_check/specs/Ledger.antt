@@ -6,7 +6,7 @@ use Rattle.shard_book.specs.History.{IsReplied}
 use Rattle.tap_views.specs.Token.{Fits}
 use Rattle.shard_book.specs.declared.entry.Entry.{Entry}
 use Rattle.tap_views.specs.declared.token.Token.{Token}
-use Rattle.reason_texts.specs.Ledger.{IsLedgerLineAfter, head_text}
+use Rattle.fare_texts.specs.LedgerLines.{IsLedgerLineAfter, head_text}
 use Rattle.ledger_check.specs.Lines.{lines_of}
 
 -- a token as one number of 128 bits: tokens rise as these numbers do

@@ -1,3 +1,5 @@
+pub mod Balances
+pub mod FullBalances
 pub mod Ledger
 pub mod Lines
 pub mod RecountStates

@@ -3,12 +3,12 @@ use Rattle.std.specs.Prelude.{◌≡◌, ◌⊎◌, ℕ, ◌+◌, ◌^◌, ◌<�
 use Rattle.std.specs.Prelude.{All, Option, None, Some}
 use Rattle.fare_table.specs.Fares.{Fares}
 use Rattle.shard_book.specs.declared.entry.Entry.{Entry}
-use Rattle.tap_balance.specs.FullBalances.{IsFullBalance}
-use Rattle.tap_balance.specs.declared.full_balance.FullBalance.{FullBalance}
+use Rattle.ledger_check.specs.FullBalances.{IsFullBalance}
+use Rattle.ledger_check.specs.declared.full_balance.FullBalance.{FullBalance}
 use Rattle.tap_views.specs.Token.{Fits}
 use Rattle.tap_views.specs.declared.encoder.TapFields.{TapFields}
-use Rattle.reason_texts.specs.Tellers.{HasTold}
-use Rattle.reason_texts.specs.declared.teller.Teller.{Teller}
+use Rattle.fare_texts.specs.Tellers.{HasTold}
+use Rattle.fare_texts.specs.declared.teller.Teller.{Teller}
 use Rattle.ledger_check.specs.Lines.{Lacks, lines_of}
 use Rattle.ledger_check.specs.Recounts.{AreTaken, TakenLine, cents_from, last_wrong_token}
 use Rattle.ledger_check.specs.Recounts.{lines_from, run_of, taps_from, token_count, told_lines}

@@ -14,8 +14,8 @@ use Rattle.shard_book.specs.declared.entry.Entry.{Entry}
 use Rattle.tap_views.specs.Token.{Fits, bytes_of, token_eq}
 use Rattle.tap_views.specs.declared.token.Token.{Token}
 use Rattle.tap_views.specs.declared.encoder.TapFields.{TapFields}
-use Rattle.reason_texts.specs.Ledger.{IsLedgerLineAfter, head_text}
-use Rattle.reason_texts.specs.Tellers.{next_entry}
+use Rattle.fare_texts.specs.LedgerLines.{IsLedgerLineAfter, head_text}
+use Rattle.fare_texts.specs.Tellers.{next_entry}
 use Rattle.ledger_check.specs.Ledger.{IsLedger, IsLedgerOf, token_number}
 use Rattle.ledger_check.specs.Lines.{Lacks, lines_of}
 use Rattle.ledger_check.specs.Struck.{tap_of_entry}

@@ -5,8 +5,8 @@ use Rattle.fare_table.specs.Fares.{Fares}
 use Rattle.shard_book.specs.Entry.{own}
 use Rattle.tap_views.specs.Token.{Fits}
 use Rattle.shard_book.specs.declared.entry.Entry.{Entry}
-use Rattle.reason_texts.specs.Tellers.{HasTold}
-use Rattle.reason_texts.specs.declared.teller.Teller.{Teller}
+use Rattle.fare_texts.specs.Tellers.{HasTold}
+use Rattle.fare_texts.specs.declared.teller.Teller.{Teller}
 use Rattle.ledger_check.specs.Ledger.{AreNext, IsNext, token_number}
 use Rattle.ledger_check.specs.declared.replay.Replay.{Replay}
 

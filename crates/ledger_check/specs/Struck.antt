@@ -1,7 +1,7 @@
 -- The taps of a ledger, struck out of a balance.
 use Rattle.std.specs.Prelude.{◌≡◌, ℕ, false, List, [], ◌∷◌, map, Option, None, Some}
-use Rattle.tap_balance.specs.Balances.{IsBalance}
-use Rattle.tap_balance.specs.declared.balance.Balance.{Balance}
+use Rattle.ledger_check.specs.Balances.{IsBalance}
+use Rattle.ledger_check.specs.declared.balance.Balance.{Balance}
 use Rattle.tap_views.specs.declared.encoder.TapFields.{TapFields}
 use Rattle.fare_table.specs.Fares.{Fares}
 use Rattle.tap_views.specs.Token.{bytes_of}

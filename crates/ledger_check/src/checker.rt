@@ -4,8 +4,8 @@ ghost use Rattle.std.specs.Prelude.{◌≡◌, ◌++◌, ◌∷◌, [], ℕ, Lis
 ghost use Rattle.std.specs.Prelude.{map};
 ghost use Rattle.fare_table.specs.Fares.{Fares};
 ghost use Rattle.shard_book.specs.declared.entry.Entry.{Entry};
-ghost use Rattle.tap_balance.specs.Balances.{IsBalance};
-ghost use Rattle.tap_balance.specs.declared.balance.Balance.{Balance};
+ghost use Rattle.ledger_check.specs.Balances.{IsBalance};
+ghost use Rattle.ledger_check.specs.declared.balance.Balance.{Balance};
 ghost use Rattle.tap_views.specs.declared.encoder.TapFields.{TapFields};
 ghost use Rattle.ledger_check.specs.Ledger.{IsLedgerOf};
 ghost use Rattle.ledger_check.specs.Lines.{IsLine, Lacks};
@@ -14,12 +14,12 @@ ghost use Rattle.ledger_check.specs.Verdicts.{HasFed, HasTaken, IsFed, IsVerdict
 ghost use Rattle.ledger_check.specs.inside.Verdicts.{IsTaken, number_after};
 ghost use Rattle.ledger_check.specs.declared.checker.Verdict.TheVariants.{NoLine};
 
+use crate::Balance;
 use crate::bytes::{same_bytes, split_line};
 use crate::replay::{MAX_LINE_BYTES, Replay, Step};
 use fare_table::{Clock, FareTable};
-use reason_texts::head_line;
+use fare_texts::head_line;
 use std::alloc::Global;
-use tap_balance::Balance;
 use tap_views::NoMemory;
 
 /// What a check tells of a text. Lines count from 1, the head line.

@@ -4,12 +4,19 @@
 //! It trusts nobody who wrote the text. It reads each line's tap, steps the account of its token,
 //! prints the line that the tap should have, and compares the bytes. It keeps one account and at
 //! most 255 bytes of the text.
+//!
+//! A balance holds the taps of uploads against the taps that a ledger has: whether both are the same
+//! taps, in whatever order, and else a tap that one side has more often than the other. It keeps each
+//! tap of the uploads once, with a number, and nothing of the other side. It knows no fare.
 #![tactic(auto)]
 
+mod balance;
+pub mod balance_laws;
 mod bytes;
 mod checker;
 mod exact;
 mod form;
+mod full_balance;
 pub mod laws;
 mod moment;
 mod recount;
@@ -19,7 +26,9 @@ mod tap;
 mod walk;
 mod wanted;
 
+pub use balance::{Balance, Difference};
 pub use bytes::{field, same_bytes, split_line};
 pub use checker::{Checker, Verdict};
+pub use full_balance::FullBalance;
 pub use recount::Recount;
 pub use tap::read_small_number;

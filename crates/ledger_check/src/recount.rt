@@ -3,8 +3,8 @@
 ghost use Rattle.std.specs.Prelude.{◌≡◌, ◌++◌, ◌∷◌, [], ℕ, List, IfOk, OnOk, Bool, nat_eq, true};
 ghost use Rattle.std.specs.Prelude.{string_bytes, ◌<◌, ◌↔◌, IsTrue};
 ghost use Rattle.fare_table.specs.Fares.{Fares};
-ghost use Rattle.tap_balance.specs.FullBalances.{IsFullBalance};
-ghost use Rattle.tap_balance.specs.declared.full_balance.FullBalance.{FullBalance as AFullBalance};
+ghost use Rattle.ledger_check.specs.FullBalances.{IsFullBalance};
+ghost use Rattle.ledger_check.specs.declared.full_balance.FullBalance.{FullBalance as AFullBalance};
 ghost use Rattle.tap_views.specs.declared.encoder.TapFields.{TapFields};
 ghost use Rattle.ledger_check.specs.Recounts.{IsRecount, TakenLine, recount_text, taps_from};
 ghost use Rattle.ledger_check.specs.Recounts.{taps_with, wrong_count};
@@ -13,14 +13,14 @@ ghost use Rattle.ledger_check.specs.Lines.{IsLine};
 ghost use Rattle.ledger_check.specs.inside.Recounts.{HasEnded, HasFound, IsFirstFinding};
 ghost use Rattle.ledger_check.specs.inside.Recounts.{TookLine};
 
+use crate::FullBalance;
 use crate::bytes::{same_bytes, split_line};
 use crate::recount_sums::RecountSums;
 use crate::replay::MAX_LINE_BYTES;
 use crate::walk::{LineFinding, Told, Walk, write_told};
 use fare_table::{Clock, FareTable};
-use reason_texts::head_line;
+use fare_texts::head_line;
 use std::alloc::{AllocError, Global};
-use tap_balance::FullBalance;
 use tap_views::{NoMemory, TapFields};
 
 /// A line that tells no tap.

@@ -15,7 +15,7 @@ use crate::form::has_form;
 use crate::tap::{Tap, read_tap};
 use crate::wanted::write_wanted;
 use fare_table::{Clock, FareTable};
-use reason_texts::Teller;
+use fare_texts::Teller;
 use std::cmp::Ordering;
 use tap_views::{NoMemory, Token};
 

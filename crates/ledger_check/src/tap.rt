@@ -9,7 +9,7 @@ ghost use Rattle.fare_table.specs.Fares.{Fares};
 ghost use Rattle.tap_views.specs.Token.{Fits, bytes_of};
 ghost use Rattle.shard_book.specs.declared.entry.Entry.{Entry};
 ghost use Rattle.tap_views.specs.declared.token.Token.{Token};
-ghost use Rattle.reason_texts.specs.Ledger.{IsLedgerLine};
+ghost use Rattle.fare_texts.specs.LedgerLines.{IsLedgerLine};
 ghost use Rattle.ledger_check.specs.Ledger.{IsPostable};
 ghost use Rattle.ledger_check.specs.inside.Taps.{IsEntryOfTap, tap_fields};
 

@@ -7,7 +7,7 @@ ghost use Rattle.ledger_check.specs.inside.Replays.{GoesOn};
 
 use account_rule::Answer;
 use fare_table::{Clock, FareTable};
-use reason_texts::{Teller, write_line};
+use fare_texts::{Teller, write_line};
 use shard_book::Entry;
 use tap_views::NoMemory;
 

@@ -5,8 +5,8 @@ use Rattle.std.specs.List.Sorted.{IsPermutation}
 use Rattle.fare_table.specs.Fares.{Fares}
 use Rattle.ledger_check.specs.Ledger.{IsLedger}
 use Rattle.ledger_check.specs.Struck.{tap_of_entry}
-use Rattle.tap_balance.specs.Balances.{IsDifference}
-use Rattle.tap_balance.specs.declared.balance.Difference.{Difference}
+use Rattle.ledger_check.specs.Balances.{IsDifference}
+use Rattle.ledger_check.specs.declared.balance.Difference.{Difference}
 use Rattle.tap_views.specs.declared.encoder.TapFields.{TapFields}
 use Rattle.omny_audit.specs.Findings.{agrees, IsDifferenceOf, IsRightLedger, IsDifferenceLine}
 use Rattle.omny_audit.specs.Text.{IsDifferenceText}

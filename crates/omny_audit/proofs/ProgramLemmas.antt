@@ -7,7 +7,7 @@ use Rattle.fare_table.specs.declared.fault.TableFault.{TableFault}
 use Rattle.std.proofs.lemmas.Bool.Decides.{nat_tests}
 use Rattle.std.proofs.lemmas.List.{map-append}
 use Rattle.clap.specs.Words.{Text}
-use Rattle.tap_balance.specs.Balances.{AreGoodFields}
+use Rattle.ledger_check.specs.Balances.{AreGoodFields}
 use Rattle.tap_views.specs.declared.encoder.TapFields.{TapFields}
 use Rattle.omny_audit.specs.Fault.{IsRightFault, NamesOneOf, is_unwritten, named_by}
 use Rattle.omny_audit.specs.Options.{AuditAsked, files_of, named_file}

@@ -9,9 +9,9 @@ use Rattle.ledger_check.specs.Recounts.{IsRecount, TakenLine, recount_text, taps
 use Rattle.ledger_check.specs.Struck.{tap_of_entry}
 use Rattle.ledger_check.specs.Verdicts.{IsVerdict, is_legal}
 use Rattle.ledger_check.specs.declared.checker.Verdict.{Verdict}
-use Rattle.tap_balance.specs.Balances.{IsDifference}
-use Rattle.tap_balance.specs.FullBalances.{AreLacking}
-use Rattle.tap_balance.specs.declared.balance.Difference.{Difference}
+use Rattle.ledger_check.specs.Balances.{IsDifference}
+use Rattle.ledger_check.specs.FullBalances.{AreLacking}
+use Rattle.ledger_check.specs.declared.balance.Difference.{Difference}
 use Rattle.tap_views.specs.declared.encoder.TapFields.{TapFields}
 use Rattle.omny_audit.specs.Text.{IsDifferenceText, IsDifferencesText, are_none, verdict_text}
 

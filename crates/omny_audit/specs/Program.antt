@@ -5,7 +5,7 @@ use Rattle.std.specs.Io.KnownBytes.{Appends, Keeps}
 use Rattle.clap.specs.Words.{Text}
 use Rattle.fare_table.specs.Fares.{Fares}
 use Rattle.fare_table.specs.Meaning.{Means}
-use Rattle.tap_balance.specs.Balances.{AreGoodFields}
+use Rattle.ledger_check.specs.Balances.{AreGoodFields}
 use Rattle.tap_views.specs.declared.encoder.TapFields.{TapFields}
 use Rattle.omny_audit.specs.Reports.{IsAudit, IsRightAudit}
 use Rattle.omny_audit.specs.Fault.{IsRightFault, audit_fault_text, is_quiet, is_unwritten}

@@ -5,8 +5,8 @@ use Rattle.std.specs.Fmt.{decimal}
 use Rattle.std.specs.Io.KnownBytes.{Appends}
 use Rattle.hex.specs.Hex.{encode_lower}
 use Rattle.fare_texts.specs.Moments.{IsMomentText}
-use Rattle.tap_balance.specs.declared.balance.Difference.{Difference}
-use Rattle.tap_balance.specs.declared.balance.Difference.TheVariants.{Missing, Surplus}
+use Rattle.ledger_check.specs.declared.balance.Difference.{Difference}
+use Rattle.ledger_check.specs.declared.balance.Difference.TheVariants.{Missing, Surplus}
 use Rattle.tap_views.specs.declared.encoder.TapFields.{TapFields}
 use Rattle.ledger_check.specs.declared.checker.Verdict.{Verdict}
 use Rattle.ledger_check.specs.declared.checker.Verdict.TheVariants.{Legal, Wants, NoLine}

@@ -5,7 +5,7 @@ ghost use Rattle.std.specs.Prelude.{Bool, ◌↔◌, if◌then◌else◌, string
 ghost use Rattle.std.specs.Io.KnownBytes.{Appends, Keeps};
 ghost use Rattle.fare_table.specs.Fares.{Fares};
 ghost use Rattle.shard_book.specs.declared.entry.Entry.{Entry};
-ghost use Rattle.tap_balance.specs.Balances.{IsBalance};
+ghost use Rattle.ledger_check.specs.Balances.{IsBalance};
 ghost use Rattle.tap_views.specs.declared.encoder.TapFields.{TapFields};
 ghost use Rattle.ledger_check.specs.Ledger.{IsLedger, IsLedgerOf};
 ghost use Rattle.ledger_check.specs.Struck.{tap_of_entry};
@@ -25,10 +25,9 @@ use crate::report::{ReportWithSums, add_piece, are_both, write_report_line};
 use crate::text::{verdict_line, write_difference};
 use fare_table::{Clock, FareTable};
 use ledger_check::laws::verdicts_decide;
-use ledger_check::{Checker, Verdict};
+use ledger_check::{Balance, Checker, Difference, Verdict};
 use std::alloc::{AllocError, Global};
 use std::io::{Read, Write};
-use tap_balance::{Balance, Difference};
 use tap_views::NoMemory;
 
 /// How many bytes one read asks for.

@@ -4,8 +4,8 @@ ghost use Rattle.std.specs.Prelude.{◌≡◌, ◌++◌, ℕ, List, [], Bool, If
 ghost use Rattle.std.specs.Prelude.{◌&&◌, false, if◌then◌else◌, string_bytes, true};
 ghost use Rattle.std.specs.Io.KnownBytes.{Appends};
 ghost use Rattle.fare_table.specs.Fares.{Fares};
-ghost use Rattle.tap_balance.specs.Balances.{IsBalance};
-ghost use Rattle.tap_balance.specs.FullBalances.{IsFullBalance};
+ghost use Rattle.ledger_check.specs.Balances.{IsBalance};
+ghost use Rattle.ledger_check.specs.FullBalances.{IsFullBalance};
 ghost use Rattle.tap_views.specs.declared.encoder.TapFields.{TapFields};
 ghost use Rattle.omny_audit.specs.Fault.{named_by};
 ghost use Rattle.omny_audit.specs.inside.Fault.{is_of_loading};
@@ -21,11 +21,10 @@ use crate::output::{write_piece, write_text};
 use crate::report::{ReportWithSums, add_piece, are_both, write_report_line};
 use crate::text::{are_none, write_differences};
 use fare_table::{Clock, FareTable};
-use ledger_check::Recount;
 use ledger_check::laws::recounts_decide;
+use ledger_check::{Balance, FullBalance, Recount};
 use std::alloc::{AllocError, Global};
 use std::io::{Read, Write};
-use tap_balance::{Balance, FullBalance};
 use tap_views::{NoMemory, TapFields};
 
 /// How many bytes one read asks for.

@@ -9,7 +9,7 @@ pub fn findings_decide()
     ensures { FindingsDecide }
 {
     ledger_check::laws::verdicts_decide();
-    tap_balance::laws::differences_are_real();
+    ledger_check::balance_laws::differences_are_real();
 }
 
 /// What is found of all lines is well exactly if the text is right, as above.
@@ -17,7 +17,7 @@ pub fn full_findings_decide()
     ensures { FullFindingsDecide }
 {
     ledger_check::laws::recounts_decide();
-    tap_balance::laws::even_sides_lack_nothing();
+    ledger_check::balance_laws::even_sides_lack_nothing();
 }
 
 /// All is well exactly if the ledger is right, as above, and the report is its own, if there is one.

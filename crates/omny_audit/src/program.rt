@@ -5,7 +5,7 @@ ghost use Rattle.std.specs.Prelude.{Option, string_bytes, true, unwrap_or};
 ghost use Rattle.std.specs.Io.KnownBytes.{Appends, Keeps};
 ghost use Rattle.clap.specs.Words.{kind_of};
 ghost use Rattle.fare_table.specs.Fares.{Fares};
-ghost use Rattle.tap_balance.specs.Balances.{IsBalance};
+ghost use Rattle.ledger_check.specs.Balances.{IsBalance};
 ghost use Rattle.tap_views.specs.declared.encoder.TapFields.{TapFields};
 ghost use Rattle.omny_audit.specs.Fault.{IsRightFault, NamesOneOf, is_unwritten, named_by};
 ghost use Rattle.omny_audit.specs.Options.{AsksForAuditText, ParsesForAudit, audit_asked_by};
@@ -31,12 +31,12 @@ use crate::source::Source;
 use clap::Error;
 use clap::error::ErrorKind;
 use fare_table::FareTable;
+use ledger_check::Balance;
 use program_manners::{Complaints, STANDARD_INPUT, show_answer};
 use shard_book::HashSeed;
 use std::alloc::Global;
 use std::io::Write;
 use std::random::RandomSource;
-use tap_balance::Balance;
 
 /// All bytes of the file of this name.
 fn load_named<'a, S: Source>(source: &mut S, name: &'a str) -> Result<Vec<u8>, Fault<'a>>

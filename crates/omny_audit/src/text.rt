@@ -7,9 +7,8 @@ ghost use Rattle.omny_audit.specs.Text.{space_and_validator};
 ghost use Rattle.omny_audit.specs.Text.{verdict_text};
 
 use fare_texts::{Digits, write_moment};
-use ledger_check::Verdict;
+use ledger_check::{Difference, Verdict};
 use std::alloc::{AllocError, Global};
-use tap_balance::Difference;
 use tap_views::{TapFields, Token};
 
 /// The line of the verdict, with its line feed.

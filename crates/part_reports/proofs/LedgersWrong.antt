@@ -4,7 +4,7 @@ use Rattle.std.proofs.Common.{inl, inr, length, map, refl, subst, sym}
 use Rattle.std.specs.Prelude.{IfSome, slice_get}
 use Rattle.std.specs.Io.KnownBytes.{Appends}
 use Rattle.std.specs.List.{AllZip}
-use Rattle.reason_texts.specs.Ledger.{head_text}
+use Rattle.fare_texts.specs.LedgerLines.{head_text}
 use Rattle.part_reports.specs.Faults.{IsOfTexts}
 use Rattle.part_reports.specs.Ledgers.{IsMergedLedger, IsNoLedger, IsPartLedger, IsWrongLedgerAt}
 use Rattle.part_reports.specs.Ledgers.{LedgersShareToken, NamesWrongLedger}

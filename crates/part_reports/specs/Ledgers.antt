@@ -3,7 +3,7 @@ use Rattle.std.specs.Prelude.{◌≡◌, ◌<◌, ◌⊎◌, ℕ, List, ◌++◌
 use Rattle.std.specs.List.{AllZip}
 use Rattle.hex.specs.Hex.{encode_lower}
 use Rattle.tap_views.specs.Token.{Fits, bytes_of}
-use Rattle.reason_texts.specs.Ledger.{head_text}
+use Rattle.fare_texts.specs.LedgerLines.{head_text}
 use Rattle.part_reports.specs.TokenLines.{TokenLine, DoNotFall, HaveOtherTokens, IsMergedByToken}
 use Rattle.part_reports.specs.TokenLines.{text_of}
 use Rattle.part_reports.specs.declared.fault.MergeFault.{MergeFault}

@@ -14,7 +14,7 @@ use crate::fault::{MergeFault, Wrong};
 use crate::line_reader::LineReader;
 use crate::merging::{LineKind, OrderedText, write_merged};
 use crate::writing::write_text;
-use reason_texts::head_line;
+use fare_texts::head_line;
 use std::alloc::Global;
 use std::io::{BufRead, Write};
 

@@ -20,7 +20,7 @@ use crate::ledgers::begin_ledgers;
 use crate::merging::{OrderedText, fault_in, least, tokens_at, write_at};
 use crate::report_left::ReportLeft;
 use crate::writing::write_text;
-use reason_texts::head_line;
+use fare_texts::head_line;
 use std::alloc::Global;
 use std::io::{BufRead, Write};
 

@@ -10,6 +10,7 @@
 //! | `terminal_line` | a line on a terminal that says how far a long run is |
 //! | `answers` | what clap answers where there is nothing to run |
 //! | `arguments` | the words of the command line, and why they could not be had |
+//! | `version` | the version that each program prints |
 //! | `words` | a command and its options, as `clap` takes them |
 //! | `file_list`, `list_line` | the names of files that a text lists, and the line of a fault |
 //! | `list_words`, `listed_words` | a list on a command line, and the words with its names |
@@ -26,6 +27,7 @@ mod loading;
 mod opened;
 mod table_line;
 mod terminal_line;
+mod version;
 mod words;
 
 pub use answers::show_answer;
@@ -41,6 +43,7 @@ pub use loading::{
 pub use opened::Opened;
 pub use table_line::TableLine;
 pub use terminal_line::{PACE_MS, QUIET_MS, TerminalLine};
+pub use version::VERSION;
 pub use words::{
     add_list_args, files_arg, flag_arg, flag_in, names_in, new_command, number_arg, option_arg,
     positional_arg,

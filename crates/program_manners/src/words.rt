@@ -6,9 +6,9 @@ ghost use Rattle.program_manners.specs.Words.{files_rule, flag_rule, is_given, l
 ghost use Rattle.program_manners.specs.Words.{named_app, null_flag, number_rule};
 ghost use Rattle.program_manners.specs.Words.{option_rule, positional_rule};
 
+use crate::version::VERSION;
 use clap::builder::ValueParser;
 use clap::{Arg, ArgAction, ArgMatches, Command};
-use program_version::VERSION;
 use std::alloc::{AllocError, Global};
 
 /// The help of `--files-from`.

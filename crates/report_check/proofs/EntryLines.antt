@@ -28,7 +28,7 @@ use Rattle.account_rule.proofs.StepLemmas.{reply_unknown}
 use Rattle.account_rule.proofs.TapLemmas.{last_window-ride}
 use Rattle.account_rule.proofs.WindowLemmas.{charge-after}
 use Rattle.report_check.specs.inside.RideTerms.{HasRideTerms}
-use Rattle.reason_texts.specs.Ledger.{IsLedgerLine, entry_fields, line_head, mode_field}
+use Rattle.fare_texts.specs.LedgerLines.{IsLedgerLine, entry_fields, line_head, mode_field}
 use Rattle.ledger_check.specs.Lines.{Lacks}
 use Rattle.ledger_check.proofs.LineLemmas.{lacks-tested}
 use Rattle.shard_book.specs.Entry.{mode_of_place, tap_of, taps_of}

@@ -6,7 +6,7 @@ use Rattle.std.proofs.lemmas.Bool.{cases_Bool}
 use Rattle.std.proofs.lemmas.List.{length-map, map-append}
 use Rattle.std.proofs.lemmas.List.Elements.{All-map}
 use Rattle.fare_table.specs.Fares.{Fares}
-use Rattle.reason_texts.specs.Ledger.{IsLedgerLine, entry_fields, head_text, line_head}
+use Rattle.fare_texts.specs.LedgerLines.{IsLedgerLine, entry_fields, head_text, line_head}
 use Rattle.account_rule.specs.declared.reason.Reason.{Reason}
 use Rattle.shard_book.specs.declared.entry.Entry.{Entry}
 use Rattle.tap_views.specs.declared.token.Token.{Token}

@@ -5,7 +5,7 @@ ghost use Rattle.std.specs.Fmt.{decimal};
 ghost use Rattle.hex.specs.Hex.{encode_lower};
 ghost use Rattle.account_rule.specs.declared.reply.Answer.{Answer as AnAnswer};
 ghost use Rattle.fare_texts.specs.StatementText.{answer_text};
-ghost use Rattle.reason_texts.specs.Ledger.{mode_field};
+ghost use Rattle.fare_texts.specs.LedgerLines.{mode_field};
 ghost use Rattle.ledger_check.specs.Ledger.{IsNext};
 ghost use Rattle.ledger_check.specs.Lines.{Lacks};
 ghost use Rattle.shard_book.specs.declared.entry.Entry.{Entry as AnEntry};
@@ -40,7 +40,6 @@ fn ride_terms_at(table: &FareTable, token: &Token, validator: u32) -> Option<Ter
     Some(table.ride_terms(class, mode))
 }
 
-/// The answer of this name.
 fn answer_by(name: &[u8]) -> Option<Answer>
     ensures { (answer : AnAnswer) → name.now ≡ answer_text answer → result ≡ Some answer }
 {

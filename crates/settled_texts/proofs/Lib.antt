@@ -1,4 +1,9 @@
+pub mod Classes
 pub mod Joined
+pub mod Numbering
 pub mod OwnEntries
 pub mod Rows
+pub mod Settled
+pub mod Strides
 pub mod Tellings
+pub mod TracedLines

@@ -10,13 +10,13 @@ use Rattle.tap_views.specs.declared.token.Token.{Token}
 use Rattle.tap_views.specs.declared.encoder.TapFields.{TapFields}
 use Rattle.shard_book.specs.Entry.{own, taps_of}
 use Rattle.shard_book.specs.declared.entry.Entry.{Entry}
-use Rattle.reason_texts.specs.Tellers.{HasTold, next_entry}
-use Rattle.reason_texts.specs.Ledger.{IsLedgerLineAfter}
-use Rattle.reason_texts.specs.declared.teller.Teller.{Teller}
+use Rattle.fare_texts.specs.Tellers.{HasTold, next_entry}
+use Rattle.fare_texts.specs.LedgerLines.{IsLedgerLineAfter}
+use Rattle.fare_texts.specs.declared.teller.Teller.{Teller}
 use Rattle.shard_book.specs.Plain.{answered}
-use Rattle.ledger_texts.specs.Lines.{AreLinesAlong, AreUpTo, HasCome, IsUpTo}
-use Rattle.ledger_texts.proofs.Rising.{up_itself}
-use Rattle.ledger_texts.proofs.Writing.{along_append, come_next}
+use Rattle.fare_texts.specs.Lines.{AreLinesAlong, AreUpTo, HasCome, IsUpTo}
+use Rattle.fare_texts.proofs.Rising.{up_itself}
+use Rattle.fare_texts.proofs.PieceWriting.{along_append, come_next}
 use Rattle.settlement.specs.Posted.{posted_after, token_of_tap, unposted}
 use Rattle.settlement.proofs.Concats.{posted_append}
 use Rattle.settled_texts.specs.Telling.{AreTold, NoTapFallsFrom, last_token}

@@ -1,2 +1,7 @@
+pub mod Classes
+pub mod Columns
+pub mod Ledgers
+pub mod Names
 pub mod Telling
+pub mod Traces
 pub mod inside

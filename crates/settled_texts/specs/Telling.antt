@@ -1,11 +1,11 @@
--- What is told of taps whose tokens do not fall.
+-- Lines of taps whose tokens do not fall.
 use Rattle.std.specs.Prelude.{ℕ, List, [], ◌∷◌, ◌++◌}
 use Rattle.fare_table.specs.Fares.{Fares}
 use Rattle.tap_views.specs.declared.token.Token.{Token}
 use Rattle.tap_views.specs.declared.encoder.TapFields.{TapFields}
 use Rattle.shard_book.specs.declared.entry.Entry.{Entry}
-use Rattle.reason_texts.specs.declared.teller.Teller.{Teller}
-use Rattle.ledger_texts.specs.Lines.{AreLinesAlong, HasCome, IsUpTo}
+use Rattle.fare_texts.specs.declared.teller.Teller.{Teller}
+use Rattle.fare_texts.specs.Lines.{AreLinesAlong, HasCome, IsUpTo}
 use Rattle.settlement.specs.Posted.{posted_after, token_of_tap}
 
 -- the taps' tokens never fall, from this one on
@@ -14,7 +14,7 @@ NoTapFallsFrom token [] = Unit {0}
 NoTapFallsFrom token (tap ∷ taps) =
     IsUpTo token (token_of_tap tap) × NoTapFallsFrom (token_of_tap tap) taps
 
--- the token of the last tap, or this one where there is none
+-- the token of the last tap, or this one if there is none
 abbrev pub last_token : Token → List TapFields → Token
 last_token token [] = token
 last_token token (tap ∷ taps) = last_token (token_of_tap tap) taps

@@ -1,14 +1,22 @@
-//! The texts of settled taps, which are posted account by account. The ledger of all tokens tells
-//! each tap in the step that posts it: no entry is kept, and nothing is sorted. The texts of one token
-//! are made from its taps alone.
+//! The texts of settled taps, which are posted account by account. The line of each tap in the
+//! ledger of all tokens is made in the step that posts it: no entry is kept, and nothing is sorted.
+//! The texts of one token are made from its taps alone. A traced ledger has behind each line the
+//! class of its token's rider, and the upload and the place there that its tap came from.
 #![tactic(auto)]
 
+mod class_names;
+mod columns;
 mod ledger;
 mod lines;
 mod one_token;
 mod rounds;
 mod seat;
+mod trace;
+mod traced_ledger;
 
+pub use class_names::{ClassFault, ClassNames};
 pub use ledger::{least_token, write_settled_ledger};
 pub use lines::{STRIDE_ROOM_BYTES, token_of, write_taps};
 pub use one_token::{write_token_explained, write_token_ledger, write_token_statement};
+pub use trace::{Trace, TracedTap, trace_of};
+pub use traced_ledger::write_traced_ledger;

@@ -6,19 +6,17 @@ ghost use Rattle.std.specs.Io.KnownBytes.{Appends, append_known};
 ghost use Rattle.tap_views.specs.Encoding.{AreEarly};
 ghost use Rattle.shard_book.specs.declared.entry.Entry.{Entry};
 ghost use Rattle.fare_texts.specs.declared.print_fault.PrintFault.TheVariants.{Write as ForWrite};
-ghost use Rattle.ledger_texts.specs.Lines.{HasCome, IsUpTo};
+ghost use Rattle.fare_texts.specs.Lines.{HasCome, IsUpTo};
 ghost use Rattle.settlement.specs.Posted.{token_of_tap};
 ghost use Rattle.settled_texts.specs.Telling.{AreTold, NoTapFallsFrom, last_token};
 
 use fare_table::{Clock, FareTable};
-use fare_texts::PrintFault;
-use ledger_texts::{LINE_ROOM_BYTES, go_on_to, pass_piece};
-use reason_texts::Teller;
+use fare_texts::{LINE_ROOM_BYTES, PrintFault, Teller, go_on_to, pass_piece};
 use std::alloc::AllocError;
 use std::io::Write;
 use tap_views::{TapFields, Token};
 
-/// How many taps are told before their lines may go out.
+/// How many taps are posted before their lines may go out.
 const STRIDE_TAPS: usize = 64;
 
 /// More bytes than the lines of a stride have.

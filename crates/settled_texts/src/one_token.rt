@@ -8,30 +8,26 @@ ghost use Rattle.shard_book.specs.Entry.{own};
 ghost use Rattle.shard_book.specs.declared.entry.Entry.{Entry};
 ghost use Rattle.fare_texts.specs.PrintFaults.{KeepsUnlessWrite};
 ghost use Rattle.report_texts.specs.OverHistory.{IsStatementOver};
-ghost use Rattle.ledger_texts.specs.Explained.{IsExplainedOver};
-ghost use Rattle.ledger_texts.specs.Ledger.{IsLedgerOver};
+ghost use Rattle.fare_texts.specs.Explained.{IsExplainedOver};
+ghost use Rattle.fare_texts.specs.Ledger.{IsLedgerOver};
 ghost use Rattle.settlement.specs.Posted.{posted, token_of_tap};
 ghost use Rattle.settlement.specs.Replays.{HasPosted};
 
 use fare_table::FareTable;
-use fare_texts::{PrintFault, statement_text, write_out};
-use ledger_texts::{write_explained_of, write_ledger_of};
+use fare_texts::{PrintFault, statement_text, write_explained_of, write_ledger_of, write_out};
 use settlement::Replay;
 use shard_book::{Entry, Lines, Statement, totals_of_entries};
 use std::alloc::Global;
 use std::io::Write;
 use tap_views::{NoMemory, TapFields, Token};
 
-/// The taps of a token, posted.
 #[derive(Drop)]
 struct PostedTaps {
-    /// Their entries, in order.
     entries: Vec<Entry>,
     /// The token, after its last tap.
     replay: Replay,
 }
 
-/// Posts the taps of the token, one after the other.
 fn post(
     alloc: Global,
     table: &FareTable,
@@ -95,7 +91,6 @@ pub fn write_token_explained<W: Write>(
     write_explained_of(alloc, table, token, &entries, out)
 }
 
-/// The statement of a token that has these taps.
 fn statement_of(
     alloc: Global,
     table: &FareTable,

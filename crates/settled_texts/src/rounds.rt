@@ -7,7 +7,7 @@ ghost use Rattle.tap_views.specs.Encoding.{AreEarly};
 ghost use Rattle.tap_views.specs.declared.encoder.TapFields.{TapFields};
 ghost use Rattle.shard_book.specs.declared.entry.Entry.{Entry};
 ghost use Rattle.fare_texts.specs.declared.print_fault.PrintFault.TheVariants.{Write as ForWrite};
-ghost use Rattle.ledger_texts.specs.Lines.{HasCome};
+ghost use Rattle.fare_texts.specs.Lines.{HasCome};
 ghost use Rattle.settled_texts.specs.declared.seat.Seat.{Seat};
 ghost use Rattle.settled_texts.specs.inside.Seats.{HasSat, IsSoundList};
 ghost use Rattle.settled_texts.specs.Telling.{AreTold, NoTapFallsFrom, last_token};
@@ -15,9 +15,7 @@ ghost use Rattle.settled_texts.specs.Telling.{AreTold, NoTapFallsFrom, last_toke
 use crate::lines::write_taps;
 use crate::seat::Seat;
 use fare_table::{Clock, FareTable};
-use fare_texts::{PrintFault, write_out};
-use ledger_texts::pass_on;
-use reason_texts::Teller;
+use fare_texts::{PrintFault, Teller, pass_on, write_out};
 use std::io::Write;
 use std::marker::Sync;
 use std::thread;
@@ -55,8 +53,8 @@ fn sit<R: Threads + Sync>(
     );
 }
 
-/// Writes the lines of a list: those that a seat has made, where they are whole and no earlier tap
-/// has the list's first token, and else by pieces.
+/// Writes the lines of a list: those that a seat has made, if they are whole and no earlier tap has
+/// the list's first token, and else by pieces.
 fn write_list<W: Write>(
     text: &mut String,
     table: &FareTable,

@@ -18,7 +18,7 @@ use Rattle.shard_book.specs.Tally.{sums_of_tally}
 use Rattle.shard_book.specs.declared.sums.tally.Tally.{Tally}
 use Rattle.shard_book.proofs.SumsLemmas.{sums-append, sums-taps}
 use Rattle.shard_book.specs.declared.entry.Entry.{Entry}
-use Rattle.ledger_texts.specs.Lines.{IsUpTo}
+use Rattle.fare_texts.specs.Lines.{IsUpTo}
 use Rattle.settlement.specs.Posted.{posted, posted_after, token_of_tap, unposted}
 use Rattle.settlement.specs.Bills.{IsBillOf}
 use Rattle.settlement.specs.Replays.{HasPosted}

@@ -9,7 +9,7 @@ use Rattle.tap_views.specs.Layout.{moment_limit}
 use Rattle.tap_views.specs.Token.{Fits, bytes_of}
 use Rattle.tap_views.specs.declared.encoder.TapFields.{TapFields}
 use Rattle.tap_views.specs.declared.token.Token.{Token}
-use Rattle.ledger_texts.specs.Lines.{IsUpTo}
+use Rattle.fare_texts.specs.Lines.{IsUpTo}
 use Rattle.settlement.specs.Posted.{HasName, token_of_tap}
 use Rattle.settlement.proofs.TokenRuns.{named_token}
 use Rattle.settled_texts.specs.Telling.{NoTapFallsFrom, last_token}

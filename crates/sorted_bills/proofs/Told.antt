@@ -14,9 +14,9 @@ use Rattle.tap_views.specs.declared.encoder.TapFields.{TapFields}
 use Rattle.tap_views.specs.declared.token.Token.{Token}
 use Rattle.tap_views.proofs.TokenLemmas.{same_token}
 use Rattle.shard_book.specs.declared.entry.Entry.{Entry}
-use Rattle.reason_texts.specs.declared.teller.Teller.{Teller}
-use Rattle.ledger_texts.specs.Lines.{HasCome, IsUpTo}
-use Rattle.ledger_texts.proofs.Rising.{none_below, up_chain, up_itself, up_weaker}
+use Rattle.fare_texts.specs.declared.teller.Teller.{Teller}
+use Rattle.fare_texts.specs.Lines.{HasCome, IsUpTo}
+use Rattle.fare_texts.proofs.Rising.{none_below, up_chain, up_itself, up_weaker}
 use Rattle.settlement.specs.Posted.{HasName, posted_after, token_of_tap}
 use Rattle.settlement.proofs.Placed.{all_map}
 use Rattle.settled_texts.specs.Telling.{NoTapFallsFrom, last_token}

@@ -1,7 +1,7 @@
 -- The ledger of sorted files.
 use Rattle.std.specs.Prelude.{ℕ, List, None}
 use Rattle.fare_table.specs.Fares.{Fares}
-use Rattle.ledger_texts.specs.Ledger.{IsLedgerOver}
+use Rattle.fare_texts.specs.Ledger.{IsLedgerOver}
 use Rattle.settlement.specs.Settled.{IsSettledHistory}
 use Rattle.shard_book.specs.declared.entry.Entry.{Entry}
 

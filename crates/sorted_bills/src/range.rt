@@ -3,16 +3,15 @@
 ghost use Rattle.std.specs.Prelude.{◌≡◌, ◌+◌, ◌≤◌, [], All, IfOk, None, OnOk, length, map};
 ghost use Rattle.std.specs.Prelude.{string_bytes};
 ghost use Rattle.fare_table.specs.Fares.{Fares};
-ghost use Rattle.reason_texts.specs.Tellers.{HasTold};
+ghost use Rattle.fare_texts.specs.Tellers.{HasTold};
 ghost use Rattle.sorted_bills.specs.inside.Ranges.{AreLinesAnywhere, IsRange};
 
 use crate::fault::BillFault;
-use crate::taking::Taker;
-use crate::telling::tell_below;
+use crate::lines_below::tell_below;
+use crate::taker::Taker;
 use fare_table::{Clock, FareTable};
-use ledger_texts::pass_on;
+use fare_texts::{Teller, pass_on};
 use placed_files::Placed;
-use reason_texts::Teller;
 use settled_texts::least_token;
 use sorted_taps::{Span, WINDOW_BYTES, copies_of};
 use std::alloc::Global;
@@ -40,13 +39,12 @@ pub(crate) struct Range {
     /// Where the readers of the files stood before the taps and behind them. None if the range was
     /// not made whole.
     pub(crate) span: Option<Span>,
-    /// A teller that has come past the taps.
+    /// It has come past the taps.
     pub(crate) teller: Teller,
     /// The number of the taps, at least that of those of the last token.
     pub(crate) number: u64,
     /// Lines that wait.
     text: String,
-    /// The lines of the taps.
     pub(crate) lines: Vec<u8>,
 }
 

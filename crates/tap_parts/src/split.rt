@@ -5,7 +5,7 @@ ghost use Rattle.std.specs.Prelude.{slice_index_or};
 ghost use Rattle.tap_views.specs.Encoding.{AreEarly};
 ghost use Rattle.tap_parts.specs.Split.{AreSplit, IsSplitEnd, IsSplitFile};
 
-use crate::arranging::arranged;
+use crate::arrangement::arranged;
 use crate::file::part_file;
 use crate::part::EqualParts;
 use crate::parts::Parts;
@@ -17,7 +17,6 @@ use std::marker::Model;
 /// order of the uploads.
 #[derive(Drop)]
 pub struct Split {
-    /// The taps of each part.
     parts: Parts,
 }
 
@@ -34,7 +33,7 @@ impl Model for Split {
 }
 
 impl Split {
-    /// No uploads, in so many parts, 1 to 65,536.
+    /// No uploads, in `parts` parts, 1 to 65,536.
     pub fn new(alloc: Global, parts: u32) -> Result<Split, AllocError>
         requires least { 1 ≤ parts }
         requires most { parts ≤ 65536 }

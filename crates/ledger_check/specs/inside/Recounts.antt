@@ -3,12 +3,12 @@ use Rattle.std.specs.Prelude.{◌≡◌, ℕ, ◌+◌, Bool, true, List, [], ◌
 use Rattle.fare_table.specs.Fares.{Fares}
 use Rattle.shard_book.specs.Entry.{own}
 use Rattle.shard_book.specs.declared.entry.Entry.{Entry}
-use Rattle.tap_balance.specs.FullBalances.{IsFullBalance}
-use Rattle.tap_balance.specs.declared.full_balance.FullBalance.{FullBalance}
+use Rattle.ledger_check.specs.FullBalances.{IsFullBalance}
+use Rattle.ledger_check.specs.declared.full_balance.FullBalance.{FullBalance}
 use Rattle.tap_views.specs.declared.encoder.TapFields.{TapFields}
-use Rattle.reason_texts.specs.Ledger.{IsLedgerLineAfter, head_text}
-use Rattle.reason_texts.specs.Tellers.{next_entry}
-use Rattle.reason_texts.specs.declared.teller.Teller.{Teller}
+use Rattle.fare_texts.specs.LedgerLines.{IsLedgerLineAfter, head_text}
+use Rattle.fare_texts.specs.Tellers.{next_entry}
+use Rattle.fare_texts.specs.declared.teller.Teller.{Teller}
 use Rattle.ledger_check.specs.Recounts.{IsJudged, IsRecount, IsTaken, TakenLine, falls_after}
 use Rattle.ledger_check.specs.Recounts.{run_of, run_with, taps_from, told_lines, told_text}
 use Rattle.ledger_check.specs.RecountStates.{AreSums, HasRunTeller, HasTakenLines}

@@ -2,7 +2,7 @@
 use Rattle.std.specs.Prelude.{◌≡◌, ℕ, ◌^◌, ◌<◌, List}
 use Rattle.account_rule.specs.declared.reason.Reason.{Reason}
 use Rattle.fare_table.specs.Fares.{Fares}
-use Rattle.reason_texts.specs.Ledger.{IsLedgerLine}
+use Rattle.fare_texts.specs.LedgerLines.{IsLedgerLine}
 use Rattle.tap_views.specs.Token.{bytes_of}
 use Rattle.shard_book.specs.declared.entry.Entry.{Entry}
 use Rattle.tap_views.specs.declared.encoder.TapFields.{TapFields}

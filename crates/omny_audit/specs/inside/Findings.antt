@@ -8,10 +8,10 @@ use Rattle.ledger_check.specs.Recounts.{IsRecount, TakenLine, recount_text, taps
 use Rattle.ledger_check.specs.Struck.{tap_of_entry}
 use Rattle.ledger_check.specs.Verdicts.{is_legal}
 use Rattle.ledger_check.specs.declared.checker.Verdict.{Verdict}
-use Rattle.tap_balance.specs.Balances.{IsBalance}
-use Rattle.tap_balance.specs.declared.balance.Balance.{Balance}
-use Rattle.tap_balance.specs.FullBalances.{IsFullBalance}
-use Rattle.tap_balance.specs.declared.full_balance.FullBalance.{FullBalance}
+use Rattle.ledger_check.specs.Balances.{IsBalance}
+use Rattle.ledger_check.specs.declared.balance.Balance.{Balance}
+use Rattle.ledger_check.specs.FullBalances.{IsFullBalance}
+use Rattle.ledger_check.specs.declared.full_balance.FullBalance.{FullBalance}
 use Rattle.tap_views.specs.declared.encoder.TapFields.{TapFields}
 
 -- where the verdict is legal, the taps of the ledger were struck out of the balance

@@ -1,7 +1,7 @@
 -- Ledgers of which the head line was read, and the line behind it.
 use Rattle.std.specs.Prelude.{◌≡◌, ℕ, List, ◌++◌, Option, IfSome}
 use Rattle.std.specs.List.{AllZip}
-use Rattle.reason_texts.specs.Ledger.{head_text}
+use Rattle.fare_texts.specs.LedgerLines.{head_text}
 use Rattle.part_reports.specs.inside.Standings.{StandsInText, Standing}
 use Rattle.part_reports.specs.declared.merging.LineKind.TheVariants.{Entries}
 

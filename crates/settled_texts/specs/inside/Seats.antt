@@ -6,7 +6,7 @@ use Rattle.tap_views.specs.Encoding.{AreEarly}
 use Rattle.tap_views.specs.declared.encoder.TapFields.{TapFields}
 use Rattle.shard_book.specs.Entry.{own}
 use Rattle.shard_book.specs.declared.entry.Entry.{Entry}
-use Rattle.ledger_texts.specs.Lines.{AreUpTo, IsUpTo}
+use Rattle.fare_texts.specs.Lines.{AreUpTo, IsUpTo}
 use Rattle.settled_texts.specs.declared.seat.Seat.{Seat}
 use Rattle.settled_texts.specs.Telling.{AreTold, NoTapFallsFrom, last_token}
 
@@ -25,6 +25,6 @@ pub record IsWhole (fares : Fares) (taps : List TapFields) (seat : Seat) : Type 
   pub token : (from : Token) → seat.teller.token ≡ last_token from taps
   pub few : seat.teller.number ≤ length taps
 
--- the seat's text has all lines of the taps, where the seat says so
+-- the seat's text has all lines of the taps, if the seat says so
 abbrev pub HasSat : Fares → List TapFields → Seat → Type 0
 HasSat fares taps seat = seat.is_whole ≡ true → IsWhole fares taps seat

@@ -3,7 +3,7 @@ use Rattle.std.specs.Prelude.{◌≡◌, ℕ, ◌^◌, ◌≤◌, All, List, Opt
 use Rattle.fare_table.specs.Fares.{Fares}
 use Rattle.tap_views.specs.declared.encoder.TapFields.{TapFields}
 use Rattle.tap_views.specs.declared.token.Token.{Token}
-use Rattle.ledger_texts.specs.Lines.{IsUpTo}
+use Rattle.fare_texts.specs.Lines.{IsUpTo}
 use Rattle.settlement.specs.Bills.{IsBillOf}
 use Rattle.settlement.specs.Posted.{HasName, posted, token_of_tap}
 use Rattle.settled_texts.specs.Telling.{NoTapFallsFrom, last_token}
@@ -24,7 +24,7 @@ pub record IsCharged (fares : Fares) (known : List (Option (List ℕ))) (old : L
   pub last : bill.replay.token ≡ last_token from taps
   pub few : length taps ≤ 2 ^ 73
 
--- the part has the taps of its span, so many at most, and the bill is theirs; no token is below its
+-- the part has the taps of its span, at most `most`, and the bill is theirs; no token is below its
 -- first one or above its last one
 pub record IsPart (fares : Fares) (known : List (Option (List ℕ))) (most : ℕ) (part : Part)
     : Type 0 where

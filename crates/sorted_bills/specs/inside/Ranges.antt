@@ -3,8 +3,8 @@ use Rattle.std.specs.Prelude.{◌≡◌, ◌≤◌, ℕ, All, List, ◌++◌, []
 use Rattle.fare_table.specs.Fares.{Fares}
 use Rattle.tap_views.specs.declared.encoder.TapFields.{TapFields}
 use Rattle.tap_views.specs.declared.token.Token.{Token}
-use Rattle.ledger_texts.specs.Lines.{AreUpTo, IsUpTo}
-use Rattle.reason_texts.specs.declared.teller.Teller.{Teller}
+use Rattle.fare_texts.specs.Lines.{AreUpTo, IsUpTo}
+use Rattle.fare_texts.specs.declared.teller.Teller.{Teller}
 use Rattle.settlement.specs.Posted.{HasName}
 use Rattle.settled_texts.specs.Telling.{AreTold, NoTapFallsFrom, last_token}
 use Rattle.shard_book.specs.Entry.{own}

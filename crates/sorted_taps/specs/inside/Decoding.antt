@@ -8,7 +8,7 @@ use Rattle.tap_views.specs.declared.encoder.TapFields.{TapFields}
 use Rattle.tap_views.specs.Files.{taps_of_batches}
 use Rattle.sorted_taps.specs.Fronts.{AreBatches}
 use Rattle.sorted_taps.specs.Reading.{AreTapsBetween}
-use Rattle.sorted_taps.specs.declared.decoding.Decoded.{Decoded}
+use Rattle.sorted_taps.specs.declared.decoded_taps.Decoded.{Decoded}
 use Rattle.sorted_taps.specs.declared.fault.SortedFault.{SortedFault}
 use Rattle.sorted_taps.specs.declared.fault.SortedFault.TheVariants.{Layout, OutOfOrder}
 
@@ -37,8 +37,8 @@ pub record IsDecodedAt (all : List ℕ) (offset room : ℕ) (taps : List TapFiel
   pub short : count < room → count ≡ length (drop offset all)
   pub is_decoded : IsDecoded (take count (drop offset all)) taps decoded
 
--- the file has batches of these taps in so many bytes from this offset on; it has none only at its
--- end
+-- the file has batches of these taps in this many bytes from this offset on; it has none only at
+-- its end
 pub record IsReadOn (all : List ℕ) (offset : ℕ) (taps : List TapFields) (used : ℕ) : Type 0 where
   pub between : AreTapsBetween all offset (offset + used) taps
   pub end : used ≡ 0 → drop offset all ≡ []

@@ -5,8 +5,8 @@ use Rattle.fare_table.specs.Meaning.{Means}
 use Rattle.std.proofs.lemmas.Result.{IfOk-weaker}
 use Rattle.fare_program.specs.Program.{LoadsFiles, names_to_load}
 use Rattle.fare_program.specs.inside.Options.{asked_of}
-use Rattle.traced_ledgers.specs.Ledgers.{IsTracedLedger}
-use Rattle.traced_ledgers.specs.Names.{class_by}
+use Rattle.settled_texts.specs.Ledgers.{IsTracedLedger}
+use Rattle.settled_texts.specs.Names.{class_by}
 use Rattle.std.proofs.Common.{◌≡◌, inl, true}
 use Rattle.fare_program.proofs.Causes.{handed_on}
 use Rattle.fare_program.specs.Causes.{IsRightFault}

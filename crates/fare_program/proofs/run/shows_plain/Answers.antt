@@ -12,10 +12,10 @@ use Rattle.report_texts.specs.declared.upload_end.UploadEnd.TheVariants.{Posted,
 use Rattle.std.specs.Prelude.{MatchBool, slice_get}
 use Rattle.shard_book.specs.Book.{Book}
 use Rattle.fare_service.proofs.PlainSums.{own_all}
-use Rattle.ledger_texts.specs.Explained.{IsExplainedOf, IsExplainedOver}
+use Rattle.fare_texts.specs.Explained.{IsExplainedOf, IsExplainedOver}
 use Rattle.fare_program.proofs.Explains.{explained_same}
 use Rattle.report_texts.specs.UploadEnds.{are_posted}
-use Rattle.ledger_texts.specs.Ledger.{IsLedgerOfBooks, IsLedgerOver}
+use Rattle.fare_texts.specs.Ledger.{IsLedgerOfBooks, IsLedgerOver}
 use Rattle.fare_program.specs.Program.{ShowsWith}
 use Rattle.fare_program.proofs.Ledgers.{ledger_same}
 use Rattle.fare_program.specs.Settling.{IsTextOver}

@@ -5,7 +5,7 @@ use Rattle.std.proofs.KnownBytes.{Appends-kept}
 use Rattle.tap_views.specs.Encoding.{AreEarly}
 use Rattle.tap_views.specs.declared.encoder.TapFields.{TapFields}
 use Rattle.tap_parts.specs.Canonical.{tap_cmp}
-use Rattle.ledger_texts.specs.Ledger.{IsLedgerOver}
+use Rattle.fare_texts.specs.Ledger.{IsLedgerOver}
 use Rattle.settlement.specs.Posted.{HasName, posted}
 use Rattle.report_texts.specs.UploadEnds.{are_posted}
 use Rattle.fare_program.specs.Settling.{IsTextOver}

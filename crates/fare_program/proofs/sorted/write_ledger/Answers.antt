@@ -1,7 +1,7 @@
 use Rattle.std.proofs.Common.{Bool, None, subst, sym}
 use Rattle.std.specs.Prelude.{MatchBool}
 use Rattle.std.proofs.KnownBytes.{Appends-kept, Keeps-refl}
-use Rattle.ledger_texts.specs.Ledger.{IsLedgerOver}
+use Rattle.fare_texts.specs.Ledger.{IsLedgerOver}
 use Rattle.fare_program.specs.Settling.{IsTextOver}
 use Rattle.fare_program.specs.inside.Options.{asked_of}
 use Rattle.fare_program.proofs.sorted.write_ledger.Goals as goal

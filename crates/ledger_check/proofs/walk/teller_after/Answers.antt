@@ -1,7 +1,7 @@
 use Rattle.std.proofs.Common.{◌≡◌, ℕ, List, Option, sym, ap, subst, ◌∙◌}
 use Rattle.shard_book.specs.declared.entry.Entry.{Entry}
-use Rattle.reason_texts.specs.Tellers.{HasTold}
-use Rattle.reason_texts.specs.declared.teller.Teller.{Teller}
+use Rattle.fare_texts.specs.Tellers.{HasTold}
+use Rattle.fare_texts.specs.declared.teller.Teller.{Teller}
 use Rattle.tap_views.proofs.TokenLemmas.{token_cmp-ties}
 use Rattle.ledger_check.specs.Recounts.{falls_after}
 use Rattle.ledger_check.specs.RecountStates.{HasRunTeller, StandsForRun}

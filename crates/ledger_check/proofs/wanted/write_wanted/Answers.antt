@@ -2,7 +2,7 @@ use Rattle.std.proofs.Common.{List, ℕ, ◌++◌, refl, sym, ap, subst, ◌∙�
 use Rattle.shard_book.specs.Entry.{own, tap_of}
 use Rattle.shard_book.specs.declared.entry.Entry.{Entry}
 use Rattle.account_rule.specs.declared.reply.Answer.TheVariants.{Unknown}
-use Rattle.reason_texts.specs.Ledger.{IsLedgerLine}
+use Rattle.fare_texts.specs.LedgerLines.{IsLedgerLine}
 use Rattle.ledger_check.proofs.TellerLemmas.{goes_on}
 use Rattle.ledger_check.proofs.wanted.write_wanted.Goals as goal
 

@@ -1,6 +1,6 @@
 use Rattle.std.proofs.Common.{◌≡◌, List, ℕ, []}
 use Rattle.std.specs.Io.KnownBytes.{Consumes}
-use Rattle.tap_balance.specs.Balances.{IsBalance}
+use Rattle.ledger_check.specs.Balances.{IsBalance}
 use Rattle.tap_views.specs.declared.encoder.TapFields.{TapFields}
 use Rattle.ledger_check.specs.Struck.{HasStruck}
 use Rattle.ledger_check.specs.Verdicts.{HasFed}

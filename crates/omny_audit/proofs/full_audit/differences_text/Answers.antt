@@ -1,7 +1,7 @@
 use Rattle.std.proofs.Common.{◌≡◌, ◌++◌, ◌∙◌, ℕ, Bool, List, true, false, sym, ap, subst, rules, tests, string_bytes}
 use Rattle.std.specs.Prelude.{◌&&◌}
 use Rattle.tap_views.specs.declared.encoder.TapFields.{TapFields}
-use Rattle.tap_balance.specs.FullBalances.{AreLacking}
+use Rattle.ledger_check.specs.FullBalances.{AreLacking}
 use Rattle.omny_audit.specs.Text.{IsDifferencesText, are_none}
 use Rattle.omny_audit.proofs.FullFindingLemmas.{end_alone, end_beside}
 use Rattle.omny_audit.proofs.full_audit.differences_text.Goals as goal

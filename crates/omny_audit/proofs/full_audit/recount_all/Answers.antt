@@ -1,7 +1,7 @@
 -- What was read so far is what the recount was fed.
 use Rattle.std.proofs.Common.{◌≡◌, ◌++◌, ℕ, List, [], true, refl, take, sym, ap, subst, ◌∙◌, append-nil, arith}
 use Rattle.std.specs.Io.KnownBytes.{Appends}
-use Rattle.tap_balance.specs.FullBalances.{IsFullBalance}
+use Rattle.ledger_check.specs.FullBalances.{IsFullBalance}
 use Rattle.tap_views.specs.declared.encoder.TapFields.{TapFields}
 use Rattle.omny_audit.specs.inside.Findings.{HasRecountedAll}
 use Rattle.omny_audit.specs.inside.Reports.{HasSummedFor}

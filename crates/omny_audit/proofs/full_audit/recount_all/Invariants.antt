@@ -1,6 +1,6 @@
 use Rattle.std.proofs.Common.{◌≡◌, List, ℕ, [], true}
 use Rattle.std.specs.Io.KnownBytes.{Appends, Consumes}
-use Rattle.tap_balance.specs.FullBalances.{IsFullBalance}
+use Rattle.ledger_check.specs.FullBalances.{IsFullBalance}
 use Rattle.tap_views.specs.declared.encoder.TapFields.{TapFields}
 use Rattle.ledger_check.specs.RecountStates.{HasRecounted}
 use Rattle.omny_audit.specs.inside.Reports.{HasSummedFor, text_of}

@@ -1,6 +1,6 @@
 use Rattle.std.proofs.Common.{◌≡◌, ◌∙◌, ◌<◌, ◌++◌, ◌∷◌, [], List, ℕ, length, map, refl, subst, take, ap, get_or, Bor, ◌+◌}
 use Rattle.std.proofs.lemmas.List.{map-append, take_all, take_more}
-use Rattle.tap_balance.specs.Balances.{AreGoodFields}
+use Rattle.ledger_check.specs.Balances.{AreGoodFields}
 use Rattle.omny_audit.specs.Fault.{NamesOneOf}
 use Rattle.omny_audit.proofs.ProgramLemmas.{handed_on}
 use Rattle.omny_audit.proofs.ProgramLemmas.{loads_push, names_at, posted_push, tells_none}

@@ -1,5 +1,5 @@
 use Rattle.std.proofs.Common.{ℕ, List, [], map, take}
-use Rattle.tap_balance.specs.Balances.{IsBalance}
+use Rattle.ledger_check.specs.Balances.{IsBalance}
 use Rattle.tap_views.specs.declared.encoder.TapFields.{TapFields}
 use Rattle.omny_audit.specs.Program.{AreGoodFieldsOfAll, LoadsNamedFiles}
 use Rattle.omny_audit.proofs.program.load_balance.Given as goal

@@ -1,7 +1,7 @@
 use Rattle.std.proofs.Common.{rules, ◌≡◌, ◌∙◌, sym, subst, ap}
 use Rattle.std.specs.Prelude.{IfSome}
 use Rattle.std.proofs.lemmas.Result.{IfErr-weaker, IfOk-weaker, err_from_is_err_and}
-use Rattle.reason_texts.specs.Ledger.{head_text}
+use Rattle.fare_texts.specs.LedgerLines.{head_text}
 use Rattle.part_reports.specs.Ledgers.{IsNoLedger}
 use Rattle.part_reports.specs.inside.BegunLedgers.{IsBegunLedger}
 use Rattle.part_reports.specs.inside.Standings.{standing}

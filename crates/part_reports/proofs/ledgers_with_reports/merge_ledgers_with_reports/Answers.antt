@@ -2,7 +2,7 @@ use Rattle.std.proofs.Common.{◌∙◌, ap, arith, length, map, sym, subst}
 use Rattle.std.proofs.lemmas.List.{length-map}
 use Rattle.std.specs.Io.KnownBytes.{Appends}
 use Rattle.std.proofs.lemmas.Result.{IfErr-weaker, err_from_is_err_and, on_err_weaker, on_ok_weaker}
-use Rattle.reason_texts.specs.Ledger.{head_text}
+use Rattle.fare_texts.specs.LedgerLines.{head_text}
 use Rattle.part_reports.specs.Texts.{Begins}
 use Rattle.part_reports.specs.inside.BegunLedgers.{AreBegunLedgers}
 use Rattle.part_reports.specs.inside.ReportsLeft.{AreBegunReports, report_at}

@@ -1,5 +1,5 @@
 use Rattle.std.proofs.Common.{◌<◌, ◌≤◌, ◌^◌, ◌+◌, ◌∙◌, ℕ, ap, arith, subst}
-use Rattle.reason_texts.specs.Ledger.{mode_field}
+use Rattle.fare_texts.specs.LedgerLines.{mode_field}
 use Rattle.ledger_check.proofs.FieldLemmas.{decimal_lacks, moment_lacks}
 use Rattle.ledger_check.proofs.TokenOrder.{own-few}
 use Rattle.tap_views.specs.declared.token.Token.{Token}

@@ -2,7 +2,7 @@
 use Rattle.std.proofs.Common.{sym, subst, ◌∙◌}
 use Rattle.tap_views.specs.declared.token.Token.{Token}
 use Rattle.shard_book.specs.Entry.{own}
-use Rattle.ledger_texts.specs.Lines.{IsUpTo}
+use Rattle.fare_texts.specs.Lines.{IsUpTo}
 use Rattle.settled_texts.proofs.Tellings.{one_told}
 use Rattle.settled_texts.proofs.lines.tell_tap.Goals as goal
 

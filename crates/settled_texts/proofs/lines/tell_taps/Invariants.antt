@@ -1,6 +1,6 @@
 use Rattle.std.proofs.Common.{◌≡◌, ℕ, ◌+◌, ◌≤◌, List, ◌++◌, take, string_bytes}
 use Rattle.shard_book.specs.declared.entry.Entry.{Entry}
-use Rattle.ledger_texts.specs.Lines.{HasCome}
+use Rattle.fare_texts.specs.Lines.{HasCome}
 use Rattle.settled_texts.specs.Telling.{AreTold, last_token}
 use Rattle.settled_texts.proofs.lines.tell_taps.Given as goal
 

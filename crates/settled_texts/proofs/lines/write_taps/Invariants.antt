@@ -3,7 +3,7 @@ use Rattle.std.specs.Io.KnownBytes.{Appends, append_known}
 use Rattle.tap_views.specs.Encoding.{AreEarly}
 use Rattle.tap_views.specs.declared.encoder.TapFields.{TapFields}
 use Rattle.shard_book.specs.declared.entry.Entry.{Entry}
-use Rattle.ledger_texts.specs.Lines.{HasCome}
+use Rattle.fare_texts.specs.Lines.{HasCome}
 use Rattle.settled_texts.specs.Telling.{AreTold, last_token}
 use Rattle.settled_texts.proofs.lines.write_taps.Given as goal
 

@@ -2,7 +2,7 @@
 use Rattle.std.proofs.Common.{◌≡◌, ℕ, Bool, true, false, not, List, string_bytes, refl, sym, subst, ◌∙◌}
 use Rattle.std.specs.Io.KnownBytes.{Appends}
 use Rattle.tap_views.specs.Token.{token_eq}
-use Rattle.ledger_texts.proofs.Rising.{none_below, up_weaker}
+use Rattle.fare_texts.proofs.Rising.{none_below, up_weaker}
 use Rattle.settled_texts.proofs.Joined.{passed_on}
 use Rattle.settled_texts.proofs.rounds.write_list.Goals as goal
 

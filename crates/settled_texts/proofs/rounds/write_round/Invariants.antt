@@ -1,7 +1,7 @@
 use Rattle.std.proofs.Common.{◌≡◌, ℕ, ◌+◌, ◌≤◌, List, length, take, string_bytes}
 use Rattle.std.specs.Io.KnownBytes.{Appends, append_known}
 use Rattle.shard_book.specs.declared.entry.Entry.{Entry}
-use Rattle.ledger_texts.specs.Lines.{HasCome}
+use Rattle.fare_texts.specs.Lines.{HasCome}
 use Rattle.settled_texts.specs.Telling.{AreTold, last_token}
 use Rattle.settled_texts.proofs.Joined.{joined}
 use Rattle.settled_texts.proofs.rounds.write_round.Given as goal

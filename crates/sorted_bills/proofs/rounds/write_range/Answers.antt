@@ -1,7 +1,7 @@
 -- The lines of the range go out behind what waited.
 use Rattle.std.proofs.Common.{ℕ, List, Vec, Global, map, string_bytes, sym, ap, subst, ◌∙◌}
 use Rattle.std.specs.Io.KnownBytes.{Appends, append_known}
-use Rattle.reason_texts.specs.declared.teller.Teller.{Teller}
+use Rattle.fare_texts.specs.declared.teller.Teller.{Teller}
 use Rattle.sorted_bills.specs.inside.Told.{AreToldSoFar}
 use Rattle.sorted_bills.proofs.Told.{lines_out, told_range}
 use Rattle.sorted_bills.proofs.rounds.write_range.Goals as goal

@@ -2,7 +2,7 @@ use Rattle.std.proofs.Common.{rules, ◌≡◌, ◌∙◌, sym}
 use Rattle.std.specs.Io.BufRead.{drop_through}
 use Rattle.std.specs.Option.{option_map}
 use Rattle.std.proofs.lemmas.Result.{err_from_is_err_and}
-use Rattle.reason_texts.specs.Ledger.{head_text}
+use Rattle.fare_texts.specs.LedgerLines.{head_text}
 use Rattle.ledger_changes.specs.inside.LedgerRows.{row_of}
 use Rattle.ledger_changes.proofs.Readings.{begins}
 use Rattle.ledger_changes.proofs.ledger_rows.LedgerRows.begin.Goals as goal

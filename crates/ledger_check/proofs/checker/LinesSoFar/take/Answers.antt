@@ -5,8 +5,8 @@ use Rattle.ledger_check.specs.Verdicts.{HasTaken, IsFirstWanted, IsFirstWrong}
 use Rattle.ledger_check.proofs.CheckerLemmas.{first_wrong, headed, no_head}
 use Rattle.ledger_check.specs.declared.checker.LinesSoFar.{LinesSoFar}
 use Rattle.ledger_check.proofs.StruckLemmas.{struck_head, struck_more}
-use Rattle.reason_texts.specs.Ledger.{head_text}
-use Rattle.tap_balance.specs.Balances.{IsBalance}
+use Rattle.fare_texts.specs.LedgerLines.{head_text}
+use Rattle.ledger_check.specs.Balances.{IsBalance}
 use Rattle.tap_views.specs.declared.encoder.TapFields.{TapFields}
 use Rattle.ledger_check.proofs.checker.LinesSoFar.take.Goals as goal
 

@@ -1,7 +1,7 @@
 use Rattle.std.proofs.Common.{◌<◌, ℕ, Option, sym, subst, ◌∙◌}
 use Rattle.tap_views.specs.Token.{Fits}
 use Rattle.tap_views.specs.declared.token.Token.{Token}
-use Rattle.reason_texts.specs.declared.teller.Teller.{Teller}
+use Rattle.fare_texts.specs.declared.teller.Teller.{Teller}
 use Rattle.ledger_check.specs.Ledger.{token_number}
 use Rattle.ledger_check.specs.Replays.{HasTeller}
 use Rattle.ledger_check.proofs.TokenOrder.{greater_number, less_number, own-some}

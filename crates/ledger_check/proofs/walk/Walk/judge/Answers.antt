@@ -5,8 +5,8 @@ use Rattle.std.proofs.lemmas.Bool.{false≢true}
 use Rattle.std.proofs.lemmas.Slice.Eq.{bytes_eq-Decides}
 use Rattle.shard_book.specs.Entry.{own}
 use Rattle.shard_book.specs.declared.entry.Entry.{Entry}
-use Rattle.reason_texts.specs.Ledger.{IsLedgerLineAfter}
-use Rattle.reason_texts.specs.Tellers.{next_entry}
+use Rattle.fare_texts.specs.LedgerLines.{IsLedgerLineAfter}
+use Rattle.fare_texts.specs.Tellers.{next_entry}
 use Rattle.ledger_check.specs.Recounts.{AreCents, IsCentsField, IsLineOfTap, falls_after, told_for}
 use Rattle.ledger_check.specs.RecountStates.{HasRunTeller}
 use Rattle.ledger_check.proofs.walk.Walk.judge.Goals as goal

@@ -3,8 +3,8 @@ use Rattle.account_rule.specs.declared.reason.Reason.{Reason}
 use Rattle.shard_book.specs.Entry.{own}
 use Rattle.shard_book.specs.declared.entry.Entry.{Entry}
 use Rattle.tap_views.specs.declared.token.Token.{Token}
-use Rattle.reason_texts.specs.Ledger.{IsLedgerLine, reason_after}
-use Rattle.reason_texts.specs.Tellers.{HasTold, next_entry}
+use Rattle.fare_texts.specs.LedgerLines.{IsLedgerLine, reason_after}
+use Rattle.fare_texts.specs.Tellers.{HasTold, next_entry}
 use Rattle.ledger_check.proofs.TokenOrder.{own-few}
 use Rattle.ledger_check.proofs.WalkLemmas.{stands_more}
 use Rattle.ledger_check.proofs.walk.Walk.take_tap.Goals as goal

@@ -1,2 +1,0 @@
-pub mod Bills
-pub mod TapSets

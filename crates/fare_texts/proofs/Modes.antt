@@ -1,0 +1,42 @@
+-- The mode that gives a transfer is one of the table's.
+use Rattle.std.proofs.Common.{◌≡◌, ℕ, ◌<◌, List, Option, sym, ap, subst, ◌∙◌}
+use Rattle.fare_table.specs.Fares.{Fares}
+use Rattle.fare_table.specs.declared.mode.Mode.{Mode}
+use Rattle.account_rule.specs.Kept.{Kept, kept_of}
+use Rattle.account_rule.specs.Reasons.{reason}
+use Rattle.account_rule.specs.TokenRules.{TokenRules, rules_of}
+use Rattle.account_rule.specs.Stands.{KeepsOf, Stands}
+use Rattle.account_rule.specs.Taps.{LiveTap, live_at}
+use Rattle.account_rule.specs.declared.account.Account.{Account}
+use Rattle.account_rule.specs.declared.reason.Reason.{Reason}
+use Rattle.account_rule.specs.declared.reason.Reason.TheVariants.{Unknown, Stale, Transfer, Ride}
+use Rattle.account_rule.specs.declared.tap.TapIn.{TapIn}
+use Rattle.account_rule.proofs.ReasonLemmas.{giver-ride}
+use Rattle.fare_texts.specs.ReasonWords.{HasModeOf}
+
+same-mode : (ride : LiveTap) (moment : ℕ) (mode : Mode) → ride ≡ live_at moment mode
+    → ride.mode ≡ mode
+unfolding live_at
+same-mode ride moment mode same = ap (λ (t : LiveTap). t.mode) same
+
+-- the ride of the account's last trip is the ride that gives the transfer
+within : (rules : TokenRules) (kept : Option Kept) (taps : List TapIn) (tap : TapIn) (moment : ℕ)
+    (mode : Mode)
+    → KeepsOf rules kept taps → reason rules taps tap ≡ Transfer moment mode
+    → mode.place < rules.modes
+within rules kept taps tap moment mode stands is =
+    let (trip, found, ride) = giver-ride rules taps tap moment mode is in
+    subst (λ (m : Mode). m.place < rules.modes) (same-mode trip.ride moment mode ride)
+    (stands.ride_mode trip (stands.trip ∙ found))
+
+-- the reason for a tap has a mode of the table, if it has one
+pub has_mode : (fares : Fares) (token : List ℕ) (account : Account) (taps : List TapIn)
+    (tap : TapIn) (why : Reason)
+    → Stands (rules_of fares token) account taps → why ≡ reason (rules_of fares token) taps tap
+    → HasModeOf fares why
+unfolding Stands rules_of
+has_mode fares token account taps tap Unknown stands is = tt
+has_mode fares token account taps tap (Stale latest) stands is = tt
+has_mode fares token account taps tap (Transfer moment mode) stands is =
+    within (rules_of fares token) (kept_of account) taps tap moment mode stands (sym is)
+has_mode fares token account taps tap (Ride start until charge) stands is = tt

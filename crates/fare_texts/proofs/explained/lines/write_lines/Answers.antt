@@ -1,0 +1,57 @@
+-- Each round explains one entry more, and writes its line.
+use Rattle.std.proofs.Common.{List, [], ◌++◌, take, refl, sym, ap, subst, ◌∙◌}
+use Rattle.std.proofs.Common.{string_bytes, append_assoc, append-nil, arith}
+use Rattle.std.proofs.lemmas.List.{length-take-le}
+use Rattle.shard_book.specs.declared.entry.Entry.{Entry}
+use Rattle.fare_texts.specs.Tellers.{HasTold}
+use Rattle.fare_texts.proofs.LineLists.{taken}
+use Rattle.fare_texts.proofs.ExplainedLines.{next_explained}
+use Rattle.fare_texts.proofs.explained.lines.write_lines.Goals as goal
+
+pub loop-entry-init : goal.loop-entry-init
+loop-entry-init c = record {
+  told = c.of-teller.ensures.told c.args.table.now;
+  of = c.of-teller.ensures.token;
+  written = [];
+  are = refl;
+  whole = sym (append-nil (string_bytes c.args.text.now));
+}
+
+pub no_transfer-none-requires : goal.no_transfer-none-requires
+no_transfer-none-requires c = record {
+  told = (take c.loop-entry.entry-index c.args.entries.now, c.loop-entry.invariant.told);
+}
+
+pub explain_next-requires-clause-told : goal.explain_next-requires-clause-told
+explain_next-requires-clause-told c =
+    (take c.loop-entry.entry-index c.args.entries.now, c.loop-entry.invariant.told)
+
+pub explain_next-requires-clause-room : goal.explain_next-requires-clause-room
+explain_next-requires-clause-room c =
+    omega (
+      arith,
+      c.loop-entry.invariant.told.counted,
+      length-take-le c.loop-entry.entry-index c.args.entries.now (omega arith),
+    )
+
+pub loop-entry-preserved : goal.loop-entry-preserved
+loop-entry-preserved c =
+    let fares = c.args.table.now in
+    let entries = c.args.entries.now in
+    let place = c.loop-entry.entry-index in
+    let within = c.loop-entry-test.true in
+    let so_far = c.loop-entry.invariant in
+    let done = take place entries in
+    let line = c.in_ok-write_line.ensures in
+    let lack = rw so_far.of at (c.no_transfer-none.ensures.lacks done so_far.told) in
+    let why = rw so_far.of at (c.in_ok-reason.ensures.reason done so_far.told) in
+    record {
+      told = subst (λ (es : List Entry). HasTold fares c.explain_next.new.self es)
+          (sym (taken entries place _ within)) (c.in_ok-reason.ensures.told done so_far.told);
+      of = c.in_ok-reason.ensures.token ∙ so_far.of;
+      written = so_far.written ++ line.0;
+      are = next_explained fares c.args.token entries place _ within so_far.written line.0 _ _ why
+          lack so_far.are line.1;
+      whole = line.2 ∙ ap (λ t. t ++ line.0) so_far.whole
+          ∙ append_assoc (string_bytes c.args.text.now) so_far.written line.0;
+    }

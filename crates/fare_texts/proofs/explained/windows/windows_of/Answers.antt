@@ -1,0 +1,62 @@
+-- Each round tells one entry more, and keeps the window that it ends.
+use Rattle.std.proofs.Common.{List, map, take, sym, ap, subst, ◌∙◌, arith}
+use Rattle.std.proofs.lemmas.List.{length-take-le, take_all}
+use Rattle.account_rule.specs.Reasons.{replied_by}
+use Rattle.account_rule.specs.TokenRules.{rules_of}
+use Rattle.account_rule.proofs.ReasonLemmas.{reply-follows}
+use Rattle.shard_book.specs.Entry.{tap_of}
+use Rattle.shard_book.specs.declared.entry.Entry.{Entry}
+use Rattle.tap_views.specs.Token.{bytes_of}
+use Rattle.fare_texts.specs.Tellers.{HasTold}
+use Rattle.fare_texts.proofs.LineLists.{more, taken}
+use Rattle.fare_texts.proofs.Closing.{earlier-none, next_earlier}
+use Rattle.fare_texts.proofs.explained.windows.windows_of.Goals as goal
+
+pub loop-entry-init : goal.loop-entry-init
+loop-entry-init c = record {
+  told = c.of-teller.ensures.told c.args.table.now;
+  of = c.of-teller.ensures.token;
+  earlier = c.new-earlier.ensures.items ∙ sym (earlier-none _);
+}
+
+pub explain_next-requires-clause-told : goal.explain_next-requires-clause-told
+explain_next-requires-clause-told c =
+    (take c.loop-entry.entry-index c.args.entries.now, c.loop-entry.invariant.told)
+
+pub explain_next-requires-clause-room : goal.explain_next-requires-clause-room
+explain_next-requires-clause-room c =
+    omega (
+      arith,
+      c.loop-entry.invariant.told.counted,
+      length-take-le c.loop-entry.entry-index c.args.entries.now (omega arith),
+    )
+
+pub loop-entry-preserved : goal.loop-entry-preserved
+unfolding tap_of
+loop-entry-preserved c =
+    let fares = c.args.table.now in
+    let entries = c.args.entries.now in
+    let place = c.loop-entry.entry-index in
+    let within = c.loop-entry-test.true in
+    let so_far = c.loop-entry.invariant in
+    let done = take place entries in
+    let rules = rules_of fares (bytes_of c.args.token) in
+    let taps = map (tap_of fares) done in
+    let window = rw so_far.of at (c.window-window.ensures fares done so_far.told) in
+    let why = rw so_far.of at (c.in_ok-reason.ensures.reason done so_far.told) in
+    let answered = c.reply.ensures ∙ ap replied_by why ∙ sym (reply-follows rules taps _) in
+    record {
+      told = subst (λ (es : List Entry). HasTold fares c.explain_next.new.self es)
+          (sym (taken entries place _ within)) (c.in_ok-reason.ensures.told done so_far.told);
+      of = c.in_ok-reason.ensures.token ∙ so_far.of;
+      earlier = next_earlier rules taps _ c.loop-entry.earlier.items _ c.window-window.result
+          c.is_ride.result c.reply.result _ so_far.earlier window answered c.is_ride.ensures
+          (sym (more (tap_of fares) entries place _ within)) c.in_ok-keep_ended.ensures;
+    }
+
+pub returns-clause-last : goal.returns-clause-last
+returns-clause-last c =
+    let so_far = c.loop-entry.invariant in
+    let all = take_all c.loop-entry.entry-index c.args.entries.now c.loop-entry-test.false in
+    rw so_far.of at (c.window.ensures c.args.table.now c.args.entries.now
+    (subst (λ (es : List Entry). HasTold c.args.table.now c.loop-entry.teller es) all so_far.told))

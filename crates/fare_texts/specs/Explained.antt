@@ -1,0 +1,132 @@
+-- A token's explained statement: the lines of its statement with the reason behind each, the
+-- token's terms before the lines, and all its windows.
+use Rattle.std.specs.Prelude.{◌≡◌, ℕ, List, [], ◌∷◌, ◌++◌, Option, Some, None, codes, flat_map, map}
+use Rattle.std.specs.Prelude.{slice_get}
+use Rattle.std.specs.Fmt.{decimal}
+use Rattle.std.specs.Option.{option_to_list}
+use Rattle.fare_table.specs.ClockView.{ClockView}
+use Rattle.fare_table.specs.Fares.{Fares, terms_at}
+use Rattle.fare_table.specs.declared.terms.Terms.{Terms}
+use Rattle.account_rule.specs.TokenRules.{TokenRules, rules_of}
+use Rattle.account_rule.specs.Windows.{last_window, shown_window, windows}
+use Rattle.account_rule.specs.declared.no_transfer.NoTransfer.{NoTransfer}
+use Rattle.account_rule.specs.declared.reason.Reason.{Reason}
+use Rattle.account_rule.specs.declared.tap.TapIn.{TapIn}
+use Rattle.account_rule.specs.declared.window.WindowView.{WindowView}
+use Rattle.shard_book.specs.Book.{Book}
+use Rattle.shard_book.specs.Entry.{own, tap_of}
+use Rattle.shard_book.specs.SumsByKey.{all_entries}
+use Rattle.shard_book.specs.Sums.{sums}
+use Rattle.tap_views.specs.Token.{bytes_of}
+use Rattle.shard_book.specs.declared.entry.Entry.{Entry}
+use Rattle.tap_views.specs.declared.token.Token.{Token}
+use Rattle.fare_texts.specs.Counts.{totals_line}
+use Rattle.fare_texts.specs.Local.{IsLocal}
+use Rattle.fare_texts.specs.Moments.{IsMomentText}
+use Rattle.fare_texts.specs.StatementText.{entry_words, statement_head, window_words}
+use Rattle.fare_texts.specs.LedgerLines.{reason_after}
+use Rattle.fare_texts.specs.NoTransferWords.{IsNoTransferEnd, no_transfer_after}
+use Rattle.fare_texts.specs.ReasonWords.{IsReasonWords}
+
+-- all elements but the last
+unfoldable pub but_last : {A : Type 0} → List A → List A
+but_last [] = []
+but_last (x ∷ []) = []
+but_last (x ∷ next ∷ xs) = x ∷ but_last (next ∷ xs)
+
+-- what the windows before the last one show, in their order
+unfoldable pub earlier_windows : TokenRules → List TapIn → List WindowView
+earlier_windows rules taps =
+    flat_map (λ window. option_to_list (shown_window rules window)) (but_last (windows rules taps))
+
+-- `terms fare 300 rides 12 ceiling 3500`, with the end of the line
+unfoldable pub terms_line : Terms → List ℕ
+terms_line terms =
+    codes "terms fare " ++ (decimal terms.fare ++ (codes " rides " ++ (decimal terms.rides
+    ++ (codes " ceiling " ++ (decimal terms.ceiling ++ codes "\n")))))
+
+-- the entry's line of a statement, then its reason, why a ride is no transfer, and under a zone
+-- what clocks showed, as `2024-03-08T17:00:00.000Z subway 1000 paid 300 because .., no transfer
+-- since .., local 2024-03-08T12:00:00-05:00`
+pub record IsExplainedLine (fares : Fares) (entry : Entry) (why : Reason)
+    (none : Option NoTransfer) (line : List ℕ) : Type 0 where
+  pub moment : List ℕ
+  pub is : IsMomentText entry.moment moment
+  pub reason_words : List ℕ
+  pub told : IsReasonWords fares why reason_words
+  pub lack : List ℕ
+  pub lacks : IsNoTransferEnd fares entry.moment why none lack
+  pub local : List ℕ
+  pub at : IsLocal fares.zone (codes ", local ") entry.moment local
+  pub shown : line ≡ moment ++ (entry_words fares entry ++ (reason_words ++ (lack ++ (local
+      ++ codes "\n"))))
+
+-- a line for each of the token's entries that follow the earlier ones, each with the reason that it
+-- has after those before it, and if it is a ride, why it is no transfer after them
+abbrev pub AreExplainedAfter : Fares → Token → List Entry → List Entry → List ℕ → Type 0
+AreExplainedAfter fares token earlier [] text = text ≡ []
+AreExplainedAfter fares token earlier (entry ∷ entries) text =
+    (line : List ℕ) × (rest : List ℕ)
+    × IsExplainedLine fares entry (reason_after fares token earlier entry)
+    (no_transfer_after fares token earlier entry) line
+    × AreExplainedAfter fares token (earlier ++ entry ∷ []) entries rest
+    × (text ≡ line ++ rest)
+
+-- the words, the window as `2024-03-08T17:00:00.000Z 2024-03-15T17:00:00.000Z paid 1 cents 300`,
+-- and under a zone what clocks show at its start and at its end
+pub record IsExplainedWindow (clocks : ClockView) (word : List ℕ) (window : WindowView)
+    (line : List ℕ) : Type 0 where
+  pub start : List ℕ
+  pub starts : IsMomentText window.start start
+  pub until : List ℕ
+  pub ends : IsMomentText window.until until
+  pub from : List ℕ
+  pub from_is : IsLocal clocks (codes " because it lasts from local ") window.start from
+  pub to : List ℕ
+  pub to_is : IsLocal clocks (codes " until local ") window.until to
+  pub shown : line ≡ word ++ (start ++ (codes " " ++ (until ++ (window_words window
+      ++ (from ++ (to ++ codes "\n"))))))
+
+-- a line for each window that is not the last
+abbrev pub AreEarlierLines : ClockView → List WindowView → List ℕ → Type 0
+AreEarlierLines clocks [] text = text ≡ []
+AreEarlierLines clocks (window ∷ windows) text =
+    (line : List ℕ) × (rest : List ℕ)
+    × IsExplainedWindow clocks (codes "earlier window ") window line
+    × AreEarlierLines clocks windows rest × (text ≡ line ++ rest)
+
+-- the line of the last window, or `window none`
+abbrev pub IsLastLine : ClockView → Option WindowView → List ℕ → Type 0
+IsLastLine clocks None line = line ≡ codes "window none\n"
+IsLastLine clocks (Some window) line = IsExplainedWindow clocks (codes "window ") window line
+
+-- the windows of these taps, the last one last
+pub record AreWindowLines (clocks : ClockView) (rules : TokenRules) (taps : List TapIn)
+    (text : List ℕ) : Type 0 where
+  pub earlier : List ℕ
+  pub of_earlier : AreEarlierLines clocks (earlier_windows rules taps) earlier
+  pub last : List ℕ
+  pub of_last : IsLastLine clocks (last_window rules taps) last
+  pub whole : text ≡ earlier ++ last
+
+-- the explained statement of a token with these entries
+pub record IsExplained (fares : Fares) (token : Token) (entries : List Entry) (text : List ℕ)
+    : Type 0 where
+  pub lines : List ℕ
+  pub of_entries : AreExplainedAfter fares token [] entries lines
+  pub windows : List ℕ
+  pub of_windows : AreWindowLines fares.zone (rules_of fares (bytes_of token))
+      (map (tap_of fares) entries) windows
+  pub whole : text ≡ statement_head token ++ (terms_line (terms_at fares (bytes_of token))
+      ++ (lines ++ (totals_line (sums entries) ++ windows)))
+
+-- the explained statement of a token over a history
+abbrev pub IsExplainedOver : Fares → List Entry → Token → List ℕ → Type 0
+IsExplainedOver fares history token text = IsExplained fares token (own token history) text
+
+-- the explained statement of a token over books: that over the entries of all of them, under the
+-- table of the first
+pub record IsExplainedOf (books : List Book) (token : Token) (text : List ℕ) : Type 0 where
+  pub first : Book
+  pub stands_first : slice_get books 0 ≡ Some first
+  pub over : IsExplainedOver first.table (all_entries books) token text

@@ -1,0 +1,36 @@
+-- The ledger of a history: a head line, and the lines of each token, by rising tokens.
+use Rattle.std.specs.Prelude.{◌≡◌, ℕ, List, [], ◌∷◌, ◌++◌, Option, Some, None, slice_get}
+use Rattle.fare_table.specs.Fares.{Fares}
+use Rattle.shard_book.specs.Book.{Book}
+use Rattle.shard_book.specs.Entry.{own}
+use Rattle.shard_book.specs.SumsByKey.{all_entries, tokens}
+use Rattle.shard_book.specs.declared.entry.Entry.{Entry}
+use Rattle.tap_views.specs.declared.token.Token.{Token}
+use Rattle.fare_texts.specs.LedgerLines.{AreLedgerLines, head_text}
+
+-- whose lines a ledger has: those of the one token that is asked for, or of all tokens of the
+-- history, rising, each once
+abbrev pub tokens_told : Option Token → List Entry → List Token
+tokens_told None history = tokens history
+tokens_told (Some token) history = token ∷ []
+
+-- for each of these tokens, one after another, the lines of its own entries, in history order
+abbrev pub AreLinesOfEach : Fares → List Entry → List Token → List ℕ → Type 0
+AreLinesOfEach fares history [] text = text ≡ []
+AreLinesOfEach fares history (token ∷ others) text =
+    (lines : List ℕ) × (rest : List ℕ) × AreLedgerLines fares token (own token history) lines
+    × AreLinesOfEach fares history others rest × (text ≡ lines ++ rest)
+
+-- the ledger of a history: the head line once, and then the lines of each token
+pub record IsLedgerOver (fares : Fares) (history : List Entry) (only : Option Token)
+    (text : List ℕ) : Type 0 where
+  pub lines : List ℕ
+  pub of_each : AreLinesOfEach fares history (tokens_told only history) lines
+  pub whole : text ≡ head_text ++ lines
+
+-- the ledger of books: that of the entries of all of them, book by book, under the table of the
+-- first
+pub record IsLedgerOfBooks (books : List Book) (only : Option Token) (text : List ℕ) : Type 0 where
+  pub first : Book
+  pub stands_first : slice_get books 0 ≡ Some first
+  pub over : IsLedgerOver first.table (all_entries books) only text

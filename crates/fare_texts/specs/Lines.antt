@@ -1,0 +1,47 @@
+-- The lines of entries in order of token, as they are written one after another.
+use Rattle.std.specs.Prelude.{◌≡◌, ℕ, false, List, [], ◌∷◌, ◌++◌}
+use Rattle.std.specs.Ordering.{is_lt}
+use Rattle.fare_table.specs.Fares.{Fares}
+use Rattle.shard_book.specs.Entry.{own}
+use Rattle.tap_views.specs.Token.{token_cmp}
+use Rattle.shard_book.specs.declared.entry.Entry.{Entry}
+use Rattle.tap_views.specs.declared.token.Token.{Token}
+use Rattle.fare_texts.specs.LedgerLines.{IsLedgerLineAfter}
+use Rattle.fare_texts.specs.Tellers.{HasTold}
+use Rattle.fare_texts.specs.declared.teller.Teller.{Teller}
+
+-- the first token is not above the second
+abbrev pub IsUpTo : Token → Token → Type 0
+IsUpTo token other = is_lt (token_cmp other token) ≡ false
+
+-- no entry's token is above this one
+abbrev pub AreUpTo : List Entry → Token → Type 0
+AreUpTo [] token = Unit {0}
+AreUpTo (entry ∷ entries) token = IsUpTo entry.token token × AreUpTo entries token
+
+-- the entries' tokens never fall, from this one on
+abbrev pub NoFallFrom : Token → List Entry → Type 0
+NoFallFrom token [] = Unit {0}
+NoFallFrom token (entry ∷ entries) = IsUpTo token entry.token × NoFallFrom entry.token entries
+
+-- the entries' tokens never fall
+abbrev pub NoFall : List Entry → Type 0
+NoFall [] = Unit {0}
+NoFall (entry ∷ entries) = NoFallFrom entry.token entries
+
+-- the line of an entry that stands after these: the one that it has among the entries of its token
+abbrev pub IsLineAfter : Fares → List Entry → Entry → List ℕ → Type 0
+IsLineAfter fares earlier entry line =
+    IsLedgerLineAfter fares entry.token (own entry.token earlier) entry line
+
+-- the lines of entries that stand after these
+abbrev pub AreLinesAlong : Fares → List Entry → List Entry → List ℕ → Type 0
+AreLinesAlong fares earlier [] text = text ≡ []
+AreLinesAlong fares earlier (entry ∷ entries) text =
+    (line : List ℕ) × (rest : List ℕ) × IsLineAfter fares earlier entry line
+    × AreLinesAlong fares (earlier ++ entry ∷ []) entries rest × (text ≡ line ++ rest)
+
+-- of these entries, the teller has told those of its token; no token of theirs is above it
+pub record HasCome (fares : Fares) (teller : Teller) (earlier : List Entry) : Type 0 where
+  pub told : HasTold fares teller (own teller.token earlier)
+  pub up : AreUpTo earlier teller.token

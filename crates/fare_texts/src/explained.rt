@@ -1,0 +1,105 @@
+//! The explained statement of a token: why each line costs what it costs.
+
+ghost use Rattle.std.specs.Prelude.{◌≡◌, ◌<◌, ℕ, List, ◌++◌, IfErr, IfOk, OnOk};
+ghost use Rattle.std.specs.Prelude.{length};
+ghost use Rattle.std.specs.Prelude.{string_bytes};
+ghost use Rattle.std.specs.Io.KnownBytes.{Appends};
+ghost use Rattle.shard_book.specs.Sums.{sums, sums_of};
+ghost use Rattle.fare_texts.specs.Explained.{IsExplained, IsExplainedOf, terms_line};
+ghost use Rattle.fare_texts.specs.PrintFaults.{KeepsUnlessWrite};
+
+mod lines;
+mod window_lines;
+mod windows;
+
+use crate::entries::own_of;
+use crate::ledger::table_of;
+use crate::lines::pass_on;
+use crate::{PrintFault, write_statement_head, write_totals};
+use fare_table::{FareTable, Terms};
+use lines::write_lines;
+use shard_book::{Entry, ShardBook, totals_of_entries};
+use std::alloc::{AllocError, Global};
+use std::io::Write;
+use tap_views::{NoMemory, Token};
+use window_lines::write_windows;
+
+/// Appends the line of the token's terms.
+#[tactic(auto, unfolding(crate::specs::Explained::terms_line))]
+fn write_terms(text: &mut String, terms: Terms) -> Result<(), AllocError>
+    ensures { OnOk result (string_bytes text.new ≡ string_bytes text.old ++ terms_line terms) }
+{
+    let fare = terms.fare;
+    let rides = terms.rides;
+    let ceiling = terms.ceiling;
+    writeln!(text, "terms fare {fare} rides {rides} ceiling {ceiling}")
+}
+
+/// The explained statement of a token that has these entries.
+fn text_of(
+    alloc: Global,
+    table: &FareTable,
+    token: Token,
+    entries: &[Entry],
+) -> Result<String, NoMemory>
+    ensures { IfOk result (λ text. IsExplained table.now token entries.now (string_bytes text)) }
+{
+    let clock = table.clock(alloc)?;
+    let bytes = token.bytes();
+    let mut text = String::new(alloc);
+    write_statement_head(&mut text, token)?;
+    write_terms(&mut text, table.terms_of(&bytes))?;
+    write_lines(&mut text, table, &clock, token, entries)?;
+    write_totals(&mut text, &totals_of_entries(entries))?;
+    write_windows(alloc, &mut text, table, &clock, token, entries)?;
+    Ok(text)
+}
+
+/// Writes the explained statement of a token that has these entries under the table, as
+/// `write_explained` does of books.
+pub fn write_explained_of<W: Write>(
+    alloc: Global,
+    table: &FareTable,
+    token: Token,
+    entries: &[Entry],
+    out: &mut W,
+) -> Result<(), PrintFault>
+    ensures ok { OnOk result ((text : List ℕ) × IsExplained table.now token entries.now text
+        × Appends (W.contents out.old) (W.contents out.new) text) }
+    ensures fault { IfErr result (λ fault. KeepsUnlessWrite fault (out.new ≡ out.old)) }
+{
+    let mut text = text_of(alloc, table, token, entries)?;
+    pass_on(&mut text, out)?;
+    Ok(())
+}
+
+/// The explained statement of a token.
+fn explained_text(alloc: Global, books: &[ShardBook], token: Token) -> Result<String, NoMemory>
+    requires { 0 < length books.now }
+    ensures { IfOk result (λ text. IsExplainedOf books.now token (string_bytes text)) }
+{
+    let table = table_of(books);
+    let entries = own_of(alloc, books, token)?;
+    let text = text_of(alloc, table, token, entries.as_slice())?;
+    Ok(text)
+}
+
+/// Writes the explained statement of a token: the head line, the token's terms, its entries, each
+/// with the account rule's reason for it after its earlier entries, their totals, and all its
+/// windows, the last one last. Under a zone each entry and each window has its local times too. All
+/// memory is taken before the first byte is written: on a fault of memory nothing was.
+pub fn write_explained<W: Write>(
+    alloc: Global,
+    books: &[ShardBook],
+    token: Token,
+    out: &mut W,
+) -> Result<(), PrintFault>
+    requires { 0 < length books.now }
+    ensures ok { OnOk result ((text : List ℕ) × IsExplainedOf books.now token text
+        × Appends (W.contents out.old) (W.contents out.new) text) }
+    ensures fault { IfErr result (λ fault. KeepsUnlessWrite fault (out.new ≡ out.old)) }
+{
+    let mut text = explained_text(alloc, books, token)?;
+    pass_on(&mut text, out)?;
+    Ok(())
+}

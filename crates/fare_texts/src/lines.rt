@@ -1,0 +1,140 @@
+//! The lines of entries that stand in order of token, written in pieces.
+
+ghost use Rattle.std.specs.Prelude.{◌≡◌, ◌≤◌, ℕ, List, [], ◌++◌, IfErr, OnOk, string_bytes};
+ghost use Rattle.std.specs.Io.KnownBytes.{Appends, Keeps, append_known};
+ghost use Rattle.fare_texts.specs.declared.print_fault.PrintFault.TheVariants.{Write as ForWrite};
+ghost use Rattle.fare_texts.specs.Lines.{AreLinesAlong, HasCome, IsUpTo, NoFall};
+ghost use Rattle.fare_texts.specs.Lines.{NoFallFrom};
+ghost use Rattle.fare_texts.specs.inside.Spots.{entries_at_spots};
+ghost use Rattle.fare_table.specs.Fares.{Fares};
+ghost use Rattle.tap_views.specs.declared.token.Token.{Token};
+ghost use Rattle.shard_book.specs.declared.entry.Entry.{Entry};
+
+use crate::spot::Spot;
+use crate::{PrintFault, Teller, write_out};
+use fare_table::{Clock, FareTable};
+use shard_book::ShardBook;
+use std::io::Write;
+use tap_views::Token;
+
+/// How many bytes wait at least before they are written out: so many that a write is little beside
+/// them.
+pub const PIECE_BYTES: usize = 65_536;
+
+/// Writes out what waits in the text, whose room stays.
+pub fn pass_on<W: Write>(text: &mut String, out: &mut W) -> Result<(), PrintFault>
+    ensures kept { OnOk result (Keeps (append_known (W.contents out.old) (string_bytes text.old))
+        (append_known (W.contents out.new) (string_bytes text.new))) }
+    ensures empty { OnOk result (string_bytes text.new ≡ []) }
+    ensures fault { IfErr result (λ fault. fault ≡ ForWrite) }
+{
+    write_out(text.as_bytes(), out)?;
+    text.clear();
+    Ok(())
+}
+
+/// Writes out what waits in the text, where it is a piece: `PIECE_BYTES` or more.
+pub fn pass_piece<W: Write>(text: &mut String, out: &mut W) -> Result<(), PrintFault>
+    ensures kept { OnOk result (Keeps (append_known (W.contents out.old) (string_bytes text.old))
+        (append_known (W.contents out.new) (string_bytes text.new))) }
+    ensures fault { IfErr result (λ fault. fault ≡ ForWrite) }
+{
+    if text.len() < PIECE_BYTES {
+        return Ok(());
+    }
+    pass_on(text, out)
+}
+
+/// Goes on with the token of the next entry, which is not below the teller's own: another token
+/// begins afresh.
+#[inline]
+pub fn go_on_to(teller: &mut Teller, token: Token)
+    ensures come { (fares : Fares) (earlier : List Entry) → HasCome fares teller.old earlier
+        → IsUpTo teller.old.token token → HasCome fares teller.new earlier }
+    ensures token { teller.new.token ≡ token }
+    ensures few { teller.new.number ≤ teller.old.number }
+{
+    if teller.token != token {
+        *teller = Teller::of(token);
+    }
+}
+
+/// Appends the lines of the entries at the spots to the text, of which what stands there may go out
+/// first.
+fn write_pieces<W: Write>(
+    text: &mut String,
+    table: &FareTable,
+    clock: &Clock,
+    first: Token,
+    books: &[ShardBook],
+    spots: &[Spot],
+    out: &mut W,
+) -> Result<(), PrintFault>
+    requires clock { clock.now ≡ table.now.zone }
+    requires no_fall { NoFallFrom first (entries_at_spots books.now spots.now) }
+    ensures lines { OnOk result ((lines : List ℕ)
+        × AreLinesAlong table.now [] (entries_at_spots books.now spots.now) lines
+        × Appends (append_known (W.contents out.old) (string_bytes text.old))
+        (append_known (W.contents out.new) (string_bytes text.new)) lines) }
+    ensures fault { IfErr result (λ fault. fault ≡ ForWrite) }
+{
+    let mut teller = Teller::of(first);
+    for spot in spots {
+        let entry = spot.entry(books);
+        go_on_to(&mut teller, entry.token);
+        // The text has room for a line, so that none is refused.
+        let Ok(()) = teller.write_next(text, table, clock, &entry) else {
+            return Err(PrintFault::Write);
+        };
+        pass_piece(text, out)?;
+    }
+    Ok(())
+}
+
+/// Appends the lines of the entries at the spots, of which there may be none, as `write_pieces`
+/// does.
+fn write_some<W: Write>(
+    text: &mut String,
+    table: &FareTable,
+    clock: &Clock,
+    books: &[ShardBook],
+    spots: &[Spot],
+    out: &mut W,
+) -> Result<(), PrintFault>
+    requires clock { clock.now ≡ table.now.zone }
+    requires no_fall { NoFall (entries_at_spots books.now spots.now) }
+    ensures lines { OnOk result ((lines : List ℕ)
+        × AreLinesAlong table.now [] (entries_at_spots books.now spots.now) lines
+        × Appends (append_known (W.contents out.old) (string_bytes text.old))
+        (append_known (W.contents out.new) (string_bytes text.new)) lines) }
+    ensures fault { IfErr result (λ fault. fault ≡ ForWrite) }
+{
+    match spots.first() {
+        Some(first) => {
+            let token = first.entry(books).token;
+            write_pieces(text, table, clock, token, books, spots, out)
+        }
+        None => Ok(()),
+    }
+}
+
+/// Writes the text, and after it the lines of the entries at the spots.
+pub(crate) fn write_lines<W: Write>(
+    text: &mut String,
+    table: &FareTable,
+    clock: &Clock,
+    books: &[ShardBook],
+    spots: &[Spot],
+    out: &mut W,
+) -> Result<(), PrintFault>
+    requires clock { clock.now ≡ table.now.zone }
+    requires no_fall { NoFall (entries_at_spots books.now spots.now) }
+    ensures ok { OnOk result ((lines : List ℕ)
+        × AreLinesAlong table.now [] (entries_at_spots books.now spots.now) lines
+        × Appends (W.contents out.old) (W.contents out.new) (string_bytes text.old ++ lines)) }
+    ensures fault { IfErr result (λ fault. fault ≡ ForWrite) }
+{
+    write_some(text, table, clock, books, spots, out)?;
+    pass_on(text, out)?;
+    Ok(())
+}

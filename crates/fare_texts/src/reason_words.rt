@@ -1,0 +1,115 @@
+//! The words that end an explained line.
+
+ghost use Rattle.std.specs.Prelude.{◌≡◌, ◌<◌, ◌+◌, ◌++◌, length, List, ℕ, OnOk, string_bytes};
+ghost use Rattle.fare_texts.specs.ReasonWords.{IsRideText, IsTransferText, IsReasonWords};
+ghost use Rattle.fare_texts.specs.ReasonWords.{IsWindowText};
+ghost use Rattle.fare_texts.specs.ReasonWords.{charge_end, charge_start, giver_start};
+ghost use Rattle.fare_texts.specs.ReasonWords.{place_start};
+ghost use Rattle.fare_texts.specs.ReasonWords.{HasModeOf};
+
+use crate::write_moment;
+use account_rule::{Charge, Reason};
+use fare_table::FareTable;
+use std::alloc::AllocError;
+
+/// Appends why a tap is answered as it is, as ` because the subway ride of 2024-03-08T17:00:00.000Z
+/// gives it`.
+pub fn write_reason_words(
+    text: &mut String,
+    table: &FareTable,
+    reason: &Reason,
+) -> Result<(), AllocError>
+    requires { HasModeOf table.now reason.now }
+    ensures { OnOk result ((written : List ℕ) × IsReasonWords table.now reason.now written
+        × (string_bytes text.new ≡ string_bytes text.old ++ written)) }
+{
+    match *reason {
+        Reason::Unknown => text.push_str(" because the table has no such validator"),
+        Reason::Stale { latest } => {
+            text.push_str(" because a tap of ")?;
+            write_moment(text, latest)?;
+            text.push_str(" is not earlier")
+        }
+        Reason::Transfer { moment, mode } => write_transfer(text, table.mode_name(mode), moment),
+        Reason::Ride {
+            start,
+            until,
+            charge,
+        } => write_ride(text, start, until, charge),
+    }
+}
+
+/// Appends ` because the subway ride of 2024-03-08T17:00:00.000Z gives it`.
+fn write_transfer(text: &mut String, mode: &str, moment: u64) -> Result<(), AllocError>
+    ensures { OnOk result ((written : List ℕ) × IsTransferText mode.now moment written
+        × (string_bytes text.new ≡ string_bytes text.old ++ written)) }
+{
+    write_giver(text, mode)?;
+    write_moment(text, moment)?;
+    text.push_str(" gives it")?;
+    Ok(())
+}
+
+/// Appends ` because the subway ride of `.
+#[tactic(auto, unfolding(crate::specs::ReasonWords::giver_start))]
+fn write_giver(text: &mut String, mode: &str) -> Result<(), AllocError>
+    ensures { OnOk result (string_bytes text.new ≡ string_bytes text.old ++ giver_start mode.now) }
+{
+    write!(text, " because the {mode} ride of ")
+}
+
+/// Appends ` because it is ride 3 of the window from .. until .. at full fare`.
+fn write_ride(text: &mut String, start: u64, until: u64, charge: Charge) -> Result<(), AllocError>
+    ensures { OnOk result ((written : List ℕ) × IsRideText start until charge written
+        × (string_bytes text.new ≡ string_bytes text.old ++ written)) }
+{
+    write_start(text, charge)?;
+    write_window(text, start, until)?;
+    text.push_str(charge_end(charge))?;
+    Ok(())
+}
+
+/// Appends the words of a charge before its window.
+#[tactic(auto, unfolding(crate::specs::ReasonWords::charge_start))]
+fn write_start(text: &mut String, charge: Charge) -> Result<(), AllocError>
+    ensures { OnOk result (string_bytes text.new ≡ string_bytes text.old ++ charge_start charge) }
+{
+    match charge {
+        Charge::Full { place, cents: _ } => write_place(text, place),
+        Charge::CeilingCut { place, cents: _ } => write_place(text, place),
+        Charge::CeilingReached { place } => write_place(text, place),
+        Charge::RideLimitReached => text.push_str(" because the ride limit of the window"),
+    }
+}
+
+/// Appends ` because it is ride 3 of the window`, for the place 2.
+#[tactic(auto, unfolding(crate::specs::ReasonWords::place_start))]
+fn write_place(text: &mut String, place: u32) -> Result<(), AllocError>
+    ensures { OnOk result (string_bytes text.new ≡ string_bytes text.old ++ place_start place) }
+{
+    let ride = u64::from(place) + 1;
+    write!(text, " because it is ride {ride} of the window")
+}
+
+/// Appends ` from 2024-03-08T17:00:00.000Z until 2024-03-15T17:00:00.000Z`.
+fn write_window(text: &mut String, start: u64, until: u64) -> Result<(), AllocError>
+    ensures { OnOk result ((written : List ℕ) × IsWindowText start until written
+        × (string_bytes text.new ≡ string_bytes text.old ++ written)) }
+{
+    text.push_str(" from ")?;
+    write_moment(text, start)?;
+    text.push_str(" until ")?;
+    write_moment(text, until)
+}
+
+/// The words of a charge behind its window.
+fn charge_end(charge: Charge) -> &'static str
+    ensures { result.now ≡ charge_end charge }
+{
+    match charge {
+        Charge::Full { .. } => " at full fare",
+        Charge::CeilingCut { .. } => " cut by the ceiling",
+        Charge::CeilingReached { .. } => " past the ceiling",
+        Charge::RideLimitReached => " is reached",
+    }
+}

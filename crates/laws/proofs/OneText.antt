@@ -1,0 +1,382 @@
+-- A history has one ledger, one statement and one explained statement of a token.
+use Rattle.std.proofs.Common.{◌≡◌, ℕ, ◌+◌, ◌<◌, ◌≤◌, ℤ, List, [], ◌∷◌, ◌++◌, length, map}
+use Rattle.std.proofs.Common.{sym, ap, subst, ◌∙◌, Option, Some, None, ⊎_elim, codes}
+use Rattle.std.proofs.lemmas.Bool.{cases_lt}
+use Rattle.std.specs.Prelude.{unsigned_abs}
+use Rattle.jiff_core.specs.declared.civil.datetime.DateTime.{DateTime}
+use Rattle.jiff_core.specs.declared.offset.Offset.{Offset}
+use Rattle.jiff_core.specs.DateTime.{civil_nanos}
+use Rattle.jiff_core.specs.Timestamp.{nanos_of_seconds}
+use Rattle.jiff_core.proofs.DateLemmas.{epoch_day_injective}
+use Rattle.jiff_core.proofs.DateTimeLemmas.{civil_nanos_injective, time_nanos_injective}
+use Rattle.jiff.specs.Names.{iso_datetime_text}
+use Rattle.jiff_fmt.specs.Text.{fraction_part, offset_text, pad2, sign_byte, year_text}
+use Rattle.std.specs.Prelude.{◌/◌, ◌%◌, ◌+ℤ◌, if◌then◌else◌, nat_lt}
+use Rattle.jiff_tz.specs.declared.posix.TimeZone.{TimeZone as PosixRule}
+use Rattle.fare_table.specs.ClockView.{ClockView}
+use Rattle.fare_table.specs.Fares.{Fares, terms_at}
+use Rattle.tap_views.specs.Token.{bytes_of}
+use Rattle.fare_table.specs.Until.{moment_nanos}
+use Rattle.tap_views.specs.declared.token.Token.{Token}
+use Rattle.account_rule.specs.TokenRules.{TokenRules, rules_of}
+use Rattle.account_rule.specs.Windows.{last_window}
+use Rattle.account_rule.specs.declared.reason.Charge.{Charge}
+use Rattle.account_rule.specs.declared.reason.Reason.{Reason}
+use Rattle.account_rule.specs.declared.reason.Reason.TheVariants.{Unknown, Stale, Transfer, Ride}
+use Rattle.account_rule.specs.declared.tap.TapIn.{TapIn}
+use Rattle.account_rule.specs.declared.window.WindowView.{WindowView}
+use Rattle.shard_book.specs.Entry.{own, tap_of}
+use Rattle.shard_book.specs.Sums.{Sums, sums, sums_of}
+use Rattle.shard_book.specs.declared.entry.Entry.{Entry}
+use Rattle.shard_book.specs.declared.statement.Statement.{Statement}
+use Rattle.fare_texts.specs.Counts.{totals_line}
+use Rattle.fare_texts.specs.Local.{IsClockText, IsLocal, IsLocalBy}
+use Rattle.fare_texts.specs.StatementText.{AreEntryLines, IsEntryLine, IsLineOf, IsStatementText}
+use Rattle.fare_texts.specs.StatementText.{IsWindowLine, entry_words, statement_head, window_words}
+use Rattle.fare_texts.specs.LedgerLines.{AreLedgerLinesAfter, head_text, reason_after}
+use Rattle.account_rule.specs.declared.no_transfer.NoTransfer.{NoTransfer}
+use Rattle.account_rule.specs.declared.no_transfer.NoTransfer.TheVariants.{FirstTap, TooLate}
+use Rattle.account_rule.specs.declared.no_transfer.NoTransfer.TheVariants.{AfterTransfer, NoneGiven}
+use Rattle.account_rule.specs.declared.no_transfer.NoTransfer.TheVariants.{NotPermitted, RideTooLate}
+use Rattle.fare_texts.specs.NoTransferWords.{IsAfterTransferText, IsNoTransferEnd}
+use Rattle.fare_texts.specs.NoTransferWords.{IsNoTransferText, IsRideTooLateText, IsTooLateText}
+use Rattle.fare_texts.specs.NoTransferWords.{gap_words}
+use Rattle.fare_texts.specs.NoTransferWords.{no_transfer_after}
+use Rattle.fare_texts.specs.ReasonWords.{IsReasonWords, IsRideText, IsStaleText, IsTransferText}
+use Rattle.fare_texts.specs.ReasonWords.{IsWindowText, charge_end, charge_start, giver_start}
+use Rattle.fare_texts.specs.Explained.{AreEarlierLines, AreExplainedAfter, AreWindowLines}
+use Rattle.fare_texts.specs.Explained.{IsExplained, IsExplainedLine, IsExplainedWindow}
+use Rattle.fare_texts.specs.Explained.{IsLastLine, earlier_windows, terms_line}
+use Rattle.fare_texts.specs.Ledger.{AreLinesOfEach, IsLedgerOver, tokens_told}
+use Rattle.report_texts.specs.OverHistory.{IsStatementOver}
+use Rattle.ledger_check.proofs.SameLines.{line_same, moment_same}
+
+-- two pieces, one behind the other
+both : (a b c d : List ℕ) → a ≡ b → c ≡ d → a ++ c ≡ b ++ d
+both a b c d front back = ap (λ xs. xs ++ c) front ∙ ap (λ ys. b ++ ys) back
+
+-- ---- ledgers
+lines_after_same : (fares : Fares) (token : Token) (earlier entries : List Entry) (a b : List ℕ)
+    → AreLedgerLinesAfter fares token earlier entries a
+    → AreLedgerLinesAfter fares token earlier entries b → a ≡ b
+lines_after_same fares token earlier [] a b is also = is ∙ sym also
+lines_after_same fares token earlier (entry ∷ entries) a b is also =
+    let (line, rest, one, more, whole) = is in
+    let (line', rest', one', more', whole') = also in
+    whole ∙ both line line' rest rest'
+    (line_same fares token (length earlier + 1) entry (reason_after fares token earlier entry) line
+    line' one one')
+    (lines_after_same fares token (earlier ++ entry ∷ []) entries rest rest' more more')
+    ∙ sym whole'
+
+each_same : (fares : Fares) (history : List Entry) (tokens : List Token) (a b : List ℕ)
+    → AreLinesOfEach fares history tokens a → AreLinesOfEach fares history tokens b → a ≡ b
+each_same fares history [] a b is also = is ∙ sym also
+each_same fares history (token ∷ tokens) a b is also =
+    let (lines, rest, one, more, whole) = is in
+    let (lines', rest', one', more', whole') = also in
+    whole ∙ both lines lines' rest rest'
+    (lines_after_same fares token [] (own token history) lines lines' one one')
+    (each_same fares history tokens rest rest' more more')
+    ∙ sym whole'
+
+pub one_ledger : (fares : Fares) (history : List Entry) (only : Option Token) (a b : List ℕ)
+    → IsLedgerOver fares history only a → IsLedgerOver fares history only b → a ≡ b
+one_ledger fares history only a b is also =
+    is.whole ∙ ap (λ ls. head_text ++ ls)
+    (each_same fares history (tokens_told only history) is.lines also.lines is.of_each
+    also.of_each)
+    ∙ sym also.whole
+
+-- ---- statements
+entry_line_same : (fares : Fares) (entry : Entry) (a b : List ℕ) → IsEntryLine fares entry a
+    → IsEntryLine fares entry b → a ≡ b
+entry_line_same fares entry a b is also =
+    is.shown ∙ ap (λ m. m ++ (entry_words fares entry ++ codes "\n"))
+    (moment_same entry.moment is.moment also.moment is.is also.is) ∙ sym also.shown
+
+entry_lines_same : (fares : Fares) (entries : List Entry) (a b : List ℕ)
+    → AreEntryLines fares entries a → AreEntryLines fares entries b → a ≡ b
+entry_lines_same fares [] a b is also = is ∙ sym also
+entry_lines_same fares (entry ∷ entries) a b is also =
+    let (line, rest, one, more, whole) = is in
+    let (line', rest', one', more', whole') = also in
+    whole ∙ both line line' rest rest' (entry_line_same fares entry line line' one one')
+    (entry_lines_same fares entries rest rest' more more') ∙ sym whole'
+
+line_of_same : (window : WindowView) (a b : List ℕ) → IsLineOf window a → IsLineOf window b → a ≡ b
+line_of_same window a b is also =
+    let rest = window_words window ++ codes "\n" in
+    is.shown
+    ∙ ap (λ s. codes "window " ++ (s ++ (codes " " ++ (is.until ++ rest))))
+    (moment_same window.start is.start also.start is.starts also.starts)
+    ∙ ap (λ u. codes "window " ++ (also.start ++ (codes " " ++ (u ++ rest))))
+    (moment_same window.until is.until also.until is.ends also.ends)
+    ∙ sym also.shown
+
+window_line_same : (window : Option WindowView) (a b : List ℕ) → IsWindowLine window a
+    → IsWindowLine window b → a ≡ b
+window_line_same None a b is also = is ∙ sym also
+window_line_same (Some window) a b is also = line_of_same window a b is also
+
+-- the text of a statement, by its parts
+abbrev statement_by : Token → List ℕ → Sums → List ℕ → List ℕ
+statement_by token lines totals window =
+    statement_head token ++ (lines ++ (totals_line totals ++ window))
+
+statement_text_same : (fares : Fares) (s t : Statement) (a b : List ℕ) → s.token ≡ t.token
+    → s.lines ≡ t.lines → sums_of s.totals ≡ sums_of t.totals → s.window ≡ t.window
+    → IsStatementText fares s a → IsStatementText fares t b → a ≡ b
+statement_text_same fares s t a b token lines totals window is also =
+    let moved = subst (λ es. AreEntryLines fares es is.lines) lines is.of_entries in
+    let shown = subst (λ w. IsWindowLine w is.window) window is.of_window in
+    is.whole
+    ∙ ap (λ x. statement_by x is.lines (sums_of s.totals) is.window) token
+    ∙ ap (λ x. statement_by t.token x (sums_of s.totals) is.window)
+    (entry_lines_same fares t.lines is.lines also.lines moved also.of_entries)
+    ∙ ap (λ x. statement_by t.token also.lines x is.window) totals
+    ∙ ap (λ x. statement_by t.token also.lines (sums_of t.totals) x)
+    (window_line_same t.window is.window also.window shown also.of_window)
+    ∙ sym also.whole
+
+pub one_statement : (fares : Fares) (history : List Entry) (token : Token) (a b : List ℕ)
+    → IsStatementOver fares history token a → IsStatementOver fares history token b → a ≡ b
+one_statement fares history token a b is also =
+    let s = is.of_history in
+    let t = also.of_history in
+    statement_text_same fares is.statement also.statement a b (s.token ∙ sym t.token)
+    (s.lines ∙ sym t.lines) (s.totals ∙ sym t.totals) (s.window ∙ sym t.window) is.shown also.shown
+
+-- ---- what clocks show
+-- what a clock shows, by its numbers
+abbrev shown_by : ℤ → ℕ → ℕ → ℕ → ℕ → ℕ → ℕ → List ℕ
+shown_by year month day hour minute second rest =
+    (year_text year ++ 45 ∷ [] ++ pad2 month ++ 45 ∷ [] ++ pad2 day)
+    ++ 84 ∷ (pad2 hour ++ 58 ∷ pad2 minute ++ 58 ∷ pad2 second ++ fraction_part None rest)
+
+shown_same : (a b : DateTime) → civil_nanos a ≡ civil_nanos b
+    → iso_datetime_text a ≡ iso_datetime_text b
+shown_same a b same =
+    let (days, times) = civil_nanos_injective a b same in
+    let (year, month, day) = epoch_day_injective a.date b.date days in
+    let (hour, minute, second, rest) = time_nanos_injective a.time b.time times in
+    let d = b.date in
+    let t = b.time in
+    ap (λ (y : ℤ). shown_by y a.date.month a.date.day a.time.hour a.time.minute a.time.second
+    a.time.subsec_nanosecond) year
+    ∙ ap (λ (m : ℕ). shown_by d.year m a.date.day a.time.hour a.time.minute a.time.second
+    a.time.subsec_nanosecond) month
+    ∙ ap (λ (n : ℕ). shown_by d.year d.month n a.time.hour a.time.minute a.time.second
+    a.time.subsec_nanosecond) day
+    ∙ ap (λ (h : ℕ). shown_by d.year d.month d.day h a.time.minute a.time.second
+    a.time.subsec_nanosecond) hour
+    ∙ ap (λ (m : ℕ). shown_by d.year d.month d.day t.hour m a.time.second
+    a.time.subsec_nanosecond) minute
+    ∙ ap (λ (s : ℕ). shown_by d.year d.month d.day t.hour t.minute s a.time.subsec_nanosecond)
+    second
+    ∙ ap (λ (r : ℕ). shown_by d.year d.month d.day t.hour t.minute t.second r) rest
+
+-- the hours and minutes of an offset of so many seconds
+abbrev minutes_by : ℤ → ℕ × ℕ
+minutes_by seconds =
+    let total = unsigned_abs seconds in
+    let hours = total / 3600 in
+    let minutes = total / 60 % 60 in
+    if nat_lt (total % 60) 30 then (hours, minutes)
+    else (if nat_lt minutes 59 then (hours, minutes + 1)
+    else (if nat_lt hours 25 then (hours + 1, 0) else (25, 59)))
+
+abbrev offset_by : ℤ → List ℕ
+offset_by seconds =
+    sign_byte seconds ∷ pad2 (minutes_by seconds).0 ++ 58 ∷ pad2 (minutes_by seconds).1
+
+offset_same : (a b : Offset) → a.seconds ≡ b.seconds → offset_text a ≡ offset_text b
+offset_same a b same = ap (λ (s : ℤ). offset_by s) same
+
+clock_same : (zone : PosixRule) (moment : ℕ) (a b : List ℕ) → IsClockText zone moment a
+    → IsClockText zone moment b → a ≡ b
+clock_same zone moment a b is also =
+    let ahead = is.ahead ∙ sym also.ahead in
+    let nanos = is.shows ∙ ap (λ (s : ℤ). moment_nanos moment +ℤ nanos_of_seconds s) ahead
+    ∙ sym also.shows in
+    is.shown
+    ∙ both (iso_datetime_text is.date_time) (iso_datetime_text also.date_time)
+    (offset_text is.offset) (offset_text also.offset)
+    (shown_same is.date_time also.date_time nanos)
+    (offset_same is.offset also.offset ahead)
+    ∙ sym also.shown
+
+local_same_by : (zone : Option PosixRule) (words : List ℕ) (moment : ℕ) (a b : List ℕ)
+    → IsLocalBy zone words moment a → IsLocalBy zone words moment b → a ≡ b
+local_same_by None words moment a b is also = is ∙ sym also
+local_same_by (Some zone) words moment a b is also =
+    ⊎_elim
+    (λ (below : moment < 253_402_207_200_000).
+    let (clock, one, whole) = is.civil below in
+    let (clock', one', whole') = also.civil below in
+    whole ∙ ap (λ c. words ++ c) (clock_same zone moment clock clock' one one') ∙ sym whole')
+    (λ (above : 253_402_207_200_000 ≤ moment). is.past above ∙ sym (also.past above))
+    (cases_lt moment 253_402_207_200_000)
+
+local_same : (clock : ClockView) (words : List ℕ) (moment : ℕ) (a b : List ℕ)
+    → IsLocal clock words moment a → IsLocal clock words moment b → a ≡ b
+local_same clock words moment a b is also = local_same_by clock.rule words moment a b is also
+
+-- ---- explained statements
+window_text_same : (start until : ℕ) (a b : List ℕ) → IsWindowText start until a
+    → IsWindowText start until b → a ≡ b
+window_text_same start until a b is also =
+    is.shown
+    ∙ ap (λ f. codes " from " ++ (f ++ (codes " until " ++ is.to)))
+    (moment_same start is.from also.from is.starts also.starts)
+    ∙ ap (λ t. codes " from " ++ (also.from ++ (codes " until " ++ t)))
+    (moment_same until is.to also.to is.ends also.ends)
+    ∙ sym also.shown
+
+stale_same : (latest : ℕ) (a b : List ℕ) → IsStaleText latest a → IsStaleText latest b → a ≡ b
+stale_same latest a b is also =
+    is.shown ∙ ap (λ m. codes " because a tap of " ++ (m ++ codes " is not earlier"))
+    (moment_same latest is.moment also.moment is.is also.is) ∙ sym also.shown
+
+transfer_same : (mode : List ℕ) (at : ℕ) (a b : List ℕ) → IsTransferText mode at a
+    → IsTransferText mode at b → a ≡ b
+transfer_same mode at a b is also =
+    is.shown ∙ ap (λ m. giver_start mode ++ (m ++ codes " gives it"))
+    (moment_same at is.moment also.moment is.is also.is) ∙ sym also.shown
+
+ride_same : (start until : ℕ) (charge : Charge) (a b : List ℕ) → IsRideText start until charge a
+    → IsRideText start until charge b → a ≡ b
+ride_same start until charge a b is also =
+    is.shown ∙ ap (λ w. charge_start charge ++ (w ++ charge_end charge))
+    (window_text_same start until is.window also.window is.is also.is) ∙ sym also.shown
+
+words_same : (fares : Fares) (why : Reason) (a b : List ℕ) → IsReasonWords fares why a
+    → IsReasonWords fares why b → a ≡ b
+words_same fares Unknown a b is also = is ∙ sym also
+words_same fares (Stale latest) a b is also = stale_same latest a b is also
+words_same fares (Transfer moment mode) a b is also = transfer_same _ moment a b is also
+words_same fares (Ride start until charge) a b is also = ride_same start until charge a b is also
+
+too_late_same : (last gap : ℕ) (a b : List ℕ) → IsTooLateText last gap a → IsTooLateText last gap b
+    → a ≡ b
+too_late_same last gap a b is also =
+    is.shown ∙ ap (λ m. codes ", no transfer since the tap of " ++ (m ++ gap_words gap))
+    (moment_same last is.moment also.moment is.is also.is) ∙ sym also.shown
+
+ride_too_late_same : (ride gap : ℕ) (a b : List ℕ) → IsRideTooLateText ride gap a
+    → IsRideTooLateText ride gap b → a ≡ b
+ride_too_late_same ride gap a b is also =
+    is.shown ∙ ap (λ m. codes ", no transfer since the ride of " ++ (m ++ gap_words gap))
+    (moment_same ride is.moment also.moment is.is also.is) ∙ sym also.shown
+
+after_transfer_same : (last : ℕ) (a b : List ℕ) → IsAfterTransferText last a
+    → IsAfterTransferText last b → a ≡ b
+after_transfer_same last a b is also =
+    is.shown ∙ ap (λ m. codes ", no transfer since the tap of " ++ (m ++ codes " is one"))
+    (moment_same last is.moment also.moment is.is also.is) ∙ sym also.shown
+
+lack_same : (fares : Fares) (moment : ℕ) (none : NoTransfer) (a b : List ℕ)
+    → IsNoTransferText fares moment none a → IsNoTransferText fares moment none b → a ≡ b
+lack_same fares moment FirstTap a b is also = is ∙ sym also
+lack_same fares moment (TooLate last) a b is also = too_late_same last _ a b is also
+lack_same fares moment NoneGiven a b is also = is ∙ sym also
+lack_same fares moment (AfterTransfer last) a b is also = after_transfer_same last a b is also
+lack_same fares moment (RideTooLate ride) a b is also = ride_too_late_same ride _ a b is also
+lack_same fares moment (NotPermitted from to) a b is also = is ∙ sym also
+
+lack_end_same : (fares : Fares) (moment : ℕ) (why : Reason) (none : Option NoTransfer)
+    (a b : List ℕ) → IsNoTransferEnd fares moment why none a
+    → IsNoTransferEnd fares moment why none b → a ≡ b
+lack_end_same fares moment Unknown lack a b is also = is ∙ sym also
+lack_end_same fares moment (Stale latest) lack a b is also = is ∙ sym also
+lack_end_same fares moment (Transfer last mode) lack a b is also = is ∙ sym also
+lack_end_same fares moment (Ride start until charge) None a b is also = is ∙ sym also
+lack_end_same fares moment (Ride start until charge) (Some lack) a b is also =
+    lack_same fares moment lack a b is also
+
+explained_line_same : (fares : Fares) (entry : Entry) (why : Reason) (none : Option NoTransfer)
+    (a b : List ℕ)
+    → IsExplainedLine fares entry why none a → IsExplainedLine fares entry why none b → a ≡ b
+explained_line_same fares entry why none a b is also =
+    let words = entry_words fares entry in
+    is.shown
+    ∙ ap (λ m. m ++ (words ++ (is.reason_words ++ (is.lack ++ (is.local ++ codes "\n")))))
+    (moment_same entry.moment is.moment also.moment is.is also.is)
+    ∙ ap (λ r. also.moment ++ (words ++ (r ++ (is.lack ++ (is.local ++ codes "\n")))))
+    (words_same fares why is.reason_words also.reason_words is.told also.told)
+    ∙ ap (λ l. also.moment ++ (words ++ (also.reason_words ++ (l ++ (is.local ++ codes "\n")))))
+    (lack_end_same fares entry.moment why none is.lack also.lack is.lacks also.lacks)
+    ∙ ap (λ l. also.moment ++ (words ++ (also.reason_words ++ (also.lack ++ (l ++ codes "\n")))))
+    (local_same fares.zone (codes ", local ") entry.moment is.local also.local is.at also.at)
+    ∙ sym also.shown
+
+explained_after_same : (fares : Fares) (token : Token) (earlier entries : List Entry)
+    (a b : List ℕ) → AreExplainedAfter fares token earlier entries a
+    → AreExplainedAfter fares token earlier entries b → a ≡ b
+explained_after_same fares token earlier [] a b is also = is ∙ sym also
+explained_after_same fares token earlier (entry ∷ entries) a b is also =
+    let (line, rest, one, more, whole) = is in
+    let (line', rest', one', more', whole') = also in
+    whole ∙ both line line' rest rest'
+    (explained_line_same fares entry (reason_after fares token earlier entry)
+    (no_transfer_after fares token earlier entry) line line' one one')
+    (explained_after_same fares token (earlier ++ entry ∷ []) entries rest rest' more more')
+    ∙ sym whole'
+
+explained_window_same : (clocks : ClockView) (word : List ℕ) (window : WindowView)
+    (a b : List ℕ) → IsExplainedWindow clocks word window a
+    → IsExplainedWindow clocks word window b → a ≡ b
+explained_window_same clocks word window a b is also =
+    let shown = window_words window in
+    is.shown
+    ∙ ap (λ s. word ++ (s ++ (codes " " ++ (is.until ++ (shown ++ (is.from ++ (is.to
+    ++ codes "\n"))))))) (moment_same window.start is.start also.start is.starts also.starts)
+    ∙ ap (λ u. word ++ (also.start ++ (codes " " ++ (u ++ (shown ++ (is.from ++ (is.to
+    ++ codes "\n"))))))) (moment_same window.until is.until also.until is.ends also.ends)
+    ∙ ap (λ f. word ++ (also.start ++ (codes " " ++ (also.until ++ (shown ++ (f ++ (is.to
+    ++ codes "\n"))))))) (local_same clocks _ window.start is.from also.from is.from_is
+    also.from_is)
+    ∙ ap (λ t. word ++ (also.start ++ (codes " " ++ (also.until ++ (shown ++ (also.from ++ (t
+    ++ codes "\n"))))))) (local_same clocks _ window.until is.to also.to is.to_is also.to_is)
+    ∙ sym also.shown
+
+earlier_same : (clocks : ClockView) (windows : List WindowView) (a b : List ℕ)
+    → AreEarlierLines clocks windows a → AreEarlierLines clocks windows b → a ≡ b
+earlier_same clocks [] a b is also = is ∙ sym also
+earlier_same clocks (window ∷ windows) a b is also =
+    let (line, rest, one, more, whole) = is in
+    let (line', rest', one', more', whole') = also in
+    whole ∙ both line line' rest rest'
+    (explained_window_same clocks (codes "earlier window ") window line line' one one')
+    (earlier_same clocks windows rest rest' more more') ∙ sym whole'
+
+last_same : (clocks : ClockView) (window : Option WindowView) (a b : List ℕ)
+    → IsLastLine clocks window a → IsLastLine clocks window b → a ≡ b
+last_same clocks None a b is also = is ∙ sym also
+last_same clocks (Some window) a b is also =
+    explained_window_same clocks (codes "window ") window a b is also
+
+window_lines_same : (clocks : ClockView) (rules : TokenRules) (taps : List TapIn)
+    (a b : List ℕ) → AreWindowLines clocks rules taps a → AreWindowLines clocks rules taps b
+    → a ≡ b
+window_lines_same clocks rules taps a b is also =
+    is.whole ∙ both is.earlier also.earlier is.last also.last
+    (earlier_same clocks (earlier_windows rules taps) is.earlier also.earlier is.of_earlier
+    also.of_earlier)
+    (last_same clocks (last_window rules taps) is.last also.last is.of_last also.of_last)
+    ∙ sym also.whole
+
+pub one_explained : (fares : Fares) (token : Token) (entries : List Entry) (a b : List ℕ)
+    → IsExplained fares token entries a → IsExplained fares token entries b → a ≡ b
+one_explained fares token entries a b is also =
+    let head = statement_head token in
+    let terms = terms_line (terms_at fares (bytes_of token)) in
+    let totals = totals_line (sums entries) in
+    is.whole
+    ∙ ap (λ ls. head ++ (terms ++ (ls ++ (totals ++ is.windows))))
+    (explained_after_same fares token [] entries is.lines also.lines is.of_entries
+    also.of_entries)
+    ∙ ap (λ ws. head ++ (terms ++ (also.lines ++ (totals ++ ws))))
+    (window_lines_same fares.zone (rules_of fares (bytes_of token)) (map (tap_of fares) entries)
+    is.windows also.windows is.of_windows also.of_windows)
+    ∙ sym also.whole

@@ -1,0 +1,288 @@
+-- A token that has another's taps has its lines.
+use Rattle.std.proofs.Common.{◌≡◌, ℕ, true, cond, List, [], ◌∷◌, ◌++◌, map, filter, refl}
+use Rattle.std.proofs.Common.{sym, ap, subst, ◌∙◌, All, is_some}
+use Rattle.std.specs.Cmp.{tied_itself}
+use Rattle.std.specs.Cmp.Lexicographic.{slice_cmp}
+use Rattle.std.specs.List.Sorted.{IsPermutation, IsSorted}
+use Rattle.std.specs.Ordering.{is_lt, nat_cmp, ordering_then}
+use Rattle.std.specs.declared.cmp.Ordering.{Ordering}
+use Rattle.std.proofs.lemmas.Cmp.{nat_list_cmp_total}
+use Rattle.std.proofs.lemmas.List.Elements.{All-cons, All-filter, All-head, All-nil, All-tail}
+use Rattle.std.proofs.lemmas.List.Elements.{filter_passes}
+use Rattle.std.proofs.lemmas.List.Kept.{IsSortedBy-filter}
+use Rattle.std.proofs.lemmas.List.Sorted.{IsPermutation-sym, ranks_by}
+use Rattle.tap_views.specs.Encoding.{fields_of}
+use Rattle.tap_views.specs.Files.{HasOneReading}
+use Rattle.tap_views.specs.Layout.{Tap}
+use Rattle.tap_views.specs.declared.encoder.TapFields.{TapFields}
+use Rattle.tap_views.specs.Token.{bytes_of, token_eq}
+use Rattle.tap_views.specs.declared.token.Token.{Token}
+use Rattle.tap_views.proofs.ReadingLemmas.{one_list}
+use Rattle.fare_table.specs.Fares.{Fares, class_of, terms_on}
+use Rattle.fare_table.specs.declared.class.Class.{Class}
+use Rattle.account_rule.specs.Blocks.{last_block}
+use Rattle.account_rule.specs.Reasons.{given_by, latest, live_reason, reason, ride_of}
+use Rattle.account_rule.specs.Replies.{live_reply, reply}
+use Rattle.account_rule.specs.Taps.{LiveTap, is_later}
+use Rattle.account_rule.specs.TokenRules.{TokenRules, permits_of, rules_of, transfers_of}
+use Rattle.account_rule.specs.Trips.{ends_in_transfer, last_trip, rides, trips}
+use Rattle.account_rule.specs.Windows.{windows}
+use Rattle.account_rule.specs.declared.reason.Reason.{Reason}
+use Rattle.account_rule.specs.declared.reason.Reason.TheVariants.{Stale, Unknown}
+use Rattle.account_rule.specs.declared.tap.TapIn.{TapIn}
+use Rattle.account_rule.specs.declared.reply.Reply.{Reply}
+use Rattle.shard_book.specs.Entry.{is_of, own, tap_of, taps_of}
+use Rattle.shard_book.specs.Keys.{same_token}
+use Rattle.shard_book.specs.Plain.{answered, token_of_bytes}
+use Rattle.shard_book.specs.declared.entry.Entry.{Entry}
+use Rattle.shard_book.proofs.Histories.{taps-push}
+use Rattle.tap_parts.specs.Canonical.{tap_cmp}
+use Rattle.tap_parts.proofs.Total.{tap_cmp_exact, tap_cmp_total}
+use Rattle.settlement.specs.Settled.{IsSettledHistory}
+use Rattle.settlement.proofs.Histories.{entry_of}
+use Rattle.settlement.proofs.Own.{IsNamedBy}
+use Rattle.settlement.proofs.Placed.{NotLess, Pairs, sorted_pairs}
+use Rattle.settlement.proofs.Sorting.{sorted_by_pairs}
+use Rattle.settlement.proofs.Unique.{AreAlike, same_sorted}
+use Rattle.laws.specs.Bills.{ChargedAlike, HaveSameTerms, entry_for}
+use Rattle.laws.specs.TapSets.{HaveTapsAlike, fields_of_uploads, is_tap_of, own_taps}
+use Rattle.laws.specs.TapSets.{with_token}
+use Rattle.laws.proofs.Alike.{alike-filter, alike-map, permuted_alike}
+use Rattle.laws.proofs.OwnTaps.{own_after}
+use Rattle.laws.proofs.Posts.{after, plain_is_after}
+
+-- ---- taps of one token stay in order under another token
+-- the taps' token has these bytes
+abbrev HasBytes : List ℕ → TapFields → Type 0
+HasBytes bytes f = f.token ≡ bytes
+
+same_order : (bytes : List ℕ) (own : List ℕ) (f g : TapFields) → HasBytes own f → HasBytes own g
+    → NotLess f g → NotLess (with_token bytes f) (with_token bytes g)
+same_order bytes own f g is is_too not_less =
+    let rest = ordering_then (nat_cmp g.moment f.moment) (nat_cmp g.validator f.validator) in
+    let renamed : tap_cmp (with_token bytes g) (with_token bytes f) ≡ rest =
+    ap (λ (r : Ordering). ordering_then r rest) (tied_itself nat_list_cmp_total bytes) in
+    let before : tap_cmp g f ≡ rest =
+    ap (λ t. ordering_then (slice_cmp nat_cmp t f.token) rest) is_too
+    ∙ ap (λ t. ordering_then (slice_cmp nat_cmp own t) rest) is
+    ∙ ap (λ (r : Ordering). ordering_then r rest) (tied_itself nat_list_cmp_total own) in
+    ap is_lt (renamed ∙ sym before) ∙ not_less
+
+pairs_renamed : (bytes own : List ℕ) (fs : List TapFields) → All (HasBytes own) fs
+    → Pairs NotLess fs → Pairs NotLess (map (with_token bytes) fs)
+pairs_renamed bytes own [] all pairs = tt
+pairs_renamed bytes own (f ∷ fs) all pairs = (
+  behind fs (All-tail (HasBytes own) f fs all) pairs.0,
+  pairs_renamed bytes own fs (All-tail (HasBytes own) f fs all) pairs.1,
+)
+  where
+    behind : (gs : List TapFields) → All (HasBytes own) gs → All (NotLess f) gs
+        → All (NotLess (with_token bytes f)) (map (with_token bytes) gs)
+    behind [] rest up = All-nil (NotLess (with_token bytes f))
+    behind (g ∷ gs) rest up =
+        All-cons (NotLess (with_token bytes f)) (with_token bytes g) (map (with_token bytes) gs)
+        (same_order bytes own f g (All-head (HasBytes own) f fs all)
+        (All-head (HasBytes own) g gs rest) (All-head (NotLess f) g gs up))
+        (behind gs (All-tail (HasBytes own) g gs rest) (All-tail (NotLess f) g gs up))
+
+-- the taps of a token have its bytes
+have_bytes : (token : Token) (fs : List TapFields) → All IsNamedBy fs
+    → All (λ f. is_tap_of token f ≡ true) fs → All (HasBytes (bytes_of token)) fs
+have_bytes token [] names are = All-nil (HasBytes (bytes_of token))
+have_bytes token (f ∷ fs) names are =
+    All-cons (HasBytes (bytes_of token)) f fs
+    (sym (All-head IsNamedBy f fs names)
+    ∙ ap bytes_of (same_token (token_of_bytes f.token) token
+    (All-head (λ g. is_tap_of token g ≡ true) f fs are)))
+    (have_bytes token fs (All-tail IsNamedBy f fs names)
+    (All-tail (λ g. is_tap_of token g ≡ true) f fs are))
+
+-- ---- the same terms, the same rules
+-- the second rules answer and explain each tap, and divide each list into windows, as the first do
+record AnswerAlike (one other : TokenRules) : Type 0 where
+  replies : (earlier : List TapIn) (tap : TapIn) → reply other earlier tap ≡ reply one earlier tap
+  reasons : (earlier : List TapIn) (tap : TapIn) → reason other earlier tap ≡ reason one earlier tap
+  windows : (taps : List TapIn) → windows other taps ≡ windows one taps
+
+-- the place of a class matters to what is kept alone
+of_class : TokenRules → ℕ → TokenRules
+of_class rules place = record rules { class = place }
+
+same_ride_of : (rules : TokenRules) (place : ℕ) (window : List LiveTap)
+    → ride_of (of_class rules place) window ≡ ride_of rules window
+unfolding ride_of of_class
+same_ride_of rules place [] = refl
+same_ride_of rules place (first ∷ window) = refl
+
+answer_alike : (rules : TokenRules) (place : ℕ) → AnswerAlike rules (of_class rules place)
+unfolding reply live_reply reason live_reason ends_in_transfer last_trip trips windows rides of_class
+answer_alike rules place = record {
+  replies = λ earlier tap. refl;
+  reasons = λ earlier tap.
+      ap (λ (r : Reason). cond (is_some tap.mode)
+      (cond (is_later earlier tap.moment) (cond (ends_in_transfer rules (earlier ++ tap ∷ []))
+      (given_by (last_trip rules earlier)) r) (Stale (latest earlier))) Unknown)
+      (same_ride_of rules place (last_block (windows rules (earlier ++ tap ∷ []))));
+  windows = λ taps. refl;
+}
+
+-- the rules of a class, at a place
+rules_by : Fares → ℕ → Class → TokenRules
+rules_by fares place class = record (rules_of fares []) {
+  class = place;
+  terms = λ ride. terms_on class ride.mode.place;
+  transfers = record {
+    count = λ tap. class.transfers.taps;
+    time = λ tap. class.transfers.time;
+    permits = permits_of fares;
+  };
+}
+
+same_rules : (fares : Fares) (token other : Token) → HaveSameTerms fares token other
+    → AnswerAlike (rules_of fares (bytes_of token)) (rules_of fares (bytes_of other))
+unfolding rules_of transfers_of rules_by of_class
+same_rules fares token other same =
+    let place = class_of fares (bytes_of other) in
+    let is : rules_of fares (bytes_of other) ≡ of_class (rules_of fares (bytes_of token)) place =
+    ap (rules_by fares place) (sym same) in
+    subst (λ (rules : TokenRules). AnswerAlike (rules_of fares (bytes_of token)) rules) (sym is)
+    (answer_alike (rules_of fares (bytes_of token)) place)
+
+module _ (fares : Fares) (token other : Token) (bytes : List ℕ)
+    (rules : AnswerAlike (rules_of fares (bytes_of token)) (rules_of fares (bytes_of other))) where
+  -- the entry of a tap, by its token and its reply
+  entry_by : TapFields → Token → Reply → Entry
+  entry_by f t replied = record {
+    token = t;
+    validator = f.validator;
+    moment = f.moment;
+    answer = replied.answer;
+    cents = replied.cents;
+  }
+
+  renamed_entry : (one two : List Entry) (f : TapFields) → token_of_bytes f.token ≡ token
+      → token_of_bytes bytes ≡ other → taps_of fares token one ≡ taps_of fares other two
+      → answered fares two (entry_of (with_token bytes f))
+      ≡ entry_for other (answered fares one (entry_of f))
+  unfolding answered entry_of tap_of entry_by
+  renamed_entry one two f mine yours same =
+      let tap = tap_of fares (entry_of f) in
+      ap (λ t. entry_by f t (reply (rules_of fares (bytes_of t)) (taps_of fares t two) tap)) yours
+      ∙ ap (entry_by f other) (rules.replies (taps_of fares other two) tap
+      ∙ ap (λ ts. reply (rules_of fares (bytes_of token)) ts tap) (sym same)
+      ∙ ap (λ t. reply (rules_of fares (bytes_of t)) (taps_of fares t one) tap) (sym mine))
+
+  push_renamed : (one two : List Entry) (entry : Entry) → is_of token entry ≡ true
+      → is_of other (entry_for other entry) ≡ true
+      → taps_of fares token one ≡ taps_of fares other two
+      → taps_of fares token (one ++ entry ∷ []) ≡ taps_of fares other (two ++ entry_for other entry ∷ [])
+  unfolding tap_of
+  push_renamed one two entry is is_too same =
+      let tap = tap_of fares entry in
+      taps-push fares token one entry
+      ∙ ap (λ b. cond b (taps_of fares token one ++ tap ∷ []) (taps_of fares token one)) is
+      ∙ ap (λ ts. ts ++ tap ∷ []) same
+      ∙ sym (ap (λ b. cond b (taps_of fares other two ++ tap ∷ []) (taps_of fares other two)) is_too)
+      ∙ sym (taps-push fares other two (entry_for other entry))
+
+  renamed_after : (fs : List TapFields) (one two : List Entry)
+      → All (λ f. is_tap_of token f ≡ true) fs
+      → All (λ f. is_tap_of other f ≡ true) (map (with_token bytes) fs)
+      → taps_of fares token one ≡ taps_of fares other two
+      → after fares two (map (with_token bytes) fs) ≡ map (entry_for other) (after fares one fs)
+  unfolding after answered entry_of
+  renamed_after [] one two are are_too same = refl
+  renamed_after (f ∷ fs) one two are are_too same =
+      let P : TapFields → Type 0 = λ g. is_tap_of token g ≡ true in
+      let Q : TapFields → Type 0 = λ g. is_tap_of other g ≡ true in
+      let is = All-head P f fs are in
+      let is_too : token_eq (token_of_bytes bytes) other ≡ true =
+      All-head Q (with_token bytes f) (map (with_token bytes) fs) are_too in
+      let yours : token_of_bytes bytes ≡ other = same_token (token_of_bytes bytes) other is_too in
+      let entry = answered fares one (entry_of f) in
+      let first = renamed_entry one two f (same_token (token_of_bytes f.token) token is) yours same
+      in
+      let itself : token_eq other other ≡ true =
+      subst (λ t. token_eq t other ≡ true) yours is_too in
+      let rest = renamed_after fs (one ++ entry ∷ []) (two ++ entry_for other entry ∷ [])
+      (All-tail P f fs are) (All-tail Q (with_token bytes f) (map (with_token bytes) fs) are_too)
+      (push_renamed one two entry is itself same) in
+      ap (λ (e : Entry). e ∷ after fares (two ++ e ∷ []) (map (with_token bytes) fs)) first
+      ∙ ap (λ es. entry_for other entry ∷ es) rest
+
+taps_for : (fares : Fares) (token : Token) (entries : List Entry)
+    → map (tap_of fares) (map (entry_for token) entries) ≡ map (tap_of fares) entries
+unfolding tap_of
+taps_for fares token [] = refl
+taps_for fares token (entry ∷ entries) =
+    ap (λ ts. tap_of fares entry ∷ ts) (taps_for fares token entries)
+
+charged : (fares : Fares) (token other : Token) (history again : List Entry)
+    → AnswerAlike (rules_of fares (bytes_of token)) (rules_of fares (bytes_of other))
+    → own other again ≡ map (entry_for other) (own token history)
+    → ChargedAlike fares token other history again
+unfolding taps_of
+charged fares token other history again rules lines =
+    let taps : taps_of fares other again ≡ taps_of fares token history =
+    ap (map (tap_of fares)) lines ∙ taps_for fares other (own token history) in
+    record {
+      lines = lines;
+      taps = taps;
+      reasons = rules.reasons;
+      windows = rules.windows (taps_of fares other again)
+          ∙ ap (windows (rules_of fares (bytes_of token))) taps;
+    }
+
+-- ---- the law
+pub renamed : (fares : Fares) (token other : Token) (uploads others : List (List ℕ))
+    (history again : List Entry) → All HasOneReading uploads → All HasOneReading others
+    → HaveSameTerms fares token other → HaveTapsAlike token other uploads others
+    → (one : IsSettledHistory fares uploads history) (two : IsSettledHistory fares others again)
+    → All IsNamedBy (map fields_of one.order) → All IsNamedBy (map fields_of two.order)
+    → ChargedAlike fares token other history again
+unfolding taps_of own
+renamed fares token other uploads others history again cuts other_cuts terms same one two names more =
+    let here = one_list uploads same.taps one.taps cuts same.of_uploads one.of_uploads in
+    let there = one_list others same.other_taps two.taps other_cuts same.of_others two.of_uploads in
+    let bytes = bytes_of other in
+    let rules = same_rules fares token other terms in
+    let p = is_tap_of token in
+    let q = is_tap_of other in
+    let r = with_token bytes in
+    let mine = fields_of_uploads one.taps in
+    let yours = fields_of_uploads two.taps in
+    let xs = map fields_of one.order in
+    let ys = map fields_of two.order in
+    let A : List (List Tap) → Type 0 = λ ts.
+    IsPermutation (map r (own_taps token ts)) (own_taps other same.other_taps) in
+    let B : List (List Tap) → Type 0 = λ ts.
+    IsPermutation (map r (filter p mine)) (own_taps other ts) in
+    let between : IsPermutation (map r (filter p mine)) (filter q yours) =
+    subst B there (subst A here same.alike) in
+    let alike : AreAlike (map r (filter p xs)) (filter q ys) = λ f.
+    alike-map r (filter p xs) (filter p mine)
+    (alike-filter p xs mine
+    (permuted_alike xs mine (IsPermutation-sym mine xs one.canonical.moved))) f
+    ∙ permuted_alike (map r (filter p mine)) (filter q yours) between f
+    ∙ alike-filter q yours ys (permuted_alike yours ys two.canonical.moved) f in
+    let rank = ranks_by tap_cmp_total (λ (t : TapFields). t) in
+    let up : IsSorted tap_cmp (filter p xs) =
+    IsSortedBy-filter (λ a b. is_lt (tap_cmp a b)) rank p xs one.canonical.sorted in
+    let have = have_bytes token (filter p xs) (All-filter p IsNamedBy xs names) (filter_passes p xs)
+    in
+    let list : map r (filter p xs) ≡ filter q ys =
+    same_sorted tap_cmp tap_cmp_total tap_cmp_exact (map r (filter p xs)) (filter q ys)
+    (sorted_by_pairs (map r (filter p xs))
+    (pairs_renamed bytes (bytes_of token) (filter p xs) have (sorted_pairs (filter p xs) up)))
+    (IsSortedBy-filter (λ a b. is_lt (tap_cmp a b)) rank q ys two.canonical.sorted) alike in
+    let first : history ≡ after fares [] xs = one.entries ∙ plain_is_after fares [] one.order in
+    let second : again ≡ after fares [] ys = two.entries ∙ plain_is_after fares [] two.order in
+    let Passes : List TapFields → Type 0 = λ fs. All (λ f. is_tap_of other f ≡ true) fs in
+    charged fares token other history again rules
+    (ap (own other) second
+    ∙ own_after fares other [] [] ys refl
+    ∙ ap (after fares []) (sym list)
+    ∙ renamed_after fares token other bytes rules (filter p xs) [] [] (filter_passes p xs)
+    (subst Passes (sym list) (filter_passes q ys)) refl
+    ∙ ap (map (entry_for other)) (sym (own_after fares token [] [] xs refl))
+    ∙ ap (λ es. map (entry_for other) (own token es)) (sym first))

@@ -1,0 +1,12 @@
+use Rattle.laws.proofs.MergedTexts.{writable}
+use Rattle.laws.proofs.Wholes.{is_merged}
+use Rattle.laws.proofs.can_be_merged.Goals as goal
+
+pub returns : goal.returns
+returns c = λ fares uploads history parts split lists plain sizes cuts bounds few none report_files
+    told_parts.
+    let can = writable fares uploads history parts split bounds few in
+    let merged = is_merged fares uploads history parts split c.one_rising_list.ensures.numbers
+    c.one_rising_list.ensures.tokens c.sums_add_up.ensures lists plain sizes cuts can none report_files told_parts
+    in
+    (_, merged)

@@ -1,0 +1,7 @@
+pub mod Agree
+pub mod Bills
+pub mod Files
+pub mod Sizes
+pub mod Split
+pub mod TapSets
+pub mod Written

@@ -1,0 +1,54 @@
+//! The ledger that is written and the ledger that is read: what a run prints is legal.
+
+ghost use Rattle.std.specs.Prelude.{◌^◌, ◌≤◌, ℕ, List, Option, length, IsTrue};
+ghost use Rattle.std.specs.List.{AllByRecursion};
+ghost use Rattle.fare_table.specs.Fares.{Fares};
+ghost use Rattle.shard_book.specs.declared.entry.Entry.{Entry};
+ghost use Rattle.tap_views.specs.declared.token.Token.{Token};
+ghost use Rattle.shard_book.specs.Book.{Book};
+ghost use Rattle.shard_book.specs.Entry.{own};
+ghost use Rattle.shard_book.specs.SumsByKey.{all_entries};
+ghost use Rattle.shard_book.specs.History.{IsLegal};
+ghost use Rattle.ledger_check.specs.Ledger.{IsLedgerOf, IsPostable};
+ghost use Rattle.ledger_check.specs.Verdicts.{IsVerdict, is_legal};
+ghost use Rattle.ledger_check.specs.declared.checker.Verdict.{Verdict};
+ghost use Rattle.fare_texts.specs.Ledger.{IsLedgerOfBooks as IsWrittenOf, IsLedgerOver};
+ghost use Rattle.laws.specs.Written.{AreBooksOf, AreLetters, AreShort, CanBeTold};
+ghost use Rattle.laws.specs.Written.{told_entries};
+
+use ledger_check::laws::verdicts_decide;
+
+/// The written ledger of a history, or of one of its tokens, is a ledger as the check of ledgers
+/// reads it, of the same entries token by token, if no line is too long for one.
+pub fn written_is_a_ledger()
+    ensures { (fares : Fares) (only : Option Token) (history : List Entry) (text : List ℕ)
+        → CanBeTold fares only history → AreShort text → IsLedgerOver fares history only text
+        → IsLedgerOf fares (told_entries only history) text }
+{}
+
+/// In a legal history each token's own entries are one.
+pub fn own_entries_are_legal()
+    ensures { (fares : Fares) (history : List Entry) (token : Token) → IsLegal fares history
+        → IsLegal fares (own token history) }
+{}
+
+/// The ledger that a run prints of its books, or of one token, is a ledger as the check of ledgers
+/// reads it under the books' table, if no line is too long for one.
+pub fn printed_ledger_is_legal()
+    ensures ledger { (fares : Fares) (shards : ℕ) (books : List Book) (only : Option Token)
+        (text : List ℕ) → AreBooksOf fares shards books
+        → AllByRecursion IsPostable (all_entries books) → AreLetters fares.meaning.modes
+        → length (told_entries only (all_entries books)) ≤ 2 ^ 62 → AreShort text
+        → IsWrittenOf books only text
+        → IsLedgerOf fares (told_entries only (all_entries books)) text }
+
+    // So a check of it ends with the verdict that it is legal.
+    ensures legal { (fares : Fares) (shards : ℕ) (books : List Book) (only : Option Token)
+        (text : List ℕ) (verdict : Verdict) → AreBooksOf fares shards books
+        → AllByRecursion IsPostable (all_entries books) → AreLetters fares.meaning.modes
+        → length (told_entries only (all_entries books)) ≤ 2 ^ 62 → AreShort text
+        → IsWrittenOf books only text → IsVerdict fares text verdict
+        → IsTrue (is_legal verdict) }
+{
+    verdicts_decide();
+}

@@ -1,0 +1,172 @@
+-- What a balance is after one tap more, and what it tells.
+use Rattle.std.proofs.Common.{◌≡◌, ℕ, ◌+◌, ◌<◌, Bool, true, false, List, [], ◌∷◌, ◌++◌, cond}
+use Rattle.std.proofs.Common.{Option, Some, None, is_some, refl, sym, ap, subst, ◌∙◌, arith}
+use Rattle.std.proofs.Common.{append_assoc}
+use Rattle.std.proofs.lemmas.List.Sums.{sum_by-append, sum_by-cons}
+use Rattle.std.specs.Prelude.{IfSome, MatchOption}
+use Rattle.std.specs.BTreeMap.{BTreeMap}
+use Rattle.std.specs.Option.{unwrap_or}
+use Rattle.std.specs.List.Sorted.{IsPermutation}
+use Rattle.std.specs.Ordering.{is_eq, is_lt}
+use Rattle.tap_views.specs.declared.encoder.TapFields.{TapFields}
+use Rattle.tap_views.specs.TapOrder.{tap_cmp}
+use Rattle.ledger_check.specs.Balances.{left_at, copies_among}
+use Rattle.ledger_check.specs.Balances.{IsFirstMissing, IsFirstSurplus}
+use Rattle.ledger_check.proofs.SameTaps.{same_exact}
+use Rattle.ledger_check.proofs.Times.{one, one_self, permutation_of_times, times_push}
+
+-- IsBalance, of a balance's two fields
+abbrev pub Balances : BTreeMap TapFields ℕ → Option TapFields → List TapFields → List TapFields → Type 0
+Balances left surplus good struck =
+    MatchOption surplus ((tap : TapFields)
+    → copies_among tap good ≡ left_at left tap + copies_among tap struck)
+    (IsFirstSurplus good struck)
+
+-- in the one map one more is left of the tap than in the other
+abbrev pub HasOneMore : BTreeMap TapFields ℕ → BTreeMap TapFields ℕ → TapFields → Type 0
+HasOneMore more less key =
+    (other : TapFields) → left_at more other ≡ left_at less other + cond (is_eq (tap_cmp key other)) 1 0
+
+nowhere : (before after : List TapFields) (tap : TapFields) → [] ≡ before ++ tap ∷ after → ⊥
+nowhere [] after tap is = absurd cc
+nowhere (other ∷ before) after tap is = absurd cc
+
+pub added : (old new : BTreeMap TapFields ℕ) (surplus : Option TapFields) (good : List TapFields)
+    (tap : TapFields) → HasOneMore new old tap
+    → Balances old surplus good [] → Balances new surplus (good ++ tap ∷ []) []
+added old new None good tap more is = λ t.
+    let push = times_push t good tap in
+    let here = more t in
+    let before = is t in
+    omega (arith, push, here, before)
+added old new (Some s) good tap more is = absurd (nowhere is.before is.after s is.stands)
+
+pub struck_out : (old new : BTreeMap TapFields ℕ) (good struck : List TapFields) (tap : TapFields)
+    → HasOneMore old new tap
+    → Balances old None good struck → Balances new None good (struck ++ tap ∷ [])
+struck_out old new good struck tap more is = λ t.
+    let push = times_push t struck tap in
+    let here = more t in
+    let before = is t in
+    omega (arith, push, here, before)
+
+pub none_left : (left : BTreeMap TapFields ℕ) (good struck : List TapFields) (tap : TapFields)
+    → left_at left tap ≡ 0
+    → Balances left None good struck → IsFirstSurplus good (struck ++ tap ∷ []) tap
+none_left left good struck tap none is =
+    let push = times_push tap struck tap in
+    let self = one_self tap in
+    let here = is tap in
+    record {
+      before = struck;
+      after = [];
+      stands = refl;
+      none_before = λ other. let e = is other in omega (arith, e);
+      more = omega (arith, push, self, here, none);
+    }
+
+pub still_more : (left new : BTreeMap TapFields ℕ) (good struck : List TapFields) (tap s : TapFields)
+    → Balances left (Some s) good struck → Balances new (Some s) good (struck ++ tap ∷ [])
+still_more left new good struck tap s is = record {
+  before = is.before;
+  after = is.after ++ tap ∷ [];
+  stands = ap (λ (ts : List TapFields). ts ++ tap ∷ []) is.stands
+      ∙ append_assoc is.before (s ∷ is.after) (tap ∷ []);
+  none_before = is.none_before;
+  more = is.more;
+}
+
+-- the first surplus tap is more often among all of the others
+pub surplus_is_more : (good others : List TapFields) (tap : TapFields)
+    → IsFirstSurplus good others tap → copies_among tap good < copies_among tap others
+surplus_is_more good others tap is =
+    let whole = ap (copies_among tap) is.stands in
+    let cut = sum_by-append (one tap) is.before (tap ∷ is.after) in
+    let next = sum_by-cons (one tap) tap is.after in
+    let push = times_push tap is.before tap in
+    let more = is.more in
+    omega (arith, whole, cut, next, push, more)
+
+pub all_struck : (left : BTreeMap TapFields ℕ) (good struck : List TapFields)
+    → ((key : TapFields) → left_at left key ≡ 0)
+    → Balances left None good struck → IsPermutation good struck
+all_struck left good struck none is =
+    permutation_of_times good struck (λ t.
+    let here = none t in let before = is t in omega (arith, here, before))
+
+-- the first tap of which some are left is the first missing one
+pub some_left : (left : BTreeMap TapFields ℕ) (good struck : List TapFields) (tap : TapFields)
+    → 0 < left_at left tap
+    → ((other : TapFields) → 0 < left_at left other → is_lt (tap_cmp other tap) ≡ false)
+    → Balances left None good struck → IsFirstMissing good struck tap
+some_left left good struck tap some first is =
+    let told = is tap in
+    record {
+      fewer = omega (arith, some, told);
+      first = λ other less. let e = is other in first other (omega (arith, less, e));
+      no_surplus = λ other. let e = is other in omega (arith, e);
+    }
+
+pub unfound : (left : BTreeMap TapFields ℕ) (surplus : Option TapFields) (good struck : List TapFields)
+    → is_some surplus ≡ false
+    → Balances left surplus good struck → Balances left None good struck
+unfound left None good struck none is = is
+unfound left (Some s) good struck none is = absurd cc
+
+-- a number was put at the key, or raised by one
+pub one_more : (new old : TapFields → Option ℕ) (key : TapFields) (count more : ℕ)
+    → ((q : TapFields) → new q ≡ cond (is_eq (tap_cmp key q)) (Some more) (old q))
+    → unwrap_or (old key) 0 ≡ count → more ≡ count + 1
+    → (other : TapFields) → unwrap_or (new other) 0
+    ≡ unwrap_or (old other) 0 + cond (is_eq (tap_cmp key other)) 1 0
+one_more new old key count more up was is other = by_test (is_eq (tap_cmp key other)) refl
+  where
+    by_test : (b : Bool) → is_eq (tap_cmp key other) ≡ b
+        → unwrap_or (new other) 0 ≡ unwrap_or (old other) 0 + cond (is_eq (tap_cmp key other)) 1 0
+    by_test true e =
+        let now : unwrap_or (new other) 0 ≡ more =
+        ap (λ (o : Option ℕ). unwrap_or o 0) (up other
+        ∙ ap (λ (b : Bool). cond b (Some more) (old other)) e) in
+        let before : unwrap_or (old other) 0 ≡ count =
+        ap (λ (k : TapFields). unwrap_or (old k) 0) (sym (same_exact key other e)) ∙ was in
+        let step : ◌≡◌ {A = ℕ} (cond (is_eq (tap_cmp key other)) 1 0) 1 =
+        ap (λ (b : Bool). cond b 1 0) e in
+        omega (arith, now, before, step, is)
+    by_test false e =
+        let now : unwrap_or (new other) 0 ≡ unwrap_or (old other) 0 =
+        ap (λ (o : Option ℕ). unwrap_or o 0) (up other
+        ∙ ap (λ (b : Bool). cond b (Some more) (old other)) e) in
+        let step : ◌≡◌ {A = ℕ} (cond (is_eq (tap_cmp key other)) 1 0) 0 =
+        ap (λ (b : Bool). cond b 1 0) e in
+        omega (arith, now, step)
+
+-- the number at the key was lowered by one
+pub one_fewer : (new old : TapFields → Option ℕ) (key : TapFields) (count less : ℕ)
+    → ((q : TapFields) → new q ≡ cond (is_eq (tap_cmp key q)) (Some less) (old q))
+    → unwrap_or (old key) 0 ≡ count → count ≡ less + 1
+    → (other : TapFields) → unwrap_or (old other) 0
+    ≡ unwrap_or (new other) 0 + cond (is_eq (tap_cmp key other)) 1 0
+one_fewer new old key count less up was is other = by_test (is_eq (tap_cmp key other)) refl
+  where
+    by_test : (b : Bool) → is_eq (tap_cmp key other) ≡ b
+        → unwrap_or (old other) 0 ≡ unwrap_or (new other) 0 + cond (is_eq (tap_cmp key other)) 1 0
+    by_test true e =
+        let now : unwrap_or (new other) 0 ≡ less =
+        ap (λ (o : Option ℕ). unwrap_or o 0) (up other
+        ∙ ap (λ (b : Bool). cond b (Some less) (old other)) e) in
+        let before : unwrap_or (old other) 0 ≡ count =
+        ap (λ (k : TapFields). unwrap_or (old k) 0) (sym (same_exact key other e)) ∙ was in
+        let step : ◌≡◌ {A = ℕ} (cond (is_eq (tap_cmp key other)) 1 0) 1 =
+        ap (λ (b : Bool). cond b 1 0) e in
+        omega (arith, now, before, step, is)
+    by_test false e =
+        let now : unwrap_or (new other) 0 ≡ unwrap_or (old other) 0 =
+        ap (λ (o : Option ℕ). unwrap_or o 0) (up other
+        ∙ ap (λ (b : Bool). cond b (Some less) (old other)) e) in
+        let step : ◌≡◌ {A = ℕ} (cond (is_eq (tap_cmp key other)) 1 0) 0 =
+        ap (λ (b : Bool). cond b 1 0) e in
+        omega (arith, now, step)
+
+pub zero_or_none : (found : Option ℕ) → IfSome found (λ n. n ≡ 0) → unwrap_or found 0 ≡ 0
+zero_or_none None is = refl
+zero_or_none (Some n) is = is

@@ -1,0 +1,116 @@
+-- What a full balance is after one tap more, and what it lacks.
+use Rattle.std.proofs.Common.{◌≡◌, ℕ, ◌⊎◌, inl, inr, ⊎_elim, Bool, true, false, cond}
+use Rattle.std.proofs.Common.{List, [], ◌∷◌, ◌++◌, Option, Some, None, refl, sym, ap, ◌∙◌, arith}
+use Rattle.std.specs.BTreeMap.{BTreeMap}
+use Rattle.std.specs.List.Sorted.{IsSorted}
+use Rattle.std.specs.Ordering.{is_eq}
+use Rattle.tap_views.specs.declared.encoder.TapFields.{TapFields}
+use Rattle.tap_views.specs.TapOrder.{tap_cmp}
+use Rattle.ledger_check.specs.Balances.{copies_among, left_at}
+use Rattle.ledger_check.specs.FullBalances.{AreLacking, IsFullBalance}
+use Rattle.ledger_check.specs.declared.full_balance.FullBalance.{FullBalance}
+use Rattle.ledger_check.proofs.Balanced.{Balances, HasOneMore}
+use Rattle.ledger_check.proofs.SameTaps.{same_exact}
+use Rattle.ledger_check.proofs.Times.{times_push}
+
+nowhere : (before after : List TapFields) (tap : TapFields) → [] ≡ before ++ tap ∷ after → ⊥
+nowhere [] after tap is = absurd cc
+nowhere (other ∷ before) after tap is = absurd cc
+
+-- nothing was struck out yet
+pub begun : (left : BTreeMap TapFields ℕ) (surplus : Option TapFields) (full : FullBalance)
+    (good : List TapFields) → full.missing ≡ left → ((key : TapFields) → left_at full.surplus key ≡ 0)
+    → Balances left surplus good [] → IsFullBalance full good []
+begun left None full good same none is = record {
+  sums = λ tap.
+      let here = is tap in
+      let zero = none tap in
+      let kept : left_at full.missing tap ≡ left_at left tap =
+      ap (λ (m : BTreeMap TapFields ℕ). left_at m tap) same in
+      omega (arith, here, zero, kept);
+  one_side = λ tap. inr (none tap);
+}
+begun left (Some s) full good same none is =
+    absurd (nowhere is.before is.after s is.stands)
+
+-- one that was left was struck out
+pub struck_missing : (old new : FullBalance) (good struck : List TapFields) (tap : TapFields)
+    → new.surplus ≡ old.surplus → HasOneMore old.missing new.missing tap
+    → IsFullBalance old good struck → IsFullBalance new good (struck ++ tap ∷ [])
+struck_missing old new good struck tap kept more is = record {
+  sums = λ t.
+      let push = times_push t struck tap in
+      let here = more t in
+      let before = is.sums t in
+      let same : left_at new.surplus t ≡ left_at old.surplus t =
+      ap (λ (m : BTreeMap TapFields ℕ). left_at m t) kept in
+      omega (arith, push, here, before, same);
+  one_side = λ t.
+      let here = more t in
+      let same : left_at new.surplus t ≡ left_at old.surplus t =
+      ap (λ (m : BTreeMap TapFields ℕ). left_at m t) kept in
+      ⊎_elim (λ (none : left_at old.missing t ≡ 0). inl (omega (arith, none, here)))
+      (λ (none : left_at old.surplus t ≡ 0). inr (same ∙ none)) (is.one_side t);
+}
+
+-- one that was not left was struck out
+pub struck_surplus : (old new : FullBalance) (good struck : List TapFields) (tap : TapFields)
+    → new.missing ≡ old.missing → left_at old.missing tap ≡ 0
+    → HasOneMore new.surplus old.surplus tap
+    → IsFullBalance old good struck → IsFullBalance new good (struck ++ tap ∷ [])
+struck_surplus old new good struck tap kept none more is = record {
+  sums = λ t.
+      let push = times_push t struck tap in
+      let here = more t in
+      let before = is.sums t in
+      let same : left_at new.missing t ≡ left_at old.missing t =
+      ap (λ (m : BTreeMap TapFields ℕ). left_at m t) kept in
+      omega (arith, push, here, before, same);
+  one_side = λ t. by_test t (is_eq (tap_cmp tap t)) refl;
+}
+  where
+    by_test : (t : TapFields) (b : Bool) → is_eq (tap_cmp tap t) ≡ b
+        → (left_at new.missing t ≡ 0) ⊎ (left_at new.surplus t ≡ 0)
+    by_test t true e =
+        let same : tap ≡ t = same_exact tap t e in
+        inl (ap (λ (m : BTreeMap TapFields ℕ). left_at m t) kept
+        ∙ ap (left_at old.missing) (sym same) ∙ none)
+    by_test t false e =
+        let here = more t in
+        let step : ◌≡◌ {A = ℕ} (cond (is_eq (tap_cmp tap t)) 1 0) 0 =
+        ap (λ (b : Bool). cond b 1 0) e in
+        let same : left_at new.missing t ≡ left_at old.missing t =
+        ap (λ (m : BTreeMap TapFields ℕ). left_at m t) kept in
+        ⊎_elim (λ (z : left_at old.missing t ≡ 0). inl (same ∙ z))
+        (λ (z : left_at old.surplus t ≡ 0). inr (omega (arith, z, here, step)))
+        (is.one_side t)
+
+-- what is left is what the others lack
+pub lacking_missing : (full : FullBalance) (good struck taps : List TapFields)
+    → ((tap : TapFields) → copies_among tap taps ≡ left_at full.missing tap)
+    → IsSorted tap_cmp taps
+    → IsFullBalance full good struck → AreLacking good struck taps
+lacking_missing full good struck taps copies sorted is = record {
+  copies = λ tap.
+      let here = copies tap in
+      let sums = is.sums tap in
+      ⊎_elim (λ (z : left_at full.missing tap ≡ 0). omega (arith, here, sums, z))
+      (λ (z : left_at full.surplus tap ≡ 0). omega (arith, here, sums, z))
+      (is.one_side tap);
+  sorted = sorted;
+}
+
+-- what was struck out beyond is what the good taps lack
+pub lacking_surplus : (full : FullBalance) (good struck taps : List TapFields)
+    → ((tap : TapFields) → copies_among tap taps ≡ left_at full.surplus tap)
+    → IsSorted tap_cmp taps
+    → IsFullBalance full good struck → AreLacking struck good taps
+lacking_surplus full good struck taps copies sorted is = record {
+  copies = λ tap.
+      let here = copies tap in
+      let sums = is.sums tap in
+      ⊎_elim (λ (z : left_at full.missing tap ≡ 0). omega (arith, here, sums, z))
+      (λ (z : left_at full.surplus tap ≡ 0). omega (arith, here, sums, z))
+      (is.one_side tap);
+  sorted = sorted;
+}

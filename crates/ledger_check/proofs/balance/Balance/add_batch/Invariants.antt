@@ -1,0 +1,14 @@
+use Rattle.std.proofs.Common.{◌≡◌, List, [], ◌++◌, map}
+use Rattle.tap_views.specs.Encoding.{fields_of}
+use Rattle.tap_views.specs.declared.encoder.TapFields.{TapFields}
+use Rattle.ledger_check.specs.Balances.{IsBalance}
+use Rattle.ledger_check.proofs.balance.Balance.add_batch.Given as goal
+
+abbrev pub invariant-loop-tap : goal.invariant-loop-tap
+invariant-loop-tap l = record {
+  may : (goal.iterator-loop-tap).can_next l.tap-iterator;
+  ends : (goal.iterator-loop-tap).is_finite l.tap-iterator;
+  all : l.yielded ++ l.tap-iterator ≡ l.fn.batch;
+  added : (good : List TapFields) → IsBalance l.fn.self good []
+      → IsBalance l.self (good ++ map fields_of l.yielded) [];
+}

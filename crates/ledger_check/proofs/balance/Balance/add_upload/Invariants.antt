@@ -1,0 +1,15 @@
+use Rattle.std.proofs.Common.{List, [], ◌++◌, map}
+use Rattle.tap_views.specs.Encoding.{fields_of}
+use Rattle.tap_views.specs.Files.{IsReadAs, taps_of_batches}
+use Rattle.tap_views.specs.declared.encoder.TapFields.{TapFields}
+use Rattle.ledger_check.specs.Balances.{IsBalance}
+use Rattle.ledger_check.proofs.balance.Balance.add_upload.Given as goal
+
+abbrev pub invariant-loop-batch : goal.invariant-loop-batch
+invariant-loop-batch l = record {
+  may : (goal.iterator-loop-batch).can_next l.batch-iterator;
+  ends : (goal.iterator-loop-batch).is_finite l.batch-iterator;
+  read : IsReadAs l.upload (l.yielded ++ l.batch-iterator.batches) l.batch-iterator.fault;
+  added : (good : List TapFields) → IsBalance l.fn.self good []
+      → IsBalance l.self (good ++ map fields_of (taps_of_batches l.yielded)) [];
+}

@@ -1,0 +1,25 @@
+use Rattle.std.proofs.Common.{List, Some, arith}
+use Rattle.std.specs.List.Sorted.{IsPermutation}
+use Rattle.tap_views.specs.declared.encoder.TapFields.{TapFields}
+use Rattle.ledger_check.specs.Balances.{IsDifference}
+use Rattle.ledger_check.specs.declared.balance.Difference.{Difference}
+use Rattle.ledger_check.specs.declared.balance.Difference.TheVariants.{Missing, Surplus}
+use Rattle.ledger_check.proofs.Balanced.{surplus_is_more}
+use Rattle.ledger_check.proofs.SameTaps.{same_exact, same_of}
+use Rattle.ledger_check.proofs.Times.{times_permutation}
+use Rattle.ledger_check.proofs.balance_laws.differences_are_real.Goals as goal
+
+pub returns-clause-same : goal.returns-clause-same
+returns-clause-same c = λ tap other. (same_exact tap other, same_of tap other)
+
+differ : (good others : List TapFields) (difference : Difference)
+    → IsDifference good others (Some difference) → IsPermutation good others → ⊥
+differ good others (Missing tap) is moved = let e = times_permutation tap good others moved in
+    let fewer = is.fewer in
+    absurd (omega (arith, fewer, e))
+differ good others (Surplus tap) is moved = let e = times_permutation tap good others moved in
+    let more = surplus_is_more good others tap is in
+    absurd (omega (arith, more, e))
+
+pub returns-clause-apart : goal.returns-clause-apart
+returns-clause-apart c = differ

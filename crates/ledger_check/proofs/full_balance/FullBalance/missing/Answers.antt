@@ -1,0 +1,7 @@
+use Rattle.ledger_check.proofs.FullyBalanced.{lacking_missing}
+use Rattle.ledger_check.proofs.full_balance.FullBalance.missing.Goals as goal
+
+pub returns : goal.returns
+returns c = λ good struck is.
+    let left = c.in_ok-taps.ensures in
+    lacking_missing c.args.self.now good struck c.in_ok-taps.taps.items left.copies left.sorted is

@@ -1,0 +1,29 @@
+use Rattle.std.proofs.Common.{◌≡◌, Bool, true, false, refl, sym, ap, subst, ◌∙◌, arith}
+use Rattle.std.proofs.lemmas.Result.{on_ok_weaker}
+use Rattle.ledger_check.proofs.FullyBalanced.{struck_missing, struck_surplus}
+use Rattle.ledger_check.proofs.full_balance.FullBalance.strike.Goals as goal
+
+pub returns-then-count_at-eq0 : goal.returns-then-count_at-eq0
+returns-then-count_at-eq0 c =
+    let full = c.args.self.now in
+    let new = c.put_one.new.left in
+    on_ok_weaker c.put_one.result
+    (λ more good struck is.
+    struck_surplus full (record { missing = full.missing; surplus = new }) good struck c.args.tap.now refl
+    (sym c.count_at.ensures ∙ c.if-count_at-eq0.true)
+    more is)
+    c.put_one.ensures
+
+pub returns : goal.returns
+returns c = λ good struck is.
+    let full = c.args.self.now in
+    let new = c.take_one-was_left.new.left in
+    struck_missing full (record { missing = new; surplus = full.surplus }) good struck c.args.tap.now refl
+    (c.take_one-was_left.ensures.taken (taken c.take_one-was_left.result refl))
+    is
+  where
+    taken : (b : Bool) → c.take_one-was_left.result ≡ b → c.take_one-was_left.result ≡ true
+    taken true is = is
+    taken false is =
+        let none = c.take_one-was_left.ensures.none is in
+        absurd (omega (arith, none, c.count_at.ensures, c.if-count_at-eq0.false))

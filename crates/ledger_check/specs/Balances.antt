@@ -1,0 +1,67 @@
+-- What uploads have against what somebody else has of their taps.
+use Rattle.std.specs.Prelude.{◌≡◌, ℕ, ◌+◌, ◌<◌, ◌≤◌, Bool, false, List, [], ◌∷◌, ◌++◌, map}
+use Rattle.std.specs.Prelude.{Option, None, Some, MatchOption}
+use Rattle.std.specs.BTreeMap as tree
+use Rattle.std.specs.BTreeMap.{BTreeMap}
+use Rattle.std.specs.List.{count_by}
+use Rattle.std.specs.List.Sorted.{IsPermutation}
+use Rattle.std.specs.Option.{unwrap_or}
+use Rattle.std.specs.Ordering.{is_eq, is_lt}
+use Rattle.tap_views.specs.Encoding.{fields_of}
+use Rattle.tap_views.specs.Files.{AreGoodTaps}
+use Rattle.tap_views.specs.Layout.{Tap}
+use Rattle.tap_views.specs.TapOrder.{tap_cmp}
+use Rattle.tap_views.specs.declared.encoder.TapFields.{TapFields}
+use Rattle.ledger_check.specs.declared.balance.Balance.{Balance}
+use Rattle.ledger_check.specs.declared.balance.Difference.{Difference}
+use Rattle.ledger_check.specs.declared.balance.Difference.TheVariants.{Missing, Surplus}
+
+-- the fields of the good taps of an upload, in their order
+abbrev pub AreGoodFields : List ℕ → List TapFields → Type 0
+AreGoodFields upload fields =
+    (taps : List Tap) × AreGoodTaps upload taps × (fields ≡ map fields_of taps)
+
+-- whether both are taps of one token, at one moment and one validator
+abbrev pub is_same : TapFields → TapFields → Bool
+is_same tap other = is_eq (tap_cmp tap other)
+
+-- how often the tap is among these
+abbrev pub copies_among : TapFields → List TapFields → ℕ
+copies_among tap taps = count_by (λ other. is_same other tap) taps
+
+-- how many are left of the tap
+abbrev pub left_at : BTreeMap TapFields ℕ → TapFields → ℕ
+left_at left tap = unwrap_or (tree.get tap_cmp left tap) 0
+
+-- The tap stands among the others where, for the first time, a tap is there more often than among
+-- the good taps: up to this place this one is, and before it none.
+pub record IsFirstSurplus (good others : List TapFields) (tap : TapFields) : Type 0 where
+  pub before : List TapFields
+  pub after : List TapFields
+  pub stands : others ≡ before ++ tap ∷ after
+  pub none_before : (other : TapFields) → copies_among other before ≤ copies_among other good
+  pub more : copies_among tap good < copies_among tap (before ++ tap ∷ [])
+
+-- The tap is more often among the good taps. It is the first such tap by token, moment and
+-- validator, and no tap is more often among the others.
+pub record IsFirstMissing (good others : List TapFields) (tap : TapFields) : Type 0 where
+  pub fewer : copies_among tap others < copies_among tap good
+  pub first : (other : TapFields) → copies_among other others < copies_among other good
+      → is_lt (tap_cmp other tap) ≡ false
+  pub no_surplus : (other : TapFields) → copies_among other others ≤ copies_among other good
+
+-- of each good tap some were struck out, and so many are left; or the first tap is known that was
+-- struck out more often than the uploads have it
+abbrev pub IsBalance : Balance → List TapFields → List TapFields → Type 0
+IsBalance balance good struck =
+    MatchOption balance.surplus
+    ((tap : TapFields) → copies_among tap good
+    ≡ left_at balance.left tap + copies_among tap struck)
+    (IsFirstSurplus good struck)
+
+-- the others are the good taps in some order; or the told tap is the first that they lack, where
+-- none is surplus; or it is the first that is surplus among them
+abbrev pub IsDifference : List TapFields → List TapFields → Option Difference → Type 0
+IsDifference good others None = IsPermutation good others
+IsDifference good others (Some (Missing tap)) = IsFirstMissing good others tap
+IsDifference good others (Some (Surplus tap)) = IsFirstSurplus good others tap

@@ -1,0 +1,23 @@
+-- All taps that one side has more often than the other.
+use Rattle.std.specs.Prelude.{◌≡◌, ◌+◌, ◌-◌, ◌⊎◌, List}
+use Rattle.std.specs.List.Sorted.{IsSorted}
+use Rattle.tap_views.specs.declared.encoder.TapFields.{TapFields}
+use Rattle.tap_views.specs.TapOrder.{tap_cmp}
+use Rattle.ledger_check.specs.Balances.{copies_among, left_at}
+use Rattle.ledger_check.specs.declared.full_balance.FullBalance.{FullBalance}
+
+-- The taps that are more often among the good taps than among the others, each as often as it is
+-- there more often, by token, moment and validator.
+pub record AreLacking (good others taps : List TapFields) : Type 0 where
+  pub copies : (tap : TapFields)
+      → copies_among tap taps ≡ copies_among tap good - copies_among tap others
+  pub sorted : IsSorted tap_cmp taps
+
+-- of each good tap some were struck out and so many are left, or more were struck out than the
+-- uploads have, by so many
+pub record IsFullBalance (full : FullBalance) (good struck : List TapFields) : Type 0 where
+  pub sums : (tap : TapFields)
+      → copies_among tap good + left_at full.surplus tap
+      ≡ left_at full.missing tap + copies_among tap struck
+  pub one_side : (tap : TapFields)
+      → (left_at full.missing tap ≡ 0) ⊎ (left_at full.surplus tap ≡ 0)

@@ -1,0 +1,168 @@
+//! The taps of uploads, of which those of the other side are struck out.
+
+ghost use Rattle.std.specs.Prelude.{◌≡◌, ◌+◌, ◌<◌, ◌++◌, ◌∷◌, [], ℕ};
+ghost use Rattle.std.specs.Prelude.{List, IfNone, IfSome, OnOk};
+ghost use Rattle.std.specs.Prelude.{if◌then◌else◌, false, map, true};
+ghost use Rattle.std.specs.Ordering.{is_eq, is_lt};
+ghost use Rattle.tap_views.specs.Encoding.{fields_of};
+ghost use Rattle.tap_views.specs.declared.encoder.TapFields.{TapFields};
+ghost use Rattle.tap_views.specs.TapOrder.{tap_cmp};
+ghost use Rattle.ledger_check.specs.Balances.{AreGoodFields, IsBalance, IsDifference, left_at};
+
+use std::alloc::{AllocError, Global};
+use std::collections::BTreeMap;
+use tap_views::{Batch, TapFields, good_batches};
+
+/// A tap that one side has more often than the other. If there are several, it is the first that is
+/// surplus, else the first that is missing.
+#[derive(Clone, Copy, Debug, PartialEq, Eq)]
+pub enum Difference {
+    /// The uploads have it more often: the first such one by token, moment and validator, where
+    /// none is surplus.
+    Missing(TapFields),
+    /// The other side has it more often: the first that was struck out once too often.
+    Surplus(TapFields),
+}
+
+impl Difference {
+    /// The tap.
+    pub fn tap(&self) -> &TapFields {
+        match self {
+            Difference::Missing(tap) | Difference::Surplus(tap) => tap,
+        }
+    }
+}
+
+/// How many are left of the tap.
+pub(crate) fn count_at(left: &BTreeMap<TapFields, u64>, tap: TapFields) -> u64
+    ensures { result ≡ left_at left.now tap }
+{
+    left.get(&tap).copied().unwrap_or(0)
+}
+
+/// One more is left of the tap. Its one error is want of memory; 2^64 of one tap are
+/// taken for that.
+pub(crate) fn put_one(left: &mut BTreeMap<TapFields, u64>, tap: TapFields) -> Result<(), AllocError>
+    ensures { OnOk result ((other : TapFields) → left_at left.new other
+        ≡ left_at left.old other + (if is_eq (tap_cmp tap other) then 1 else 0)) }
+{
+    let count = count_at(left, tap);
+    let Some(more) = count.checked_add(1) else {
+        return Err(AllocError);
+    };
+    left.insert(tap, more)?;
+    Ok(())
+}
+
+/// One fewer is left of the tap. False where none was left.
+pub(crate) fn take_one(left: &mut BTreeMap<TapFields, u64>, tap: TapFields) -> bool
+    ensures taken { result ≡ true → (other : TapFields) → left_at left.old other
+        ≡ left_at left.new other + (if is_eq (tap_cmp tap other) then 1 else 0) }
+    ensures none { result ≡ false → left_at left.old tap ≡ 0 }
+{
+    match left.get_mut(&tap) {
+        Some(count) if *count > 0 => {
+            *count -= 1;
+            true
+        }
+        _ => false,
+    }
+}
+
+/// The first tap of which some are left.
+fn first_left(left: &BTreeMap<TapFields, u64>) -> Option<TapFields>
+    ensures found { IfSome result (λ tap. 0 < left_at left.now tap) }
+    ensures first { IfSome result (λ tap. (other : TapFields) → 0 < left_at left.now other
+        → is_lt (tap_cmp other tap) ≡ false) }
+    ensures none { IfNone result ((tap : TapFields) → left_at left.now tap ≡ 0) }
+{
+    for (tap, count) in left {
+        if *count > 0 {
+            return Some(*tap);
+        }
+    }
+    None
+}
+
+/// The taps of uploads, of which those of the other side are struck out.
+#[derive(Drop)]
+pub struct Balance {
+    /// How many of each tap are left.
+    pub(crate) left: BTreeMap<TapFields, u64>,
+    /// The first tap that was struck out more often than the uploads have it.
+    pub(crate) surplus: Option<TapFields>,
+}
+
+impl Balance {
+    /// No upload was added, and nothing struck out.
+    pub fn new(alloc: Global) -> Balance
+        ensures { IsBalance result [] [] }
+    {
+        Balance {
+            left: BTreeMap::new(alloc),
+            surplus: None,
+        }
+    }
+
+    /// Adds a tap of an upload.
+    fn add(&mut self, tap: &TapFields) -> Result<(), AllocError>
+        ensures { OnOk result ((good : List TapFields) → IsBalance self.old good []
+            → IsBalance self.new (good ++ tap.now ∷ []) []) }
+    {
+        put_one(&mut self.left, *tap)
+    }
+
+    /// Adds the taps of a batch.
+    fn add_batch(&mut self, batch: &Batch<'_>) -> Result<(), AllocError>
+        ensures { OnOk result ((good : List TapFields) → IsBalance self.old good []
+            → IsBalance self.new (good ++ map fields_of batch.now) []) }
+    {
+        for tap in batch.taps() {
+            self.add(&TapFields::of(&tap))?;
+        }
+        Ok(())
+    }
+
+    /// Adds the good taps of an upload: those before its first layout fault. All uploads are
+    /// added before a tap is struck out. Its one error is want of memory, and after it the balance
+    /// is of no use.
+    pub fn add_upload(&mut self, upload: &[u8]) -> Result<(), AllocError>
+        ensures { OnOk result ((taps : List TapFields) × AreGoodFields upload.now taps
+            × ((good : List TapFields) → IsBalance self.old good []
+            → IsBalance self.new (good ++ taps) [])) }
+    {
+        for batch in good_batches(upload) {
+            self.add_batch(&batch)?;
+        }
+        Ok(())
+    }
+
+    /// Strikes out a tap of the other side.
+    pub fn strike(&mut self, tap: &TapFields)
+        ensures { (good struck : List TapFields) → IsBalance self.old good struck
+            → IsBalance self.new good (struck ++ tap.now ∷ []) }
+    {
+        if self.surplus.is_some() {
+            return;
+        }
+        if !take_one(&mut self.left, *tap) {
+            self.surplus = Some(*tap);
+        }
+    }
+
+    /// A tap that one side has more often than the other: the first struck one of which the uploads
+    /// have no more, else the first of those that are left, by token, moment and validator. `None`
+    /// where the taps that were struck out are, in some order, those of the uploads.
+    pub fn difference(&self) -> Option<Difference>
+        ensures { (good struck : List TapFields) → IsBalance self.now good struck
+            → IsDifference good struck result }
+    {
+        if let Some(tap) = self.surplus {
+            return Some(Difference::Surplus(tap));
+        }
+        let Some(tap) = first_left(&self.left) else {
+            return None;
+        };
+        Some(Difference::Missing(tap))
+    }
+}

@@ -1,0 +1,92 @@
+//! The taps of uploads, of which those of the other side are struck out, however many differ.
+
+ghost use Rattle.std.specs.Prelude.{◌≡◌, ◌++◌, ◌∷◌, [], List, IfOk, OnOk};
+ghost use Rattle.std.specs.List.Sorted.{IsSorted};
+ghost use Rattle.std.proofs.Math.ListN.{replicate};
+ghost use Rattle.tap_views.specs.declared.encoder.TapFields.{TapFields};
+ghost use Rattle.tap_views.specs.TapOrder.{tap_cmp};
+ghost use Rattle.ledger_check.specs.Balances.{IsBalance, copies_among, left_at};
+ghost use Rattle.ledger_check.specs.FullBalances.{AreLacking, IsFullBalance};
+
+use crate::balance::{Balance, count_at, put_one, take_one};
+use std::alloc::{AllocError, Global};
+use std::collections::BTreeMap;
+use tap_views::TapFields;
+
+/// Appends the tap so many times.
+fn push_times(taps: &mut Vec<TapFields>, tap: &TapFields, times: u64) -> Result<(), AllocError>
+    ensures { OnOk result (taps.new.items ≡ taps.old.items ++ replicate times tap.now) }
+{
+    for _copy in 0..times {
+        taps.push(*tap)?;
+    }
+    Ok(())
+}
+
+/// The taps that are left, each as often as it is left, by token, moment and validator.
+fn taps_left(alloc: Global, left: &BTreeMap<TapFields, u64>) -> Result<Vec<TapFields>, AllocError>
+    ensures copies { IfOk result (λ taps. (tap : TapFields)
+        → copies_among tap taps.items ≡ left_at left.now tap) }
+    ensures sorted { IfOk result (λ taps. IsSorted tap_cmp taps.items) }
+{
+    let mut taps = Vec::new(alloc);
+    for (tap, count) in left {
+        push_times(&mut taps, tap, *count)?;
+    }
+    Ok(taps)
+}
+
+/// The taps of uploads, of which those of the other side are struck out. It goes on after a tap
+/// that the uploads do not have, and counts it.
+#[derive(Drop)]
+pub struct FullBalance {
+    /// How many of each tap the uploads have more often.
+    pub(crate) missing: BTreeMap<TapFields, u64>,
+    /// How many of each tap the other side has more often.
+    pub(crate) surplus: BTreeMap<TapFields, u64>,
+}
+
+impl FullBalance {
+    /// Goes on from the uploads' good taps, of which nothing was struck out.
+    pub fn of(alloc: Global, balance: Balance) -> FullBalance
+        ensures { (good : List TapFields) → IsBalance balance good []
+            → IsFullBalance result good [] }
+    {
+        let Balance { left, surplus: _ } = balance;
+        FullBalance {
+            missing: left,
+            surplus: BTreeMap::new(alloc),
+        }
+    }
+
+    /// Strikes out a tap of the other side. Its one error is want of memory, and after it the
+    /// balance is of no use.
+    pub fn strike(&mut self, tap: &TapFields) -> Result<(), AllocError>
+        ensures { OnOk result ((good struck : List TapFields) → IsFullBalance self.old good struck
+            → IsFullBalance self.new good (struck ++ tap.now ∷ [])) }
+    {
+        if count_at(&self.missing, *tap) == 0 {
+            return put_one(&mut self.surplus, *tap);
+        }
+        let _was_left = take_one(&mut self.missing, *tap);
+        Ok(())
+    }
+
+    /// The taps that the uploads have more often.
+    pub fn missing(&self, alloc: Global) -> Result<Vec<TapFields>, AllocError>
+        ensures { IfOk result (λ taps. (good struck : List TapFields)
+            → IsFullBalance self.now good struck → AreLacking good struck taps.items) }
+    {
+        let taps = taps_left(alloc, &self.missing)?;
+        Ok(taps)
+    }
+
+    /// The taps that the other side has more often.
+    pub fn surplus(&self, alloc: Global) -> Result<Vec<TapFields>, AllocError>
+        ensures { IfOk result (λ taps. (good struck : List TapFields)
+            → IsFullBalance self.now good struck → AreLacking struck good taps.items) }
+    {
+        let taps = taps_left(alloc, &self.surplus)?;
+        Ok(taps)
+    }
+}

@@ -1,4 +1,0 @@
-pub mod Books
-pub mod Lacking
-pub mod Owned
-pub mod Telling

@@ -1,9 +1,0 @@
-pub mod Rising
-pub mod ByToken
-pub mod Sorting
-pub mod Writing
-pub mod Whole
-pub mod Along
-pub mod Collecting
-pub mod Closing
-pub mod ExplainedLines

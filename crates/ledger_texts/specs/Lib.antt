@@ -1,4 +1,0 @@
-pub mod Explained
-pub mod Ledger
-pub mod Lines
-pub mod inside

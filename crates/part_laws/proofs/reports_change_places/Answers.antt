@@ -1,5 +1,0 @@
-use Rattle.part_laws.proofs.Exchanged.{exchanged}
-use Rattle.part_laws.proofs.reports_change_places.Goals as goal
-
-pub returns : goal.returns
-returns c = exchanged

@@ -1,2 +1,0 @@
-pub mod LineLists
-mod Modes

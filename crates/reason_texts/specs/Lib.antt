@@ -1,4 +1,0 @@
-pub mod Ledger
-pub mod NoTransferWords
-pub mod Tellers
-pub mod ReasonWords

@@ -1,0 +1,63 @@
+//! The report: the end of each upload, the totals, the sums of each validator and those of each
+//! token. All memory is taken before the first byte is written.
+
+ghost use Rattle.std.specs.Prelude.{◌≡◌, ◌≤◌, ◌++◌, OnOk, IfOk, IfErr, map, vec_capacity};
+ghost use Rattle.std.specs.Io.KnownBytes.{Appends};
+ghost use Rattle.std.specs.List.{flat_map};
+ghost use Rattle.fare_texts.specs.PrintFaults.{KeepsUnlessWrite};
+ghost use Rattle.fare_texts.specs.ReportLines.{token_line};
+ghost use Rattle.shard_book.specs.Shown.{validator_sum};
+ghost use Rattle.shard_book.specs.Sums.{sums_of};
+ghost use Rattle.report_texts.specs.Report.{report};
+
+use crate::front::report_front;
+use crate::token_lines::write_lines;
+use crate::upload_end::UploadEnd;
+use fare_texts::PrintFault;
+use shard_book::{TokenSums, Totals, ValidatorSum};
+use std::alloc::Global;
+use std::io::Write;
+use tap_views::NoMemory;
+
+/// The least room for lines of a report that wait to be written: enough that a write costs little
+/// beside making them.
+const PIECE_BYTES: usize = 65_536;
+
+/// The text of a report up to the lines of the tokens, with room for one of these at least.
+fn begun(
+    alloc: Global,
+    ends: &[UploadEnd],
+    totals: &Totals,
+    validators: &[ValidatorSum],
+    tokens: &TokenSums,
+) -> Result<Vec<u8>, NoMemory>
+    ensures text { IfOk result
+        (λ text. text.items ++ flat_map token_line tokens.now
+        ≡ report ends.now (sums_of totals.now) (map validator_sum validators.now) tokens.now) }
+    ensures room { IfOk result (λ text. 384 ≤ vec_capacity text) }
+{
+    let mut text = report_front(alloc, ends, totals, validators, tokens)?;
+    text.reserve(PIECE_BYTES)?;
+    Ok(text)
+}
+
+/// Writes a report: the end of each upload, the totals, the sums of each validator and those of
+/// each token, as they are given. On a fault of memory nothing was written.
+pub fn write_report<W: Write>(
+    alloc: Global,
+    ends: &[UploadEnd],
+    totals: &Totals,
+    validators: &[ValidatorSum],
+    tokens: &TokenSums,
+    out: &mut W,
+) -> Result<(), PrintFault>
+    ensures ok { OnOk result (Appends (W.contents out.old) (W.contents out.new)
+        (report ends.now (sums_of totals.now) (map validator_sum validators.now) tokens.now)) }
+    ensures fault { IfErr result (λ fault. KeepsUnlessWrite fault (out.new ≡ out.old)) }
+{
+    let Ok(mut text) = begun(alloc, ends, totals, validators, tokens) else {
+        return Err(PrintFault::NoMemory);
+    };
+    write_lines(&mut text, tokens, out)?;
+    Ok(())
+}

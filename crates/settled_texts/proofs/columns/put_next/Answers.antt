@@ -1,0 +1,11 @@
+use Rattle.std.proofs.Common.{ℕ, List, ◌++◌, ap}
+use Rattle.std.proofs.lemmas.List.{nil_from_length}
+use Rattle.settled_texts.specs.Names.{class_by}
+use Rattle.settled_texts.proofs.TracedLines.{none_left}
+use Rattle.settled_texts.proofs.columns.put_next.Goals as goal
+
+pub returns-in-None-clause-put : goal.returns-in-None-clause-put
+returns-in-None-clause-put c = λ rest.
+    ap (λ (t : List ℕ). c.args.text.now.items ++ t)
+    (none_left (class_by c.args.names.now) rest c.args.taps.now
+    (nil_from_length c.args.taps.now c.in-None.ensures.cases))

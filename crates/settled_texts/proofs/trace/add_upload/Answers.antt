@@ -1,0 +1,45 @@
+use Rattle.std.proofs.Common.{length, ap, sym, refl, append-nil, arith, length-append, is_some}
+use Rattle.tap_views.specs.Files.{taps_of_batches}
+use Rattle.tap_views.proofs.ReadingLemmas.{read_end, read_on, taps_more}
+use Rattle.settled_texts.proofs.Numbering.{not_back, numbered_batch}
+use Rattle.settled_texts.proofs.trace.add_upload.Goals as goal
+
+pub loop-batch-init : goal.loop-batch-init
+loop-batch-init c = record {
+  may = tt;
+  ends = tt;
+  read = c.good_batches-good.ensures;
+  added = sym (append-nil c.args.taps.now.items);
+  count = refl;
+}
+
+pub loop-batch-preserved : goal.loop-batch-preserved
+loop-batch-preserved c =
+    let before = c.loop-batch.invariant in
+    let done = c.loop-batch.yielded in
+    let batch = c.in-Some.batch in
+    record {
+      may = tt;
+      ends = tt;
+      read = read_on _ _ _ _ _ before.read c.in-Some.ensures.steps;
+      added = numbered_batch c.args.upload c.args.taps.now.items c.loop-batch.taps.items
+          c.add_batch.new.taps.items done batch c.loop-batch.place before.added before.count
+          c.in_ok-place.ensures.added;
+      count = omega (
+        arith,
+        before.count,
+        ap length (taps_more done batch),
+        length-append (taps_of_batches done) batch,
+        c.in_ok-place.ensures.next,
+      );
+    }
+
+pub returns : goal.returns
+returns c =
+    let end = c.loop-batch.invariant in
+    let read = read_end _ _ _ _ _ end.read c.in_default.ensures.steps c.fault.ensures in (
+      record { batches = c.loop-batch.yielded; fault = c.fault.result },
+      read,
+      end.added,
+      not_back (is_some c.fault.result) c.is_none.result c.is_none.ensures,
+    )

@@ -1,0 +1,138 @@
+-- Each round tells a stride more.
+use Rattle.std.proofs.Common.{◌≡◌, ℕ, ◌<◌, ◌++◌, ◌==◌, false, true, List, [], length}
+use Rattle.std.proofs.Common.{string_bytes, refl, sym, ap, subst, ◌∙◌, append_assoc, append-nil}
+use Rattle.std.proofs.Common.{arith, length-append}
+use Rattle.std.specs.Io.KnownBytes.{Appends}
+use Rattle.std.proofs.KnownBytes.{Appends-nil, Appends-trans}
+use Rattle.std.proofs.lemmas.Bool.{eqb-true}
+use Rattle.std.proofs.lemmas.Bool.Decides.{nat_tests}
+use Rattle.std.proofs.lemmas.List.{nil_from_length}
+use Rattle.tap_views.specs.declared.encoder.TapFields.{TapFields}
+use Rattle.tap_views.specs.declared.token.Token.{Token}
+use Rattle.settlement.specs.Posted.{posted_after}
+use Rattle.settled_texts.specs.Telling.{AreTold, last_token}
+use Rattle.settled_texts.proofs.Tellings.{fall_within, halves_of, last_append, none_told, told_append}
+use Rattle.settled_texts.specs.Names.{class_by}
+use Rattle.settled_texts.specs.Traces.{taps_of_trace}
+use Rattle.settled_texts.specs.declared.trace.TracedTap.{TracedTap}
+use Rattle.settled_texts.proofs.TracedLines.{columns_on, left_on}
+use Rattle.settled_texts.proofs.Strides.{early_parts, taps_append, taps_length, taps_whole}
+use Rattle.settled_texts.proofs.traced_ledger.write_lines.Goals as goal
+
+pub loop-rest-init : goal.loop-rest-init
+loop-rest-init g c = record {
+  done = [];
+  whole = refl;
+  early = c.requires.early;
+  lines = [];
+  told = none_told c.args.table.now [] c.args.teller.now c.requires.come;
+  left = refl;
+  appended = Appends-nil (g.W.Write.contents c.args.out.now);
+  token = refl;
+  few = let none = c.requires.none in omega (arith, none);
+  empty = c.requires.empty;
+}
+
+pub loop-rest-smaller : goal.loop-rest-smaller
+loop-rest-smaller g c =
+    let left = c.loop-rest.rest.now in
+    let test : (length left == 0) ≡ false = sym c.is_empty.ensures ∙ c.loop-rest-test.true in
+    let some : 0 < length left = grind (arith, nat_tests, test) in
+    let least = c.min.ensures in
+    let back = c.split_at.ensures.back_len in
+    let less : length c.split_at.result.1.now < length left = omega (arith, some, least, back) in
+    less
+
+pub tell-requires-clause-early : goal.tell-requires-clause-early
+tell-requires-clause-early g c =
+    let halves = halves_of c.min.result c.loop-rest.rest.now c.split_at.result.0.now
+    c.split_at.result.1.now c.split_at.ensures.front c.split_at.ensures.back in
+    (early_parts c.split_at.result.0.now c.split_at.result.1.now c.loop-rest.rest.now halves
+    c.loop-rest.invariant.early).0
+
+pub tell-requires-clause-no_fall : goal.tell-requires-clause-no_fall
+tell-requires-clause-no_fall g c =
+    let inv = c.loop-rest.invariant in
+    let halves = halves_of c.min.result c.loop-rest.rest.now c.split_at.result.0.now
+    c.split_at.result.1.now c.split_at.ensures.front c.split_at.ensures.back in
+    fall_within c.args.teller.now.token c.loop-rest.teller.token (taps_of_trace inv.done)
+    (taps_of_trace c.split_at.result.0.now) (taps_of_trace c.split_at.result.1.now)
+    (taps_of_trace c.args.trace.now)
+    (taps_whole inv.done c.split_at.result.0.now c.split_at.result.1.now c.loop-rest.rest.now
+    c.args.trace.now halves inv.whole) c.requires.no_fall inv.token
+
+pub tell-requires-clause-come : goal.tell-requires-clause-come
+tell-requires-clause-come g c =
+    let inv = c.loop-rest.invariant in
+    (posted_after c.args.table.now [] (taps_of_trace inv.done), inv.told.come)
+
+pub tell-requires-clause-room : goal.tell-requires-clause-room
+tell-requires-clause-room g c =
+    let inv = c.loop-rest.invariant in
+    let halves = halves_of c.min.result c.loop-rest.rest.now c.split_at.result.0.now
+    c.split_at.result.1.now c.split_at.ensures.front c.split_at.ensures.back in
+    let all = ap length inv.whole in
+    let parts = length-append inv.done c.loop-rest.rest.now in
+    let both = ap length halves in
+    let strides = length-append c.split_at.result.0.now c.split_at.result.1.now in
+    let long = taps_length c.split_at.result.0.now in
+    let room = c.requires.room in
+    omega (arith, all, parts, both, strides, inv.few, room, long)
+
+pub tell-requires-clause-empty : goal.tell-requires-clause-empty
+tell-requires-clause-empty g c = c.loop-rest.invariant.empty
+
+pub loop-rest-preserved : goal.loop-rest-preserved
+loop-rest-preserved g c =
+    let fares = c.args.table.now in
+    let inv = c.loop-rest.invariant in
+    let stride = c.split_at.result.0.now in
+    let behind = c.split_at.result.1.now in
+    let trace = c.args.trace.now in
+    let classes = class_by c.args.names.now in
+    let halves = halves_of c.min.result c.loop-rest.rest.now stride behind c.split_at.ensures.front
+    c.split_at.ensures.back in
+    let next = c.in_ok-tell.ensures in
+    let made = c.tell.new.self.lines.items in
+    let parts = length-append inv.done stride in
+    let long = taps_length stride in
+    let told = next.told (posted_after fares [] (taps_of_trace inv.done)) inv.told.come in
+    record {
+      done = inv.done ++ stride;
+      whole = append_assoc inv.done stride behind ∙ ap (λ ts. inv.done ++ ts) halves ∙ inv.whole;
+      early = (early_parts stride behind c.loop-rest.rest.now halves inv.early).1;
+      lines = inv.lines ++ made;
+      told = subst (λ (ts : List TapFields). AreTold fares [] ts c.tell.new.teller (inv.lines ++ made))
+          (sym (taps_append inv.done stride))
+          (told_append fares [] (taps_of_trace inv.done) (taps_of_trace stride) c.loop-rest.teller
+          c.tell.new.teller inv.lines made inv.told told);
+      left = left_on inv.lines made trace c.loop-rest.left.now c.in_ok-left.left.now inv.left
+          c.in_ok-left.ensures.left;
+      appended = subst (λ (bs : List ℕ). Appends (g.W.Write.contents c.args.out.now)
+          (g.W.Write.contents c.write.new.out) bs)
+          (sym (columns_on classes inv.lines made trace c.loop-rest.left.now inv.left))
+          (Appends-trans _ _ _ _ _ inv.appended c.in_ok-left.ensures.written);
+      token = next.token ∙ ap (λ (t : Token). last_token t (taps_of_trace stride)) inv.token
+          ∙ sym (ap (last_token c.args.teller.now.token) (taps_append inv.done stride)
+          ∙ last_append c.args.teller.now.token (taps_of_trace inv.done) (taps_of_trace stride));
+      few = omega (arith, next.few, inv.few, parts, long);
+      empty = ap string_bytes c.write.ensures.text ∙ next.empty;
+    }
+
+-- all is done where nothing is left
+all_done : (done left trace : List TracedTap) → done ++ left ≡ trace → (length left == 0) ≡ true
+    → done ≡ trace
+all_done done left trace all test =
+    sym (append-nil done)
+    ∙ ap (λ more. done ++ more) (sym (nil_from_length left (eqb-true (length left) 0 test))) ∙ all
+
+pub returns-clause-told : goal.returns-clause-told
+returns-clause-told g c =
+    let inv = c.loop-rest.invariant in
+    let same = all_done inv.done c.loop-rest.rest.now c.args.trace.now inv.whole
+    (sym c.is_empty.ensures ∙ c.loop-rest-test.false) in (
+      inv.lines,
+      subst (λ (ts : List TracedTap). AreTold c.args.table.now [] (taps_of_trace ts) c.loop-rest.teller inv.lines)
+          same inv.told,
+      inv.appended,
+    )

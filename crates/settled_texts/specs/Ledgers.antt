@@ -1,0 +1,23 @@
+-- Traced ledgers.
+use Rattle.std.specs.Prelude.{◌≡◌, ℕ, Bool, List, ◌∷◌, None}
+use Rattle.fare_table.specs.Fares.{Fares}
+use Rattle.fare_texts.specs.Ledger.{IsLedgerOver}
+use Rattle.settlement.specs.Posted.{posted}
+use Rattle.settlement.specs.Settled.{IsSettledHistory}
+use Rattle.settled_texts.specs.Columns.{columns_by, head_columns, with_columns}
+use Rattle.settled_texts.specs.Traces.{IsTrace, taps_of_trace}
+use Rattle.settled_texts.specs.declared.trace.TracedTap.{TracedTap}
+
+-- The text is the traced ledger of the files, by a function that gives the class of each token. It
+-- is the ledger of the taps of their trace, which is that of the files' settled history, with three
+-- columns more behind each line. Behind the head line are the columns' names, and behind the line
+-- of each tap the class of its token, the number of its file and its place there. It is whole if no
+-- file has a layout fault.
+pub record IsTracedLedger (classes : List ℕ → List ℕ) (fares : Fares) (files : List (List ℕ))
+    (text : List ℕ) (whole : Bool) : Type 0 where
+  pub trace : List TracedTap
+  pub is_trace : IsTrace files trace whole
+  pub is_settled : IsSettledHistory fares files (posted fares (taps_of_trace trace))
+  pub untraced : List ℕ
+  pub is_ledger : IsLedgerOver fares (posted fares (taps_of_trace trace)) None untraced
+  pub shown : text ≡ with_columns untraced (head_columns ∷ columns_by classes trace)

@@ -1,0 +1,232 @@
+//! The classes of riders, as the text of a fare table names them.
+
+ghost use Rattle.std.specs.Prelude.{◌≡◌, ◌&&◌, ◌||◌, ◌==◌, ℕ, List, IfOk, IfErr, OnOk, Some, None};
+ghost use Rattle.std.specs.Prelude.{codes, false, if◌then◌else◌, nat_le, option_map};
+ghost use Rattle.std.specs.Prelude.{string_bytes, true};
+ghost use Rattle.std.specs.List.{list_all};
+ghost use Rattle.std.specs.Option.{option_and_then};
+ghost use Rattle.std.specs.Result.{result_ok};
+ghost use Rattle.hex.specs.Hex.{decode_sized};
+ghost use Rattle.toml.specs.Data.{Members, as_str, as_table, get_member, same_key};
+ghost use Rattle.toml.specs.Parse.{parse_document};
+ghost use Rattle.toml.specs.View.{table_view, view};
+ghost use Rattle.settled_texts.specs.Classes.{are_plain, class_at, class_of_token, default_in};
+ghost use Rattle.settled_texts.specs.Classes.{first_class, has_plain_classes, is_bare};
+ghost use Rattle.settled_texts.specs.Classes.{is_plain_name, is_plain_or_none, riders_in};
+ghost use Rattle.settled_texts.specs.Names.{HasRiders, class_by, rider_by};
+
+use hex::FromHex;
+use std::alloc::{AllocError, Global};
+use std::collections::BTreeMap;
+use toml::{Table, Value};
+
+const MAX_NAME_BYTES: usize = 64;
+
+/// Why the names of classes are not had.
+#[derive(Clone, Copy, Debug, PartialEq, Eq)]
+pub enum ClassFault {
+    /// The text is no TOML, or names no default class.
+    Text,
+    /// A name cannot stand in a ledger: it is empty, longer than 64 bytes, or has a byte that is no
+    /// letter, digit, hyphen or low line.
+    Name,
+    NoMemory,
+}
+
+impl From<AllocError> for ClassFault {
+    ghost use Rattle.settled_texts.specs.declared.class_names.ClassFault.TheVariants.{NoMemory as ForMemory};
+
+    ghost from_gives = { λ _ fault. fault ≡ ForMemory };
+
+    fn from(_refused: AllocError) -> Self {
+        ClassFault::NoMemory
+    }
+}
+
+/// The names of riders' classes, by their tokens.
+#[derive(Drop)]
+pub struct ClassNames {
+    riders: BTreeMap<[u8; 16], String>,
+    /// The class of all others.
+    usual: String,
+}
+
+/// Whether the byte is a letter, a digit, a hyphen or a low line.
+fn is_bare(byte: u8) -> bool
+    ensures { result ≡ is_bare byte }
+{
+    (b'a' <= byte && byte <= b'z')
+        || ((b'A' <= byte && byte <= b'Z')
+            || ((b'0' <= byte && byte <= b'9') || (byte == b'-' || byte == b'_')))
+}
+
+fn are_bare(bytes: &[u8]) -> bool
+    ensures { result ≡ list_all is_bare bytes.now }
+{
+    let mut rest = bytes;
+    while let Some((first, behind)) = rest.split_first() {
+        if !is_bare(*first) {
+            return false;
+        }
+        rest = behind;
+    }
+    true
+}
+
+/// Whether the name can stand in a ledger.
+fn is_plain(name: &str) -> bool
+    ensures { result ≡ is_plain_name name.now }
+{
+    1 <= name.len() && (name.len() <= MAX_NAME_BYTES && are_bare(name.as_bytes()))
+}
+
+/// The name, if it can stand in a ledger.
+fn plain(alloc: Global, name: &str) -> Result<String, ClassFault>
+    ensures name { IfOk result (λ copy. string_bytes copy ≡ name.now) }
+    ensures right { OnOk result (is_plain_name name.now ≡ true) }
+    ensures fault { IfErr result (λ fault. fault ≡ ClassFault.Name
+        → is_plain_name name.now ≡ false) }
+{
+    if !is_plain(name) {
+        return Err(ClassFault::Name);
+    }
+    Ok(String::from_str(alloc, name)?)
+}
+
+/// The token that 32 hexadecimal digits of either case name.
+fn token_of(digits: &str) -> Option<[u8; 16]>
+    ensures { result ≡ result_ok (decode_sized digits.now 16) }
+{
+    match <[u8; 16] as FromHex>::from_hex(digits) {
+        Ok(token) => Some(token),
+        Err(_) => None,
+    }
+}
+
+fn at<'a>(table: &'a Table, key: &str) -> Option<&'a Value>
+    ensures { option_map (λ v. view v.now) result ≡ get_member key.now (table_view table.now) }
+{
+    table.get(key)
+}
+
+fn riders_of<'a>(tree: &'a Table) -> Option<&'a Table>
+    ensures { option_map (λ m. table_view m.now) result
+        ≡ option_and_then as_table (get_member (codes "riders") (table_view tree.now)) }
+{
+    at(tree, "riders")?.as_table()
+}
+
+fn default_of<'a>(tree: &'a Table) -> Option<&'a str>
+    ensures { option_map (λ s. s.now) result ≡ default_in (table_view tree.now) }
+{
+    at(tree, "default_class")?.as_str()
+}
+
+/// Keeps the class of a rider, if no earlier key has named the token.
+fn keep(
+    riders: &mut BTreeMap<[u8; 16], String>,
+    token: [u8; 16],
+    class: String,
+) -> Result<(), AllocError>
+    ensures { OnOk result ((other : List ℕ) → rider_by riders.new other
+        ≡ first_class (rider_by riders.old other)
+        (if same_key token other then Some (string_bytes class) else None)) }
+{
+    if riders.contains_key(&token) {
+        return Ok(());
+    }
+    riders.insert(token, class)?;
+    Ok(())
+}
+
+/// Keeps the class of a key, if it names a token that no earlier key has named.
+fn add(
+    alloc: Global,
+    riders: &mut BTreeMap<[u8; 16], String>,
+    key: &str,
+    value: &Value,
+) -> Result<(), ClassFault>
+    ensures kept { OnOk result ((other : List ℕ) → rider_by riders.new other
+        ≡ first_class (rider_by riders.old other) (class_at key.now (view value.now) other)) }
+    ensures plain { OnOk result (is_plain_or_none (as_str (view value.now)) ≡ true) }
+    ensures fault { IfErr result (λ fault. fault ≡ ClassFault.Name
+        → is_plain_or_none (as_str (view value.now)) ≡ false) }
+{
+    let Some(name) = value.as_str() else {
+        return Ok(());
+    };
+    let class = plain(alloc, name)?;
+    let Some(token) = token_of(key) else {
+        return Ok(());
+    };
+    keep(riders, token, class)?;
+    Ok(())
+}
+
+fn classes_of(alloc: Global, keys: &Table) -> Result<BTreeMap<[u8; 16], String>, ClassFault>
+    ensures classes { IfOk result (λ riders. HasRiders (table_view keys.now) riders) }
+    ensures plain { OnOk result (are_plain (table_view keys.now) ≡ true) }
+    ensures fault { IfErr result (λ fault. fault ≡ ClassFault.Name
+        → are_plain (table_view keys.now) ≡ false) }
+{
+    let mut riders = BTreeMap::new(alloc);
+    for (key, value) in keys {
+        add(alloc, &mut riders, key.as_str(), value)?;
+    }
+    Ok(riders)
+}
+
+fn rider_classes(alloc: Global, tree: &Table) -> Result<BTreeMap<[u8; 16], String>, ClassFault>
+    ensures classes { IfOk result (λ riders. HasRiders (riders_in (table_view tree.now)) riders) }
+    ensures plain { OnOk result (are_plain (riders_in (table_view tree.now)) ≡ true) }
+    ensures fault { IfErr result (λ fault. fault ≡ ClassFault.Name
+        → are_plain (riders_in (table_view tree.now)) ≡ false) }
+{
+    match riders_of(tree) {
+        Some(keys) => classes_of(alloc, keys),
+        None => Ok(BTreeMap::new(alloc)),
+    }
+}
+
+impl ClassNames {
+    /// The names of the classes in the text of a fare table. The text is one that is read as a fare
+    /// table: else a token has the class of the first key that names it.
+    pub fn read(alloc: Global, text: &[u8]) -> Result<ClassNames, ClassFault>
+        ensures classes { IfOk result (λ names. (tree : Members)
+            × (parse_document text.now ≡ Some tree)
+            × ((token : List ℕ) → class_of_token tree token ≡ Some (class_by names token))) }
+
+        // A name that cannot stand in a ledger is reported exactly if the text has one.
+        ensures plain { OnOk result ((tree : Members)
+            → parse_document text.now ≡ Some tree → has_plain_classes tree ≡ true) }
+        ensures fault { IfErr result (λ fault. fault ≡ ClassFault.Name → (tree : Members)
+            × (parse_document text.now ≡ Some tree) × (has_plain_classes tree ≡ false)) }
+    {
+        let tree = match toml::table_from_slice(alloc, text) {
+            Ok(tree) => tree,
+            Err(error) => {
+                return Err(if error.is_memory() {
+                    ClassFault::NoMemory
+                } else {
+                    ClassFault::Text
+                });
+            }
+        };
+        let Some(name) = default_of(&tree) else {
+            return Err(ClassFault::Text);
+        };
+        let usual = plain(alloc, name)?;
+        let riders = rider_classes(alloc, &tree)?;
+        Ok(ClassNames { riders, usual })
+    }
+
+    /// The class of the rider of a token.
+    pub fn class_of(&self, token: &[u8; 16]) -> &str
+        ensures { result.now ≡ class_by self.now token.now }
+    {
+        match self.riders.get(token) {
+            Some(class) => class.as_str(),
+            None => self.usual.as_str(),
+        }
+    }
+}

@@ -1,0 +1,104 @@
+//! The three columns behind the lines of a traced ledger.
+
+ghost use Rattle.std.specs.Prelude.{◌≡◌, ◌++◌, ◌∷◌, [], ℕ, List, IfOk, OnOk, codes, drop};
+ghost use Rattle.std.specs.Prelude.{◌==◌, if◌then◌else◌};
+ghost use Rattle.std.specs.Fmt.{decimal};
+ghost use Rattle.settled_texts.specs.Columns.{columns_by, columns_of, with_columns};
+ghost use Rattle.settled_texts.specs.inside.Feeds.{feeds};
+ghost use Rattle.settled_texts.specs.Names.{class_by};
+
+use crate::class_names::ClassNames;
+use crate::trace::TracedTap;
+use itoa::Buffer;
+use std::alloc::AllocError;
+
+/// Appends a comma and the number.
+fn put_number(text: &mut Vec<u8>, number: u64) -> Result<(), AllocError>
+    ensures { OnOk result (text.new.items ≡ text.old.items ++ (codes "," ++ decimal number)) }
+{
+    let mut buffer = Buffer::new();
+    text.extend_from_slice(b",")?;
+    text.extend_from_slice(buffer.format(number).as_bytes())?;
+    Ok(())
+}
+
+fn put_columns(text: &mut Vec<u8>, class: &str, traced: &TracedTap) -> Result<(), AllocError>
+    ensures { OnOk result
+        (text.new.items ≡ text.old.items ++ columns_of class.now traced.now) }
+{
+    text.extend_from_slice(b",")?;
+    text.extend_from_slice(class.as_bytes())?;
+    put_number(text, traced.upload)?;
+    put_number(text, traced.place)?;
+    Ok(())
+}
+
+/// Appends the columns of the next tap, if there is one, and returns the taps behind it.
+fn put_next<'t>(
+    text: &mut Vec<u8>,
+    names: &ClassNames,
+    taps: &'t [TracedTap],
+) -> Result<&'t [TracedTap], AllocError>
+    ensures left { IfOk result (λ left. left.now ≡ drop 1 taps.now) }
+    ensures put { IfOk result (λ left. (rest : List ℕ)
+        → text.old.items ++ with_columns (10 ∷ rest) (columns_by (class_by names.now) taps.now)
+        ≡ text.new.items ++ 10 ∷ with_columns rest (columns_by (class_by names.now) left.now)) }
+{
+    match taps.split_first() {
+        Some((traced, left)) => {
+            put_columns(text, names.class_of(&traced.tap.token), traced)?;
+            Ok(left)
+        }
+        None => Ok(taps),
+    }
+}
+
+fn is_feed(byte: u8) -> bool
+    ensures { result ≡ (byte == 10) }
+{
+    byte == b'\n'
+}
+
+/// Appends a byte of the lines, and before a line feed the columns of the next tap. Returns the taps
+/// that are left.
+fn put_byte<'t>(
+    text: &mut Vec<u8>,
+    byte: u8,
+    names: &ClassNames,
+    taps: &'t [TracedTap],
+) -> Result<&'t [TracedTap], AllocError>
+    ensures left { IfOk result (λ left. left.now
+        ≡ drop (if byte == 10 then 1 else 0) taps.now) }
+    ensures put { IfOk result (λ left. (rest : List ℕ)
+        → text.old.items ++ with_columns (byte ∷ rest) (columns_by (class_by names.now) taps.now)
+        ≡ text.new.items ++ with_columns rest (columns_by (class_by names.now) left.now)) }
+{
+    if is_feed(byte) {
+        let left = put_next(text, names, taps)?;
+        text.push(byte)?;
+        return Ok(left);
+    }
+    text.push(byte)?;
+    Ok(taps)
+}
+
+/// Appends the lines to the text, each with the columns of a tap behind it, in their order, and
+/// returns the taps that are left.
+pub(crate) fn put_lines<'t>(
+    text: &mut Vec<u8>,
+    lines: &[u8],
+    names: &ClassNames,
+    taps: &'t [TracedTap],
+) -> Result<&'t [TracedTap], AllocError>
+    ensures left { IfOk result (λ left. left.now ≡ drop (feeds lines.now) taps.now) }
+    ensures text { IfOk result (λ left. text.new.items ≡ text.old.items
+        ++ with_columns lines.now (columns_by (class_by names.now) taps.now)) }
+{
+    let mut rest = lines;
+    let mut left = taps;
+    while let Some((byte, behind)) = rest.split_first() {
+        left = put_byte(text, *byte, names, left)?;
+        rest = behind;
+    }
+    Ok(left)
+}

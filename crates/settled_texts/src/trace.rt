@@ -1,0 +1,105 @@
+//! The good taps of uploads, each with its upload and its place there.
+
+ghost use Rattle.std.specs.Prelude.{◌≡◌, ◌&&◌, ◌+◌, ◌++◌, ℕ, List, IfOk, length, map};
+ghost use Rattle.std.specs.List.{list_all};
+ghost use Rattle.tap_views.specs.Encoding.{fields_of};
+ghost use Rattle.tap_views.specs.Files.{GoodBatchesView, IsReadAs};
+ghost use Rattle.settled_texts.specs.Traces.{AreReadAs, IsTrace, good_fields, is_whole, numbered};
+ghost use Rattle.settled_texts.specs.Traces.{traced_from};
+
+use std::alloc::Global;
+use tap_views::{Batch, NoMemory, TapFields, good_batches};
+
+/// A tap, and where it stands in the uploads. Its order is the canonical one of taps, then by upload,
+/// then by place.
+#[derive(Clone, Copy, Debug, PartialEq, Eq, PartialOrd, Ord)]
+pub struct TracedTap {
+    pub tap: TapFields,
+    /// The number of its upload, from 0.
+    pub upload: u64,
+    /// The tap's number in that upload, from 1.
+    pub place: u64,
+}
+
+/// The good taps of uploads in canonical order, each with its upload and its place there.
+#[derive(Drop)]
+pub struct Trace {
+    pub taps: Vec<TracedTap>,
+    /// Whether no upload has a layout fault.
+    pub whole: bool,
+}
+
+/// Adds the taps of a batch, of which the first has this place in the upload, and returns the place
+/// behind the last.
+fn add_batch(
+    taps: &mut Vec<TracedTap>,
+    upload: u64,
+    place: u64,
+    batch: &Batch<'_>,
+) -> Result<u64, NoMemory>
+    ensures added { IfOk result (λ next. taps.new.items
+        ≡ taps.old.items ++ numbered upload place (map fields_of batch.now)) }
+    ensures next { IfOk result (λ next. next ≡ place + length batch.now) }
+{
+    let mut next = place;
+    for tap in batch.taps() {
+        let tap = TapFields::of(&tap);
+        taps.push(TracedTap {
+            tap,
+            upload,
+            place: next,
+        })?;
+        next = next.checked_add(1).ok_or(NoMemory)?;
+    }
+    Ok(next)
+}
+
+/// Adds the good taps of an upload, and says whether it has no layout fault.
+fn add_upload(taps: &mut Vec<TracedTap>, upload: u64, bytes: &[u8]) -> Result<bool, NoMemory>
+    ensures { IfOk result (λ whole. (reading : GoodBatchesView)
+        × IsReadAs bytes.now reading.batches reading.fault
+        × (taps.new.items ≡ taps.old.items ++ numbered upload 1 (good_fields reading))
+        × (whole ≡ is_whole reading)) }
+{
+    let mut place = 1;
+    let mut good = good_batches(bytes);
+    while let Some(batch) = good.next() {
+        place = add_batch(taps, upload, place, &batch)?;
+    }
+    Ok(good.fault().is_none())
+}
+
+fn both(a: bool, b: bool) -> bool
+    ensures { result ≡ (a && b) }
+{
+    a && b
+}
+
+/// The good taps of the uploads, upload by upload.
+fn collected(alloc: Global, uploads: &[Vec<u8>]) -> Result<Trace, NoMemory>
+    ensures { IfOk result (λ trace. (readings : List GoodBatchesView)
+        × AreReadAs (map (λ u. u.items) uploads.now) readings
+        × (trace.taps.items ≡ traced_from 0 readings)
+        × (trace.whole ≡ list_all is_whole readings)) }
+{
+    let mut taps = Vec::new(alloc);
+    let mut whole = true;
+    let mut number: u64 = 0;
+    for upload in uploads {
+        let posted = add_upload(&mut taps, number, upload)?;
+        whole = both(whole, posted);
+        number = number.checked_add(1).ok_or(NoMemory)?;
+    }
+    Ok(Trace { taps, whole })
+}
+
+/// The good taps of the uploads in canonical order, each with its upload and its place there: taps
+/// that are equal stand in the order of their uploads and places. An error is want of memory.
+pub fn trace_of(alloc: Global, uploads: &[Vec<u8>]) -> Result<Trace, NoMemory>
+    ensures { IfOk result (λ trace.
+        IsTrace (map (λ u. u.items) uploads.now) trace.taps.items trace.whole) }
+{
+    let mut trace = collected(alloc, uploads)?;
+    trace.taps.sort_unstable();
+    Ok(trace)
+}

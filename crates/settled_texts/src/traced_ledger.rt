@@ -1,0 +1,239 @@
+//! The traced ledger of uploads.
+
+ghost use Rattle.std.specs.Prelude.{◌≡◌, ◌+◌, ◌^◌, ◌<◌, ◌≤◌, ◌++◌, ◌∷◌, [], ℕ, All, List, None};
+ghost use Rattle.std.specs.Prelude.{IfErr, IfOk, OnOk, drop, length, map, string_bytes};
+ghost use Rattle.std.specs.List.Sorted.{IsSorted};
+ghost use Rattle.std.specs.Io.KnownBytes.{Appends};
+ghost use Rattle.tap_views.specs.Encoding.{AreEarly};
+ghost use Rattle.tap_views.specs.TapOrder.{tap_cmp};
+ghost use Rattle.shard_book.specs.declared.entry.Entry.{Entry};
+ghost use Rattle.fare_texts.specs.PrintFaults.{KeepsUnlessWrite};
+ghost use Rattle.fare_texts.specs.declared.print_fault.PrintFault.TheVariants.{Write as ForWrite};
+ghost use Rattle.fare_texts.specs.Ledger.{IsLedgerOver};
+ghost use Rattle.fare_texts.specs.Lines.{HasCome};
+ghost use Rattle.settlement.specs.Posted.{HasName, posted};
+ghost use Rattle.settled_texts.specs.Telling.{AreTold, NoTapFallsFrom, last_token};
+ghost use Rattle.settled_texts.specs.Columns.{columns_by, head_columns, with_columns};
+ghost use Rattle.settled_texts.specs.inside.Feeds.{feeds};
+ghost use Rattle.settled_texts.specs.Ledgers.{IsTracedLedger};
+ghost use Rattle.settled_texts.specs.Names.{class_by};
+ghost use Rattle.settled_texts.specs.Traces.{taps_of_trace};
+
+use crate::class_names::ClassNames;
+use crate::columns::put_lines;
+use crate::trace::{TracedTap, trace_of};
+use crate::{STRIDE_ROOM_BYTES, least_token, write_taps};
+use fare_service::laws::plain_history;
+use fare_table::{Clock, FareTable};
+use fare_texts::{PrintFault, Teller, pass_on, write_out};
+use std::alloc::{AllocError, Global};
+use std::io::Write;
+use tap_views::laws::one_reading_each;
+use tap_views::{NoMemory, TapFields};
+
+/// The head line of a ledger, without its line feed.
+const HEAD: &str =
+    "token,line,moment,validator,mode,answer,cents,window_start,window_end,ride,reason,points_at";
+
+/// What is behind it in a traced ledger.
+const HEAD_COLUMNS: &str = ",class,upload,place\n";
+
+/// How many taps are posted before their lines go out.
+const STRIDE_TAPS: usize = 64;
+
+/// More bytes than the columns of a stride have.
+const COLUMNS_ROOM_BYTES: usize = STRIDE_TAPS * 128;
+
+/// What the lines of a stride are made in, with room for them, so that no memory is taken later.
+#[derive(Drop)]
+struct Room {
+    taps: Vec<TapFields>,
+    /// Their lines, before they are whole.
+    text: String,
+    lines: Vec<u8>,
+    /// Their lines with the columns behind them.
+    traced: Vec<u8>,
+}
+
+impl Room {
+    fn new(alloc: Global) -> Result<Room, NoMemory>
+        ensures { IfOk result (λ room. string_bytes room.text ≡ []) }
+    {
+        let taps = Vec::with_capacity(alloc, STRIDE_TAPS)?;
+        let mut text = String::new(alloc);
+        text.reserve(STRIDE_ROOM_BYTES)?;
+        let lines = Vec::with_capacity(alloc, STRIDE_ROOM_BYTES)?;
+        let traced = Vec::with_capacity(alloc, STRIDE_ROOM_BYTES + COLUMNS_ROOM_BYTES)?;
+        Ok(Room {
+            taps,
+            text,
+            lines,
+            traced,
+        })
+    }
+
+    fn take(&mut self, stride: &[TracedTap]) -> Result<(), AllocError>
+        ensures taps { OnOk result (self.new.taps.items ≡ taps_of_trace stride.now) }
+        ensures text { OnOk result (self.new.text ≡ self.old.text) }
+    {
+        self.taps.clear();
+        for traced in stride {
+            self.taps.push(traced.tap)?;
+        }
+        Ok(())
+    }
+
+    /// Makes the lines of the taps of a stride, whose tokens do not fall from the teller's on.
+    fn tell(
+        &mut self,
+        table: &FareTable,
+        clock: &Clock,
+        teller: &mut Teller,
+        stride: &[TracedTap],
+    ) -> Result<(), PrintFault>
+        requires clock { clock.now ≡ table.now.zone }
+        requires early { AreEarly (λ tap. tap.moment) (taps_of_trace stride.now) }
+        requires no_fall { NoTapFallsFrom teller.old.token (taps_of_trace stride.now) }
+        requires come { (earlier : List Entry) × HasCome table.now teller.old earlier }
+        requires room { teller.old.number + length (taps_of_trace stride.now) < 2 ^ 64 }
+        requires empty { string_bytes self.old.text ≡ [] }
+        ensures told { OnOk result ((earlier : List Entry) → HasCome table.now teller.old earlier
+            → AreTold table.now earlier (taps_of_trace stride.now) teller.new
+            self.new.lines.items) }
+        ensures token { OnOk result
+            (teller.new.token ≡ last_token teller.old.token (taps_of_trace stride.now)) }
+        ensures few { OnOk result
+            (teller.new.number ≤ teller.old.number + length (taps_of_trace stride.now)) }
+        ensures empty { OnOk result (string_bytes self.new.text ≡ []) }
+        ensures fault { IfErr result (λ fault. fault ≡ ForWrite) }
+    {
+        // There is room for a stride, so that none is refused.
+        let Ok(()) = self.take(stride) else {
+            return Err(PrintFault::Write);
+        };
+        self.lines.clear();
+        write_taps(
+            &mut self.text,
+            table,
+            clock,
+            teller,
+            &self.taps,
+            &mut self.lines,
+        )?;
+        pass_on(&mut self.text, &mut self.lines)
+    }
+
+    /// Writes the lines, each with the columns of a tap behind it, and returns the taps that are
+    /// left.
+    fn write<'t, W: Write>(
+        &mut self,
+        names: &ClassNames,
+        taps: &'t [TracedTap],
+        out: &mut W,
+    ) -> Result<&'t [TracedTap], PrintFault>
+        ensures left { IfOk result (λ left. left.now ≡ drop (feeds self.old.lines.items) taps.now) }
+        ensures written { OnOk result (Appends (W.contents out.old) (W.contents out.new)
+            (with_columns self.old.lines.items (columns_by (class_by names.now) taps.now))) }
+        ensures text { self.new.text ≡ self.old.text }
+        ensures fault { IfErr result (λ fault. fault ≡ ForWrite) }
+    {
+        self.traced.clear();
+        // There is room for a stride, so that none is refused.
+        let Ok(left) = put_lines(&mut self.traced, &self.lines, names, taps) else {
+            return Err(PrintFault::Write);
+        };
+        write_out(&self.traced, out)?;
+        Ok(left)
+    }
+}
+
+/// Writes the lines of the taps, whose tokens do not fall from the teller's on, each with its
+/// columns behind it.
+fn write_lines<W: Write>(
+    room: &mut Room,
+    table: &FareTable,
+    clock: &Clock,
+    names: &ClassNames,
+    teller: &mut Teller,
+    trace: &[TracedTap],
+    out: &mut W,
+) -> Result<(), PrintFault>
+    requires clock { clock.now ≡ table.now.zone }
+    requires early { AreEarly (λ tap. tap.moment) (taps_of_trace trace.now) }
+    requires no_fall { NoTapFallsFrom teller.old.token (taps_of_trace trace.now) }
+    requires come { HasCome table.now teller.old [] }
+    requires none { teller.old.number ≡ 0 }
+    requires room { length trace.now < 2 ^ 64 }
+    requires empty { string_bytes room.old.text ≡ [] }
+    ensures told { OnOk result ((lines : List ℕ)
+        × AreTold table.now [] (taps_of_trace trace.now) teller.new lines
+        × Appends (W.contents out.old) (W.contents out.new)
+        (with_columns lines (columns_by (class_by names.now) trace.now))) }
+    ensures fault { IfErr result (λ fault. fault ≡ ForWrite) }
+{
+    let mut rest = trace;
+    let mut left = trace;
+    while !rest.is_empty() {
+        let (stride, behind) = rest.split_at(rest.len().min(STRIDE_TAPS));
+        room.tell(table, clock, teller, stride)?;
+        left = room.write(names, left, out)?;
+        rest = behind;
+    }
+    Ok(())
+}
+
+/// Writes the head line, and the lines of the taps in canonical order, each with its columns behind
+/// it. All memory is taken before the first byte is written.
+fn write_trace<W: Write>(
+    alloc: Global,
+    table: &FareTable,
+    names: &ClassNames,
+    trace: &[TracedTap],
+    out: &mut W,
+) -> Result<(), PrintFault>
+    requires sorted { IsSorted tap_cmp (taps_of_trace trace.now) }
+    requires early { AreEarly (λ tap. tap.moment) (taps_of_trace trace.now) }
+    requires named { All HasName (taps_of_trace trace.now) }
+    ensures ok { OnOk result ((untraced : List ℕ)
+        × IsLedgerOver table.now (posted table.now (taps_of_trace trace.now)) None untraced
+        × Appends (W.contents out.old) (W.contents out.new)
+        (with_columns untraced (head_columns ∷ columns_by (class_by names.now) trace.now))) }
+    ensures fault { IfErr result (λ fault. KeepsUnlessWrite fault (out.new ≡ out.old)) }
+{
+    // proof: the taps can be counted
+    let _count = trace.len();
+    let clock = table.clock(alloc)?;
+    let mut room = Room::new(alloc)?;
+    let mut teller = Teller::of(least_token());
+    write_out(HEAD.as_bytes(), out)?;
+    write_out(HEAD_COLUMNS.as_bytes(), out)?;
+    write_lines(&mut room, table, &clock, names, &mut teller, trace, out)?;
+    Ok(())
+}
+
+/// Writes the traced ledger of the uploads: the ledger of their settled history, and behind each
+/// line the class of its token, the number of the tap's upload, from 0, and its place there, from 1.
+/// Taps that are equal stand in the order of their uploads and places. Says whether no upload has a
+/// layout fault. Each tap takes 48 bytes, and no thread is started. If memory is refused, nothing
+/// was written.
+pub fn write_traced_ledger<W: Write>(
+    alloc: Global,
+    table: &FareTable,
+    names: &ClassNames,
+    uploads: &[Vec<u8>],
+    out: &mut W,
+) -> Result<bool, PrintFault>
+    ensures ok { IfOk result (λ whole. (text : List ℕ)
+        × IsTracedLedger (class_by names.now) table.now (map (λ u. u.items) uploads.now) text whole
+        × Appends (W.contents out.old) (W.contents out.new) text) }
+    ensures fault { IfErr result (λ fault. KeepsUnlessWrite fault (out.new ≡ out.old)) }
+{
+    // proof: the tokens of the taps have 16 bytes
+    one_reading_each(uploads);
+    plain_history(uploads);
+    // proof: the taps, posted in their order, are the settled history
+    settlement::laws::posted_taps();
+    let trace = trace_of(alloc, uploads)?;
+    write_trace(alloc, table, names, &trace.taps, out)?;
+    Ok(trace.whole)
+}

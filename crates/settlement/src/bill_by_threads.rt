@@ -1,0 +1,113 @@
+//! The bill of all parts, made by several threads.
+
+ghost use Rattle.std.specs.Prelude.{◌≡◌, ◌+◌, ◌^◌, ◌≤◌, All, length, IfOk, OnOk};
+ghost use Rattle.settlement.specs.inside.Billing.{ArePartsInOrder, HasBillRoom, IsBillOfParts};
+ghost use Rattle.settlement.specs.inside.Billing.{IsPartBilled, IsSoundPart};
+
+use crate::bill::Bill;
+use crate::pieces::Pieces;
+use crate::uploads::Uploads;
+use fare_table::{Clock, FareTable};
+use shard_book::HashSeed;
+use std::alloc::Global;
+use std::marker::Sync;
+use std::thread;
+use std::thread::Threads;
+use tap_parts::{are_in_order, arrange_into, number_of};
+use tap_views::{NoMemory, TapFields};
+
+/// Adds the taps of a part to the bill, in canonical order: as they lie, if that is their order.
+/// `list` is room to work in.
+fn add_part(
+    alloc: Global,
+    table: &FareTable,
+    clock: &Clock,
+    list: &mut Vec<TapFields>,
+    pieces: &Pieces,
+    bill: &mut Bill,
+) -> Result<(), NoMemory>
+    requires clock { clock.now ≡ table.now.zone }
+    requires sound { IsSoundPart pieces.now }
+    requires room { HasBillRoom bill.old (2 ^ 58) }
+    ensures { OnOk result (IsPartBilled table.now pieces.now bill.old bill.new) }
+{
+    let pieces = pieces.as_slice();
+    if let [piece] = pieces {
+        if are_in_order(piece) {
+            // proof: a list has fewer than 2^58 taps
+            let _ = number_of(piece);
+            bill.add(alloc, table, clock, piece)?;
+            return Ok(());
+        }
+    }
+    arrange_into(alloc, pieces, list)?;
+    // proof: a list has fewer than 2^58 taps
+    let _ = number_of(list);
+    bill.add(alloc, table, clock, list)?;
+    Ok(())
+}
+
+/// How many taps the parts have, or 2^64 - 1 if there are more.
+fn count_of(parts: &[Pieces]) -> u64 {
+    let mut taps = 0u64;
+    for pieces in parts {
+        taps = taps.saturating_add(pieces.count());
+    }
+    taps
+}
+
+/// The bill of the parts, in their order. Each is noted when it is charged.
+fn bill_of<U: Uploads>(
+    alloc: Global,
+    table: &FareTable,
+    seed: HashSeed,
+    uploads: &U,
+    parts: &[Pieces],
+) -> Result<Bill, NoMemory>
+    requires sound { All IsSoundPart parts.now }
+    requires order { ArePartsInOrder parts.now }
+    requires few { length parts.now ≤ 65535 }
+    ensures { IfOk result (IsBillOfParts table.now parts.now) }
+{
+    let clock = table.clock(alloc)?;
+    let mut list = Vec::new(alloc);
+    let mut bill = Bill::new(alloc, seed);
+    for pieces in parts {
+        add_part(alloc, table, &clock, &mut list, pieces, &mut bill)?;
+        uploads.note_charged(pieces.count());
+    }
+    Ok(bill)
+}
+
+/// The bill of the parts, in their order. Each of `workers` threads makes the bill of a run of
+/// parts. If a thread is refused, another does its work. The parts are noted for whoever watches
+/// the uploads.
+pub(crate) fn bill_by_threads<R: Threads + Sync, U: Uploads + Sync>(
+    rt: &R,
+    alloc: Global,
+    table: &FareTable,
+    seed: HashSeed,
+    uploads: &U,
+    parts: &[Pieces],
+    workers: u32,
+) -> Result<Bill, NoMemory>
+    requires sound { All IsSoundPart parts.now }
+    requires order { ArePartsInOrder parts.now }
+    requires few { length parts.now ≤ 65535 }
+    ensures { IfOk result (IsBillOfParts table.now parts.now) }
+{
+    uploads.note_all(count_of(parts));
+    let size = parts.len().div_ceil(workers.max(1) as usize).max(1);
+    let bills = thread::map_chunks(
+        rt,
+        alloc,
+        parts,
+        size,
+        &|_start, chunk: &[Pieces]| { bill_of(alloc, table, seed, uploads, chunk) },
+    )?;
+    let mut bill = Bill::new(alloc, seed);
+    for more in bills {
+        bill.append(alloc, more?)?;
+    }
+    Ok(bill)
+}

@@ -1,0 +1,157 @@
+//! The taps of uploads, split into parts by several threads while they are read.
+
+ghost use Rattle.std.specs.Prelude.{◌≡◌, ◌+◌, ◌<◌, ◌≤◌, length, IfOk};
+ghost use denote.Param.Send.{IsSync};
+ghost use Rattle.tap_parts.specs.Ranges.{range_of_token};
+ghost use Rattle.settlement.specs.inside.SplitTaps.{HasGoodTokens, IsRunAdded, IsRunInParts};
+
+use crate::memory::release;
+use crate::uploads::Uploads;
+use fare_service::UploadEnd;
+use fare_service::laws::plain_history;
+use std::alloc::{AllocError, Global};
+use std::marker::Sync;
+use std::thread::Threads;
+use std::{slice, thread};
+use tap_parts::{Parts, TokenRanges};
+use tap_views::TAP2_TAP_BYTES;
+use tap_views::laws::one_reading_each;
+
+#[derive(Drop)]
+pub(crate) struct SplitTaps {
+    /// The taps of each part, a list of parts for each thread: those of earlier uploads come
+    /// first.
+    pub(crate) lists: Vec<Parts>,
+    pub(crate) ends: Vec<UploadEnd>,
+}
+
+/// About how many bytes the uploads from one number on and below another have. If they have more
+/// than 2^64 - 1, it is that.
+pub(crate) fn bytes_of<U: Uploads>(uploads: &U, start: usize, end: usize) -> usize {
+    let mut bytes = 0usize;
+    for upload in start..end {
+        bytes = bytes.saturating_add(uploads.size(upload));
+    }
+    bytes
+}
+
+/// The law that the tokens of an upload's good taps have 16 bytes. Reads no tap.
+pub(crate) fn good_tokens(upload: &Vec<u8>)
+    ensures { HasGoodTokens upload.now.items }
+{
+    one_reading_each(slice::from_ref(upload));
+    plain_history(slice::from_ref(upload));
+}
+
+/// Reads each upload from one number on and below another, adds its taps, and returns how each
+/// ends. All are read into one room, one after the other.
+fn add_all<U: Uploads>(
+    alloc: Global,
+    ranges: &TokenRanges,
+    parts: &mut Parts,
+    uploads: &U,
+    start: usize,
+    end: usize,
+) -> Result<Vec<UploadEnd>, AllocError>
+    requires room { length ranges.now < length parts.old }
+    requires order { start ≤ end }
+    requires within { end ≤ U.number uploads.now }
+    ensures { IfOk result (λ ends. IsRunAdded (U.may_be uploads.now) start end
+        (range_of_token ranges.now) parts.old parts.new ends.items) }
+{
+    let mut ends = Vec::new(alloc);
+    let mut room = Vec::new(alloc);
+    for number in start..end {
+        let upload = uploads.read(number, room)?;
+        // proof: its tokens have 16 bytes
+        good_tokens(&upload);
+        let added = parts.add_upload(ranges, upload.as_slice())?;
+        ends.push(UploadEnd::by_fault(added.taps, added.fault))?;
+        room = upload;
+    }
+    release(room);
+    Ok(ends)
+}
+
+/// Splits the taps of the uploads from one number on and below another into parts, which are ranges
+/// of tokens. Each part has room for half as many taps again as its share, if tokens were even.
+fn split_uploads<U: Uploads>(
+    alloc: Global,
+    ranges: &TokenRanges,
+    uploads: &U,
+    start: usize,
+    end: usize,
+) -> Result<SplitTaps, AllocError>
+    requires order { start ≤ end }
+    requires within { end ≤ U.number uploads.now }
+    ensures { IfOk result (λ split. IsRunInParts (U.may_be uploads.now) start end
+        (range_of_token ranges.now) (length ranges.now + 1) split.lists.items split.ends.items) }
+{
+    let parts = ranges.len();
+    let share = bytes_of(uploads, start, end) / TAP2_TAP_BYTES / parts as usize;
+    let mut list = Parts::with_room(alloc, parts, share + share / 2)?;
+    let ends = add_all(alloc, ranges, &mut list, uploads, start, end)?;
+    let mut lists = Vec::new(alloc);
+    lists.push(list)?;
+    Ok(SplitTaps { lists, ends })
+}
+
+/// Where the uploads from one number on and below another have half of their bytes, about.
+pub(crate) fn middle_of<U: Uploads>(uploads: &U, start: usize, end: usize) -> usize
+    requires { start ≤ end }
+    ensures least { start ≤ result }
+    ensures most { result ≤ end }
+{
+    let half = bytes_of(uploads, start, end) / 2;
+    let mut bytes = 0usize;
+    for upload in start..end {
+        if half <= bytes {
+            return upload;
+        }
+        bytes = bytes.saturating_add(uploads.size(upload));
+    }
+    end
+}
+
+/// Splits the taps of the uploads from one number on and below another into ranges of tokens. The
+/// uploads are halved `halvings` times, and a thread of its own reads and splits each piece. If one
+/// is refused, both halves are split one after the other.
+#[cycle(splits)]
+pub(crate) fn split_by_threads<R: Threads + Sync, U: Uploads + Sync>(
+    rt: &R,
+    alloc: Global,
+    ranges: &TokenRanges,
+    uploads: &U,
+    start: usize,
+    end: usize,
+    halvings: u32,
+) -> Result<SplitTaps, AllocError>
+    requires order { start ≤ end }
+    requires within { end ≤ U.number uploads.now }
+    ensures { IfOk result (λ split. IsRunInParts (U.may_be uploads.now) start end
+        (range_of_token ranges.now) (length ranges.now + 1) split.lists.items split.ends.items) }
+{
+    if halvings == 0 {
+        return split_uploads(alloc, ranges, uploads, start, end);
+    }
+    let fewer = halvings - 1;
+    let middle = middle_of(uploads, start, end);
+    let first = move || -> Result<SplitTaps, AllocError>
+        requires { IsSync R.row × IsSync U.row × (start ≤ middle) × (middle ≤ U.number uploads.now) }
+        ensures { IfOk result (λ split. IsRunInParts (U.may_be uploads.entry.now) start middle
+            (range_of_token ranges.entry.now) (length ranges.entry.now + 1) split.lists.items
+            split.ends.items) }
+    { split_by_threads(rt, alloc, ranges, uploads, start, middle, fewer) };
+    let second = move || -> Result<SplitTaps, AllocError>
+        requires { IsSync R.row × IsSync U.row × (middle ≤ end) × (end ≤ U.number uploads.now) }
+        ensures { IfOk result (λ split. IsRunInParts (U.may_be uploads.entry.now) middle end
+            (range_of_token ranges.entry.now) (length ranges.entry.now + 1) split.lists.items
+            split.ends.items) }
+    { split_by_threads(rt, alloc, ranges, uploads, middle, end, fewer) };
+    let (split, more) = thread::join(rt, first, second);
+    let mut split = split?;
+    let mut more = more?;
+    split.lists.append(&mut more.lists)?;
+    split.ends.append(&mut more.ends)?;
+    Ok(split)
+}

@@ -1,0 +1,218 @@
+//! Taps of merged files, taken some at a time.
+
+ghost use Rattle.std.specs.Prelude.{◌≡◌, ◌≤◌, ◌<◌, [], true, ℕ, List, IfOk, IsTrue, OnOk, None, Some};
+ghost use Rattle.std.specs.Prelude.{length, map};
+ghost use Rattle.fare_texts.specs.Lines.{IsUpTo};
+ghost use Rattle.settlement.specs.Posted.{HasName, token_of_tap};
+ghost use Rattle.settled_texts.specs.Telling.{NoTapFallsFrom};
+ghost use Rattle.sorted_taps.specs.Heads.{IsRanked};
+ghost use Rattle.sorted_taps.specs.Merges.{AreAtEnd, AreBegun};
+ghost use Rattle.sorted_taps.specs.Reading.{window_bytes};
+ghost use Rattle.sorted_bills.specs.inside.Taken.{AreTapsTaken, IsReady};
+
+use placed_files::Placed;
+use sorted_taps::{Merge, SortedFault, TapReader};
+use std::alloc::{AllocError, Global};
+use tap_views::{MOMENT_LIMIT_MS, TapFields, Token};
+
+const TAKEN_TAPS: usize = 512;
+
+/// Merged files, and the taps that were taken of them last.
+#[derive(Drop)]
+pub(crate) struct Taker {
+    pub(crate) merge: Merge,
+    /// Room to read in.
+    window: Vec<u8>,
+    pub(crate) taps: Vec<TapFields>,
+}
+
+#[inline(always)]
+pub(crate) fn name_of(tap: &TapFields) -> Token
+    ensures token { result ≡ token_of_tap tap.now }
+    ensures named { HasName tap.now }
+{
+    Token::of(&tap.token)
+}
+
+/// Whether the tap is before 2100, as each one of a batch is.
+#[inline(always)]
+pub(crate) fn is_early(tap: &TapFields) -> bool
+    ensures { IsTrue result → tap.now.moment < 4_102_444_800_000 }
+{
+    tap.moment < MOMENT_LIMIT_MS
+}
+
+/// Whether a tap with this token can come next behind one with the last token.
+#[inline(always)]
+fn may_follow(tap: &TapFields, last: Token, token: Token) -> bool
+    ensures early { IsTrue result → tap.now.moment < 4_102_444_800_000 }
+    ensures up { IsTrue result → IsUpTo last token }
+{
+    if token < last {
+        return false;
+    }
+    is_early(tap)
+}
+
+/// Whether a next tap may be taken: if there is a bound, only one with a token below it.
+fn may_take(merge: &Merge, below: Option<Token>) -> bool
+    requires { IsRanked merge.now.readers.items merge.now.heads.items }
+    ensures { below ≡ None → result ≡ true }
+{
+    let Some(bound) = below else {
+        return true;
+    };
+    match merge.least() {
+        Some(tap) => name_of(&tap) < bound,
+        None => false,
+    }
+}
+
+/// Takes the next taps of the files into the list, in place of what was there: 512, or all that are
+/// left, or all with tokens below the bound. The readers see to it that no token is below the one
+/// before, from this one on.
+fn take_some<F: Placed>(
+    merge: &mut Merge,
+    files: &[F],
+    window: &mut [u8],
+    from: Token,
+    below: Option<Token>,
+    taps: &mut Vec<TapFields>,
+) -> Result<(), SortedFault>
+    requires readers { length merge.old.readers.items ≡ length files.now }
+    requires ranked { IsRanked merge.old.readers.items merge.old.heads.items }
+    requires window { window_bytes ≤ length window.old }
+    ensures readers { OnOk result (length merge.new.readers.items ≡ length files.now) }
+    ensures ranked { OnOk result (IsRanked merge.new.readers.items merge.new.heads.items) }
+    ensures taken { OnOk result (AreTapsTaken (map F.bytes files.now) merge.old.readers.items
+        taps.new.items merge.new.readers.items) }
+    ensures no_fall { OnOk result (NoTapFallsFrom from taps.new.items) }
+    ensures end { OnOk result
+        (below ≡ None → taps.new.items ≡ [] → AreAtEnd merge.new.readers.items) }
+    ensures few { OnOk result (length taps.new.items ≤ 512) }
+{
+    taps.clear();
+    let mut last = from;
+    for _place in 0..TAKEN_TAPS {
+        if !may_take(merge, below) {
+            return Ok(());
+        }
+        match merge.next(files, window)? {
+            Some(tap) => {
+                let token = name_of(&tap);
+                // proof: no batch has a later moment, and no reader goes back
+                if !may_follow(&tap, last, token) {
+                    return Err(SortedFault::Unread);
+                }
+                taps.push(tap)?;
+                last = token;
+            }
+            None => return Ok(()),
+        }
+    }
+    Ok(())
+}
+
+/// Merged files, at about the first tap with this token or a higher one; at the first of all if
+/// there is no token.
+fn merge_from<F: Placed>(
+    alloc: Global,
+    files: &[F],
+    from: Option<Token>,
+    window: &mut [u8],
+) -> Result<Merge, SortedFault>
+    requires { window_bytes ≤ length window.old }
+    ensures number { IfOk result (λ merge. length merge.readers.items ≡ length files.now) }
+    ensures ranked { IfOk result (λ merge. IsRanked merge.readers.items merge.heads.items) }
+{
+    match from {
+        Some(token) => Merge::near(alloc, files, token, window),
+        None => Merge::begin(alloc, files, window),
+    }
+}
+
+impl Taker {
+    /// At the first tap of each file. The window has `WINDOW_BYTES` at least.
+    pub(crate) fn begin<F: Placed>(
+        alloc: Global,
+        files: &[F],
+        window: Vec<u8>,
+    ) -> Result<Self, SortedFault>
+        requires { window_bytes ≤ length window.items }
+        ensures ready { IfOk result (IsReady (length files.now)) }
+        ensures begun { IfOk result (λ taker. (all : List (List ℕ))
+            → map F.bytes files.now ≡ map Some all → AreBegun all taker.merge.readers.items) }
+    {
+        let mut window = window;
+        let merge = Merge::begin(alloc, files, &mut window)?;
+        Ok(Taker::of(alloc, merge, window)?)
+    }
+
+    /// At about the first tap with this token or a higher one, or at the first of all if there is no
+    /// token. The window has `WINDOW_BYTES` at least.
+    pub(crate) fn near<F: Placed>(
+        alloc: Global,
+        files: &[F],
+        from: Option<Token>,
+        window: Vec<u8>,
+    ) -> Result<Self, SortedFault>
+        requires { window_bytes ≤ length window.items }
+        ensures { IfOk result (IsReady (length files.now)) }
+    {
+        let mut window = window;
+        let merge = merge_from(alloc, files, from, &mut window)?;
+        Ok(Taker::of(alloc, merge, window)?)
+    }
+
+    /// Goes on from where the merge stands.
+    pub(crate) fn of(alloc: Global, merge: Merge, window: Vec<u8>) -> Result<Self, AllocError>
+        ensures merge { IfOk result (λ taker. taker.merge ≡ merge) }
+        ensures window { IfOk result (λ taker. taker.window ≡ window) }
+    {
+        let taps = Vec::with_capacity(alloc, TAKEN_TAPS)?;
+        Ok(Taker {
+            merge,
+            window,
+            taps,
+        })
+    }
+
+    pub(crate) fn into_readers(self) -> Vec<TapReader>
+        ensures { result ≡ self.merge.readers }
+    {
+        let Taker {
+            merge,
+            window: _,
+            taps: _,
+        } = self;
+        merge.into_readers()
+    }
+
+    /// Takes the next taps, in place of those taken last: only those with tokens below the bound, if
+    /// there is one, and otherwise none only at the ends of all files. Their tokens do not fall from
+    /// this one on.
+    pub(crate) fn take<F: Placed>(
+        &mut self,
+        files: &[F],
+        from: Token,
+        below: Option<Token>,
+    ) -> Result<(), SortedFault>
+        requires { IsReady (length files.now) self.old }
+        ensures ready { OnOk result (IsReady (length files.now) self.new) }
+        ensures taken { OnOk result (AreTapsTaken (map F.bytes files.now)
+            self.old.merge.readers.items self.new.taps.items self.new.merge.readers.items) }
+        ensures no_fall { OnOk result (NoTapFallsFrom from self.new.taps.items) }
+        ensures end { OnOk result (below ≡ None → self.new.taps.items ≡ []
+            → AreAtEnd self.new.merge.readers.items) }
+        ensures few { OnOk result (length self.new.taps.items ≤ 512) }
+    {
+        take_some(
+            &mut self.merge,
+            files,
+            &mut self.window,
+            from,
+            below,
+            &mut self.taps,
+        )
+    }
+}

@@ -1,0 +1,121 @@
+//! Taps written in batches of 512.
+
+ghost use Rattle.std.specs.Prelude.{◌≡◌, ◌<◌, ◌++◌, ◌∷◌, [], List, ℕ, Option, IfErr, OnOk};
+ghost use Rattle.std.specs.Prelude.{flat_map};
+ghost use Rattle.tap_views.specs.Encoding.{AreEarly};
+ghost use Rattle.tap_views.specs.Layout.{moment_limit};
+ghost use Rattle.tap_views.specs.declared.encoder.TapFields.{TapFields};
+ghost use Rattle.sorted_taps.specs.Written.{IsBegun, IsWritten};
+ghost use Rattle.sorted_taps.specs.inside.Waiting.{HasPut, IsBatchWritten, MayWait};
+
+use crate::fault::WriteFault;
+use std::alloc::Global;
+use std::io::Write;
+use tap_views::{TAP1_HEADER_BYTES, TAP1_TAP_BYTES, TapFields, put_batch};
+
+/// The taps of a batch. A reader of a file keeps one: 16 KiB.
+pub(crate) const BATCH_TAPS: usize = 512;
+
+const BATCH_BYTES: usize = TAP1_HEADER_BYTES + BATCH_TAPS * TAP1_TAP_BYTES;
+
+fn write_batch<W: Write>(alloc: Global, taps: &[TapFields], out: &mut W) -> Result<(), WriteFault>
+    requires { MayWait taps.now }
+    ensures written { OnOk result
+        (IsBatchWritten (W.contents out.old) (W.contents out.new) taps.now) }
+    ensures kept { IfErr result (λ fault. fault ≡ WriteFault.NoMemory → out.new ≡ out.old) }
+{
+    let mut bytes = Vec::with_capacity(alloc, BATCH_BYTES)?;
+    put_batch(&mut bytes, taps)?;
+    match out.write_all(&bytes) {
+        Ok(()) => Ok(()),
+        Err(_) => Err(WriteFault::Write),
+    }
+}
+
+/// Adds a tap to those that wait. If a batch of them waits already, it is written first.
+pub(crate) fn put<W: Write>(
+    alloc: Global,
+    tap: &TapFields,
+    waiting: &mut Vec<TapFields>,
+    out: &mut W,
+) -> Result<(), WriteFault>
+    requires early { tap.now.moment < moment_limit }
+    requires waiting { MayWait waiting.old.items }
+    ensures waiting { OnOk result (MayWait waiting.new.items) }
+    ensures put { OnOk result ((begin : Option (List ℕ)) (taps : List TapFields)
+        → HasPut begin (W.contents out.old) taps waiting.old.items
+        → HasPut begin (W.contents out.new) (taps ++ tap.now ∷ []) waiting.new.items) }
+    ensures begun { IfErr result (λ fault. fault ≡ WriteFault.NoMemory
+        → (begin : Option (List ℕ)) (taps : List TapFields)
+        → HasPut begin (W.contents out.old) taps waiting.old.items
+        → IsBegun begin (W.contents out.new)) }
+{
+    if waiting.len() == BATCH_TAPS {
+        write_batch(alloc, waiting, out)?;
+        waiting.clear();
+    }
+    waiting.push(*tap)?;
+    Ok(())
+}
+
+pub(crate) fn put_rest<W: Write>(
+    alloc: Global,
+    waiting: &[TapFields],
+    out: &mut W,
+) -> Result<(), WriteFault>
+    requires { MayWait waiting.now }
+    ensures written { OnOk result ((begin : Option (List ℕ)) (taps : List TapFields)
+        → HasPut begin (W.contents out.old) taps waiting.now
+        → IsWritten begin (W.contents out.new) taps) }
+    ensures kept { IfErr result (λ fault. fault ≡ WriteFault.NoMemory → out.new ≡ out.old) }
+{
+    if waiting.is_empty() {
+        return Ok(());
+    }
+    write_batch(alloc, waiting, out)
+}
+
+/// Adds the taps to those that wait, and writes the batches that are full meanwhile.
+fn put_all<W: Write>(
+    alloc: Global,
+    taps: &[TapFields],
+    waiting: &mut Vec<TapFields>,
+    out: &mut W,
+) -> Result<(), WriteFault>
+    requires early { AreEarly (λ tap. tap.moment) taps.now }
+    requires waiting { MayWait waiting.old.items }
+    ensures waiting { OnOk result (MayWait waiting.new.items) }
+    ensures put { OnOk result ((begin : Option (List ℕ)) (earlier : List TapFields)
+        → HasPut begin (W.contents out.old) earlier waiting.old.items
+        → HasPut begin (W.contents out.new) (earlier ++ taps.now) waiting.new.items) }
+    ensures begun { IfErr result (λ fault. fault ≡ WriteFault.NoMemory
+        → (begin : Option (List ℕ)) (earlier : List TapFields)
+        → HasPut begin (W.contents out.old) earlier waiting.old.items
+        → IsBegun begin (W.contents out.new)) }
+{
+    for tap in taps {
+        put(alloc, tap, waiting, out)?;
+    }
+    Ok(())
+}
+
+/// Writes the taps of the lists, one list behind the other, as a file of `TAP1` batches of 512
+/// taps, the last of fewer if need be. The moments are before 2100. After refused memory whole
+/// batches may stand in the output, and after a write that failed anything.
+pub fn write_taps<W: Write>(
+    alloc: Global,
+    lists: &[Vec<TapFields>],
+    out: &mut W,
+) -> Result<(), WriteFault>
+    requires { AreEarly (λ tap. tap.moment) (flat_map (λ list. list.items) lists.now) }
+    ensures written { OnOk result (IsWritten (W.contents out.old) (W.contents out.new)
+        (flat_map (λ list. list.items) lists.now)) }
+    ensures begun { IfErr result (λ fault. fault ≡ WriteFault.NoMemory
+        → IsBegun (W.contents out.old) (W.contents out.new)) }
+{
+    let mut waiting = Vec::with_capacity(alloc, BATCH_TAPS)?;
+    for list in lists {
+        put_all(alloc, list, &mut waiting, out)?;
+    }
+    put_rest(alloc, &waiting, out)
+}

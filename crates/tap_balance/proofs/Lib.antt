@@ -1,6 +1,0 @@
-mod SameTaps
-mod Firsts
-mod Times
-mod Balanced
-mod Spread
-mod FullyBalanced

@@ -1,6 +1,0 @@
-pub mod Classes
-pub mod Columns
-pub mod Ledgers
-pub mod Names
-pub mod Traces
-pub mod inside
