@@ -1,7 +1,7 @@
 -- The window end as a function, and that it is later than the start.
 use Rattle.std.proofs.Common.{◌≡◌, ◌∙◌, ℕ, zero, suc, ℤ, pos, ◌+◌, ◌-◌, ◌*◌, ◌<◌, ◌≤◌, ◌+ℤ◌, ◌-ℤ◌}
-use Rattle.std.proofs.Common.{◌*ℤ◌, ◌<ℤ◌, ◌≤ℤ◌, neg_ℤ, negsuc, ◌⊎◌, Bool, true, false, Option, Some}
-use Rattle.std.proofs.Common.{None}
+use Rattle.std.proofs.Common.{◌*ℤ◌, ◌<ℤ◌, ◌≤ℤ◌, neg_ℤ, negsuc, ◌⊎◌, Bool, true, false, Option}
+use Rattle.std.proofs.Common.{Some, None}
 use Rattle.std.proofs.Common.{refl, sym, ap, arith, cond, inl, inr, w64, FitsSigned}
 use Rattle.std.specs.Int.{int_div_euclid, int_max}
 use Rattle.std.specs.Prelude.{int_div, int_lt, unsigned_abs}
@@ -35,8 +35,8 @@ use Rattle.fare_table.specs.Until.{window_end_by, window_end_in}
 use Rattle.fare_table.specs.Fares.{Fares}
 use Rattle.fare_table.specs.declared.window_span.WindowSpan.{WindowSpan}
 use Rattle.fare_table.specs.declared.window_span.WindowSpan.TheVariants.{Days, CalendarDay}
-use Rattle.fare_table.specs.declared.window_span.WindowSpan.TheVariants.{CalendarWeek}
 use Rattle.fare_table.specs.declared.window_span.WindowSpan.TheVariants.{CalendarMonth}
+use Rattle.fare_table.specs.declared.window_span.WindowSpan.TheVariants.{CalendarWeek}
 
 -- ---- the midnight that a zone picks, and the date that its clocks show
 offsets-date : (std : Offset) (dst : Option Dst) (dt : DateTime)

@@ -13,8 +13,8 @@ use Rattle.fare_table.specs.declared.terms.Terms.{Terms}
 use Rattle.fare_table.specs.declared.transfer_terms.TransferTerms.{TransferTerms}
 use Rattle.fare_table.specs.declared.validators.RangeRest.{RangeRest}
 
--- what the table's text means, and what its clocks go by: how long windows are, and the rule that the
--- zone's text reads as
+-- what the table's text means, and what its clocks go by: how long windows are, and the rule that
+-- the zone's text reads as
 pub record Fares : Type 0 where
   pub meaning : TableMeaning
   pub zone : ClockView

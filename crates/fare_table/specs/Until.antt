@@ -17,7 +17,8 @@ use Rattle.fare_table.specs.ClockView.{ClockView}
 use Rattle.fare_table.specs.Fares.{Fares}
 use Rattle.fare_table.specs.declared.window_span.WindowSpan.{WindowSpan}
 use Rattle.fare_table.specs.declared.window_span.WindowSpan.TheVariants.{Days, CalendarDay}
-use Rattle.fare_table.specs.declared.window_span.WindowSpan.TheVariants.{CalendarWeek, CalendarMonth}
+use Rattle.fare_table.specs.declared.window_span.WindowSpan.TheVariants.{CalendarMonth}
+use Rattle.fare_table.specs.declared.window_span.WindowSpan.TheVariants.{CalendarWeek}
 
 -- the moment in nanoseconds since 1970-01-01T00:00Z
 abbrev pub moment_nanos : ℕ → ℤ
@@ -27,8 +28,8 @@ moment_nanos moment = pos (moment * 1_000_000)
 abbrev pub seconds_ahead : PosixRule → ℕ → ℤ
 seconds_ahead zone moment = offset_at (Posix zone) (moment_nanos moment)
 
--- The date at whose 00:00 a window ends that starts on the date that is shown: the Nth after it, the
--- next one, the next Monday, or the one after the last of its month.
+-- The date at whose 00:00 a window ends that starts on the date that is shown: the Nth after it,
+-- the next one, the next Monday, or the one after the last of its month.
 abbrev pub IsEndDate : WindowSpan → Date → Date → Type 0
 IsEndDate (Days count) shown later = epoch_day later ≡ epoch_day shown +ℤ pos count
 IsEndDate CalendarDay shown later = epoch_day later ≡ epoch_day shown +ℤ pos 1
@@ -39,8 +40,8 @@ IsEndDate CalendarMonth shown later =
     epoch_day later ≡ days_from_civil shown.year shown.month (month_length shown) +ℤ pos 1
 
 -- The window ends at 00:00 of its end date by the clocks of the zone, and at least a millisecond
--- after its start. Where that midnight is skipped it takes the offset before the gap, where it comes
--- twice it is the earlier one.
+-- after its start. A midnight that is skipped takes the offset before the gap, and of one that
+-- comes twice the earlier counts.
 pub record IsCivilWindowEnd (zone : TimeZone) (span : WindowSpan) (start window_end : ℕ)
     : Type 0 where
   pub shown : DateTime
@@ -56,19 +57,21 @@ pub record IsCivilWindowEnd (zone : TimeZone) (span : WindowSpan) (start window_
 abbrev pub day_millis : ℕ
 day_millis = 86_400_000
 
--- the end of a window of a table without a zone: so many days of 24 hours after its start, or a
+-- the end of a window of a table without a zone: its days, of 24 hours each, after its start, or a
 -- midnight of UTC
 abbrev pub IsPlainWindowEnd : WindowSpan → ℕ → ℕ → Type 0
 IsPlainWindowEnd (Days count) start window_end =
     window_end ≡ start + max 1 (count * day_millis)
 IsPlainWindowEnd CalendarDay start window_end = IsCivilWindowEnd UTC CalendarDay start window_end
 IsPlainWindowEnd CalendarWeek start window_end = IsCivilWindowEnd UTC CalendarWeek start window_end
-IsPlainWindowEnd CalendarMonth start window_end = IsCivilWindowEnd UTC CalendarMonth start window_end
+IsPlainWindowEnd CalendarMonth start window_end =
+    IsCivilWindowEnd UTC CalendarMonth start window_end
 
 -- the end of a window, in the zone or without one
 abbrev pub IsWindowEndBy : Option PosixRule → WindowSpan → ℕ → ℕ → Type 0
 IsWindowEndBy None span start window_end = IsPlainWindowEnd span start window_end
-IsWindowEndBy (Some zone) span start window_end = IsCivilWindowEnd (Posix zone) span start window_end
+IsWindowEndBy (Some zone) span start window_end =
+    IsCivilWindowEnd (Posix zone) span start window_end
 
 -- the end of a window by a clock
 abbrev pub IsWindowEnd : ClockView → ℕ → ℕ → Type 0

@@ -6,7 +6,8 @@ use Rattle.std.specs.Option.{option_and_then}
 use Rattle.fare_table.specs.Modes.{same_name}
 use Rattle.fare_table.specs.declared.window_span.WindowSpan.{WindowSpan}
 use Rattle.fare_table.specs.declared.window_span.WindowSpan.TheVariants.{Days, CalendarDay}
-use Rattle.fare_table.specs.declared.window_span.WindowSpan.TheVariants.{CalendarWeek, CalendarMonth}
+use Rattle.fare_table.specs.declared.window_span.WindowSpan.TheVariants.{CalendarMonth}
+use Rattle.fare_table.specs.declared.window_span.WindowSpan.TheVariants.{CalendarWeek}
 
 -- a number of days is one from 1 to 31
 abbrev pub IsBoundedSpan : WindowSpan → Type 0

@@ -55,12 +55,12 @@ impl Clock {
 
     /// The end of a window that starts at the moment, both in milliseconds since
     /// 1970-01-01T00:00Z; the moment lies before 2100-01-01T00:00Z. Without a zone a window of `n`
-    /// days ends `n * 24` hours later, and one of a calendar day, week or month at the next 00:00 in
-    /// UTC of a day, a Monday or the first of a month. With a zone each ends at 00:00 by its clocks,
-    /// that of `n` days on the `n`th date after the start's (that a window has seven days is the
-    /// MTA's, where it ends is this project's choice). A midnight that clocks skip takes the offset
-    /// before the gap, one that comes twice is the earlier. Each ends at least a millisecond after
-    /// its start. It takes no memory.
+    /// days ends `n * 24` hours later. One of a calendar day, week or month ends at the next 00:00
+    /// in UTC of a day, a Monday or the first of a month. With a zone each ends at 00:00 by its
+    /// clocks, and one of `n` days on the `n`th date after the start's (that a window has seven days
+    /// is the MTA's, where it ends is this project's choice). A midnight that clocks skip takes the
+    /// offset before the gap, one that comes twice is the earlier. Each ends at least a millisecond
+    /// after its start. It takes no memory.
     #[inline]
     pub fn window_end(&self, moment: u64) -> u64
         requires { moment < 4_102_444_800_000 }

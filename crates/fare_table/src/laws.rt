@@ -41,8 +41,8 @@ pub fn windows_have_one_end()
         → window_end ≡ until fares start }
 {}
 
-/// In a zone a window of four days or more ends at the midnight itself, which is after its start by any
-/// zone's rule.
+/// In a zone a window of four days or more ends at the midnight itself, which is after its start by
+/// any zone's rule.
 pub fn long_windows_end_at_midnight()
     ensures { (zone : PosixRule) (count start : ℕ) → 4 ≤ count
         → moment_nanos (civil_window_end zone (Days count) start)

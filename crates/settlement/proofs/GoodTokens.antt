@@ -2,6 +2,7 @@
 use Rattle.std.proofs.Common.{ℕ, List, All, None, map, ap, subst, ◌∙◌, []}
 use Rattle.std.proofs.lemmas.List.Elements.{All-weaker}
 use Rattle.fare_table.specs.Fares.{Fares}
+use Rattle.fare_table.specs.declared.window_span.WindowSpan.TheVariants.{CalendarDay}
 use Rattle.shard_book.specs.Visits.{AreEntriesOf}
 use Rattle.shard_book.specs.declared.entry.Entry.{Entry}
 use Rattle.tap_views.specs.Encoding.{fields_of}
@@ -28,8 +29,9 @@ some_fares = record {
     ranges = [];
     riders = [];
     zone = None;
+    window = CalendarDay;
   };
-  zone = None;
+  zone = record { span = CalendarDay; rule = None };
 }
 
 -- the entries of the plain history, which the uploads have under any table, name the taps' tokens

@@ -2,6 +2,7 @@
 -- book.
 use Rattle.std.specs.Prelude.{[], None}
 use Rattle.fare_table.specs.Fares.{Fares}
+use Rattle.fare_table.specs.declared.window_span.WindowSpan.TheVariants.{CalendarDay}
 use Rattle.shard_book.specs.Book.{Book}
 
 -- a table without modes, ranges and riders
@@ -16,8 +17,9 @@ no_fares = record {
         ranges = [];
         riders = [];
         zone = None;
+        window = CalendarDay;
       };
-  zone = None;
+  zone = record { span = CalendarDay; rule = None };
 }
 
 -- an empty book under it

@@ -38,8 +38,8 @@ const FARES: &str = "a table from modes to numbers from 0 to 100000, in cents";
 const ZONE: &str = "a POSIX rule, as \"EST5EDT,M3.2.0,M11.1.0\", not a place";
 
 /// What `window` has to be.
-const WINDOW: &str = "\"7 days\" or another number of days from 1 to 31, \"calendar day\", \
-    \"calendar week\" or \"calendar month\"";
+const WINDOW: &str =
+    "1 to 31 days as \"7 days\", or \"calendar day\", \"calendar week\", \"calendar month\"";
 
 /// The whole path of a key at the top.
 pub(super) fn top(alloc: Global, key: &str) -> Result<String, AllocError> {
