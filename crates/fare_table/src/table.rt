@@ -265,6 +265,13 @@ impl FareTable {
         text_of(&self.parts.zone)
     }
 
+    /// How long windows are.
+    pub fn window_span(&self) -> WindowSpan
+        ensures { result ≡ self.now.meaning.window }
+    {
+        self.parts.window
+    }
+
     /// What the rider of a token pays, in cents, on a mode of which the rider's class, else the
     /// default class, names no fare.
     pub fn terms_of(&self, token: &[u8]) -> Terms

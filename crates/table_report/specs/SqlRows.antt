@@ -1,9 +1,13 @@
 -- The rows of the SQL tables that a fare table is written as.
 use Rattle.std.specs.Prelude.{ℕ, List, [], ◌∷◌, Option, None, Some, ◌==◌, if◌then◌else◌, length}
-use Rattle.std.specs.Prelude.{map, slice_index_or}
+use Rattle.std.specs.Prelude.{codes, map, slice_index_or}
 use Rattle.std.specs.List.{flat_map, range_with_len}
 use Rattle.fare_table.specs.Fares.{Fares, class_at, is_permitted, ride_terms, transfer_terms}
 use Rattle.fare_table.specs.declared.validators.RangeRest.{RangeRest}
+use Rattle.fare_table.specs.declared.window_span.WindowSpan.{WindowSpan}
+use Rattle.fare_table.specs.declared.window_span.WindowSpan.TheVariants.{Days, CalendarDay}
+use Rattle.fare_table.specs.declared.window_span.WindowSpan.TheVariants.{CalendarMonth}
+use Rattle.fare_table.specs.declared.window_span.WindowSpan.TheVariants.{CalendarWeek}
 use Rattle.hex.specs.Hex.{encode_lower}
 
 -- what stands in a column of a row
@@ -80,6 +84,24 @@ abbrev pub rows_of_zone : Option (List ℕ) → List (List Field)
 rows_of_zone None = []
 rows_of_zone (Some rule) = rule_row rule ∷ []
 
+-- the unit of the time that windows have
+abbrev pub span_unit : WindowSpan → List ℕ
+span_unit (Days count) = codes "days"
+span_unit CalendarDay = codes "calendar day"
+span_unit CalendarWeek = codes "calendar week"
+span_unit CalendarMonth = codes "calendar month"
+
+-- how many days windows have at most
+abbrev pub span_days : WindowSpan → ℕ
+span_days (Days count) = count
+span_days CalendarDay = 1
+span_days CalendarWeek = 7
+span_days CalendarMonth = 31
+
+-- how long windows are: the unit, and the most days
+abbrev pub span_row : WindowSpan → List Field
+span_row span = text (span_unit span) ∷ number (span_days span) ∷ []
+
 -- the classes by their places
 abbrev pub class_rows : Fares → List (List Field)
 class_rows fares = map (class_row fares) (places (length fares.meaning.classes))
@@ -107,3 +129,7 @@ rider_rows fares = map (rider_row fares) fares.meaning.riders
 -- the zone
 abbrev pub zone_rows : Fares → List (List Field)
 zone_rows fares = rows_of_zone fares.meaning.zone
+
+-- how long windows are
+abbrev pub window_rows : Fares → List (List Field)
+window_rows fares = span_row fares.meaning.window ∷ []

@@ -5,7 +5,7 @@ use Rattle.std.specs.Fmt.{decimal}
 use Rattle.std.specs.List.{flat_map, list_all, list_any}
 use Rattle.fare_table.specs.Fares.{Fares}
 use Rattle.table_report.specs.SqlRows.{Field, number, text, class_rows, fare_rows, mode_rows}
-use Rattle.table_report.specs.SqlRows.{pair_rows, range_rows, rider_rows, zone_rows}
+use Rattle.table_report.specs.SqlRows.{pair_rows, range_rows, rider_rows, window_rows, zone_rows}
 
 -- a byte of a text in quotes: an apostrophe stands there twice
 abbrev pub doubled : ℕ → List ℕ
@@ -53,7 +53,8 @@ tables_text =
     ++ (codes "CREATE TABLE ranges (first_validator BIGINT NOT NULL PRIMARY KEY,\n"
     ++ (codes "  last_validator BIGINT NOT NULL, mode TEXT NOT NULL);\n"
     ++ (codes "CREATE TABLE riders (token TEXT NOT NULL PRIMARY KEY, class TEXT NOT NULL);\n"
-    ++ codes "CREATE TABLE zone (rule TEXT NOT NULL);\n"))))))))))
+    ++ (codes "CREATE TABLE zone (rule TEXT NOT NULL);\n"
+    ++ codes "CREATE TABLE windows (unit TEXT NOT NULL, most_days BIGINT NOT NULL);\n")))))))))))
 
 -- the lines of all rows, table by table
 abbrev pub rows_text : Fares → List ℕ
@@ -64,7 +65,8 @@ rows_text fares =
     ++ (statements (codes "pairs") (pair_rows fares)
     ++ (statements (codes "ranges") (range_rows fares)
     ++ (statements (codes "riders") (rider_rows fares)
-    ++ statements (codes "zone") (zone_rows fares))))))
+    ++ (statements (codes "zone") (zone_rows fares)
+    ++ statements (codes "windows") (window_rows fares)))))))
 
 -- the tables and their rows, all or none of which a data base takes
 abbrev pub sql_text : Fares → List ℕ

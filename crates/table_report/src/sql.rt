@@ -16,7 +16,9 @@ use fare_table::FareTable;
 use fields::put;
 use std::alloc::{AllocError, Global};
 use std::io::Write;
-use tables::{put_classes, put_fares, put_modes, put_pairs, put_ranges, put_riders, put_zone};
+use tables::{
+    put_classes, put_fares, put_modes, put_pairs, put_ranges, put_riders, put_window, put_zone,
+};
 
 /// Why a fare table was not written as SQL.
 #[derive(Clone, Copy, Debug, PartialEq, Eq, thiserror::Error)]
@@ -55,6 +57,7 @@ CREATE TABLE ranges (first_validator BIGINT NOT NULL PRIMARY KEY,
   last_validator BIGINT NOT NULL, mode TEXT NOT NULL);
 CREATE TABLE riders (token TEXT NOT NULL PRIMARY KEY, class TEXT NOT NULL);
 CREATE TABLE zone (rule TEXT NOT NULL);
+CREATE TABLE windows (unit TEXT NOT NULL, most_days BIGINT NOT NULL);
 ";
 
 /// Writes a fare table as SQL: the statements that make its tables, and one for each row, in a
@@ -157,5 +160,6 @@ fn put_rows(text: &mut Vec<u8>, fares: &FareTable) -> Result<(), AllocError>
     put_ranges(text, fares)?;
     put_riders(text, fares)?;
     put_zone(text, fares)?;
+    put_window(text, fares)?;
     Ok(())
 }

@@ -9,12 +9,12 @@ ghost use Rattle.hex.specs.Hex.{encode_lower};
 ghost use Rattle.tap_views.specs.Token.{bytes_of};
 ghost use Rattle.table_report.specs.SqlRows.{class_row, default_mark, fare_row, mode_row, name_at};
 ghost use Rattle.table_report.specs.SqlRows.{pair_row, range_row, rider_row, rule_row};
-ghost use Rattle.table_report.specs.SqlRows.{two_modes};
+ghost use Rattle.table_report.specs.SqlRows.{span_days, span_row, span_unit, two_modes};
 ghost use Rattle.table_report.specs.SqlText.{statement, statements};
 
 use super::fields::{put, put_next_number, put_next_quoted, put_number, put_quoted};
 use crate::names;
-use fare_table::{Class, FareTable, Mode, RangeRest};
+use fare_table::{Class, FareTable, Mode, RangeRest, WindowSpan};
 use std::alloc::AllocError;
 use tap_views::Token;
 
@@ -217,6 +217,42 @@ pub(super) fn put_rule(text: &mut Vec<u8>, rule: &str) -> Result<(), AllocError>
 {
     put(text, b"INSERT INTO zone VALUES (")?;
     put_quoted(text, rule.as_bytes())?;
+    put(text, b");\n")?;
+    Ok(())
+}
+
+/// The unit of the time that windows have.
+fn span_unit(span: WindowSpan) -> &'static [u8]
+    ensures { result.now ≡ span_unit span }
+{
+    match span {
+        WindowSpan::Days(_) => b"days",
+        WindowSpan::CalendarDay => b"calendar day",
+        WindowSpan::CalendarWeek => b"calendar week",
+        WindowSpan::CalendarMonth => b"calendar month",
+    }
+}
+
+/// How many days windows have at most.
+fn span_days(span: WindowSpan) -> u32
+    ensures { result ≡ span_days span }
+{
+    match span {
+        WindowSpan::Days(count) => count,
+        WindowSpan::CalendarDay => 1,
+        WindowSpan::CalendarWeek => 7,
+        WindowSpan::CalendarMonth => 31,
+    }
+}
+
+/// Appends the statement of how long windows are.
+pub(super) fn put_span(text: &mut Vec<u8>, span: WindowSpan) -> Result<(), AllocError>
+    ensures { OnOk result (text.new.items
+        ≡ text.old.items ++ statement (codes "windows") (span_row span)) }
+{
+    put(text, b"INSERT INTO windows VALUES (")?;
+    put_quoted(text, span_unit(span))?;
+    put_next_number(text, span_days(span))?;
     put(text, b");\n")?;
     Ok(())
 }

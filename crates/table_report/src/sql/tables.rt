@@ -3,10 +3,12 @@
 ghost use Rattle.std.specs.Prelude.{◌≡◌, ◌<◌, ◌≤◌, ◌++◌, OnOk, codes, length};
 ghost use Rattle.table_report.specs.SqlRows.{class_rows, fare_rows, fare_rows_of, mode_rows};
 ghost use Rattle.table_report.specs.SqlRows.{pair_rows, pair_rows_of, range_rows, rider_rows};
-ghost use Rattle.table_report.specs.SqlRows.{zone_rows};
+ghost use Rattle.table_report.specs.SqlRows.{window_rows, zone_rows};
 ghost use Rattle.table_report.specs.SqlText.{statements};
 
-use super::rows::{put_class, put_fare, put_mode, put_pair, put_range, put_rider, put_rule};
+use super::rows::{
+    put_class, put_fare, put_mode, put_pair, put_range, put_rider, put_rule, put_span,
+};
 use fare_table::FareTable;
 use std::alloc::AllocError;
 
@@ -112,5 +114,15 @@ pub(super) fn put_zone(text: &mut Vec<u8>, fares: &FareTable) -> Result<(), Allo
         Some(rule) => put_rule(text, rule)?,
         None => {}
     }
+    Ok(())
+}
+
+/// Appends the statement of how long windows are.
+#[tactic(auto, using(crate::proofs::PlaceLemmas::one_statement))]
+pub(super) fn put_window(text: &mut Vec<u8>, fares: &FareTable) -> Result<(), AllocError>
+    ensures { OnOk result (text.new.items
+        ≡ text.old.items ++ statements (codes "windows") (window_rows fares.now)) }
+{
+    put_span(text, fares.window_span())?;
     Ok(())
 }
