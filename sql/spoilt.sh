@@ -53,7 +53,7 @@ declare -A PLANTED=(
         2,4s/-15T17:00:00.000Z/-15T15:19:59.999Z/g'
     ["a second transfer of a ride"]='more transfers
         |4s/,paid,300,.*$/,transfer,0,,,,transfer,2024-03-08T17:00:00.000Z/'
-    ["a window that ends a day early"]='a week|2,4s/2024-03-15T/2024-03-14T/'
+    ["a window that ends a day early"]='the table gives|2,4s/2024-03-15T/2024-03-14T/'
     ["a validator of another mode"]='another mode|7s/,subway,/,bus,/'
     ["a line that is left out"]='left out|3d'
     ["a ride before its window"]='outside|2s/-08T17:00:00.000Z,1000/-08T16:00:00.000Z,1000/'
