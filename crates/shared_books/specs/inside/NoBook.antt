@@ -13,6 +13,7 @@ no_fares = record {
         modes = [];
         transfers = [];
         classes = [];
+        names = [];
         standard = 0;
         ranges = [];
         riders = [];
