@@ -1,6 +1,5 @@
 -- What was written, piece by piece.
-use Rattle.std.proofs.Common.{◌≡◌, ℕ, List, [], ◌++◌, Option, Some, None, sym, ap, ◌∙◌, append_assoc, append-nil, arith, drop, length, length-drop, take, take_all, ◌-◌}
-use Rattle.std.proofs.lemmas.List.{take-append-drop}
+use Rattle.std.proofs.Common.{◌≡◌, ℕ, List, [], ◌++◌, Option, Some, None, sym, ap, ◌∙◌, append_assoc, append-nil}
 use Rattle.std.specs.Io.KnownBytes.{Appends, Keeps}
 
 pub appends_nothing : (o : Option (List ℕ)) → Appends o o []
@@ -19,12 +18,3 @@ appends_kept None b c x first kept = tt
 appends_kept (Some xs) None c x first kept = absurd first
 appends_kept (Some xs) (Some ys) None x first kept = absurd kept
 appends_kept (Some xs) (Some ys) (Some zs) x first kept = kept ∙ first
-
--- a beginning of a text, and some bytes more of the rest
-pub begun_more : (text front rest left : List ℕ) (count : ℕ) → text ≡ front ++ rest → left ≡ take (length rest - count) (drop count rest)
-    → text ≡ (front ++ take count rest) ++ left
-begun_more text front rest left count whole is =
-    let all : take (length rest - count) (drop count rest) ≡ drop count rest =
-    take_all (length rest - count) (drop count rest) (omega (arith, length-drop count rest)) in
-    whole ∙ ap (λ (t : List ℕ). front ++ t) (sym (take-append-drop count rest)) ∙ sym (append_assoc front (take count rest) (drop count rest))
-    ∙ ap (λ (t : List ℕ). (front ++ take count rest) ++ t) (sym (is ∙ all))
