@@ -6,7 +6,7 @@ use Rattle.std.proofs.lemmas.List.Folds.{list_all-append}
 use Rattle.fare_table.specs.Fares.{Fares}
 use Rattle.tap_views.specs.Files.{GoodBatchesView, IsReadAs}
 use Rattle.fare_program.specs.Listing.{Listed}
-use Rattle.fare_program.specs.inside.Listing.{KeptListing, StandsFor}
+use Rattle.fare_program.specs.Listing.{KeptListing, StandsFor}
 use Rattle.fare_program.specs.Uploads.{AreReadings, has_no_fault, lines_from, listed_in, listing_lines}
 use Rattle.fare_program.specs.inside.Uploads.{ListsUpload, ListsUploads}
 

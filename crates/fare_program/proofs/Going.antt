@@ -3,7 +3,7 @@ use Rattle.std.proofs.Common.{◌≡◌, ◌+◌, ◌∙◌, ℕ, List, [], ◌�
 use Rattle.std.proofs.Common.{append_assoc, add-zero, length, refl, arith}
 use Rattle.fare_program.specs.Lines.{tap_line}
 use Rattle.fare_program.specs.Listing.{Listed, liveness_of}
-use Rattle.fare_program.specs.inside.Listing.{KeptListing, StandsFor}
+use Rattle.fare_program.specs.Listing.{KeptListing, StandsFor}
 use Rattle.fare_program.specs.Uploads.{tap_lines}
 use Rattle.fare_program.specs.inside.Uploads.{Lists}
 

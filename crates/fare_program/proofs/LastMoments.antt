@@ -12,11 +12,11 @@ use Rattle.std.proofs.lemmas.List.Sums.{sum_by-append}
 use Rattle.std.proofs.lemmas.Slice.Eq.{bytes_eq-Decides}
 use Rattle.std.proofs.lemmas.Map.Text.{is_eq-slice_cmp}
 use Rattle.tap_views.specs.Layout.{Tap, num}
-use Rattle.fare_program.specs.declared.listing.Liveness.{Liveness}
-use Rattle.fare_program.specs.declared.listing.Liveness.TheVariants.{Live, Stale, Unknown}
+use Rattle.fare_program.specs.declared.listing.Word.{Word}
+use Rattle.fare_program.specs.declared.listing.Word.TheVariants.{Live, Stale, Unknown}
 use Rattle.fare_program.specs.declared.listing.ListCounts.{ListCounts}
 use Rattle.fare_program.specs.Listing.{Listed, are_before, count_of, counts_of, is_same_liveness, known_of, listed_moment, liveness_of, livenesses_after}
-use Rattle.fare_program.specs.inside.Listing.{StandsFor, is_after_last, last_of}
+use Rattle.fare_program.specs.Listing.{StandsFor, is_after_last, last_of}
 use Rattle.fare_program.specs.inside.Listing.{liveness_counted, last_after, liveness_by}
 
 -- the map's own look-up
@@ -78,11 +78,11 @@ last-push last tap other moment all true true e is eq = rw is (own_token (is_aft
     own_token false so = rw (← here) (rw so at step)
 
 -- the counts of one more tap
-count-push : (liveness : Liveness) (taps : List Listed) (tap : Listed) → count_of liveness (taps ++ tap ∷ []) ≡ count_of liveness taps + (if is_same_liveness liveness (liveness_of taps tap) then 1 else 0)
+count-push : (liveness : Word) (taps : List Listed) (tap : Listed) → count_of liveness (taps ++ tap ∷ []) ≡ count_of liveness taps + (if is_same_liveness liveness (liveness_of taps tap) then 1 else 0)
 count-push liveness taps tap =
     rw (livenesses-push [] taps tap) (sum_by-append (λ x. cond (is_same_liveness liveness x) 1 0) (livenesses_after [] taps) (liveness_of taps tap ∷ []) ∙ rw zero-add refl)
 
-counts-push : (taps : List Listed) (tap : Listed) (liveness : Liveness) → liveness ≡ liveness_of taps tap → liveness_counted liveness (counts_of taps) ≡ counts_of (taps ++ tap ∷ [])
+counts-push : (taps : List Listed) (tap : Listed) (liveness : Word) → liveness ≡ liveness_of taps tap → liveness_counted liveness (counts_of taps) ≡ counts_of (taps ++ tap ∷ [])
 counts-push taps tap liveness is = go liveness is
   where
     len : length (taps ++ tap ∷ []) ≡ length taps + 1
@@ -93,15 +93,15 @@ counts-push taps tap liveness is = go liveness is
         → record { taps = n; live = a; stale = b; unknown = c } ≡ counts_of (taps ++ tap ∷ [])
     counts_are n a b c en ea eb ec = rw (en, ea, eb, ec) refl
 
-    one : (w : Liveness) (liveness : Liveness) → liveness ≡ liveness_of taps tap → count_of w (taps ++ tap ∷ []) ≡ count_of w taps + (if is_same_liveness w liveness then 1 else 0)
+    one : (w : Word) (liveness : Word) → liveness ≡ liveness_of taps tap → count_of w (taps ++ tap ∷ []) ≡ count_of w taps + (if is_same_liveness w liveness then 1 else 0)
     one w liveness is = rw is (count-push w taps tap)
 
-    go : (liveness : Liveness) → liveness ≡ liveness_of taps tap → liveness_counted liveness (counts_of taps) ≡ counts_of (taps ++ tap ∷ [])
+    go : (liveness : Word) → liveness ≡ liveness_of taps tap → liveness_counted liveness (counts_of taps) ≡ counts_of (taps ++ tap ∷ [])
     go Live is = counts_are _ _ _ _ len (one Live Live is) (one Stale Live is ∙ add-zero _) (one Unknown Live is ∙ add-zero _)
     go Stale is = counts_are _ _ _ _ len (one Live Stale is ∙ add-zero _) (one Stale Stale is) (one Unknown Stale is ∙ add-zero _)
     go Unknown is = counts_are _ _ _ _ len (one Live Unknown is ∙ add-zero _) (one Stale Unknown is ∙ add-zero _) (one Unknown Unknown is)
 
-pub stands-push : (last last' : List (List ℕ × ℕ)) (counts counts' : ListCounts) (taps : List Listed) (tap : Listed) (liveness : Liveness)
+pub stands-push : (last last' : List (List ℕ × ℕ)) (counts counts' : ListCounts) (taps : List Listed) (tap : Listed) (liveness : Word)
     → liveness ≡ liveness_by last tap → ((other : List ℕ) → last_of last' other ≡ last_after liveness tap.tap.token (listed_moment tap) last other)
     → counts' ≡ liveness_counted liveness counts → StandsFor (record { last = last; counts = counts }) taps
     → StandsFor (record { last = last'; counts = counts' }) (taps ++ tap ∷ [])

@@ -19,8 +19,8 @@ use Rattle.fare_service.specs.Shares.{Worked, all_visits}
 abbrev pub in_posting_order : ℕ → List (List Tap) → List Tap
 in_posting_order shards batches = flat_map (λ run. run.taps) (runs_of shards batches)
 
--- What was posted of an upload that ended so: all taps before its first fault, or, where it was
--- cut, the first of them in posting order, as many as the end tells.
+-- What was posted of an upload that ended so: all taps before its first fault, or, if it was cut,
+-- the first of them in posting order, as many as the end says.
 abbrev pub WerePostedOf : ℕ → List ℕ → UploadEnd → List Tap → Type 0
 WerePostedOf shards file (Posted taps) posted =
     (batches : List (List Tap)) × IsFile file batches []

@@ -27,7 +27,7 @@ books_of passes = map (λ pass. pass.book) passes
 abbrev pub made_visits : List Mark → List (List Entry)
 made_visits marks = map (λ m. m.visit) (filter (λ m. m.mine) marks)
 
--- what the pass to a shard knows; nothing where there is no such shard
+-- what the pass to a shard knows; nothing if there is no such shard
 abbrev pub marks_at : ℕ → List PassView → List Mark
 marks_at shard passes = slice_index_or (map (λ pass. pass.marks) passes) shard []
 

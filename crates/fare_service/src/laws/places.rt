@@ -18,7 +18,7 @@ pub fn posting_order()
         → IsReordered shards (in_file_order batches) (in_posting_order shards batches) }
 {}
 
-/// What was posted of an upload, by how it ended: all taps before its first fault, or, where it was
+/// What was posted of an upload, by how it ended: all taps before its first fault, or, if it was
 /// cut, the first of them in posting order.
 pub fn posted_taps()
     ensures { (fares : Fares) (shards : ℕ) (files : List (List ℕ)) (works : List (List Worked))

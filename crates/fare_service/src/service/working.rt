@@ -55,7 +55,6 @@ impl Gate for OpenGate {
 pub(crate) struct RunBuffers {
     /// The clock of the table's zone.
     pub(crate) clock: Clock,
-    /// The replies to a run.
     pub(crate) replies: Replies,
 }
 
@@ -63,7 +62,6 @@ pub(crate) struct RunBuffers {
 /// run.
 #[derive(Drop)]
 pub(crate) struct Buffers {
-    /// The runs of a batch.
     pub(crate) runs: Runs,
     /// What is kept from run to run.
     pub(crate) run: RunBuffers,
@@ -72,7 +70,6 @@ pub(crate) struct Buffers {
 /// Why an upload ends before its last run.
 #[derive(Clone, Copy, Debug, PartialEq, Eq)]
 pub(crate) enum Stop {
-    /// Memory was refused.
     Memory,
     /// A shard takes no more visits.
     Full,
@@ -101,7 +98,6 @@ impl From<Full> for Stop {
     }
 }
 
-/// Counts the replies.
 fn count(totals: &mut Totals, replies: &Replies)
     requires { totals.old.taps + length replies.now.items ≤ 2 ^ 95 }
     ensures { sums_of totals.new
@@ -114,7 +110,6 @@ fn count(totals: &mut Totals, replies: &Replies)
     totals.add_all(&tally.totals());
 }
 
-/// How many bytes the file has.
 fn bytes_in(file: &[u8]) -> usize
     ensures { result ≡ length file.now }
 {
@@ -246,7 +241,7 @@ impl<'a> Service<'a> {
         Ok(good.fault())
     }
 
-    /// Posts an upload that was begun at the gate. Tells how it ended, and whether the worker may
+    /// Posts an upload that was begun at the gate. Returns how it ended, and whether the worker may
     /// go on.
     fn post_upload<R: Wait, G: Gate>(
         &self,
@@ -283,7 +278,7 @@ impl<'a> Service<'a> {
         }
     }
 
-    /// Draws an upload and posts it, where one is left. Tells how it ended, and whether the worker
+    /// Draws an upload and posts it, if one is left. Returns how it ended, and whether the worker
     /// may go on.
     fn next_upload<R: Wait, G: Gate>(
         &self,
@@ -329,9 +324,9 @@ impl<'a> Service<'a> {
     }
 
     /// Draws uploads and posts their batches, until all are drawn or memory is refused. A refusal
-    /// after the draw ends that upload as cut. Where a shard takes no more visits the upload ends
-    /// as cut, and the work goes on. Memory for the results of all uploads is taken first: where it
-    /// is refused, the share is given back as it was.
+    /// after the draw ends that upload as cut. If a shard takes no more visits, the upload ends as
+    /// cut, and the work goes on. Memory for the results of all uploads is taken first: if it is
+    /// refused, the share is given back as it was.
     ///
     /// Gives the share back with the uploads that it drew, the visits that it made and the totals
     /// of their replies. It waits for turns at the shards' books.

@@ -1,5 +1,5 @@
 use Rattle.std.proofs.Common.{◌∙◌, sym, ap}
-use Rattle.fare_program.specs.inside.Listing.{is_after_last}
+use Rattle.fare_program.specs.Listing.{is_after_last}
 use Rattle.fare_program.proofs.LastMoments.{last_of-get}
 use Rattle.fare_program.proofs.listing.is_later.Goals as goal
 
