@@ -191,7 +191,8 @@ claims_else (suc shard) [] pass ne = refl
 claims_else zero (p ∷ ps) pass ne = refl
 claims_else (suc shard) (p ∷ ps) pass ne = claims_else shard ps pass (λ e. ne (ap suc e))
 
-claims-set_same : (passes : List PassView) (shard : ℕ) (new : PassView) → shard < length passes → claims_at shard (set passes shard new) ≡ new.claims
+claims-set_same : (passes : List PassView) (shard : ℕ) (new : PassView) → shard < length passes
+    → claims_at shard (set passes shard new) ≡ new.claims
 claims-set_same passes shard new within =
     ap (λ cs. get_or cs shard 0) (map-set (λ p. p.claims) passes shard new)
     ∙ get_or-set_same (map (λ p. p.claims) passes) shard new.claims 0

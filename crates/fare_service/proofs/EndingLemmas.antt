@@ -261,12 +261,20 @@ visits_few shards (r ∷ before) more [] same some entered = absurd (cc)
 visits_few shards (r ∷ before) more (v ∷ visits) same some entered =
     let head : run_of_visit v ≡ r = cc in
     let tail : map run_of_visit visits ≡ before ++ more = cc in
-    let taps : 0 < length v.taps = omega (arith, All-head (λ (x : PostedRun). 0 < length x.taps) r before some, ap (λ (x : PostedRun). length x.taps) head) in
+    let taps : 0 < length v.taps =
+    omega (
+      arith,
+      All-head (λ (x : PostedRun). 0 < length x.taps) r before some,
+      ap (λ (x : PostedRun). length x.taps) head,
+    ) in
     let entries : length v.taps ≡ length v.entries =
     sym (AllZip-long IsEntryOf v.taps v.entries
     (All-head (IsEntered shards) v visits entered).fields) in
-    let both : taps_posted (v ∷ visits) ≡ length v.entries + taps_posted visits = length-append v.entries (entries_of visits) in
-    let rest = visits_few shards before more visits tail (All-tail (λ (x : PostedRun). 0 < length x.taps) r before some) (All-tail (IsEntered shards) v visits entered) in
+    let both : taps_posted (v ∷ visits) ≡ length v.entries + taps_posted visits =
+    length-append v.entries (entries_of visits) in
+    let rest = visits_few shards before more visits tail
+    (All-tail (λ (x : PostedRun). 0 < length x.taps) r before some)
+    (All-tail (IsEntered shards) v visits entered) in
     omega (arith, taps, entries, both, rest)
 
 all_before : (P : PostedRun → Type 0) (xs ys : List PostedRun) → All P (xs ++ ys) → All P xs
@@ -461,16 +469,27 @@ full_made service is shares all closed work = each shares all seen
         (few shard inside)))
 
 -- how the workers of a run stopped
-pub have_stopped : (service : ServiceView) (olds news : List ShareView) (workers : ℕ) (outcome : OutcomeView) → length news ≡ workers → All IsFresh olds → AllZip (WorkedOn service) olds news
-    → HasOutcome service news outcome → ToldUndrawn news outcome → FullIsMade news → HaveStopped workers outcome
-have_stopped service olds news workers outcome number fresh worked (works, kept, headline) undrawn full = record {
-  few_cut = few (cuts_few service (2 ^ 62 ≤ outcome.totals.taps + cuts outcome) news works all (All-weaker (λ (s : ShareView). SomeFull s.passes → (shard : ℕ) × (2 ^ 62 ≤ visits_held shard news)) (λ (s : ShareView). SomeFull s.passes → 2 ^ 62 ≤ outcome.totals.taps + cuts outcome) (λ s made some. enough (made some)) news full));
-  undrawn = λ upload at. (
-      let past : upload < length service.uploads =
-      omega (arith, slice_get_within outcome.ends upload Undrawn at, headline.uploads) in
-      let left = All-weaker (λ (s : ShareView). s.drawer.seen ≤ upload) (λ (s : ShareView). s.drawer.seen < length service.uploads) (λ s h. omega (arith, h, past)) news (undrawn upload at) in
-      omega (arith, posting_few service news works all left, posting_are, cuts_are));
-}
+pub have_stopped : (service : ServiceView) (olds news : List ShareView) (workers : ℕ)
+    (outcome : OutcomeView) → length news ≡ workers → All IsFresh olds
+    → AllZip (WorkedOn service) olds news
+    → HasOutcome service news outcome → ToldUndrawn news outcome → FullIsMade news
+    → HaveStopped workers outcome
+have_stopped service olds news workers outcome number fresh worked (works, kept, headline) undrawn
+    full = record {
+      few_cut = few
+          (cuts_few service (2 ^ 62 ≤ outcome.totals.taps + cuts outcome) news works all
+          (All-weaker
+          (λ (s : ShareView). SomeFull s.passes → (shard : ℕ) × (2 ^ 62 ≤ visits_held shard news))
+          (λ (s : ShareView). SomeFull s.passes → 2 ^ 62 ≤ outcome.totals.taps + cuts outcome)
+          (λ s made some. enough (made some)) news full));
+      undrawn = λ upload at. (
+          let past : upload < length service.uploads =
+          omega (arith, slice_get_within outcome.ends upload Undrawn at, headline.uploads) in
+          let left = All-weaker (λ (s : ShareView). s.drawer.seen ≤ upload)
+          (λ (s : ShareView). s.drawer.seen < length service.uploads) (λ s h. omega (arith, h, past))
+          news (undrawn upload at) in
+          omega (arith, posting_few service news works all left, posting_are, cuts_are));
+    }
   where
     is : IsGathered (given_of service) works outcome
     is = gathered_of (given_of service) works outcome headline

@@ -164,18 +164,21 @@ joined_more drawing books nobody shares share drawer drawer' passes passes' belo
       drawn = met.drawn
           ∙ (ap (λ ds. ds ++ share.drawer.drawn) all.drawn
           ∙ sym (flat_map-append (λ s. s.drawer.drawn) shares (share ∷ [])
-          ∙ ap (λ ds. flat_map (λ s. s.drawer.drawn) shares ++ ds) (append-nil share.drawer.drawn)));
+          ∙ ap (λ ds. flat_map (λ s. s.drawer.drawn) shares ++ ds)
+          (append-nil share.drawer.drawn)));
       seen = All-push (λ s. s.drawer.seen ≤ drawer'.seen) shares share
           (All-weaker (λ s. s.drawer.seen ≤ drawer.seen) (λ s. s.drawer.seen ≤ drawer'.seen)
           (λ s h. omega (arith, h, met.later)) shares all.seen) met.later_too;
       of_books = of_books;
-      signed = λ shard. signed_more nobody shard shares share passes passes' below (all.signed shard)
+      signed = λ shard. signed_more nobody shard shares share passes passes' below
+          (all.signed shard)
           (joined shard);
       held = λ shard. omega (
         arith,
         (joined shard).held,
         all.held shard,
-        sum_by-append (λ (s : ShareView). length (made_visits_at shard s.passes)) shares (share ∷ []),
+        sum_by-append (λ (s : ShareView). length (made_visits_at shard s.passes)) shares
+            (share ∷ []),
         sum_by-cons (λ (s : ShareView). length (made_visits_at shard s.passes)) share [],
       );
       longest = λ shard. let long =

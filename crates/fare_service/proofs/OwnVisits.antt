@@ -7,7 +7,8 @@ use Rattle.std.proofs.Common.{length-append, eqb-true, eq-eqb, ne_eqb}
 use Rattle.std.proofs.lemmas.Bool.Decides.{eqb_tells}
 use Rattle.std.proofs.lemmas.List.{length-take-le, take_at, take-append-drop}
 use Rattle.std.proofs.lemmas.List.Concat.{flat_map-append}
-use Rattle.std.proofs.lemmas.List.Elements.{All-nil, All-cons, All-head, All-tail, All-append, All-take, All-weaker, filter-append, filter_passes}
+use Rattle.std.proofs.lemmas.List.Elements.{All-nil, All-cons, All-head, All-tail, All-append}
+use Rattle.std.proofs.lemmas.List.Elements.{All-take, All-weaker, filter-append, filter_passes}
 use Rattle.std.proofs.lemmas.Slice.Zip.{AllZip-long}
 use Rattle.tap_views.specs.Layout.{Tap}
 use Rattle.tap_views.specs.Files.{IsFile}
@@ -190,8 +191,13 @@ visits_length shards (v ∷ visits) all =
     let here : length v.taps ≡ length v.entries =
     sym (AllZip-long IsEntryOf v.taps v.entries
     (All-head (IsEntered shards) v visits all).fields) in
-    let rest : length (entries_of visits) ≡ length (flat_map (λ x. x.taps) visits) = visits_length shards visits (All-tail (IsEntered shards) v visits all) in
-    omega (arith, length-append v.entries (entries_of visits), length-append v.taps (flat_map (λ (x : RunVisit). x.taps) visits))
+    let rest : length (entries_of visits) ≡ length (flat_map (λ x. x.taps) visits) =
+    visits_length shards visits (All-tail (IsEntered shards) v visits all) in
+    omega (
+      arith,
+      length-append v.entries (entries_of visits),
+      length-append v.taps (flat_map (λ (x : RunVisit). x.taps) visits),
+    )
 
 runs_taps_are : (visits : List RunVisit)
     → flat_map (λ v. v.taps) visits ≡ flat_map (λ r. r.taps) (map run_of_visit visits)

@@ -245,7 +245,8 @@ sole upload (done ∷ works) once =
           worker = 0;
           only = only;
           found =
-              both ∙ (ap (λ ws. works_on upload done ++ ws) (no_works_on upload (all_works works) none)
+              both ∙ (ap (λ ws. works_on upload done ++ ws)
+              (no_works_on upload (all_works works) none)
               ∙ nothing (works_on upload done));
         }
       where
@@ -353,7 +354,9 @@ origins_of y = map (λ p. record { upload = y.made.upload; tap = p }) y.made.vis
 abbrev all_origins : List By → List Origin
 all_origins made = flat_map origins_of made
 
-origin_fields : (upload : ℕ) (taps : List Tap) (entries : List Entry) → AllZip IsEntryOf taps entries → AllZip IsEntryOfOrigin (map (λ p. record { upload = upload; tap = p }) taps) entries
+origin_fields : (upload : ℕ) (taps : List Tap) (entries : List Entry)
+    → AllZip IsEntryOf taps entries
+    → AllZip IsEntryOfOrigin (map (λ p. record { upload = upload; tap = p }) taps) entries
 origin_fields upload [] [] h = tt
 origin_fields upload [] (e ∷ entries) h = absurd h
 origin_fields upload (p ∷ taps) [] h = absurd h
@@ -506,13 +509,15 @@ exactly_posted : (given : Given) (works : List (List Worked))
     ≡ run_of shard given.shards (posted_of upload (all_works works))
 exactly_posted given works each once shard upload made own all =
     origins_for upload made
-    ∙ (ap taps_made (filter_within (λ y. y.made.upload == upload) (λ y. y.worker == s.worker) made implied)
+    ∙ (ap taps_made
+    (filter_within (λ y. y.made.upload == upload) (λ y. y.worker == s.worker) made implied)
     ∙ (sym (flat_map-map (λ (x : Labelled). x.visit.taps) (λ (y : By). y.made)
     (made_for upload (filter (λ y. y.worker == s.worker) made)))
     ∙ (ap (flat_map (λ (x : Labelled). x.visit.taps)) labels
     ∙ (sym (flat_map-map (λ (v : RunVisit). v.taps) (λ (x : Labelled). x.visit)
     (to_shard shard (works_on upload (all_works works))))
-    ∙ (ap (flat_map (λ (v : RunVisit). v.taps)) (unlabelled_to shard (works_on upload (all_works works)))
+    ∙ (ap (flat_map (λ (v : RunVisit). v.taps))
+    (unlabelled_to shard (works_on upload (all_works works)))
     ∙ sym (shard_taps shard given.shards (all_visits (works_on upload (all_works works)))
     (own_all given (works_on upload (all_works works))
     (All-filter (λ w. w.upload == upload) (IsWorkOf given.shards given.uploads) (all_works works)
@@ -540,7 +545,8 @@ exactly_posted given works each once shard upload made own all =
         ∙ (ap (filter (λ (x : Labelled). x.upload == upload)) (own s.worker)
         ∙ (filter-filter (λ (x : Labelled). x.upload == upload) (λ x. x.visit.shard == shard)
         (labelled (works_at s.worker works))
-        ∙ (ap (filter (λ (x : Labelled). x.visit.shard == shard)) (labels_for upload (works_at s.worker works)) ∙ ap (to_shard shard) (sym s.found))))
+        ∙ (ap (filter (λ (x : Labelled). x.visit.shard == shard))
+        (labels_for upload (works_at s.worker works)) ∙ ap (to_shard shard) (sym s.found))))
 
 by_worker_at : (given : Given) (shard : ℕ) (works : List (List Worked)) (book : Book)
     → (is : IsBookOfWork given.table shard given.shards works book) → (w : ℕ)

@@ -174,8 +174,11 @@ drawn_count [] upload ended = absurd (ended refl)
 drawn_count (w ∷ works) upload ended =
     by_test (eqb_tells w.upload upload) (drawn_count works upload)
   where
-    by_test : Tells w.upload upload → (end_of upload works ≢ Undrawn → 0 < count upload (map (λ x. x.upload) works)) → 0 < count upload (map (λ x. x.upload) (w ∷ works))
-    by_test (inl (is, same)) more = omega (arith, count_same upload w.upload (map (λ x. x.upload) works) is)
+    by_test : Tells w.upload upload
+        → (end_of upload works ≢ Undrawn → 0 < count upload (map (λ x. x.upload) works))
+        → 0 < count upload (map (λ x. x.upload) (w ∷ works))
+    by_test (inl (is, same)) more =
+        omega (arith, count_same upload w.upload (map (λ x. x.upload) works) is)
     by_test (inr (is, apart)) more =
         omega (
           arith,
@@ -354,7 +357,8 @@ mine_none token (ts ∷ taps) none zero = none 0 (own token (map unanswered ts))
 mine_none token (ts ∷ taps) none (suc upload) =
     mine_none token taps (λ place es at. none (suc place) es at) upload
 
-mine_within : (token : Token) (taps : List (List Tap)) (upload : ℕ) (first : Entry) (rest : List Entry) → mine_of token taps upload ≡ first ∷ rest → upload < length taps
+mine_within : (token : Token) (taps : List (List Tap)) (upload : ℕ) (first : Entry)
+    (rest : List Entry) → mine_of token taps upload ≡ first ∷ rest → upload < length taps
 mine_within token [] upload first rest is =
     absurd (let h : [] ≡ first ∷ rest = sym (own_none token) ∙ is in cc)
 mine_within token (ts ∷ taps) zero first rest is = omega arith

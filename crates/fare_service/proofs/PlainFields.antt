@@ -118,7 +118,9 @@ fields_after fares earlier (tap ∷ taps) names = (
 )
 
 -- the entries of a plain history have the fields of its taps
-pub plain_fields : (fares : Fares) (files : List (List ℕ)) (history : List Entry) → All AreBytes files → (is : IsPlain fares files history) → AreEntriesOf (flat_map (λ ts. ts) is.taps) history
+pub plain_fields : (fares : Fares) (files : List (List ℕ)) (history : List Entry)
+    → All AreBytes files → (is : IsPlain fares files history)
+    → AreEntriesOf (flat_map (λ ts. ts) is.taps) history
 plain_fields fares files history all is =
     let E : List Entry → Type 0 = λ es. AreEntriesOf (flat_map (λ ts. ts) is.taps) es in
     subst E (sym is.entries)

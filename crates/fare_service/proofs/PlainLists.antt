@@ -1,4 +1,5 @@
--- Lists of lists of which one alone has elements, and lists that have the same elements under each key.
+-- Lists of lists of which one alone has elements, and lists that have the same elements under each
+-- key.
 use Rattle.std.specs.Prelude.{ℕ, zero, suc, ◌≡◌, ◌≢◌, ◌⊎◌, ◌+◌, ◌<◌, ◌==◌, true, false, cond, List}
 use Rattle.std.specs.Prelude.{[], ◌∷◌, ◌++◌, length, map, filter, All, Some, slice_get, count_by}
 use Rattle.std.specs.List.{flat_map}
@@ -41,7 +42,8 @@ All-at P (y ∷ xs) zero x all at = subst P (let same : y ≡ x = cc in same) (A
 All-at P (y ∷ xs) (suc i) x all at = All-at P xs i x (All-tail P y xs all) at
 
 -- what is at a place of mapped elements is that of the element there
-pub mapped_at : {A B : Type 0} (f : A → B) (xs : List A) (i : ℕ) (y : B) → slice_get (map f xs) i ≡ Some y → (x : A) × (slice_get xs i ≡ Some x) × (y ≡ f x)
+pub mapped_at : {A B : Type 0} (f : A → B) (xs : List A) (i : ℕ) (y : B)
+    → slice_get (map f xs) i ≡ Some y → (x : A) × (slice_get xs i ≡ Some x) × (y ≡ f x)
 mapped_at f [] i y at = absurd (cc)
 mapped_at f (x ∷ xs) zero y at = (x, refl, let same : f x ≡ y = cc in sym same)
 mapped_at f (x ∷ xs) (suc i) y at = mapped_at f xs i y at

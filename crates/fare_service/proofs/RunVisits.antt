@@ -1,7 +1,8 @@
 -- One run: the visit that it makes, and what that changes.
 use Rattle.std.specs.Prelude.{ℕ, ◌≡◌, ◌≢◌, ◌<◌, ◌≤◌, ◌==◌, Bool, true, false, cond, ◌⊎◌, List, []}
 use Rattle.std.specs.Prelude.{◌∷◌, ◌++◌, length, map, take, Result, Ok, Err, is_ok, IsErr, Some}
-use Rattle.std.proofs.Common.{refl, sym, ◌∙◌, ap, inl, inr, subst, append-nil, arith, get_or, set, eq-eqb, length-take}
+use Rattle.std.proofs.Common.{refl, sym, ◌∙◌, ap, inl, inr, subst, append-nil, arith, get_or, set}
+use Rattle.std.proofs.Common.{eq-eqb, length-take}
 use Rattle.std.proofs.lemmas.List.Elements.{All-nil, All-cons}
 use Rattle.std.proofs.lemmas.Option.{slice_get-get_or}
 use Rattle.std.proofs.lemmas.Bool.Decides.{eqb_tells}
@@ -34,7 +35,8 @@ was_cut (Ok x) runs visits e c = absurd (cc)
 was_cut (Err x) runs visits e c = c
 
 -- how many entries a visit has
-pub visit_length : (taps : List Tap) (how : RunEnd) (visit : List Entry) → IsVisit taps how visit → length visit ≤ length taps
+pub visit_length : (taps : List Tap) (how : RunEnd) (visit : List Entry) → IsVisit taps how visit
+    → length visit ≤ length taps
 visit_length taps Whole visit h = omega (arith, sym (AllZip-long IsEntryOf taps visit h))
 visit_length taps (Cut posted) visit h =
     omega (arith, sym (AllZip-long IsEntryOf (take posted taps) visit h.1), length-take {A = Tap})

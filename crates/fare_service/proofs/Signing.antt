@@ -70,7 +70,8 @@ sign_kept i nobody s m false e below is =
     }
 
 -- the sign of a visit, after the next worker
-sign_by : (i nobody : ℕ) (s : Signed) (x : Mark) (b : Bool) → i < nobody → IsSign (suc i) nobody s x → IsSign (suc i) nobody (sign (cond b i s.worker) s.entries) (mark (x.mine || b) x.visit)
+sign_by : (i nobody : ℕ) (s : Signed) (x : Mark) (b : Bool) → i < nobody → IsSign (suc i) nobody s x
+    → IsSign (suc i) nobody (sign (cond b i s.worker) s.entries) (mark (x.mine || b) x.visit)
 sign_by i nobody s x true below is =
     record {
       visit = is.visit;
@@ -219,7 +220,8 @@ own_first i nobody [] below = refl
 own_first i nobody (m ∷ ms) below =
     own_first_step i nobody m ms m.mine refl below (own_first i nobody ms below)
 
-free_sign : (i nobody : ℕ) (s : Signed) (x : Mark) (b : Bool) → x.mine ≡ b → i < nobody → IsSign i nobody s x → s.worker ≢ i
+free_sign : (i nobody : ℕ) (s : Signed) (x : Mark) (b : Bool) → x.mine ≡ b → i < nobody
+    → IsSign i nobody s x → s.worker ≢ i
 free_sign i nobody s x true e below is =
     λ h. omega (arith, h, ltb-true s.worker i (sym is.mine ∙ e))
 free_sign i nobody s x false e below is = λ h. omega (arith, h, is.other e)

@@ -14,7 +14,9 @@ use Rattle.tap_views.specs.Files.{IsFile}
 use Rattle.tap_views.specs.Shards.{shard_of_token, run_of}
 use Rattle.tap_views.proofs.ReadingLemmas.{batch_room}
 use Rattle.shard_book.specs.Entry.{IsEntryOf}
-use Rattle.fare_service.specs.Runs.{PostedRun, posted_run, if_any, runs_below, runs_of, RunVisit, IsEntered, run_of_visit, ArePostedWhole, AreCut, entries_of, taps_posted}
+use Rattle.fare_service.specs.Runs.{PostedRun, posted_run, if_any, runs_below, runs_of, RunVisit}
+use Rattle.fare_service.specs.Runs.{IsEntered, run_of_visit, ArePostedWhole, AreCut, entries_of}
+use Rattle.fare_service.specs.Runs.{taps_posted}
 
 abbrev pub runs_taps : List PostedRun → ℕ
 runs_taps runs = sum_by (λ r. length r.taps) runs
@@ -30,9 +32,13 @@ visits_taps shards (visit ∷ visits) all =
     let here : length visit.entries ≡ length visit.taps =
     sym (sym (AllZip-long IsEntryOf visit.taps visit.entries
     (All-head (IsEntered shards) visit visits all).fields)) in
-    let rest : taps_posted visits ≡ runs_taps (map run_of_visit visits) = visits_taps shards visits (All-tail (IsEntered shards) visit visits all) in
-    let many : length (visit.entries ++ entries_of visits) ≡ length visit.entries + length (entries_of visits) = length-append visit.entries (entries_of visits) in
-    let sum : runs_taps (run_of_visit visit ∷ map run_of_visit visits) ≡ length visit.taps + runs_taps (map run_of_visit visits) =
+    let rest : taps_posted visits ≡ runs_taps (map run_of_visit visits) =
+    visits_taps shards visits (All-tail (IsEntered shards) visit visits all) in
+    let many : length (visit.entries ++ entries_of visits)
+    ≡ length visit.entries + length (entries_of visits) =
+    length-append visit.entries (entries_of visits) in
+    let sum : runs_taps (run_of_visit visit ∷ map run_of_visit visits)
+    ≡ length visit.taps + runs_taps (map run_of_visit visits) =
     sum_by-cons (λ (r : PostedRun). length r.taps) (run_of_visit visit) (map run_of_visit visits) in
     omega arith
 
@@ -178,7 +184,9 @@ file_room file (batch ∷ batches) rest (front, back, is_batch, whole, is) =
     sum_by-cons (λ (b : List Tap). length b) batch batches in
     omega (arith, ap length whole, length-append front back)
 
-all_below : (shards : ℕ) (taps : List Tap) → ((token : List ℕ) → shard_of_token token shards < shards) → filter (λ p. nat_lt (shard_of_token p.token shards) shards) taps ≡ taps
+all_below : (shards : ℕ) (taps : List Tap)
+    → ((token : List ℕ) → shard_of_token token shards < shards)
+    → filter (λ p. nat_lt (shard_of_token p.token shards) shards) taps ≡ taps
 all_below shards [] within = refl
 all_below shards (p ∷ taps) within =
     let below = filter (λ (q : Tap). nat_lt (shard_of_token q.token shards) shards) taps in

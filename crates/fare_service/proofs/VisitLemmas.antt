@@ -3,7 +3,8 @@ use Rattle.std.specs.Prelude.{ℕ, ◌≡◌, ◌≢◌, ◌⊎◌, ◌+◌, ◌
 use Rattle.std.specs.Prelude.{length, map, filter, take, All}
 use Rattle.std.proofs.Common.{refl, sym, ◌∙◌, ap, inl, inr, subst, append_assoc, append-nil, arith}
 use Rattle.std.proofs.Common.{get_or, set, add_assoc}
-use Rattle.std.proofs.lemmas.List.{map-append, map-set, length-map, get_or-set_same, get_or-set_other}
+use Rattle.std.proofs.lemmas.List.{map-append, map-set, length-map, get_or-set_same}
+use Rattle.std.proofs.lemmas.List.{get_or-set_other}
 use Rattle.std.proofs.lemmas.List.Elements.{filter-append, All-nil, All-append}
 use Rattle.std.proofs.lemmas.Grind.{flat_map-append}
 use Rattle.std.proofs.lemmas.Option.{slice_get_within, get_or_from_slice_get}
@@ -121,7 +122,9 @@ made_more shards p q r s t u xs ys a b = record {
       ∙ ap (λ vs. made_visits_at n p ++ vs) (sym (entries_to-append n xs ys)));
   counted = b.counted ∙ ap (λ c. add_sums c (sums (entries_of ys))) a.counted
       ∙ add_assoc s (sums (entries_of xs)) (sums (entries_of ys))
-      ∙ ap (add_sums s) (sym (ap sums (flat_map-append (λ v. v.entries) xs ys) ∙ sums-append (entries_of xs) (entries_of ys)));
+      ∙ ap (add_sums s)
+      (sym (ap sums (flat_map-append (λ v. v.entries) xs ys)
+      ∙ sums-append (entries_of xs) (entries_of ys)));
   entered = All-append (IsEntered shards) xs ys a.entered b.entered;
 }
 

@@ -13,7 +13,8 @@ use Rattle.shard_book.specs.Rising.{IsRising, rising}
 use Rattle.tap_views.specs.Token.{token_cmp, token_eq}
 use Rattle.shard_book.specs.declared.entry.Entry.{Entry}
 use Rattle.tap_views.specs.declared.token.Token.{Token}
-use Rattle.tap_views.proofs.TokenLemmas.{same_token, token_eq-refl, token_eq-sym, token_cmp-total, token_cmp-ties}
+use Rattle.tap_views.proofs.TokenLemmas.{same_token, token_eq-refl, token_eq-sym, token_cmp-total}
+use Rattle.tap_views.proofs.TokenLemmas.{token_cmp-ties}
 use Rattle.tap_views.proofs.TokenLemmas.{among}
 use Rattle.shard_book.proofs.RisingLemmas.{rising-only, below_all}
 use Rattle.shard_book.proofs.OwnEntries.{own-append, own_none, own_other, own_same}

@@ -1,5 +1,6 @@
 -- Entries that are collected one after another.
-use Rattle.std.proofs.Common.{◌≡◌, ℕ, ◌+◌, List, [], ◌∷◌, ◌++◌, Option, Some, unwrap_or, take, sym, ap, ◌∙◌, append_assoc, ◌<◌, length, get_or}
+use Rattle.std.proofs.Common.{◌≡◌, ℕ, ◌+◌, List, [], ◌∷◌, ◌++◌, Option, Some, unwrap_or, take, sym}
+use Rattle.std.proofs.Common.{ap, ◌∙◌, append_assoc, ◌<◌, length, get_or}
 use Rattle.std.specs.Prelude.{option_and_then, slice_get}
 use Rattle.std.proofs.lemmas.List.{flat_map_more, map-append, take_more}
 use Rattle.std.proofs.lemmas.Option.{slice_get_within, slice_get-get_or, get_or_from_slice_get}
@@ -26,8 +27,12 @@ spot_entry books spot index place book entry at_book at_place there at =
     (option_and_then (λ (b : Book). slice_get b.entries place) found) no_entry) there
     ∙ ap (λ (found : Option Entry). unwrap_or found no_entry) at
 
-pub seen_more : (books : List Book) (first old new : List Spot) (one : Spot) (index i : ℕ) (book : Book) → new ≡ old ++ one ∷ [] → entries_at_spots books old ≡ entries_at_spots books first ++ take i book.entries
-    → book_at one ≡ index → place_at one ≡ i → slice_get books index ≡ Some book → i < length book.entries → entries_at_spots books new ≡ entries_at_spots books first ++ take (i + 1) book.entries
+pub seen_more : (books : List Book) (first old new : List Spot) (one : Spot) (index i : ℕ)
+    (book : Book) → new ≡ old ++ one ∷ []
+    → entries_at_spots books old ≡ entries_at_spots books first ++ take i book.entries
+    → book_at one ≡ index → place_at one ≡ i → slice_get books index ≡ Some book
+    → i < length book.entries
+    → entries_at_spots books new ≡ entries_at_spots books first ++ take (i + 1) book.entries
 seen_more books first old new one index i book is so_far at_book at_place there within =
     let entry : Entry = get_or book.entries i no_entry in
     let at : slice_get book.entries i ≡ Some entry =

@@ -4,7 +4,7 @@ use Rattle.std.proofs.Common.{None, length, take, drop, get_or, refl, sym, ap, s
 use Rattle.std.proofs.Common.{append_assoc, append-nil, add-one, drop-cons, arith}
 use Rattle.std.specs.Prelude.{slice_get}
 use Rattle.std.specs.Io.KnownBytes.{Appends, Keeps, append_known}
-use Rattle.std.proofs.lemmas.List.{get_or-map, length-map}
+use Rattle.std.proofs.lemmas.List.{get_or-map, length-map, take-append-drop}
 use Rattle.std.proofs.Math.Seq.{take-suc}
 use Rattle.fare_table.specs.Fares.{Fares}
 use Rattle.shard_book.specs.Entry.{own}
@@ -13,6 +13,7 @@ use Rattle.shard_book.specs.declared.entry.Entry.{Entry}
 use Rattle.tap_views.specs.declared.token.Token.{Token}
 use Rattle.tap_views.proofs.TokenLemmas.{token_eq-refl}
 use Rattle.fare_texts.specs.Tellers.{HasTold}
+use Rattle.fare_texts.specs.WrittenOut.{Begins, GoesOut}
 use Rattle.fare_texts.specs.Lines.{AreLinesAlong, AreUpTo, HasCome, IsLineAfter, IsUpTo, NoFall}
 use Rattle.fare_texts.specs.Lines.{NoFallFrom}
 use Rattle.fare_texts.specs.inside.Spots.{entry_at_spot, entries_at_spots}
@@ -20,6 +21,8 @@ use Rattle.fare_texts.specs.declared.spot.Spot.{Spot}
 use Rattle.shard_book.specs.Book.{Book}
 use Rattle.fare_texts.specs.declared.teller.Teller.{Teller}
 use Rattle.fare_texts.proofs.Rising.{none_below, own_push, up_itself, up_push, up_weaker}
+use Rattle.fare_texts.proofs.Beginnings.{goes_then_on}
+use Rattle.fare_texts.proofs.TextsExist.{along_exist}
 
 -- ---- the teller
 pub come_first : (fares : Fares) (teller : Teller) → HasTold fares teller []
@@ -151,6 +154,29 @@ rise_first books (one ∷ list) first is no_fall =
     let same : one ≡ first = cc in
     subst (λ (x : Spot). NoFallFrom (entry_at_spot books x).token
     (entries_at_spots books (one ∷ list))) same (up_itself (entry_at_spot books one).token, no_fall)
+
+-- lines of the first entries, and those of the others behind them
+pub along_all : (fares : Fares) (entries : List Entry) (place : ℕ) (written : List ℕ)
+    → AreLinesAlong fares [] (take place entries) written
+    → (more : List ℕ) × AreLinesAlong fares [] entries (written ++ more)
+along_all fares entries place written along =
+    let others = along_exist fares (take place entries) (drop place entries) in (
+      others.0,
+      subst (λ (es : List Entry). AreLinesAlong fares [] es (written ++ others.0))
+          (take-append-drop place entries)
+          (along_append fares [] (take place entries) (drop place entries) written others.0 along
+          others.1),
+    )
+
+-- where a beginning of what waits goes out, what has gone out is a beginning of all lines
+pub lines_begun : (fares : Fares) (entries : List Entry) (place : ℕ) (written : List ℕ)
+    (a b c : Option (List ℕ)) (old new : List ℕ)
+    → AreLinesAlong fares [] (take place entries) written → GoesOut a old b new written
+    → Begins b c new
+    → (lines : List ℕ) × AreLinesAlong fares [] entries lines × Begins a c (old ++ lines)
+lines_begun fares entries place written a b c old new along gone begun =
+    let all = along_all fares entries place written along in
+    (written ++ all.0, all.1, goes_then_on a b c old new written all.0 gone begun)
 
 -- ---- the bytes
 pub grown : (a b : Option (List ℕ)) (text longer written line : List ℕ)

@@ -16,12 +16,17 @@ before_epoch date early =
       signed_arith,
       days_from_civil-day_count,
       day_count-epoch,
-      day_count-lt_year date.year date.month date.day (pos 1970) 1 1 (civil date) (omega arith) early,
+      day_count-lt_year date.year date.month date.day (pos 1970) 1 1 (civil date) (omega arith)
+          early,
     )
 
 -- the date of a day from 1970 on has a year that is a natural number
-pub year_of : (date : Date) (day : ℕ) → epoch_day date ≡ pos day → (year : ℕ) × (date.year ≡ pos year)
-year_of date day is = positive date.year (by_lt_z date.year (pos 1970) (λ early. absurd (omega (arith, signed_arith, before_epoch date early, is))) (λ late. late))
+pub year_of : (date : Date) (day : ℕ) → epoch_day date ≡ pos day
+    → (year : ℕ) × (date.year ≡ pos year)
+year_of date day is =
+    positive date.year
+    (by_lt_z date.year (pos 1970)
+    (λ early. absurd (omega (arith, signed_arith, before_epoch date early, is))) (λ late. late))
   where
     positive : (year : ℤ) → pos 1970 ≤ℤ year → (n : ℕ) × (year ≡ pos n)
     positive (pos n) late = (n, refl)

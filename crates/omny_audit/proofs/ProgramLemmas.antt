@@ -107,7 +107,8 @@ is_one_last : (name : Text) (names : List Text) (last : Text) → name ≡ last
 is_one_last name [] last is = inl is
 is_one_last name (n ∷ names) last is = inr (is_one_last name names last is)
 
-pub at_uploads : (asked : AuditAsked) (fault : Fault) → NamesOneOf asked.uploads fault → NamesOneOf (files_of asked) fault
+pub at_uploads : (asked : AuditAsked) (fault : Fault) → NamesOneOf asked.uploads fault
+    → NamesOneOf (files_of asked) fault
 at_uploads asked fault is = weaker (named_by fault) is
   where
     weaker : (o : Option Text) → IfSome o (λ name. IsOneOf name asked.uploads)

@@ -166,7 +166,8 @@ adding_more before now after (Some text) left then_left line items end same addi
       left_is = here.left;
     }
 
-pub some_line : (number : ℕ) (end : UploadEnd) (rest : List ℕ) → ¬ ([] ≡ upload_line number end ++ rest)
+pub some_line : (number : ℕ) (end : UploadEnd) (rest : List ℕ)
+    → ¬ ([] ≡ upload_line number end ++ rest)
 some_line number end rest is =
     let words : [] ≡ (codes "upload " ++ (decimal number ++ end_words end)) ++ rest =
     is ∙ ap (λ (t : List ℕ). t ++ rest) (line_words number end) in absurd (cc)

@@ -304,7 +304,8 @@ validators_more fronts told =
     flat_map-append (λ (told : ToldFront). told.validators) fronts (told ∷ [])
     ∙ ap (λ more. validators_in fronts ++ more) (append-nil told.validators)
 
-pub front_added : (before after : WholeSums) (front : Front) (fronts : List ToldFront) (told : ToldFront)
+pub front_added : (before after : WholeSums) (front : Front) (fronts : List ToldFront)
+    (told : ToldFront)
     → after.tokens ≡ before.tokens + front.tokens
     → sums_of after.totals ≡ add_sums (sums_of before.totals) (sums_of front.totals)
     → WithValidators before.validators after.validators front.validators.items true

@@ -222,7 +222,8 @@ pub returns-in_err-close_with-clause-first : goal.returns-in_err-close_with-clau
 returns-in_err-close_with-clause-first c =
     let fault : GatherFault = c.in_err-close_with.field-0.0 in
     let F : ℕ → Type 0 = λ n. TellsFirst c.self.inside.books.items n c.args.shares.items fault in
-    let H : ServiceView → Type 0 = λ h. TellsFirst h.books (length h.uploads) c.args.shares.items fault in
+    let H : ServiceView → Type 0 =
+    λ h. TellsFirst h.books (length h.uploads) c.args.shares.items fault in
     IfErr_handed_on c.from_residual-in_err-close_with.result fault
     (TellsFirst c.args.self.books (length c.args.self.uploads) c.args.shares.items)
     c.from_residual-in_err-close_with.ensures.1
@@ -234,4 +235,5 @@ returns-in_err-close_with-clause-claims c whole =
     let N : ℕ → Type 0 = λ n. HaveAllClaims n c.args.shares.items in
     IfErr_handed_on c.from_residual-in_err-close_with.result fault IsForMemory
     c.from_residual-in_err-close_with.ensures.1
-    (absurd (c.in_err-close_with.ensures.claims (subst N (sym (ap shards_of c.self.view_is)) whole)))
+    (absurd (c.in_err-close_with.ensures.claims
+    (subst N (sym (ap shards_of c.self.view_is)) whole)))

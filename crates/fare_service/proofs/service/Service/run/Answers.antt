@@ -27,6 +27,8 @@ pub returns-in_err-outcome-clause-claims : goal.returns-in_err-outcome-clause-cl
 returns-in_err-outcome-clause-claims g c whole =
     let service = c.args.self in
     let fault : GatherFault = c.in_err-outcome.field-0.0 in
-    let kept = claims_kept service (WorkedOn service) (λ old new w. w.went_on) c.in_ok-shares.shares.items c.in_ok-shares-2.shares.items c.in_ok-shares-2.ensures.worked (c.in_ok-shares.ensures.claims whole) in
+    let kept = claims_kept service (WorkedOn service) (λ old new w. w.went_on)
+    c.in_ok-shares.shares.items c.in_ok-shares-2.shares.items c.in_ok-shares-2.ensures.worked
+    (c.in_ok-shares.ensures.claims whole) in
     IfErr_handed_on c.from_residual-in_err-outcome.result (Gather fault) MissesNothing
     c.from_residual-in_err-outcome.ensures.1 (c.in_err-outcome.ensures.claims kept)

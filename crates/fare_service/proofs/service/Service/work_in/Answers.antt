@@ -50,7 +50,9 @@ returns-clause-worked g c =
     let left = into_iter_items c.loop-share.share-iterator in
     let none : left ≡ [] =
     nil_from_length left (omega (arith, c.in-None.ensures.steps.0, inv.left_len)) in
-    let all : c.loop-share.yielded ≡ c.args.shares.items = sym (append-nil c.loop-share.yielded) ∙ (ap (λ ss. c.loop-share.yielded ++ ss) (sym none) ∙ inv.left) in
+    let all : c.loop-share.yielded ≡ c.args.shares.items =
+    sym (append-nil c.loop-share.yielded)
+    ∙ (ap (λ ss. c.loop-share.yielded ++ ss) (sym none) ∙ inv.left) in
     let rs = c.in-Ok-join_promised.worked.items in
     let P : List ShareView → Type 0 = λ ss. AllZip (WorkedOn c.args.self.now) ss rs in
     subst P (inv.began ∙ all)

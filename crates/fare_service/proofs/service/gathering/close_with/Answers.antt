@@ -18,7 +18,8 @@ use Rattle.fare_service.proofs.service.gathering.close_with.Goals.{in-Ok, in-Err
 pub returns-then-is_empty-clause-ok : goal.returns-then-is_empty-clause-ok
 returns-then-is_empty-clause-ok c =
     let ok = c.in_default.ensures in
-    any_ok c.match-finish_unseen.result (IsClosedWork c.args.books.items c.args.shares.items c.close_unseen.new.closed.items)
+    any_ok c.match-finish_unseen.result
+    (IsClosedWork c.args.books.items c.args.shares.items c.close_unseen.new.closed.items)
     (closed_none c.args.books.items c.args.shares.items c.close_unseen.new.closed.items
     (nil_from_length c.args.shares.items
     (sym c.args.shares.ok.0
@@ -71,7 +72,8 @@ returns-in-Err-finish-clause-fault c =
 
 pub returns-in-Err-clause-first : goal.returns-in-Err-clause-first
 returns-in-Err-clause-first c =
-    first_unseen c.args.books.items c.args.draw.numbers c.args.shares.items c.close_unseen.new.closed.items c.in-Err.fault
+    first_unseen c.args.books.items c.args.draw.numbers c.args.shares.items
+    c.close_unseen.new.closed.items c.in-Err.fault
     (nil_from_length c.args.shares.items
     (sym c.args.shares.ok.0
     ∙ none_there c.is_empty.result (vec_len c.args.shares) c.is_empty.ensures c.if-is_empty.true))
@@ -83,7 +85,8 @@ returns-then-is_empty-clause-first c =
     let none = nil_from_length c.args.shares.items
     (sym c.args.shares.ok.0
     ∙ none_there c.is_empty.result (vec_len c.args.shares) c.is_empty.ensures c.if-is_empty.true) in
-    let R : Result (Unit {0}) GatherFault → Type 0 = λ r. IfErr r (TellsFirst c.args.books.items c.args.draw.numbers c.args.shares.items) in
+    let R : Result (Unit {0}) GatherFault → Type 0 =
+    λ r. IfErr r (TellsFirst c.args.books.items c.args.draw.numbers c.args.shares.items) in
     elim c.match-finish_unseen.branch [
       | in-Ok w ↦ subst R (sym w.result-is) tt
       | in-Err-finish_unseen w ↦ subst R (sym w.result-is)
@@ -149,7 +152,9 @@ returns-then-is_empty-clause-claims c =
     let none = nil_from_length c.args.shares.items
     (sym c.args.shares.ok.0
     ∙ none_there c.is_empty.result (vec_len c.args.shares) c.is_empty.ensures c.if-is_empty.true) in
-    any_err c.match-finish_unseen.result (HaveAllClaims (length c.args.books.items) c.args.shares.items → ⊥) (none_whole (length c.args.books.items) c.args.shares.items none)
+    any_err c.match-finish_unseen.result
+    (HaveAllClaims (length c.args.books.items) c.args.shares.items → ⊥)
+    (none_whole (length c.args.books.items) c.args.shares.items none)
 
 pub returns-in-Err-close_all-clause-claims : goal.returns-in-Err-close_all-clause-claims
 returns-in-Err-close_all-clause-claims c =
