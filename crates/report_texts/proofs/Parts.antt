@@ -4,9 +4,9 @@ use Rattle.std.specs.Prelude.{Option, Some, slice_get, codes}
 use Rattle.std.specs.Io.KnownBytes.{Appends}
 use Rattle.std.specs.List.{flat_map}
 use Rattle.std.proofs.Common.{get_or, length-take}
-use Rattle.std.proofs.lemmas.List.{take-append-drop}
 use Rattle.std.proofs.Common.{sym, ◌∙◌, ap, subst, append_assoc, append-nil, arith, add-zero}
-use Rattle.std.proofs.lemmas.List.{take_more, take_all, flat_map_more}
+use Rattle.std.proofs.lemmas.Grind.{flat_map-append}
+use Rattle.std.proofs.lemmas.List.{take-append-drop, take_more, take_all, flat_map_more}
 use Rattle.shard_book.specs.Sums.{Sums}
 use Rattle.tap_views.specs.declared.token.Token.{Token}
 use Rattle.tap_views.proofs.Lists.{take_next}
@@ -43,7 +43,8 @@ pub next_token : (a b c : Option (List ℕ)) (start waits left line : List ℕ)
 next_token a b c start waits left line sums i sum at before shown more =
     subst (λ (text : List ℕ). GoesOut a start c left text)
     (ap (λ (last : List ℕ). flat_map token_line (take i sums) ++ last) shown
-    ∙ token_more sums i sum at)
+    ∙ (flat_map_more token_line [] (take i sums) sum
+    ∙ ap (λ taken. flat_map token_line taken) (take_next sums i sum at)))
     (goes_on a b c start waits left (flat_map token_line (take i sums)) line before more)
 
 -- so all lines are out at last

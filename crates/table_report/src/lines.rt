@@ -197,6 +197,17 @@ fn push_riders(
     Ok(())
 }
 
+/// Appends the line of the key `window`, if the table has it.
+fn push_window(text: &mut String, tree: &Table) -> Result<(), AllocError> {
+    let Some(value) = tree.get("window") else {
+        return Ok(());
+    };
+    match value.as_str() {
+        Some(window) => write!(text, "window {window}\n"),
+        None => Ok(()),
+    }
+}
+
 /// The lines of a table without a fault, of which so many warnings are told.
 pub(crate) fn lines_of(
     alloc: Global,
@@ -208,6 +219,7 @@ pub(crate) fn lines_of(
     let name = wanted.name;
     let mut text = format!(in alloc; "table {name}\n")?;
     push_zone(&mut text, fares, wanted.from)?;
+    push_window(&mut text, tree)?;
     push_modes(&mut text, fares)?;
     push_transfers(&mut text, fares)?;
     push_classes(alloc, &mut text, tree, fares)?;

@@ -7,11 +7,11 @@ use Rattle.table_report.proofs.report.TableText.write.Goals.{else-wanted+in_ok-t
 
 pub returns-clause-sql : goal.returns-clause-sql
 returns-clause-sql g c = elim c.if-wanted.branch [
-  then-wanted+in_ok-write_sql w ↦ λ is.
+  | then-wanted+in_ok-write_sql w ↦ λ is.
       subst (λ out. Appends (g.W.Write.contents c.args.out.now) (g.W.Write.contents out)
-          (sql_text c.args.self.now)) (sym w.out-is)
+      (sql_text c.args.self.now)) (sym w.out-is)
       (subst (λ fares. Appends (g.W.Write.contents c.args.out.now)
-          (g.W.Write.contents w.write_sql.new.out) (sql_text fares)) c.self.view_is
+      (g.W.Write.contents w.write_sql.new.out) (sql_text fares)) c.self.view_is
       w.in_ok-write_sql.ensures.ok)
   | else-wanted+in_ok-text+else-is_err w ↦ λ is.
       absurd (let no : true ≡ false = sym is ∙ w.if-wanted.false in cc)
