@@ -1,0 +1,4 @@
+pub mod Corrected
+pub mod Faults
+pub mod Opened
+pub mod Places
