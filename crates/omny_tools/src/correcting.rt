@@ -86,7 +86,12 @@ pub(crate) fn correct<'a, W: Write + Drop, E: Write>(
         new: words.new.0,
         is_by_token: words.is_by_token,
     };
-    let removed = match tool_program::correct(rt.alloc(), &ledgers, &mut Texts::new(rt), out) {
+    let removed = match tool_program::corrections_over(
+        rt.alloc(),
+        &ledgers,
+        &mut Texts::new(rt),
+        out,
+    ) {
         Ok(removed) => removed,
         Err(fault) => return Err(fault_of(fault, out)),
     };

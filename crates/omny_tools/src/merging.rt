@@ -32,7 +32,7 @@ pub(crate) fn merge<'a, W: Write + Drop>(
 ) -> Result<bool, Fault<'a>> {
     let ends = words_of(rt.alloc(), &words.ends)?;
     let reports = words_of(rt.alloc(), &words.reports)?;
-    match tool_program::merge(rt.alloc(), &ends, &reports, &mut Texts::new(rt), out) {
+    match tool_program::merge_over(rt.alloc(), &ends, &reports, &mut Texts::new(rt), out) {
         Ok(are_posted) => Ok(are_posted),
         Err(fault) => Err(fault_of(fault, out)),
     }
@@ -46,7 +46,13 @@ pub(crate) fn merge_ledgers<'a, W: Write + Drop>(
 ) -> Result<(), Fault<'a>> {
     let ledgers = words_of(rt.alloc(), &words.ledgers)?;
     let reports = words_of(rt.alloc(), &words.reports)?;
-    match tool_program::merge_ledgers(rt.alloc(), &ledgers, &reports, &mut Texts::new(rt), out) {
+    match tool_program::merge_ledgers_over(
+        rt.alloc(),
+        &ledgers,
+        &reports,
+        &mut Texts::new(rt),
+        out,
+    ) {
         Ok(()) => Ok(()),
         Err(fault) => Err(fault_of(fault, out)),
     }

@@ -35,10 +35,7 @@ impl Source for Texts<'_> {
 }
 
 /// The words of these names.
-pub(crate) fn words_of<'a>(
-    alloc: Global,
-    names: &[Name<'a>],
-) -> Result<Vec<&'a str>, AllocError> {
+pub(crate) fn words_of<'a>(alloc: Global, names: &[Name<'a>]) -> Result<Vec<&'a str>, AllocError> {
     let mut words = Vec::new(alloc);
     for name in names {
         words.push(name.0)?;

@@ -42,8 +42,8 @@ pub right_merge : (words end_texts report_texts : List (List ℕ)) (fault : Merg
     → IsRightMergeFault words end_texts report_texts told
 right_merge words end_texts report_texts (merge.Line text number why) (Line word line wrong) few named texts taps =
     elim texts [
-      inl ends ↦ inl (ends.0, at text 0 ends.0 ends.1 named.0, ends.2)
-    | inr reports ↦ inr (reports.0, at text (length end_texts) reports.0 reports.1 named.0, reports.2)
+      | inl ends ↦ inl (ends.0, at text 0 ends.0 ends.1 named.0, ends.2)
+      | inr reports ↦ inr (reports.0, at text (length end_texts) reports.0 reports.1 named.0, reports.2)
     ]
   where
     at : (text first place : ℕ) → text ≡ number_from first place → slice_get words text ≡ Some word.now → slice_get words (first + place) ≡ Some word.now

@@ -53,7 +53,7 @@ fn fault_of<'a>(ledgers: &CorrectedLedgers<'a>, fault: CorrectionsFault) -> Faul
 /// Writes the corrections from the old ledger to the new one, or their sums by token. Both are opened
 /// first, `-` being standard input. Gives how many lines are removed: the old ledger has them, and
 /// the new one does not.
-pub fn correct<'a, S: Source, W: Write>(
+pub fn corrections_over<'a, S: Source, W: Write>(
     alloc: Global,
     ledgers: &CorrectedLedgers<'a>,
     source: &mut S,

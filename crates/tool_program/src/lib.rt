@@ -16,8 +16,8 @@ mod merge;
 mod merge_ledgers;
 mod source;
 
-pub use corrections::{CorrectedLedgers, correct};
+pub use corrections::{CorrectedLedgers, corrections_over};
 pub use fault::Fault;
-pub use merge::merge;
-pub use merge_ledgers::merge_ledgers;
+pub use merge::merge_over;
+pub use merge_ledgers::merge_ledgers_over;
 pub use source::Source;

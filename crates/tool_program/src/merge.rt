@@ -51,7 +51,7 @@ pub(crate) fn fault_of<'a>(first: &[&'a str], second: &[&'a str], fault: MergeFa
 /// Merges the reports of parts: opens the texts of the uploads' ends and the reports that the words
 /// name, `-` being standard input, and writes the report of the whole. Says whether no upload has a
 /// layout fault.
-pub fn merge<'a, S: Source, W: Write>(
+pub fn merge_over<'a, S: Source, W: Write>(
     alloc: Global,
     ends: &[&'a str],
     reports: &[&'a str],

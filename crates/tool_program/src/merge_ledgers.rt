@@ -13,7 +13,7 @@ use std::io::Write;
 /// Merges the ledgers of parts: opens the ledgers and the reports that the words name, `-` being
 /// standard input, and writes the ledger of the whole. If there is a report for each ledger, each is
 /// compared with its own.
-pub fn merge_ledgers<'a, S: Source, W: Write>(
+pub fn merge_ledgers_over<'a, S: Source, W: Write>(
     alloc: Global,
     ledgers: &[&'a str],
     reports: &[&'a str],

@@ -49,11 +49,7 @@ pub trait Source {
 fn file_of<'a>(word: &'a str) -> Option<&'a str>
     ensures { option_map (λ n. n.now) result ≡ file_named word.entry.now }
 {
-    if word == INPUT_WORD {
-        None
-    } else {
-        Some(word)
-    }
+    if word == INPUT_WORD { None } else { Some(word) }
 }
 
 /// Opens the file that the word names, or standard input, to be read in pieces.
