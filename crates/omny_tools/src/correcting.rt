@@ -3,7 +3,7 @@
 use crate::fault::Fault;
 use crate::names::Name;
 use crate::output::Output;
-use crate::texts::{Texts, fault_of};
+use crate::texts::{Texts, told_fault};
 use crate::words::subcommand;
 use clap::{ArgAction, ArgMatches, Command};
 use program_manners::{flag_arg, positional_arg};
@@ -93,7 +93,7 @@ pub(crate) fn correct<'a, W: Write + Drop, E: Write>(
         out,
     ) {
         Ok(removed) => removed,
-        Err(fault) => return Err(fault_of(fault, out)),
+        Err(fault) => return Err(told_fault(fault, out)),
     };
     if removed > 0 {
         let (old, new) = (words.old, words.new);

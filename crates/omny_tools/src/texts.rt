@@ -5,8 +5,11 @@ use crate::names::Name;
 use crate::output::Output;
 use program_manners::{LoadFault, Opened, open_file};
 use std::alloc::{AllocError, Global};
-use std::io::Write;
+use std::io::{BufReader, Write};
 use tool_program::Source;
+
+/// How many bytes one read of a text asks for.
+const READ_BYTES: usize = 65_536;
 
 /// Files and standard input of the system. It does not keep what it opened.
 #[derive(Drop)]
@@ -23,14 +26,17 @@ impl<'r> Texts<'r> {
 }
 
 impl Source for Texts<'_> {
-    type Text = Opened;
+    type Text = BufReader<Opened>;
 
-    fn open(&mut self, name: Option<&str>) -> Result<Opened, LoadFault> {
-        let Some(name) = name else {
-            return Ok(Opened::Input(self.rt.reader()));
+    fn open(&mut self, name: Option<&str>) -> Result<BufReader<Opened>, LoadFault> {
+        let opened = match name {
+            Some(name) => Opened::File(open_file(self.rt, name)?),
+            None => Opened::Input(self.rt.reader()),
         };
-        let file = open_file(self.rt, name)?;
-        Ok(Opened::File(file))
+        match BufReader::with_capacity(self.rt.alloc(), READ_BYTES, opened) {
+            Ok(reader) => Ok(reader),
+            Err(_) => Err(LoadFault::NoMemory),
+        }
     }
 }
 
@@ -44,7 +50,7 @@ pub(crate) fn words_of<'a>(alloc: Global, names: &[Name<'a>]) -> Result<Vec<&'a 
 }
 
 /// The same fault, as it is told.
-pub(crate) fn fault_of<'a, W: Write + Drop>(
+pub(crate) fn told_fault<'a, W: Write + Drop>(
     fault: tool_program::Fault<'a>,
     out: &Output<W>,
 ) -> Fault<'a> {

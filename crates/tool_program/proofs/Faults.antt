@@ -22,18 +22,18 @@ one_among word (x ∷ xs) ys (inr is) = inr (one_among word xs ys (inr is))
 
 -- a number of few texts is its own
 pub few_from : (count first place : ℕ) → count < 2 ^ 64 → number_from first place < count → number_from first place ≡ first + place
-few_from count first place few within = grind (arith)
+few_from count first place few within = omega (arith, few, within)
 
 -- the number that a fault names, of texts of two lists
-pub number_within : (first second : ℕ) (fault : MergeFault) → first + second < 2 ^ 64 → NamesAmong 0 first fault ⊎ NamesAmong first second fault
+pub number_within : (first second : ℕ) (fault : MergeFault) → NamesAmong 0 first fault ⊎ NamesAmong first second fault
     → IfSome (text_named fault) (λ text. text < first + second)
-number_within first second (merge.Line text number why) few (inl named) = subst (λ (t : ℕ). t < first + second) (sym named.2) (grind (arith))
-number_within first second (merge.Line text number why) few (inr named) = subst (λ (t : ℕ). t < first + second) (sym named.2) (grind (arith))
-number_within first second (merge.Unread text) few (inl named) = subst (λ (t : ℕ). t < first + second) (sym named.2) (grind (arith))
-number_within first second (merge.Unread text) few (inr named) = subst (λ (t : ℕ). t < first + second) (sym named.2) (grind (arith))
-number_within first second (merge.Taps reports uploads) few named = tt
-number_within first second merge.Write few named = tt
-number_within first second merge.NoMemory few named = tt
+number_within first second (merge.Line text number why) (inl named) = omega (arith, named.1, named.2)
+number_within first second (merge.Line text number why) (inr named) = omega (arith, named.1, named.2)
+number_within first second (merge.Unread text) (inl named) = omega (arith, named.1, named.2)
+number_within first second (merge.Unread text) (inr named) = omega (arith, named.1, named.2)
+number_within first second (merge.Taps reports uploads) named = tt
+number_within first second merge.Write named = tt
+number_within first second merge.NoMemory named = tt
 
 -- the fault of texts that were opened is the right one
 pub right_merge : (words end_texts report_texts : List (List ℕ)) (fault : MergeFault) (told : Fault) → length words < 2 ^ 64 → IsNamedAs words fault told

@@ -1,6 +1,6 @@
 -- What was opened, one more each time.
 use Rattle.std.proofs.Common.{◌≡◌, ◌∙◌, ◌<◌, ◌+◌, ℕ, zero, suc, List, [], ◌∷◌, ◌++◌, Bor, length, map, take, get_or, refl, sym, ap, subst, append-nil, append_assoc, Option, Some, None, inl, inr, arith}
-use Rattle.std.proofs.lemmas.List.{map-append, take_more}
+use Rattle.std.proofs.lemmas.List.{length-map, map-append, take_more}
 use Rattle.part_reports.specs.Texts.{AreLeft}
 use Rattle.program_manners.specs.Loads.{Loaded, Tells}
 use Rattle.tool_program.specs.Source.{HasOpened, OpensOne, file_named}
@@ -55,3 +55,14 @@ left_push remaining readers reader texts text are is =
 pub words_more : (words : List (Bor (List ℕ))) (k : ℕ) (d : Bor (List ℕ)) → k < length words
     → map (λ w. w.now) (take (k + 1) words) ≡ map (λ w. w.now) (take k words) ++ (get_or words k d).now ∷ []
 words_more words k d within = ap (map (λ w. w.now)) (take_more words k d within) ∙ map-append (λ (w : Bor (List ℕ)). w.now) (take k words) _
+
+-- as many texts as words were opened
+pub opened_count : (words : List (List ℕ)) (told told' : Option (List Loaded)) (texts : List (List ℕ)) → HasOpened words told told' texts → length texts ≡ length words
+opened_count words told told' texts all =
+    sym (ap length all.bytes) ∙ length-map (λ (load : Loaded). load.bytes) all.loads
+    ∙ sym (length-map (λ (load : Loaded). load.name) all.loads) ∙ ap length all.named ∙ length-map file_named words
+
+-- and as many readers
+pub left_count : {R : Type 0} (remaining : R → Option (List ℕ)) (readers : List R) (texts : List (List ℕ)) → AreLeft remaining readers texts → length readers ≡ length texts
+left_count remaining readers texts are =
+    sym (length-map remaining readers) ∙ ap length are ∙ length-map (λ (file : List ℕ). Some file) texts

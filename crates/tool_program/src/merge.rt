@@ -18,10 +18,14 @@ fn word_of<'a>(first: &[&'a str], second: &[&'a str], text: usize) -> Option<&'a
     ensures { text < length first.now + length second.now → option_map (λ w. w.now) result
         ≡ slice_get (map (λ w. w.now) first.now ++ map (λ w. w.now) second.now) text }
 {
-    match text.checked_sub(first.len()) {
-        Some(at) => second.get(at).copied(),
-        None => first.get(text).copied(),
+    if text < first.len() {
+        return Some(first[text]);
     }
+    let at = text - first.len();
+    if at < second.len() {
+        return Some(second[at]);
+    }
+    None
 }
 
 /// Why the texts that these words name were not merged.

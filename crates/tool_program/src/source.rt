@@ -1,6 +1,5 @@
 //! Where texts come from.
-ghost use Rattle.std.specs.Prelude.{◌≡◌, ℕ, List, IfErr, IfOk, Some, length, map, option_map};
-ghost use Rattle.std.specs.Io.Buffered.{reader_remaining};
+ghost use Rattle.std.specs.Prelude.{◌≡◌, ℕ, List, IfErr, IfOk, Some, codes, map, option_map};
 ghost use Rattle.std.specs.Str.{bytes_eq};
 ghost use Rattle.part_reports.specs.Texts.{AreLeft};
 ghost use Rattle.program_manners.specs.Loads.{Loaded};
@@ -11,10 +10,7 @@ ghost use Rattle.tool_program.specs.Source.{HasOpened, OpensOne, file_named};
 use crate::fault::Fault;
 use program_manners::LoadFault;
 use std::alloc::Global;
-use std::io::{BufReader, Read};
-
-/// How many bytes one read of a text asks for.
-const READ_BYTES: usize = 65_536;
+use std::io::BufRead;
 
 /// The word that stands for standard input.
 const INPUT_WORD: &str = "-";
@@ -28,7 +24,7 @@ pub trait Source {
     ghost use Rattle.tool_program.specs.Source.{OpensOne};
 
     /// A file or standard input that was opened, to be read in pieces.
-    type Text: Read + Drop;
+    type Text: BufRead + Drop;
 
     // What was opened so far, in order, by a source that keeps it.
     ghost loaded: { Self → Option (List Loaded) } = { λ _. None };
@@ -52,22 +48,15 @@ fn file_of<'a>(word: &'a str) -> Option<&'a str>
     if word == INPUT_WORD { None } else { Some(word) }
 }
 
-/// Opens the file that the word names, or standard input, to be read in pieces.
-pub(crate) fn open_text<'a, S: Source>(
-    alloc: Global,
-    source: &mut S,
-    word: &'a str,
-) -> Result<BufReader<S::Text>, Fault<'a>>
-    ensures told { IfOk result (λ reader. OpensOne (S.loaded source.old) (S.loaded source.new)
-        (file_named word.entry.now) (reader_remaining S.Text.remaining reader)) }
+/// Opens the file that the word names, or standard input.
+pub(crate) fn open_text<'a, S: Source>(source: &mut S, word: &'a str) -> Result<S::Text, Fault<'a>>
+    ensures told { IfOk result (λ text. OpensOne (S.loaded source.old) (S.loaded source.new)
+        (file_named word.entry.now) (S.Text.remaining text)) }
     ensures refusal { IfErr result (λ fault. (words : List (List ℕ))
         → IsOneOf word.entry.now words → IsRefusal (S.refused source.new) words fault) }
 {
     match source.open(file_of(word)) {
-        Ok(text) => match BufReader::with_capacity(alloc, READ_BYTES, text) {
-            Ok(reader) => Ok(reader),
-            Err(_) => Err(Fault::NoMemory),
-        },
+        Ok(text) => Ok(text),
         Err(fault) => Err(Fault::of_load(word, fault)),
     }
 }
@@ -77,19 +66,18 @@ pub(crate) fn open_all<'a, S: Source>(
     alloc: Global,
     source: &mut S,
     words: &[&'a str],
-) -> Result<Vec<BufReader<S::Text>>, Fault<'a>>
+) -> Result<Vec<S::Text>, Fault<'a>>
     ensures opened { IfOk result (λ readers. (kept : List Loaded)
         → S.loaded source.old ≡ Some kept → (texts : List (List ℕ))
         × HasOpened (map (λ w. w.now) words.now) (S.loaded source.old) (S.loaded source.new) texts
-        × AreLeft (reader_remaining S.Text.remaining) readers.items texts) }
-    ensures count { IfOk result (λ readers. length readers.items ≡ length words.now) }
+        × AreLeft S.Text.remaining readers.items texts) }
     ensures refusal { IfErr result (λ fault. (all : List (List ℕ))
         → ((word : List ℕ) → IsOneOf word (map (λ w. w.now) words.now) → IsOneOf word all)
         → IsRefusal (S.refused source.new) all fault) }
 {
     let mut texts = Vec::new(alloc);
     for word in words {
-        let text = open_text(alloc, source, word)?;
+        let text = open_text(source, word)?;
         texts.push(text)?;
     }
     Ok(texts)
