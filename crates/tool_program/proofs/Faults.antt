@@ -42,14 +42,18 @@ pub right_merge : (words end_texts report_texts : List (List ℕ)) (fault : Merg
     → IsRightMergeFault words end_texts report_texts told
 right_merge words end_texts report_texts (merge.Line text number why) (Line word line wrong) few named texts taps =
     elim texts [
-      | inl ends ↦ inl (ends.0, at text 0 ends.0 ends.1 named.0, ends.2)
-      | inr reports ↦ inr (reports.0, at text (length end_texts) reports.0 reports.1 named.0, reports.2)
+      inl ends ↦ inl (ends.0, first_at text ends.0 ends.1 named.0, ends.2)
+    | inr reports ↦ inr (reports.0, at text (length end_texts) reports.0 reports.1 named.0, reports.2)
     ]
   where
     at : (text first place : ℕ) → text ≡ number_from first place → slice_get words text ≡ Some word.now → slice_get words (first + place) ≡ Some word.now
     at text first place is there =
         subst (λ (k : ℕ). slice_get words k ≡ Some word.now)
         (is ∙ few_from (length words) first place few (subst (λ (k : ℕ). k < length words) is (slice_get_within words text word.now there))) there
+    first_at : (text place : ℕ) → text ≡ number_from 0 place → slice_get words text ≡ Some word.now → slice_get words place ≡ Some word.now
+    first_at text place is there =
+        let same : text ≡ place = omega (arith, few, is, slice_get_within words text word.now there) in
+        subst (λ (k : ℕ). slice_get words k ≡ Some word.now) same there
 right_merge words end_texts report_texts (merge.Unread text) (Unread word) few named texts taps = (text, named)
 right_merge words end_texts report_texts (merge.Taps of_reports of_uploads) (Taps reports uploads) few named texts taps =
     subst (λ (r : ℕ). HaveTaps end_texts report_texts r uploads) (sym named.0)

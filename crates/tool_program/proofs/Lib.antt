@@ -1,4 +1,3 @@
 pub mod Corrected
 pub mod Faults
 pub mod Opened
-pub mod Places

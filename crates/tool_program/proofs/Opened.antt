@@ -59,10 +59,10 @@ words_more words k d within = ap (map (λ w. w.now)) (take_more words k d within
 -- as many texts as words were opened
 pub opened_count : (words : List (List ℕ)) (told told' : Option (List Loaded)) (texts : List (List ℕ)) → HasOpened words told told' texts → length texts ≡ length words
 opened_count words told told' texts all =
-    sym (ap length all.bytes) ∙ length-map (λ (load : Loaded). load.bytes) all.loads
-    ∙ sym (length-map (λ (load : Loaded). load.name) all.loads) ∙ ap length all.named ∙ length-map file_named words
+    sym (ap length all.bytes) ∙ length-map all.loads (λ (load : Loaded). load.bytes)
+    ∙ sym (length-map all.loads (λ (load : Loaded). load.name)) ∙ ap length all.named ∙ length-map words file_named
 
 -- and as many readers
 pub left_count : {R : Type 0} (remaining : R → Option (List ℕ)) (readers : List R) (texts : List (List ℕ)) → AreLeft remaining readers texts → length readers ≡ length texts
 left_count remaining readers texts are =
-    sym (length-map remaining readers) ∙ ap length are ∙ length-map (λ (file : List ℕ). Some file) texts
+    sym (length-map readers remaining) ∙ ap length are ∙ length-map texts (λ (file : List ℕ). Some file)

@@ -27,8 +27,8 @@ pub returns-in-Ok-clause-done : goal.returns-in-Ok-clause-done
 returns-in-Ok-clause-done g c = λ kept is.
     let ledgers = c.args.ledgers.now in
     let told = g.S.Source.loaded c.args.source.now in
-    let mid = g.S.Source.loaded c.open_text-old.new.source in
-    let end = g.S.Source.loaded c.open_text-new.new.source in
+    let mid = g.S.Source.loaded c.open_text.new.source in
+    let end = g.S.Source.loaded c.open_text-2.new.source in
     let remaining = g.S.Text.Read.remaining in
     let first = opened_push [] ledgers.old.now kept told told mid [] (remaining c.in_ok-old.old) is (opened_none told) c.in_ok-old.ensures.told in
     let second = opened_push (ledgers.old.now ∷ []) ledgers.new.now kept told mid end (first.0 ∷ []) (remaining c.in_ok-new.new) is first.2 c.in_ok-new.ensures.told in
@@ -39,8 +39,8 @@ pub returns-in-Err-clause-fault : goal.returns-in-Err-clause-fault
 returns-in-Err-clause-fault g c = λ kept is.
     let ledgers = c.args.ledgers.now in
     let told = g.S.Source.loaded c.args.source.now in
-    let mid = g.S.Source.loaded c.open_text-old.new.source in
-    let end = g.S.Source.loaded c.open_text-new.new.source in
+    let mid = g.S.Source.loaded c.open_text.new.source in
+    let end = g.S.Source.loaded c.open_text-2.new.source in
     let remaining = g.S.Text.Read.remaining in
     let first = opened_push [] ledgers.old.now kept told told mid [] (remaining c.in_ok-old.old) is (opened_none told) c.in_ok-old.ensures.told in
     let second = opened_push (ledgers.old.now ∷ []) ledgers.new.now kept told mid end (first.0 ∷ []) (remaining c.in_ok-new.new) is first.2 c.in_ok-new.ensures.told in

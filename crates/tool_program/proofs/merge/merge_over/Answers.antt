@@ -32,7 +32,7 @@ pub returns-in-Ok-clause-done : goal.returns-in-Ok-clause-done
 returns-in-Ok-clause-done g c = λ kept is.
     let ends = map (λ w. w.now) c.args.ends.now in
     let old = g.S.Source.loaded c.args.source.now in
-    let mid = g.S.Source.loaded c.open_all-end_texts.new.source in
+    let mid = g.S.Source.loaded c.open_all.new.source in
     let first = c.in_ok-end_texts.ensures.opened kept is in
     let still = still_kept ends kept old mid first.0 is first.1 in
     let second = c.in_ok-report_texts.ensures.opened still.0 still.1 in
@@ -52,17 +52,17 @@ returns-in-Err-clause-fault g c = λ kept is.
     let ends = map (λ w. w.now) c.args.ends.now in
     let reports = map (λ w. w.now) c.args.reports.now in
     let old = g.S.Source.loaded c.args.source.now in
-    let mid = g.S.Source.loaded c.open_all-end_texts.new.source in
-    let new = g.S.Source.loaded c.open_all-report_texts.new.source in
+    let mid = g.S.Source.loaded c.open_all.new.source in
+    let new = g.S.Source.loaded c.open_all-2.new.source in
     let remaining = g.S.Text.Read.remaining in
     let first = c.in_ok-end_texts.ensures.opened kept is in
     let still = still_kept ends kept old mid first.0 is first.1 in
     let second = c.in_ok-report_texts.ensures.opened still.0 still.1 in
     let of_ends : length c.in_ok-end_texts.end_texts.items ≡ length c.args.ends.now =
-    left_count remaining c.in_ok-end_texts.end_texts.items first.0 first.2 ∙ opened_count ends old mid first.0 first.1 ∙ length-map (λ w. w.now) c.args.ends.now in
+    left_count remaining c.in_ok-end_texts.end_texts.items first.0 first.2 ∙ opened_count ends old mid first.0 first.1 ∙ length-map c.args.ends.now (λ w. w.now) in
     let of_reports : length c.in_ok-report_texts.report_texts.items ≡ length c.args.reports.now =
     left_count remaining c.in_ok-report_texts.report_texts.items second.0 second.2 ∙ opened_count reports mid new second.0 second.1
-    ∙ length-map (λ w. w.now) c.args.reports.now in
+    ∙ length-map c.args.reports.now (λ w. w.now) in
     let fault = c.in-Err.fault in
     inr (record {
       end_texts = first.0;
