@@ -6,18 +6,25 @@ use Rattle.ledger_changes.specs.declared.fault.CorrectionsFault.{CorrectionsFaul
 use Rattle.ledger_changes.specs.declared.fault.CorrectionsFault.TheVariants as changes
 use Rattle.tool_program.specs.Corrections.{IsRightCorrectionsFault, IsUnsettled}
 use Rattle.tool_program.specs.declared.fault.Fault.{Fault}
-use Rattle.tool_program.specs.declared.fault.Fault.TheVariants.{Line, NoMemory, Unread, Unsettled, Write}
+use Rattle.tool_program.specs.declared.fault.Fault.TheVariants.{Line, NoMemory, Unread, Unsettled}
+use Rattle.tool_program.specs.declared.fault.Fault.TheVariants.{Write}
 use Rattle.tool_program.specs.inside.Fault.{IsCorrectionsFault}
 
 -- the fault of ledgers that were opened is the right one
-pub right_corrections : (old new old_text new_text : List ℕ) (fault : CorrectionsFault) (told : Fault) → IsCorrectionsFault old new fault told
-    → (IsOfLedger Old fault → IsUnsettled old_text) → (IsOfLedger New fault → IsUnsettled new_text) → IsRightCorrectionsFault old new old_text new_text told
-right_corrections old new old_text new_text (changes.Form Old number) (Line word line why) named of_old of_new = (inl (named.0, of_old refl), named.1)
-right_corrections old new old_text new_text (changes.Form New number) (Line word line why) named of_old of_new = (inr (named.0, of_new refl), named.1)
-right_corrections old new old_text new_text (changes.Order Old number) (Unsettled word line) named of_old of_new = inl (named, of_old refl)
-right_corrections old new old_text new_text (changes.Order New number) (Unsettled word line) named of_old of_new = inr (named, of_new refl)
-right_corrections old new old_text new_text (changes.Unread Old) (Unread word) named of_old of_new = inl named
-right_corrections old new old_text new_text (changes.Unread New) (Unread word) named of_old of_new = inr (inl named)
-right_corrections old new old_text new_text changes.Write Write named of_old of_new = tt
-right_corrections old new old_text new_text changes.NoMemory NoMemory named of_old of_new = tt
-right_corrections old new old_text new_text fault told named of_old of_new = absurd named
+pub right_corrections : (old new a b : List ℕ) (fault : CorrectionsFault) (told : Fault)
+    → IsCorrectionsFault old new fault told
+    → (IsOfLedger Old fault → IsUnsettled a) → (IsOfLedger New fault → IsUnsettled b)
+    → IsRightCorrectionsFault old new a b told
+right_corrections old new a b (changes.Form Old number) (Line word line why) is of_a of_b =
+    (inl (is.0, of_a refl), is.1)
+right_corrections old new a b (changes.Form New number) (Line word line why) is of_a of_b =
+    (inr (is.0, of_b refl), is.1)
+right_corrections old new a b (changes.Order Old number) (Unsettled word line) is of_a of_b =
+    inl (is, of_a refl)
+right_corrections old new a b (changes.Order New number) (Unsettled word line) is of_a of_b =
+    inr (is, of_b refl)
+right_corrections old new a b (changes.Unread Old) (Unread word) is of_a of_b = inl is
+right_corrections old new a b (changes.Unread New) (Unread word) is of_a of_b = inr (inl is)
+right_corrections old new a b changes.Write Write is of_a of_b = tt
+right_corrections old new a b changes.NoMemory NoMemory is of_a of_b = tt
+right_corrections old new a b fault told is of_a of_b = absurd is

@@ -41,8 +41,8 @@ pub record Corrects (by_token : Bool) (old new : List ℕ) (told told' : Option 
   pub corrections : IsTextOfCorrections by_token old_text new_text text removed
   pub written : Appends out out' text
 
--- The fault is the right one of ledgers that were opened: it names one that is no settled ledger, or
--- that could not be read to its end. A write and want of memory may fail at any time.
+-- The fault is the right one of ledgers that were opened: it names one that is no settled ledger,
+-- or that could not be read to its end. A write and want of memory may fail at any time.
 abbrev pub IsRightCorrectionsFault : List ℕ → List ℕ → List ℕ → List ℕ → Fault → Type 0
 IsRightCorrectionsFault old new old_text new_text (Line word number why) =
     NamesUnsettled old new old_text new_text word.now × (why ≡ wrong.Form)

@@ -7,8 +7,8 @@ use Rattle.tool_program.specs.Source.{file_named}
 use Rattle.tool_program.specs.declared.fault.Fault.{Fault}
 use Rattle.tool_program.specs.declared.fault.Fault.TheVariants.{NoMemory, TooLong, Unread}
 
--- The source refused the file of one of these words, which the fault names, for its reason; or memory
--- was refused.
+-- The source refused the file of one of these words, which the fault names, for its reason; or
+-- memory was refused.
 abbrev pub IsRefusal : Option (Option (List ℕ) × LoadFault) → List (List ℕ) → Fault → Type 0
 IsRefusal refused words (Unread word) =
     IsOneOf word.now words × Refuses refused (file_named word.now) load.Unread

@@ -21,8 +21,8 @@ pub record OpensBoth (first second : List (List ℕ)) (told told' : Option (List
   pub opens_first : HasOpened first told between first_texts
   pub opens_second : HasOpened second between told' second_texts
 
--- The ends were opened and then the reports, and what was written is, whole, the report that they are
--- merged into. Each upload was posted, or not.
+-- The ends were opened and then the reports, and what was written is, whole, the report that they
+-- are merged into. Each upload was posted, or not.
 pub record MergesReports (ends reports : List (List ℕ)) (told told' : Option (List Loaded))
     (out out' : Option (List ℕ)) (are_posted : Bool) : Type 0 where
   pub end_texts : List (List ℕ)
@@ -33,9 +33,9 @@ pub record MergesReports (ends reports : List (List ℕ)) (told told' : Option (
   pub posted : IsTrue are_posted ↔ All (λ end. IsTrue (is_posted end)) (all_ends merged.ends)
   pub written : Appends out out' text
 
--- The fault is the right one of texts that were opened under these words, those of the ends first: a
--- line of a text that is wrong, at the place of the word that is named; the taps of the texts; a text
--- that could not be read to its end. A write and want of memory may fail at any time.
+-- The fault is the right one of texts that were opened under these words, those of the ends first:
+-- a line of a text that is wrong, at the place of the word that is named; the taps of the texts; a
+-- text that could not be read to its end. A write and want of memory may fail at any time.
 abbrev pub IsRightMergeFault : List (List ℕ) → List (List ℕ) → List (List ℕ) → Fault → Type 0
 IsRightMergeFault words end_texts report_texts (Line word number why) =
     ((place : ℕ) × (slice_get words place ≡ Some word.now) × AreWrongEndsAt end_texts place)

@@ -77,9 +77,9 @@ fn write_corrections<R: BufRead + Drop, W: Write>(
     ledger_changes::corrections(alloc, old, new, out)
 }
 
-/// Writes the corrections from the old ledger to the new one, or their sums by token. Both are opened
-/// first, `-` being standard input. Gives how many lines are removed: the old ledger has them, and
-/// the new one does not.
+/// Writes the corrections from the old ledger to the new one, or their sums by token. Both are
+/// opened first, `-` being standard input. Gives how many lines are removed: the old ledger has
+/// them, and the new one does not.
 pub fn corrections_over<'a, S: Source, W: Write>(
     alloc: Global,
     ledgers: &CorrectedLedgers<'a>,

@@ -1,5 +1,5 @@
-//! Subcommands of the tools over any source of bytes and any writer: to merge the reports of parts, and
-//! to write the corrections from one ledger to another.
+//! Subcommands of the tools over any source of bytes and any writer: to merge the reports of parts,
+//! and to write the corrections from one ledger to another.
 //!
 //! | module | what it does |
 //! |---|---|

@@ -32,8 +32,8 @@ pub trait Source {
     // The last opening that it refused: the name, and why; of a source that keeps it.
     ghost refused: { Self → Option (Option (List ℕ) × AFault) } = { λ _. None };
 
-    /// The file of this name, or standard input if there is none, to be read from its beginning. What
-    /// a fault leaves opened is not told.
+    /// The file of this name, or standard input if there is none, to be read from its beginning.
+    /// What a fault leaves opened is not told.
     fn open(&mut self, name: Option<&str>) -> Result<Self::Text, LoadFault>
         ensures told { IfOk result (λ text. OpensOne (loaded self.old) (loaded self.new)
             (option_map (λ n. n.now) name.entry) (Self.Text.remaining text)) }
