@@ -33,17 +33,20 @@ pub opened_push : (words : List (List ℕ)) (word : List ℕ) (kept : List Loade
 opened_push words word kept told None told'' texts left is all one =
     absurd (subst (λ (t : Option (List Loaded)). Tells t None all.loads) is all.told_is)
 opened_push words word kept told (Some now) told'' texts None is all one = absurd one
-opened_push words word kept told (Some now) told'' texts (Some text) is all one = (text, refl,
-record {
-  loads = all.loads ++ record { name = file_named word; bytes = text } ∷ [];
-  named = map-append (λ (load : Loaded). load.name) all.loads _
-  ∙ ap (λ (xs : List (Option (List ℕ))). xs ++ file_named word ∷ []) all.named
-  ∙ sym (map-append file_named words (word ∷ []));
-  bytes = map-append (λ (load : Loaded). load.bytes) all.loads _
-  ∙ ap (λ (xs : List (List ℕ)). xs ++ text ∷ []) all.bytes;
-  told_is = on told told'' all.loads (record { name = file_named word; bytes = text } ∷ [])
-      all.told_is one;
-})
+opened_push words word kept told (Some now) told'' texts (Some text) is all one = (
+  text,
+  refl,
+  record {
+    loads = all.loads ++ record { name = file_named word; bytes = text } ∷ [];
+    named = map-append (λ (load : Loaded). load.name) all.loads _
+        ∙ ap (λ (xs : List (Option (List ℕ))). xs ++ file_named word ∷ []) all.named
+        ∙ sym (map-append file_named words (word ∷ []));
+    bytes = map-append (λ (load : Loaded). load.bytes) all.loads _
+        ∙ ap (λ (xs : List (List ℕ)). xs ++ text ∷ []) all.bytes;
+    told_is = on told told'' all.loads (record { name = file_named word; bytes = text } ∷ [])
+        all.told_is one;
+  },
+)
   where
     on : (before after : Option (List Loaded)) (loads more : List Loaded)
         → Tells before (Some now) loads → Tells (Some now) after more
