@@ -1,6 +1,6 @@
 -- Faults of texts that were not opened, or that were.
 use Rattle.std.proofs.Common.{◌≡◌, ◌∙◌, ◌<◌, ◌+◌, ◌^◌, ◌⊎◌, ℕ, List, [], ◌∷◌, ◌++◌, length}
-use Rattle.std.proofs.Common.{arith, inl, inr, min, refl, subst, sym, Option, Some}
+use Rattle.std.proofs.Common.{arith, inl, inr, refl, subst, sym, Some}
 use Rattle.std.proofs.lemmas.Option.{slice_get_within}
 use Rattle.std.specs.Prelude.{IfSome, slice_get}
 use Rattle.part_reports.specs.Faults.{NamesAmong, number_from, text_named}

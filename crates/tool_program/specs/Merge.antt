@@ -2,9 +2,9 @@
 use Rattle.std.specs.Prelude.{◌≡◌, ◌↔◌, ◌⊎◌, ◌+◌, ◌<◌, ◌^◌, ⊤, ℕ, Bool, List, ◌++◌, All, IsTrue}
 use Rattle.std.specs.Prelude.{Option, Some, length, slice_get}
 use Rattle.std.specs.Io.KnownBytes.{Appends, Keeps}
+use Rattle.fare_texts.specs.WrittenOut.{Begins}
 use Rattle.part_reports.specs.Reports.{AreWrongEndsAt, HaveTaps, IsMerged, IsWrongReportAt}
 use Rattle.part_reports.specs.Reports.{all_ends}
-use Rattle.part_reports.specs.Texts.{Begins}
 use Rattle.program_manners.specs.Loads.{Loaded}
 use Rattle.program_manners.specs.declared.loading.LoadFault.{LoadFault}
 use Rattle.report_texts.specs.UploadEnds.{is_posted}
