@@ -57,23 +57,41 @@ opened_push words word kept told (Some now) told'' texts (Some text) is all one 
         next ∙ ap (λ (xs : List Loaded). xs ++ more) first ∙ append_assoc before loads more
 
 -- and its reader
-pub left_push : {R : Type 0} (remaining : R → Option (List ℕ)) (readers : List R) (reader : R)
-    (texts : List (List ℕ)) (text : List ℕ) → AreLeft remaining readers texts
-    → remaining reader ≡ Some text
-    → AreLeft remaining (readers ++ reader ∷ []) (texts ++ text ∷ [])
-left_push remaining readers reader texts text are is =
-    map-append remaining readers (reader ∷ [])
+pub left_push : {R : Type 0} (remaining : R → Option (List ℕ)) (readers more : List R) (reader : R)
+    (texts : List (List ℕ)) (text : List ℕ) → more ≡ readers ++ reader ∷ []
+    → AreLeft remaining readers texts → remaining reader ≡ Some text
+    → AreLeft remaining more (texts ++ text ∷ [])
+left_push remaining readers more reader texts text pushed are is =
+    ap (map remaining) pushed
+    ∙ map-append remaining readers (reader ∷ [])
     ∙ ap (λ (xs : List (Option (List ℕ))). xs ++ remaining reader ∷ []) are
     ∙ ap (λ (o : Option (List ℕ)). map (λ (file : List ℕ). Some file) texts ++ o ∷ []) is
     ∙ sym (map-append (λ (file : List ℕ). Some file) texts (text ∷ []))
 
 -- one more word
-pub words_more : (words : List (Bor (List ℕ))) (k : ℕ) (d : Bor (List ℕ)) → k < length words
+words_more : (words : List (Bor (List ℕ))) (k : ℕ) (d : Bor (List ℕ)) → k < length words
     → map (λ w. w.now) (take (k + 1) words)
     ≡ map (λ w. w.now) (take k words) ++ (get_or words k d).now ∷ []
 words_more words k d within =
     ap (map (λ w. w.now)) (take_more words k d within)
     ∙ map-append (λ (w : Bor (List ℕ)). w.now) (take k words) _
+
+-- the text of one more word that was opened
+pub opened_word : (words : List (Bor (List ℕ))) (k : ℕ) (d : Bor (List ℕ)) (kept : List Loaded)
+    (told told' told'' : Option (List Loaded)) (texts : List (List ℕ)) (left : Option (List ℕ))
+    → k < length words → told ≡ Some kept
+    → HasOpened (map (λ w. w.now) (take k words)) told told' texts
+    → OpensOne told' told'' (file_named (get_or words k d).now) left
+    → (text : List ℕ) × (left ≡ Some text)
+    × HasOpened (map (λ w. w.now) (take (k + 1) words)) told told'' (texts ++ text ∷ [])
+opened_word words k d kept told told' told'' texts left within is all one =
+    let more = opened_push (map (λ w. w.now) (take k words)) (get_or words k d).now kept told told'
+    told'' texts left is all one in (
+      more.0,
+      more.1,
+      subst (λ (ws : List (List ℕ)). HasOpened ws told told'' (texts ++ more.0 ∷ []))
+          (sym (words_more words k d within)) more.2,
+    )
 
 -- as many texts as words were opened
 pub opened_count : (words : List (List ℕ)) (told told' : Option (List Loaded))

@@ -1,10 +1,9 @@
-use Rattle.std.proofs.Common.{◌≡◌, ◌<◌, ◌++◌, ◌∷◌, [], ℕ, List, Bor, get_or, length, map}
+use Rattle.std.proofs.Common.{◌≡◌, ◌++◌, ◌∷◌, [], ℕ, List, Bor, get_or}
 use Rattle.std.proofs.Common.{refl, subst, sym, take, take_all}
 use Rattle.std.proofs.lemmas.Result.{err_from_is_err_and}
 use Rattle.part_reports.specs.Texts.{AreLeft}
 use Rattle.program_manners.proofs.Refusals.{is_one_at}
-use Rattle.tool_program.specs.Source.{HasOpened}
-use Rattle.tool_program.proofs.Opened.{left_push, opened_none, opened_push, words_more}
+use Rattle.tool_program.proofs.Opened.{left_push, opened_none, opened_word}
 use Rattle.tool_program.proofs.source.open_all.Goals as goal
 
 pub loop-word-init : goal.loop-word-init
@@ -20,21 +19,16 @@ loop-word-preserved g c = λ kept is.
     let words = c.args.words.now in
     let no_word : Bor (List ℕ) = record { ref_ptr = (0, 0); now = [] } in
     let place = c.loop-word.word-index in
-    let within : place < length words = c.loop-word-test.true in
     let reader = c.in_ok-text.text in
     let remaining = g.S.Text.Read.remaining in
-    let old = g.S.Source.loaded c.args.source.now in
-    let mid = g.S.Source.loaded c.loop-word.source in
-    let new = g.S.Source.loaded c.open_text.new.source in
     let so_far = c.loop-word.invariant kept is in
-    let more = opened_push (map (λ w. w.now) (take place words)) (get_or words place no_word).now
-    kept old mid new so_far.0 (remaining reader) is so_far.1 c.in_ok-text.ensures.told in (
+    let more = opened_word words place no_word kept (g.S.Source.loaded c.args.source.now)
+    (g.S.Source.loaded c.loop-word.source) (g.S.Source.loaded c.open_text.new.source) so_far.0
+    (remaining reader) c.loop-word-test.true is so_far.1 c.in_ok-text.ensures.told in (
       so_far.0 ++ more.0 ∷ [],
-      subst (λ (ws : List (List ℕ)). HasOpened ws old new (so_far.0 ++ more.0 ∷ []))
-          (sym (words_more words place no_word within)) more.2,
-      subst (λ readers. AreLeft remaining readers (so_far.0 ++ more.0 ∷ []))
-          (sym c.in_ok-push.ensures.items)
-          (left_push remaining c.loop-word.texts.items reader so_far.0 more.0 so_far.2 more.1),
+      more.2,
+      left_push remaining c.loop-word.texts.items _ reader so_far.0 more.0
+          c.in_ok-push.ensures.items so_far.2 more.1,
     )
 
 pub returns-clause-opened : goal.returns-clause-opened
