@@ -1,16 +1,15 @@
 //! `corrections`.
 
 use crate::fault::Fault;
-use crate::input::open_in_pieces;
 use crate::names::Name;
 use crate::output::Output;
+use crate::texts::{Texts, told_fault};
 use crate::words::subcommand;
 use clap::{ArgAction, ArgMatches, Command};
-use ledger_changes::{Bill, CorrectionsFault};
-use part_reports::Wrong;
 use program_manners::{flag_arg, positional_arg};
 use std::alloc::{AllocError, Global};
 use std::io::Write;
+use tool_program::CorrectedLedgers;
 
 /// What the exit status of `corrections` says.
 const CORRECTIONS_STATUS: &str = "Exit status:
@@ -50,16 +49,6 @@ pub(crate) struct CorrectionsWords<'a> {
     pub(crate) is_by_token: bool,
 }
 
-impl<'a> CorrectionsWords<'a> {
-    /// The name of a bill's ledger.
-    fn name_of(&self, bill: Bill) -> Name<'a> {
-        match bill {
-            Bill::Old => self.old,
-            Bill::New => self.new,
-        }
-    }
-}
-
 /// `corrections [--tokens] OLD NEW`
 pub(crate) fn corrections_command<'a>(alloc: Global) -> Result<Command<'a>, AllocError> {
     let tokens = flag_arg(alloc, "tokens", TOKENS_HELP);
@@ -84,23 +73,6 @@ pub(crate) fn corrections_words<'a>(matches: &ArgMatches<'a>) -> CorrectionsWord
     }
 }
 
-/// Why the corrections were not written.
-fn fault_of<'a, W: Write + Drop>(
-    words: &CorrectionsWords<'a>,
-    fault: CorrectionsFault,
-    out: &Output<W>,
-) -> Fault<'a> {
-    match fault {
-        CorrectionsFault::Form(bill, number) => {
-            Fault::Line(words.name_of(bill), number, Wrong::Form)
-        }
-        CorrectionsFault::Order(bill, number) => { Fault::Unsettled(words.name_of(bill), number) }
-        CorrectionsFault::Unread(bill) => Fault::Unread(words.name_of(bill)),
-        CorrectionsFault::Write => out.failed(),
-        CorrectionsFault::NoMemory => Fault::NoMemory,
-    }
-}
-
 /// Writes the corrections from the old ledger to the new one, or their sums by token. Where lines
 /// are removed, tells how many on `err`.
 pub(crate) fn correct<'a, W: Write + Drop, E: Write>(
@@ -109,16 +81,19 @@ pub(crate) fn correct<'a, W: Write + Drop, E: Write>(
     out: &mut Output<W>,
     err: &mut E,
 ) -> Result<(), Fault<'a>> {
-    let old = open_in_pieces(rt, words.old)?;
-    let new = open_in_pieces(rt, words.new)?;
-    let written = if words.is_by_token {
-        ledger_changes::corrections_by_token(rt.alloc(), old, new, out)
-    } else {
-        ledger_changes::corrections(rt.alloc(), old, new, out)
+    let ledgers = CorrectedLedgers {
+        old: words.old.0,
+        new: words.new.0,
+        is_by_token: words.is_by_token,
     };
-    let removed = match written {
+    let removed = match tool_program::corrections_over(
+        rt.alloc(),
+        &ledgers,
+        &mut Texts::new(rt),
+        out,
+    ) {
         Ok(removed) => removed,
-        Err(fault) => return Err(fault_of(words, fault, out)),
+        Err(fault) => return Err(told_fault(fault, out)),
     };
     if removed > 0 {
         let (old, new) = (words.old, words.new);

@@ -20,6 +20,7 @@
 //! | `merging` | `merge` and `merge-ledgers` |
 //! | `part_words` | the command lines of `split`, `merge` and `merge-ledgers` |
 //! | `correcting` | `corrections` |
+//! | `texts` | texts of the system, for the subcommands that are in `tool_program` |
 //! | `table` | `table` |
 //! | `tasks` | the whole, from the words to the status |
 #![tactic(auto)]
@@ -46,6 +47,7 @@ mod splitting;
 mod table;
 mod tasks;
 mod telling;
+mod texts;
 mod words;
 
 use list_words::words_with_list;

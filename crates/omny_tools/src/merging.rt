@@ -4,6 +4,7 @@ use crate::fault::Fault;
 use crate::input::open_in_pieces;
 use crate::names::Name;
 use crate::output::Output;
+use crate::texts::{Texts, told_fault, words_of};
 use part_reports::MergeFault;
 use program_manners::Opened;
 use std::io::{BufReader, Write};
@@ -76,11 +77,11 @@ pub(crate) fn merge<'a, W: Write + Drop>(
     words: &MergeWords<'a>,
     out: &mut Output<W>,
 ) -> Result<bool, Fault<'a>> {
-    let ends = open_all(rt, &words.ends)?;
-    let reports = open_all(rt, &words.reports)?;
-    match part_reports::merge(rt.alloc(), ends, reports, out) {
+    let ends = words_of(rt.alloc(), &words.ends)?;
+    let reports = words_of(rt.alloc(), &words.reports)?;
+    match tool_program::merge_over(rt.alloc(), &ends, &reports, &mut Texts::new(rt), out) {
         Ok(are_posted) => Ok(are_posted),
-        Err(fault) => Err(fault_of(&words.ends, &words.reports, fault, out)),
+        Err(fault) => Err(told_fault(fault, out)),
     }
 }
 

@@ -1,0 +1,3 @@
+pub mod Corrected
+pub mod Faults
+pub mod Opened

@@ -1,0 +1,109 @@
+-- What was opened, one more each time.
+use Rattle.std.proofs.Common.{◌≡◌, ◌∙◌, ◌<◌, ◌+◌, ℕ, List, [], ◌∷◌, ◌++◌, Bor, length, map}
+use Rattle.std.proofs.Common.{append-nil, append_assoc, ap, get_or, refl, subst, sym, take}
+use Rattle.std.proofs.Common.{Option, Some, None}
+use Rattle.std.proofs.lemmas.List.{length-map, map-append, take_more}
+use Rattle.part_reports.specs.Texts.{AreLeft}
+use Rattle.program_manners.specs.Loads.{Loaded, Tells}
+use Rattle.tool_program.specs.Source.{HasOpened, OpensOne, file_named}
+
+-- nothing was opened yet
+pub opened_none : (told : Option (List Loaded)) → HasOpened [] told told []
+opened_none told = record { loads = []; named = refl; bytes = refl; told_is = none told }
+  where
+    none : (told : Option (List Loaded)) → Tells told told []
+    none None = tt
+    none (Some before) = sym (append-nil before)
+
+-- a source that keeps what it opened goes on to keep it
+pub still_kept : (words : List (List ℕ)) (kept : List Loaded) (told told' : Option (List Loaded))
+    (texts : List (List ℕ)) → told ≡ Some kept → HasOpened words told told' texts
+    → (now : List Loaded) × (told' ≡ Some now)
+still_kept words kept told None texts is all =
+    absurd (subst (λ (t : Option (List Loaded)). Tells t None all.loads) is all.told_is)
+still_kept words kept told (Some now) texts is all = (now, refl)
+
+-- one more text that was opened
+pub opened_push : (words : List (List ℕ)) (word : List ℕ) (kept : List Loaded)
+    (told told' told'' : Option (List Loaded)) (texts : List (List ℕ)) (left : Option (List ℕ))
+    → told ≡ Some kept → HasOpened words told told' texts
+    → OpensOne told' told'' (file_named word) left
+    → (text : List ℕ) × (left ≡ Some text)
+    × HasOpened (words ++ word ∷ []) told told'' (texts ++ text ∷ [])
+opened_push words word kept told None told'' texts left is all one =
+    absurd (subst (λ (t : Option (List Loaded)). Tells t None all.loads) is all.told_is)
+opened_push words word kept told (Some now) told'' texts None is all one = absurd one
+opened_push words word kept told (Some now) told'' texts (Some text) is all one = (
+  text,
+  refl,
+  record {
+    loads = all.loads ++ record { name = file_named word; bytes = text } ∷ [];
+    named = map-append (λ (load : Loaded). load.name) all.loads _
+        ∙ ap (λ (xs : List (Option (List ℕ))). xs ++ file_named word ∷ []) all.named
+        ∙ sym (map-append file_named words (word ∷ []));
+    bytes = map-append (λ (load : Loaded). load.bytes) all.loads _
+        ∙ ap (λ (xs : List (List ℕ)). xs ++ text ∷ []) all.bytes;
+    told_is = on told told'' all.loads (record { name = file_named word; bytes = text } ∷ [])
+        all.told_is one;
+  },
+)
+  where
+    on : (before after : Option (List Loaded)) (loads more : List Loaded)
+        → Tells before (Some now) loads → Tells (Some now) after more
+        → Tells before after (loads ++ more)
+    on None after loads more first next = tt
+    on (Some before) None loads more first next = absurd next
+    on (Some before) (Some end) loads more first next =
+        next ∙ ap (λ (xs : List Loaded). xs ++ more) first ∙ append_assoc before loads more
+
+-- and its reader
+pub left_push : {R : Type 0} (remaining : R → Option (List ℕ)) (readers more : List R) (reader : R)
+    (texts : List (List ℕ)) (text : List ℕ) → more ≡ readers ++ reader ∷ []
+    → AreLeft remaining readers texts → remaining reader ≡ Some text
+    → AreLeft remaining more (texts ++ text ∷ [])
+left_push remaining readers more reader texts text pushed are is =
+    ap (map remaining) pushed
+    ∙ map-append remaining readers (reader ∷ [])
+    ∙ ap (λ (xs : List (Option (List ℕ))). xs ++ remaining reader ∷ []) are
+    ∙ ap (λ (o : Option (List ℕ)). map (λ (file : List ℕ). Some file) texts ++ o ∷ []) is
+    ∙ sym (map-append (λ (file : List ℕ). Some file) texts (text ∷ []))
+
+-- one more word
+words_more : (words : List (Bor (List ℕ))) (k : ℕ) (d : Bor (List ℕ)) → k < length words
+    → map (λ w. w.now) (take (k + 1) words)
+    ≡ map (λ w. w.now) (take k words) ++ (get_or words k d).now ∷ []
+words_more words k d within =
+    ap (map (λ w. w.now)) (take_more words k d within)
+    ∙ map-append (λ (w : Bor (List ℕ)). w.now) (take k words) _
+
+-- the text of one more word that was opened
+pub opened_word : (words : List (Bor (List ℕ))) (k : ℕ) (d : Bor (List ℕ)) (kept : List Loaded)
+    (told told' told'' : Option (List Loaded)) (texts : List (List ℕ)) (left : Option (List ℕ))
+    → k < length words → told ≡ Some kept
+    → HasOpened (map (λ w. w.now) (take k words)) told told' texts
+    → OpensOne told' told'' (file_named (get_or words k d).now) left
+    → (text : List ℕ) × (left ≡ Some text)
+    × HasOpened (map (λ w. w.now) (take (k + 1) words)) told told'' (texts ++ text ∷ [])
+opened_word words k d kept told told' told'' texts left within is all one =
+    let more = opened_push (map (λ w. w.now) (take k words)) (get_or words k d).now kept told told'
+    told'' texts left is all one in (
+      more.0,
+      more.1,
+      subst (λ (ws : List (List ℕ)). HasOpened ws told told'' (texts ++ more.0 ∷ []))
+          (sym (words_more words k d within)) more.2,
+    )
+
+-- as many texts as words were opened
+pub opened_count : (words : List (List ℕ)) (told told' : Option (List Loaded))
+    (texts : List (List ℕ)) → HasOpened words told told' texts → length texts ≡ length words
+opened_count words told told' texts all =
+    sym (ap length all.bytes) ∙ length-map all.loads (λ (load : Loaded). load.bytes)
+    ∙ sym (length-map all.loads (λ (load : Loaded). load.name)) ∙ ap length all.named
+    ∙ length-map words file_named
+
+-- and as many readers
+pub left_count : {R : Type 0} (remaining : R → Option (List ℕ)) (readers : List R)
+    (texts : List (List ℕ)) → AreLeft remaining readers texts → length readers ≡ length texts
+left_count remaining readers texts are =
+    sym (length-map readers remaining) ∙ ap length are
+    ∙ length-map texts (λ (file : List ℕ). Some file)

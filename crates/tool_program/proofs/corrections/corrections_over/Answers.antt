@@ -1,0 +1,68 @@
+use Rattle.std.proofs.Common.{[], ◌∷◌, inl, inr, refl}
+use Rattle.std.proofs.KnownBytes.{Keeps-refl}
+use Rattle.std.proofs.lemmas.Result.{err_from_is_err_and}
+use Rattle.tool_program.proofs.Corrected.{right_corrections}
+use Rattle.tool_program.proofs.Opened.{opened_none, opened_push}
+use Rattle.tool_program.proofs.corrections.corrections_over.Goals as goal
+
+pub returns-in_err-old-clause-fault : goal.returns-in_err-old-clause-fault
+returns-in_err-old-clause-fault g c =
+    let ledgers = c.args.ledgers.now in
+    let p = err_from_is_err_and c.from_residual.result c.from_residual.ensures.1 in
+    rw (p.1, p.2) (λ kept is. inl (
+      c.in_err-old.ensures.refusal (ledgers.old.now ∷ ledgers.new.now ∷ []) (inl refl),
+      Keeps-refl (g.W.Write.contents c.args.out.now),
+    ))
+
+pub returns-in_err-new-clause-fault : goal.returns-in_err-new-clause-fault
+returns-in_err-new-clause-fault g c =
+    let ledgers = c.args.ledgers.now in
+    let p = err_from_is_err_and c.from_residual-in_err-new.result
+    c.from_residual-in_err-new.ensures.1 in
+    rw (p.1, p.2) (λ kept is. inl (
+      c.in_err-new.ensures.refusal (ledgers.old.now ∷ ledgers.new.now ∷ []) (inr (inl refl)),
+      Keeps-refl (g.W.Write.contents c.args.out.now),
+    ))
+
+pub returns-in-Ok-clause-done : goal.returns-in-Ok-clause-done
+returns-in-Ok-clause-done g c = λ kept is.
+    let old = c.args.ledgers.now.old.now in
+    let new = c.args.ledgers.now.new.now in
+    let told = g.S.Source.loaded c.args.source.now in
+    let mid = g.S.Source.loaded c.open_text.new.source in
+    let end = g.S.Source.loaded c.open_text-2.new.source in
+    let remaining = g.S.Text.Read.remaining in
+    let first = opened_push [] old kept told told mid [] (remaining c.in_ok-old.old) is
+    (opened_none told) c.in_ok-old.ensures.told in
+    let second = opened_push (old ∷ []) new kept told mid end (first.0 ∷ [])
+    (remaining c.in_ok-new.new) is first.2 c.in_ok-new.ensures.told in
+    let whole = c.in-Ok.ensures.written first.0 second.0 first.1 second.1 in
+    record {
+      old_text = first.0;
+      new_text = second.0;
+      opened = second.2;
+      text = whole.0;
+      corrections = whole.1;
+      written = whole.2;
+    }
+
+pub returns-in-Err-clause-fault : goal.returns-in-Err-clause-fault
+returns-in-Err-clause-fault g c = λ kept is.
+    let old = c.args.ledgers.now.old.now in
+    let new = c.args.ledgers.now.new.now in
+    let told = g.S.Source.loaded c.args.source.now in
+    let mid = g.S.Source.loaded c.open_text.new.source in
+    let end = g.S.Source.loaded c.open_text-2.new.source in
+    let remaining = g.S.Text.Read.remaining in
+    let first = opened_push [] old kept told told mid [] (remaining c.in_ok-old.old) is
+    (opened_none told) c.in_ok-old.ensures.told in
+    let second = opened_push (old ∷ []) new kept told mid end (first.0 ∷ [])
+    (remaining c.in_ok-new.new) is first.2 c.in_ok-new.ensures.told in
+    inr (record {
+      old_text = first.0;
+      new_text = second.0;
+      opened = second.2;
+      right = right_corrections old new first.0 second.0 c.in-Err.fault c.fault_of.result
+          c.fault_of.ensures (λ of. c.in-Err.ensures.refused_old of first.0 first.1)
+          (λ of. c.in-Err.ensures.refused_new of second.0 second.1);
+    })

@@ -1,0 +1,71 @@
+-- What `corrections` does: of the words of the old ledger and of the new one.
+use Rattle.std.specs.Prelude.{◌≡◌, ◌⊎◌, ⊤, ℕ, Bool, true, false, List, [], ◌∷◌, Option}
+use Rattle.std.specs.Io.KnownBytes.{Appends, Keeps}
+use Rattle.ledger_changes.specs.Ledgers.{IsSettledLedger}
+use Rattle.ledger_changes.specs.Rows.{Row}
+use Rattle.ledger_changes.specs.Texts.{IsCorrectionsText}
+use Rattle.ledger_changes.specs.Tokens.{IsCorrectionsByTokenText}
+use Rattle.part_reports.specs.declared.fault.Wrong.TheVariants as wrong
+use Rattle.program_manners.specs.Loads.{Loaded}
+use Rattle.program_manners.specs.Refusals.{IsOneOf}
+use Rattle.program_manners.specs.declared.loading.LoadFault.{LoadFault}
+use Rattle.tool_program.specs.Fault.{IsRefusal}
+use Rattle.tool_program.specs.Source.{HasOpened}
+use Rattle.tool_program.specs.declared.fault.Fault.{Fault}
+use Rattle.tool_program.specs.declared.fault.Fault.TheVariants.{Line, NoMemory, Unread, Unsettled}
+use Rattle.tool_program.specs.declared.fault.Fault.TheVariants.{Write}
+
+-- the text is that of the corrections from the one ledger to the other, or of their sums by token,
+-- and so many lines are removed
+abbrev pub IsTextOfCorrections : Bool → List ℕ → List ℕ → List ℕ → ℕ → Type 0
+IsTextOfCorrections false old new text removed = IsCorrectionsText old new text removed
+IsTextOfCorrections true old new text removed = IsCorrectionsByTokenText old new text removed
+
+-- the text is no settled ledger
+abbrev pub IsUnsettled : List ℕ → Type 0
+IsUnsettled text = (rows : List Row) → ¬ (IsSettledLedger rows text)
+
+-- the word is that of a ledger whose text is no settled one
+abbrev pub NamesUnsettled : List ℕ → List ℕ → List ℕ → List ℕ → List ℕ → Type 0
+NamesUnsettled old new old_text new_text word =
+    ((word ≡ old) × IsUnsettled old_text) ⊎ ((word ≡ new) × IsUnsettled new_text)
+
+-- The old ledger was opened and then the new one, and what was written is, whole, the text of the
+-- corrections between them.
+pub record Corrects (by_token : Bool) (old new : List ℕ) (told told' : Option (List Loaded))
+    (out out' : Option (List ℕ)) (removed : ℕ) : Type 0 where
+  pub old_text : List ℕ
+  pub new_text : List ℕ
+  pub opened : HasOpened (old ∷ new ∷ []) told told' (old_text ∷ new_text ∷ [])
+  pub text : List ℕ
+  pub corrections : IsTextOfCorrections by_token old_text new_text text removed
+  pub written : Appends out out' text
+
+-- The fault is the right one of ledgers that were opened: it names one that is no settled ledger,
+-- or that could not be read to its end. A write and want of memory may fail at any time.
+abbrev pub IsRightCorrectionsFault : List ℕ → List ℕ → List ℕ → List ℕ → Fault → Type 0
+IsRightCorrectionsFault old new old_text new_text (Line word number why) =
+    NamesUnsettled old new old_text new_text word.now × (why ≡ wrong.Form)
+IsRightCorrectionsFault old new old_text new_text (Unsettled word number) =
+    NamesUnsettled old new old_text new_text word.now
+IsRightCorrectionsFault old new old_text new_text (Unread word) =
+    IsOneOf word.now (old ∷ new ∷ [])
+IsRightCorrectionsFault old new old_text new_text Write = ⊤
+IsRightCorrectionsFault old new old_text new_text NoMemory = ⊤
+IsRightCorrectionsFault old new old_text new_text fault = ⊥
+
+-- both ledgers were opened, and the fault is the right one
+pub record BreaksOffCorrections (old new : List ℕ) (told told' : Option (List Loaded))
+    (fault : Fault) : Type 0 where
+  pub old_text : List ℕ
+  pub new_text : List ℕ
+  pub opened : HasOpened (old ∷ new ∷ []) told told' (old_text ∷ new_text ∷ [])
+  pub right : IsRightCorrectionsFault old new old_text new_text fault
+
+-- The corrections were given up: a ledger was not opened, or memory was refused before, and nothing
+-- was written; or both were opened, and the fault is the right one.
+abbrev pub GivesUpCorrections : List ℕ → List ℕ → Option (List Loaded) → Option (List Loaded)
+    → Option (Option (List ℕ) × LoadFault) → Fault → Option (List ℕ) → Option (List ℕ) → Type 0
+GivesUpCorrections old new told told' refused fault out out' =
+    (IsRefusal refused (old ∷ new ∷ []) fault × Keeps out out')
+    ⊎ BreaksOffCorrections old new told told' fault

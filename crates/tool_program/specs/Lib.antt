@@ -1,0 +1,5 @@
+pub mod Corrections
+pub mod Fault
+pub mod Merge
+pub mod Source
+pub mod inside

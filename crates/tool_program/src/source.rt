@@ -1,0 +1,84 @@
+//! Where texts come from.
+ghost use Rattle.std.specs.Prelude.{◌≡◌, ℕ, List, IfErr, IfOk, Some, codes, map, option_map};
+ghost use Rattle.std.specs.Str.{bytes_eq};
+ghost use Rattle.part_reports.specs.Texts.{AreLeft};
+ghost use Rattle.program_manners.specs.Loads.{Loaded};
+ghost use Rattle.program_manners.specs.Refusals.{IsOneOf};
+ghost use Rattle.tool_program.specs.Fault.{IsRefusal};
+ghost use Rattle.tool_program.specs.Source.{HasOpened, OpensOne, file_named};
+
+use crate::fault::Fault;
+use program_manners::LoadFault;
+use std::alloc::Global;
+use std::io::BufRead;
+
+/// The word that stands for standard input.
+const INPUT_WORD: &str = "-";
+
+/// Where texts come from. A file has a name, and standard input has none.
+pub trait Source {
+    ghost use Rattle.std.specs.Prelude.{ℕ, List, IfErr, IfOk, Option, None, option_map};
+    ghost use Rattle.program_manners.specs.Loads.{Loaded};
+    ghost use Rattle.program_manners.specs.Refusals.{Refuses};
+    ghost use Rattle.program_manners.specs.declared.loading.LoadFault.{LoadFault as AFault};
+    ghost use Rattle.tool_program.specs.Source.{OpensOne};
+
+    /// A file or standard input that was opened, to be read in pieces.
+    type Text: BufRead + Drop;
+
+    // What was opened so far, in order, by a source that keeps it.
+    ghost loaded: { Self → Option (List Loaded) } = { λ _. None };
+
+    // The last opening that it refused: the name, and why; of a source that keeps it.
+    ghost refused: { Self → Option (Option (List ℕ) × AFault) } = { λ _. None };
+
+    /// The file of this name, or standard input if there is none, to be read from its beginning.
+    /// What a fault leaves opened is not told.
+    fn open(&mut self, name: Option<&str>) -> Result<Self::Text, LoadFault>
+        ensures told { IfOk result (λ text. OpensOne (loaded self.old) (loaded self.new)
+            (option_map (λ n. n.now) name.entry) (Self.Text.remaining text)) }
+        ensures fault { IfErr result (λ fault. Refuses (refused self.new)
+            (option_map (λ n. n.now) name.entry) fault) };
+}
+
+/// The name of the file; none of standard input.
+fn file_of<'a>(word: &'a str) -> Option<&'a str>
+    ensures { option_map (λ n. n.now) result ≡ file_named word.entry.now }
+{
+    if word == INPUT_WORD { None } else { Some(word) }
+}
+
+/// Opens the file that the word names, or standard input.
+pub(crate) fn open_text<'a, S: Source>(source: &mut S, word: &'a str) -> Result<S::Text, Fault<'a>>
+    ensures told { IfOk result (λ text. OpensOne (S.loaded source.old) (S.loaded source.new)
+        (file_named word.entry.now) (S.Text.remaining text)) }
+    ensures refusal { IfErr result (λ fault. (words : List (List ℕ))
+        → IsOneOf word.entry.now words → IsRefusal (S.refused source.new) words fault) }
+{
+    match source.open(file_of(word)) {
+        Ok(text) => Ok(text),
+        Err(fault) => Err(Fault::of_load(word, fault)),
+    }
+}
+
+/// Opens what each word names, in their order.
+pub(crate) fn open_all<'a, S: Source>(
+    alloc: Global,
+    source: &mut S,
+    words: &[&'a str],
+) -> Result<Vec<S::Text>, Fault<'a>>
+    ensures opened { IfOk result (λ readers. (kept : List Loaded)
+        → S.loaded source.old ≡ Some kept → (texts : List (List ℕ))
+        × HasOpened (map (λ w. w.now) words.now) (S.loaded source.old) (S.loaded source.new) texts
+        × AreLeft S.Text.remaining readers.items texts) }
+    ensures refusal { IfErr result (λ fault. (all : List (List ℕ))
+        → ((word : List ℕ) → IsOneOf word (map (λ w. w.now) words.now) → IsOneOf word all)
+        → IsRefusal (S.refused source.new) all fault) }
+{
+    let mut texts = Vec::new(alloc);
+    for word in words {
+        let text = open_text(source, word)?;
+        texts.push(text)?;
+    }
+    Ok(texts)
+}
