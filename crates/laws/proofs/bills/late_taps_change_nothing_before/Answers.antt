@@ -1,7 +1,7 @@
 use Rattle.std.proofs.Common.{ℕ, List, Vec, Global, map}
 use Rattle.settlement.proofs.Settlings.{named_order}
 use Rattle.laws.proofs.Prefixes.{late}
-use Rattle.laws.proofs.late_taps_change_nothing_before.Goals as goal
+use Rattle.laws.proofs.bills.late_taps_change_nothing_before.Goals as goal
 
 abbrev bytes_in : Vec ℕ Global → List ℕ
 bytes_in upload = upload.items

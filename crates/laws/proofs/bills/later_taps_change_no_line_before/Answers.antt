@@ -1,7 +1,7 @@
 use Rattle.std.proofs.Common.{ℕ, List, Vec, Global, map}
 use Rattle.settlement.proofs.Settlings.{named_order}
 use Rattle.laws.proofs.Lines.{lines}
-use Rattle.laws.proofs.later_taps_change_no_line_before.Goals as goal
+use Rattle.laws.proofs.bills.later_taps_change_no_line_before.Goals as goal
 
 abbrev bytes_in : Vec ℕ Global → List ℕ
 bytes_in upload = upload.items

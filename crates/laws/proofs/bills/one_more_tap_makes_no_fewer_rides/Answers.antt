@@ -1,7 +1,7 @@
 use Rattle.std.proofs.Common.{ℕ, List, Vec, Global, map}
 use Rattle.settlement.proofs.Settlings.{named_order}
 use Rattle.laws.proofs.OneMore.{one_more}
-use Rattle.laws.proofs.one_more_tap_makes_no_fewer_rides.Goals as goal
+use Rattle.laws.proofs.bills.one_more_tap_makes_no_fewer_rides.Goals as goal
 
 abbrev bytes_in : Vec ℕ Global → List ℕ
 bytes_in upload = upload.items

@@ -1,6 +1,6 @@
 use Rattle.std.proofs.Common.{ℕ, List, Vec, Global, map}
 use Rattle.laws.proofs.BillLemmas.{repeats_billed}
-use Rattle.laws.proofs.repeats_are_free.Goals as goal
+use Rattle.laws.proofs.bills.repeats_are_free.Goals as goal
 
 abbrev bytes_in : Vec ℕ Global → List ℕ
 bytes_in upload = upload.items

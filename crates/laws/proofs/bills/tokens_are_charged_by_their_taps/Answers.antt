@@ -1,7 +1,7 @@
 use Rattle.std.proofs.Common.{ℕ, List, Vec, Global, map}
 use Rattle.settlement.proofs.Settlings.{named_order}
 use Rattle.laws.proofs.Renamed.{renamed}
-use Rattle.laws.proofs.tokens_are_charged_by_their_taps.Goals as goal
+use Rattle.laws.proofs.bills.tokens_are_charged_by_their_taps.Goals as goal
 
 abbrev bytes_in : Vec ℕ Global → List ℕ
 bytes_in upload = upload.items

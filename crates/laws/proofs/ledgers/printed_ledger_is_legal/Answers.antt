@@ -1,7 +1,7 @@
 use Rattle.shard_book.specs.SumsByKey.{all_entries}
 use Rattle.laws.specs.Written.{told_entries}
 use Rattle.laws.proofs.Books.{books_are_read}
-use Rattle.laws.proofs.printed_ledger_is_legal.Goals as goal
+use Rattle.laws.proofs.ledgers.printed_ledger_is_legal.Goals as goal
 
 pub returns-clause-ledger : goal.returns-clause-ledger
 returns-clause-ledger c = λ fares shards books only text each postable names few short written.

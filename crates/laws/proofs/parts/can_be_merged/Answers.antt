@@ -1,6 +1,6 @@
 use Rattle.laws.proofs.MergedTexts.{writable}
 use Rattle.laws.proofs.Wholes.{is_merged}
-use Rattle.laws.proofs.can_be_merged.Goals as goal
+use Rattle.laws.proofs.parts.can_be_merged.Goals as goal
 
 pub returns : goal.returns
 returns c = λ fares uploads history parts split lists plain sizes cuts bounds few none report_files

@@ -1,5 +1,5 @@
 use Rattle.laws.proofs.MergedLedgers.{merged_ledger}
-use Rattle.laws.proofs.merged_ledger.Goals as goal
+use Rattle.laws.proofs.parts.merged_ledger.Goals as goal
 
 pub returns : goal.returns
 returns c = λ fares uploads history parts split letters files overs text merged.

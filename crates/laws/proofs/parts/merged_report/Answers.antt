@@ -3,7 +3,7 @@ use Rattle.tap_views.specs.declared.token.Token.{Token}
 use Rattle.shard_book.specs.SumsByKey.{sums_by_validator}
 use Rattle.shard_book.specs.Sums.{Sums, sums}
 use Rattle.report_texts.specs.Report.{report}
-use Rattle.laws.proofs.merged_report.Goals as goal
+use Rattle.laws.proofs.parts.merged_report.Goals as goal
 
 pub returns : goal.returns
 returns c =

@@ -1,5 +1,5 @@
 use Rattle.laws.proofs.Validators.{merged_totals, merged_validators}
-use Rattle.laws.proofs.merged_sums.Goals as goal
+use Rattle.laws.proofs.parts.merged_sums.Goals as goal
 
 pub returns-clause-totals : goal.returns-clause-totals
 returns-clause-totals c =

@@ -1,6 +1,6 @@
 use Rattle.std.proofs.Common.{◌∙◌}
 use Rattle.laws.proofs.MergedTexts.{are_tokens, are_validators, shown, writable}
-use Rattle.laws.proofs.merged_text.Goals as goal
+use Rattle.laws.proofs.parts.merged_text.Goals as goal
 
 pub returns : goal.returns
 returns c = λ fares uploads history parts split ends plain sizes bounds few end_files report_files

@@ -1,5 +1,5 @@
 use Rattle.laws.proofs.Tokens.{merged_tokens}
-use Rattle.laws.proofs.merged_tokens.Goals as goal
+use Rattle.laws.proofs.parts.merged_tokens.Goals as goal
 
 pub returns : goal.returns
 returns c = λ fares uploads history parts split merged are. merged_tokens fares uploads history

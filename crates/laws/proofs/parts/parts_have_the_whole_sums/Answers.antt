@@ -9,7 +9,7 @@ use Rattle.shard_book.specs.Sums.{sums}
 use Rattle.shard_book.specs.declared.entry.Entry.{Entry}
 use Rattle.report_texts.specs.OverHistory.{IsStatementOver}
 use Rattle.laws.proofs.Merging.{merged, own_there}
-use Rattle.laws.proofs.parts_have_the_whole_sums.Goals as goal
+use Rattle.laws.proofs.parts.parts_have_the_whole_sums.Goals as goal
 
 pub returns-clause-entries : goal.returns-clause-entries
 returns-clause-entries c =

@@ -1,6 +1,6 @@
 use Rattle.std.proofs.Common.{ℕ, List, Vec, Global, map}
 use Rattle.laws.proofs.SplitFiles.{none_faulty}
-use Rattle.laws.proofs.split_files_have_no_fault.Goals as goal
+use Rattle.laws.proofs.parts.split_files_have_no_fault.Goals as goal
 
 abbrev bytes_in : Vec ℕ Global → List ℕ
 bytes_in file = file.items

@@ -1,6 +1,6 @@
 use Rattle.std.proofs.Common.{ℕ, List, Vec, Global, map}
 use Rattle.laws.proofs.SplitFiles.{own_taps}
-use Rattle.laws.proofs.split_part.Goals as goal
+use Rattle.laws.proofs.parts.split_part.Goals as goal
 
 abbrev bytes_in : Vec ℕ Global → List ℕ
 bytes_in file = file.items

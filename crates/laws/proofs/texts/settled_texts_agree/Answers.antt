@@ -13,7 +13,7 @@ use Rattle.settlement.specs.Alike.{DifferInUploads}
 use Rattle.settlement.specs.Settled.{IsSettledHistory}
 use Rattle.laws.specs.Agree.{TextsAgree}
 use Rattle.laws.proofs.OneText.{one_explained, one_ledger, one_statement}
-use Rattle.laws.proofs.settled_texts_agree.Goals as goal
+use Rattle.laws.proofs.texts.settled_texts_agree.Goals as goal
 
 abbrev bytes_in : Vec ℕ Global → List ℕ
 bytes_in upload = upload.items
