@@ -65,7 +65,7 @@ SELECT t.token, t.line, t.answer FROM live_taps AS t
 -- A window of some days has them whole. Under a zone it ends at midnight: up to a day earlier, an hour
 -- more or less if the clocks change. A calendar window ends within its most days.
 SELECT 'must be empty: a window of another length than the table gives' AS question;
-SELECT r.token, r.line FROM rides AS r JOIN windows AS w
+SELECT r.token, r.line FROM rides AS r JOIN window_span AS w
   ON r.ms > w.most_days * 86400000
             + CASE WHEN EXISTS (SELECT 1 FROM zone) THEN 3600000 ELSE 0 END
   OR r.ms < CASE WHEN w.unit <> 'days' THEN 1
@@ -77,5 +77,5 @@ SELECT r.token, r.line FROM rides AS r JOIN windows AS w
 SELECT 'must be empty: a day whose windows do not end at one midnight' AS question;
 SELECT day, count(DISTINCT window_end) AS ends FROM rides
   WHERE moment = window_start
-    AND (EXISTS (SELECT 1 FROM zone) OR EXISTS (SELECT 1 FROM windows WHERE unit <> 'days'))
+    AND (EXISTS (SELECT 1 FROM zone) OR EXISTS (SELECT 1 FROM window_span WHERE unit <> 'days'))
   GROUP BY day HAVING count(DISTINCT window_end) > 1 ORDER BY day LIMIT 10;

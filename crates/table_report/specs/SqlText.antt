@@ -54,7 +54,7 @@ tables_text =
     ++ (codes "  last_validator BIGINT NOT NULL, mode TEXT NOT NULL);\n"
     ++ (codes "CREATE TABLE riders (token TEXT NOT NULL PRIMARY KEY, class TEXT NOT NULL);\n"
     ++ (codes "CREATE TABLE zone (rule TEXT NOT NULL);\n"
-    ++ codes "CREATE TABLE windows (unit TEXT NOT NULL, most_days BIGINT NOT NULL);\n")))))))))))
+    ++ codes "CREATE TABLE window_span (unit TEXT NOT NULL, most_days BIGINT NOT NULL);\n")))))))))))
 
 -- the lines of all rows, table by table
 abbrev pub rows_text : Fares → List ℕ
@@ -66,7 +66,7 @@ rows_text fares =
     ++ (statements (codes "ranges") (range_rows fares)
     ++ (statements (codes "riders") (rider_rows fares)
     ++ (statements (codes "zone") (zone_rows fares)
-    ++ statements (codes "windows") (window_rows fares)))))))
+    ++ statements (codes "window_span") (window_rows fares)))))))
 
 -- the tables and their rows, all or none of which a data base takes
 abbrev pub sql_text : Fares → List ℕ

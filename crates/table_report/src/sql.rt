@@ -57,7 +57,7 @@ CREATE TABLE ranges (first_validator BIGINT NOT NULL PRIMARY KEY,
   last_validator BIGINT NOT NULL, mode TEXT NOT NULL);
 CREATE TABLE riders (token TEXT NOT NULL PRIMARY KEY, class TEXT NOT NULL);
 CREATE TABLE zone (rule TEXT NOT NULL);
-CREATE TABLE windows (unit TEXT NOT NULL, most_days BIGINT NOT NULL);
+CREATE TABLE window_span (unit TEXT NOT NULL, most_days BIGINT NOT NULL);
 ";
 
 /// Writes a fare table as SQL: the statements that make its tables, and one for each row, in a

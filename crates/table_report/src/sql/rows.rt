@@ -248,9 +248,9 @@ fn span_days(span: WindowSpan) -> u32
 /// Appends the statement of how long windows are.
 pub(super) fn put_span(text: &mut Vec<u8>, span: WindowSpan) -> Result<(), AllocError>
     ensures { OnOk result (text.new.items
-        ≡ text.old.items ++ statement (codes "windows") (span_row span)) }
+        ≡ text.old.items ++ statement (codes "window_span") (span_row span)) }
 {
-    put(text, b"INSERT INTO windows VALUES (")?;
+    put(text, b"INSERT INTO window_span VALUES (")?;
     put_quoted(text, span_unit(span))?;
     put_next_number(text, span_days(span))?;
     put(text, b");\n")?;

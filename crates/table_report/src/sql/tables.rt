@@ -121,7 +121,7 @@ pub(super) fn put_zone(text: &mut Vec<u8>, fares: &FareTable) -> Result<(), Allo
 #[tactic(auto, using(crate::proofs::PlaceLemmas::one_statement))]
 pub(super) fn put_window(text: &mut Vec<u8>, fares: &FareTable) -> Result<(), AllocError>
     ensures { OnOk result (text.new.items
-        ≡ text.old.items ++ statements (codes "windows") (window_rows fares.now)) }
+        ≡ text.old.items ++ statements (codes "window_span") (window_rows fares.now)) }
 {
     put_span(text, fares.window_span())?;
     Ok(())

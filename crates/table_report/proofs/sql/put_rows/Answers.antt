@@ -21,7 +21,7 @@ returns c =
     (mode_rows c.args.fares.now) ++ (statements (codes "pairs") (pair_rows c.args.fares.now) ++
     (statements (codes "ranges") (range_rows c.args.fares.now) ++ (statements (codes "riders")
     (rider_rows c.args.fares.now)
-    ++ (statements (codes "zone") (zone_rows c.args.fares.now) ++ statements (codes "windows")
+    ++ (statements (codes "zone") (zone_rows c.args.fares.now) ++ statements (codes "window_span")
     (window_rows c.args.fares.now))))))))
     c.in_ok-put_classes.ensures
     (in_parts t1 t2 t8 (statements (codes "fares") (fare_rows c.args.fares.now))
@@ -29,27 +29,27 @@ returns c =
     (pair_rows c.args.fares.now) ++ (statements (codes "ranges") (range_rows c.args.fares.now) ++
     (statements (codes "riders")
     (rider_rows c.args.fares.now)
-    ++ (statements (codes "zone") (zone_rows c.args.fares.now) ++ statements (codes "windows")
+    ++ (statements (codes "zone") (zone_rows c.args.fares.now) ++ statements (codes "window_span")
     (window_rows c.args.fares.now))))))) c.in_ok-put_fares.ensures
     (in_parts t2 t3 t8 (statements (codes "modes") (mode_rows c.args.fares.now))
     ((statements (codes "pairs") (pair_rows c.args.fares.now) ++ (statements (codes "ranges")
     (range_rows c.args.fares.now) ++ (statements (codes "riders") (rider_rows c.args.fares.now) ++
-    (statements (codes "zone") (zone_rows c.args.fares.now) ++ statements (codes "windows")
+    (statements (codes "zone") (zone_rows c.args.fares.now) ++ statements (codes "window_span")
     (window_rows c.args.fares.now)))))) c.in_ok-put_modes.ensures
     (in_parts t3 t4 t8 (statements (codes "pairs") (pair_rows c.args.fares.now))
     ((statements (codes "ranges") (range_rows c.args.fares.now) ++ (statements (codes "riders")
     (rider_rows c.args.fares.now)
-    ++ (statements (codes "zone") (zone_rows c.args.fares.now) ++ statements (codes "windows")
+    ++ (statements (codes "zone") (zone_rows c.args.fares.now) ++ statements (codes "window_span")
     (window_rows c.args.fares.now)))))
     c.in_ok-put_pairs.ensures
     (in_parts t4 t5 t8 (statements (codes "ranges") (range_rows c.args.fares.now))
     ((statements (codes "riders")
     (rider_rows c.args.fares.now)
-    ++ (statements (codes "zone") (zone_rows c.args.fares.now) ++ statements (codes "windows")
+    ++ (statements (codes "zone") (zone_rows c.args.fares.now) ++ statements (codes "window_span")
     (window_rows c.args.fares.now)))) c.in_ok-put_ranges.ensures
     (in_parts t5 t6 t8 (statements (codes "riders") (rider_rows c.args.fares.now))
-    (statements (codes "zone") (zone_rows c.args.fares.now) ++ statements (codes "windows")
+    (statements (codes "zone") (zone_rows c.args.fares.now) ++ statements (codes "window_span")
     (window_rows c.args.fares.now)) c.in_ok-put_riders.ensures
     (in_parts t6 t7 t8 (statements (codes "zone") (zone_rows c.args.fares.now))
-    (statements (codes "windows") (window_rows c.args.fares.now)) c.in_ok-put_zone.ensures
+    (statements (codes "window_span") (window_rows c.args.fares.now)) c.in_ok-put_zone.ensures
     c.in_ok-put_window.ensures))))))

@@ -14,7 +14,7 @@ returns c =
     let t2 = c.put_next_number.new.text.items in
     let new = c.put-2.new.text.items in
     let end = codes ");\n" in
-    in_parts old start new (codes "INSERT INTO windows VALUES (")
+    in_parts old start new (codes "INSERT INTO window_span VALUES (")
     (fields_text (span_row c.args.span) ++ end)
     c.in_ok-put.ensures
     (next_field start t1 new (quoted (span_unit c.args.span))
