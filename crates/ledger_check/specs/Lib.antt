@@ -1,4 +1,5 @@
 pub mod Balances
+pub mod Columns
 pub mod FullBalances
 pub mod Ledger
 pub mod Lines
