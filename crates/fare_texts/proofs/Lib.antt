@@ -12,4 +12,4 @@ pub mod Rising
 pub mod Sorting
 pub mod StatementLines
 pub mod Whole
-pub mod Writing
+pub mod PieceWriting

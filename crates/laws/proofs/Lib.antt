@@ -1,5 +1,5 @@
 mod Alike
-mod Bills
+mod BillLemmas
 pub mod Books
 mod CentsFit
 mod Exchanged

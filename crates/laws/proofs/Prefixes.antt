@@ -32,7 +32,7 @@ use Rattle.tap_views.proofs.ReadingLemmas.{one_list}
 use Rattle.laws.specs.Bills.{bill_before, live_entries}
 use Rattle.laws.specs.TapSets.{HaveSameTapsBefore, fields_of_uploads, is_before}
 use Rattle.laws.proofs.Once.{Among}
-use Rattle.laws.proofs.Bills.{live_filter}
+use Rattle.laws.proofs.BillLemmas.{live_filter}
 use Rattle.laws.proofs.OwnTaps.{answered_alike, push_mine, push_other}
 use Rattle.laws.proofs.Posts.{after, plain_is_after}
 use Rattle.laws.proofs.Sets.{same_bill}

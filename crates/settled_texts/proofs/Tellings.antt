@@ -16,7 +16,7 @@ use Rattle.fare_texts.specs.declared.teller.Teller.{Teller}
 use Rattle.shard_book.specs.Plain.{answered}
 use Rattle.fare_texts.specs.Lines.{AreLinesAlong, AreUpTo, HasCome, IsUpTo}
 use Rattle.fare_texts.proofs.Rising.{up_itself}
-use Rattle.fare_texts.proofs.Writing.{along_append, come_next}
+use Rattle.fare_texts.proofs.PieceWriting.{along_append, come_next}
 use Rattle.settlement.specs.Posted.{posted_after, token_of_tap, unposted}
 use Rattle.settlement.proofs.Concats.{posted_append}
 use Rattle.settled_texts.specs.Telling.{AreTold, NoTapFallsFrom, last_token}

@@ -3,7 +3,7 @@ use Rattle.std.proofs.lemmas.Bool.{false≢true}
 use Rattle.tap_views.specs.Token.{token_eq}
 use Rattle.tap_views.specs.declared.token.Token.{Token}
 use Rattle.fare_texts.specs.Lines.{IsUpTo}
-use Rattle.fare_texts.proofs.Writing.{come_on}
+use Rattle.fare_texts.proofs.PieceWriting.{come_on}
 use Rattle.fare_texts.proofs.lines.go_on_to.Goals as goal
 
 not_false : (b : Bool) → not b ≡ true → b ≡ false

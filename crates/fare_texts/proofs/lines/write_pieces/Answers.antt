@@ -8,8 +8,8 @@ use Rattle.tap_views.specs.declared.token.Token.{Token}
 use Rattle.fare_texts.specs.LedgerLines.{IsLedgerLineAfter}
 use Rattle.fare_texts.specs.Lines.{AreLinesAlong, HasCome, IsLineAfter, IsUpTo, NoFallFrom}
 use Rattle.fare_texts.specs.inside.Spots.{entries_at_spots}
-use Rattle.fare_texts.proofs.Writing.{along_push, come_first, come_next, grown, rise_here}
-use Rattle.fare_texts.proofs.Writing.{rise_on, seen_taken}
+use Rattle.fare_texts.proofs.PieceWriting.{along_push, come_first, come_next, grown, rise_here}
+use Rattle.fare_texts.proofs.PieceWriting.{rise_on, seen_taken}
 use Rattle.fare_texts.proofs.lines.write_pieces.Goals as goal
 
 pub loop-spot-init : goal.loop-spot-init

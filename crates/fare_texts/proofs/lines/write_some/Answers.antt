@@ -2,7 +2,7 @@ use Rattle.std.proofs.Common.{sym, subst}
 use Rattle.shard_book.specs.declared.entry.Entry.{Entry}
 use Rattle.fare_texts.specs.Lines.{NoFallFrom}
 use Rattle.fare_texts.specs.inside.Spots.{entries_at_spots}
-use Rattle.fare_texts.proofs.Writing.{rise_first}
+use Rattle.fare_texts.proofs.PieceWriting.{rise_first}
 use Rattle.fare_texts.proofs.lines.write_some.Goals as goal
 
 pub write_pieces-requires-clause-no_fall : goal.write_pieces-requires-clause-no_fall

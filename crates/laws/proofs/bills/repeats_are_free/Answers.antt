@@ -1,5 +1,5 @@
 use Rattle.std.proofs.Common.{ℕ, List, Vec, Global, map}
-use Rattle.laws.proofs.Bills.{repeats_billed}
+use Rattle.laws.proofs.BillLemmas.{repeats_billed}
 use Rattle.laws.proofs.repeats_are_free.Goals as goal
 
 abbrev bytes_in : Vec ℕ Global → List ℕ

@@ -1,5 +1,5 @@
 use Rattle.std.proofs.Common.{ℕ, List, Vec, Global, map}
-use Rattle.laws.proofs.Bills.{set_is_billed}
+use Rattle.laws.proofs.BillLemmas.{set_is_billed}
 use Rattle.laws.proofs.set_of_taps_is_billed.Goals as goal
 
 abbrev bytes_in : Vec ℕ Global → List ℕ

@@ -3,7 +3,7 @@ use Rattle.std.proofs.Common.{ℕ, List, [], ◌++◌, string_bytes, subst, ◌�
 use Rattle.std.specs.Io.KnownBytes.{Appends}
 use Rattle.fare_texts.specs.LedgerLines.{head_text}
 use Rattle.fare_texts.proofs.Along.{ledger_along}
-use Rattle.fare_texts.proofs.Writing.{come_first, last_out}
+use Rattle.fare_texts.proofs.PieceWriting.{come_first, last_out}
 use Rattle.settlement.specs.Posted.{posted}
 use Rattle.settled_texts.proofs.Joined.{joined}
 use Rattle.settled_texts.proofs.Rows.{canonical_falls, posted_falls}

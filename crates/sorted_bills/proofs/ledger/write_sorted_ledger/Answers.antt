@@ -9,7 +9,7 @@ use Rattle.report_texts.specs.declared.upload_end.UploadEnd.{UploadEnd}
 use Rattle.report_texts.specs.declared.upload_end.UploadEnd.TheVariants.{Posted}
 use Rattle.fare_texts.specs.LedgerLines.{head_text}
 use Rattle.fare_texts.proofs.Along.{ledger_along}
-use Rattle.fare_texts.proofs.Writing.{come_first, last_out}
+use Rattle.fare_texts.proofs.PieceWriting.{come_first, last_out}
 use Rattle.settlement.specs.Posted.{posted}
 use Rattle.settled_texts.proofs.Rows.{posted_falls}
 use Rattle.sorted_taps.proofs.Spans.{at_end_too}

@@ -2,7 +2,7 @@
 use Rattle.std.proofs.Common.{ℕ, List, [], Some, Vec, Global, map, string_bytes, sym}
 use Rattle.std.proofs.Common.{subst, arith}
 use Rattle.std.specs.Io.KnownBytes.{append_known}
-use Rattle.fare_texts.proofs.Writing.{come_first, last_out}
+use Rattle.fare_texts.proofs.PieceWriting.{come_first, last_out}
 use Rattle.settled_texts.specs.Telling.{AreTold}
 use Rattle.settled_texts.proofs.Tellings.{come_fresh}
 use Rattle.sorted_taps.specs.Spans.{HaveCome}

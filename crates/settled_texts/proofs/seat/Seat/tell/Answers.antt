@@ -3,7 +3,7 @@ use Rattle.std.proofs.Common.{◌≡◌, ℕ, List, [], ◌++◌, sym, ap, subst
 use Rattle.shard_book.specs.Entry.{own}
 use Rattle.tap_views.specs.declared.token.Token.{Token}
 use Rattle.fare_texts.specs.Lines.{AreUpTo, IsUpTo}
-use Rattle.fare_texts.proofs.Writing.{come_first}
+use Rattle.fare_texts.proofs.PieceWriting.{come_first}
 use Rattle.settled_texts.specs.Telling.{AreTold, NoTapFallsFrom}
 use Rattle.settled_texts.proofs.Tellings.{come_fresh, fall_first, last_first}
 use Rattle.settled_texts.proofs.seat.Seat.tell.Goals as goal
