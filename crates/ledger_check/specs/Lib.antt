@@ -7,5 +7,6 @@ pub mod RecountStates
 pub mod Recounts
 pub mod Replays
 pub mod Struck
+pub mod Taps
 pub mod Verdicts
 pub mod inside

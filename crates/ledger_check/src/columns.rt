@@ -1,7 +1,7 @@
 //! The columns of a traced ledger's line.
 
-ghost use Rattle.std.specs.Prelude.{◌≡◌, ◌^◌, ◌&&◌, ◌||◌, ◌==◌, ◌++◌, ◌∷◌, [], ℕ, List};
-ghost use Rattle.std.specs.Prelude.{nat_le, option_map};
+ghost use Rattle.std.specs.Prelude.{◌≡◌, ◌^◌, ◌&&◌, ◌||◌, ◌==◌, ◌<◌, List, IfSome};
+ghost use Rattle.std.specs.Prelude.{length, nat_le, nat_lt, option_map, true};
 ghost use Rattle.std.specs.List.{list_all};
 ghost use Rattle.ledger_check.specs.Columns.{class_of, cut_line, cut_of};
 ghost use Rattle.ledger_check.specs.Columns.{has_traced_head, is_class_name, is_name_byte};
@@ -102,12 +102,21 @@ fn upload_of(text: &[u8]) -> Option<(&[u8], u32)>
     Some((front, upload))
 }
 
+/// Whether these can be the fields of a ledger's line and the class of a rider.
+fn are_fields_and_class(fields: &[u8], class: &[u8]) -> bool
+    ensures short { result ≡ true → length fields.now < 255 }
+    ensures both { result ≡ (nat_lt (length fields.now) 255 && is_class_name class.now) }
+{
+    fields.len() < MAX_LINE_BYTES && is_class_name(class)
+}
+
 /// The class that ends the text, and the fields before its comma.
 fn class_of(text: &[u8]) -> Option<(&[u8], &[u8])>
-    ensures { option_map (λ parts. (parts.0.now, parts.1.now)) result ≡ class_of text.now }
+    ensures parts { option_map (λ parts. (parts.0.now, parts.1.now)) result ≡ class_of text.now }
+    ensures short { IfSome result (λ parts. length parts.0.now < 255) }
 {
     let (fields, class) = last_field(text)?;
-    if fields.len() < MAX_LINE_BYTES && is_class_name(class) {
+    if are_fields_and_class(fields, class) {
         Some((fields, class))
     } else {
         None
@@ -130,7 +139,8 @@ pub struct CutLine<'a> {
 /// The fields and the columns of the line, which ends with its line feed; `None` if it has not the
 /// form of a traced ledger's line.
 pub fn cut_line(line: &[u8]) -> Option<CutLine<'_>>
-    ensures { option_map cut_of result ≡ cut_line line.now }
+    ensures cut { option_map cut_of result ≡ cut_line line.now }
+    ensures short { IfSome result (λ cut. length cut.fields.now < 255) }
 {
     if line.len() > MAX_TRACED_BYTES {
         return None;

@@ -31,6 +31,7 @@ pub use balance::{Balance, Difference};
 pub use bytes::{field, same_bytes, split_line};
 pub use checker::{Checker, Verdict};
 pub use columns::{CutLine, cut_line, has_traced_head, traced_head_line};
+pub use exact::tap_of_line;
 pub use full_balance::FullBalance;
 pub use recount::Recount;
 pub use tap::read_small_number;
