@@ -6,6 +6,7 @@ use Rattle.std.specs.Str.{bytes_eq}
 use Rattle.std.proofs.lemmas.List.{drop_at}
 use Rattle.std.proofs.lemmas.Bool.{both_ways}
 use Rattle.std.proofs.lemmas.Slice.Eq.{bytes_eq-Decides}
+use Rattle.tap_views.specs.declared.encoder.TapFields.{TapFields}
 use Rattle.settled_texts.specs.Names.{class_by}
 use Rattle.settled_texts.specs.declared.class_names.ClassNames.{ClassNames}
 use Rattle.fare_texts.specs.LedgerLines.{head_text}
@@ -14,7 +15,7 @@ use Rattle.ledger_check.specs.Lines.{IsLine, Lacks, lines_of}
 use Rattle.ledger_check.proofs.ColumnLemmas.{cut_fits, cut_long, untraced-append}
 use Rattle.ledger_check.proofs.LineLemmas.{lacks-append, lines-part}
 use Rattle.ledger_check.proofs.RecountLemmas.{split_line_at, split_part}
-use Rattle.omny_audit.specs.Traced.{AreColumnsTold, AreLinesOf, AreRead, ReadLine, TellsTracedTap, TracedTap, class_fault, lines_read, wrong_class}
+use Rattle.omny_audit.specs.Traced.{AreColumnsTold, AreLinesOf, AreRead, ReadLine, TellsTracedTap, TracedTap, class_fault, lines_read, traced_by, wrong_class}
 use Rattle.omny_audit.specs.inside.Traced.{HasLines, HasReadAll, HasReadAs, HasTraced, IsKeptOf, classes_of}
 use Rattle.omny_audit.specs.declared.traced.LinesRead.{LinesRead}
 use Rattle.omny_audit.specs.declared.traced.Trace.{Trace}
@@ -225,3 +226,22 @@ reads_more (Some trace) file told (read, is) more = (
   ap untraced_lines (is.split more) ∙ untraced-append (lines_read read) (lines_of (is.begun ++ more))
       ∙ ap (λ (t : List ℕ). t ++ untraced_lines (lines_of (is.begun ++ more))) (sym is.told),
 )
+
+-- the fault of a line, by its class
+fault_at : ℕ → List ℕ → WrongClass
+fault_at line token = record { line = line; token = token }
+
+pub fault_none : (classes : List ℕ → List ℕ) (line : ℕ) (cut : TracedLine) (tap : TapFields) → classes tap.token ≡ cut.class
+    → class_fault classes line (Some (traced_by cut tap)) ≡ None
+unfolding fault_at
+fault_none classes line cut tap same =
+    ap (λ (b : Bool). if b then None else Some (fault_at line tap.token)) ((bytes_eq-Decides (classes tap.token) cut.class).1 same)
+
+pub fault_some : (classes : List ℕ → List ℕ) (line : ℕ) (cut : TracedLine) (tap : TapFields) → (classes tap.token ≡ cut.class → ⊥)
+    → class_fault classes line (Some (traced_by cut tap)) ≡ Some (record { line = line; token = tap.token })
+unfolding fault_at
+fault_some classes line cut tap other = by_test (bytes_eq (classes tap.token) cut.class) refl
+  where
+    by_test : (b : Bool) → bytes_eq (classes tap.token) cut.class ≡ b → class_fault classes line (Some (traced_by cut tap)) ≡ Some (fault_at line tap.token)
+    by_test true same = absurd (other ((bytes_eq-Decides (classes tap.token) cut.class).0 same))
+    by_test false same = ap (λ (b : Bool). if b then None else Some (fault_at line tap.token)) same
