@@ -99,7 +99,7 @@ pub(crate) fn exact_long_number(digits: &[u8]) -> Option<u64>
 {
     let number = read_long_number(digits)?;
     let mut buffer = Buffer::new();
-    if buffer.format(number).as_bytes() == digits {
+    if digits == buffer.format(number).as_bytes() {
         Some(number)
     } else {
         None

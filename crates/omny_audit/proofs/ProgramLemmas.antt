@@ -226,10 +226,10 @@ pub record ReadsLedger (before after : Option (List Loaded)) (name : Option Text
 
 pub reads_ledger : (before after : Option (List Loaded)) (name : Option Text) (left left' whole : Option (List ℕ)) (head begun table lent file : List ℕ)
     (classes : Option (List ℕ → List ℕ)) → OpensOne before after name left → Consumes left left' head → IsAtEnd left' ⊎ (length traced_head ≤ length head)
-    → begun ≡ head → lent ≡ table → whole ≡ option_append (Some begun) left' → IsAllOf whole file → AreClasses lent (has_traced_head begun) classes
+    → begun ≡ head → lent ≡ table → whole ≡ option_append (Some head) left' → IsAllOf whole file → AreClasses lent (has_traced_head begun) classes
     → ReadsLedger before after name table classes file
 reads_ledger before after name left left' whole head begun table lent file classes opens reads enough same_head same_table is all named =
-    let rest = subst (λ (h : List ℕ). IsAllOf (option_append (Some h) left') file) same_head (subst (λ (w : Option (List ℕ)). IsAllOf w file) is all) in
+    let rest = subst (λ (w : Option (List ℕ)). IsAllOf w file) is all in
     record {
       told = opened before after name left file opens (chained left left' head file reads rest);
       traced = has_traced_head head;

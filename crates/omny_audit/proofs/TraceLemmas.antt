@@ -1,10 +1,8 @@
 -- A traced ledger, read piece by piece.
-use Rattle.std.proofs.Common.{◌≡◌, ◌≢◌, ◌∙◌, ◌⊎◌, inl, inr, ⊎_elim, ℕ, ◌+◌, ◌-◌, ◌<◌, ◌≤◌, Bool, true, false, List, [], ◌∷◌, ◌++◌, append_assoc, append-nil, codes, length, length-append, take, drop, take_all, Option, None, Some, refl, sym, ap, subst, arith, if◌then◌else◌}
+use Rattle.std.proofs.Common.{◌≡◌, ◌≢◌, ◌∙◌, ◌⊎◌, inl, inr, ⊎_elim, ℕ, ◌+◌, ◌-◌, ◌<◌, ◌≤◌, Bool, true, false, List, [], ◌∷◌, ◌++◌, append_assoc, append-nil, codes, length, length-append, Option, None, Some, refl, sym, ap, subst, arith, if◌then◌else◌}
 use Rattle.std.specs.Prelude.{is_some, option_map}
 use Rattle.std.specs.Option.{option_or}
 use Rattle.std.specs.Str.{bytes_eq}
-use Rattle.std.proofs.lemmas.List.{drop_at}
-use Rattle.std.proofs.lemmas.Bool.{both_ways}
 use Rattle.std.proofs.lemmas.Slice.Eq.{bytes_eq-Decides}
 use Rattle.tap_views.specs.declared.encoder.TapFields.{TapFields}
 use Rattle.settled_texts.specs.Names.{class_by}
@@ -39,17 +37,6 @@ head_short = omega arith
 long_other : (line : List ℕ) → 352 < length line → untraced_by line None ≡ 10 ∷ []
 long_other line long =
     other_line line (λ is. let size = ap (λ (t : List ℕ). length t) is in let short = head_short in omega (arith, long, size, short))
-
--- fields behind a text, and what stands at their place
-pub put_value : (text fields all : List ℕ) → all ≡ (text ++ fields) ++ 10 ∷ []
-    → take (length all - length text) (drop (length text) all) ≡ fields ++ 10 ∷ []
-put_value text fields all is =
-    let whole : all ≡ text ++ (fields ++ 10 ∷ []) = is ∙ append_assoc text fields (10 ∷ []) in
-    let behind : drop (length text) all ≡ fields ++ 10 ∷ [] =
-    ap (λ (t : List ℕ). drop (length text) t) whole ∙ drop_at text (fields ++ 10 ∷ []) (length text) refl in
-    let size = ap (λ (t : List ℕ). length t) whole ∙ length-append text (fields ++ 10 ∷ []) in
-    ap (λ (t : List ℕ). take (length all - length text) t) behind
-    ∙ take_all (length all - length text) (fields ++ 10 ∷ []) (omega (arith, size))
 
 -- what a line tells, of which this was kept
 kept_long : (kept whole : List ℕ) → IsKeptOf kept whole → 352 < length kept → 352 < length whole

@@ -1,12 +1,12 @@
 -- A traced ledger, as it is read line by line, and what is found of its columns.
-use Rattle.std.specs.Prelude.{◌≡◌, ◌⊎◌, ◌×◌, ℕ, ◌+◌, ◌<◌, Bool, true, false, List, [], ◌∷◌, ◌++◌, length}
+use Rattle.std.specs.Prelude.{◌≡◌, ℕ, ◌+◌, Bool, true, false, List, [], ◌∷◌, ◌++◌, length}
 use Rattle.std.specs.Prelude.{codes, if◌then◌else◌, is_some, not, Option, None, Some, option_map}
 use Rattle.std.specs.Fmt.{decimal}
 use Rattle.std.specs.Option.{option_or}
 use Rattle.std.specs.Str.{bytes_eq}
 use Rattle.tap_views.specs.declared.encoder.TapFields.{TapFields}
-use Rattle.ledger_check.specs.Columns.{TracedLine, cut_line, untraced_lines}
-use Rattle.ledger_check.specs.Lines.{Lacks, lines_of}
+use Rattle.ledger_check.specs.Columns.{TracedLine, cut_line}
+use Rattle.ledger_check.specs.Lines.{lines_of}
 use Rattle.ledger_check.specs.Taps.{IsTapOfLine}
 use Rattle.omny_audit.specs.declared.traced.WrongClass.{WrongClass}
 

@@ -74,11 +74,11 @@ fn end_verdict(
     ensures later { IfErr result (λ fault. is_of_loading fault ≡ false) }
 {
     read_end(trace, text)?;
-    let part = text.as_slice();
-    if let Some(verdict) = checker.feed(table, clock, part, balance)? {
+    let left = text.as_slice();
+    if let Some(verdict) = checker.feed(table, clock, left, balance)? {
         return Ok(verdict);
     }
-    add_piece(alloc, table, part, report)?;
+    add_piece(alloc, table, left, report)?;
     Ok(checker.finish())
 }
 

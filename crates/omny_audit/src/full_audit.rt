@@ -77,9 +77,9 @@ fn end_recount(
     ensures later { IfErr result (λ fault. is_of_loading fault ≡ false) }
 {
     read_end(trace, text)?;
-    let part = text.as_slice();
-    recount.feed(table, clock, part, has_uploads, full, told)?;
-    add_piece(alloc, table, part, report)?;
+    let left = text.as_slice();
+    recount.feed(table, clock, left, has_uploads, full, told)?;
+    add_piece(alloc, table, left, report)?;
     let legal = recount.finish(told)?;
     Ok(legal)
 }

@@ -41,6 +41,7 @@ use program_manners::{Complaints, STANDARD_INPUT, show_answer};
 use settled_texts::{ClassFault, ClassNames};
 use shard_book::HashSeed;
 use std::alloc::Global;
+use std::collections::VecDeque;
 use std::io::{Read, Write};
 use std::random::RandomSource;
 
@@ -233,9 +234,8 @@ fn audit<'a, R: RandomSource, S: Source, W: Write>(
     let report = load_report(rt, alloc, options.report, source)?;
     let mut ledger = open_ledger(options.ledger, source)?;
     let head = read_head(alloc, &mut ledger)?;
-    let begun = head.as_slice();
-    let trace = trace_of(alloc, begun, table_text.as_slice())?;
-    let mut whole = begun.chain(ledger);
+    let trace = trace_of(alloc, head.as_slice(), table_text.as_slice())?;
+    let mut whole = VecDeque::from(head).chain(ledger);
     // proof: all is well exactly if the ledger is right, and the report its own
     audits_decide();
     if options.all {

@@ -44,21 +44,24 @@ fn put_other(text: &mut Vec<u8>, line: &[u8]) -> Result<(), AllocError>
     Ok(())
 }
 
-/// Appends the fields as a line, and gives the tap that it tells, if it tells one. The text in
-/// `again` is replaced.
+/// Appends the fields as a line, and gives the tap that it tells, if it tells one. The line replaces
+/// what is in `line`, and the text in `again` is replaced.
 fn put_fields(
     text: &mut Vec<u8>,
     fields: &[u8],
+    line: &mut Vec<u8>,
     again: &mut String,
 ) -> Result<Option<TapFields>, AllocError>
     requires { length fields.now < 255 }
     ensures text { OnOk result (text.new.items ≡ text.old.items ++ (fields.now ++ 10 ∷ [])) }
     ensures tap { IfOk result (IsTapOfLine (fields.now ++ 10 ∷ [])) }
 {
-    let from = text.len();
-    text.extend_from_slice(fields)?;
-    text.push(b'\n')?;
-    let tap = tap_of_line(&text[from..], again)?;
+    line.clear();
+    line.extend_from_slice(fields)?;
+    line.push(b'\n')?;
+    let whole = line.as_slice();
+    text.extend_from_slice(whole)?;
+    let tap = tap_of_line(whole, again)?;
     Ok(tap)
 }
 
@@ -89,6 +92,8 @@ fn class_fault(
 pub(crate) struct LinesRead {
     /// The classes of the fare table.
     names: ClassNames,
+    /// The last of them, without its columns.
+    line: Vec<u8>,
     /// A moment, printed again.
     again: String,
     /// How many lines these are.
@@ -128,7 +133,7 @@ impl LinesRead {
             self.lines = number;
             return Ok(());
         };
-        let tap = put_fields(text, cut.fields, &mut self.again)?;
+        let tap = put_fields(text, cut.fields, &mut self.line, &mut self.again)?;
         self.look(number, &cut, &tap);
         self.lines = number;
         Ok(())
@@ -169,6 +174,7 @@ impl Trace {
         Trace {
             so_far: LinesRead {
                 names,
+                line: Vec::new(alloc),
                 again: String::new(alloc),
                 lines: 0,
                 wrong_class: None,

@@ -1,5 +1,6 @@
-use Rattle.std.proofs.Common.{◌∙◌, ℕ, Bool, Bor, Option, List, ap, false, map, not, subst, sym, true}
+use Rattle.std.proofs.Common.{◌∙◌, ℕ, Bool, Bor, Option, Some, List, ap, false, map, not, subst, sym, true}
 use Rattle.std.proofs.lemmas.Result.{IfOk-weaker}
+use Rattle.std.specs.Fmt.{option_append}
 use Rattle.tap_views.specs.declared.encoder.TapFields.{TapFields}
 use Rattle.omny_audit.specs.Fault.{NamesOneOf}
 use Rattle.omny_audit.specs.Options.{files_of}
@@ -35,8 +36,8 @@ returns-clause-ok g c =
     ∙ ap (λ (ns : List (Bor (List ℕ))). compared (map (λ n. n.now) ns) loaded.1) names in
     let reported = text_of c.in_ok-report.report in
     let found = subst (λ (good : Option (List TapFields)). IsAudit false c.in_ok-table.table (classes_of c.in_ok-trace.trace) told.0 finding.1 good reported finding.0 well) same finding.2 in
-    let ledger = reads_ledger _ _ _ _ _ _ c.in_ok-head.head.items c.as_slice-begun.result.now c.in_ok-table.table_text.items _ told.0 (classes_of c.in_ok-trace.trace)
-    c.in_ok-ledger.ensures.ok c.in_ok-head.ensures.read c.in_ok-head.ensures.enough c.as_slice-begun.ensures.value c.as_slice.ensures.value c.chain-whole.ensures.bytes told.1 c.in_ok-trace.ensures.classes in
+    let ledger = reads_ledger _ _ _ _ _ _ c.in_ok-head.head.items c.as_slice.result.now c.in_ok-table.table_text.items c.as_slice-2.result.now told.0 (classes_of c.in_ok-trace.trace)
+    c.in_ok-ledger.ensures.ok c.in_ok-head.ensures.read c.in_ok-head.ensures.enough c.as_slice.ensures.value c.as_slice-2.ensures.value (c.chain-whole.ensures.bytes ∙ ap (λ (h : List ℕ). option_append (Some h) _) c.from.ensures.0) told.1 c.in_ok-trace.ensures.classes in
     record {
       text = finding.0;
       found = record {
@@ -75,8 +76,8 @@ returns-then-options-clause-ok g c =
     ∙ ap (λ (ns : List (Bor (List ℕ))). compared (map (λ n. n.now) ns) loaded.1) names in
     let reported = text_of c.in_ok-report.report in
     let found = subst (λ (good : Option (List TapFields)). IsAudit true c.in_ok-table.table (classes_of c.in_ok-trace.trace) told.0 finding.1 good reported finding.0 well) same finding.2 in
-    let ledger = reads_ledger _ _ _ _ _ _ c.in_ok-head.head.items c.as_slice-begun.result.now c.in_ok-table.table_text.items _ told.0 (classes_of c.in_ok-trace.trace)
-    c.in_ok-ledger.ensures.ok c.in_ok-head.ensures.read c.in_ok-head.ensures.enough c.as_slice-begun.ensures.value c.as_slice.ensures.value c.chain-whole.ensures.bytes told.1 c.in_ok-trace.ensures.classes in
+    let ledger = reads_ledger _ _ _ _ _ _ c.in_ok-head.head.items c.as_slice.result.now c.in_ok-table.table_text.items c.as_slice-2.result.now told.0 (classes_of c.in_ok-trace.trace)
+    c.in_ok-ledger.ensures.ok c.in_ok-head.ensures.read c.in_ok-head.ensures.enough c.as_slice.ensures.value c.as_slice-2.ensures.value (c.chain-whole.ensures.bytes ∙ ap (λ (h : List ℕ). option_append (Some h) _) c.from.ensures.0) told.1 c.in_ok-trace.ensures.classes in
     record {
       text = finding.0;
       found = record {
@@ -163,8 +164,8 @@ returns-clause-right g c =
           ∙ ap (λ (ns : List (Bor (List ℕ))). compared (map (λ n. n.now) ns) loaded.1) names in
           let reported = text_of c.in_ok-report.report in
           let found = subst (λ (good : Option (List TapFields)). IsAudit false c.in_ok-table.table (classes_of c.in_ok-trace.trace) told.0 finding.2 good reported finding.0 finding.1) same finding.3 in
-          let ledger = reads_ledger _ _ _ _ _ _ c.in_ok-head.head.items c.as_slice-begun.result.now c.in_ok-table.table_text.items _ told.0 (classes_of c.in_ok-trace.trace)
-    c.in_ok-ledger.ensures.ok c.in_ok-head.ensures.read c.in_ok-head.ensures.enough c.as_slice-begun.ensures.value c.as_slice.ensures.value c.chain-whole.ensures.bytes told.1 c.in_ok-trace.ensures.classes in
+          let ledger = reads_ledger _ _ _ _ _ _ c.in_ok-head.head.items c.as_slice.result.now c.in_ok-table.table_text.items c.as_slice-2.result.now told.0 (classes_of c.in_ok-trace.trace)
+    c.in_ok-ledger.ensures.ok c.in_ok-head.ensures.read c.in_ok-head.ensures.enough c.as_slice.ensures.value c.as_slice-2.ensures.value (c.chain-whole.ensures.bytes ∙ ap (λ (h : List ℕ). option_append (Some h) _) c.from.ensures.0) told.1 c.in_ok-trace.ensures.classes in
           record {
             text = finding.0;
             well = finding.1;

@@ -29,7 +29,7 @@ returns-clause-read c = λ whole read kept has.
     let count : c.in-Some.number ≡ c.args.self.now.lines + 1 = first_of (omega arith, grind (arith, nat_tests), search (rules, tests)) in
     let traced = option_map (traced_by cut) c.in_ok-tap.tap in
     (record { line = whole; traced = traced }, refl,
-    took_cut c.args.self.now _ line whole cut traced read has kept is count (rw (sym count) c.look.ensures.class) c.look.ensures.names (c.in_ok-tap.tap, c.in_ok-tap.ensures.tap, refl))
+    took_cut c.args.self.now _ line whole cut traced read has kept is count (rw count at c.look.ensures.class) c.look.ensures.names (c.in_ok-tap.tap, c.in_ok-tap.ensures.tap, refl))
 
 pub returns-clause-text : goal.returns-clause-text
 returns-clause-text c = λ whole kept.
