@@ -2,7 +2,8 @@
 use Rattle.std.proofs.Common.{◌≡◌, ◌↔◌, Bool, true, false, cond, List, [], ◌∷◌, ◌++◌, refl, sym, ap}
 use Rattle.std.proofs.Common.{◌∙◌, append_assoc, append-nil}
 use Rattle.std.specs.List.{flat_map}
-use Rattle.account_rule.specs.Blocks.{blocks_by, blocks_from, EachJoins, IsBlock, IsApart, AreBlocks, AreBlocksOf}
+use Rattle.account_rule.specs.Blocks.{blocks_by, blocks_from, EachJoins, IsBlock, IsApart}
+use Rattle.account_rule.specs.Blocks.{AreBlocks, AreBlocksOf}
 
 abbrev joined : {A : Type 0} → List (List A) → List A
 joined blocks = flat_map (λ block. block) blocks
@@ -38,7 +39,8 @@ IsBlock-push joins (y ∷ ys) x all last = AreJoined-push joins (y ∷ []) ys x 
 -- one block before others, whose first element does not join it
 AreBlocks-cons : {A : Type 0} (joins : List A → A
     → Bool) (block : List A) (x : A) (more xs : List A)
-    → IsBlock joins block → joins block x ≡ false → AreBlocks joins (blocks_from joins (x ∷ more) xs)
+    → IsBlock joins block → joins block x ≡ false
+    → AreBlocks joins (blocks_from joins (x ∷ more) xs)
     → AreBlocks joins (block ∷ blocks_from joins (x ∷ more) xs)
 unfolding blocks_from AreBlocks IsApart
 AreBlocks-cons joins block x more [] first apart rest = (first, apart, rest)
@@ -67,7 +69,8 @@ AreBlocks-blocks_from joins block (x ∷ xs) first =
           (AreBlocks-blocks_from joins (x ∷ []) xs tt)
     ] refl
 
-AreBlocksOf-blocks_by : {A : Type 0} (joins : List A → A → Bool) (xs : List A) → AreBlocksOf joins xs (blocks_by joins xs)
+AreBlocksOf-blocks_by : {A : Type 0} (joins : List A → A → Bool) (xs : List A)
+    → AreBlocksOf joins xs (blocks_by joins xs)
 unfolding blocks_by AreBlocks IsBlock EachJoins
 AreBlocksOf-blocks_by joins [] = record { whole = refl; apart = tt }
 AreBlocksOf-blocks_by joins (x ∷ xs) = record {
@@ -94,7 +97,8 @@ first_block joins block [] all = all
 first_block joins block (next ∷ blocks) all = all.0
 
 -- it ends where the next block begins
-blocks_from-apart : {A : Type 0} (joins : List A → A → Bool) (block : List A) (blocks : List (List A))
+blocks_from-apart : {A : Type 0} (joins : List A → A → Bool) (block : List A)
+    (blocks : List (List A))
     → AreBlocks joins (block ∷ blocks) → blocks_from joins block (joined blocks) ≡ block ∷ blocks
 unfolding blocks_from AreBlocks IsBlock IsApart EachJoins
 blocks_from-apart joins block [] all = refl
@@ -119,6 +123,7 @@ blocks_by-joined joins ((x ∷ xs) ∷ blocks) all =
 pub cut_iff : {A : Type 0} (joins : List A → A → Bool) (xs : List A) (blocks : List (List A))
     → AreBlocksOf joins xs blocks ↔ (blocks ≡ blocks_by joins xs)
 cut_iff joins xs blocks = (
-  (λ are_blocks. blocks_by-joined joins blocks are_blocks.apart ∙ ap (λ ys. blocks_by joins ys) are_blocks.whole),
+  (λ are_blocks. blocks_by-joined joins blocks are_blocks.apart
+      ∙ ap (λ ys. blocks_by joins ys) are_blocks.whole),
   (λ same. rw same (AreBlocksOf-blocks_by joins xs)),
 )

@@ -17,9 +17,11 @@ use Rattle.account_rule.specs.Windows.{charge, charged_by, paid_by}
 use Rattle.account_rule.proofs.LimitLemmas.{charged}
 
 -- what is free costs nothing
-pub free-few : (reply : Reply) (answer : Answer) → reply ≡ reply_with answer 0 → reply.cents ≤ 100_000
+pub free-few : (reply : Reply) (answer : Answer) → reply ≡ reply_with answer 0
+    → reply.cents ≤ 100_000
 unfolding reply_with
-free-few reply answer is = let none : reply.cents ≡ 0 = ap (λ (r : Reply). r.cents) is in omega arith
+free-few reply answer is = let none : reply.cents ≡ 0 = ap (λ (r : Reply). r.cents) is in
+    omega arith
 
 reply_cents-few : (one : Charge) (bound : ℕ) → charged_by one ≤ bound
     → (ride_reply (paid_by one)).cents ≤ bound

@@ -1,6 +1,7 @@
 pub mod BlockLemmas
 pub mod BlocksUnique
 pub mod TapLemmas
+pub mod CentsLemmas
 pub mod FareLemmas
 pub mod LimitLemmas
 pub mod WindowLemmas

@@ -7,6 +7,7 @@ use Rattle.std.specs.List.{last_or}
 use Rattle.std.proofs.lemmas.Bool.{cases_Bool, cases_lt, le-leb, leb-false, leb-true}
 use Rattle.std.proofs.lemmas.List.Elements.{All-head, All-tail}
 use Rattle.std.proofs.lemmas.List.Sums.{sum_by-cons, sum_by_push}
+use Rattle.std.proofs.Math.Nat.{zero-add}
 use Rattle.fare_table.specs.declared.terms.Terms.{Terms}
 use Rattle.account_rule.specs.declared.reason.Charge.{Charge}
 use Rattle.account_rule.specs.declared.reason.Charge.TheVariants.{RideLimitReached}
@@ -153,8 +154,6 @@ last_charge-push terms window ride =
     rw (charges-push terms window ride) (last_or-push None (charges terms window) _)
 
 -- ---- the limits
-pub zero-plus : (n : ℕ) → 0 + n ≡ n
-zero-plus n = omega arith
 
 one-plus : (n : ℕ) → 1 + n ≡ suc n
 one-plus n = omega arith
@@ -163,7 +162,7 @@ count-free : (first : Charge) (more : List Charge) → is_paid first ≡ false
     → count_by is_paid (first ∷ more) ≡ count_by is_paid more
 count-free first more free =
     sum_by-cons (λ c. cond (is_paid c) 1 0) first more
-    ∙ ap (λ b. cond b 1 0 + count_by is_paid more) free ∙ zero-plus (count_by is_paid more)
+    ∙ ap (λ b. cond b 1 0 + count_by is_paid more) free ∙ zero-add (count_by is_paid more)
 
 count-paid : (first : Charge) (more : List Charge) → is_paid first ≡ true
     → count_by is_paid (first ∷ more) ≡ suc (count_by is_paid more)

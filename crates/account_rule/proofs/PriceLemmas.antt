@@ -1,10 +1,10 @@
 -- That higher terms are never cheaper, and that equal fares are charged by their places.
-use Rattle.std.proofs.Common.{◌≡◌, ℕ, zero, suc, ◌+◌, ◌-◌, ◌*◌, ◌<◌, ◌≤◌, true, false}
-use Rattle.std.proofs.Common.{List, [], ◌∷◌, min, leb, ltb, Some, refl, sym, ap, ◌∙◌, inl, inr, arith}
-use Rattle.std.proofs.Common.{subst}
+use Rattle.std.proofs.Common.{◌≡◌, ℕ, zero, suc, ◌+◌, ◌-◌, ◌*◌, ◌<◌, ◌≤◌, true, false, List, []}
+use Rattle.std.proofs.Common.{◌∷◌, min, leb, ltb, Some, refl, sym, ap, ◌∙◌, inl, inr, arith, subst}
 use Rattle.std.specs.Prelude.{slice_get, sum_by}
 use Rattle.std.proofs.lemmas.Bool.{cases_lt, le-leb, lt-leb, lt-ltb}
 use Rattle.std.proofs.lemmas.List.Sums.{sum_by-cons, sum_by-le-sum_by}
+use Rattle.std.proofs.Math.Nat.{zero-add}
 use Rattle.fare_table.specs.declared.terms.Terms.{Terms}
 use Rattle.account_rule.specs.declared.reason.Charge.{Charge}
 use Rattle.account_rule.specs.declared.tap.TapIn.{TapIn}
@@ -15,7 +15,7 @@ use Rattle.account_rule.specs.Taps.{LiveTap}
 use Rattle.account_rule.specs.Trips.{rides, trips}
 use Rattle.account_rule.specs.Windows.{charge, charged_by, charges, charges_after}
 use Rattle.account_rule.specs.Windows.{window_cents, windows}
-use Rattle.account_rule.proofs.LimitLemmas.{charged, zero-plus}
+use Rattle.account_rule.proofs.LimitLemmas.{charged}
 use Rattle.account_rule.proofs.ShareLemmas.{cents_measure, sum-replies}
 
 -- ---- higher terms
@@ -155,7 +155,8 @@ unfolding charges_after
 by_places terms same rides cents [] low equal cost place one is = absurd (cc)
 by_places terms same rides cents (first ∷ window) low equal cost zero one is =
     let it : charge same rides cents ≡ one =
-    ap (λ t. charge t rides cents) (sym (equal first)) ∙ the_same (charge (terms first) rides cents) one is in
+    ap (λ t. charge t rides cents) (sym (equal first))
+    ∙ the_same (charge (terms first) rides cents) one is in
     let at : rides ≡ rides + 0 = omega arith in
     subst (λ n. IsOfPlace same n one) at
     (subst (λ c. IsOfPlace same rides c) it (of_place same rides cents low cost))
@@ -176,5 +177,5 @@ pub equal_by_places : (terms : LiveTap → Terms) (same : Terms) (window : List 
     → IsOfPlace same place one
 unfolding charges
 equal_by_places terms same window low equal =
-    λ place one is. subst (λ n. IsOfPlace same n one) (zero-plus place)
+    λ place one is. subst (λ n. IsOfPlace same n one) (zero-add place)
     (by_places terms same 0 0 window low equal (λ below. omega arith) place one is)

@@ -1,6 +1,6 @@
 -- What an account keeps decides the rule's reason, and the reply follows from the reason.
-use Rattle.std.proofs.Common.{◌≡◌, ℕ, Bool, ◌-◌, ◌<◌, ◌≤◌, true, false, cond, List, [], ◌∷◌, ◌++◌, max}
-use Rattle.std.proofs.Common.{ltb, Option, Some, None, refl, sym, ap, ◌∙◌, inl, inr, arith}
+use Rattle.std.proofs.Common.{◌≡◌, ℕ, Bool, ◌-◌, ◌<◌, ◌≤◌, true, false, cond, List, [], ◌∷◌, ◌++◌}
+use Rattle.std.proofs.Common.{max, ltb, Option, Some, None, refl, sym, ap, ◌∙◌, inl, inr, arith}
 use Rattle.std.proofs.Common.{append_assoc, append-nil, is_some, option_map, filter}
 use Rattle.std.specs.List.{last_or, list_all}
 use Rattle.std.specs.Option.{option_and_then}
@@ -48,7 +48,8 @@ reason_stale rules taps tap mode known not_after =
     let known_mode : is_some tap.mode ≡ true = ap (λ o. is_some o) known in
     rw (known_mode, not_after) refl
 
-pub reason_live : (rules : TokenRules) (taps : List TapIn) (tap : TapIn) (mode : Mode) → tap.mode ≡ Some mode
+pub reason_live : (rules : TokenRules) (taps : List TapIn) (tap : TapIn) (mode : Mode)
+    → tap.mode ≡ Some mode
     → is_later taps tap.moment ≡ true
     → reason rules taps tap ≡ live_reason rules taps (taps ++ tap ∷ [])
 unfolding reason
@@ -56,7 +57,8 @@ reason_live rules taps tap mode known later =
     let known_mode : is_some tap.mode ≡ true = ap (λ o. is_some o) known in
     rw (known_mode, later) refl
 
-pub reason_transfer : (rules : TokenRules) (earlier taps : List TapIn) → ends_in_transfer rules taps ≡ true
+pub reason_transfer : (rules : TokenRules) (earlier taps : List TapIn)
+    → ends_in_transfer rules taps ≡ true
     → live_reason rules earlier taps ≡ given_by (last_trip rules earlier)
 unfolding live_reason
 reason_transfer rules earlier taps ends = rw ends refl
@@ -68,7 +70,8 @@ reason_ride rules earlier taps ends = rw ends refl
 
 -- the latest moment of the known taps is the last moment that is kept
 
-pub later-false : (taps : List TapIn) (moment : ℕ) → is_later taps moment ≡ false → moment ≤ latest taps
+pub later-false : (taps : List TapIn) (moment : ℕ) → is_later taps moment ≡ false
+    → moment ≤ latest taps
 unfolding is_later latest
 later-false [] moment h = cc
 later-false (tap ∷ taps) moment h =
@@ -145,7 +148,8 @@ last-blocks_from joins block (x ∷ xs) =
     last_or None (last_block
     (cond v (blocks_from joins (block ++ x ∷ []) xs) (block ∷ blocks_from joins (x ∷ []) xs)))
     ≡ last_or None (block ++ x ∷ xs)) [
-      | true ↦ last-blocks_from joins (block ++ x ∷ []) xs ∙ rw (append_assoc block (x ∷ []) xs) refl
+      | true ↦ last-blocks_from joins (block ++ x ∷ []) xs
+          ∙ rw (append_assoc block (x ∷ []) xs) refl
       | false ↦ rw (last_block-from joins block (x ∷ []) xs) (last-blocks_from joins (x ∷ []) xs)
           ∙ sym (last_or-cons None block x xs)
     ]
@@ -249,7 +253,8 @@ why_ride rules account taps tap mode until terms window stands known limit none 
     let later : is_later taps tap.moment ≡ true = sym (stands.last tap.moment) ∙ none.after in
     let shown : live_tap taps tap ≡ Some (live_at tap.moment mode) =
     is_live taps tap mode known later in
-    let gives_none : gives rules.transfers (last_trip rules taps) (live_at tap.moment mode) ≡ false =
+    let gives_none : gives rules.transfers (last_trip rules taps) (live_at tap.moment mode)
+    ≡ false =
     rw (← stands.trip) none.none in
     let ends : ends_in_transfer rules (taps ++ tap ∷ []) ≡ false =
     ends_in_transfer-push rules taps tap _ shown ∙ gives_none in
@@ -319,6 +324,7 @@ known-follows rules taps tap mode known = elim (cases_Bool (is_later taps tap.mo
       ∙ ap (λ r. replied_by r) (sym (reason_stale rules taps tap mode known not_after))
 ]
 
+-- the reply is the one that the reason gives
 pub reply-follows : (rules : TokenRules) (taps : List TapIn) (tap : TapIn)
     → reply rules taps tap ≡ replied_by (reason rules taps tap)
 reply-follows rules taps tap =
@@ -347,7 +353,8 @@ given_in-found : (start until : ℕ) (found : Option Charge)
 given_in-found start until None = refl
 given_in-found start until (Some charge) = refl
 
-given_in-ride : (rules : TokenRules) (window : List LiveTap) → given_in (ride_of rules window) ≡ None
+given_in-ride : (rules : TokenRules) (window : List LiveTap)
+    → given_in (ride_of rules window) ≡ None
 unfolding ride_of
 given_in-ride rules [] = refl
 given_in-ride rules (first ∷ window) = given_in-found _ _ _
@@ -374,6 +381,7 @@ given-live rules taps tap given is =
           absurd (cc (no))
     ]
 
+-- the ride that a transfer's reason names is that of the last trip
 pub giver-ride : (rules : TokenRules) (taps : List TapIn) (tap : TapIn) (moment : ℕ) (given : Mode)
     → reason rules taps tap ≡ Transfer moment given
     → (trip : TripEnd) × (last_trip rules taps ≡ Some trip) × (trip.ride ≡ live_at moment given)
@@ -381,7 +389,8 @@ giver-ride rules taps tap moment given is =
     elim tap.mode as (λ mode. tap.mode ≡ mode
     → (trip : TripEnd) × (last_trip rules taps ≡ Some trip) × (trip.ride ≡ live_at moment given)) [
       | None ↦ λ none. let no : None ≡ Some (live_at moment given) =
-          sym (ap given_in (reason_unknown rules taps tap none)) ∙ ap given_in is in absurd (cc (no))
+          sym (ap given_in (reason_unknown rules taps tap none)) ∙ ap given_in is in
+          absurd (cc (no))
       | Some mode ↦ λ known. elim (cases_Bool (is_later taps tap.moment)) [
         | inl later ↦ given-live rules taps tap (live_at moment given)
             (ap given_in (sym (reason_live rules taps tap mode known later) ∙ is))

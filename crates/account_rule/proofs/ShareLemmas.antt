@@ -1,7 +1,7 @@
 -- What the replies to a list of taps add up to, window by window.
 use Rattle.std.proofs.Common.{◌≡◌, ℕ, ◌+◌, Bool, true, false, cond, List, [], ◌∷◌, ◌++◌, Option}
-use Rattle.std.proofs.Common.{Some, None, refl, sym, ap, ◌∙◌, append_assoc, append-nil, arith, filter}
-use Rattle.std.proofs.Common.{map, ⊎_elim, sum_by}
+use Rattle.std.proofs.Common.{Some, None, refl, sym, ap, ◌∙◌, append_assoc, append-nil, arith}
+use Rattle.std.proofs.Common.{filter, map, ⊎_elim, sum_by}
 use Rattle.std.specs.List.{flat_map, last_or}
 use Rattle.std.specs.Option.{option_and_then}
 use Rattle.std.proofs.lemmas.Bool.{cases_Bool}
@@ -205,7 +205,8 @@ ride_replies-free : (replies : List Reply) (reply : Reply) → is_ride reply ≡
 ride_replies-free replies reply none =
     rw (filter-append is_ride replies (reply ∷ [])) (rw none (append-nil (filter is_ride replies)))
 
-is_ride-reply : (paid : Option ℕ) → is_ride (ride_reply paid) ≡ true
+-- a ride's reply is one of a ride
+pub is_ride-reply : (paid : Option ℕ) → is_ride (ride_reply paid) ≡ true
 unfolding ride_reply reply_with
 is_ride-reply None = refl
 is_ride-reply (Some cents) = refl

@@ -7,6 +7,7 @@ use Rattle.std.proofs.Common.{Bool, is_some, length, option_map}
 use Rattle.std.specs.List.{last_or}
 use Rattle.std.specs.Option.{option_and_then}
 use Rattle.std.proofs.lemmas.Bool.{ltb-true, lt-ltb, le-ltb}
+use Rattle.std.proofs.Math.Bool.{and-true}
 use Rattle.fare_table.specs.Fares.{Fares, class_of, ride_terms}
 use Rattle.fare_table.specs.declared.mode.Mode.{Mode}
 use Rattle.fare_table.specs.Terms.{AreRideTerms}
@@ -26,9 +27,8 @@ use Rattle.account_rule.specs.inside.Kept.{gives, open_window, window_at, with_r
 use Rattle.account_rule.specs.Stands.{KeepsOf, Stands, window_of}
 use Rattle.account_rule.specs.Taps.{LiveTap, is_later, live_at, live_tap}
 use Rattle.account_rule.specs.Windows.{charge, charges, paid_by, windows}
-use Rattle.account_rule.proofs.TapLemmas.{and-true, ends_in_transfer-push, is_later-push}
-use Rattle.account_rule.proofs.TapLemmas.{last_window-ride, trip-push, trip-same, windows-same}
-use Rattle.account_rule.proofs.TapLemmas.{windows-transfer}
+use Rattle.account_rule.proofs.TapLemmas.{ends_in_transfer-push, is_later-push, last_window-ride}
+use Rattle.account_rule.proofs.TapLemmas.{trip-push, trip-same, windows-same, windows-transfer}
 use Rattle.account_rule.proofs.WindowLemmas.{charge-after, room-at, room-open, room-ride}
 use Rattle.account_rule.proofs.WindowLemmas.{window_of-after}
 
@@ -72,29 +72,34 @@ same rules state taps tap stands none later = record {
   room = stands.room;
 }
 
+-- a tap on a validator without a mode is no live tap
 pub not_known : (taps : List TapIn) (tap : TapIn) → tap.mode ≡ None → live_tap taps tap ≡ None
 unfolding live_tap
 not_known taps tap none =
     rw none (elim (is_later taps tap.moment) as (λ v.
     cond v (option_map (live_at tap.moment) None) None ≡ None) [ true ↦ refl | false ↦ refl ])
 
+-- a tap that is not later than the last one is no live tap
 pub not_later : (taps : List TapIn) (tap : TapIn) → is_later taps tap.moment ≡ false
     → live_tap taps tap ≡ None
 unfolding live_tap
 not_later taps tap stale = rw stale refl
 
+-- a later tap on a mode is a live tap
 pub is_live : (taps : List TapIn) (tap : TapIn) (mode : Mode) → tap.mode ≡ Some mode
     → is_later taps tap.moment ≡ true
     → live_tap taps tap ≡ Some (live_at tap.moment mode)
 unfolding live_tap
 is_live taps tap mode known later = rw (known, later) refl
 
+-- what is replied to a tap without a mode
 pub reply_unknown : (rules : TokenRules) (taps : List TapIn) (tap : TapIn) → tap.mode ≡ None
     → reply rules taps tap ≡ reply_with Unknown 0
 unfolding reply
 reply_unknown rules taps tap none = let no_mode : is_some tap.mode ≡ false =
     ap (λ o. is_some o) none in rw no_mode refl
 
+-- what is replied to a tap that is not later than the last one
 pub reply_stale : (rules : TokenRules) (taps : List TapIn) (tap : TapIn) (mode : Mode)
     → tap.mode ≡ Some mode → is_later taps tap.moment ≡ false
     → reply rules taps tap ≡ reply_with Stale 0
@@ -103,6 +108,7 @@ reply_stale rules taps tap mode known not_after =
     let known_mode : is_some tap.mode ≡ true = ap (λ o. is_some o) known in
     rw (known_mode, not_after) refl
 
+-- what is replied to a live tap
 pub reply_live : (rules : TokenRules) (taps : List TapIn) (tap : TapIn) (mode : Mode)
     → tap.mode ≡ Some mode → is_later taps tap.moment ≡ true
     → reply rules taps tap ≡ live_reply rules (taps ++ tap ∷ [])
@@ -111,11 +117,13 @@ reply_live rules taps tap mode known later =
     let known_mode : is_some tap.mode ≡ true = ap (λ o. is_some o) known in
     rw (known_mode, later) refl
 
+-- what is replied to a live tap that ends in a transfer
 pub reply_transfer : (rules : TokenRules) (taps : List TapIn) → ends_in_transfer rules taps ≡ true
     → live_reply rules taps ≡ reply_with Transfer 0
 unfolding live_reply
 reply_transfer rules taps ends = rw ends refl
 
+-- what is replied to a live tap that is a ride
 pub reply_ride : (rules : TokenRules) (taps : List TapIn) → ends_in_transfer rules taps ≡ false
     → live_reply rules taps
     ≡ ride_reply (option_and_then paid_by
@@ -161,7 +169,8 @@ stale_at rules state taps tap mode stands known before =
       reply = sym (reply_stale rules taps tap mode known not_after);
       stands = same rules (Some state) taps tap stands (not_later taps tap not_after)
           (λ moment. is_later-push taps tap moment
-          ∙ rw (known, ← stands.last moment) (later_stale state.last.moment moment tap.moment before));
+          ∙ rw (known, ← stands.last moment)
+          (later_stale state.last.moment moment tap.moment before));
     }
 
 both : (state : Option Kept) (tapped moment : ℕ) → is_after state tapped ≡ true
@@ -169,7 +178,8 @@ both : (state : Option Kept) (tapped moment : ℕ) → is_after state tapped ≡
 unfolding is_after
 both None tapped moment later = refl
 both (Some state) tapped moment later =
-    elim (ltb tapped moment) as (λ v. ltb tapped moment ≡ v → (ltb state.last.moment moment && v) ≡ v) [
+    elim (ltb tapped moment) as (λ v. ltb tapped moment ≡ v
+    → (ltb state.last.moment moment && v) ≡ v) [
       | true ↦ λ h. rw (lt-ltb state.last.moment moment
           (omega (arith, ltb-true tapped moment h, ltb-true state.last.moment tapped later))) refl
       | false ↦ λ h. elim (ltb state.last.moment moment) as (λ w. (w && false) ≡ false)
@@ -263,7 +273,8 @@ transfer_at rules state taps tap mode stands known listed after given =
         window = rw (windows-transfer rules taps tap _ shown ends) stands.window;
         class = λ next some. keeps_class rules _ next some (stands.class state refl);
         mode = λ trip some. let same : tap_of_trip (Some trip) ≡ Some (live_at tap.moment mode) =
-            ap tap_of_trip (sym some) in mode_of_trip rules trip (live_at tap.moment mode) same listed;
+            ap tap_of_trip (sym some) in
+            mode_of_trip rules trip (live_at tap.moment mode) same listed;
         ride_mode = λ trip some.
             let same : ride_of_trip (Some trip) ≡ Some state.ride = ap ride_of_trip (sym some) in
             ride_mode_of_trip rules trip state.ride same (stands.ride_mode _ refl);
@@ -295,12 +306,14 @@ ride_at : (rules : TokenRules) (state : Option Kept) (taps : List TapIn) (tap : 
     → IsStep rules taps tap (ride_reply (paid_by (charge terms window.rides window.cents)))
     (Some (after_trip (live_at tap.moment mode) class (with_ride terms window)))
 unfolding is_after kept_trip kept_window live_at
-ride_at rules state taps tap mode class terms window stands known listed after not_given at roomy its
+ride_at rules state taps tap mode class terms window stands known listed after not_given at roomy
+    its
     same bounds =
     let later : is_later taps tap.moment ≡ true = sym (stands.last tap.moment) ∙ after in
     let shown : live_tap taps tap ≡ Some (live_at tap.moment mode) =
     is_live taps tap mode known later in
-    let gives_none : gives rules.transfers (last_trip rules taps) (live_at tap.moment mode) ≡ false =
+    let gives_none : gives rules.transfers (last_trip rules taps) (live_at tap.moment mode)
+    ≡ false =
     rw (← stands.trip) not_given in
     let ends : ends_in_transfer rules (taps ++ tap ∷ []) ≡ false =
     ends_in_transfer-push rules taps tap _ shown ∙ gives_none in
@@ -329,7 +342,8 @@ ride_at rules state taps tap mode class terms window stands known listed after n
         ) refl;
         class = λ next some. keeps_class rules _ next some its;
         mode = λ trip some. let is : tap_of_trip (Some trip) ≡ Some (live_at tap.moment mode) =
-            ap tap_of_trip (sym some) in mode_of_trip rules trip (live_at tap.moment mode) is listed;
+            ap tap_of_trip (sym some) in
+            mode_of_trip rules trip (live_at tap.moment mode) is listed;
         ride_mode = λ trip some.
             let is : ride_of_trip (Some trip) ≡ Some (live_at tap.moment mode) =
             ap ride_of_trip (sym some) in
@@ -403,7 +417,8 @@ pub gives_same : (fares : Fares) (token : List ℕ) (account : Account) (taps : 
     (tap : LiveTap) (given : Bool)
     → account.has_window ≡ true → Stands (rules_of fares token) account taps
     → given ≡ gives (transfers_of fares account.class) (kept_trip (Some (kept_numbers account))) tap
-    → gives (transfers_of fares (class_of fares token)) (kept_trip (Some (kept_numbers account))) tap
+    → gives (transfers_of fares (class_of fares token)) (kept_trip (Some (kept_numbers account)))
+    tap
     ≡ given
 gives_same fares token account taps tap given there stands is =
     ap (λ place. gives (transfers_of fares place) (kept_trip (Some (kept_numbers account))) tap)
@@ -456,7 +471,8 @@ pub first_ride : (rules : TokenRules) (account next : Option Kept) (taps : List 
     → next ≡ Some (after_trip (live_at tap.moment mode) class
     (with_ride terms (open_window tap.moment until)))
     → IsStep rules taps tap answered next
-first_ride rules account next taps tap mode until class terms answered fresh stands known listed limit
+first_ride rules account next taps tap mode until class terms answered fresh stands known listed
+    limit
     its same bounds is_reply is_next =
     let none = gives_none-fresh rules.transfers account tap mode fresh in
     rw (is_reply, is_next)

@@ -1,12 +1,13 @@
 -- What one more tap does to the live taps, the rides and the windows of a list.
-use Rattle.std.proofs.Common.{◌≡◌, ℕ, suc, ◌+◌, Bool, true, false, not, ◌&&◌, ◌||◌, cond, List, [], ◌∷◌}
-use Rattle.std.proofs.Common.{◌++◌, length, Option, Some, None, refl, sym, ap, ◌∙◌, append_assoc}
-use Rattle.std.proofs.Common.{append-nil, nat_lt, is_some, filter, arith}
+use Rattle.std.proofs.Common.{◌≡◌, ℕ, suc, ◌+◌, Bool, true, false, not, ◌&&◌, ◌||◌, cond, List, []}
+use Rattle.std.proofs.Common.{◌∷◌, ◌++◌, length, Option, Some, None, refl, sym, ap, ◌∙◌}
+use Rattle.std.proofs.Common.{append_assoc, append-nil, nat_lt, is_some, filter, arith}
 use Rattle.std.specs.List.{list_all}
 use Rattle.std.specs.Option.{option_to_list}
 use Rattle.std.proofs.lemmas.Bool.{lt-ltb}
 use Rattle.std.proofs.lemmas.List.Elements.{filter-append}
 use Rattle.std.proofs.lemmas.List.Folds.{list_all-append}
+use Rattle.std.proofs.Math.Bool.{and-true}
 use Rattle.account_rule.specs.declared.tap.TapIn.{TapIn}
 use Rattle.account_rule.specs.Trips.{TripEnd, continues, ends_in_transfer, last_tap, last_trip}
 use Rattle.account_rule.specs.Trips.{rides, trip_of, trips}
@@ -17,10 +18,6 @@ use Rattle.account_rule.specs.Taps.{LiveTap, is_later, live, live_after, live_ta
 use Rattle.account_rule.specs.Windows.{is_within, windows}
 use Rattle.account_rule.proofs.BlockLemmas.{blocks_by-push, extend, firsts-extend}
 use Rattle.account_rule.proofs.BlockLemmas.{last_block-extend, length-push}
-
-pub and-true : (b : Bool) → (b && true) ≡ b
-and-true true = refl
-and-true false = refl
 
 -- a tap bounds what is later, if it is known
 pub is_later-push : (taps : List TapIn) (tap : TapIn) (moment : ℕ)
@@ -51,6 +48,7 @@ live_after-push earlier (first ∷ taps) tap =
     ∙ rw (append_assoc earlier (first ∷ []) taps) refl)
     ∙ sym (append_assoc (option_to_list (live_tap earlier first)) _ _)
 
+-- the live taps with one tap more
 pub live-push : (taps : List TapIn) (tap : TapIn)
     → live (taps ++ tap ∷ []) ≡ live taps ++ option_to_list (live_tap taps tap)
 unfolding live
@@ -62,6 +60,7 @@ trips-same : (rules : TokenRules) (taps : List TapIn) (tap : TapIn) → live_tap
 unfolding trips
 trips-same rules taps tap none = rw (live-push taps tap, none, append-nil) refl
 
+-- a tap that is not live leaves the last trip as it was
 pub trip-same : (rules : TokenRules) (taps : List TapIn) (tap : TapIn) → live_tap taps tap ≡ None
     → last_trip rules (taps ++ tap ∷ []) ≡ last_trip rules taps
 unfolding last_trip
@@ -89,11 +88,13 @@ rides-push rules taps tap shown some =
     rw (trips-push rules taps tap shown some)
     (firsts-extend (continues rules.transfers) (trips rules taps) shown)
 
+-- a tap that is not live leaves the windows as they were
 pub windows-same : (rules : TokenRules) (taps : List TapIn) (tap : TapIn) → live_tap taps tap ≡ None
     → windows rules (taps ++ tap ∷ []) ≡ windows rules taps
 unfolding windows
 windows-same rules taps tap none = rw (rides-same rules taps tap none) refl
 
+-- a transfer leaves the windows as they were
 pub windows-transfer : (rules : TokenRules) (taps : List TapIn) (tap : TapIn) (shown : LiveTap)
     → live_tap taps tap ≡ Some shown
     → ends_in_transfer rules (taps ++ tap ∷ []) ≡ true
@@ -102,6 +103,7 @@ unfolding windows
 windows-transfer rules taps tap shown some transfer =
     rw (rides-push rules taps tap shown some, transfer, append-nil) refl
 
+-- a ride goes on in the last window or opens one
 pub windows-ride : (rules : TokenRules) (taps : List TapIn) (tap : TapIn) (shown : LiveTap)
     → live_tap taps tap ≡ Some shown
     → ends_in_transfer rules (taps ++ tap ∷ []) ≡ false

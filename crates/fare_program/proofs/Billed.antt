@@ -17,7 +17,8 @@ shows_bill asked fares files token text well ledger none is =
       is_settled = is.is_settled;
       shows = subst (λ (b : Bool). MatchBool b (IsLedgerOver fares is.history token text)
           (IsTextOver asked.explain token fares files is.history text)) (sym ledger)
-          (subst (λ (t : Option Token). IsTextOver asked.explain t fares files is.history text) (sym none)
+          (subst (λ (t : Option Token). IsTextOver asked.explain t fares files is.history text)
+          (sym none)
           is.shows);
       ends = is.ends;
       ended = is.ended;

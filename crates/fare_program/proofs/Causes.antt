@@ -1,5 +1,6 @@
 -- The fault that is told is the right one.
-use Rattle.std.proofs.Common.{◌≡◌, ◌∙◌, ◌<◌, ◌∷◌, ℕ, List, [], Bool, true, false, Option, None, Some, Bor, arith, nat_eq, ap, inl, inr, length, map, refl, sym, subst}
+use Rattle.std.proofs.Common.{◌≡◌, ◌∙◌, ◌<◌, ◌∷◌, ℕ, List, [], true, Option}
+use Rattle.std.proofs.Common.{Some, Bor, arith, nat_eq, ap, inr, length, map, refl, sym, subst}
 use Rattle.std.specs.Prelude.{IfErr, Result, Ok, Err}
 use Rattle.std.specs.Result.{IsErrAnd}
 use Rattle.std.proofs.lemmas.Bool.Decides.{nat_tests}
@@ -8,63 +9,60 @@ use Rattle.fare_program.specs.Causes.{IsNameTold, IsRightFault, IsRightOfSorted,
 use Rattle.fare_program.specs.Options.{Asked}
 use Rattle.fare_program.specs.Program.{LoadsFiles, names_to_load}
 use Rattle.fare_program.specs.declared.fault.Fault.{Fault}
-use Rattle.fare_program.specs.declared.fault.Fault.TheVariants.{Digits, NoTable, SettleNoTable, SettleList, LedgerNoTable, LedgerList, ExplainNoToken, ExplainList, ExplainLedger, SortedNoSettle, SortedNoFile, TracedNoLedger, TracedNoSettle, TracedToken, TracedSorted, File, Table, ClassName, Unopened, Unsorted, TooManyTaps, Late, Uploads, Gather, Write, NoMemory}
+use Rattle.fare_program.specs.declared.fault.Fault.TheVariants.{Table, ClassName, Unopened}
+use Rattle.fare_program.specs.declared.fault.Fault.TheVariants.{Unsorted, TooManyTaps, Late}
+use Rattle.fare_program.specs.declared.fault.Fault.TheVariants.{Uploads, Gather, Write, NoMemory}
 use Rattle.fare_program.specs.inside.Causes.{IsOfOutput, IsRightOfText, IsRightOfUploads}
-use Rattle.fare_program.specs.inside.Fault.{IsRunFailure}
 use Rattle.program_manners.specs.Loads.{Loaded, TellsOne}
-use Rattle.program_manners.specs.Refusals.{IsFirstTableFault, IsOneOf}
+use Rattle.program_manners.specs.Refusals.{IsOneOf}
 use Rattle.program_manners.specs.declared.loading.LoadFault.{LoadFault}
 
 -- a fault that is handed on
-pub handed_on : {A : Type 0} (r : Result A Fault) (fault : Fault) (P : Fault → Type 0) → IsErrAnd r (λ e. e ≡ fault) → P fault → IfErr r P
+pub handed_on : {A : Type 0} (r : Result A Fault) (fault : Fault) (P : Fault → Type 0)
+    → IsErrAnd r (λ e. e ≡ fault) → P fault → IfErr r P
 handed_on (Ok x) fault P same is = tt
 handed_on (Err e) fault P same is = subst P (sym same) is
 
--- a write that failed, or want of memory, is right of everything
-pub output_of_uploads : (settle : Bool) (uploads : ℕ) (fault : Fault) → IsOfOutput fault → IsRightOfUploads settle uploads fault
-output_of_uploads settle uploads Write is = tt
-output_of_uploads settle uploads NoMemory is = tt
-output_of_uploads settle uploads _ is = absurd is
-
--- so is a run that failed, unless the uploads are settled
-pub run_of_uploads : (settle : Bool) (uploads : ℕ) (fault : Fault) → settle ≡ false → IsRunFailure uploads fault → IsRightOfUploads settle uploads fault
-run_of_uploads settle uploads Uploads live is = (live, is)
-run_of_uploads settle uploads (Gather why) live is = live
-run_of_uploads settle uploads NoMemory live is = tt
-run_of_uploads settle uploads _ live is = absurd is
-
-pub output_of_sorted : (names : List (List ℕ)) (known : List (Option (List ℕ))) (fault : Fault) → IsOfOutput fault → IsRightOfSorted names known fault
-output_of_sorted names known Write is = tt
-output_of_sorted names known NoMemory is = tt
-output_of_sorted names known _ is = absurd is
-
 -- more than one file was loaded under as many names
-count_is : (names : List (List ℕ)) (told told' : Option (List Loaded)) (files : List (List ℕ)) → LoadsFiles (names_to_load names) told told' files
+count_is : (names : List (List ℕ)) (told told' : Option (List Loaded)) (files : List (List ℕ))
+    → LoadsFiles (names_to_load names) told told' files
     → 1 < length files → length files ≡ length names
 count_is [] told told' files loads many = absurd (omega (arith, one, many))
   where
     one : length files ≡ 1
-    one = ap length (sym loads.bytes) ∙ length-map loads.loads _ ∙ sym (length-map loads.loads _) ∙ ap length loads.named
+    one = ap length (sym loads.bytes) ∙ length-map loads.loads _ ∙ sym (length-map loads.loads _)
+        ∙ ap length loads.named
 count_is (name ∷ names) told told' files loads many =
-    ap length (sym loads.bytes) ∙ length-map loads.loads _ ∙ sym (length-map loads.loads _) ∙ ap length loads.named ∙ length-map (name ∷ names) Some
+    ap length (sym loads.bytes) ∙ length-map loads.loads _ ∙ sym (length-map loads.loads _)
+    ∙ ap length loads.named ∙ length-map (name ∷ names) Some
 
-module _ (asked : Asked) (under : List ℕ → Option (List ℕ)) (told told' : Option (List Loaded)) (refused : Option (Option (List ℕ) × LoadFault)) where
-  pub output_is_right : (fault : Fault) → IsOfOutput fault → IsRightFault asked under told told' refused fault
+module _ (asked : Asked) (under : List ℕ → Option (List ℕ)) (told told' : Option (List Loaded))
+    (refused : Option (Option (List ℕ) × LoadFault)) where
+  pub output_is_right : (fault : Fault) → IsOfOutput fault
+      → IsRightFault asked under told told' refused fault
   output_is_right Write is = tt
   output_is_right NoMemory is = tt
   output_is_right _ is = absurd is
 
   -- what is told of the uploads that were loaded
-  pub uploads_is_right : (before after : Option (List Loaded)) (files : List (List ℕ)) → LoadsFiles (names_to_load asked.files) before after files
-      → (fault : Fault) → IsRightOfUploads asked.settle (length files) fault → IsRightFault asked under told told' refused fault
-  uploads_is_right before after files loads Uploads is = (is.0, subst (λ n. 65535 < n) (count_is asked.files before after files loads (omega (arith, is.1))) is.1)
+  pub uploads_is_right : (before after : Option (List Loaded)) (files : List (List ℕ))
+      → LoadsFiles (names_to_load asked.files) before after files
+      → (fault : Fault) → IsRightOfUploads asked.settle (length files) fault
+      → IsRightFault asked under told told' refused fault
+  uploads_is_right before after files loads Uploads is = (
+    is.0,
+    subst (λ n. 65535 < n)
+        (count_is asked.files before after files loads (omega (arith, is.1))) is.1,
+  )
   uploads_is_right before after files loads (Gather why) is = is
   uploads_is_right before after files loads Write is = tt
   uploads_is_right before after files loads NoMemory is = tt
   uploads_is_right before after files loads _ is = absurd is
 
   -- what is told of sorted files
-  pub sorted_is_right : asked.sorted ≡ true → (fault : Fault) → IsRightOfSorted asked.files (map under asked.files) fault → IsRightFault asked under told told' refused fault
+  pub sorted_is_right : asked.sorted ≡ true → (fault : Fault)
+      → IsRightOfSorted asked.files (map under asked.files) fault
+      → IsRightFault asked under told told' refused fault
   sorted_is_right sorted (Unopened file) is = (sorted, is)
   sorted_is_right sorted (Unsorted file) is = (sorted, is)
   sorted_is_right sorted TooManyTaps is = (sorted, is)
@@ -74,20 +72,26 @@ module _ (asked : Asked) (under : List ℕ → Option (List ℕ)) (told told' : 
   sorted_is_right sorted _ is = absurd is
 
   -- what is told of the table's text
-  pub text_is_right : (name text : List ℕ) → asked.table ≡ Some name → TellsOne told told' (Some name) text → asked.traced ≡ true
-      → (fault : Fault) → IsRightOfText text fault → IsRightFault asked under told told' refused fault
-  text_is_right name text named told_is traced (Table fault) is = (name, named, record { bytes = text; told_is = told_is; first = is })
+  pub text_is_right : (name text : List ℕ) → asked.table ≡ Some name
+      → TellsOne told told' (Some name) text → asked.traced ≡ true
+      → (fault : Fault) → IsRightOfText text fault
+      → IsRightFault asked under told told' refused fault
+  text_is_right name text named told_is traced (Table fault) is =
+      (name, named, record { bytes = text; told_is = told_is; first = is })
   text_is_right name text named told_is traced ClassName is = traced
   text_is_right name text named told_is traced NoMemory is = tt
   text_is_right name text named told_is traced _ is = absurd is
 
 -- a file of the words, or standard input
-pub named_one : (asked : Asked) (names : List (List ℕ)) (name : List ℕ) → asked.files ≡ names → IsOneOf name names → IsNameTold asked name
+pub named_one : (asked : Asked) (names : List (List ℕ)) (name : List ℕ) → asked.files ≡ names
+    → IsOneOf name names → IsNameTold asked name
 named_one asked [] name are one = absurd one
-named_one asked (n ∷ names) name are one = inr (subst (λ (ns : List (List ℕ)). IsOneOf name (names_told ns)) (sym are) one)
+named_one asked (n ∷ names) name are one =
+    inr (subst (λ (ns : List (List ℕ)). IsOneOf name (names_told ns)) (sym are) one)
 
 -- without names no file is asked for
-pub none_named : (names : List (Bor (List ℕ))) → nat_eq (length names) 0 ≡ true → map (λ n. n.now) names ≡ []
+pub none_named : (names : List (Bor (List ℕ))) → nat_eq (length names) 0 ≡ true
+    → map (λ n. n.now) names ≡ []
 none_named [] is = refl
 none_named (n ∷ names) is =
     let zero : length (n ∷ names) ≡ 0 = grind (arith, nat_tests) in

@@ -10,10 +10,12 @@ use Rattle.tap_views.specs.declared.token.Token.{Token}
 use Rattle.fare_service.specs.Outcomes.{OutcomeView}
 use Rattle.fare_texts.specs.Explained.{IsExplained, IsExplainedOf, IsExplainedOver}
 
-pub explained_same : (fares : Fares) (outcome : OutcomeView) (history : List Entry) (token : Token) (text : List ℕ)
+pub explained_same : (fares : Fares) (outcome : OutcomeView) (history : List Entry) (token : Token)
+    (text : List ℕ)
     → own token (all_entries outcome.books) ≡ own token history
     → ((book : Book) → slice_get outcome.books 0 ≡ Some book → book.table ≡ fares)
     → IsExplainedOf outcome.books token text → IsExplainedOver fares history token text
 explained_same fares outcome history token text same table is =
     subst (λ (es : List Entry). IsExplained fares token es text) same
-    (subst (λ (f : Fares). IsExplained f token (own token (all_entries outcome.books)) text) (table is.first is.stands_first) is.over)
+    (subst (λ (f : Fares). IsExplained f token (own token (all_entries outcome.books)) text)
+    (table is.first is.stands_first) is.over)

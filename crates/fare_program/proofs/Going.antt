@@ -3,7 +3,7 @@ use Rattle.std.proofs.Common.{◌≡◌, ◌+◌, ◌∙◌, ℕ, List, [], ◌�
 use Rattle.std.proofs.Common.{append_assoc, add-zero, length, refl, arith}
 use Rattle.fare_program.specs.Lines.{tap_line}
 use Rattle.fare_program.specs.Listing.{Listed, liveness_of}
-use Rattle.fare_program.specs.inside.Listing.{KeptListing, StandsFor}
+use Rattle.fare_program.specs.Listing.{KeptListing, StandsFor}
 use Rattle.fare_program.specs.Uploads.{tap_lines}
 use Rattle.fare_program.specs.inside.Uploads.{Lists}
 
@@ -31,7 +31,8 @@ pub lists_on : (kept between kept' : KeptListing) (text middle text' : List ℕ)
     → Lists kept between text middle upload number taps → next ≡ number + length taps
     → Lists between kept' middle text' upload next more
     → Lists kept kept' text text' upload number (taps ++ more)
-lists_on kept between kept' text middle text' upload number next taps more first is second before stands =
+lists_on kept between kept' text middle text' upload number next taps more first is second before
+    stands =
     let (lines, here) = first before stands in
     let (others, there) = second (before ++ taps) here in (
       others ∙ rw (lines, is) (append_assoc text _ _

@@ -1,5 +1,7 @@
 -- The last known moments stand for the taps so far, and for one more.
-use Rattle.std.proofs.Common.{◌≡◌, ◌+◌, ◌∙◌, ◌&&◌, ℕ, Bool, true, false, cond, if◌then◌else◌, List, [], ◌∷◌, ◌++◌, length, filter, add-zero, zero-add, append-nil, Option, None, Some, nat_lt, refl, sym, ap, ap₂, arith, append_assoc}
+use Rattle.std.proofs.Common.{◌≡◌, ◌+◌, ◌∙◌, ◌&&◌, ℕ, Bool, true, false, cond, if◌then◌else◌, List}
+use Rattle.std.proofs.Common.{[], ◌∷◌, ◌++◌, length, filter, add-zero, zero-add, append-nil, Option}
+use Rattle.std.proofs.Common.{None, Some, nat_lt, refl, sym, ap, ap₂, arith, append_assoc}
 use Rattle.std.specs.Str.{bytes_eq}
 use Rattle.std.specs.Map.{lookup}
 use Rattle.std.specs.Ordering.{is_eq, nat_cmp}
@@ -11,107 +13,148 @@ use Rattle.std.proofs.lemmas.List.Folds.{list_all-append}
 use Rattle.std.proofs.lemmas.List.Sums.{sum_by-append}
 use Rattle.std.proofs.lemmas.Slice.Eq.{bytes_eq-Decides}
 use Rattle.std.proofs.lemmas.Map.Text.{is_eq-slice_cmp}
+use Rattle.std.proofs.Math.Bool.{and-true}
 use Rattle.tap_views.specs.Layout.{Tap, num}
-use Rattle.fare_program.specs.declared.listing.Liveness.{Liveness}
-use Rattle.fare_program.specs.declared.listing.Liveness.TheVariants.{Live, Stale, Unknown}
+use Rattle.fare_program.specs.declared.listing.Word.{Word}
+use Rattle.fare_program.specs.declared.listing.Word.TheVariants.{Live, Stale, Unknown}
 use Rattle.fare_program.specs.declared.listing.ListCounts.{ListCounts}
-use Rattle.fare_program.specs.Listing.{Listed, are_before, count_of, counts_of, is_same_liveness, known_of, listed_moment, liveness_of, livenesses_after}
-use Rattle.fare_program.specs.inside.Listing.{StandsFor, is_after_last, last_of}
+use Rattle.fare_program.specs.Listing.{Listed, are_before, count_of, counts_of, is_same_liveness}
+use Rattle.fare_program.specs.Listing.{known_of, listed_moment, liveness_of, livenesses_after}
+use Rattle.fare_program.specs.Listing.{StandsFor, is_after_last, last_of}
 use Rattle.fare_program.specs.inside.Listing.{liveness_counted, last_after, liveness_by}
 
 -- the map's own look-up
-pub last_of-get : (last : List (List ℕ × ℕ)) (token : List ℕ) → last_of last token ≡ lookup (λ k. is_eq (slice_cmp nat_cmp token k)) last
+pub last_of-get : (last : List (List ℕ × ℕ)) (token : List ℕ)
+    → last_of last token ≡ lookup (λ k. is_eq (slice_cmp nat_cmp token k)) last
 last_of-get [] token = refl
-last_of-get (e ∷ es) token = ap₂ (λ b o. cond b (Some e.1) o) (sym (is_eq-slice_cmp token e.0)) (last_of-get es token)
+last_of-get (e ∷ es) token =
+    ap₂ (λ b o. cond b (Some e.1) o) (sym (is_eq-slice_cmp token e.0)) (last_of-get es token)
 
 -- the livenesses of one more tap
-livenesses-push : (before taps : List Listed) (tap : Listed) → livenesses_after before (taps ++ tap ∷ []) ≡ livenesses_after before taps ++ liveness_of (before ++ taps) tap ∷ []
+livenesses-push : (before taps : List Listed) (tap : Listed)
+    → livenesses_after before (taps ++ tap ∷ [])
+    ≡ livenesses_after before taps ++ liveness_of (before ++ taps) tap ∷ []
 livenesses-push before [] tap = rw append-nil refl
-livenesses-push before (t ∷ taps) tap = rw (livenesses-push (before ++ t ∷ []) taps tap, append_assoc) refl
+livenesses-push before (t ∷ taps) tap =
+    rw (livenesses-push (before ++ t ∷ []) taps tap, append_assoc) refl
 
 -- what a known tap of the token changes, where every known tap so far is before m or not
 same_token : (o : Option ℕ) (moment m : ℕ) (all : Bool) → is_after_last o m ≡ all
-    → is_after_last (if is_after_last o moment then Some moment else o) m ≡ (all && (nat_lt moment m && true))
+    → is_after_last (if is_after_last o moment then Some moment else o) m
+    ≡ (all && (nat_lt moment m && true))
 same_token None moment m all e = grind (arith, nat_tests)
 same_token (Some l) moment m all e = grind (arith, nat_tests)
 
 -- a map after an insertion at the token
 pub last_of-insert : (old new : List (List ℕ × ℕ)) (token other : List ℕ) (moment : ℕ)
     → lookup (λ k. is_eq (slice_cmp nat_cmp other k)) new
-    ≡ cond (is_eq (slice_cmp nat_cmp token other)) (Some moment) (lookup (λ k. is_eq (slice_cmp nat_cmp other k)) old)
+    ≡ cond (is_eq (slice_cmp nat_cmp token other)) (Some moment)
+    (lookup (λ k. is_eq (slice_cmp nat_cmp other k)) old)
     → last_of new other ≡ (if bytes_eq token other then Some moment else last_of old other)
 last_of-insert old new token other moment e =
-    last_of-get new other ∙ e ∙ ap₂ (λ b o. cond b (Some moment) o) (is_eq-slice_cmp token other) (sym (last_of-get old other))
-
-and-true : (b : Bool) → b ≡ (b && true)
-and-true true = refl
-and-true false = refl
+    last_of-get new other ∙ e
+    ∙ ap₂ (λ b o. cond b (Some moment) o) (is_eq-slice_cmp token other)
+    (sym (last_of-get old other))
 
 abbrev is_known_of : List ℕ → Listed → Bool
 is_known_of token t = t.known && bytes_eq t.tap.token token
 
 -- one more tap at the token `other`, by whether it is known, and whether it is that token's
-last-push : (last : List (List ℕ × ℕ)) (tap : Tap) (other : List ℕ) (moment : ℕ) (all known same : Bool)
-    → is_after_last (last_of last other) moment ≡ all → bytes_eq tap.token other ≡ same → (same ≡ true → tap.token ≡ other)
-    → is_after_last (last_after (liveness_by last (record { tap = tap; known = known })) tap.token (num tap.moment) last other) moment
-    ≡ (all && are_before moment (filter (is_known_of other) (record { tap = tap; known = known } ∷ [])))
-last-push last tap other moment all false same e is eq = e ∙ and-true all
-last-push last tap other moment all true false e is eq = other_token (is_after_last (last_of last tap.token) (num tap.moment))
+last-push : (last : List (List ℕ × ℕ)) (tap : Tap) (other : List ℕ) (moment : ℕ)
+    (all known same : Bool)
+    → is_after_last (last_of last other) moment ≡ all → bytes_eq tap.token other ≡ same
+    → (same ≡ true → tap.token ≡ other)
+    → is_after_last
+    (last_after (liveness_by last (record { tap = tap; known = known })) tap.token (num tap.moment)
+    last other) moment
+    ≡ (all && are_before moment
+    (filter (is_known_of other) (record { tap = tap; known = known } ∷ [])))
+last-push last tap other moment all false same e is eq = e ∙ sym (and-true all)
+last-push last tap other moment all true false e is eq =
+    other_token (is_after_last (last_of last tap.token) (num tap.moment))
   where
-    other_token : (live : Bool) → is_after_last (last_after (if live then Live else Stale) tap.token (num tap.moment) last other) moment
-        ≡ (all && are_before moment (filter (is_known_of other) (record { tap = tap; known = true } ∷ [])))
-    other_token true = rw is (e ∙ and-true all)
-    other_token false = rw is (e ∙ and-true all)
-last-push last tap other moment all true true e is eq = rw is (own_token (is_after_last (last_of last tap.token) (num tap.moment)) refl)
+    other_token : (live : Bool)
+        → is_after_last
+        (last_after (if live then Live else Stale) tap.token (num tap.moment) last other) moment
+        ≡ (all && are_before moment
+        (filter (is_known_of other) (record { tap = tap; known = true } ∷ [])))
+    other_token true = rw is (e ∙ sym (and-true all))
+    other_token false = rw is (e ∙ sym (and-true all))
+last-push last tap other moment all true true e is eq =
+    rw is (own_token (is_after_last (last_of last tap.token) (num tap.moment)) refl)
   where
     here : last_of last tap.token ≡ last_of last other
     here = ap (last_of last) (eq refl)
 
-    step : is_after_last (if is_after_last (last_of last tap.token) (num tap.moment) then Some (num tap.moment) else last_of last tap.token) moment
+    step : is_after_last
+        (if is_after_last (last_of last tap.token) (num tap.moment) then Some
+        (num tap.moment) else last_of last tap.token) moment
         ≡ (all && (nat_lt (num tap.moment) moment && true))
-    step = same_token (last_of last tap.token) (num tap.moment) moment all (ap (λ o. is_after_last o moment) here ∙ e)
+    step = same_token (last_of last tap.token) (num tap.moment) moment all
+        (ap (λ o. is_after_last o moment) here ∙ e)
 
     own_token : (live : Bool) → is_after_last (last_of last tap.token) (num tap.moment) ≡ live
-        → is_after_last (if is_same_liveness Live (if live then Live else Stale) && true then Some (num tap.moment) else last_of last other) moment
+        → is_after_last
+        (if is_same_liveness Live (if live then Live else Stale) && true then Some
+        (num tap.moment) else last_of last other) moment
         ≡ (all && (nat_lt (num tap.moment) moment && true))
     own_token true so = rw so at step
     own_token false so = rw (← here) (rw so at step)
 
 -- the counts of one more tap
-count-push : (liveness : Liveness) (taps : List Listed) (tap : Listed) → count_of liveness (taps ++ tap ∷ []) ≡ count_of liveness taps + (if is_same_liveness liveness (liveness_of taps tap) then 1 else 0)
+count-push : (liveness : Word) (taps : List Listed) (tap : Listed)
+    → count_of liveness (taps ++ tap ∷ [])
+    ≡ count_of liveness taps + (if is_same_liveness liveness (liveness_of taps tap) then 1 else 0)
 count-push liveness taps tap =
-    rw (livenesses-push [] taps tap) (sum_by-append (λ x. cond (is_same_liveness liveness x) 1 0) (livenesses_after [] taps) (liveness_of taps tap ∷ []) ∙ rw zero-add refl)
+    rw (livenesses-push [] taps tap)
+    (sum_by-append (λ x. cond (is_same_liveness liveness x) 1 0) (livenesses_after [] taps)
+    (liveness_of taps tap ∷ []) ∙ rw zero-add refl)
 
-counts-push : (taps : List Listed) (tap : Listed) (liveness : Liveness) → liveness ≡ liveness_of taps tap → liveness_counted liveness (counts_of taps) ≡ counts_of (taps ++ tap ∷ [])
+counts-push : (taps : List Listed) (tap : Listed) (liveness : Word)
+    → liveness ≡ liveness_of taps tap
+    → liveness_counted liveness (counts_of taps) ≡ counts_of (taps ++ tap ∷ [])
 counts-push taps tap liveness is = go liveness is
   where
     len : length (taps ++ tap ∷ []) ≡ length taps + 1
     len = length-append taps (tap ∷ [])
 
-    counts_are : (n a b c : ℕ) → length (taps ++ tap ∷ []) ≡ n → count_of Live (taps ++ tap ∷ []) ≡ a
+    counts_are : (n a b c : ℕ) → length (taps ++ tap ∷ []) ≡ n
+        → count_of Live (taps ++ tap ∷ []) ≡ a
         → count_of Stale (taps ++ tap ∷ []) ≡ b → count_of Unknown (taps ++ tap ∷ []) ≡ c
         → record { taps = n; live = a; stale = b; unknown = c } ≡ counts_of (taps ++ tap ∷ [])
     counts_are n a b c en ea eb ec = rw (en, ea, eb, ec) refl
 
-    one : (w : Liveness) (liveness : Liveness) → liveness ≡ liveness_of taps tap → count_of w (taps ++ tap ∷ []) ≡ count_of w taps + (if is_same_liveness w liveness then 1 else 0)
+    one : (w : Word) (liveness : Word) → liveness ≡ liveness_of taps tap
+        → count_of w (taps ++ tap ∷ [])
+        ≡ count_of w taps + (if is_same_liveness w liveness then 1 else 0)
     one w liveness is = rw is (count-push w taps tap)
 
-    go : (liveness : Liveness) → liveness ≡ liveness_of taps tap → liveness_counted liveness (counts_of taps) ≡ counts_of (taps ++ tap ∷ [])
-    go Live is = counts_are _ _ _ _ len (one Live Live is) (one Stale Live is ∙ add-zero _) (one Unknown Live is ∙ add-zero _)
-    go Stale is = counts_are _ _ _ _ len (one Live Stale is ∙ add-zero _) (one Stale Stale is) (one Unknown Stale is ∙ add-zero _)
-    go Unknown is = counts_are _ _ _ _ len (one Live Unknown is ∙ add-zero _) (one Stale Unknown is ∙ add-zero _) (one Unknown Unknown is)
+    go : (liveness : Word) → liveness ≡ liveness_of taps tap
+        → liveness_counted liveness (counts_of taps) ≡ counts_of (taps ++ tap ∷ [])
+    go Live is = counts_are _ _ _ _ len (one Live Live is) (one Stale Live is ∙ add-zero _)
+        (one Unknown Live is ∙ add-zero _)
+    go Stale is = counts_are _ _ _ _ len (one Live Stale is ∙ add-zero _) (one Stale Stale is)
+        (one Unknown Stale is ∙ add-zero _)
+    go Unknown is = counts_are _ _ _ _ len (one Live Unknown is ∙ add-zero _)
+        (one Stale Unknown is ∙ add-zero _) (one Unknown Unknown is)
 
-pub stands-push : (last last' : List (List ℕ × ℕ)) (counts counts' : ListCounts) (taps : List Listed) (tap : Listed) (liveness : Liveness)
-    → liveness ≡ liveness_by last tap → ((other : List ℕ) → last_of last' other ≡ last_after liveness tap.tap.token (listed_moment tap) last other)
-    → counts' ≡ liveness_counted liveness counts → StandsFor (record { last = last; counts = counts }) taps
+pub stands-push : (last last' : List (List ℕ × ℕ)) (counts counts' : ListCounts)
+    (taps : List Listed) (tap : Listed) (liveness : Word)
+    → liveness ≡ liveness_by last tap
+    → ((other : List ℕ) → last_of last' other
+    ≡ last_after liveness tap.tap.token (listed_moment tap) last other)
+    → counts' ≡ liveness_counted liveness counts
+    → StandsFor (record { last = last; counts = counts }) taps
     → StandsFor (record { last = last'; counts = counts' }) (taps ++ tap ∷ [])
 stands-push last last' counts counts' taps tap liveness is after counted_is stands = record {
   last = λ other moment.
       rw (after other, is)
-      (last-push last tap.tap other moment _ tap.known (bytes_eq tap.tap.token other) (stands.last other moment) refl (bytes_eq-Decides tap.tap.token other).0
+      (last-push last tap.tap other moment _ tap.known (bytes_eq tap.tap.token other)
+      (stands.last other moment) refl (bytes_eq-Decides tap.tap.token other).0
       ∙ sym (list_all-append (λ t. nat_lt (listed_moment t) moment) (known_of other taps) _)
       ∙ ap (are_before moment) (sym (filter-append (is_known_of other) taps (tap ∷ []))));
-  counts = counted_is ∙ ap (liveness_counted liveness) stands.counts ∙ counts-push taps tap liveness (is ∙ by_list);
+  counts = counted_is ∙ ap (liveness_counted liveness) stands.counts
+      ∙ counts-push taps tap liveness (is ∙ by_list);
 }
   where
     by_list : liveness_by last tap ≡ liveness_of taps tap

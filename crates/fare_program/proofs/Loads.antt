@@ -1,17 +1,15 @@
 -- One more file that was loaded.
-use Rattle.std.proofs.Common.{◌≡◌, ◌∙◌, ◌<◌, ℕ, List, [], ◌∷◌, ◌++◌, length, map, refl, ap, arith, append_assoc, Option, Some, None, Bor}
+use Rattle.std.proofs.Common.{◌≡◌, ◌∙◌, ◌<◌, ℕ, List, [], ◌∷◌, ◌++◌, length, map, refl, ap, arith}
+use Rattle.std.proofs.Common.{Option, Some, Bor}
 use Rattle.std.proofs.lemmas.List.{map-append}
 use Rattle.fare_program.specs.Program.{LoadsFiles, names_to_load}
-use Rattle.program_manners.specs.Loads.{Loaded, Tells, TellsOne}
+use Rattle.program_manners.specs.Loads.{Loaded, TellsOne}
+use Rattle.program_manners.proofs.LoadedFiles.{tells_on}
 
-tells_on : (told told' told'' : Option (List Loaded)) (loads more : List Loaded) → Tells told told' loads → Tells told' told'' more → Tells told told'' (loads ++ more)
-tells_on None told' told'' loads more first then = tt
-tells_on (Some before) None told'' loads more first then = elim first [ ]
-tells_on (Some before) (Some now) None loads more first then = elim then [ ]
-tells_on (Some before) (Some now) (Some after) loads more first then = then ∙ ap (λ xs. xs ++ more) first ∙ append_assoc before loads more
-
-pub loads_push : (names : List (Option (List ℕ))) (name : Option (List ℕ)) (told told' told'' : Option (List Loaded)) (files : List (List ℕ)) (bytes : List ℕ)
-    → LoadsFiles names told told' files → TellsOne told' told'' name bytes → LoadsFiles (names ++ name ∷ []) told told'' (files ++ bytes ∷ [])
+pub loads_push : (names : List (Option (List ℕ))) (name : Option (List ℕ))
+    (told told' told'' : Option (List Loaded)) (files : List (List ℕ)) (bytes : List ℕ)
+    → LoadsFiles names told told' files → TellsOne told' told'' name bytes
+    → LoadsFiles (names ++ name ∷ []) told told'' (files ++ bytes ∷ [])
 loads_push names name told told' told'' files bytes all one = record {
   loads = all.loads ++ record { name = name; bytes = bytes } ∷ [];
   named = map-append (λ load. load.name) all.loads _ ∙ ap (λ xs. xs ++ name ∷ []) all.named;
@@ -19,10 +17,12 @@ loads_push names name told told' told'' files bytes all one = record {
   told_is = tells_on told told' told'' all.loads _ all.told_is one;
 }
 
-names_are : (names : List (Bor (List ℕ))) → map (λ n. Some n.now) names ≡ map Some (map (λ n. n.now) names)
+names_are : (names : List (Bor (List ℕ)))
+    → map (λ n. Some n.now) names ≡ map Some (map (λ n. n.now) names)
 names_are [] = refl
 names_are (n ∷ names) = ap (λ xs. Some n.now ∷ xs) (names_are names)
 
-pub names_to_load_are : (names : List (Bor (List ℕ))) → 0 < length names → map (λ n. Some n.now) names ≡ names_to_load (map (λ n. n.now) names)
+pub names_to_load_are : (names : List (Bor (List ℕ))) → 0 < length names
+    → map (λ n. Some n.now) names ≡ names_to_load (map (λ n. n.now) names)
 names_to_load_are [] some = absurd (omega arith)
 names_to_load_are (n ∷ names) some = names_are (n ∷ names)

@@ -1,13 +1,17 @@
 -- What was asked for was done, of sorted files.
-use Rattle.std.proofs.Common.{◌≡◌, ℕ, List, Bool, true, false, not, Option, Some, None, map, refl, subst, sym}
+use Rattle.std.proofs.Common.{◌≡◌, ℕ, List, Bool, true, false, not, Option, Some, None, map, refl}
+use Rattle.std.proofs.Common.{subst, sym}
 use Rattle.std.specs.Prelude.{MatchBool, is_some, ◌||◌}
 use Rattle.fare_table.specs.Fares.{Fares}
 use Rattle.tap_views.specs.declared.token.Token.{Token}
 use Rattle.program_manners.specs.Loads.{Loaded}
-use Rattle.fare_program.specs.Fault.{charge_mistake_of, explain_mistake, first_of_two, ledger_mistake, mistake}
-use Rattle.fare_program.specs.Fault.{settle_mistake, sorted_mistake, sorted_mistake_of, token_mistake, traced_mistake, traced_mistake_of}
+use Rattle.fare_program.specs.Fault.{charge_mistake_of, explain_mistake, first_of_two}
+use Rattle.fare_program.specs.Fault.{ledger_mistake, mistake}
+use Rattle.fare_program.specs.Fault.{settle_mistake, sorted_mistake, sorted_mistake_of}
+use Rattle.fare_program.specs.Fault.{token_mistake, traced_mistake, traced_mistake_of}
 use Rattle.fare_program.specs.Options.{Asked}
-use Rattle.fare_program.specs.Program.{Does, DoesUntraced, GaveUp, GaveUpOn, IsTokenIn, LoadsTable, RunsListing, RunsService, RunsSorted, RunsTraced}
+use Rattle.fare_program.specs.Program.{Does, DoesUntraced, IsTokenIn, LoadsTable}
+use Rattle.fare_program.specs.Program.{RunsListing, RunsService, RunsSorted, RunsTraced}
 use Rattle.fare_program.specs.Settling.{ShowsSettled}
 use Rattle.fare_program.specs.declared.fault.Fault.{Fault}
 use Rattle.fare_program.specs.declared.fault.Fault.TheVariants.{SettleNoTable, SettleList}
@@ -42,7 +46,8 @@ charges asked right sorted =
     let (ledger, three) = neither (ledger_mistake asked) _ two in
     let (explain, four) = neither (explain_mistake asked) _ three in
     let (live, five) = neither (sorted_mistake asked) (traced_mistake asked) four in
-    has_table_named asked.settle asked.list asked.table (settles asked.sorted asked.settle asked.files sorted live)
+    has_table_named asked.settle asked.list asked.table
+    (settles asked.sorted asked.settle asked.files sorted live)
     settle
 
 loaded_table : (table : Option (List ℕ)) (told told' : Option (List Loaded)) (fares : Option Fares)
@@ -71,7 +76,8 @@ traced_table asked right traced =
     asked.settle asked.sorted asked.token traced five) settle).1
 
 -- a traced ledger was asked for, and written
-pub does_traced : (asked : Asked) (known : List ℕ → Option (List ℕ)) (told told' : Option (List Loaded))
+pub does_traced : (asked : Asked) (known : List ℕ → Option (List ℕ))
+    (told told' : Option (List Loaded))
     (out out' : Option (List ℕ)) (well : Bool) → asked.traced ≡ true
     → RunsTraced asked told told' out out' well → Does asked known told told' out out' well
 does_traced asked known told told' out out' well traced runs =
@@ -79,7 +85,8 @@ does_traced asked known told told' out out' well traced runs =
     (DoesUntraced asked known told told' out out' well)) (sym traced) runs
 
 -- what was done is no traced ledger, and none was asked for
-pub does_untraced : (asked : Asked) (known : List ℕ → Option (List ℕ)) (told told' : Option (List Loaded))
+pub does_untraced : (asked : Asked) (known : List ℕ → Option (List ℕ))
+    (told told' : Option (List Loaded))
     (out out' : Option (List ℕ)) (well : Bool) → asked.traced ≡ false
     → DoesUntraced asked known told told' out out' well → Does asked known told told' out out' well
 does_untraced asked known told told' out out' well untraced done =
@@ -99,7 +106,8 @@ no_list true table none some = cc
 no_list false None none some = cc
 no_list false (Some name) none some = refl
 
-pub does_sorted : (asked : Asked) (known : List ℕ → Option (List ℕ)) (told between : Option (List Loaded))
+pub does_sorted : (asked : Asked) (known : List ℕ → Option (List ℕ))
+    (told between : Option (List Loaded))
     (fares : Option Fares) (token : Option Token) (out out' : Option (List ℕ)) (well : Bool)
     → mistake asked ≡ None → asked.sorted ≡ true → LoadsTable asked.table told between fares
     → IsTokenIn asked.token token
@@ -110,7 +118,8 @@ does_sorted asked known told between fares token out out' well right sorted load
     let (list, some) = charges asked right sorted in
     let (f, is) = has_table asked told between fares right sorted loads in
     let done = made.1 f is in
-    subst (λ (b : Bool). MatchBool b (RunsListing asked.table asked.files told between out out' well)
+    subst (λ (b : Bool). MatchBool b
+    (RunsListing asked.table asked.files told between out out' well)
     (MatchBool asked.sorted (RunsSorted asked known told between out out' well)
     (RunsService asked told between out out' well)))
     (sym (no_list asked.list asked.table list some))
@@ -121,15 +130,9 @@ does_sorted asked known told between fares token out out' well right sorted load
       token = token;
       is_token = is_token;
       text = done.text;
-      shows = λ files are. subst (λ (b : Bool). ShowsSettled asked f files token done.text b) (sym made.0)
+      shows = λ files are. subst (λ (b : Bool). ShowsSettled asked f files token done.text b)
+          (sym made.0)
           (done.shows files are);
       written = done.written;
       is_well = made.0;
     }))
-
--- nothing is written of what was given up at once
-pub gave_up_on : (asked : Asked) (fault : Fault) (said said' : Option (List ℕ)) (failed : Bool)
-    (out out' : Option (List ℕ)) → GaveUp fault said said' failed out out'
-    → GaveUpOn asked fault said said' failed out out'
-gave_up_on asked fault said said' failed out out' is =
-    record { line_told = is.line_told; kept = λ write late. is.kept write }

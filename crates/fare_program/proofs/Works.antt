@@ -1,12 +1,13 @@
 -- What was asked for was done, of files that were loaded or settled while they were read.
-use Rattle.std.proofs.Common.{◌≡◌, ◌∙◌, ◌<◌, ◌++◌, ◌∷◌, ℕ, List, Bool, true, false, not, Option, Some, None, refl, ap, sym}
-use Rattle.std.proofs.Common.{arith, inl, inr, length, map, subst, []}
+use Rattle.std.proofs.Common.{◌≡◌, ◌∙◌, ◌<◌, ◌++◌, ◌∷◌, ℕ, List, Bool, true, false, not, Option}
+use Rattle.std.proofs.Common.{Some, None, refl, ap, sym, arith, inl, inr, length, map, subst, []}
 use Rattle.std.specs.Prelude.{MatchBool, is_some, ◌||◌, ◌⊎◌}
 use Rattle.std.specs.Io.KnownBytes.{Appends, Keeps}
 use Rattle.fare_table.specs.Fares.{Fares}
 use Rattle.tap_views.specs.declared.token.Token.{Token}
 use Rattle.fare_program.specs.Options.{Asked}
-use Rattle.fare_program.specs.Program.{DoesUntraced, IsTokenIn, LoadsFiles, LoadsTable, RunsListing, RunsService, RunsSorted, ShowsAsked, names_to_load}
+use Rattle.fare_program.specs.Program.{DoesUntraced, IsTokenIn, LoadsFiles, LoadsTable, RunsListing}
+use Rattle.fare_program.specs.Program.{RunsService, RunsSorted, ShowsAsked, names_to_load}
 use Rattle.fare_program.specs.Uploads.{IsListing}
 use Rattle.fare_program.specs.inside.ChargedAhead.{IsChargedAhead}
 use Rattle.fare_program.proofs.PostedTexts.{settled_asked}
@@ -37,15 +38,19 @@ lists_by false None told told' fares loads is = refl
 lists_by false (Some name) told told' fares loads (inl e) = cc
 lists_by false (Some name) told told' fares loads (inr e) = let some = loads.4 in cc
 
-module _ (asked : Asked) (known : List ℕ → Option (List ℕ)) (told between told' : Option (List Loaded))
-    (out mid out' : Option (List ℕ)) (well : Bool) (fares : Option Fares) (loads : LoadsTable asked.table told between fares)
+module _ (asked : Asked) (known : List ℕ → Option (List ℕ))
+    (told between told' : Option (List Loaded))
+    (out mid out' : Option (List ℕ)) (well : Bool) (fares : Option Fares)
+    (loads : LoadsTable asked.table told between fares)
     (kept : Keeps out mid) where
-  pub does_list : (files : List (List ℕ)) → LoadsFiles (names_to_load asked.files) between told' files
+  pub does_list : (files : List (List ℕ))
+      → LoadsFiles (names_to_load asked.files) between told' files
       → (asked.list ≡ true) ⊎ (fares ≡ None)
       → (text : List ℕ) × IsListing fares files text well × Appends mid out' text
       → DoesUntraced asked known told told' out out' well
   does_list files loaded flag done =
-      subst (λ (b : Bool). MatchBool b (RunsListing asked.table asked.files told told' out out' well)
+      subst (λ (b : Bool). MatchBool b
+      (RunsListing asked.table asked.files told told' out out' well)
       (MatchBool asked.sorted (RunsSorted asked known told told' out out' well)
       (RunsService asked told told' out out' well)))
       (sym (lists_by asked.list asked.table told between fares loads flag)) (record {
@@ -63,7 +68,8 @@ module _ (asked : Asked) (known : List ℕ → Option (List ℕ)) (told between 
       → (text : List ℕ) × ShowsAsked asked f files token text well × Appends mid out' text
       → DoesUntraced asked known told told' out out' well
   does_charge f files token is loaded is_token flag live done =
-      subst (λ (b : Bool). MatchBool b (RunsListing asked.table asked.files told told' out out' well)
+      subst (λ (b : Bool). MatchBool b
+      (RunsListing asked.table asked.files told told' out out' well)
       (MatchBool asked.sorted (RunsSorted asked known told told' out out' well)
       (RunsService asked told told' out out' well)))
       (sym (serves asked.list asked.table told between fares f flag loads is))
@@ -97,7 +103,8 @@ loads_of (name ∷ names) (file ∷ files) same =
       ap (λ (fs : List (List ℕ)). file ∷ fs) bytes,
     )
 
-named_length : (names : List (List ℕ)) → 0 < length names → length (names_to_load names) ≡ length names
+named_length : (names : List (List ℕ)) → 0 < length names
+    → length (names_to_load names) ≡ length names
 named_length [] some = absurd (omega (arith, some))
 named_length (name ∷ names) some = omega (arith, all names)
   where
@@ -106,7 +113,8 @@ named_length (name ∷ names) some = omega (arith, all names)
     all (x ∷ others) = omega (arith, all others)
 
 -- a source that keeps no loads tells nothing of them
-pub untold : (names : List (List ℕ)) (told : Option (List Loaded)) (files : List (List ℕ)) → told ≡ None
+pub untold : (names : List (List ℕ)) (told : Option (List Loaded)) (files : List (List ℕ))
+    → told ≡ None
     → 0 < length files → length files ≡ length names
     → LoadsFiles (names_to_load names) told told files
 untold names told files none some same =
@@ -118,13 +126,16 @@ untold names told files none some same =
       told_is = subst (λ (t : Option (List Loaded)). Tells t t loads) (sym none) tt;
     }
 
-pub does_ahead : (asked : Asked) (known : List ℕ → Option (List ℕ)) (keeps : Bool) (told between : Option (List Loaded))
+pub does_ahead : (asked : Asked) (known : List ℕ → Option (List ℕ)) (keeps : Bool)
+    (told between : Option (List Loaded))
     (table : Option Fares) (token : Option Token) (out out' : Option (List ℕ)) (well : Bool)
     → LoadsTable asked.table told between table → (keeps ≡ false → between ≡ None)
     → IsTokenIn asked.token token → IsChargedAhead asked keeps table token out out' well
     → Keeps out out → asked.sorted ≡ false → DoesUntraced asked known told between out out' well
-does_ahead asked known keeps told between table token out out' well loads none is_token is kept live =
-    does_charge asked known told between between out out out' well table loads kept is.fares is.files token
+does_ahead asked known keeps told between table token out out' well loads none is_token is kept
+    live =
+    does_charge asked known told between between out out out' well table loads kept is.fares
+    is.files token
     is.is_table
     (untold asked.files between is.files (none is.kept_none) is.some is.number) is_token
     is.lists_none live (

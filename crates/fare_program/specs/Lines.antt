@@ -4,18 +4,18 @@ use Rattle.hex.specs.Hex.{encode_lower}
 use Rattle.tap_views.specs.Layout.{Tap, num}
 use Rattle.tap_views.specs.Names.{fault_name}
 use Rattle.tap_views.specs.declared.fault.LayoutFault.{LayoutFault}
-use Rattle.fare_program.specs.declared.listing.Liveness.{Liveness}
-use Rattle.fare_program.specs.declared.listing.Liveness.TheVariants.{Live, Stale, Unknown}
+use Rattle.fare_program.specs.declared.listing.Word.{Word}
+use Rattle.fare_program.specs.declared.listing.Word.TheVariants.{Live, Stale, Unknown}
 use Rattle.fare_program.specs.declared.listing.ListCounts.{ListCounts}
 
 -- the liveness as it is printed
-abbrev pub word_text : Liveness → List ℕ
+abbrev pub word_text : Word → List ℕ
 word_text Live = codes "live"
 word_text Stale = codes "stale"
 word_text Unknown = codes "unknown"
 
 -- the number of the upload and of the tap in it, token, validator, moment and liveness
-unfoldable pub tap_line : ℕ → ℕ → Tap → Liveness → List ℕ
+unfoldable pub tap_line : ℕ → ℕ → Tap → Word → List ℕ
 tap_line upload number tap liveness = decimal upload ++ (codes " " ++ (decimal number ++ (codes " "
     ++ (encode_lower tap.token ++ (codes " " ++ (decimal (num tap.validator) ++ (codes " "
     ++ (decimal (num tap.moment) ++ (codes " " ++ (word_text liveness ++ codes "\n"))))))))))

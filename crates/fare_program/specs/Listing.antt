@@ -1,11 +1,12 @@
 -- What a list of taps says of each of them: live, stale or unknown.
-use Rattle.std.specs.Prelude.{ℕ, Bool, true, false, ◌&&◌, if◌then◌else◌, List, [], ◌∷◌}
-use Rattle.std.specs.Prelude.{◌++◌, length, filter, count_by, nat_lt}
+use Rattle.std.specs.Prelude.{◌≡◌, ◌+◌, ℕ, Bool, true, false, ◌&&◌, if◌then◌else◌, List, []}
+use Rattle.std.specs.Prelude.{◌∷◌, ◌++◌, Option, Some, None, length, filter, count_by, nat_lt}
 use Rattle.std.specs.List.{list_all}
+use Rattle.std.specs.Map.{lookup}
 use Rattle.std.specs.Str.{bytes_eq}
 use Rattle.tap_views.specs.Layout.{Tap, num}
-use Rattle.fare_program.specs.declared.listing.Liveness.{Liveness}
-use Rattle.fare_program.specs.declared.listing.Liveness.TheVariants.{Live, Stale, Unknown}
+use Rattle.fare_program.specs.declared.listing.Word.{Word}
+use Rattle.fare_program.specs.declared.listing.Word.TheVariants.{Live, Stale, Unknown}
 use Rattle.fare_program.specs.declared.listing.ListCounts.{ListCounts}
 
 -- a tap, and whether its validator is known
@@ -29,30 +30,30 @@ known_of token taps = filter (λ t. t.known && bytes_eq t.tap.token token) taps
 abbrev pub are_before : ℕ → List Listed → Bool
 are_before moment taps = list_all (λ t. nat_lt (listed_moment t) moment) taps
 
--- A known tap is live where it is later than every known tap of its token before it.
+-- A known tap is live if it is later than every known tap of its token before it.
 abbrev pub is_live : List Listed → Listed → Bool
 is_live before tap = are_before (listed_moment tap) (known_of tap.tap.token before)
 
 -- what the listing says of a tap, after the taps before it
-abbrev pub liveness_of : List Listed → Listed → Liveness
+abbrev pub liveness_of : List Listed → Listed → Word
 liveness_of before tap =
     if tap.known then (if is_live before tap then Live else Stale) else Unknown
 
 -- the livenesses of taps that follow those before
-abbrev pub livenesses_after : List Listed → List Listed → List Liveness
+abbrev pub livenesses_after : List Listed → List Listed → List Word
 livenesses_after before [] = []
 livenesses_after before (tap ∷ taps) =
     liveness_of before tap ∷ livenesses_after (before ++ tap ∷ []) taps
 
 -- whether the two livenesses are the same
-abbrev pub is_same_liveness : Liveness → Liveness → Bool
+abbrev pub is_same_liveness : Word → Word → Bool
 is_same_liveness Live Live = true
 is_same_liveness Stale Stale = true
 is_same_liveness Unknown Unknown = true
 is_same_liveness _ _ = false
 
 -- how many of the taps have the liveness
-abbrev pub count_of : Liveness → List Listed → ℕ
+abbrev pub count_of : Word → List Listed → ℕ
 count_of liveness taps = count_by (is_same_liveness liveness) (livenesses_after [] taps)
 
 -- how many taps there are, and how many of each liveness
@@ -63,3 +64,28 @@ counts_of taps = record {
   stale = count_of Stale taps;
   unknown = count_of Unknown taps;
 }
+
+-- what a listing keeps: the last known moment of each token, and the counts
+pub record KeptListing : Type 0 where
+  pub last : List (List ℕ × ℕ)
+  pub counts : ListCounts
+
+-- the last moment that is kept of the token, if there is one
+abbrev pub last_of : List (List ℕ × ℕ) → List ℕ → Option ℕ
+last_of last token = lookup (bytes_eq token) last
+
+-- whether the moment is after the last one, if there is one
+abbrev pub is_after_last : Option ℕ → ℕ → Bool
+is_after_last None moment = true
+is_after_last (Some last) moment = nat_lt last moment
+
+-- What is kept answers for the taps of this list: a moment is later than the last known one of a
+-- token if it is later than each known tap of that token, and the counts are those of the list.
+pub record StandsFor (kept : KeptListing) (taps : List Listed) : Type 0 where
+  pub last : (token : List ℕ) (moment : ℕ)
+      → is_after_last (last_of kept.last token) moment ≡ are_before moment (known_of token taps)
+  pub counts : kept.counts ≡ counts_of taps
+
+-- the three livenesses make up the taps
+abbrev pub AddsUp : ListCounts → Type 0
+AddsUp counts = counts.taps ≡ counts.live + counts.stale + counts.unknown

@@ -52,6 +52,7 @@ mod uploads;
 
 pub use files_ahead::{Amount, Disk, FileAhead, read_ahead};
 pub use host::Host;
+pub use listing::{ListCounts, Listing, Word};
 pub use named_list::list_words;
 pub use note::Note;
 pub use program::main_over;

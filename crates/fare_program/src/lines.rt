@@ -2,19 +2,19 @@
 ghost use Rattle.std.specs.Prelude.{◌≡◌, ◌++◌, OnOk, Some, string_bytes};
 ghost use Rattle.fare_program.specs.Lines.{counts_line, refused_line, tap_line, word_text};
 
-use crate::listing::{ListCounts, Liveness};
+use crate::listing::{ListCounts, Word};
 use fare_texts::Digits;
 use std::fmt;
 use tap_views::{LayoutFault, NoMemory, TapView, Token};
 
-impl fmt::Display for Liveness {
+impl fmt::Display for Word {
     ghost output = { λ liveness. Some (word_text liveness) };
 
     fn fmt<W: fmt::Write>(&self, f: &mut fmt::Formatter<W>) -> fmt::Result {
         f.write_str(match self {
-            Liveness::Live => "live",
-            Liveness::Stale => "stale",
-            Liveness::Unknown => "unknown",
+            Word::Live => "live",
+            Word::Stale => "stale",
+            Word::Unknown => "unknown",
         })
     }
 }
@@ -26,7 +26,7 @@ pub(crate) fn write_tap(
     upload: u64,
     number: u64,
     tap: &TapView,
-    liveness: Liveness,
+    liveness: Word,
 ) -> Result<(), NoMemory>
     ensures { OnOk result (string_bytes text.new
         ≡ string_bytes text.old ++ tap_line upload number tap.now liveness) }

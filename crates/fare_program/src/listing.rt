@@ -3,12 +3,9 @@ ghost use Rattle.std.specs.Prelude.{◌≡◌, ◌+◌, ◌^◌, ◌<◌, ℕ, L
 ghost use Rattle.std.specs.Prelude.{◌&&◌, if◌then◌else◌};
 ghost use Rattle.std.specs.Str.{bytes_eq};
 ghost use Rattle.tap_views.specs.Layout.{num};
-ghost use Rattle.fare_program.specs.Listing.{Listed, counts_of};
-ghost use Rattle.fare_program.specs.inside.Listing.{StandsFor, is_after_last};
-ghost use Rattle.fare_program.specs.inside.Listing.{AddsUp, liveness_counted};
-ghost use Rattle.fare_program.specs.Listing.{listed_of, liveness_of};
-ghost use Rattle.fare_program.specs.inside.Listing.{last_of};
-ghost use Rattle.fare_program.specs.inside.Listing.{last_after, liveness_by};
+ghost use Rattle.fare_program.specs.Listing.{AddsUp, Listed, StandsFor, counts_of, listed_of};
+ghost use Rattle.fare_program.specs.Listing.{is_after_last, last_of, liveness_of};
+ghost use Rattle.fare_program.specs.inside.Listing.{last_after, liveness_by, liveness_counted};
 
 use std::alloc::Global;
 use std::collections::BTreeMap;
@@ -17,7 +14,7 @@ use tap_views::{NoMemory, TapView};
 
 /// What a listing says of a tap.
 #[derive(Clone, Copy, Debug, PartialEq, Eq)]
-pub(crate) enum Liveness {
+pub enum Word {
     /// The validator is known, and the tap is later than every known tap of its token before it.
     Live,
     /// The validator is known, and a known tap of the token with this moment or a later one came
@@ -29,15 +26,15 @@ pub(crate) enum Liveness {
 
 /// How many taps were listed, and how many with each liveness.
 #[derive(Clone, Copy, Debug, PartialEq, Eq)]
-pub(crate) struct ListCounts {
+pub struct ListCounts {
     /// All taps; the other three add up to it.
-    pub(crate) taps: u128,
-    /// Those told as live.
-    pub(crate) live: u128,
-    /// Those told as stale.
-    pub(crate) stale: u128,
-    /// Those told as unknown.
-    pub(crate) unknown: u128,
+    pub taps: u128,
+    /// The live ones.
+    pub live: u128,
+    /// The stale ones.
+    pub stale: u128,
+    /// The unknown ones.
+    pub unknown: u128,
 }
 
 impl ListCounts {
@@ -50,16 +47,16 @@ impl ListCounts {
     };
 
     /// Counts a tap with this liveness.
-    fn count(&mut self, liveness: Liveness)
+    fn count(&mut self, liveness: Word)
         requires sums { AddsUp self.old }
         requires room { self.old.taps < 2 ^ 127 }
         ensures { self.new ≡ liveness_counted liveness self.old }
     {
         self.taps += 1;
         match liveness {
-            Liveness::Live => self.live += 1,
-            Liveness::Stale => self.stale += 1,
-            Liveness::Unknown => self.unknown += 1,
+            Word::Live => self.live += 1,
+            Word::Stale => self.stale += 1,
+            Word::Unknown => self.unknown += 1,
         }
     }
 }
@@ -98,7 +95,7 @@ fn liveness_next(
     last: &mut BTreeMap<[u8; 16], u64>,
     tap: &TapView,
     known: bool,
-) -> Result<Liveness, NoMemory>
+) -> Result<Word, NoMemory>
     ensures liveness { IfOk result (λ liveness. liveness
         ≡ liveness_by last.old.entries (listed_of tap.now known)) }
     ensures last { IfOk result (λ liveness. (other : List ℕ) → last_of last.new.entries other
@@ -106,21 +103,18 @@ fn liveness_next(
     ensures err { OnErr result (last.new.entries ≡ last.old.entries) }
 {
     if !known {
-        return Ok(Liveness::Unknown);
+        return Ok(Word::Unknown);
     }
     let mut token = [0u8; 16];
     token.copy_from_slice(tap.token());
     let is_live = advance(last, token, tap.moment_ms())?;
-    Ok(if is_live {
-        Liveness::Live
-    } else {
-        Liveness::Stale
-    })
+    Ok(if is_live { Word::Live } else { Word::Stale })
 }
 
-/// Gives each tap its liveness, from the taps that were listed before it.
+/// A listing of taps: it says of each whether it is live, stale or unknown, from the taps that were
+/// listed before it.
 #[derive(Drop)]
-pub(crate) struct Listing {
+pub struct Listing {
     /// The moment of the last live tap of each token.
     last: BTreeMap<[u8; 16], u64>,
     /// How many taps were listed, and with which livenesses.
@@ -128,8 +122,7 @@ pub(crate) struct Listing {
 }
 
 impl Model for Listing {
-    ghost use Rattle.fare_program.specs.inside.Listing.{KeptListing};
-    ghost use Rattle.fare_program.specs.inside.Listing.{AddsUp};
+    ghost use Rattle.fare_program.specs.Listing.{AddsUp, KeptListing};
 
     ghost Value = { KeptListing };
 
@@ -140,7 +133,7 @@ impl Model for Listing {
 
 impl Listing {
     /// A listing of no taps.
-    pub(crate) fn new(alloc: Global) -> Listing
+    pub fn new(alloc: Global) -> Listing
         ensures { StandsFor result [] }
     {
         Listing {
@@ -149,9 +142,9 @@ impl Listing {
         }
     }
 
-    /// Lists one more tap, `known` where its validator is, and says its liveness. A listing whose
-    /// memory was refused stays as it was.
-    pub(crate) fn add(&mut self, tap: &TapView, known: bool) -> Result<Liveness, NoMemory>
+    /// Lists one more tap, `known` if its validator is, and says its liveness. If memory is refused,
+    /// the listing stays as it was. The taps so far are below 2 to the power of 127.
+    pub fn add(&mut self, tap: &TapView, known: bool) -> Result<Word, NoMemory>
         requires { self.old.counts.taps < 2 ^ 127 }
         ensures liveness { IfOk result (λ liveness. (taps : List Listed) → StandsFor self.old taps
             → liveness ≡ liveness_of taps (listed_of tap.now known)) }
@@ -166,7 +159,7 @@ impl Listing {
     }
 
     /// How many taps were listed, and how many with each liveness.
-    pub(crate) fn counts(&self) -> ListCounts
+    pub fn counts(&self) -> ListCounts
         ensures kept { result ≡ self.now.counts }
         ensures counts { (taps : List Listed) → StandsFor self.now taps → result ≡ counts_of taps }
     {

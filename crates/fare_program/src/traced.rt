@@ -13,9 +13,9 @@ ghost use Rattle.settled_texts.specs.Names.{class_by};
 use crate::fault::Fault;
 use crate::output::flush;
 use fare_table::FareTable;
+use settled_texts::{ClassFault, ClassNames, write_traced_ledger};
 use std::alloc::Global;
 use std::io::Write;
-use settled_texts::{ClassFault, ClassNames, write_traced_ledger};
 
 /// A fare table, and the names of its classes.
 #[derive(Drop)]

@@ -2,7 +2,7 @@
 ghost use Rattle.std.specs.Prelude.{◌≡◌, ◌+◌, ◌^◌, ◌<◌, ◌≤◌, ◌∷◌, [], IfOk, OnOk, length, map};
 ghost use Rattle.std.specs.Prelude.{string_bytes};
 ghost use Rattle.std.specs.Option.{option_copied};
-ghost use Rattle.fare_program.specs.inside.Listing.{StandsFor};
+ghost use Rattle.fare_program.specs.Listing.{StandsFor};
 ghost use Rattle.fare_program.specs.Uploads.{IsListing, is_known, listed};
 ghost use Rattle.fare_program.specs.inside.Uploads.{Lists, ListsUpload, ListsUploads};
 

@@ -1,17 +1,20 @@
 -- The claims of shares, split and put together again.
-use Rattle.std.specs.Prelude.{ℕ, zero, suc, ◌≡◌, ◌≢◌, ◌⊎◌, ◌+◌, ◌-◌, ◌*◌, ◌<◌, ◌≤◌, ◌==◌, true, false, List, [], ◌∷◌, ◌++◌, length, sum_by, map}
+use Rattle.std.specs.Prelude.{ℕ, zero, suc, ◌≡◌, ◌≢◌, ◌⊎◌, ◌+◌, ◌-◌, ◌*◌, ◌<◌, ◌≤◌, ◌==◌, true}
+use Rattle.std.specs.Prelude.{false, List, [], ◌∷◌, ◌++◌, length, sum_by, map}
 use Rattle.std.specs.List.{AllZip}
-use Rattle.std.proofs.Common.{refl, sym, ◌∙◌, ap, inl, inr, subst, arith, get_or, set, length-append}
+use Rattle.std.proofs.Common.{refl, sym, ◌∙◌, ap, inl, inr, subst, arith, get_or, set}
+use Rattle.std.proofs.Common.{length-append}
 use Rattle.std.proofs.lemmas.List.{map-set, length-map, get_or-set_same, get_or-set_other}
+use Rattle.std.proofs.lemmas.List.{get_or-map}
 use Rattle.std.proofs.lemmas.List.Sums.{sum_by_push, sum_by-cons}
 use Rattle.std.proofs.lemmas.Bool.Decides.{eqb_tells}
 use Rattle.shared_books.specs.Claims.{all_claims, claims_given, claims_left}
 use Rattle.shared_books.specs.Passes.{PassView, left_pass}
 use Rattle.fare_service.specs.ServiceView.{ServiceView, shards_of}
 use Rattle.fare_service.specs.ShareView.{ShareView}
-use Rattle.fare_service.specs.Claims.{claims_of, claims_at, HaveAllClaims, HasAllClaims, left_share, HasHalf}
+use Rattle.fare_service.specs.Claims.{claims_of, claims_at, HaveAllClaims, HasAllClaims, left_share}
+use Rattle.fare_service.specs.Claims.{HasHalf}
 use Rattle.fare_service.specs.Shares.{WentOn}
-use Rattle.fare_service.proofs.RunVisits.{get_or-map}
 use Rattle.fare_service.proofs.ShareLemmas.{claims_left_at}
 
 -- the passes of which the first n were split
@@ -20,15 +23,18 @@ left_until zero ps = ps
 left_until (suc n) [] = []
 left_until (suc n) (p ∷ ps) = left_pass p ∷ left_until n ps
 
-pub left_here : (n : ℕ) (ps : List PassView) (d : PassView) → get_or (left_until n ps) n d ≡ get_or ps n d
+pub left_here : (n : ℕ) (ps : List PassView) (d : PassView)
+    → get_or (left_until n ps) n d ≡ get_or ps n d
 left_here zero ps d = refl
 left_here (suc n) [] d = refl
 left_here (suc n) (p ∷ ps) d = left_here n ps d
 
-pub left_step : (n : ℕ) (ps : List PassView) (p q : PassView) → n < length ps → p ≡ left_pass q → q ≡ get_or ps n q → set (left_until n ps) n p ≡ left_until (suc n) ps
+pub left_step : (n : ℕ) (ps : List PassView) (p q : PassView) → n < length ps → p ≡ left_pass q
+    → q ≡ get_or ps n q → set (left_until n ps) n p ≡ left_until (suc n) ps
 left_step n [] p q within e at = absurd (omega arith)
 left_step zero (x ∷ ps) p q within e at = ap (λ y. y ∷ ps) (e ∙ ap left_pass at)
-left_step (suc n) (x ∷ ps) p q within e at = ap (λ ys. left_pass x ∷ ys) (left_step n ps p q (omega arith) e at)
+left_step (suc n) (x ∷ ps) p q within e at =
+    ap (λ ys. left_pass x ∷ ys) (left_step n ps p q (omega arith) e at)
 
 pub left_all : (n : ℕ) (ps : List PassView) → length ps ≤ n → left_until n ps ≡ map left_pass ps
 left_all zero [] le = refl
@@ -45,18 +51,27 @@ doubled_some : (n : ℕ) → 0 < doubled n
 doubled_some zero = omega arith
 doubled_some (suc n) = let h = doubled_some n in omega arith
 
--- after n splits there are so many claims still that more splits lose none, and the others were given away
+-- after n splits there are so many claims still that more splits lose none, and the others were
+-- given away
 pub record Halved (n claims given : ℕ) : Type 0 where
   pub many : (k : ℕ) → k + n ≡ 16 → doubled k ≤ claims
   pub all : claims + given ≡ all_claims
 
 halved_first : (claims : ℕ) → claims ≡ all_claims → Halved 0 claims 0
-halved_first claims all = record { many = λ k e. (let s : k ≡ 16 = omega arith in let d : doubled k ≡ doubled 16 = ap doubled s in let c : doubled 16 ≡ 65536 = refl in omega arith); all = omega arith }
+halved_first claims all =
+    record {
+      many = λ k e.
+          (let s : k ≡ 16 = omega arith in let d : doubled k ≡ doubled 16 = ap doubled s in
+          let c : doubled 16 ≡ 65536 = refl in omega arith);
+      all = omega arith;
+    }
 
-halves : (d claims : ℕ) → 0 < d → 2 * d ≤ claims → (d ≤ claims_left claims) × (claims_left claims + claims_given claims ≡ claims)
+halves : (d claims : ℕ) → 0 < d → 2 * d ≤ claims
+    → (d ≤ claims_left claims) × (claims_left claims + claims_given claims ≡ claims)
 halves d claims some le = (omega arith, omega arith)
 
-halved_more : (n claims given left new : ℕ) → n < 15 → left ≡ claims_left claims → new ≡ claims_given claims → Halved n claims given → Halved (n + 1) left (given + new)
+halved_more : (n claims given left new : ℕ) → n < 15 → left ≡ claims_left claims
+    → new ≡ claims_given claims → Halved n claims given → Halved (n + 1) left (given + new)
 halved_more n claims given left new few l g h = record {
   many = λ k e. (
       let two : 2 * doubled k ≤ claims = h.many (suc k) (omega arith) in
@@ -69,8 +84,10 @@ halved_more n claims given left new few l g h = record {
 }
   where
     few_left : (n claims : ℕ) → n < 15 → ((k : ℕ) → k + n ≡ 16 → doubled k ≤ claims) → 2 ≤ claims
-    few_left zero claims few many = let m = many 16 refl in let c : doubled 16 ≡ 65536 = refl in omega arith
-    few_left (suc n) claims few many = at_least (15 - n) claims (omega arith) (many (15 - n) (omega arith))
+    few_left zero claims few many = let m = many 16 refl in let c : doubled 16 ≡ 65536 = refl in
+        omega arith
+    few_left (suc n) claims few many =
+        at_least (15 - n) claims (omega arith) (many (15 - n) (omega arith))
       where
         at_least : (k claims : ℕ) → 0 < k → doubled k ≤ claims → 2 ≤ claims
         at_least zero claims some le = absurd (omega arith)
@@ -78,100 +95,142 @@ halved_more n claims given left new few l g h = record {
 
 -- a share from which others were split has what they have not
 pub record AreSharesSplit (shards : ℕ) (first : ShareView) (others : List ShareView) : Type 0 where
-  pub drawing : Halved (length others) first.drawer.claims (sum_by (λ share. share.drawer.claims) others)
-  pub books : (shard : ℕ) → shard < shards → Halved (length others) (claims_at shard first.passes) (sum_by (λ share. claims_at shard share.passes) others)
+  pub drawing : Halved (length others) first.drawer.claims
+      (sum_by (λ share. share.drawer.claims) others)
+  pub books : (shard : ℕ) → shard < shards
+      → Halved (length others) (claims_at shard first.passes)
+      (sum_by (λ share. claims_at shard share.passes) others)
 
 one_alone : (f : ShareView → ℕ) (share : ShareView) → sum_by f (share ∷ []) ≡ f share
 one_alone f share = let c = sum_by-cons f share [] in omega arith
 
-pub split_none : (shards : ℕ) (first : ShareView) → HasAllClaims shards first → AreSharesSplit shards first []
+pub split_none : (shards : ℕ) (first : ShareView) → HasAllClaims shards first
+    → AreSharesSplit shards first []
 split_none shards first h = record {
-  drawing = halved_first first.drawer.claims (sym (one_alone (λ share. share.drawer.claims) first) ∙ h.drawing);
-  books = λ shard within. halved_first (claims_at shard first.passes) (sym (one_alone (λ share. claims_at shard share.passes) first) ∙ h.books shard within);
+  drawing = halved_first first.drawer.claims
+      (sym (one_alone (λ share. share.drawer.claims) first) ∙ h.drawing);
+  books = λ shard within. halved_first (claims_at shard first.passes)
+      (sym (one_alone (λ share. claims_at shard share.passes) first) ∙ h.books shard within);
 }
 
-pub split_more : (shards : ℕ) (first first' new : ShareView) (others : List ShareView) → length others < 15 → first' ≡ left_share first → HasHalf first new → AreSharesSplit shards first others → AreSharesSplit shards first' (others ++ new ∷ [])
+pub split_more : (shards : ℕ) (first first' new : ShareView) (others : List ShareView)
+    → length others < 15 → first' ≡ left_share first → HasHalf first new
+    → AreSharesSplit shards first others → AreSharesSplit shards first' (others ++ new ∷ [])
 split_more shards first first' new others few is half h =
-    let number : length others + 1 ≡ length (others ++ new ∷ []) = sym (length-append others (new ∷ [])) in
+    let number : length others + 1 ≡ length (others ++ new ∷ []) =
+    sym (length-append others (new ∷ [])) in
     record {
       drawing = same_halved number (sum_by_push (λ share. share.drawer.claims) others new)
-          (halved_more (length others) first.drawer.claims (sum_by (λ share. share.drawer.claims) others) first'.drawer.claims new.drawer.claims few (ap (λ s. s.drawer.claims) is) half.drawing h.drawing);
-      books = λ shard within. same_halved number (sum_by_push (λ share. claims_at shard share.passes) others new)
-          (halved_more (length others) (claims_at shard first.passes) (sum_by (λ share. claims_at shard share.passes) others) (claims_at shard first'.passes) (claims_at shard new.passes) few
-          (ap (λ s. claims_at shard s.passes) is ∙ claims_left_at shard first.passes) (half.books shard) (h.books shard within));
+          (halved_more (length others) first.drawer.claims
+          (sum_by (λ share. share.drawer.claims) others) first'.drawer.claims new.drawer.claims few
+          (ap (λ s. s.drawer.claims) is) half.drawing h.drawing);
+      books = λ shard within. same_halved number
+          (sum_by_push (λ share. claims_at shard share.passes) others new)
+          (halved_more (length others) (claims_at shard first.passes)
+          (sum_by (λ share. claims_at shard share.passes) others) (claims_at shard first'.passes)
+          (claims_at shard new.passes) few
+          (ap (λ s. claims_at shard s.passes) is ∙ claims_left_at shard first.passes)
+          (half.books shard) (h.books shard within));
     }
   where
     same_halved : {n m c g s : ℕ} → n ≡ m → s ≡ g → Halved n c g → Halved m c s
-    same_halved {n} {m} {c} {g} {s} e f h = subst (λ k. Halved k c s) e (subst (λ k. Halved n c k) (sym f) h)
+    same_halved {n} {m} {c} {g} {s} e f h =
+        subst (λ k. Halved k c s) e (subst (λ k. Halved n c k) (sym f) h)
 
-pub split_all : (shards : ℕ) (first : ShareView) (others : List ShareView) → AreSharesSplit shards first others → HaveAllClaims shards (first ∷ others)
+pub split_all : (shards : ℕ) (first : ShareView) (others : List ShareView)
+    → AreSharesSplit shards first others → HaveAllClaims shards (first ∷ others)
 split_all shards first others h = record {
   drawing = sum_by-cons (λ (share : ShareView). share.drawer.claims) first others ∙ h.drawing.all;
-  books = λ shard within. sum_by-cons (λ (share : ShareView). claims_at shard share.passes) first others ∙ (h.books shard within).all;
+  books = λ shard within. sum_by-cons (λ (share : ShareView). claims_at shard share.passes) first
+      others ∙ (h.books shard within).all;
 }
 
 -- shares that went on have the claims that they had
-pub claims_went_on : (service : ServiceView) (old new : ShareView) → WentOn service old new → (new.drawer.claims ≡ old.drawer.claims) × (claims_of new.passes ≡ claims_of old.passes)
+pub claims_went_on : (service : ServiceView) (old new : ShareView) → WentOn service old new
+    → (new.drawer.claims ≡ old.drawer.claims) × (claims_of new.passes ≡ claims_of old.passes)
 claims_went_on service old new (more, h) = (h.claims, h.made.claims)
 
-same_sum : (f : ShareView → ℕ) (R : ShareView → ShareView → Type 0) → ((old new : ShareView) → R old new → f new ≡ f old) → (olds news : List ShareView) → AllZip R olds news → sum_by f news ≡ sum_by f olds
+same_sum : (f : ShareView → ℕ) (R : ShareView → ShareView → Type 0)
+    → ((old new : ShareView) → R old new → f new ≡ f old) → (olds news : List ShareView)
+    → AllZip R olds news → sum_by f news ≡ sum_by f olds
 same_sum f R same [] [] all = refl
 same_sum f R same [] (y ∷ ys) all = absurd all
 same_sum f R same (x ∷ xs) [] all = absurd all
 same_sum f R same (x ∷ xs) (y ∷ ys) all =
-    let one = same x y all.0 in let rest = same_sum f R same xs ys all.1 in omega (arith, sum_by-cons f x xs, sum_by-cons f y ys)
+    let one = same x y all.0 in let rest = same_sum f R same xs ys all.1 in
+    omega (arith, sum_by-cons f x xs, sum_by-cons f y ys)
 
-pub claims_kept : (service : ServiceView) (R : ShareView → ShareView → Type 0) → ((old new : ShareView) → R old new → WentOn service old new) → (olds news : List ShareView) → AllZip R olds news
+pub claims_kept : (service : ServiceView) (R : ShareView → ShareView → Type 0)
+    → ((old new : ShareView) → R old new → WentOn service old new) → (olds news : List ShareView)
+    → AllZip R olds news
     → HaveAllClaims (shards_of service) olds → HaveAllClaims (shards_of service) news
 claims_kept service R went olds news all h = record {
-  drawing = same_sum (λ share. share.drawer.claims) R (λ old new r. (claims_went_on service old new (went old new r)).0) olds news all ∙ h.drawing;
-  books = λ shard within. same_sum (λ share. claims_at shard share.passes) R (λ old new r. ap (λ cs. get_or cs shard 0) (claims_went_on service old new (went old new r)).1) olds news all ∙ h.books shard within;
+  drawing = same_sum (λ share. share.drawer.claims) R
+      (λ old new r. (claims_went_on service old new (went old new r)).0) olds news all ∙ h.drawing;
+  books = λ shard within. same_sum (λ share. claims_at shard share.passes) R
+      (λ old new r. ap (λ cs. get_or cs shard 0)
+      (claims_went_on service old new (went old new r)).1) olds news all ∙ h.books shard within;
 }
 
 -- the claims of passes that are joined, shard by shard
-claims_beyond : (shard : ℕ) (passes : List PassView) → length passes ≤ shard → claims_at shard passes ≡ 0
+claims_beyond : (shard : ℕ) (passes : List PassView) → length passes ≤ shard
+    → claims_at shard passes ≡ 0
 claims_beyond shard [] h = refl
 claims_beyond zero (p ∷ ps) h = absurd (omega (arith, h))
 claims_beyond (suc shard) (p ∷ ps) h = claims_beyond shard ps (omega arith)
 
-claims_last : (passes : List PassView) (pass : PassView) → claims_at (length passes) (passes ++ pass ∷ []) ≡ pass.claims
+claims_last : (passes : List PassView) (pass : PassView)
+    → claims_at (length passes) (passes ++ pass ∷ []) ≡ pass.claims
 claims_last [] pass = refl
 claims_last (p ∷ ps) pass = claims_last ps pass
 
-claims_else : (shard : ℕ) (passes : List PassView) (pass : PassView) → shard ≢ length passes → claims_at shard (passes ++ pass ∷ []) ≡ claims_at shard passes
+claims_else : (shard : ℕ) (passes : List PassView) (pass : PassView) → shard ≢ length passes
+    → claims_at shard (passes ++ pass ∷ []) ≡ claims_at shard passes
 claims_else zero [] pass ne = absurd (ne refl)
 claims_else (suc shard) [] pass ne = refl
 claims_else zero (p ∷ ps) pass ne = refl
 claims_else (suc shard) (p ∷ ps) pass ne = claims_else shard ps pass (λ e. ne (ap suc e))
 
-pub claims_mid : (done : List PassView) (pass : PassView) (rest : List PassView) → claims_at (length done) (done ++ pass ∷ rest) ≡ pass.claims
-claims_mid [] pass rest = refl
-claims_mid (p ∷ done) pass rest = claims_mid done pass rest
-
-claims-set_same : (passes : List PassView) (shard : ℕ) (new : PassView) → shard < length passes → claims_at shard (set passes shard new) ≡ new.claims
+claims-set_same : (passes : List PassView) (shard : ℕ) (new : PassView) → shard < length passes
+    → claims_at shard (set passes shard new) ≡ new.claims
 claims-set_same passes shard new within =
     ap (λ cs. get_or cs shard 0) (map-set (λ p. p.claims) passes shard new)
-    ∙ get_or-set_same (map (λ p. p.claims) passes) shard new.claims 0 (omega (arith, length-map passes (λ (p : PassView). p.claims)))
+    ∙ get_or-set_same (map (λ p. p.claims) passes) shard new.claims 0
+    (omega (arith, length-map passes (λ (p : PassView). p.claims)))
 
-claims-set_other : (passes : List PassView) (shard other : ℕ) (new : PassView) → other ≢ shard → claims_at other (set passes shard new) ≡ claims_at other passes
+claims-set_other : (passes : List PassView) (shard other : ℕ) (new : PassView) → other ≢ shard
+    → claims_at other (set passes shard new) ≡ claims_at other passes
 claims-set_other passes shard other new ne =
     ap (λ cs. get_or cs other 0) (map-set (λ p. p.claims) passes shard new)
     ∙ get_or-set_other (map (λ p. p.claims) passes) shard other new.claims 0 ne
 
-claims_here : (passes : List PassView) (shard : ℕ) (old : PassView) → shard < length passes → old ≡ get_or passes shard old → claims_at shard passes ≡ old.claims
+claims_here : (passes : List PassView) (shard : ℕ) (old : PassView) → shard < length passes
+    → old ≡ get_or passes shard old → claims_at shard passes ≡ old.claims
 claims_here passes shard old within is =
     get_or-map (λ p. p.claims) passes shard old 0 within ∙ ap (λ p. p.claims) (sym is)
 
-pub claims_step : (fn yielded into : List PassView) (place : ℕ) (old pass new : PassView) (shard : ℕ) → claims_at shard into ≡ claims_at shard fn + claims_at shard yielded → place ≡ length yielded → place < length into
-    → old ≡ get_or into place old → new.claims ≡ old.claims + pass.claims → claims_at shard (set into place new) ≡ claims_at shard fn + claims_at shard (yielded ++ pass ∷ [])
-claims_step fn yielded into place old pass new shard before at within is joined = by_place (eqb_tells shard place)
+pub claims_step : (fn yielded into : List PassView) (place : ℕ) (old pass new : PassView)
+    (shard : ℕ) → claims_at shard into ≡ claims_at shard fn + claims_at shard yielded
+    → place ≡ length yielded → place < length into
+    → old ≡ get_or into place old → new.claims ≡ old.claims + pass.claims
+    → claims_at shard (set into place new)
+    ≡ claims_at shard fn + claims_at shard (yielded ++ pass ∷ [])
+claims_step fn yielded into place old pass new shard before at within is joined =
+    by_place (eqb_tells shard place)
   where
-    by_place : (((shard == place) ≡ true) × (shard ≡ place)) ⊎ (((shard == place) ≡ false) × (shard ≢ place)) → claims_at shard (set into place new) ≡ claims_at shard fn + claims_at shard (yielded ++ pass ∷ [])
+    by_place : (((shard == place) ≡ true) × (shard ≡ place))
+        ⊎ (((shard == place) ≡ false) × (shard ≢ place))
+        → claims_at shard (set into place new)
+        ≡ claims_at shard fn + claims_at shard (yielded ++ pass ∷ [])
     by_place (inl (b, e)) =
-        let nothing : claims_at shard yielded ≡ 0 = claims_beyond shard yielded (omega (arith, e, at)) in
-        let here : claims_at shard into ≡ old.claims = ap (λ s. claims_at s into) e ∙ claims_here into place old within is in
-        let last : claims_at shard (yielded ++ pass ∷ []) ≡ pass.claims = ap (λ s. claims_at s (yielded ++ pass ∷ [])) (e ∙ at) ∙ claims_last yielded pass in
-        let there : claims_at shard (set into place new) ≡ new.claims = ap (λ s. claims_at s (set into place new)) e ∙ claims-set_same into place new within in
+        let nothing : claims_at shard yielded ≡ 0 =
+        claims_beyond shard yielded (omega (arith, e, at)) in
+        let here : claims_at shard into ≡ old.claims =
+        ap (λ s. claims_at s into) e ∙ claims_here into place old within is in
+        let last : claims_at shard (yielded ++ pass ∷ []) ≡ pass.claims =
+        ap (λ s. claims_at s (yielded ++ pass ∷ [])) (e ∙ at) ∙ claims_last yielded pass in
+        let there : claims_at shard (set into place new) ≡ new.claims =
+        ap (λ s. claims_at s (set into place new)) e ∙ claims-set_same into place new within in
         omega arith
     by_place (inr (b, ne)) =
         let other = claims_else shard yielded pass (λ e. ne (e ∙ sym at)) in

@@ -1,12 +1,14 @@
 -- Books and the drawing are closed.
-use Rattle.std.specs.Prelude.{ℕ, zero, suc, ◌≡◌, ◌⊎◌, ◌+◌, ◌<◌, ◌≤◌, List, [], ◌∷◌, length, slice_get, Some, option_map, sum_by}
-use Rattle.std.specs.List.{flat_map}
+use Rattle.std.specs.Prelude.{ℕ, zero, suc, ◌≡◌, ◌⊎◌, ◌+◌, ◌<◌, ◌≤◌, List, [], ◌∷◌, length}
+use Rattle.std.specs.Prelude.{slice_get, Some, option_map, sum_by}
 use Rattle.std.specs.Prelude.{remove, Result, Ok, Err, OnOk, IfErr, Bool, true, false, ◌==◌}
+use Rattle.std.specs.List.{flat_map}
 use Rattle.std.proofs.Common.{refl, sym, ◌∙◌, ap, inl, inr, subst, arith, get_or, eqb-true}
 use Rattle.std.proofs.lemmas.Bool.{cases_lt}
 use Rattle.std.proofs.lemmas.List.Elements.{All-nil, All-weaker}
 use Rattle.std.proofs.lemmas.List.Concat.{length-flat_map}
 use Rattle.std.proofs.lemmas.Option.{slice_get-map}
+use Rattle.std.proofs.lemmas.Slice.Zip.{AllZip-long}
 use Rattle.shard_book.specs.Book.{Book}
 use Rattle.shared_books.specs.declared.turns.rule.Mark.{Mark}
 use Rattle.shared_books.specs.Claims.{all_claims}
@@ -17,21 +19,25 @@ use Rattle.shared_books.specs.Passes.{SharedBookView, PassView}
 use Rattle.fare_service.specs.declared.faults.GatherFault.{GatherFault}
 use Rattle.fare_service.specs.declared.faults.GatherFault.TheVariants.{NoMemory, Missing, Drawn}
 use Rattle.fare_service.specs.Closing.{IsHistoryOf, HoldAllVisits, TellsFirst}
-use Rattle.fare_service.specs.inside.Closing.{AreClosed, AreUnseen, IsClosedBy, IsUnseen, IsClosedWork, IsFirstMissing, IsFirstUnseen, LacksClaims}
+use Rattle.fare_service.specs.inside.Closing.{AreClosed, AreUnseen, IsClosedBy, IsUnseen}
+use Rattle.fare_service.specs.inside.Closing.{IsClosedWork, IsFirstMissing, IsFirstUnseen}
+use Rattle.fare_service.specs.inside.Closing.{LacksClaims}
 use Rattle.fare_service.specs.Faults.{uploads_held}
 use Rattle.fare_service.specs.ShareView.{ShareView}
 use Rattle.fare_service.specs.inside.Joining.{AreSigns, IsJoinedOf, IsSign}
 use Rattle.fare_service.specs.Shares.{books_of, marks_at}
-use Rattle.fare_service.proofs.RunVisits.{AllZip-length}
 use Rattle.fare_service.proofs.Signing.{all_signed, signs_visits}
 
 -- the first of some elements was taken out
-pub split_first : {A : Type 0} (xs : List A) (first : A) (rest : List A) → 0 < length xs → first ≡ get_or xs 0 first → rest ≡ remove xs 0 → xs ≡ first ∷ rest
+pub split_first : {A : Type 0} (xs : List A) (first : A) (rest : List A) → 0 < length xs
+    → first ≡ get_or xs 0 first → rest ≡ remove xs 0 → xs ≡ first ∷ rest
 split_first [] first rest some is left = absurd (omega (arith, some))
-split_first (x ∷ xs) first rest some is left = ap (λ y. y ∷ xs) (sym is) ∙ ap (λ ys. first ∷ ys) (sym left)
+split_first (x ∷ xs) first rest some is left =
+    ap (λ y. y ∷ xs) (sym is) ∙ ap (λ ys. first ∷ ys) (sym left)
 
 -- the history of a book without a visit
-unseen_history : (opened : List SharedBookView) (shard : ℕ) (book : Book) → IsUnseen opened shard book → IsHistoryOf opened [] shard book
+unseen_history : (opened : List SharedBookView) (shard : ℕ) (book : Book)
+    → IsUnseen opened shard book → IsHistoryOf opened [] shard book
 unseen_history opened shard book u = record {
   visits = [];
   history = ap (λ b. b.entries) u.none;
@@ -48,7 +54,9 @@ unseen_history opened shard book u = record {
 }
 
 -- nothing was seen, where there is no share
-pub closed_none : (opened : List SharedBookView) (shares : List ShareView) (closed : List Book) → shares ≡ [] → length closed ≡ length opened → AreUnseen opened closed → IsClosedWork opened shares closed
+pub closed_none : (opened : List SharedBookView) (shares : List ShareView) (closed : List Book)
+    → shares ≡ [] → length closed ≡ length opened → AreUnseen opened closed
+    → IsClosedWork opened shares closed
 closed_none opened shares closed none number unseen =
     let P : List ShareView → Type 0 = λ ss. IsClosedWork opened ss closed in
     subst P (sym none) (record {
@@ -59,30 +67,43 @@ closed_none opened shares closed none number unseen =
       last = λ upload h x above. omega arith;
     })
 
-marks_of : (shard : ℕ) (passes : List PassView) (pass : PassView) → slice_get passes shard ≡ Some pass → marks_at shard passes ≡ pass.marks
+marks_of : (shard : ℕ) (passes : List PassView) (pass : PassView)
+    → slice_get passes shard ≡ Some pass → marks_at shard passes ≡ pass.marks
 marks_of shard [] pass at = absurd (cc)
 marks_of zero (p ∷ passes) pass at = let e : p ≡ pass = cc in ap (λ q. q.marks) e
 marks_of (suc shard) (p ∷ passes) pass at = marks_of shard passes pass at
 
-book_here : (shard : ℕ) (passes : List PassView) (pass : PassView) → slice_get passes shard ≡ Some pass → slice_get (books_of passes) shard ≡ Some pass.book
-book_here shard passes pass at = slice_get-map (λ p. p.book) passes shard ∙ ap (option_map (λ p. p.book)) at
+book_here : (shard : ℕ) (passes : List PassView) (pass : PassView)
+    → slice_get passes shard ≡ Some pass → slice_get (books_of passes) shard ≡ Some pass.book
+book_here shard passes pass at =
+    slice_get-map (λ p. p.book) passes shard ∙ ap (option_map (λ p. p.book)) at
 
 -- the history of a shard's book
-history_of : (drawing : Drawing) (opened : List SharedBookView) (shares : List ShareView) (drawer : DrawerView) (passes : List PassView) (shard : ℕ) (book : Book)
-    → IsJoinedOf drawing opened (length shares) shares drawer passes → IsClosedBy passes shard book → IsHistoryOf opened shares shard book
+history_of : (drawing : Drawing) (opened : List SharedBookView) (shares : List ShareView)
+    (drawer : DrawerView) (passes : List PassView) (shard : ℕ) (book : Book)
+    → IsJoinedOf drawing opened (length shares) shares drawer passes → IsClosedBy passes shard book
+    → IsHistoryOf opened shares shard book
 history_of drawing opened shares drawer passes shard book all c =
     let s = all.signed shard in
     let marks = marks_of shard passes c.pass c.at in
     let M : List Mark → Type 0 = AreSigns (length shares) (length shares) s.signs in
     let signs = subst M marks s.of_marks in
     let O : List SharedBookView → Type 0 = λ os. slice_get os shard ≡ Some c.pass.book in
-    let number : length s.signs ≡ length (marks_at shard passes) = AllZip-length (IsSign (length shares) (length shares)) s.signs (marks_at shard passes) s.of_marks in
+    let number : length s.signs ≡ length (marks_at shard passes) =
+    sym (AllZip-long (IsSign (length shares) (length shares)) s.signs (marks_at shard passes)
+    s.of_marks) in
     record {
       visits = s.signs;
-      history = ap (λ b. b.entries) c.all.book ∙ ap history_of_visits (sym (signs_visits (length shares) (length shares) s.signs c.pass.marks signs));
-      signed = all_signed (length shares) (length shares) c.pass.book.first s.signs c.pass.marks signs c.all.made;
+      history = ap (λ b. b.entries) c.all.book
+          ∙ ap history_of_visits
+          (sym (signs_visits (length shares) (length shares) s.signs c.pass.marks signs));
+      signed = all_signed (length shares) (length shares) c.pass.book.first s.signs c.pass.marks
+          signs c.all.made;
       order = s.made;
-      seen = All-weaker (λ share. length (marks_at shard share.passes) ≤ length (marks_at shard passes)) (λ share. length (marks_at shard share.passes) ≤ length s.signs) (λ t h. omega (arith, h, number)) shares (all.longest shard);
+      seen = All-weaker
+          (λ share. length (marks_at shard share.passes) ≤ length (marks_at shard passes))
+          (λ share. length (marks_at shard share.passes) ≤ length s.signs)
+          (λ t h. omega (arith, h, number)) shares (all.longest shard);
       shared = c.pass.book;
       at = subst O all.of_books (book_here shard passes c.pass c.at);
       table = ap (λ b. b.table) c.all.book;
@@ -93,16 +114,23 @@ history_of drawing opened shares drawer passes shard book all c =
     }
 
 -- all was closed with what the shares hold
-pub closed_all : (drawing : Drawing) (opened : List SharedBookView) (shares : List ShareView) (drawer : DrawerView) (passes : List PassView) (closed : List Book) (count : ℕ)
-    → IsJoinedOf drawing opened (length shares) shares drawer passes → AreClosed passes closed → length closed ≡ length opened → HasAll count drawer.drawn → IsCount count drawer → IsClosedWork opened shares closed
+pub closed_all : (drawing : Drawing) (opened : List SharedBookView) (shares : List ShareView)
+    (drawer : DrawerView) (passes : List PassView) (closed : List Book) (count : ℕ)
+    → IsJoinedOf drawing opened (length shares) shares drawer passes → AreClosed passes closed
+    → length closed ≡ length opened → HasAll count drawer.drawn → IsCount count drawer
+    → IsClosedWork opened shares closed
 closed_all drawing opened shares drawer passes closed count all books number has is =
     let D : List ℕ → Type 0 = λ ds. (x : ℕ) → times x ds ≤ 1 in
     record {
       number = number;
-      books = λ shard book at. history_of drawing opened shares drawer passes shard book all (books shard book at);
+      books = λ shard book at. history_of drawing opened shares drawer passes shard book all
+          (books shard book at);
       once = subst D all.drawn once;
-      undrawn = λ upload none. All-weaker (λ s. s.drawer.seen ≤ drawer.seen) (λ s. s.drawer.seen ≤ upload) (λ s h. omega (arith, h, is.later, past upload none)) shares all.seen;
-      last = λ upload none x above. ap (times x) (sym all.drawn) ∙ is.below x (omega (arith, past upload none, above));
+      undrawn = λ upload none. All-weaker (λ s. s.drawer.seen ≤ drawer.seen)
+          (λ s. s.drawer.seen ≤ upload) (λ s h. omega (arith, h, is.later, past upload none)) shares
+          all.seen;
+      last = λ upload none x above. ap (times x) (sym all.drawn)
+          ∙ is.below x (omega (arith, past upload none, above));
     }
   where
     once : (x : ℕ) → times x drawer.drawn ≤ 1
@@ -112,7 +140,8 @@ closed_all drawing opened shares drawer passes closed count all books number has
         by_count (inl h) = omega (arith, has x h)
         by_count (inr h) = omega (arith, is.below x h)
 
-    past : (upload : ℕ) → times upload (flat_map (λ share. share.drawer.drawn) shares) ≡ 0 → count ≤ upload
+    past : (upload : ℕ) → times upload (flat_map (λ share. share.drawer.drawn) shares) ≡ 0
+        → count ≤ upload
     past upload none = by_count (cases_lt upload count)
       where
         by_count : (upload < count) ⊎ (count ≤ upload) → count ≤ upload
@@ -126,59 +155,94 @@ there (x ∷ xs) zero within = (x, refl)
 there (x ∷ xs) (suc i) within = there xs i (omega (arith, within))
 
 -- of a shard whose book was closed the shares hold all visits
-whole_closed : (drawing : Drawing) (opened : List SharedBookView) (shares : List ShareView) (drawer : DrawerView) (passes : List PassView) (closed : List Book) → IsJoinedOf drawing opened (length shares) shares drawer passes
-    → AreClosed passes closed → (shard : ℕ) → shard < length closed → HoldAllVisits opened shares shard
+whole_closed : (drawing : Drawing) (opened : List SharedBookView) (shares : List ShareView)
+    (drawer : DrawerView) (passes : List PassView) (closed : List Book)
+    → IsJoinedOf drawing opened (length shares) shares drawer passes
+    → AreClosed passes closed → (shard : ℕ) → shard < length closed
+    → HoldAllVisits opened shares shard
 whole_closed drawing opened shares drawer passes closed all books shard within =
     let b = there closed shard within in
     (b.0, history_of drawing opened shares drawer passes shard b.0 all (books shard b.0 b.1))
 
-whole_unseen : (opened : List SharedBookView) (closed : List Book) → AreUnseen opened closed → (shard : ℕ) → shard < length closed → HoldAllVisits opened [] shard
-whole_unseen opened closed unseen shard within = let b = there closed shard within in (b.0, unseen_history opened shard b.0 (unseen shard b.0 b.1))
+whole_unseen : (opened : List SharedBookView) (closed : List Book) → AreUnseen opened closed
+    → (shard : ℕ) → shard < length closed → HoldAllVisits opened [] shard
+whole_unseen opened closed unseen shard within = let b = there closed shard within in
+    (b.0, unseen_history opened shard b.0 (unseen shard b.0 b.1))
 
 -- the first shard that misses visits
-pub first_missing : (drawing : Drawing) (opened : List SharedBookView) (uploads : ℕ) (shares : List ShareView) (drawer : DrawerView) (passes : List PassView) (closed : List Book) (fault : GatherFault)
-    → IsJoinedOf drawing opened (length shares) shares drawer passes → IsFirstMissing passes closed fault → TellsFirst opened uploads shares fault
+pub first_missing : (drawing : Drawing) (opened : List SharedBookView) (uploads : ℕ)
+    (shares : List ShareView) (drawer : DrawerView) (passes : List PassView) (closed : List Book)
+    (fault : GatherFault)
+    → IsJoinedOf drawing opened (length shares) shares drawer passes
+    → IsFirstMissing passes closed fault → TellsFirst opened uploads shares fault
 first_missing drawing opened uploads shares drawer passes closed (Missing shard held kept) all m = (
-  λ earlier h. whole_closed drawing opened shares drawer passes closed all m.1 earlier (omega (arith, h, m.0)),
-  All-weaker (λ share. length (marks_at shard share.passes) ≤ length (marks_at shard passes)) (λ share. length (marks_at shard share.passes) ≤ kept) (λ s h. omega (arith, h, m.2)) shares (all.longest shard),
+  λ earlier h. whole_closed drawing opened shares drawer passes closed all m.1 earlier
+      (omega (arith, h, m.0)),
+  All-weaker (λ share. length (marks_at shard share.passes) ≤ length (marks_at shard passes))
+      (λ share. length (marks_at shard share.passes) ≤ kept) (λ s h. omega (arith, h, m.2)) shares
+      (all.longest shard),
 )
 first_missing drawing opened uploads shares drawer passes closed NoMemory all m = absurd m
 first_missing drawing opened uploads shares drawer passes closed (Drawn held drawn) all m = absurd m
 
-pub first_unseen : (opened : List SharedBookView) (uploads : ℕ) (shares : List ShareView) (closed : List Book) (fault : GatherFault) → shares ≡ [] → IsFirstUnseen opened closed fault → TellsFirst opened uploads shares fault
+pub first_unseen : (opened : List SharedBookView) (uploads : ℕ) (shares : List ShareView)
+    (closed : List Book) (fault : GatherFault) → shares ≡ [] → IsFirstUnseen opened closed fault
+    → TellsFirst opened uploads shares fault
 first_unseen opened uploads shares closed (Missing shard held kept) none m =
-    let P : List ShareView → Type 0 = λ ss. TellsFirst opened uploads ss (Missing shard held kept) in
-    subst P (sym none) (λ earlier h. whole_unseen opened closed m.1 earlier (omega (arith, h, m.0)), All-nil (λ share. length (marks_at shard share.passes) ≤ kept))
+    let P : List ShareView → Type 0 =
+    λ ss. TellsFirst opened uploads ss (Missing shard held kept) in
+    subst P (sym none) (
+      λ earlier h. whole_unseen opened closed m.1 earlier (omega (arith, h, m.0)),
+      All-nil (λ share. length (marks_at shard share.passes) ≤ kept),
+    )
 first_unseen opened uploads shares closed NoMemory none m = absurd m
 first_unseen opened uploads shares closed (Drawn held drawn) none m = absurd m
 
 -- missing uploads, where all books were closed
-pub first_drawn : (drawing : Drawing) (opened : List SharedBookView) (shares : List ShareView) (drawer : DrawerView) (passes : List PassView) (closed : List Book) (held drawn : ℕ)
-    → IsJoinedOf drawing opened (length shares) shares drawer passes → AreClosed passes closed → length closed ≡ length opened → IsCount drawn drawer → TellsFirst opened drawing.numbers shares (Drawn held drawn)
+pub first_drawn : (drawing : Drawing) (opened : List SharedBookView) (shares : List ShareView)
+    (drawer : DrawerView) (passes : List PassView) (closed : List Book) (held drawn : ℕ)
+    → IsJoinedOf drawing opened (length shares) shares drawer passes → AreClosed passes closed
+    → length closed ≡ length opened → IsCount drawn drawer
+    → TellsFirst opened drawing.numbers shares (Drawn held drawn)
 first_drawn drawing opened shares drawer passes closed held drawn all books number is = (
-  λ shard h. whole_closed drawing opened shares drawer passes closed all books shard (omega (arith, h, number)),
-  All-weaker (λ share. share.drawer.seen ≤ drawer.seen) (λ share. share.drawer.seen ≤ drawn) (λ s h. omega (arith, h, is.later)) shares all.seen,
+  λ shard h. whole_closed drawing opened shares drawer passes closed all books shard
+      (omega (arith, h, number)),
+  All-weaker (λ share. share.drawer.seen ≤ drawer.seen) (λ share. share.drawer.seen ≤ drawn)
+      (λ s h. omega (arith, h, is.later)) shares all.seen,
   omega (arith, is.within, ap (λ d. d.numbers) all.drawn_from),
 )
 
-pub first_undrawn : (opened : List SharedBookView) (uploads : ℕ) (shares : List ShareView) (closed : List Book) (held drawn : ℕ) → shares ≡ [] → AreUnseen opened closed → length closed ≡ length opened → drawn ≤ uploads
+pub first_undrawn : (opened : List SharedBookView) (uploads : ℕ) (shares : List ShareView)
+    (closed : List Book) (held drawn : ℕ) → shares ≡ [] → AreUnseen opened closed
+    → length closed ≡ length opened → drawn ≤ uploads
     → TellsFirst opened uploads shares (Drawn held drawn)
 first_undrawn opened uploads shares closed held drawn none unseen number few =
     let P : List ShareView → Type 0 = λ ss. TellsFirst opened uploads ss (Drawn held drawn) in
-    subst P (sym none) (λ shard h. whole_unseen opened closed unseen shard (omega (arith, h, number)), All-nil (λ share. share.drawer.seen ≤ drawn), few)
+    subst P (sym none) (
+      λ shard h. whole_unseen opened closed unseen shard (omega (arith, h, number)),
+      All-nil (λ share. share.drawer.seen ≤ drawn),
+      few,
+    )
 
 -- how many uploads the shares hold
-pub held_drawn : (drawing : Drawing) (opened : List SharedBookView) (nobody : ℕ) (shares : List ShareView) (drawer : DrawerView) (passes : List PassView) → IsJoinedOf drawing opened nobody shares drawer passes
+pub held_drawn : (drawing : Drawing) (opened : List SharedBookView) (nobody : ℕ)
+    (shares : List ShareView) (drawer : DrawerView) (passes : List PassView)
+    → IsJoinedOf drawing opened nobody shares drawer passes
     → length drawer.drawn ≡ uploads_held shares
-held_drawn drawing opened nobody shares drawer passes all = ap length all.drawn ∙ length-flat_map (λ s. s.drawer.drawn) shares
+held_drawn drawing opened nobody shares drawer passes all =
+    ap length all.drawn ∙ length-flat_map (λ s. s.drawer.drawn) shares
 
 -- the first share and the others are all shares
-pub joined_whole : (drawing : Drawing) (opened : List SharedBookView) (shares : List ShareView) (first : ShareView) (others : List ShareView) (drawer : DrawerView) (passes : List PassView)
-    → shares ≡ first ∷ others → IsJoinedOf drawing opened (length others + 1) (first ∷ others) drawer passes → IsJoinedOf drawing opened (length shares) shares drawer passes
+pub joined_whole : (drawing : Drawing) (opened : List SharedBookView) (shares : List ShareView)
+    (first : ShareView) (others : List ShareView) (drawer : DrawerView) (passes : List PassView)
+    → shares ≡ first ∷ others
+    → IsJoinedOf drawing opened (length others + 1) (first ∷ others) drawer passes
+    → IsJoinedOf drawing opened (length shares) shares drawer passes
 joined_whole drawing opened shares first others drawer passes is all =
     let number : length others + 1 ≡ length shares = omega (arith, ap length is) in
     let N : ℕ → Type 0 = λ n. IsJoinedOf drawing opened n (first ∷ others) drawer passes in
-    let S : List ShareView → Type 0 = λ ss. IsJoinedOf drawing opened (length shares) ss drawer passes in
+    let S : List ShareView → Type 0 =
+    λ ss. IsJoinedOf drawing opened (length shares) ss drawer passes in
     subst S (sym is) (subst N number all)
 
 -- what holds anyway holds where the result is right
@@ -190,10 +254,6 @@ pub any_err : {T E : Type 0} (r : Result T E) (P : Type 0) → P → IfErr r (λ
 any_err (Ok x) P p = tt
 any_err (Err e) P p = p
 
-pub no_shares : (shares : List ShareView) → length shares ≡ 0 → shares ≡ []
-no_shares [] none = refl
-no_shares (s ∷ shares) none = absurd (omega (arith, none))
-
 pub some_shares : (none : Bool) (number : ℕ) → none ≡ (number == 0) → none ≡ false → 0 < number
 some_shares none zero tells is = let h : (zero == 0) ≡ false = sym tells ∙ is in absurd (cc)
 some_shares none (suc number) tells is = omega arith
@@ -203,7 +263,8 @@ none_there none zero tells is = refl
 none_there none (suc number) tells is = eqb-true (suc number) 0 (sym tells ∙ is)
 
 -- where there is no share, there is no claim
-pub none_whole : (shards : ℕ) (shares : List ShareView) → shares ≡ [] → HaveAllClaims shards shares → ⊥
+pub none_whole : (shards : ℕ) (shares : List ShareView) → shares ≡ [] → HaveAllClaims shards shares
+    → ⊥
 none_whole shards shares none h =
     let P : List ShareView → Type 0 = HaveAllClaims shards in
     let all = (subst P none h).drawing in
@@ -211,13 +272,19 @@ none_whole shards shares none h =
     omega arith
 
 -- a pass that lacks claims is not of shares that have them all
-pub lacks_whole : (drawing : Drawing) (books : List SharedBookView) (nobody : ℕ) (shares : List ShareView) (drawer : DrawerView) (passes : List PassView) (fault : GatherFault)
-    → IsJoinedOf drawing books nobody shares drawer passes → LacksClaims (length books) passes fault → HaveAllClaims (length books) shares → ⊥
+pub lacks_whole : (drawing : Drawing) (books : List SharedBookView) (nobody : ℕ)
+    (shares : List ShareView) (drawer : DrawerView) (passes : List PassView) (fault : GatherFault)
+    → IsJoinedOf drawing books nobody shares drawer passes → LacksClaims (length books) passes fault
+    → HaveAllClaims (length books) shares → ⊥
 lacks_whole drawing books nobody shares drawer passes NoMemory is lacks h = lacks
-lacks_whole drawing books nobody shares drawer passes (Missing shard held kept) is lacks h = omega (arith, lacks.1, is.pass_claims shard, h.books shard lacks.0)
+lacks_whole drawing books nobody shares drawer passes (Missing shard held kept) is lacks h =
+    omega (arith, lacks.1, is.pass_claims shard, h.books shard lacks.0)
 lacks_whole drawing books nobody shares drawer passes (Drawn held drawn) is lacks h = lacks
 
 -- and neither is a drawer
-pub drawer_whole : (drawing : Drawing) (books : List SharedBookView) (nobody : ℕ) (shares : List ShareView) (drawer : DrawerView) (passes : List PassView)
-    → IsJoinedOf drawing books nobody shares drawer passes → drawer.claims < all_claims → HaveAllClaims (length books) shares → ⊥
-drawer_whole drawing books nobody shares drawer passes is lacks h = omega (arith, lacks, is.claims, h.drawing)
+pub drawer_whole : (drawing : Drawing) (books : List SharedBookView) (nobody : ℕ)
+    (shares : List ShareView) (drawer : DrawerView) (passes : List PassView)
+    → IsJoinedOf drawing books nobody shares drawer passes → drawer.claims < all_claims
+    → HaveAllClaims (length books) shares → ⊥
+drawer_whole drawing books nobody shares drawer passes is lacks h =
+    omega (arith, lacks, is.claims, h.drawing)

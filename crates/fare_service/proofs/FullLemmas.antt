@@ -1,7 +1,9 @@
 -- What passes know of full shards.
-use Rattle.std.specs.Prelude.{ℕ, ◌≡◌, ◌≢◌, ◌<◌, ◌⊎◌, ◌==◌, true, false, List, [], ◌∷◌, ◌++◌, length, Result, Ok, Err}
+use Rattle.std.specs.Prelude.{ℕ, ◌≡◌, ◌≢◌, ◌<◌, ◌⊎◌, ◌==◌, true, false, List, [], ◌∷◌, ◌++◌, length}
+use Rattle.std.specs.Prelude.{Result, Ok, Err}
 use Rattle.std.specs.Result.{IsErrAnd}
-use Rattle.std.proofs.Common.{zero, suc, refl, sym, ◌∙◌, ap, inl, inr, subst, arith, get_or, set, length-append}
+use Rattle.std.proofs.Common.{zero, suc, refl, sym, ◌∙◌, ap, inl, inr, subst, arith, get_or, set}
+use Rattle.std.proofs.Common.{length-append}
 use Rattle.std.proofs.lemmas.List.{get_or-set_same, get_or-set_other, length-map, length-set}
 use Rattle.std.proofs.lemmas.Bool.Decides.{eqb_tells}
 use Rattle.shard_book.specs.declared.entry.Entry.{Entry}
@@ -17,63 +19,104 @@ use Rattle.fare_service.proofs.RunVisits.{marks_here}
 use Rattle.fare_service.proofs.VisitLemmas.{marks-set_same, own-visits}
 
 -- how many visits a pass has seen
-seen : (pass : PassView) → length (seen_by pass) ≡ length pass.marks
-seen pass = length-map pass.marks (λ (m : Mark). m.visit)
+pub marks_seen : (pass : PassView) → length (seen_by pass) ≡ length pass.marks
+marks_seen pass = length-map pass.marks (λ (m : Mark). m.visit)
 
 -- a pass has seen no less later
-pub knows_more : (old new : PassView) (more : List Mark) → new.book ≡ old.book → new.marks ≡ old.marks ++ more → KnowsFull old → KnowsFull new
+pub knows_more : (old new : PassView) (more : List Mark) → new.book ≡ old.book
+    → new.marks ≡ old.marks ++ more → KnowsFull old → KnowsFull new
 knows_more old new more book marks full =
-    omega (arith, full, ap (λ b. b.first) book, seen old, seen new, ap length marks, length-append old.marks more)
+    omega (
+      arith,
+      full,
+      ap (λ b. b.first) book,
+      marks_seen old,
+      marks_seen new,
+      ap length marks,
+      length-append old.marks more,
+    )
 
 pub later_full : (old new : PassView) → HasSeenMore old new → KnowsFull old → KnowsFull new
 later_full old new l = knows_more old new (others l.between) l.book l.marks
 
-pub visits_full : (old new : PassView) (number : ℕ) (visit : List Entry) → Visits old new number visit → KnowsFull old → KnowsFull new
+pub visits_full : (old new : PassView) (number : ℕ) (visit : List Entry)
+    → Visits old new number visit → KnowsFull old → KnowsFull new
 visits_full old new number visit v full =
-    omega (arith, full, ap (λ b. b.first) v.book, seen old, seen new, ap length v.marks, length-append (old.marks ++ others v.between) (mark true visit ∷ []), length-append old.marks (others v.between))
+    omega (
+      arith,
+      full,
+      ap (λ b. b.first) v.book,
+      marks_seen old,
+      marks_seen new,
+      ap length v.marks,
+      length-append (old.marks ++ others v.between) (mark true visit ∷ []),
+      length-append old.marks (others v.between),
+    )
 
 pub is_full : (pass : PassView) → IsFull pass → KnowsFull pass
 is_full pass f = omega (arith, f.count)
 
 -- an element that is there is the same by any default
-same_default : (xs : List PassView) (i : ℕ) (d e : PassView) → i < length xs → get_or xs i d ≡ get_or xs i e
+same_default : (xs : List PassView) (i : ℕ) (d e : PassView) → i < length xs
+    → get_or xs i d ≡ get_or xs i e
 same_default [] i d e h = absurd (omega arith)
 same_default (y ∷ ys) zero d e h = refl
 same_default (y ∷ ys) (suc i) d e h = same_default ys i d e (omega arith)
 
 -- the pass to a shard is another one now
-pub full_here : (passes : List PassView) (shard : ℕ) (new : PassView) → shard < length passes → KnowsFull new → SomeFull (set passes shard new)
-full_here passes shard new within full =
-    (shard, new, (let l : length (set passes shard new) ≡ length passes = length-set passes shard new in omega (arith, l, within)), get_or-set_same passes shard new new within, full)
+pub full_here : (passes : List PassView) (shard : ℕ) (new : PassView) → shard < length passes
+    → KnowsFull new → SomeFull (set passes shard new)
+full_here passes shard new within full = (
+  shard,
+  new,
+  (let l : length (set passes shard new) ≡ length passes = length-set passes shard new in
+      omega (arith, l, within)),
+  get_or-set_same passes shard new new within,
+  full,
+)
 
-pub full_stays : (passes : List PassView) (shard : ℕ) (old new : PassView) → shard < length passes → old ≡ get_or passes shard old → (KnowsFull old → KnowsFull new)
+pub full_stays : (passes : List PassView) (shard : ℕ) (old new : PassView) → shard < length passes
+    → old ≡ get_or passes shard old → (KnowsFull old → KnowsFull new)
     → SomeFull passes → SomeFull (set passes shard new)
-full_stays passes shard old new within is more (k, x, below, at, full) = at_place (eqb_tells k shard)
+full_stays passes shard old new within is more (k, x, below, at, full) =
+    at_place (eqb_tells k shard)
   where
-    at_place : (((k == shard) ≡ true) × (k ≡ shard)) ⊎ (((k == shard) ≡ false) × (k ≢ shard)) → SomeFull (set passes shard new)
+    at_place : (((k == shard) ≡ true) × (k ≡ shard)) ⊎ (((k == shard) ≡ false) × (k ≢ shard))
+        → SomeFull (set passes shard new)
     at_place (inl (b, e)) =
         let G : ℕ → Type 0 = λ n. get_or passes n x ≡ x in
         let here : get_or passes shard x ≡ x = subst G e at in
-        full_here passes shard new within (more (subst KnowsFull (sym here ∙ (same_default passes shard x old within ∙ sym is)) full))
-    at_place (inr (b, ne)) =
-        (k, x, (let l : length (set passes shard new) ≡ length passes = length-set passes shard new in omega (arith, l, below)), get_or-set_other passes shard k new x ne ∙ at, full)
+        full_here passes shard new within
+        (more (subst KnowsFull (sym here ∙ (same_default passes shard x old within ∙ sym is)) full))
+    at_place (inr (b, ne)) = (
+      k,
+      x,
+      (let l : length (set passes shard new) ≡ length passes =
+          length-set passes shard new in omega (arith, l, below)),
+      get_or-set_other passes shard k new x ne ∙ at,
+      full,
+    )
 
 -- what an answer tells
-pub tells_ok : {A : Type 0} (x : A) (old new : List PassView) → (SomeFull old → SomeFull new) → TellsFull (Ok x) old new
+pub tells_ok : {A : Type 0} (x : A) (old new : List PassView) → (SomeFull old → SomeFull new)
+    → TellsFull (Ok x) old new
 tells_ok x old new more (inl some) = more some
 tells_ok x old new more (inr e) = absurd (cc)
 
-pub tells_refused : {A : Type 0} (r : Result A Stop) (old new : List PassView) → r ≡ Err Memory → (SomeFull old → SomeFull new) → TellsFull r old new
+pub tells_refused : {A : Type 0} (r : Result A Stop) (old new : List PassView) → r ≡ Err Memory
+    → (SomeFull old → SomeFull new) → TellsFull r old new
 tells_refused r old new is more (inl some) = more some
 tells_refused r old new is more (inr e) = absurd (cc)
 
 -- the error that an answer has
-pub the_error : {A : Type 0} (r : Result A Stop) (stop : Stop) → IsErrAnd r (λ e. e ≡ stop) → r ≡ Err stop
+pub the_error : {A : Type 0} (r : Result A Stop) (stop : Stop) → IsErrAnd r (λ e. e ≡ stop)
+    → r ≡ Err stop
 the_error (Ok x) stop h = absurd h
 the_error (Err e) stop h = ap Err h
 
 -- an answer that hands on the error of another
-pub handed_on : {A B : Type 0} (r : Result A Stop) (s : Result B Stop) (stop : Stop) (old between new : List PassView) → r ≡ Err stop → s ≡ Err stop
+pub handed_on : {A B : Type 0} (r : Result A Stop) (s : Result B Stop) (stop : Stop)
+    (old between new : List PassView) → r ≡ Err stop → s ≡ Err stop
     → (SomeFull old → SomeFull between) → TellsFull r between new → TellsFull s old new
 handed_on r s stop old between new is also more tells (inl some) = tells (inl (more some))
 handed_on r s stop old between new is also more tells (inr e) =
@@ -81,8 +124,11 @@ handed_on r s stop old between new is also more tells (inr e) =
     tells (inr (is ∙ ap Err same))
 
 -- the visit that the pass to a shard made
-pub own_grows : (passes : List PassView) (shard : ℕ) (old new : PassView) (number : ℕ) (visit : List Entry) → shard < length passes → old ≡ get_or passes shard old
-    → Visits old new number visit → made_visits_at shard (set passes shard new) ≡ made_visits_at shard passes ++ visit ∷ []
+pub own_grows : (passes : List PassView) (shard : ℕ) (old new : PassView) (number : ℕ)
+    (visit : List Entry) → shard < length passes → old ≡ get_or passes shard old
+    → Visits old new number visit
+    → made_visits_at shard (set passes shard new) ≡ made_visits_at shard passes ++ visit ∷ []
 own_grows passes shard old new number visit within is v =
     ap made_visits (marks-set_same passes shard new within)
-    ∙ (own-visits old new number visit v ∙ ap (λ ms. made_visits ms ++ visit ∷ []) (sym (marks_here passes shard old within is)))
+    ∙ (own-visits old new number visit v
+    ∙ ap (λ ms. made_visits ms ++ visit ∷ []) (sym (marks_here passes shard old within is)))

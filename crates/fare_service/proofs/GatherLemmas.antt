@@ -1,12 +1,15 @@
 -- Shares are gathered: what their workers did is an outcome.
-use Rattle.std.specs.Prelude.{ℕ, zero, suc, ◌≡◌, ◌≢◌, ◌⊎◌, ◌+◌, ◌<◌, ◌≤◌, ◌==◌, true, false, List, [], ◌∷◌, ◌++◌, length, map, replicate, slice_set, All, slice_get, Some, cond}
+use Rattle.std.specs.Prelude.{ℕ, zero, suc, ◌≡◌, ◌≢◌, ◌⊎◌, ◌+◌, ◌<◌, ◌≤◌, ◌==◌, true, false, List}
+use Rattle.std.specs.Prelude.{[], ◌∷◌, ◌++◌, length, map, replicate, slice_set, All, slice_get}
+use Rattle.std.specs.Prelude.{Some, cond}
 use Rattle.std.specs.List.{flat_map, AllZip}
 use Rattle.std.proofs.Common.{refl, sym, ◌∙◌, ap, inl, inr, subst, arith, eq-eqb}
 use Rattle.std.proofs.lemmas.Bool.{cases_lt}
 use Rattle.std.proofs.lemmas.Bool.Decides.{eqb_tells}
 use Rattle.std.proofs.lemmas.List.{map-append}
 use Rattle.std.proofs.lemmas.List.Sums.{sum_by-cons}
-use Rattle.std.proofs.lemmas.List.Elements.{All-nil, All-cons, All-head, All-tail, All-append, All-map, All-weaker}
+use Rattle.std.proofs.lemmas.List.Elements.{All-nil, All-cons, All-head, All-tail, All-append}
+use Rattle.std.proofs.lemmas.List.Elements.{All-map, All-weaker}
 use Rattle.shard_book.specs.Book.{Book}
 use Rattle.shard_book.specs.SumsByKey.{all_entries}
 use Rattle.shard_book.specs.History.{IsLegal}
@@ -17,66 +20,82 @@ use Rattle.fare_service.specs.Closing.{IsHistoryOf}
 use Rattle.fare_service.specs.inside.Closing.{IsClosedWork}
 use Rattle.fare_service.specs.declared.service.share.Done.{Done}
 use Rattle.report_texts.specs.declared.upload_end.UploadEnd.{UploadEnd}
-use Rattle.report_texts.specs.declared.upload_end.UploadEnd.TheVariants.{Posted, Refused, Cut, Undrawn}
+use Rattle.report_texts.specs.declared.upload_end.UploadEnd.TheVariants.{Posted, Refused, Cut}
+use Rattle.report_texts.specs.declared.upload_end.UploadEnd.TheVariants.{Undrawn}
 use Rattle.fare_service.specs.Headline.{end_of, HasOutcome, HasRun}
 use Rattle.fare_service.specs.ServiceView.{ServiceView, shards_of}
 use Rattle.fare_service.specs.inside.ServiceView.{IsService, IsBookOf}
 use Rattle.fare_service.specs.ShareView.{ShareView}
-use Rattle.fare_service.specs.inside.Joining.{Belongs, with_done, with_all_done}
+use Rattle.fare_service.specs.inside.Joining.{with_done, with_all_done}
 use Rattle.fare_service.specs.Outcomes.{OutcomeView}
 use Rattle.fare_service.specs.inside.Outcomes.{IsOutcome}
 use Rattle.fare_service.specs.Runs.{entries_of}
-use Rattle.fare_service.specs.Shares.{Worked, all_visits, all_works, done_of, file_at, IsWorked, IsWorkOf, KeepsWorks, IsShareOf, IsEndOf}
+use Rattle.fare_service.specs.Shares.{Worked, all_visits, all_works, done_of, file_at, IsWorked}
+use Rattle.fare_service.specs.Shares.{IsWorkOf, KeepsWorks, IsShareOf, IsEndOf}
 use Rattle.fare_service.proofs.GatheredWork.{Given, given_of, IsBookOfWork, IsGathered}
 
 -- what each share keeps
 abbrev Kept : ServiceView → List ShareView → List (List Worked) → Type 0
 Kept service shares works = AllZip (KeepsWorks service) shares works
 
-pub keepings : (service : ServiceView) (shares : List ShareView) → All (IsShareOf service) shares → (works : List (List Worked)) × Kept service shares works
+pub keepings : (service : ServiceView) (shares : List ShareView) → All (IsShareOf service) shares
+    → (works : List (List Worked)) × Kept service shares works
 keepings service [] all = ([], tt)
 keepings service (s ∷ shares) all =
     let first = All-head (IsShareOf service) s shares all in
     let rest = keepings service shares (All-tail (IsShareOf service) s shares all) in
     (first.works ∷ rest.0, (first.keeps, rest.1))
 
-pub belongs_all : (service : ServiceView) (shares : List ShareView) → All (IsShareOf service) shares → All (Belongs service.drawing service.books) shares
-belongs_all service shares all = All-weaker (IsShareOf service) (Belongs service.drawing service.books) (λ s h. record { drawn_from = h.drawer; of_books = h.passes }) shares all
-
-all_each : (service : ServiceView) (shares : List ShareView) (works : List (List Worked)) → Kept service shares works → All (λ done. All (IsWorked service) done) works
+all_each : (service : ServiceView) (shares : List ShareView) (works : List (List Worked))
+    → Kept service shares works → All (λ done. All (IsWorked service) done) works
 all_each service [] [] kept = All-nil (λ done. All (IsWorked service) done)
 all_each service [] (w ∷ works) kept = absurd kept
 all_each service (s ∷ shares) [] kept = absurd kept
-all_each service (s ∷ shares) (w ∷ works) kept = All-cons (λ done. All (IsWorked service) done) w works kept.0.each (all_each service shares works kept.1)
+all_each service (s ∷ shares) (w ∷ works) kept =
+    All-cons (λ done. All (IsWorked service) done) w works kept.0.each
+    (all_each service shares works kept.1)
 
-pub each_work : (given : Given) (works : List (List Worked)) → All (λ done. All (IsWorkOf given.shards given.uploads) done) works → All (IsWorkOf given.shards given.uploads) (all_works works)
+pub each_work : (given : Given) (works : List (List Worked))
+    → All (λ done. All (IsWorkOf given.shards given.uploads) done) works
+    → All (IsWorkOf given.shards given.uploads) (all_works works)
 each_work given [] all = All-nil (IsWorkOf given.shards given.uploads)
 each_work given (w ∷ works) all =
-    All-append (IsWorkOf given.shards given.uploads) w (all_works works) (All-head (λ done. All (IsWorkOf given.shards given.uploads) done) w works all) (each_work given works (All-tail (λ done. All (IsWorkOf given.shards given.uploads) done) w works all))
+    All-append (IsWorkOf given.shards given.uploads) w (all_works works)
+    (All-head (λ done. All (IsWorkOf given.shards given.uploads) done) w works all)
+    (each_work given works
+    (All-tail (λ done. All (IsWorkOf given.shards given.uploads) done) w works all))
 
-drawn_all : (service : ServiceView) (shares : List ShareView) (works : List (List Worked)) → Kept service shares works → flat_map (λ share. share.drawer.drawn) shares ≡ map (λ w. w.upload) (all_works works)
+drawn_all : (service : ServiceView) (shares : List ShareView) (works : List (List Worked))
+    → Kept service shares works
+    → flat_map (λ share. share.drawer.drawn) shares ≡ map (λ w. w.upload) (all_works works)
 drawn_all service [] [] kept = refl
 drawn_all service [] (w ∷ works) kept = absurd kept
 drawn_all service (s ∷ shares) [] kept = absurd kept
 drawn_all service (s ∷ shares) (w ∷ works) kept =
-    ap (λ ds. ds ++ flat_map (λ (share : ShareView). share.drawer.drawn) shares) kept.0.drawn ∙ ap (λ ds. map (λ (x : Worked). x.upload) w ++ ds) (drawn_all service shares works kept.1)
+    ap (λ ds. ds ++ flat_map (λ (share : ShareView). share.drawer.drawn) shares) kept.0.drawn
+    ∙ ap (λ ds. map (λ (x : Worked). x.upload) w ++ ds) (drawn_all service shares works kept.1)
     ∙ sym (map-append (λ x. x.upload) w (all_works works))
 
-totals_all : (service : ServiceView) (shares : List ShareView) (works : List (List Worked)) → Kept service shares works
+totals_all : (service : ServiceView) (shares : List ShareView) (works : List (List Worked))
+    → Kept service shares works
     → map (λ share. share.totals) shares ≡ map (λ done. sums (entries_of (all_visits done))) works
 totals_all service [] [] kept = refl
 totals_all service [] (w ∷ works) kept = absurd kept
 totals_all service (s ∷ shares) [] kept = absurd kept
 totals_all service (s ∷ shares) (w ∷ works) kept =
-    ap (λ t. t ∷ map (λ (share : ShareView). share.totals) shares) kept.0.totals ∙ ap (λ ts. sums (entries_of (all_visits w)) ∷ ts) (totals_all service shares works kept.1)
+    ap (λ t. t ∷ map (λ (share : ShareView). share.totals) shares) kept.0.totals
+    ∙ ap (λ ts. sums (entries_of (all_visits w)) ∷ ts) (totals_all service shares works kept.1)
 
-pub kept_length : (service : ServiceView) (shares : List ShareView) (works : List (List Worked)) → Kept service shares works → length shares ≡ length works
+pub kept_length : (service : ServiceView) (shares : List ShareView) (works : List (List Worked))
+    → Kept service shares works → length shares ≡ length works
 kept_length service [] [] kept = refl
 kept_length service [] (w ∷ works) kept = absurd kept
 kept_length service (s ∷ shares) [] kept = absurd kept
 kept_length service (s ∷ shares) (w ∷ works) kept = ap suc (kept_length service shares works kept.1)
 
-kept_at : (service : ServiceView) (shares : List ShareView) (works : List (List Worked)) (worker : ℕ) (done : List Worked) → Kept service shares works → slice_get works worker ≡ Some done
+kept_at : (service : ServiceView) (shares : List ShareView) (works : List (List Worked))
+    (worker : ℕ) (done : List Worked) → Kept service shares works
+    → slice_get works worker ≡ Some done
     → (share : ShareView) × (slice_get shares worker ≡ Some share) × KeepsWorks service share done
 kept_at service [] [] worker done kept at = absurd (cc)
 kept_at service [] (w ∷ works) worker done kept at = absurd kept
@@ -85,34 +104,44 @@ kept_at service (s ∷ shares) (w ∷ works) zero done kept at =
     let same : w ≡ done = cc in
     let K : List Worked → Type 0 = KeepsWorks service s in
     (s, refl, subst K same kept.0)
-kept_at service (s ∷ shares) (w ∷ works) (suc worker) done kept at = kept_at service shares works worker done kept.1 at
+kept_at service (s ∷ shares) (w ∷ works) (suc worker) done kept at =
+    kept_at service shares works worker done kept.1 at
 
 -- the ends, of what all did
-told-append : (ends : List UploadEnd) (xs ys : List Done) → with_done ends (xs ++ ys) ≡ with_done (with_done ends xs) ys
+told-append : (ends : List UploadEnd) (xs ys : List Done)
+    → with_done ends (xs ++ ys) ≡ with_done (with_done ends xs) ys
 told-append ends [] ys = refl
 told-append ends (d ∷ xs) ys = told-append (slice_set ends d.upload d.end) xs ys
 
-told_works : (service : ServiceView) (ends : List UploadEnd) (shares : List ShareView) (works : List (List Worked)) → Kept service shares works → with_all_done ends shares ≡ with_done ends (map done_of (all_works works))
+told_works : (service : ServiceView) (ends : List UploadEnd) (shares : List ShareView)
+    (works : List (List Worked)) → Kept service shares works
+    → with_all_done ends shares ≡ with_done ends (map done_of (all_works works))
 told_works service ends [] [] kept = refl
 told_works service ends [] (w ∷ works) kept = absurd kept
 told_works service ends (s ∷ shares) [] kept = absurd kept
 told_works service ends (s ∷ shares) (w ∷ works) kept =
-    ap (λ ds. with_all_done (with_done ends ds) shares) kept.0.done ∙ told_works service (with_done ends (map done_of w)) shares works kept.1
-    ∙ sym (told-append ends (map done_of w) (map done_of (all_works works))) ∙ ap (with_done ends) (sym (map-append done_of w (all_works works)))
+    ap (λ ds. with_all_done (with_done ends ds) shares) kept.0.done
+    ∙ told_works service (with_done ends (map done_of w)) shares works kept.1
+    ∙ sym (told-append ends (map done_of w) (map done_of (all_works works)))
+    ∙ ap (with_done ends) (sym (map-append done_of w (all_works works)))
 
-set_same : (ends : List UploadEnd) (upload : ℕ) (new end : UploadEnd) → slice_get (slice_set ends upload new) upload ≡ Some end → end ≡ new
+set_same : (ends : List UploadEnd) (upload : ℕ) (new end : UploadEnd)
+    → slice_get (slice_set ends upload new) upload ≡ Some end → end ≡ new
 set_same [] upload new end at = absurd (cc)
 set_same (e ∷ ends) zero new end at = let h : new ≡ end = cc in sym h
 set_same (e ∷ ends) (suc upload) new end at = set_same ends upload new end at
 
-set_other : (ends : List UploadEnd) (upload other : ℕ) (new : UploadEnd) → upload ≢ other → slice_get (slice_set ends upload new) other ≡ slice_get ends other
+set_other : (ends : List UploadEnd) (upload other : ℕ) (new : UploadEnd) → upload ≢ other
+    → slice_get (slice_set ends upload new) other ≡ slice_get ends other
 set_other [] upload other new apart = refl
 set_other (e ∷ ends) zero zero new apart = absurd (apart refl)
 set_other (e ∷ ends) zero (suc other) new apart = refl
 set_other (e ∷ ends) (suc upload) zero new apart = refl
-set_other (e ∷ ends) (suc upload) (suc other) new apart = set_other ends upload other new (λ h. apart (ap suc h))
+set_other (e ∷ ends) (suc upload) (suc other) new apart =
+    set_other ends upload other new (λ h. apart (ap suc h))
 
-get_replicate : (number upload : ℕ) (end : UploadEnd) → slice_get (replicate number Undrawn) upload ≡ Some end → end ≡ Undrawn
+get_replicate : (number upload : ℕ) (end : UploadEnd)
+    → slice_get (replicate number Undrawn) upload ≡ Some end → end ≡ Undrawn
 get_replicate zero upload end at = absurd (cc)
 get_replicate (suc number) zero end at = let h : Undrawn ≡ end = cc in sym h
 get_replicate (suc number) (suc upload) end at = get_replicate number upload end at
@@ -121,106 +150,168 @@ get_replicate (suc number) (suc upload) end at = get_replicate number upload end
 abbrev pub drawn_times : ℕ → List Worked → ℕ
 drawn_times upload works = times upload (map (λ w. w.upload) works)
 
-pub times_same : (w : Worked) (works : List Worked) (upload : ℕ) → (w.upload == upload) ≡ true → drawn_times upload (w ∷ works) ≡ 1 + drawn_times upload works
-times_same w works upload is = sum_by-cons (λ x. cond (x == upload) 1 0) w.upload (map (λ x. x.upload) works) ∙ ap (λ b. cond b 1 0 + drawn_times upload works) is
+pub times_same : (w : Worked) (works : List Worked) (upload : ℕ) → (w.upload == upload) ≡ true
+    → drawn_times upload (w ∷ works) ≡ 1 + drawn_times upload works
+times_same w works upload is =
+    sum_by-cons (λ x. cond (x == upload) 1 0) w.upload (map (λ x. x.upload) works)
+    ∙ ap (λ b. cond b 1 0 + drawn_times upload works) is
 
-pub times_other : (w : Worked) (works : List Worked) (upload : ℕ) → (w.upload == upload) ≡ false → drawn_times upload (w ∷ works) ≡ drawn_times upload works
-times_other w works upload is = omega (arith, sum_by-cons (λ x. cond (x == upload) 1 0) w.upload (map (λ x. x.upload) works), ap {B = ℕ} (λ b. cond b 1 0) is)
+pub times_other : (w : Worked) (works : List Worked) (upload : ℕ) → (w.upload == upload) ≡ false
+    → drawn_times upload (w ∷ works) ≡ drawn_times upload works
+times_other w works upload is =
+    omega (
+      arith,
+      sum_by-cons (λ x. cond (x == upload) 1 0) w.upload (map (λ x. x.upload) works),
+      ap {B = ℕ} (λ b. cond b 1 0) is,
+    )
 
-pub end_same : (w : Worked) (works : List Worked) (upload : ℕ) → (w.upload == upload) ≡ true → end_of upload (w ∷ works) ≡ w.end
+pub end_same : (w : Worked) (works : List Worked) (upload : ℕ) → (w.upload == upload) ≡ true
+    → end_of upload (w ∷ works) ≡ w.end
 end_same w works upload is = ap (λ b. cond b w.end (end_of upload works)) is
 
-pub end_other : (w : Worked) (works : List Worked) (upload : ℕ) → (w.upload == upload) ≡ false → end_of upload (w ∷ works) ≡ end_of upload works
+pub end_other : (w : Worked) (works : List Worked) (upload : ℕ) → (w.upload == upload) ≡ false
+    → end_of upload (w ∷ works) ≡ end_of upload works
 end_other w works upload is = ap (λ b. cond b w.end (end_of upload works)) is
 
-pub fewer_after : (w : Worked) (works : List Worked) → NoneTwice (map (λ x. x.upload) (w ∷ works)) → NoneTwice (map (λ x. x.upload) works)
+pub fewer_after : (w : Worked) (works : List Worked) → NoneTwice (map (λ x. x.upload) (w ∷ works))
+    → NoneTwice (map (λ x. x.upload) works)
 fewer_after w works once x = by_test (eqb_tells w.upload x)
   where
-    by_test : (((w.upload == x) ≡ true) × (w.upload ≡ x)) ⊎ (((w.upload == x) ≡ false) × (w.upload ≢ x)) → drawn_times x works ≤ 1
+    by_test : (((w.upload == x) ≡ true) × (w.upload ≡ x))
+        ⊎ (((w.upload == x) ≡ false) × (w.upload ≢ x)) → drawn_times x works ≤ 1
     by_test (inl (is, same)) = omega (arith, once x, times_same w works x is)
     by_test (inr (is, apart)) = omega (arith, once x, times_other w works x is)
 
 -- an upload with its end was not drawn, or it ended as the one that drew it tells
 abbrev Told : List UploadEnd → List Worked → ℕ → UploadEnd → Type 0
-Told ends works upload end = ((drawn_times upload works ≡ 0) × (slice_get ends upload ≡ Some end)) ⊎ ((0 < drawn_times upload works) × (end ≡ end_of upload works))
+Told ends works upload end =
+    ((drawn_times upload works ≡ 0) × (slice_get ends upload ≡ Some end))
+    ⊎ ((0 < drawn_times upload works) × (end ≡ end_of upload works))
 
-told_end : (ends : List UploadEnd) (works : List Worked) (upload : ℕ) (end : UploadEnd) → NoneTwice (map (λ w. w.upload) works)
+told_end : (ends : List UploadEnd) (works : List Worked) (upload : ℕ) (end : UploadEnd)
+    → NoneTwice (map (λ w. w.upload) works)
     → slice_get (with_done ends (map done_of works)) upload ≡ Some end → Told ends works upload end
 told_end ends [] upload end once at = inl (refl, at)
-told_end ends (w ∷ works) upload end once at = by_test (eqb_tells w.upload upload) (told_end (slice_set ends w.upload w.end) works upload end (fewer_after w works once) at)
+told_end ends (w ∷ works) upload end once at =
+    by_test (eqb_tells w.upload upload)
+    (told_end (slice_set ends w.upload w.end) works upload end (fewer_after w works once) at)
   where
-    by_test : (((w.upload == upload) ≡ true) × (w.upload ≡ upload)) ⊎ (((w.upload == upload) ≡ false) × (w.upload ≢ upload))
+    by_test : (((w.upload == upload) ≡ true) × (w.upload ≡ upload))
+        ⊎ (((w.upload == upload) ≡ false) × (w.upload ≢ upload))
         → Told (slice_set ends w.upload w.end) works upload end → Told ends (w ∷ works) upload end
     by_test (inl (is, same)) (inl (none, there)) =
         let S : ℕ → Type 0 = λ u. slice_get (slice_set ends u w.end) upload ≡ Some end in
-        inr (omega (arith, times_same w works upload is), set_same ends upload w.end end (subst S same there) ∙ sym (end_same w works upload is))
-    by_test (inl (is, same)) (inr (some, ended)) = absurd (omega (arith, times_same w works upload is, some, once upload))
-    by_test (inr (is, apart)) (inl (none, there)) = inl (times_other w works upload is ∙ none, sym (set_other ends w.upload upload w.end apart) ∙ there)
-    by_test (inr (is, apart)) (inr (some, ended)) = inr (omega (arith, times_other w works upload is, some), ended ∙ sym (end_other w works upload is))
+        inr (
+          omega (arith, times_same w works upload is),
+          set_same ends upload w.end end (subst S same there) ∙ sym (end_same w works upload is),
+        )
+    by_test (inl (is, same)) (inr (some, ended)) =
+        absurd (omega (arith, times_same w works upload is, some, once upload))
+    by_test (inr (is, apart)) (inl (none, there)) =
+        inl (
+          times_other w works upload is ∙ none,
+          sym (set_other ends w.upload upload w.end apart)
+              ∙ there,
+        )
+    by_test (inr (is, apart)) (inr (some, ended)) =
+        inr (
+          omega (arith, times_other w works upload is, some),
+          ended
+              ∙ sym (end_other w works upload is),
+        )
 
 -- an upload that was drawn ended
 never_undrawn : (service : ServiceView) (w : Worked) → IsWorked service w → w.end ≢ Undrawn
 never_undrawn service w worked = by_end w.end worked.ended
   where
-    by_end : (end : UploadEnd) → IsEndOf (shards_of service) (file_at service.uploads w.upload) worked.batches worked.rest w.visits end → end ≢ Undrawn
+    by_end : (end : UploadEnd)
+        → IsEndOf (shards_of service) (file_at service.uploads w.upload) worked.batches worked.rest
+        w.visits end → end ≢ Undrawn
     by_end Undrawn e is = e
     by_end (Posted taps) e is = absurd (cc)
     by_end (Refused taps offset fault) e is = absurd (cc)
     by_end (Cut taps) e is = absurd (cc)
 
-drawn_ended : (service : ServiceView) (works : List Worked) (upload : ℕ) → All (IsWorked service) works → 0 < drawn_times upload works → end_of upload works ≢ Undrawn
+drawn_ended : (service : ServiceView) (works : List Worked) (upload : ℕ)
+    → All (IsWorked service) works → 0 < drawn_times upload works → end_of upload works ≢ Undrawn
 drawn_ended service [] upload all some = absurd (omega (arith, some))
 drawn_ended service (w ∷ works) upload all some =
-    by_test (eqb_tells w.upload upload) (drawn_ended service works upload (All-tail (IsWorked service) w works all))
+    by_test (eqb_tells w.upload upload)
+    (drawn_ended service works upload (All-tail (IsWorked service) w works all))
   where
-    by_test : (((w.upload == upload) ≡ true) × (w.upload ≡ upload)) ⊎ (((w.upload == upload) ≡ false) × (w.upload ≢ upload)) → (0 < drawn_times upload works → end_of upload works ≢ Undrawn)
+    by_test : (((w.upload == upload) ≡ true) × (w.upload ≡ upload))
+        ⊎ (((w.upload == upload) ≡ false) × (w.upload ≢ upload))
+        → (0 < drawn_times upload works → end_of upload works ≢ Undrawn)
         → end_of upload (w ∷ works) ≢ Undrawn
-    by_test (inl (is, same)) rest e = never_undrawn service w (All-head (IsWorked service) w works all) (sym (end_same w works upload is) ∙ e)
-    by_test (inr (is, apart)) rest e = rest (omega (arith, some, times_other w works upload is)) (sym (end_other w works upload is) ∙ e)
+    by_test (inl (is, same)) rest e =
+        never_undrawn service w (All-head (IsWorked service) w works all)
+        (sym (end_same w works upload is) ∙ e)
+    by_test (inr (is, apart)) rest e =
+        rest (omega (arith, some, times_other w works upload is))
+        (sym (end_other w works upload is) ∙ e)
 
-pub not_drawn : (works : List Worked) (upload : ℕ) → drawn_times upload works ≡ 0 → end_of upload works ≡ Undrawn
+pub not_drawn : (works : List Worked) (upload : ℕ) → drawn_times upload works ≡ 0
+    → end_of upload works ≡ Undrawn
 not_drawn [] upload none = refl
 not_drawn (w ∷ works) upload none = by_test (eqb_tells w.upload upload) (not_drawn works upload)
   where
-    by_test : (((w.upload == upload) ≡ true) × (w.upload ≡ upload)) ⊎ (((w.upload == upload) ≡ false) × (w.upload ≢ upload)) → (drawn_times upload works ≡ 0 → end_of upload works ≡ Undrawn)
+    by_test : (((w.upload == upload) ≡ true) × (w.upload ≡ upload))
+        ⊎ (((w.upload == upload) ≡ false) × (w.upload ≢ upload))
+        → (drawn_times upload works ≡ 0 → end_of upload works ≡ Undrawn)
         → end_of upload (w ∷ works) ≡ Undrawn
     by_test (inl (is, same)) rest = absurd (omega (arith, none, times_same w works upload is))
-    by_test (inr (is, apart)) rest = end_other w works upload is ∙ rest (omega (arith, none, times_other w works upload is))
+    by_test (inr (is, apart)) rest =
+        end_other w works upload is ∙ rest (omega (arith, none, times_other w works upload is))
 
 -- the ends that the shares tell
-ends_told : (service : ServiceView) (shares : List ShareView) (works : List (List Worked)) → Kept service shares works → NoneTwice (map (λ w. w.upload) (all_works works))
-    → (ends : List UploadEnd) → ends ≡ with_all_done (replicate (length service.uploads) Undrawn) shares
-    → (upload : ℕ) (end : UploadEnd) → slice_get ends upload ≡ Some end → Told (replicate (length service.uploads) Undrawn) (all_works works) upload end
+ends_told : (service : ServiceView) (shares : List ShareView) (works : List (List Worked))
+    → Kept service shares works → NoneTwice (map (λ w. w.upload) (all_works works))
+    → (ends : List UploadEnd)
+    → ends ≡ with_all_done (replicate (length service.uploads) Undrawn) shares
+    → (upload : ℕ) (end : UploadEnd) → slice_get ends upload ≡ Some end
+    → Told (replicate (length service.uploads) Undrawn) (all_works works) upload end
 ends_told service shares works kept once ends are upload end at =
     let G : List UploadEnd → Type 0 = λ es. slice_get es upload ≡ Some end in
-    told_end (replicate (length service.uploads) Undrawn) (all_works works) upload end once (subst G (are ∙ told_works service (replicate (length service.uploads) Undrawn) shares works kept) at)
+    told_end (replicate (length service.uploads) Undrawn) (all_works works) upload end once
+    (subst G (are ∙ told_works service (replicate (length service.uploads) Undrawn) shares works
+    kept) at)
 
-book_of_work : (service : ServiceView) → IsService service → (shares : List ShareView) (works : List (List Worked)) → Kept service shares works
-    → (shard : ℕ) (book : Book) → IsHistoryOf service.books shares shard book → IsBookOfWork service.table shard (shards_of service) works book
+book_of_work : (service : ServiceView) → IsService service
+    → (shares : List ShareView) (works : List (List Worked)) → Kept service shares works
+    → (shard : ℕ) (book : Book) → IsHistoryOf service.books shares shard book
+    → IsBookOfWork service.table shard (shards_of service) works book
 book_of_work service is shares works kept shard book h =
-    let opened : IsBookOf service.table shard (shards_of service) h.shared = is.books shard h.shared h.at in
+    let opened : IsBookOf service.table shard (shards_of service) h.shared =
+    is.books shard h.shared h.at in
     let L : Fares → Type 0 = λ t. IsLegal t book.entries in
     record {
       visits = h.visits;
       history = h.history;
-      signed = All-weaker (λ v. v.worker < length shares) (λ v. v.worker < length works) (λ v p. omega (arith, p, kept_length service shares works kept)) h.visits h.signed;
-      order = λ worker done at. let k = kept_at service shares works worker done kept at in h.order worker k.0 k.1 ∙ k.2.visits shard;
+      signed = All-weaker (λ v. v.worker < length shares) (λ v. v.worker < length works)
+          (λ v p. omega (arith, p, kept_length service shares works kept)) h.visits h.signed;
+      order = λ worker done at. let k = kept_at service shares works worker done kept at in
+          h.order worker k.0 k.1 ∙ k.2.visits shard;
       its_table = h.table ∙ opened.its_table;
       its_shard = h.its_shard ∙ opened.its_shard;
       of_shards = h.of_shards ∙ opened.of_shards;
       legal = subst L (h.table ∙ opened.its_table) h.legal;
     }
 
-gathered : List Book → List UploadEnd → List Sums → Sums → OutcomeView
-gathered books ends workers totals = record { books = books; ends = ends; workers = workers; totals = totals }
-
 -- what was gathered of shares, by what each keeps
 abbrev pub HasGathered : ServiceView → List ShareView → OutcomeView → Type 0
-HasGathered service shares outcome = (works : List (List Worked)) × AllZip (KeepsWorks service) shares works × IsGathered (given_of service) works outcome
+HasGathered service shares outcome =
+    (works : List (List Worked)) × AllZip (KeepsWorks service) shares works
+    × IsGathered (given_of service) works outcome
 
-pub has_gathered : (service : ServiceView) → IsService service → (shares : List ShareView) → All (IsShareOf service) shares → (closed : List Book) → IsClosedWork service.books shares closed
-    → (ends : List UploadEnd) → ends ≡ with_all_done (replicate (length service.uploads) Undrawn) shares → length ends ≡ length service.uploads
-    → (workers : List Sums) → workers ≡ map (λ share. share.totals) shares → (totals : Sums) → HasGathered service shares (record { books = closed; ends = ends; workers = workers; totals = totals })
+pub has_gathered : (service : ServiceView) → IsService service → (shares : List ShareView)
+    → All (IsShareOf service) shares → (closed : List Book)
+    → IsClosedWork service.books shares closed
+    → (ends : List UploadEnd)
+    → ends ≡ with_all_done (replicate (length service.uploads) Undrawn) shares
+    → length ends ≡ length service.uploads
+    → (workers : List Sums) → workers ≡ map (λ share. share.totals) shares → (totals : Sums)
+    → HasGathered service shares
+    (record { books = closed; ends = ends; workers = workers; totals = totals })
 has_gathered service is shares all closed work ends are number workers sums_are totals =
     let k = keepings service shares all in
     let D : List ℕ → Type 0 = NoneTwice in
@@ -232,75 +323,124 @@ has_gathered service is shares all closed work ends are number workers sums_are 
         each = each;
         once = once;
         shards = work.number;
-        books = λ shard book at. book_of_work service is shares k.0 k.1 shard book (work.books shard book at);
+        books = λ shard book at. book_of_work service is shares k.0 k.1 shard book
+            (work.books shard book at);
         uploads = number;
-        ends = λ upload end at. by_told k.0 upload end (ends_told service shares k.0 k.1 once ends are upload end at);
+        ends = λ upload end at. by_told k.0 upload end
+            (ends_told service shares k.0 k.1 once ends are upload end at);
         workers = sums_are ∙ totals_all service shares k.0 k.1;
       },
     )
   where
-    by_told : (works : List (List Worked)) (upload : ℕ) (end : UploadEnd) → Told (replicate (length service.uploads) Undrawn) (all_works works) upload end → end ≡ end_of upload (all_works works)
-    by_told works upload end (inl (none, there)) = get_replicate (length service.uploads) upload end there ∙ sym (not_drawn (all_works works) upload none)
+    by_told : (works : List (List Worked)) (upload : ℕ) (end : UploadEnd)
+        → Told (replicate (length service.uploads) Undrawn) (all_works works) upload end
+        → end ≡ end_of upload (all_works works)
+    by_told works upload end (inl (none, there)) =
+        get_replicate (length service.uploads) upload end there
+        ∙ sym (not_drawn (all_works works) upload none)
     by_told works upload end (inr (some, e)) = e
 
-pub told_undrawn : (service : ServiceView) (shares : List ShareView) → All (IsShareOf service) shares → (closed : List Book) → IsClosedWork service.books shares closed
-    → (ends : List UploadEnd) → ends ≡ with_all_done (replicate (length service.uploads) Undrawn) shares → length ends ≡ length service.uploads
-    → (upload : ℕ) → slice_get ends upload ≡ Some Undrawn → All (λ share. share.drawer.seen ≤ upload) shares
+pub told_undrawn : (service : ServiceView) (shares : List ShareView)
+    → All (IsShareOf service) shares → (closed : List Book)
+    → IsClosedWork service.books shares closed
+    → (ends : List UploadEnd)
+    → ends ≡ with_all_done (replicate (length service.uploads) Undrawn) shares
+    → length ends ≡ length service.uploads
+    → (upload : ℕ) → slice_get ends upload ≡ Some Undrawn
+    → All (λ share. share.drawer.seen ≤ upload) shares
 told_undrawn service shares all closed work ends are number upload at =
     let k = keepings service shares all in
     let D : List ℕ → Type 0 = NoneTwice in
     let once = subst D (drawn_all service shares k.0 k.1) work.once in
     by_told k.0 k.1 (ends_told service shares k.0 k.1 once ends are upload Undrawn at)
   where
-    by_told : (works : List (List Worked)) → Kept service shares works → Told (replicate (length service.uploads) Undrawn) (all_works works) upload Undrawn → All (λ share. share.drawer.seen ≤ upload) shares
-    by_told works kept (inl (none, there)) = work.undrawn upload (ap (times upload) (drawn_all service shares works kept) ∙ none)
-    by_told works kept (inr (some, e)) = absurd (drawn_ended service (all_works works) upload (each_work (given_of service) works (all_each service shares works kept)) some (sym e))
+    by_told : (works : List (List Worked)) → Kept service shares works
+        → Told (replicate (length service.uploads) Undrawn) (all_works works) upload Undrawn
+        → All (λ share. share.drawer.seen ≤ upload) shares
+    by_told works kept (inl (none, there)) =
+        work.undrawn upload (ap (times upload) (drawn_all service shares works kept) ∙ none)
+    by_told works kept (inr (some, e)) =
+        absurd (drawn_ended service (all_works works) upload
+        (each_work (given_of service) works (all_each service shares works kept)) some (sym e))
 
 -- uploads below a number
-all_below : (works : List Worked) (n : ℕ) → AllBelow n (map (λ w. w.upload) works) → All (λ w. w.upload < n) works
+all_below : (works : List Worked) (n : ℕ) → AllBelow n (map (λ w. w.upload) works)
+    → All (λ w. w.upload < n) works
 all_below [] n below = All-nil (λ (w : Worked). w.upload < n)
-all_below (w ∷ works) n below = All-cons (λ x. x.upload < n) w works (here (cases_lt w.upload n)) (all_below works n rest)
+all_below (w ∷ works) n below =
+    All-cons (λ x. x.upload < n) w works (here (cases_lt w.upload n)) (all_below works n rest)
   where
     here : (w.upload < n) ⊎ (n ≤ w.upload) → w.upload < n
     here (inl h) = h
-    here (inr h) = absurd (omega (arith, below w.upload h, times_same w works w.upload (eq-eqb w.upload w.upload refl)))
+    here (inr h) = absurd
+        (omega (
+          arith,
+          below w.upload h,
+          times_same w works w.upload (eq-eqb w.upload w.upload refl),
+        ))
 
     rest : AllBelow n (map (λ x. x.upload) works)
-    rest x above = omega (arith, below x above, sum_by-cons (λ u. cond (u == x) 1 0) w.upload (map (λ (y : Worked). y.upload) works))
+    rest x above = omega (
+      arith,
+      below x above,
+      sum_by-cons (λ u. cond (u == x) 1 0) w.upload (map (λ (y : Worked). y.upload) works),
+    )
 
 -- the uploads that nobody drew are the last ones
-pub undrawn_last : (service : ServiceView) (shares : List ShareView) (works : List (List Worked)) → Kept service shares works → (closed : List Book) → IsClosedWork service.books shares closed
-    → (upload : ℕ) → end_of upload (all_works works) ≡ Undrawn → All (λ w. w.upload < upload) (all_works works)
-undrawn_last service shares works kept closed work upload ended = by_times (cases_lt 0 (drawn_times upload (all_works works)))
+pub undrawn_last : (service : ServiceView) (shares : List ShareView) (works : List (List Worked))
+    → Kept service shares works → (closed : List Book) → IsClosedWork service.books shares closed
+    → (upload : ℕ) → end_of upload (all_works works) ≡ Undrawn
+    → All (λ w. w.upload < upload) (all_works works)
+undrawn_last service shares works kept closed work upload ended =
+    by_times (cases_lt 0 (drawn_times upload (all_works works)))
   where
-    by_times : (0 < drawn_times upload (all_works works)) ⊎ (drawn_times upload (all_works works) ≤ 0) → All (λ w. w.upload < upload) (all_works works)
-    by_times (inl some) = absurd (drawn_ended service (all_works works) upload (each_work (given_of service) works (all_each service shares works kept)) some ended)
+    by_times : (0 < drawn_times upload (all_works works))
+        ⊎ (drawn_times upload (all_works works) ≤ 0)
+        → All (λ w. w.upload < upload) (all_works works)
+    by_times (inl some) =
+        absurd (drawn_ended service (all_works works) upload
+        (each_work (given_of service) works (all_each service shares works kept)) some ended)
     by_times (inr few) =
-        let none : times upload (flat_map (λ share. share.drawer.drawn) shares) ≡ 0 = ap (times upload) (drawn_all service shares works kept) ∙ omega (arith, few) in
+        let none : times upload (flat_map (λ share. share.drawer.drawn) shares) ≡ 0 =
+        ap (times upload) (drawn_all service shares works kept) ∙ omega (arith, few) in
         let B : List ℕ → Type 0 = AllBelow upload in
-        all_below (all_works works) upload (subst B (drawn_all service shares works kept) (work.last upload none))
+        all_below (all_works works) upload
+        (subst B (drawn_all service shares works kept) (work.last upload none))
 
 -- what always holds of an outcome holds
-pub is_outcome : (service : ServiceView) → IsService service → (shares : List ShareView) (closed : List Book) → IsClosedWork service.books shares closed → (ends : List UploadEnd) → length ends ≡ length service.uploads
-    → (workers : List Sums) (totals : Sums) → totals ≡ sums (all_entries closed) → IsOutcome (record { books = closed; ends = ends; workers = workers; totals = totals })
+pub is_outcome : (service : ServiceView) → IsService service
+    → (shares : List ShareView) (closed : List Book) → IsClosedWork service.books shares closed
+    → (ends : List UploadEnd) → length ends ≡ length service.uploads
+    → (workers : List Sums) (totals : Sums) → totals ≡ sums (all_entries closed)
+    → IsOutcome (record { books = closed; ends = ends; workers = workers; totals = totals })
 is_outcome service is shares closed work ends number workers totals of_books = record {
   some_shard = omega (arith, work.number, is.some_shard);
   few_shards = omega (arith, work.number, is.few_shards);
-  shards = λ shard book at. let h = work.books shard book at in h.of_shards ∙ (is.books shard h.shared h.at).of_shards ∙ sym work.number;
+  shards = λ shard book at. let h = work.books shard book at in
+      h.of_shards ∙ (is.books shard h.shared h.at).of_shards ∙ sym work.number;
   few_uploads = omega (arith, number, is.few_uploads);
   of_books = of_books;
 }
 
 -- each share's uploads are uploads of the service
-pub done_within : (service : ServiceView) (uploads : ℕ) (shares : List ShareView) → length service.uploads ≡ uploads → All (IsShareOf service) shares → All (λ share. All (λ d. d.upload < uploads) share.done) shares
+pub done_within : (service : ServiceView) (uploads : ℕ) (shares : List ShareView)
+    → length service.uploads ≡ uploads → All (IsShareOf service) shares
+    → All (λ share. All (λ d. d.upload < uploads) share.done) shares
 done_within service uploads shares number all =
-    All-weaker (IsShareOf service) (λ share. All (λ d. d.upload < uploads) share.done) (λ s h. of_share s h) shares all
+    All-weaker (IsShareOf service) (λ share. All (λ d. d.upload < uploads) share.done)
+    (λ s h. of_share s h) shares all
   where
     of_share : (s : ShareView) → IsShareOf service s → All (λ d. d.upload < uploads) s.done
     of_share s h =
         let P : List Done → Type 0 = All (λ d. d.upload < uploads) in
-        subst P (sym h.keeps.done) (All-map (λ d. d.upload < uploads) done_of h.works (All-weaker (IsWorked service) (λ w. w.upload < uploads) (λ w q. omega (arith, q.within, number)) h.works h.keeps.each))
+        subst P (sym h.keeps.done)
+        (All-map (λ d. d.upload < uploads) done_of h.works
+        (All-weaker (IsWorked service) (λ w. w.upload < uploads)
+        (λ w q. omega (arith, q.within, number)) h.works h.keeps.each))
 
 -- a run of so many workers was gathered
-pub has_run : (service : ServiceView) (shares : List ShareView) (workers : ℕ) (outcome : OutcomeView) → length shares ≡ workers → HasOutcome service shares outcome → HasRun service.table (shards_of service) service.uploads workers outcome
-has_run service shares workers outcome number (works, kept, headline) = (works, sym (kept_length service shares works kept) ∙ number, headline)
+pub has_run : (service : ServiceView) (shares : List ShareView) (workers : ℕ)
+    (outcome : OutcomeView) → length shares ≡ workers → HasOutcome service shares outcome
+    → HasRun service.table (shards_of service) service.uploads workers outcome
+has_run service shares workers outcome number (works, kept, headline) =
+    (works, sym (kept_length service shares works kept) ∙ number, headline)

@@ -20,25 +20,31 @@ pub record Given : Type 0 where
   pub uploads : List (List ℕ)
 
 abbrev pub given_of : ServiceView → Given
-given_of service = record { table = service.table; shards = shards_of service; uploads = service.uploads }
+given_of service = record
+    { table = service.table; shards = shards_of service; uploads = service.uploads }
 
 -- the book of a shard, by the visits of the workers
-pub record IsBookOfWork (table : Fares) (shard shards : ℕ) (works : List (List Worked)) (book : Book) : Type 0 where
+pub record IsBookOfWork (table : Fares) (shard shards : ℕ) (works : List (List Worked))
+    (book : Book) : Type 0 where
   pub visits : List Signed
   pub history : book.entries ≡ history_of_visits (map (λ v. v.entries) visits)
   pub signed : All (λ v. v.worker < length works) visits
-  pub order : (worker : ℕ) (done : List Worked) → slice_get works worker ≡ Some done → by_worker worker visits ≡ entries_to shard (all_visits done)
+  pub order : (worker : ℕ) (done : List Worked) → slice_get works worker ≡ Some done
+      → by_worker worker visits ≡ entries_to shard (all_visits done)
   pub its_table : book.table ≡ table
   pub its_shard : book.shard ≡ shard
   pub of_shards : book.shards ≡ shards
   pub legal : IsLegal table book.entries
 
 -- the books, ends and totals, by what the workers did
-pub record IsGathered (given : Given) (works : List (List Worked)) (outcome : OutcomeView) : Type 0 where
+pub record IsGathered (given : Given) (works : List (List Worked)) (outcome : OutcomeView) : Type
+    0 where
   pub each : All (λ done. All (IsWorkOf given.shards given.uploads) done) works
   pub once : NoneTwice (map (λ w. w.upload) (all_works works))
   pub shards : length outcome.books ≡ given.shards
-  pub books : (shard : ℕ) (book : Book) → slice_get outcome.books shard ≡ Some book → IsBookOfWork given.table shard given.shards works book
+  pub books : (shard : ℕ) (book : Book) → slice_get outcome.books shard ≡ Some book
+      → IsBookOfWork given.table shard given.shards works book
   pub uploads : length outcome.ends ≡ length given.uploads
-  pub ends : (upload : ℕ) (end : UploadEnd) → slice_get outcome.ends upload ≡ Some end → end ≡ end_of upload (all_works works)
+  pub ends : (upload : ℕ) (end : UploadEnd) → slice_get outcome.ends upload ≡ Some end
+      → end ≡ end_of upload (all_works works)
   pub workers : outcome.workers ≡ map (λ done. sums (entries_of (all_visits done))) works

@@ -1,7 +1,9 @@
 -- Passes that are joined, one shard after another.
-use Rattle.std.specs.Prelude.{ℕ, zero, suc, ◌≡◌, ◌≢◌, ◌⊎◌, ◌+◌, ◌<◌, ◌≤◌, ◌==◌, true, false, List, [], ◌∷◌, ◌++◌, length, slice_get, Some}
+use Rattle.std.specs.Prelude.{ℕ, zero, suc, ◌≡◌, ◌≢◌, ◌⊎◌, ◌+◌, ◌<◌, ◌≤◌, ◌==◌, true, false, List}
+use Rattle.std.specs.Prelude.{[], ◌∷◌, ◌++◌, length, slice_get, Some}
 use Rattle.std.specs.List.{flat_map}
-use Rattle.std.proofs.Common.{refl, sym, ◌∙◌, ap, inl, inr, subst, arith, get_or, set, append-nil, length-append}
+use Rattle.std.proofs.Common.{refl, sym, ◌∙◌, ap, inl, inr, subst, arith, get_or, set, append-nil}
+use Rattle.std.proofs.Common.{length-append}
 use Rattle.std.proofs.lemmas.List.{map-append}
 use Rattle.std.proofs.lemmas.List.Elements.{All-nil, All-cons, All-push, All-weaker}
 use Rattle.std.proofs.lemmas.List.Sums.{sum_by-append, sum_by-cons}
@@ -15,135 +17,232 @@ use Rattle.shared_books.specs.Passes.{SharedBookView, PassView, IsJoined}
 use Rattle.fare_service.specs.Claims.{claims_at}
 use Rattle.fare_service.specs.Headline.{by_worker}
 use Rattle.fare_service.specs.ShareView.{ShareView}
-use Rattle.fare_service.specs.inside.Joining.{AreSigns, AreJoined, AreJoinedAt, AreSignedAt, Belongs, IsJoinedOf}
+use Rattle.fare_service.specs.inside.Joining.{AreSigns, AreJoined, AreJoinedAt, AreSignedAt}
+use Rattle.fare_service.specs.inside.Joining.{Belongs, IsJoinedOf}
 use Rattle.fare_service.specs.Shares.{books_of, marks_at, made_visits_at}
 use Rattle.fare_service.proofs.PlaceLemmas.{place_more}
-use Rattle.fare_service.proofs.Signing.{signed, signs_more, earlier_stay, new_own, merged-nil, made_own}
+use Rattle.fare_service.proofs.Signing.{signed, signs_more, earlier_stay, new_own, merged-nil}
+use Rattle.fare_service.proofs.Signing.{made_own}
 use Rattle.fare_service.proofs.VisitLemmas.{marks-set_same, marks-set_other}
 use Rattle.fare_service.proofs.RunVisits.{marks_here}
 
-marks_beyond : (shard : ℕ) (passes : List PassView) → length passes ≤ shard → marks_at shard passes ≡ []
+marks_beyond : (shard : ℕ) (passes : List PassView) → length passes ≤ shard
+    → marks_at shard passes ≡ []
 marks_beyond shard [] h = refl
 marks_beyond zero (p ∷ ps) h = absurd (omega (arith, h))
 marks_beyond (suc shard) (p ∷ ps) h = marks_beyond shard ps (omega arith)
 
-marks_last : (passes : List PassView) (pass : PassView) → marks_at (length passes) (passes ++ pass ∷ []) ≡ pass.marks
+marks_last : (passes : List PassView) (pass : PassView)
+    → marks_at (length passes) (passes ++ pass ∷ []) ≡ pass.marks
 marks_last [] pass = refl
 marks_last (p ∷ ps) pass = marks_last ps pass
 
-marks_else : (shard : ℕ) (passes : List PassView) (pass : PassView) → shard ≢ length passes → marks_at shard (passes ++ pass ∷ []) ≡ marks_at shard passes
+marks_else : (shard : ℕ) (passes : List PassView) (pass : PassView) → shard ≢ length passes
+    → marks_at shard (passes ++ pass ∷ []) ≡ marks_at shard passes
 marks_else zero [] pass ne = absurd (ne refl)
 marks_else (suc shard) [] pass ne = refl
 marks_else zero (p ∷ ps) pass ne = refl
 marks_else (suc shard) (p ∷ ps) pass ne = marks_else shard ps pass (λ e. ne (ap suc e))
 
-same_joined : (x x' y y' z z' : List Mark) → x ≡ x' → y ≡ y' → z ≡ z' → AreJoined x y z → AreJoined x' y' z'
+same_joined : (x x' y y' z z' : List Mark) → x ≡ x' → y ≡ y' → z ≡ z' → AreJoined x y z
+    → AreJoined x' y' z'
 same_joined x x' y y' z z' a b c j =
-    subst (λ k. AreJoined k y' z') a (subst (λ k. AreJoined x k z') b (subst (λ k. AreJoined x y k) c j))
+    subst (λ k. AreJoined k y' z') a
+    (subst (λ k. AreJoined x k z') b (subst (λ k. AreJoined x y k) c j))
 
 -- what two passes that were joined have
-of_joined : (old other new : PassView) → IsJoined old other new → AreJoined old.marks other.marks new.marks
+of_joined : (old other new : PassView) → IsJoined old other new
+    → AreJoined old.marks other.marks new.marks
 of_joined old other new j = record {
   marks = j.marks;
   apart = j.apart;
   begins = j.begins;
-  held = omega (arith, j.held, made_own new.book.first new.marks, made_own old.book.first old.marks, made_own other.book.first other.marks);
+  held = omega (
+    arith,
+    j.held,
+    made_own new.book.first new.marks,
+    made_own old.book.first old.marks,
+    made_own other.book.first other.marks,
+  );
 }
 
 -- the passes of one shard more
-pub join_step : (fn yielded into : List PassView) (place : ℕ) (old pass new : PassView) (shard : ℕ) → AreJoinedAt shard fn yielded into → place ≡ length yielded → place < length into
-    → old ≡ get_or into place old → IsJoined old pass new → AreJoinedAt shard fn (yielded ++ pass ∷ []) (set into place new)
-join_step fn yielded into place old pass new shard before at within is joined = by_place (eqb_tells shard place)
+pub join_step : (fn yielded into : List PassView) (place : ℕ) (old pass new : PassView) (shard : ℕ)
+    → AreJoinedAt shard fn yielded into → place ≡ length yielded → place < length into
+    → old ≡ get_or into place old → IsJoined old pass new
+    → AreJoinedAt shard fn (yielded ++ pass ∷ []) (set into place new)
+join_step fn yielded into place old pass new shard before at within is joined =
+    by_place (eqb_tells shard place)
   where
-    by_place : (((shard == place) ≡ true) × (shard ≡ place)) ⊎ (((shard == place) ≡ false) × (shard ≢ place)) → AreJoinedAt shard fn (yielded ++ pass ∷ []) (set into place new)
+    by_place : (((shard == place) ≡ true) × (shard ≡ place))
+        ⊎ (((shard == place) ≡ false) × (shard ≢ place))
+        → AreJoinedAt shard fn (yielded ++ pass ∷ []) (set into place new)
     by_place (inl (b, e)) =
-        let none : marks_at shard yielded ≡ [] = marks_beyond shard yielded (omega (arith, e, at)) in
-        let first : marks_at shard into ≡ marks_at shard fn = before.marks ∙ (ap (joined_marks (marks_at shard fn)) none ∙ merged-nil (marks_at shard fn)) in
-        let here : old.marks ≡ marks_at shard fn = sym (ap (λ s. marks_at s into) e ∙ marks_here into place old within is) ∙ first in
-        let last : pass.marks ≡ marks_at shard (yielded ++ pass ∷ []) = sym (ap (λ s. marks_at s (yielded ++ pass ∷ [])) (e ∙ at) ∙ marks_last yielded pass) in
-        let there : new.marks ≡ marks_at shard (set into place new) = sym (ap (λ s. marks_at s (set into place new)) e ∙ marks-set_same into place new within) in
-        same_joined old.marks (marks_at shard fn) pass.marks (marks_at shard (yielded ++ pass ∷ [])) new.marks (marks_at shard (set into place new)) here last there (of_joined old pass new joined)
+        let none : marks_at shard yielded ≡ [] =
+        marks_beyond shard yielded (omega (arith, e, at)) in
+        let first : marks_at shard into ≡ marks_at shard fn =
+        before.marks
+        ∙ (ap (joined_marks (marks_at shard fn)) none ∙ merged-nil (marks_at shard fn)) in
+        let here : old.marks ≡ marks_at shard fn =
+        sym (ap (λ s. marks_at s into) e ∙ marks_here into place old within is) ∙ first in
+        let last : pass.marks ≡ marks_at shard (yielded ++ pass ∷ []) =
+        sym (ap (λ s. marks_at s (yielded ++ pass ∷ [])) (e ∙ at) ∙ marks_last yielded pass) in
+        let there : new.marks ≡ marks_at shard (set into place new) =
+        sym (ap (λ s. marks_at s (set into place new)) e ∙ marks-set_same into place new within) in
+        same_joined old.marks (marks_at shard fn) pass.marks (marks_at shard (yielded ++ pass ∷ []))
+        new.marks (marks_at shard (set into place new)) here last there
+        (of_joined old pass new joined)
     by_place (inr (b, ne)) =
-        same_joined (marks_at shard fn) (marks_at shard fn) (marks_at shard yielded) (marks_at shard (yielded ++ pass ∷ [])) (marks_at shard into) (marks_at shard (set into place new))
-        refl (sym (marks_else shard yielded pass (λ e. ne (e ∙ sym at)))) (sym (marks-set_other into place shard new ne)) before
+        same_joined (marks_at shard fn) (marks_at shard fn) (marks_at shard yielded)
+        (marks_at shard (yielded ++ pass ∷ [])) (marks_at shard into)
+        (marks_at shard (set into place new))
+        refl (sym (marks_else shard yielded pass (λ e. ne (e ∙ sym at))))
+        (sym (marks-set_other into place shard new ne)) before
 
 -- the signs of one share more
-pub signed_more : (nobody shard : ℕ) (shares : List ShareView) (share : ShareView) (passes passes' : List PassView) → length shares < nobody → AreSignedAt nobody shard shares passes
-    → AreJoinedAt shard passes share.passes passes' → AreSignedAt nobody shard (shares ++ share ∷ []) passes'
+pub signed_more : (nobody shard : ℕ) (shares : List ShareView) (share : ShareView)
+    (passes passes' : List PassView) → length shares < nobody
+    → AreSignedAt nobody shard shares passes
+    → AreJoinedAt shard passes share.passes passes'
+    → AreSignedAt nobody shard (shares ++ share ∷ []) passes'
 signed_more nobody shard shares share passes passes' below s j =
     let i = length shares in
     let signs = signed i nobody s.signs (marks_at shard share.passes) in
-    let more : length (shares ++ share ∷ []) ≡ suc i = omega (arith, length-append shares (share ∷ [])) in
+    let more : length (shares ++ share ∷ []) ≡ suc i =
+    omega (arith, length-append shares (share ∷ [])) in
     let P : List Mark → Type 0 = AreSigns (suc i) nobody signs in
     let N : ℕ → Type 0 = λ n. AreSigns n nobody signs (marks_at shard passes') in
     record {
       signs = signs;
-      of_marks = subst N (sym more) (subst P (sym j.marks) (signs_more i nobody s.signs (marks_at shard passes) (marks_at shard share.passes) below s.of_marks));
+      of_marks = subst N (sym more)
+          (subst P (sym j.marks)
+          (signs_more i nobody s.signs (marks_at shard passes) (marks_at shard share.passes) below
+          s.of_marks));
       made = place_more (λ w h. by_worker w signs ≡ made_visits_at shard h.passes) shares share
-          (λ w h at. earlier_stay i nobody w s.signs (marks_at shard passes) (marks_at shard share.passes) below (slice_get_within shares w h at) s.of_marks j.apart ∙ s.made w h at)
-          (new_own i nobody s.signs (marks_at shard passes) (marks_at shard share.passes) below s.of_marks j.begins);
+          (λ w h at. earlier_stay i nobody w s.signs (marks_at shard passes)
+          (marks_at shard share.passes) below (slice_get_within shares w h at) s.of_marks j.apart
+          ∙ s.made w h at)
+          (new_own i nobody s.signs (marks_at shard passes) (marks_at shard share.passes) below
+          s.of_marks j.begins);
     }
 
 -- two lists of marks that were joined are no shorter
-merged_longer : (xs ys : List Mark) → (length xs ≤ length (joined_marks xs ys)) × (length ys ≤ length (joined_marks xs ys))
+merged_longer : (xs ys : List Mark)
+    → (length xs ≤ length (joined_marks xs ys)) × (length ys ≤ length (joined_marks xs ys))
 merged_longer [] ys = (omega arith, omega arith)
 merged_longer (x ∷ xs) [] = (omega arith, omega arith)
-merged_longer (x ∷ xs) (y ∷ ys) = let rest = merged_longer xs ys in (omega (arith, rest.0), omega (arith, rest.1))
+merged_longer (x ∷ xs) (y ∷ ys) = let rest = merged_longer xs ys in
+    (omega (arith, rest.0), omega (arith, rest.1))
 
 -- one share more was joined
-pub joined_more : (drawing : Drawing) (books : List SharedBookView) (nobody : ℕ) (shares : List ShareView) (share : ShareView) (drawer drawer' : DrawerView) (passes passes' : List PassView) → length shares < nobody
-    → IsJoinedOf drawing books nobody shares drawer passes → IsJoinedDrawer drawer share.drawer drawer' → books_of passes' ≡ books → ((shard : ℕ) → AreJoinedAt shard passes share.passes passes')
-    → ((shard : ℕ) → claims_at shard passes' ≡ claims_at shard passes + claims_at shard share.passes)
+pub joined_more : (drawing : Drawing) (books : List SharedBookView) (nobody : ℕ)
+    (shares : List ShareView) (share : ShareView) (drawer drawer' : DrawerView)
+    (passes passes' : List PassView) → length shares < nobody
+    → IsJoinedOf drawing books nobody shares drawer passes
+    → IsJoinedDrawer drawer share.drawer drawer' → books_of passes' ≡ books
+    → ((shard : ℕ) → AreJoinedAt shard passes share.passes passes')
+    → ((shard : ℕ) → claims_at shard passes'
+    ≡ claims_at shard passes + claims_at shard share.passes)
     → IsJoinedOf drawing books nobody (shares ++ share ∷ []) drawer' passes'
-joined_more drawing books nobody shares share drawer drawer' passes passes' below all met of_books joined claims = record {
-  drawn_from = met.drawn_from ∙ all.drawn_from;
-  claims = omega (arith, met.claims, all.claims, sum_by-append (λ (s : ShareView). s.drawer.claims) shares (share ∷ []), sum_by-cons (λ (s : ShareView). s.drawer.claims) share []);
-  pass_claims = λ shard. omega (arith, claims shard, all.pass_claims shard, sum_by-append (λ (s : ShareView). claims_at shard s.passes) shares (share ∷ []), sum_by-cons (λ (s : ShareView). claims_at shard s.passes) share []);
-  drawn = met.drawn ∙ (ap (λ ds. ds ++ share.drawer.drawn) all.drawn ∙ sym (flat_map-append (λ s. s.drawer.drawn) shares (share ∷ []) ∙ ap (λ ds. flat_map (λ s. s.drawer.drawn) shares ++ ds) (append-nil share.drawer.drawn)));
-  seen = All-push (λ s. s.drawer.seen ≤ drawer'.seen) shares share (All-weaker (λ s. s.drawer.seen ≤ drawer.seen) (λ s. s.drawer.seen ≤ drawer'.seen) (λ s h. omega (arith, h, met.later)) shares all.seen) met.later_too;
-  of_books = of_books;
-  signed = λ shard. signed_more nobody shard shares share passes passes' below (all.signed shard) (joined shard);
-  held = λ shard. omega (arith, (joined shard).held, all.held shard, sum_by-append (λ (s : ShareView). length (made_visits_at shard s.passes)) shares (share ∷ []), sum_by-cons (λ (s : ShareView). length (made_visits_at shard s.passes)) share []);
-  longest = λ shard. let long = merged_longer (marks_at shard passes) (marks_at shard share.passes) in let new : length (marks_at shard passes') ≡ length (joined_marks (marks_at shard passes) (marks_at shard share.passes)) = ap length (joined shard).marks in
-      All-push (λ s. length (marks_at shard s.passes) ≤ length (marks_at shard passes')) shares share
-      (All-weaker (λ s. length (marks_at shard s.passes) ≤ length (marks_at shard passes)) (λ s. length (marks_at shard s.passes) ≤ length (marks_at shard passes')) (λ s h. omega (arith, h, long.0, new)) shares (all.longest shard))
-      (omega (arith, long.1, new));
-}
+joined_more drawing books nobody shares share drawer drawer' passes passes' below all met of_books
+    joined claims = record {
+      drawn_from = met.drawn_from ∙ all.drawn_from;
+      claims = omega (
+        arith,
+        met.claims,
+        all.claims,
+        sum_by-append (λ (s : ShareView). s.drawer.claims) shares (share ∷ []),
+        sum_by-cons (λ (s : ShareView). s.drawer.claims) share [],
+      );
+      pass_claims = λ shard. omega (
+        arith,
+        claims shard,
+        all.pass_claims shard,
+        sum_by-append (λ (s : ShareView). claims_at shard s.passes) shares (share ∷ []),
+        sum_by-cons (λ (s : ShareView). claims_at shard s.passes) share [],
+      );
+      drawn = met.drawn
+          ∙ (ap (λ ds. ds ++ share.drawer.drawn) all.drawn
+          ∙ sym (flat_map-append (λ s. s.drawer.drawn) shares (share ∷ [])
+          ∙ ap (λ ds. flat_map (λ s. s.drawer.drawn) shares ++ ds) (append-nil share.drawer.drawn)));
+      seen = All-push (λ s. s.drawer.seen ≤ drawer'.seen) shares share
+          (All-weaker (λ s. s.drawer.seen ≤ drawer.seen) (λ s. s.drawer.seen ≤ drawer'.seen)
+          (λ s h. omega (arith, h, met.later)) shares all.seen) met.later_too;
+      of_books = of_books;
+      signed = λ shard. signed_more nobody shard shares share passes passes' below (all.signed shard)
+          (joined shard);
+      held = λ shard. omega (
+        arith,
+        (joined shard).held,
+        all.held shard,
+        sum_by-append (λ (s : ShareView). length (made_visits_at shard s.passes)) shares (share ∷ []),
+        sum_by-cons (λ (s : ShareView). length (made_visits_at shard s.passes)) share [],
+      );
+      longest = λ shard. let long =
+          merged_longer (marks_at shard passes) (marks_at shard share.passes) in
+          let new : length (marks_at shard passes')
+          ≡ length (joined_marks (marks_at shard passes) (marks_at shard share.passes)) =
+          ap length (joined shard).marks in
+          All-push (λ s. length (marks_at shard s.passes) ≤ length (marks_at shard passes')) shares
+          share
+          (All-weaker (λ s. length (marks_at shard s.passes) ≤ length (marks_at shard passes))
+          (λ s. length (marks_at shard s.passes) ≤ length (marks_at shard passes'))
+          (λ s h. omega (arith, h, long.0, new)) shares (all.longest shard))
+          (omega (arith, long.1, new));
+    }
 
 -- the first share
-pub joined_first : (drawing : Drawing) (books : List SharedBookView) (nobody : ℕ) (share : ShareView) → 0 < nobody → Belongs drawing books share → IsJoinedOf drawing books nobody (share ∷ []) share.drawer share.passes
+pub joined_first : (drawing : Drawing) (books : List SharedBookView) (nobody : ℕ)
+    (share : ShareView) → 0 < nobody → Belongs drawing books share
+    → IsJoinedOf drawing books nobody (share ∷ []) share.drawer share.passes
 joined_first drawing books nobody share some is = record {
   drawn_from = is.drawn_from;
   claims = omega (arith, sum_by-cons (λ (s : ShareView). s.drawer.claims) share []);
-  pass_claims = λ shard. omega (arith, sum_by-cons (λ (s : ShareView). claims_at shard s.passes) share []);
+  pass_claims = λ shard. omega
+      (arith, sum_by-cons (λ (s : ShareView). claims_at shard s.passes) share []);
   drawn = sym (append-nil share.drawer.drawn);
-  seen = All-cons (λ s. s.drawer.seen ≤ share.drawer.seen) share [] (omega arith) (All-nil (λ s. s.drawer.seen ≤ share.drawer.seen));
+  seen = All-cons (λ s. s.drawer.seen ≤ share.drawer.seen) share [] (omega arith)
+      (All-nil (λ s. s.drawer.seen ≤ share.drawer.seen));
   of_books = is.of_books;
   signed = λ shard. record {
     signs = signed 0 nobody [] (marks_at shard share.passes);
     of_marks = signs_more 0 nobody [] [] (marks_at shard share.passes) some tt;
-    made = place_more (λ w h. by_worker w (signed 0 nobody [] (marks_at shard share.passes)) ≡ made_visits_at shard h.passes) [] share (λ w h at. absurd (cc))
-        (new_own 0 nobody [] [] (marks_at shard share.passes) some tt (inl (visits_of (marks_at shard share.passes), refl)));
+    made = place_more
+        (λ w h. by_worker w (signed 0 nobody [] (marks_at shard share.passes))
+        ≡ made_visits_at shard h.passes) [] share (λ w h at. absurd (cc))
+        (new_own 0 nobody [] [] (marks_at shard share.passes) some tt
+        (inl (visits_of (marks_at shard share.passes), refl)));
   };
-  held = λ shard. omega (arith, sum_by-cons (λ (s : ShareView). length (made_visits_at shard s.passes)) share []);
-  longest = λ shard. All-cons (λ s. length (marks_at shard s.passes) ≤ length (marks_at shard share.passes)) share [] (omega arith) (All-nil (λ s. length (marks_at shard s.passes) ≤ length (marks_at shard share.passes)));
+  held = λ shard. omega
+      (arith, sum_by-cons (λ (s : ShareView). length (made_visits_at shard s.passes)) share []);
+  longest = λ shard. All-cons
+      (λ s. length (marks_at shard s.passes) ≤ length (marks_at shard share.passes)) share []
+      (omega arith)
+      (All-nil (λ s. length (marks_at shard s.passes) ≤ length (marks_at shard share.passes)));
 }
 
-pub heads : {A : Type 0} (xs : List A) (a b : A) (more rest : List A) → xs ++ a ∷ more ≡ xs ++ b ∷ rest → a ≡ b
+pub heads : {A : Type 0} (xs : List A) (a b : A) (more rest : List A)
+    → xs ++ a ∷ more ≡ xs ++ b ∷ rest → a ≡ b
 heads [] a b more rest e = cc
 heads (x ∷ xs) a b more rest e = heads xs a b more rest (cc)
 
 -- a pass that comes next belongs to the book that comes next
-pub next_book : (done rest : List PassView) (pass : PassView) (passes : List PassView) (yielded left : List SharedBookView) (book : SharedBookView) (books : List SharedBookView) → done ++ pass ∷ rest ≡ passes → books_of passes ≡ books
+pub next_book : (done rest : List PassView) (pass : PassView) (passes : List PassView)
+    (yielded left : List SharedBookView) (book : SharedBookView) (books : List SharedBookView)
+    → done ++ pass ∷ rest ≡ passes → books_of passes ≡ books
     → books_of done ≡ yielded → yielded ++ book ∷ left ≡ books → pass.book ≡ book
 next_book done rest pass passes yielded left book books all of same is =
     heads yielded pass.book book (books_of rest) left
-    (ap (λ ys. ys ++ pass.book ∷ books_of rest) (sym same) ∙ sym (map-append (λ (p : PassView). p.book) done (pass ∷ rest)) ∙ (ap books_of all ∙ of) ∙ sym is)
+    (ap (λ ys. ys ++ pass.book ∷ books_of rest) (sym same)
+    ∙ sym (map-append (λ (p : PassView). p.book) done (pass ∷ rest)) ∙ (ap books_of all ∙ of)
+    ∙ sym is)
 
-pub at_end : {A : Type 0} (xs : List A) (a : A) (more : List A) → slice_get (xs ++ a ∷ more) (length xs) ≡ Some a
+pub at_end : {A : Type 0} (xs : List A) (a : A) (more : List A)
+    → slice_get (xs ++ a ∷ more) (length xs) ≡ Some a
 at_end [] a more = refl
 at_end (x ∷ xs) a more = at_end xs a more
 
-pub marks_mid : (done : List PassView) (pass : PassView) (rest : List PassView) → marks_at (length done) (done ++ pass ∷ rest) ≡ pass.marks
+pub marks_mid : (done : List PassView) (pass : PassView) (rest : List PassView)
+    → marks_at (length done) (done ++ pass ∷ rest) ≡ pass.marks
 marks_mid [] pass rest = refl
 marks_mid (p ∷ done) pass rest = marks_mid done pass rest

@@ -1,12 +1,15 @@
--- Lists of lists of which one alone has elements, and lists that have the same elements under each key.
-use Rattle.std.specs.Prelude.{ℕ, zero, suc, ◌≡◌, ◌≢◌, ◌⊎◌, ◌+◌, ◌<◌, ◌==◌, Bool, true, false, cond, List, [], ◌∷◌, ◌++◌, length, map, filter, All, Some, slice_get, count_by, IsPermutation}
+-- Lists of lists of which one alone has elements, and lists that have the same elements under each
+-- key.
+use Rattle.std.specs.Prelude.{ℕ, zero, suc, ◌≡◌, ◌≢◌, ◌⊎◌, ◌+◌, ◌<◌, ◌==◌, true, false, cond, List}
+use Rattle.std.specs.Prelude.{[], ◌∷◌, ◌++◌, length, map, filter, All, Some, slice_get, count_by}
 use Rattle.std.specs.List.{flat_map}
-use Rattle.std.proofs.Common.{refl, sym, ◌∙◌, ap, inl, inr, subst, arith, get_or, append-nil, eq-eqb}
+use Rattle.std.proofs.Common.{refl, sym, ◌∙◌, ap, inl, inr, subst, arith, get_or, append-nil}
+use Rattle.std.proofs.Common.{eq-eqb}
 use Rattle.std.proofs.lemmas.Bool.Decides.{eqb_tells}
-use Rattle.std.proofs.lemmas.List.Elements.{All-nil, All-cons, All-head, All-tail, All-append, filter-append}
+use Rattle.std.proofs.lemmas.List.Elements.{All-nil, All-cons, All-head, All-tail, All-append}
 use Rattle.std.proofs.lemmas.List.Sums.{sum_by-cons, sum_by-append}
 use Rattle.std.proofs.lemmas.Option.{slice_get-get_or}
-use Rattle.std.proofs.lemmas.List.Sorted.{IsPermutation-refl, IsPermutation-sym, IsPermutation-cons, IsPermutation-trans, IsPermutation-middle}
+use Rattle.tap_views.proofs.Lists.{All-split}
 
 -- parts of nothing are nothing
 pub left_nil : {A : Type 0} (xs ys : List A) → xs ++ ys ≡ [] → xs ≡ []
@@ -17,48 +20,45 @@ pub right_nil : {A : Type 0} (xs ys : List A) → xs ++ ys ≡ [] → ys ≡ []
 right_nil [] ys e = e
 right_nil (x ∷ xs) ys e = absurd (let h : x ∷ (xs ++ ys) ≡ [] = e in cc)
 
--- what holds of all elements of lists, one after another
-pub All-split : {X : Type 0} (P : X → Type 0) (xs ys : List X) → All P (xs ++ ys) → All P xs × All P ys
-All-split P [] ys all = (All-nil P, all)
-All-split P (x ∷ xs) ys all =
-    let (left, right) = All-split P xs ys (All-tail P x (xs ++ ys) all) in
-    (All-cons P x xs (All-head P x (xs ++ ys) all) left, right)
-
-pub All-flat : {X : Type 0} (P : X → Type 0) (lists : List (List X)) → All (λ xs. All P xs) lists → All P (flat_map (λ xs. xs) lists)
+pub All-flat : {X : Type 0} (P : X → Type 0) (lists : List (List X)) → All (λ xs. All P xs) lists
+    → All P (flat_map (λ xs. xs) lists)
 All-flat P [] all = All-nil P
 All-flat P (xs ∷ lists) all =
-    All-append P xs (flat_map (λ ys. ys) lists) (All-head (λ ys. All P ys) xs lists all) (All-flat P lists (All-tail (λ ys. All P ys) xs lists all))
+    All-append P xs (flat_map (λ ys. ys) lists) (All-head (λ ys. All P ys) xs lists all)
+    (All-flat P lists (All-tail (λ ys. All P ys) xs lists all))
 
-pub flat-All : {X : Type 0} (P : X → Type 0) (lists : List (List X)) → All P (flat_map (λ xs. xs) lists) → All (λ xs. All P xs) lists
+pub flat-All : {X : Type 0} (P : X → Type 0) (lists : List (List X))
+    → All P (flat_map (λ xs. xs) lists) → All (λ xs. All P xs) lists
 flat-All P [] all = All-nil (λ ys. All P ys)
 flat-All P (xs ∷ lists) all =
     let (left, right) = All-split P xs (flat_map (λ ys. ys) lists) all in
     All-cons (λ ys. All P ys) xs lists left (flat-All P lists right)
 
 -- what stands at a place of a list
-pub All-at : {X : Type 0} (P : X → Type 0) (xs : List X) (i : ℕ) (x : X) → All P xs → slice_get xs i ≡ Some x → P x
+pub All-at : {X : Type 0} (P : X → Type 0) (xs : List X) (i : ℕ) (x : X) → All P xs
+    → slice_get xs i ≡ Some x → P x
 All-at P [] i x all at = absurd (cc)
 All-at P (y ∷ xs) zero x all at = subst P (let same : y ≡ x = cc in same) (All-head P y xs all)
 All-at P (y ∷ xs) (suc i) x all at = All-at P xs i x (All-tail P y xs all) at
 
-pub mapped_at : {A B : Type 0} (f : A → B) (xs : List A) (i : ℕ) (y : B) → slice_get (map f xs) i ≡ Some y → (x : A) × (slice_get xs i ≡ Some x) × (y ≡ f x)
+-- what is at a place of mapped elements is that of the element there
+pub mapped_at : {A B : Type 0} (f : A → B) (xs : List A) (i : ℕ) (y : B)
+    → slice_get (map f xs) i ≡ Some y → (x : A) × (slice_get xs i ≡ Some x) × (y ≡ f x)
 mapped_at f [] i y at = absurd (cc)
 mapped_at f (x ∷ xs) zero y at = (x, refl, let same : f x ≡ y = cc in sym same)
 mapped_at f (x ∷ xs) (suc i) y at = mapped_at f xs i y at
-
-pub flat_map-map : {A B C : Type 0} (f : B → List C) (g : A → B) (xs : List A) → flat_map f (map g xs) ≡ flat_map (λ x. f (g x)) xs
-flat_map-map f g [] = refl
-flat_map-map f g (x ∷ xs) = ap (λ ys. f (g x) ++ ys) (flat_map-map f g xs)
 
 -- how often a number stands in a list
 abbrev pub count : ℕ → List ℕ → ℕ
 count n ns = count_by (λ m. m == n) ns
 
 pub count_same : (n m : ℕ) (ms : List ℕ) → (m == n) ≡ true → count n (m ∷ ms) ≡ 1 + count n ms
-count_same n m ms is = sum_by-cons (λ x. cond (x == n) 1 0) m ms ∙ ap (λ b. cond b 1 0 + count n ms) is
+count_same n m ms is =
+    sum_by-cons (λ x. cond (x == n) 1 0) m ms ∙ ap (λ b. cond b 1 0 + count n ms) is
 
 pub count_other : (n m : ℕ) (ms : List ℕ) → (m == n) ≡ false → count n (m ∷ ms) ≡ count n ms
-count_other n m ms is = omega (arith, sum_by-cons (λ x. cond (x == n) 1 0) m ms, ap {B = ℕ} (λ b. cond b 1 0) is)
+count_other n m ms is =
+    omega (arith, sum_by-cons (λ x. cond (x == n) 1 0) m ms, ap {B = ℕ} (λ b. cond b 1 0) is)
 
 -- ---- the only list with elements
 module _ {A : Type 0} (mine : ℕ → List A) (only : ℕ) (none : (n : ℕ) → n ≢ only → mine n ≡ []) where
@@ -66,18 +66,25 @@ module _ {A : Type 0} (mine : ℕ → List A) (only : ℕ) (none : (n : ℕ) →
   not_there [] h = refl
   not_there (n ∷ ns) h = by_test (eqb_tells n only) (not_there ns)
     where
-      by_test : (((n == only) ≡ true) × (n ≡ only)) ⊎ (((n == only) ≡ false) × (n ≢ only)) → (count only ns ≡ 0 → flat_map mine ns ≡ []) → flat_map mine (n ∷ ns) ≡ []
+      by_test : (((n == only) ≡ true) × (n ≡ only)) ⊎ (((n == only) ≡ false) × (n ≢ only))
+          → (count only ns ≡ 0 → flat_map mine ns ≡ []) → flat_map mine (n ∷ ns) ≡ []
       by_test (inl (is, same)) rest = absurd (omega (arith, h, count_same only n ns is))
-      by_test (inr (is, apart)) rest = ap (λ xs. xs ++ flat_map mine ns) (none n apart) ∙ rest (sym (count_other only n ns is) ∙ h)
+      by_test (inr (is, apart)) rest =
+          ap (λ xs. xs ++ flat_map mine ns) (none n apart)
+          ∙ rest (sym (count_other only n ns is) ∙ h)
 
   once_there : (ns : List ℕ) → count only ns ≡ 1 → flat_map mine ns ≡ mine only
   once_there [] h = absurd (omega (arith, h))
   once_there (n ∷ ns) h = by_test (eqb_tells n only) (once_there ns)
     where
-      by_test : (((n == only) ≡ true) × (n ≡ only)) ⊎ (((n == only) ≡ false) × (n ≢ only)) → (count only ns ≡ 1 → flat_map mine ns ≡ mine only) → flat_map mine (n ∷ ns) ≡ mine only
+      by_test : (((n == only) ≡ true) × (n ≡ only)) ⊎ (((n == only) ≡ false) × (n ≢ only))
+          → (count only ns ≡ 1 → flat_map mine ns ≡ mine only) → flat_map mine (n ∷ ns) ≡ mine only
       by_test (inl (is, same)) rest =
-          ap (λ xs. mine n ++ xs) (not_there ns (omega (arith, h, count_same only n ns is))) ∙ append-nil (mine n) ∙ ap mine same
-      by_test (inr (is, apart)) rest = ap (λ xs. xs ++ flat_map mine ns) (none n apart) ∙ rest (sym (count_other only n ns is) ∙ h)
+          ap (λ xs. mine n ++ xs) (not_there ns (omega (arith, h, count_same only n ns is)))
+          ∙ append-nil (mine n) ∙ ap mine same
+      by_test (inr (is, apart)) rest =
+          ap (λ xs. xs ++ flat_map mine ns) (none n apart)
+          ∙ rest (sym (count_other only n ns is) ∙ h)
 
 -- of several lists one has the number, and the others do not
 pub record HasAlone (only : ℕ) (lists : List (List ℕ)) : Type 0 where
@@ -85,34 +92,61 @@ pub record HasAlone (only : ℕ) (lists : List (List ℕ)) : Type 0 where
   pub list : List ℕ
   pub at : slice_get lists place ≡ Some list
   pub there : count only list ≡ 1
-  pub others : (other : ℕ) (ns : List ℕ) → slice_get lists other ≡ Some ns → other ≢ place → count only ns ≡ 0
+  pub others : (other : ℕ) (ns : List ℕ) → slice_get lists other ≡ Some ns → other ≢ place
+      → count only ns ≡ 0
 
-none_at : (only : ℕ) (lists : List (List ℕ)) → count only (flat_map (λ ns. ns) lists) ≡ 0 → (other : ℕ) (ns : List ℕ) → slice_get lists other ≡ Some ns → count only ns ≡ 0
+none_at : (only : ℕ) (lists : List (List ℕ)) → count only (flat_map (λ ns. ns) lists) ≡ 0
+    → (other : ℕ) (ns : List ℕ) → slice_get lists other ≡ Some ns → count only ns ≡ 0
 none_at only [] h other ns at = absurd (cc)
 none_at only (l ∷ lists) h zero ns at =
     let same : l ≡ ns = cc in
-    ap (count only) (sym same) ∙ omega (arith, h, sum_by-append (λ (m : ℕ). cond (m == only) 1 0) l (flat_map (λ ms. ms) lists))
+    ap (count only) (sym same)
+    ∙ omega (
+      arith,
+      h,
+      sum_by-append (λ (m : ℕ). cond (m == only) 1 0) l
+          (flat_map (λ ms. ms) lists),
+    )
 none_at only (l ∷ lists) h (suc other) ns at =
-    none_at only lists (omega (arith, h, sum_by-append (λ (m : ℕ). cond (m == only) 1 0) l (flat_map (λ ms. ms) lists))) other ns at
+    none_at only lists
+    (omega (
+      arith,
+      h,
+      sum_by-append (λ (m : ℕ). cond (m == only) 1 0) l
+          (flat_map (λ ms. ms) lists),
+    )) other ns at
 
-pub has_alone : (only : ℕ) (lists : List (List ℕ)) → count only (flat_map (λ ns. ns) lists) ≡ 1 → HasAlone only lists
+pub has_alone : (only : ℕ) (lists : List (List ℕ)) → count only (flat_map (λ ns. ns) lists) ≡ 1
+    → HasAlone only lists
 has_alone only [] h = absurd (omega (arith, h))
 has_alone only (l ∷ lists) h = by_count (count only l) refl (has_alone only lists)
   where
     both : count only l + count only (flat_map (λ ms. ms) lists) ≡ 1
     both = sym (sum_by-append (λ (m : ℕ). cond (m == only) 1 0) l (flat_map (λ ms. ms) lists)) ∙ h
 
-    by_count : (k : ℕ) → count only l ≡ k → (count only (flat_map (λ ms. ms) lists) ≡ 1 → HasAlone only lists) → HasAlone only (l ∷ lists)
+    by_count : (k : ℕ) → count only l ≡ k
+        → (count only (flat_map (λ ms. ms) lists) ≡ 1 → HasAlone only lists)
+        → HasAlone only (l ∷ lists)
     by_count zero e more =
         let rest = more (omega (arith, both, e)) in
-        record { place = suc rest.place; list = rest.list; at = rest.at; there = rest.there; others = others rest }
+        record {
+          place = suc rest.place;
+          list = rest.list;
+          at = rest.at;
+          there =
+              rest.there;
+          others = others rest;
+        }
       where
-        others : (rest : HasAlone only lists) (other : ℕ) (ns : List ℕ) → slice_get (l ∷ lists) other ≡ Some ns → other ≢ suc rest.place → count only ns ≡ 0
+        others : (rest : HasAlone only lists) (other : ℕ) (ns : List ℕ)
+            → slice_get (l ∷ lists) other ≡ Some ns → other ≢ suc rest.place → count only ns ≡ 0
         others rest zero ns at apart = let same : l ≡ ns = cc in ap (count only) (sym same) ∙ e
         others rest (suc other) ns at apart = rest.others other ns at (λ same. apart (ap suc same))
-    by_count (suc k) e more = record { place = 0; list = l; at = refl; there = omega (arith, both, e); others = others }
+    by_count (suc k) e more =
+        record { place = 0; list = l; at = refl; there = omega (arith, both, e); others = others }
       where
-        others : (other : ℕ) (ns : List ℕ) → slice_get (l ∷ lists) other ≡ Some ns → other ≢ 0 → count only ns ≡ 0
+        others : (other : ℕ) (ns : List ℕ) → slice_get (l ∷ lists) other ≡ Some ns → other ≢ 0
+            → count only ns ≡ 0
         others zero ns at apart = absurd (apart refl)
         others (suc other) ns at apart = none_at only lists (omega (arith, both, e)) other ns at
 
@@ -122,57 +156,93 @@ module _ {V A : Type 0} (worker : V → ℕ) (part : V → List A) where
   parts_of w visits = flat_map part (filter (λ v. worker v == w) visits)
 
   -- where the others did nothing, all is what the one did
-  of_worker : (w : ℕ) (visits : List V) → All (λ v. worker v ≢ w → part v ≡ []) visits → flat_map part visits ≡ parts_of w visits
+  of_worker : (w : ℕ) (visits : List V) → All (λ v. worker v ≢ w → part v ≡ []) visits
+      → flat_map part visits ≡ parts_of w visits
   of_worker w [] all = refl
-  of_worker w (v ∷ visits) all = by_test (eqb_tells (worker v) w) (of_worker w visits (All-tail (λ v. worker v ≢ w → part v ≡ []) v visits all))
+  of_worker w (v ∷ visits) all =
+      by_test (eqb_tells (worker v) w)
+      (of_worker w visits (All-tail (λ v. worker v ≢ w → part v ≡ []) v visits all))
     where
-      by_test : (((worker v == w) ≡ true) × (worker v ≡ w)) ⊎ (((worker v == w) ≡ false) × (worker v ≢ w)) → flat_map part visits ≡ parts_of w visits
+      by_test : (((worker v == w) ≡ true) × (worker v ≡ w))
+          ⊎ (((worker v == w) ≡ false) × (worker v ≢ w)) → flat_map part visits ≡ parts_of w visits
           → flat_map part (v ∷ visits) ≡ parts_of w (v ∷ visits)
-      by_test (inl (is, same)) rest = ap (λ xs. part v ++ xs) rest ∙ ap (λ b. flat_map part (cond b (v ∷ filter (λ v. worker v == w) visits) (filter (λ v. worker v == w) visits))) (sym is)
+      by_test (inl (is, same)) rest =
+          ap (λ xs. part v ++ xs) rest
+          ∙ ap (λ b. flat_map part
+          (cond b (v ∷ filter (λ v. worker v == w) visits) (filter (λ v. worker v == w) visits)))
+          (sym is)
       by_test (inr (is, apart)) rest =
-          ap (λ xs. xs ++ flat_map part visits) (All-head (λ v. worker v ≢ w → part v ≡ []) v visits all apart) ∙ rest
-          ∙ ap (λ b. flat_map part (cond b (v ∷ filter (λ v. worker v == w) visits) (filter (λ v. worker v == w) visits))) (sym is)
+          ap (λ xs. xs ++ flat_map part visits)
+          (All-head (λ v. worker v ≢ w → part v ≡ []) v visits all apart) ∙ rest
+          ∙ ap (λ b. flat_map part
+          (cond b (v ∷ filter (λ v. worker v == w) visits) (filter (λ v. worker v == w) visits)))
+          (sym is)
 
   -- who did nothing has no part
-  no_part : (Idle : ℕ → Type 0) (workers : ℕ) (visits : List V) → All (λ v. worker v < workers) visits
-      → ((w : ℕ) → w < workers → Idle w → parts_of w visits ≡ []) → All (λ v. Idle (worker v) → part v ≡ []) visits
+  no_part : (Idle : ℕ → Type 0) (workers : ℕ) (visits : List V)
+      → All (λ v. worker v < workers) visits
+      → ((w : ℕ) → w < workers → Idle w → parts_of w visits ≡ [])
+      → All (λ v. Idle (worker v) → part v ≡ []) visits
   no_part Idle workers [] within nothing = All-nil (λ v. Idle (worker v) → part v ≡ [])
   no_part Idle workers (v ∷ visits) within nothing =
       All-cons (λ v. Idle (worker v) → part v ≡ []) v visits
       (λ idle. left_nil (part v) (parts_of (worker v) visits)
-      (ap (λ b. flat_map part (cond b (v ∷ filter (λ x. worker x == worker v) visits) (filter (λ x. worker x == worker v) visits))) (sym (eq-eqb (worker v) (worker v) refl))
+      (ap (λ b. flat_map part
+      (cond b (v ∷ filter (λ x. worker x == worker v) visits)
+      (filter (λ x. worker x == worker v) visits))) (sym (eq-eqb (worker v) (worker v) refl))
       ∙ nothing (worker v) (All-head (λ v. worker v < workers) v visits within) idle))
-      (no_part Idle workers visits (All-tail (λ v. worker v < workers) v visits within) (λ w few idle. by_test w (eqb_tells (worker v) w) (nothing w few idle)))
+      (no_part Idle workers visits (All-tail (λ v. worker v < workers) v visits within)
+      (λ w few idle. by_test w (eqb_tells (worker v) w) (nothing w few idle)))
     where
-      by_test : (w : ℕ) → (((worker v == w) ≡ true) × (worker v ≡ w)) ⊎ (((worker v == w) ≡ false) × (worker v ≢ w)) → parts_of w (v ∷ visits) ≡ [] → parts_of w visits ≡ []
+      by_test : (w : ℕ) → (((worker v == w) ≡ true) × (worker v ≡ w))
+          ⊎ (((worker v == w) ≡ false) × (worker v ≢ w)) → parts_of w (v ∷ visits) ≡ []
+          → parts_of w visits ≡ []
       by_test w (inl (is, same)) h =
-          right_nil (part v) (parts_of w visits) (ap (λ b. flat_map part (cond b (v ∷ filter (λ x. worker x == w) visits) (filter (λ x. worker x == w) visits))) (sym is) ∙ h)
-      by_test w (inr (is, apart)) h = ap (λ b. flat_map part (cond b (v ∷ filter (λ x. worker x == w) visits) (filter (λ x. worker x == w) visits))) (sym is) ∙ h
+          right_nil (part v) (parts_of w visits)
+          (ap (λ b. flat_map part
+          (cond b (v ∷ filter (λ x. worker x == w) visits) (filter (λ x. worker x == w) visits)))
+          (sym is) ∙ h)
+      by_test w (inr (is, apart)) h =
+          ap (λ b. flat_map part
+          (cond b (v ∷ filter (λ x. worker x == w) visits) (filter (λ x. worker x == w) visits)))
+          (sym is) ∙ h
 
   all_nil : (visits : List V) → All (λ v. part v ≡ []) visits → flat_map part visits ≡ []
   all_nil [] all = refl
-  all_nil (v ∷ visits) all = ap (λ xs. xs ++ flat_map part visits) (All-head (λ v. part v ≡ []) v visits all) ∙ all_nil visits (All-tail (λ v. part v ≡ []) v visits all)
+  all_nil (v ∷ visits) all =
+      ap (λ xs. xs ++ flat_map part visits) (All-head (λ v. part v ≡ []) v visits all)
+      ∙ all_nil visits (All-tail (λ v. part v ≡ []) v visits all)
 
   -- each worker did the parts of its numbers, in their order
   abbrev pub DoTheirs : (ℕ → List A) → List (List ℕ) → List V → Type 0
-  DoTheirs mine works visits = (w : ℕ) (done : List ℕ) → slice_get works w ≡ Some done → parts_of w visits ≡ flat_map mine done
+  DoTheirs mine works visits =
+      (w : ℕ) (done : List ℕ) → slice_get works w ≡ Some done
+      → parts_of w visits ≡ flat_map mine done
 
   -- where one number alone has a part, and one worker did it once, all that was done is that part
-  pub done_alone : (mine : ℕ → List A) (only : ℕ) (works : List (List ℕ)) (visits : List V) → ((n : ℕ) → n ≢ only → mine n ≡ []) → count only (flat_map (λ ns. ns) works) ≡ 1
-      → All (λ v. worker v < length works) visits → DoTheirs mine works visits → flat_map part visits ≡ mine only
+  pub done_alone : (mine : ℕ → List A) (only : ℕ) (works : List (List ℕ)) (visits : List V)
+      → ((n : ℕ) → n ≢ only → mine n ≡ []) → count only (flat_map (λ ns. ns) works) ≡ 1
+      → All (λ v. worker v < length works) visits → DoTheirs mine works visits
+      → flat_map part visits ≡ mine only
   done_alone mine only works visits none once within theirs =
       let alone = has_alone only works once in
       let idle = no_part (λ w. w ≢ alone.place) (length works) visits within (λ w few apart.
       let at = slice_get-get_or works w [] few in
-      theirs w (get_or works w []) at ∙ not_there mine only none (get_or works w []) (alone.others w (get_or works w []) at apart)) in
-      of_worker alone.place visits idle ∙ theirs alone.place alone.list alone.at ∙ once_there mine only none alone.list alone.there
+      theirs w (get_or works w []) at
+      ∙ not_there mine only none (get_or works w [])
+      (alone.others w (get_or works w []) at apart)) in
+      of_worker alone.place visits idle ∙ theirs alone.place alone.list alone.at
+      ∙ once_there mine only none alone.list alone.there
 
   -- where no number has a part, nothing was done
-  pub done_none : (mine : ℕ → List A) (works : List (List ℕ)) (visits : List V) → ((n : ℕ) → mine n ≡ [])
-      → All (λ v. worker v < length works) visits → DoTheirs mine works visits → flat_map part visits ≡ []
+  pub done_none : (mine : ℕ → List A) (works : List (List ℕ)) (visits : List V)
+      → ((n : ℕ) → mine n ≡ [])
+      → All (λ v. worker v < length works) visits → DoTheirs mine works visits
+      → flat_map part visits ≡ []
   done_none mine works visits none within theirs =
       let idle = no_part (λ w. Unit {0}) (length works) visits within (λ w few _.
-      theirs w (get_or works w []) (slice_get-get_or works w [] few) ∙ no_parts (get_or works w [])) in
+      theirs w (get_or works w []) (slice_get-get_or works w [] few)
+      ∙ no_parts (get_or works w [])) in
       all_nil visits (λ k d few. idle k d few tt)
     where
       no_parts : (ns : List ℕ) → flat_map mine ns ≡ []
@@ -180,23 +250,36 @@ module _ {V A : Type 0} (worker : V → ℕ) (part : V → List A) where
       no_parts (n ∷ ns) = ap (λ xs. xs ++ flat_map mine ns) (none n) ∙ no_parts ns
 
 -- of lists of which all but one are empty, that one is all
-pub flat_alone : {A : Type 0} (lists : List (List A)) (place : ℕ) (list : List A) → slice_get lists place ≡ Some list
-    → ((other : ℕ) (xs : List A) → slice_get lists other ≡ Some xs → other ≢ place → xs ≡ []) → flat_map (λ xs. xs) lists ≡ list
+pub flat_alone : {A : Type 0} (lists : List (List A)) (place : ℕ) (list : List A)
+    → slice_get lists place ≡ Some list
+    → ((other : ℕ) (xs : List A) → slice_get lists other ≡ Some xs → other ≢ place → xs ≡ [])
+    → flat_map (λ xs. xs) lists ≡ list
 flat_alone [] place list at none = absurd (cc)
 flat_alone {A = A} (l ∷ lists) zero list at none =
     let same : l ≡ list = cc in
-    ap (λ xs. l ++ xs) (rest lists (λ other xs there. none (suc other) xs there (λ e. absurd (omega (arith, e))))) ∙ append-nil l ∙ same
+    ap (λ xs. l ++ xs)
+    (rest lists (λ other xs there. none (suc other) xs there (λ e. absurd (omega (arith, e)))))
+    ∙ append-nil l ∙ same
   where
-    rest : (lists : List (List A)) → ((other : ℕ) (xs : List A) → slice_get lists other ≡ Some xs → xs ≡ []) → flat_map (λ xs. xs) lists ≡ []
+    rest : (lists : List (List A))
+        → ((other : ℕ) (xs : List A) → slice_get lists other ≡ Some xs → xs ≡ [])
+        → flat_map (λ xs. xs) lists ≡ []
     rest [] h = refl
-    rest (x ∷ lists) h = ap (λ xs. xs ++ flat_map (λ ys. ys) lists) (h 0 x refl) ∙ rest lists (λ other. h (suc other))
+    rest (x ∷ lists) h =
+        ap (λ xs. xs ++ flat_map (λ ys. ys) lists) (h 0 x refl)
+        ∙ rest lists (λ other. h (suc other))
 flat_alone (l ∷ lists) (suc place) list at none =
     ap (λ xs. xs ++ flat_map (λ ys. ys) lists) (none 0 l refl (λ e. absurd (omega (arith, e))))
-    ∙ flat_alone lists place list at (λ other xs there apart. none (suc other) xs there (λ e. apart (omega (arith, e))))
+    ∙ flat_alone lists place list at
+    (λ other xs there apart. none (suc other) xs there (λ e. apart (omega (arith, e))))
 
-pub flat_none : {A : Type 0} (lists : List (List A)) → ((other : ℕ) (xs : List A) → slice_get lists other ≡ Some xs → xs ≡ []) → flat_map (λ xs. xs) lists ≡ []
+pub flat_none : {A : Type 0} (lists : List (List A))
+    → ((other : ℕ) (xs : List A) → slice_get lists other ≡ Some xs → xs ≡ [])
+    → flat_map (λ xs. xs) lists ≡ []
 flat_none [] h = refl
-flat_none (x ∷ lists) h = ap (λ xs. xs ++ flat_map (λ ys. ys) lists) (h 0 x refl) ∙ flat_none lists (λ other. h (suc other))
+flat_none (x ∷ lists) h =
+    ap (λ xs. xs ++ flat_map (λ ys. ys) lists) (h 0 x refl)
+    ∙ flat_none lists (λ other. h (suc other))
 
 -- all of some lists are empty, or one is not
 pub record HasOne {A : Type 0} (lists : List (List A)) : Type 0 where
@@ -205,87 +288,20 @@ pub record HasOne {A : Type 0} (lists : List (List A)) : Type 0 where
   pub rest : List A
   pub at : slice_get lists place ≡ Some (first ∷ rest)
 
-pub none_or_one : {A : Type 0} (lists : List (List A)) → ((place : ℕ) (list : List A) → slice_get lists place ≡ Some list → list ≡ []) ⊎ HasOne lists
+pub none_or_one : {A : Type 0} (lists : List (List A))
+    → ((place : ℕ) (list : List A) → slice_get lists place ≡ Some list → list ≡ []) ⊎ HasOne lists
 none_or_one [] = inl (λ place list at. absurd (cc))
 none_or_one ((x ∷ xs) ∷ lists) = inr (record { place = 0; first = x; rest = xs; at = refl })
 none_or_one {A = A} ([] ∷ lists) = by_rest (none_or_one lists)
   where
-    by_rest : ((place : ℕ) (list : List A) → slice_get lists place ≡ Some list → list ≡ []) ⊎ HasOne lists
-        → ((place : ℕ) (list : List A) → slice_get ([] ∷ lists) place ≡ Some list → list ≡ []) ⊎ HasOne ([] ∷ lists)
+    by_rest : ((place : ℕ) (list : List A) → slice_get lists place ≡ Some list → list ≡ [])
+        ⊎ HasOne lists
+        → ((place : ℕ) (list : List A) → slice_get ([] ∷ lists) place ≡ Some list → list ≡ [])
+        ⊎ HasOne ([] ∷ lists)
     by_rest (inl none) = inl all
       where
         all : (place : ℕ) (list : List A) → slice_get ([] ∷ lists) place ≡ Some list → list ≡ []
         all zero list at = let e : [] ≡ list = cc in sym e
         all (suc place) list at = none place list at
-    by_rest (inr one) = inr (record { place = suc one.place; first = one.first; rest = one.rest; at = one.at })
-
--- ---- lists with the same elements under each key
--- where the elements that pass begin, so does what they come from
-record Parts {A : Type 0} (p : A → Bool) (ys : List A) (x : A) (rest : List A) : Type 0 where
-  pub front : List A
-  pub back : List A
-  pub whole : ys ≡ front ++ x ∷ back
-  pub none : filter p front ≡ []
-  pub left : filter p back ≡ rest
-
-split_first : {A : Type 0} (p : A → Bool) (ys : List A) (x : A) (rest : List A) → filter p ys ≡ x ∷ rest → Parts p ys x rest
-split_first p [] x rest e = absurd (cc)
-split_first p (y ∷ ys) x rest e = by_test (p y) refl (split_first p ys x rest)
-  where
-    by_test : (b : Bool) → p y ≡ b → (filter p ys ≡ x ∷ rest → Parts p ys x rest) → Parts p (y ∷ ys) x rest
-    by_test true is further =
-        let h : y ∷ filter p ys ≡ x ∷ rest = ap (λ b. cond b (y ∷ filter p ys) (filter p ys)) (sym is) ∙ e in
-        let same : y ≡ x = cc in
-        let left : filter p ys ≡ rest = cc in
-        record { front = []; back = ys; whole = ap (λ z. z ∷ ys) same; none = refl; left = left }
-    by_test false is further =
-        let more = further (ap (λ b. cond b (y ∷ filter p ys) (filter p ys)) (sym is) ∙ e) in
-        record {
-          front = y ∷ more.front;
-          back = more.back;
-          whole = ap (λ zs. y ∷ zs) more.whole;
-          none = ap (λ b. cond b (y ∷ filter p more.front) (filter p more.front)) is ∙ more.none;
-          left = more.left;
-        }
-
-module _ {A K : Type 0} (key : A → K) (same : K → K → Bool) (itself : (k : K) → same k k ≡ true) (tells : (a b : K) → same a b ≡ true → a ≡ b) where
-  abbrev pub under : K → List A → List A
-  under k xs = filter (λ x. same (key x) k) xs
-
-  -- lists with the same elements under each key, in the same order, have the same elements
-  pub same_elements : (xs ys : List A) → ((k : K) → under k xs ≡ under k ys) → IsPermutation xs ys
-  same_elements [] [] all = IsPermutation-refl []
-  same_elements [] (y ∷ ys) all =
-      absurd (let h : [] ≡ y ∷ under (key y) ys = all (key y) ∙ ap (λ b. cond b (y ∷ under (key y) ys) (under (key y) ys)) (itself (key y)) in cc)
-  same_elements (x ∷ xs) ys all =
-      let begins : x ∷ under (key x) xs ≡ under (key x) ys = ap (λ b. cond b (x ∷ under (key x) xs) (under (key x) xs)) (sym (itself (key x))) ∙ all (key x) in
-      let parts = split_first (λ y. same (key y) (key x)) ys x (under (key x) xs) (sym begins) in
-      let others : (k : K) → under k xs ≡ under k (parts.front ++ parts.back) = λ k. by_test parts k (same (key x) k) refl in
-      let P : List A → Type 0 = λ zs. IsPermutation (x ∷ xs) zs in
-      subst P (sym parts.whole)
-      (IsPermutation-trans (x ∷ xs) (x ∷ (parts.front ++ parts.back)) (parts.front ++ x ∷ parts.back)
-      (IsPermutation-cons x xs (parts.front ++ parts.back) (same_elements xs (parts.front ++ parts.back) others))
-      (IsPermutation-sym (parts.front ++ x ∷ parts.back) (x ∷ (parts.front ++ parts.back)) (IsPermutation-middle parts.front x parts.back)))
-    where
-      by_test : (parts : Parts (λ y. same (key y) (key x)) ys x (under (key x) xs)) (k : K) (b : Bool) → same (key x) k ≡ b → under k xs ≡ under k (parts.front ++ parts.back)
-      by_test parts k true is =
-          let e : key x ≡ k = tells (key x) k is in
-          let none : under k parts.front ≡ [] = ap (λ q. under q parts.front) (sym e) ∙ parts.none in
-          ap (λ q. under q xs) (sym e) ∙ sym parts.left ∙ ap (λ q. under q parts.back) e
-          ∙ sym (filter-append (λ y. same (key y) k) parts.front parts.back ∙ ap (λ zs. zs ++ under k parts.back) none)
-      by_test parts k false is =
-          let whole : under k (parts.front ++ x ∷ parts.back) ≡ under k parts.front ++ under k parts.back =
-          filter-append (λ y. same (key y) k) parts.front (x ∷ parts.back) ∙ ap (λ b. under k parts.front ++ cond b (x ∷ under k parts.back) (under k parts.back)) is in
-          ap (λ b. cond b (x ∷ under k xs) (under k xs)) (sym is) ∙ all k ∙ ap (under k) parts.whole ∙ whole
-          ∙ sym (filter-append (λ y. same (key y) k) parts.front parts.back)
-
--- two tests, one after the other, in either order
-pub filter-filter : {A : Type 0} (p q : A → Bool) (xs : List A) → filter p (filter q xs) ≡ filter q (filter p xs)
-filter-filter p q [] = refl
-filter-filter p q (x ∷ xs) = by_tests (p x) (q x) refl refl (filter-filter p q xs)
-  where
-    by_tests : (a b : Bool) → p x ≡ a → q x ≡ b → filter p (filter q xs) ≡ filter q (filter p xs) → filter p (filter q (x ∷ xs)) ≡ filter q (filter p (x ∷ xs))
-    by_tests true true ea eb rest = rw (ea, eb, ea) (ap (λ zs. x ∷ zs) rest)
-    by_tests true false ea eb rest = rw (ea, eb) rest
-    by_tests false true ea eb rest = rw (ea, eb, ea) rest
-    by_tests false false ea eb rest = rw (ea, eb) rest
+    by_rest (inr one) = inr
+        (record { place = suc one.place; first = one.first; rest = one.rest; at = one.at })

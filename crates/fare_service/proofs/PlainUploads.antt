@@ -30,23 +30,32 @@ use Rattle.fare_service.proofs.PlainBooks.{Stands, own_plain}
 use Rattle.shard_book.proofs.PlainReplies.{plain_legal}
 use Rattle.fare_service.proofs.GatheredWork.{Given}
 
-pub one_plain : (fares : Fares) (files : List (List ℕ)) (history other : List Entry) → All HasOneReading files → IsPlain fares files history → IsPlain fares files other → history ≡ other
+pub one_plain : (fares : Fares) (files : List (List ℕ)) (history other : List Entry)
+    → All HasOneReading files → IsPlain fares files history → IsPlain fares files other
+    → history ≡ other
 one_plain fares files history other cuts a b =
-    a.entries ∙ ap (λ taps. plain fares (flat_map (λ ts. ts) taps)) (one_list files a.taps b.taps cuts a.each b.each) ∙ sym b.entries
+    a.entries ∙ ap (λ taps. plain fares (flat_map (λ ts. ts) taps))
+    (one_list files a.taps b.taps cuts a.each b.each) ∙ sym b.entries
 
-pub some_plain : (fares : Fares) (files : List (List ℕ)) (taps : List (List Tap)) → AreGoodTapsOfEach files taps → (history : List Entry) × IsPlain fares files history
-some_plain fares files taps each = (plain fares (flat_map (λ ts. ts) taps), record { taps = taps; each = each; entries = refl })
+pub some_plain : (fares : Fares) (files : List (List ℕ)) (taps : List (List Tap))
+    → AreGoodTapsOfEach files taps → (history : List Entry) × IsPlain fares files history
+some_plain fares files taps each =
+    (plain fares (flat_map (λ ts. ts) taps), record { taps = taps; each = each; entries = refl })
 
-pub legal_plain : (fares : Fares) (files : List (List ℕ)) (history : List Entry) → IsPlain fares files history → IsLegal fares history
+pub legal_plain : (fares : Fares) (files : List (List ℕ)) (history : List Entry)
+    → IsPlain fares files history → IsLegal fares history
 legal_plain fares files history is =
     let L : List Entry → Type 0 = λ es. IsLegal fares es in
     subst L (sym is.entries) (plain_legal fares (flat_map (λ ts. ts) is.taps))
 
 -- ---- statements
 abbrev pub AllNamed : OutcomeView → Type 0
-AllNamed outcome = (shard : ℕ) (book : Book) → slice_get outcome.books shard ≡ Some book → All IsNamed book.entries
+AllNamed outcome = (shard : ℕ) (book : Book) → slice_get outcome.books shard ≡ Some book
+    → All IsNamed book.entries
 
-pub stands : (given : Given) (outcome : OutcomeView) (history : List Entry) → 0 < length outcome.books → AllNamed outcome → All HasOneReading given.uploads → (w : IsUncutGathering given.table given.shards given.uploads outcome history)
+pub stands : (given : Given) (outcome : OutcomeView) (history : List Entry)
+    → 0 < length outcome.books → AllNamed outcome → All HasOneReading given.uploads
+    → (w : IsUncutGathering given.table given.shards given.uploads outcome history)
     → Stands given w.works outcome w.plain_is.taps
 stands given outcome history some named cuts w = record {
   gathered = gathered_of given w.works outcome w.headline;
@@ -58,29 +67,42 @@ stands given outcome history some named cuts w = record {
 }
 
 -- the entries of a token in the book of its shard are those of the plain history
-pub same_own : (given : Given) (outcome : OutcomeView) (history : List Entry) → 0 < length outcome.books → AllNamed outcome → All HasOneReading given.uploads → IsUncutGathering given.table given.shards given.uploads outcome history
-    → (token : Token) (book : Book) → slice_get outcome.books (shard_of_token (bytes_of token) (length outcome.books)) ≡ Some book → own token book.entries ≡ own token history
+pub same_own : (given : Given) (outcome : OutcomeView) (history : List Entry)
+    → 0 < length outcome.books → AllNamed outcome → All HasOneReading given.uploads
+    → IsUncutGathering given.table given.shards given.uploads outcome history
+    → (token : Token) (book : Book)
+    → slice_get outcome.books (shard_of_token (bytes_of token) (length outcome.books)) ≡ Some book
+    → own token book.entries ≡ own token history
 same_own given outcome history some named cuts w token book at =
-    let S : ℕ → Type 0 = λ n. slice_get outcome.books (shard_of_token (bytes_of token) n) ≡ Some book in
-    own_plain given w.works outcome w.plain_is.taps (stands given outcome history some named cuts w) w.apart token book (subst S w.headline.shards_are at)
+    let S : ℕ → Type 0 =
+    λ n. slice_get outcome.books (shard_of_token (bytes_of token) n) ≡ Some book in
+    own_plain given w.works outcome w.plain_is.taps (stands given outcome history some named cuts w)
+    w.apart token book (subst S w.headline.shards_are at)
     ∙ ap (own token) (sym w.plain_is.entries)
 
 -- a statement is a function of the token's own entries
-pub statement_same : (fares : Fares) (xs ys : List Entry) (token : Token) (statement : Statement) → own token xs ≡ own token ys → IsStatement fares xs token statement → IsStatement fares ys token statement
+pub statement_same : (fares : Fares) (xs ys : List Entry) (token : Token) (statement : Statement)
+    → own token xs ≡ own token ys → IsStatement fares xs token statement
+    → IsStatement fares ys token statement
 unfolding taps_of
 statement_same fares xs ys token statement same is = record {
   token = is.token;
   lines = is.lines ∙ same;
   totals = is.totals ∙ ap sums same;
-  window = is.window ∙ ap (λ es. last_window (rules_of fares (bytes_of token)) (map (tap_of fares) es)) same;
+  window = is.window ∙ ap
+      (λ es. last_window (rules_of fares (bytes_of token)) (map (tap_of fares) es)) same;
 }
 
 -- the text of a token's statement is that over the plain history
-pub same_statement : (given : Given) (outcome : OutcomeView) (history : List Entry) → 0 < length outcome.books → AllNamed outcome → All HasOneReading given.uploads → IsUncutGathering given.table given.shards given.uploads outcome history
-    → (token : Token) (text : List ℕ) → IsStatementOf outcome token text ↔ IsStatementOver given.table history token text
+pub same_statement : (given : Given) (outcome : OutcomeView) (history : List Entry)
+    → 0 < length outcome.books → AllNamed outcome → All HasOneReading given.uploads
+    → IsUncutGathering given.table given.shards given.uploads outcome history
+    → (token : Token) (text : List ℕ)
+    → IsStatementOf outcome token text ↔ IsStatementOver given.table history token text
 same_statement given outcome history some named cuts w token text = (there, back)
   where
-    table_of : (shard : ℕ) (book : Book) → slice_get outcome.books shard ≡ Some book → book.table ≡ given.table
+    table_of : (shard : ℕ) (book : Book) → slice_get outcome.books shard ≡ Some book
+        → book.table ≡ given.table
     table_of shard book at = (w.headline.books shard book at).0
 
     there : IsStatementOf outcome token text → IsStatementOver given.table history token text
@@ -90,7 +112,9 @@ same_statement given outcome history some named cuts w token text = (there, back
         let T : Fares → Type 0 = λ f. IsStatementText f s.statement text in
         record {
           statement = s.statement;
-          of_history = statement_same given.table s.book.entries history token s.statement (same_own given outcome history some named cuts w token s.book s.at) (subst F table s.of_book);
+          of_history = statement_same given.table s.book.entries history token s.statement
+              (same_own given outcome history some named cuts w token s.book s.at)
+              (subst F table s.of_book);
           shown = subst T table s.shown;
         }
 
@@ -107,6 +131,8 @@ same_statement given outcome history some named cuts w token text = (there, back
           book = book;
           at = at;
           statement = s.statement;
-          of_book = subst F (sym table) (statement_same given.table history book.entries token s.statement (sym (same_own given outcome history some named cuts w token book at)) s.of_history);
+          of_book = subst F (sym table)
+              (statement_same given.table history book.entries token s.statement
+              (sym (same_own given outcome history some named cuts w token book at)) s.of_history);
           shown = subst T (sym table) s.shown;
         }

@@ -1,44 +1,62 @@
 -- What a share keeps, one upload after another.
-use Rattle.std.specs.Prelude.{ℕ, zero, suc, ◌≡◌, ◌+◌, ◌*◌, ◌^◌, ◌≤◌, ◌<◌, List, [], ◌∷◌, ◌++◌, length, map}
-use Rattle.std.proofs.Common.{refl, sym, ◌∙◌, ap, subst, arith, append_assoc, append-nil, length-append}
-use Rattle.std.proofs.lemmas.List.{map-append, length-map}
+use Rattle.std.specs.Prelude.{ℕ, zero, suc, ◌≡◌, ◌+◌, ◌*◌, ◌^◌, ◌≤◌, ◌<◌, List, [], ◌∷◌, ◌++◌}
+use Rattle.std.specs.Prelude.{length, map}
+use Rattle.std.proofs.Common.{refl, sym, ◌∙◌, ap, subst, arith, append_assoc, append-nil}
+use Rattle.std.proofs.Common.{length-append}
+use Rattle.std.proofs.lemmas.List.{map-append}
 use Rattle.std.proofs.lemmas.List.Elements.{All-nil, All-cons, All-append}
 use Rattle.std.proofs.lemmas.Grind.{flat_map-append}
 use Rattle.shard_book.specs.Sums.{Sums, sums, add_sums}
+use Rattle.shard_book.proofs.SumsLemmas.{sums-append}
 use Rattle.shared_books.specs.Drawing.{DrawerView}
 use Rattle.shared_books.specs.Claims.{all_claims, claims_given, claims_left}
-use Rattle.shared_books.specs.Passes.{PassView, SharedBookView, new_pass, fresh_pass, left_pass, seen_by}
+use Rattle.shared_books.specs.Passes.{PassView, SharedBookView, new_pass, fresh_pass, left_pass}
+use Rattle.shared_books.specs.Passes.{seen_by}
 use Rattle.fare_service.specs.declared.service.share.Done.{Done}
 use Rattle.report_texts.specs.declared.upload_end.UploadEnd.{UploadEnd}
 use Rattle.fare_service.specs.Claims.{claims_at, left_share}
 use Rattle.fare_service.specs.ServiceView.{ServiceView, shards_of}
 use Rattle.fare_service.specs.ShareView.{ShareView}
 use Rattle.fare_service.specs.Runs.{RunVisit, entries_to, entries_of}
-use Rattle.fare_service.specs.Shares.{Worked, all_visits, done_of, IsWorked, KeepsWorks, IsShareOf, IsFresh, HasWorked, WentOn, HasVisited, made_visits_at, made_visits, books_of}
+use Rattle.fare_service.specs.Shares.{Worked, all_visits, done_of, IsWorked, KeepsWorks, IsShareOf}
+use Rattle.fare_service.specs.Shares.{IsFresh, HasWorked, HasVisited, made_visits_at}
+use Rattle.fare_service.specs.Shares.{made_visits, books_of}
 use Rattle.fare_service.specs.inside.Shares.{worked}
-use Rattle.fare_service.proofs.VisitLemmas.{made_none, made_more, entries_to-append, sums-append, own-others, no_taps}
+use Rattle.fare_service.proofs.VisitLemmas.{made_none, made_more, entries_to-append, own-others}
+use Rattle.fare_service.proofs.VisitLemmas.{no_taps}
 
-pub all_visits-append : (xs ys : List Worked) → all_visits (xs ++ ys) ≡ all_visits xs ++ all_visits ys
+pub all_visits-append : (xs ys : List Worked)
+    → all_visits (xs ++ ys) ≡ all_visits xs ++ all_visits ys
 all_visits-append xs ys = flat_map-append (λ w. w.visits) xs ys
 
 -- nothing was done with the share
-pub worked_none : (service : ServiceView) (old new : ShareView) → new.drawer.claims ≡ old.drawer.claims → new.drawer.drawn ≡ old.drawer.drawn → new.done ≡ old.done → new.passes ≡ old.passes → new.totals ≡ old.totals → HasWorked service old new []
+pub worked_none : (service : ServiceView) (old new : ShareView)
+    → new.drawer.claims ≡ old.drawer.claims → new.drawer.drawn ≡ old.drawer.drawn
+    → new.done ≡ old.done → new.passes ≡ old.passes → new.totals ≡ old.totals
+    → HasWorked service old new []
 worked_none service old new claims drawn done passes totals =
-    let P : List PassView → Type 0 = λ ps. HasVisited (shards_of service) old.passes ps old.totals new.totals [] in
-    let T : Sums → Type 0 = λ t. HasVisited (shards_of service) old.passes old.passes old.totals t [] in
+    let P : List PassView → Type 0 =
+    λ ps. HasVisited (shards_of service) old.passes ps old.totals new.totals [] in
+    let T : Sums → Type 0 =
+    λ t. HasVisited (shards_of service) old.passes old.passes old.totals t [] in
     record {
       each = All-nil (IsWorked service);
       claims = claims;
       drawn = drawn ∙ sym (append-nil old.drawer.drawn);
       done = done ∙ sym (append-nil old.done);
-      made = subst P (sym passes) (subst T (sym totals) (made_none (shards_of service) old.passes old.totals));
+      made = subst P (sym passes)
+          (subst T (sym totals) (made_none (shards_of service) old.passes old.totals));
     }
 
 -- one upload was drawn and posted
-pub worked_one : (service : ServiceView) (old new : ShareView) (w : Worked) → IsWorked service w → new.drawer.claims ≡ old.drawer.claims → new.drawer.drawn ≡ old.drawer.drawn ++ w.upload ∷ [] → new.done ≡ old.done ++ done_of w ∷ []
-    → HasVisited (shards_of service) old.passes new.passes old.totals new.totals w.visits → HasWorked service old new (w ∷ [])
+pub worked_one : (service : ServiceView) (old new : ShareView) (w : Worked) → IsWorked service w
+    → new.drawer.claims ≡ old.drawer.claims → new.drawer.drawn ≡ old.drawer.drawn ++ w.upload ∷ []
+    → new.done ≡ old.done ++ done_of w ∷ []
+    → HasVisited (shards_of service) old.passes new.passes old.totals new.totals w.visits
+    → HasWorked service old new (w ∷ [])
 worked_one service old new w is claims drawn done made =
-    let P : List RunVisit → Type 0 = λ vs. HasVisited (shards_of service) old.passes new.passes old.totals new.totals vs in
+    let P : List RunVisit → Type 0 =
+    λ vs. HasVisited (shards_of service) old.passes new.passes old.totals new.totals vs in
     record {
       each = All-cons (IsWorked service) w [] is (All-nil (IsWorked service));
       claims = claims;
@@ -48,33 +66,51 @@ worked_one service old new w is claims drawn done made =
     }
 
 -- some uploads, and then others
-pub worked_more : (service : ServiceView) (a b c : ShareView) (xs ys : List Worked) → HasWorked service a b xs → HasWorked service b c ys → HasWorked service a c (xs ++ ys)
+pub worked_more : (service : ServiceView) (a b c : ShareView) (xs ys : List Worked)
+    → HasWorked service a b xs → HasWorked service b c ys → HasWorked service a c (xs ++ ys)
 worked_more service a b c xs ys p q =
-    let P : List RunVisit → Type 0 = λ vs. HasVisited (shards_of service) a.passes c.passes a.totals c.totals vs in
+    let P : List RunVisit → Type 0 =
+    λ vs. HasVisited (shards_of service) a.passes c.passes a.totals c.totals vs in
     record {
       each = All-append (IsWorked service) xs ys p.each q.each;
       claims = q.claims ∙ p.claims;
-      drawn = q.drawn ∙ (ap (λ ds. ds ++ map (λ w. w.upload) ys) p.drawn ∙ append_assoc a.drawer.drawn (map (λ w. w.upload) xs) (map (λ w. w.upload) ys)
+      drawn = q.drawn
+          ∙ (ap (λ ds. ds ++ map (λ w. w.upload) ys) p.drawn
+          ∙ append_assoc a.drawer.drawn (map (λ w. w.upload) xs) (map (λ w. w.upload) ys)
           ∙ ap (λ ds. a.drawer.drawn ++ ds) (sym (map-append (λ w. w.upload) xs ys)));
-      done = q.done ∙ (ap (λ ds. ds ++ map done_of ys) p.done ∙ append_assoc a.done (map done_of xs) (map done_of ys) ∙ ap (λ ds. a.done ++ ds) (sym (map-append done_of xs ys)));
-      made = subst P (sym (all_visits-append xs ys)) (made_more (shards_of service) a.passes b.passes c.passes a.totals b.totals c.totals (all_visits xs) (all_visits ys) p.made q.made);
+      done = q.done
+          ∙ (ap (λ ds. ds ++ map done_of ys) p.done
+          ∙ append_assoc a.done (map done_of xs) (map done_of ys)
+          ∙ ap (λ ds. a.done ++ ds) (sym (map-append done_of xs ys)));
+      made = subst P (sym (all_visits-append xs ys))
+          (made_more (shards_of service) a.passes b.passes c.passes a.totals b.totals c.totals
+          (all_visits xs) (all_visits ys) p.made q.made);
     }
 
-pub went_on_more : (service : ServiceView) (a b c : ShareView) → WentOn service a b → WentOn service b c → WentOn service a c
-went_on_more service a b c (xs, p) (ys, q) = (xs ++ ys, worked_more service a b c xs ys p q)
-
 -- what a share keeps after it went on
-pub keeps_more : (service : ServiceView) (old new : ShareView) (works more : List Worked) → KeepsWorks service old works → HasWorked service old new more → KeepsWorks service new (works ++ more)
+pub keeps_more : (service : ServiceView) (old new : ShareView) (works more : List Worked)
+    → KeepsWorks service old works → HasWorked service old new more
+    → KeepsWorks service new (works ++ more)
 keeps_more service old new works more k h = record {
   each = All-append (IsWorked service) works more k.each h.each;
-  drawn = h.drawn ∙ (ap (λ ds. ds ++ map (λ w. w.upload) more) k.drawn ∙ sym (map-append (λ w. w.upload) works more));
+  drawn = h.drawn
+      ∙ (ap (λ ds. ds ++ map (λ w. w.upload) more) k.drawn
+      ∙ sym (map-append (λ w. w.upload) works more));
   done = h.done ∙ (ap (λ ds. ds ++ map done_of more) k.done ∙ sym (map-append done_of works more));
-  visits = λ s. h.made.visits s ∙ (ap (λ vs. vs ++ entries_to s (all_visits more)) (k.visits s) ∙ sym (ap (entries_to s) (all_visits-append works more) ∙ entries_to-append s (all_visits works) (all_visits more)));
+  visits = λ s. h.made.visits s
+      ∙ (ap (λ vs. vs ++ entries_to s (all_visits more)) (k.visits s)
+      ∙ sym (ap (entries_to s) (all_visits-append works more)
+      ∙ entries_to-append s (all_visits works) (all_visits more)));
   totals = h.made.counted ∙ (ap (λ t. add_sums t (sums (entries_of (all_visits more)))) k.totals
-      ∙ sym (ap (λ vs. sums (entries_of vs)) (all_visits-append works more) ∙ ap sums (flat_map-append (λ v. v.entries) (all_visits works) (all_visits more)) ∙ sums-append (entries_of (all_visits works)) (entries_of (all_visits more))));
+      ∙ sym (ap (λ vs. sums (entries_of vs)) (all_visits-append works more)
+      ∙ ap sums (flat_map-append (λ v. v.entries) (all_visits works) (all_visits more))
+      ∙ sums-append (entries_of (all_visits works)) (entries_of (all_visits more))));
 }
 
-pub share_more : (service : ServiceView) (old new : ShareView) (more : List Worked) → (share : IsShareOf service old) → HasWorked service old new more → new.drawer.drawn_from ≡ old.drawer.drawn_from → new.totals.taps ≤ old.totals.taps + 2 ^ 60 * length more → IsShareOf service new
+pub share_more : (service : ServiceView) (old new : ShareView) (more : List Worked)
+    → (share : IsShareOf service old) → HasWorked service old new more
+    → new.drawer.drawn_from ≡ old.drawer.drawn_from
+    → new.totals.taps ≤ old.totals.taps + 2 ^ 60 * length more → IsShareOf service new
 share_more service old new more share h drawn_from few = record {
   drawer = drawn_from ∙ share.drawer;
   passes = h.made.books ∙ share.passes;
@@ -83,49 +119,65 @@ share_more service old new more share h drawn_from few = record {
   room = omega (arith, few, share.room, length-append share.works more);
 }
 
--- a share has worked on as many uploads as it has drawn
-pub works_drawn : (service : ServiceView) (share : ShareView) (is : IsShareOf service share) → length is.works ≡ length share.drawer.drawn
-works_drawn service share is = sym (ap length is.keeps.drawn ∙ length-map is.works (λ (w : Worked). w.upload))
-
 abbrev pub holding : DrawerView → List PassView → Sums → List Done → ShareView
-holding drawer passes totals done = record { drawer = drawer; passes = passes; totals = totals; done = done }
+holding drawer passes totals done =
+    record { drawer = drawer; passes = passes; totals = totals; done = done }
 
 -- a worker that drew an upload and posted it
-pub next_done : (service : ServiceView) (drawer drawer' : DrawerView) (passes passes' : List PassView) (totals totals' : Sums) (done done' : List Done) (upload : ℕ) (end : UploadEnd) (visits : List RunVisit)
-    → drawer'.claims ≡ drawer.claims → drawer'.drawn ≡ drawer.drawn ++ upload ∷ [] → done' ≡ done ++ record { upload = upload; end = end } ∷ [] → HasVisited (shards_of service) passes passes' totals totals' visits → IsWorked service (worked upload end visits)
-    → HasWorked service (holding drawer passes totals done) (holding drawer' passes' totals' done') (worked upload end visits ∷ [])
-next_done service drawer drawer' passes passes' totals totals' done done' upload end visits claims drawn more made is =
-    worked_one service (holding drawer passes totals done) (holding drawer' passes' totals' done') (worked upload end visits) is claims drawn more made
+pub next_done : (service : ServiceView) (drawer drawer' : DrawerView)
+    (passes passes' : List PassView) (totals totals' : Sums) (done done' : List Done) (upload : ℕ)
+    (end : UploadEnd) (visits : List RunVisit)
+    → drawer'.claims ≡ drawer.claims → drawer'.drawn ≡ drawer.drawn ++ upload ∷ []
+    → done' ≡ done ++ record { upload = upload; end = end } ∷ []
+    → HasVisited (shards_of service) passes passes' totals totals' visits
+    → IsWorked service (worked upload end visits)
+    → HasWorked service (holding drawer passes totals done) (holding drawer' passes' totals' done')
+    (worked upload end visits ∷ [])
+next_done service drawer drawer' passes passes' totals totals' done done' upload end visits claims
+    drawn more made is =
+    worked_one service (holding drawer passes totals done) (holding drawer' passes' totals' done')
+    (worked upload end visits) is claims drawn more made
 
-pub next_share : (service : ServiceView) (drawer drawer' : DrawerView) (passes passes' : List PassView) (totals totals' : Sums) (done done' : List Done) (upload : ℕ) (end : UploadEnd) (old : ShareView)
-    → holding drawer passes totals done ≡ old → IsShareOf service old → drawer'.claims ≡ drawer.claims → drawer'.drawn ≡ drawer.drawn ++ upload ∷ [] → drawer'.drawn_from ≡ drawer.drawn_from → done' ≡ done ++ record { upload = upload; end = end } ∷ []
-    → ((visits : List RunVisit) × HasVisited (shards_of service) passes passes' totals totals' visits × IsWorked service (worked upload end visits)) → totals'.taps ≤ totals.taps + 2 ^ 60 → IsShareOf service (holding drawer' passes' totals' done')
-next_share service drawer drawer' passes passes' totals totals' done done' upload end old is share claims drawn drawn_from more (visits, made, did) few =
+pub next_share : (service : ServiceView) (drawer drawer' : DrawerView)
+    (passes passes' : List PassView) (totals totals' : Sums) (done done' : List Done) (upload : ℕ)
+    (end : UploadEnd) (old : ShareView)
+    → holding drawer passes totals done ≡ old → IsShareOf service old
+    → drawer'.claims ≡ drawer.claims → drawer'.drawn ≡ drawer.drawn ++ upload ∷ []
+    → drawer'.drawn_from ≡ drawer.drawn_from
+    → done' ≡ done ++ record { upload = upload; end = end } ∷ []
+    → ((visits : List RunVisit)
+    × HasVisited (shards_of service) passes passes' totals totals' visits
+    × IsWorked service (worked upload end visits)) → totals'.taps ≤ totals.taps + 2 ^ 60
+    → IsShareOf service (holding drawer' passes' totals' done')
+next_share service drawer drawer' passes passes' totals totals' done done' upload end old is share
+    claims drawn drawn_from more (visits, made, did) few =
     let P : ShareView → Type 0 = IsShareOf service in
-    share_more service (holding drawer passes totals done) (holding drawer' passes' totals' done') (worked upload end visits ∷ []) (subst P (sym is) share)
-    (next_done service drawer drawer' passes passes' totals totals' done done' upload end visits claims drawn more made did) drawn_from (omega (arith, few))
-
--- the totals of a share have room for another upload
-pub has_room : (service : ServiceView) (share : ShareView) → IsShareOf service share → length share.drawer.drawn < 2 ^ 32 → share.totals.taps + 2 ^ 60 ≤ 2 ^ 94
-has_room service share is few = omega (arith, is.room, works_drawn service share is, few)
+    share_more service (holding drawer passes totals done) (holding drawer' passes' totals' done')
+    (worked upload end visits ∷ []) (subst P (sym is) share)
+    (next_done service drawer drawer' passes passes' totals totals' done done' upload end visits
+    claims drawn more made did) drawn_from (omega (arith, few))
 
 -- passes of which none made a visit
-pub own_none : {A : Type 0} (f : A → PassView) → ((x : A) → made_visits (f x).marks ≡ []) → (shard : ℕ) (xs : List A) → made_visits_at shard (map f xs) ≡ []
+pub own_none : {A : Type 0} (f : A → PassView) → ((x : A) → made_visits (f x).marks ≡ [])
+    → (shard : ℕ) (xs : List A) → made_visits_at shard (map f xs) ≡ []
 own_none f none shard [] = refl
 own_none f none zero (x ∷ xs) = none x
 own_none f none (suc shard) (x ∷ xs) = own_none f none shard xs
 
-pub own_new : (shard : ℕ) (books : List SharedBookView) → made_visits_at shard (map new_pass books) ≡ []
+pub own_new : (shard : ℕ) (books : List SharedBookView)
+    → made_visits_at shard (map new_pass books) ≡ []
 own_new shard books = own_none new_pass (λ b. refl) shard books
 
-pub own_split : (shard : ℕ) (passes : List PassView) → made_visits_at shard (map fresh_pass passes) ≡ []
+pub own_split : (shard : ℕ) (passes : List PassView)
+    → made_visits_at shard (map fresh_pass passes) ≡ []
 own_split shard passes = own_none fresh_pass (λ p. own-others (seen_by p)) shard passes
 
 pub books_new : (books : List SharedBookView) → books_of (map new_pass books) ≡ books
 books_new [] = refl
 books_new (b ∷ bs) = ap (λ xs. b ∷ xs) (books_new bs)
 
-pub own_left : (shard : ℕ) (passes : List PassView) → made_visits_at shard (map left_pass passes) ≡ made_visits_at shard passes
+pub own_left : (shard : ℕ) (passes : List PassView)
+    → made_visits_at shard (map left_pass passes) ≡ made_visits_at shard passes
 own_left shard [] = refl
 own_left zero (p ∷ ps) = refl
 own_left (suc shard) (p ∷ ps) = own_left shard ps
@@ -135,26 +187,37 @@ books_left [] = refl
 books_left (p ∷ ps) = ap (λ xs. p.book ∷ xs) (books_left ps)
 
 -- the share that a split leaves is a share still
-pub share_left : (service : ServiceView) (share : ShareView) → IsShareOf service share → IsShareOf service (left_share share)
+pub share_left : (service : ServiceView) (share : ShareView) → IsShareOf service share
+    → IsShareOf service (left_share share)
 share_left service share is = record {
   drawer = is.drawer;
   passes = books_left share.passes ∙ is.passes;
   works = is.works;
-  keeps = record { each = is.keeps.each; drawn = is.keeps.drawn; done = is.keeps.done; visits = λ s. own_left s share.passes ∙ is.keeps.visits s; totals = is.keeps.totals };
+  keeps = record {
+    each = is.keeps.each;
+    drawn = is.keeps.drawn;
+    done = is.keeps.done;
+    visits =
+        λ s. own_left s share.passes ∙ is.keeps.visits s;
+    totals = is.keeps.totals;
+  };
   room = is.room;
 }
 
-pub claims_left_at : (shard : ℕ) (passes : List PassView) → claims_at shard (map left_pass passes) ≡ claims_left (claims_at shard passes)
+pub claims_left_at : (shard : ℕ) (passes : List PassView)
+    → claims_at shard (map left_pass passes) ≡ claims_left (claims_at shard passes)
 claims_left_at shard [] = refl
 claims_left_at zero (p ∷ ps) = refl
 claims_left_at (suc shard) (p ∷ ps) = claims_left_at shard ps
 
-pub claims_given_at : (shard : ℕ) (passes : List PassView) → claims_at shard (map fresh_pass passes) ≡ claims_given (claims_at shard passes)
+pub claims_given_at : (shard : ℕ) (passes : List PassView)
+    → claims_at shard (map fresh_pass passes) ≡ claims_given (claims_at shard passes)
 claims_given_at shard [] = refl
 claims_given_at zero (p ∷ ps) = refl
 claims_given_at (suc shard) (p ∷ ps) = claims_given_at shard ps
 
-pub claims_new_at : (shard : ℕ) (books : List SharedBookView) → shard < length books → claims_at shard (map new_pass books) ≡ all_claims
+pub claims_new_at : (shard : ℕ) (books : List SharedBookView) → shard < length books
+    → claims_at shard (map new_pass books) ≡ all_claims
 claims_new_at shard [] within = absurd (omega arith)
 claims_new_at zero (b ∷ bs) within = refl
 claims_new_at (suc shard) (b ∷ bs) within = claims_new_at shard bs (omega arith)
@@ -164,15 +227,28 @@ books_split [] = refl
 books_split (p ∷ ps) = ap (λ xs. p.book ∷ xs) (books_split ps)
 
 -- a share with which nothing was done
-pub fresh_share : (service : ServiceView) (drawer : DrawerView) (passes : List PassView) (totals : Sums) (done : List Done) → drawer.drawn_from ≡ service.drawing → drawer.drawn ≡ [] → books_of passes ≡ service.books
-    → ((shard : ℕ) → made_visits_at shard passes ≡ []) → totals ≡ sums [] → done ≡ [] → IsShareOf service (holding drawer passes totals done)
+pub fresh_share : (service : ServiceView) (drawer : DrawerView) (passes : List PassView)
+    (totals : Sums) (done : List Done) → drawer.drawn_from ≡ service.drawing → drawer.drawn ≡ []
+    → books_of passes ≡ service.books
+    → ((shard : ℕ) → made_visits_at shard passes ≡ []) → totals ≡ sums [] → done ≡ []
+    → IsShareOf service (holding drawer passes totals done)
 fresh_share service drawer passes totals done drawn_from drawn books own zero_totals none = record {
   drawer = drawn_from;
   passes = books;
   works = [];
-  keeps = record { each = All-nil (IsWorked service); drawn = drawn; done = none; visits = own; totals = zero_totals };
+  keeps = record {
+    each = All-nil (IsWorked service);
+    drawn = drawn;
+    done = none;
+    visits = own;
+    totals =
+        zero_totals;
+  };
   room = omega (arith, ap (λ s. s.taps) zero_totals, no_taps);
 }
 
-pub fresh : (drawer : DrawerView) (passes : List PassView) (totals : Sums) (done : List Done) → drawer.drawn ≡ [] → ((shard : ℕ) → made_visits_at shard passes ≡ []) → totals ≡ sums [] → done ≡ [] → IsFresh (holding drawer passes totals done)
-fresh drawer passes totals done drawn own zero_totals none = record { drawn = drawn; done = none; visits = own; totals = zero_totals }
+pub fresh : (drawer : DrawerView) (passes : List PassView) (totals : Sums) (done : List Done)
+    → drawer.drawn ≡ [] → ((shard : ℕ) → made_visits_at shard passes ≡ []) → totals ≡ sums []
+    → done ≡ [] → IsFresh (holding drawer passes totals done)
+fresh drawer passes totals done drawn own zero_totals none =
+    record { drawn = drawn; done = none; visits = own; totals = zero_totals }

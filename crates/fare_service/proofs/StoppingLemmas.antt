@@ -14,30 +14,37 @@ use Rattle.fare_service.specs.Runs.{RunVisit}
 use Rattle.fare_service.specs.Shares.{Worked, HasWorked, IsShareOf, IsWorked, HasVisited, WentOn}
 use Rattle.fare_service.specs.inside.Shares.{worked}
 use Rattle.fare_service.specs.Stopping.{SomeFull, MayGoOn, StoppedWell, WasCut}
-use Rattle.fare_service.proofs.ShareLemmas.{holding, next_done, share_more, worked_none, worked_more}
+use Rattle.fare_service.proofs.ShareLemmas.{holding, next_done, share_more, worked_none}
+use Rattle.fare_service.proofs.ShareLemmas.{worked_more}
 
 -- the worker worked on these uploads, and went on after each
 abbrev pub Going : ServiceView → ShareView → ShareView → Type 0
-Going service old new = (more : List Worked) × HasWorked service old new more × All (MayGoOn new.passes) more
+Going service old new =
+    (more : List Worked) × HasWorked service old new more × All (MayGoOn new.passes) more
 
 -- who knew of a full shard knows of one still
-still : (p q : List PassView) → (SomeFull p → SomeFull q) → (works : List Worked) → All (MayGoOn p) works → All (MayGoOn q) works
+still : (p q : List PassView) → (SomeFull p → SomeFull q) → (works : List Worked)
+    → All (MayGoOn p) works → All (MayGoOn q) works
 still p q more works all = All-weaker (MayGoOn p) (MayGoOn q) (λ w h. one w h) works all
   where
     one : (w : Worked) → MayGoOn p w → MayGoOn q w
     one w (inl whole) = inl whole
     one w (inr some) = inr (more some)
 
-pub going_more : (service : ServiceView) (old a b : ShareView) (w : Worked) → Going service old a → HasWorked service a b (w ∷ []) → (SomeFull a.passes → SomeFull b.passes) → MayGoOn b.passes w
+pub going_more : (service : ServiceView) (old a b : ShareView) (w : Worked) → Going service old a
+    → HasWorked service a b (w ∷ []) → (SomeFull a.passes → SomeFull b.passes) → MayGoOn b.passes w
     → Going service old b
 going_more service old a b w (more, worked, all) one full goes = (
   more ++ w ∷ [],
   worked_more service old a b more (w ∷ []) worked one,
-  All-append (MayGoOn b.passes) more (w ∷ []) (still a.passes b.passes full more all) (All-cons (MayGoOn b.passes) w [] goes (All-nil (MayGoOn b.passes))),
+  All-append (MayGoOn b.passes) more (w ∷ []) (still a.passes b.passes full more all)
+      (All-cons (MayGoOn b.passes) w [] goes (All-nil (MayGoOn b.passes))),
 )
 
 -- no upload was left
-pub stopped_none : (service : ServiceView) (old a b : ShareView) → Going service old a → HasWorked service a b [] → (SomeFull a.passes → SomeFull b.passes) → b.drawer.seen ≡ length service.uploads
+pub stopped_none : (service : ServiceView) (old a b : ShareView) → Going service old a
+    → HasWorked service a b [] → (SomeFull a.passes → SomeFull b.passes)
+    → b.drawer.seen ≡ length service.uploads
     → StoppedWell service old b
 stopped_none service old a b (more, worked, all) none full seen = record {
   before = more;
@@ -48,7 +55,8 @@ stopped_none service old a b (more, worked, all) none full seen = record {
 }
 
 -- the last upload was cut
-pub stopped_cut : (service : ServiceView) (old a b : ShareView) (w : Worked) → Going service old a → HasWorked service a b (w ∷ []) → (SomeFull a.passes → SomeFull b.passes) → WasCut w.end
+pub stopped_cut : (service : ServiceView) (old a b : ShareView) (w : Worked) → Going service old a
+    → HasWorked service a b (w ∷ []) → (SomeFull a.passes → SomeFull b.passes) → WasCut w.end
     → StoppedWell service old b
 stopped_cut service old a b w (more, worked, all) one full cut = record {
   before = more;
@@ -58,33 +66,58 @@ stopped_cut service old a b w (more, worked, all) one full cut = record {
   stopped = cut;
 }
 
-pub stopped_went_on : (service : ServiceView) (old new : ShareView) → StoppedWell service old new → WentOn service old new
+pub stopped_went_on : (service : ServiceView) (old new : ShareView) → StoppedWell service old new
+    → WentOn service old new
 stopped_went_on service old new s = (s.before ++ option_to_list s.last, s.worked)
 
 pub going_start : (service : ServiceView) (share : ShareView) → Going service share share
-going_start service share = ([], worked_none service share share refl refl refl refl refl, All-nil (MayGoOn share.passes))
+going_start service share =
+    ([], worked_none service share share refl refl refl refl refl, All-nil (MayGoOn share.passes))
 
 -- an upload that was drawn and posted
-module _ (service : ServiceView) (old : ShareView) (drawer drawer' : DrawerView) (passes passes' : List PassView) (totals totals' : Sums) (done done' : List Done) (next : Done)
-    (going : Going service old (holding drawer passes totals done)) (claims : drawer'.claims ≡ drawer.claims) (drawn : drawer'.drawn ≡ drawer.drawn ++ next.upload ∷ []) (more : done' ≡ done ++ next ∷ [])
-    (did : (visits : List RunVisit) × HasVisited (shards_of service) passes passes' totals totals' visits × IsWorked service (worked next.upload next.end visits))
+module _ (service : ServiceView) (old : ShareView) (drawer drawer' : DrawerView)
+    (passes passes' : List PassView) (totals totals' : Sums) (done done' : List Done) (next : Done)
+    (going : Going service old (holding drawer passes totals done))
+    (claims : drawer'.claims ≡ drawer.claims)
+    (drawn : drawer'.drawn ≡ drawer.drawn ++ next.upload ∷ []) (more : done' ≡ done ++ next ∷ [])
+    (did : (visits : List RunVisit)
+    × HasVisited (shards_of service) passes passes' totals totals' visits
+    × IsWorked service (worked next.upload next.end visits))
     (full : SomeFull passes → SomeFull passes') where
-  one : HasWorked service (holding drawer passes totals done) (holding drawer' passes' totals' done') (worked next.upload next.end did.0 ∷ [])
-  one = next_done service drawer drawer' passes passes' totals totals' done done' next.upload next.end did.0 claims drawn more did.1 did.2
+  one : HasWorked service (holding drawer passes totals done)
+      (holding drawer' passes' totals' done') (worked next.upload next.end did.0 ∷ [])
+  one = next_done service drawer drawer' passes passes' totals totals' done done' next.upload
+      next.end did.0 claims drawn more did.1 did.2
 
-  pub going_next : WasNotCut next.end ⊎ SomeFull passes' → Going service old (holding drawer' passes' totals' done')
-  going_next goes = going_more service old (holding drawer passes totals done) (holding drawer' passes' totals' done') (worked next.upload next.end did.0) going one full goes
+  pub going_next : WasNotCut next.end ⊎ SomeFull passes'
+      → Going service old (holding drawer' passes' totals' done')
+  going_next goes = going_more service old (holding drawer passes totals done)
+      (holding drawer' passes' totals' done') (worked next.upload next.end did.0) going one full
+      goes
 
   pub cut_next : WasCut next.end → StoppedWell service old (holding drawer' passes' totals' done')
-  cut_next cut = stopped_cut service old (holding drawer passes totals done) (holding drawer' passes' totals' done') (worked next.upload next.end did.0) going one full cut
+  cut_next cut = stopped_cut service old (holding drawer passes totals done)
+      (holding drawer' passes' totals' done') (worked next.upload next.end did.0) going one full cut
 
 -- no upload was left to draw
-module _ (service : ServiceView) (drawer drawer' : DrawerView) (passes : List PassView) (totals : Sums) (done : List Done) (claims : drawer'.claims ≡ drawer.claims) (same : drawer'.drawn ≡ drawer.drawn) where
-  stays : HasWorked service (holding drawer passes totals done) (holding drawer' passes totals done) []
-  stays = worked_none service (holding drawer passes totals done) (holding drawer' passes totals done) claims same refl refl refl
+module _ (service : ServiceView) (drawer drawer' : DrawerView) (passes : List PassView)
+    (totals : Sums) (done : List Done) (claims : drawer'.claims ≡ drawer.claims)
+    (same : drawer'.drawn ≡ drawer.drawn) where
+  stays : HasWorked service (holding drawer passes totals done) (holding drawer' passes totals done)
+      []
+  stays = worked_none service (holding drawer passes totals done)
+      (holding drawer' passes totals done) claims same refl refl refl
 
-  pub share_stays : IsShareOf service (holding drawer passes totals done) → drawer'.drawn_from ≡ drawer.drawn_from → IsShareOf service (holding drawer' passes totals done)
-  share_stays share drawn_from = share_more service (holding drawer passes totals done) (holding drawer' passes totals done) [] share stays drawn_from (omega arith)
+  pub share_stays : IsShareOf service (holding drawer passes totals done)
+      → drawer'.drawn_from ≡ drawer.drawn_from
+      → IsShareOf service (holding drawer' passes totals done)
+  share_stays share drawn_from =
+      share_more service (holding drawer passes totals done) (holding drawer' passes totals done) []
+      share stays drawn_from (omega arith)
 
-  pub none_next : (old : ShareView) → Going service old (holding drawer passes totals done) → drawer'.seen ≡ length service.uploads → StoppedWell service old (holding drawer' passes totals done)
-  none_next old going seen = stopped_none service old (holding drawer passes totals done) (holding drawer' passes totals done) going stays (λ h. h) seen
+  pub none_next : (old : ShareView) → Going service old (holding drawer passes totals done)
+      → drawer'.seen ≡ length service.uploads
+      → StoppedWell service old (holding drawer' passes totals done)
+  none_next old going seen =
+      stopped_none service old (holding drawer passes totals done)
+      (holding drawer' passes totals done) going stays (λ h. h) seen

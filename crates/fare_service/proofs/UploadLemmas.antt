@@ -1,8 +1,8 @@
 -- An upload that was posted: how it ended.
-use Rattle.std.specs.Prelude.{ℕ, ◌≡◌, ◌-◌, ◌<◌, List, [], Result, Ok, Err, IfOk, is_ok, Option, Some, None, length}
+use Rattle.std.specs.Prelude.{ℕ, ◌≡◌, ◌-◌, ◌<◌, List, [], Result, Ok, Err, IfOk, is_ok, Option}
+use Rattle.std.specs.Prelude.{Some, None, length}
 use Rattle.std.proofs.Common.{sym, ◌∙◌, ap, subst, arith, get_or, map}
-use Rattle.std.proofs.lemmas.List.{length-map}
-use Rattle.fare_service.proofs.RunVisits.{get_or-map}
+use Rattle.std.proofs.lemmas.List.{length-map, get_or-map}
 use Rattle.tap_views.specs.Layout.{Tap}
 use Rattle.tap_views.specs.Files.{IsFile, IsEndAfterBatches}
 use Rattle.tap_views.specs.declared.fault.LayoutFault.{LayoutFault}
@@ -21,46 +21,87 @@ use Rattle.fare_service.specs.inside.Shares.{worked}
 use Rattle.fare_service.proofs.PostedBatches.{counted_taps}
 
 -- what is known of an upload whose batches were posted
-abbrev pub Ended : ℕ → List ℕ → List PassView → List PassView → Sums → Sums → Result (Option (ℕ × LayoutFault)) Stop → Type 0
+abbrev pub Ended : ℕ → List ℕ → List PassView → List PassView → Sums → Sums
+    → Result (Option (ℕ × LayoutFault)) Stop → Type 0
 Ended shards file p q s t r =
     (batches : List (List Tap)) × (rest : List ℕ) × IsFile file batches rest
-    × ((more : List RunVisit) × HasVisited shards p q s t more × ArePostedOrCut (runs_of shards 0 batches) (is_ok r) more) × IfOk r (IsEndAfterBatches file rest)
+    × ((more : List RunVisit) × HasVisited shards p q s t more
+    × ArePostedOrCut (runs_of shards batches) (is_ok r) more)
+    × IfOk r (IsEndAfterBatches file rest)
 
 -- the upload was worked on, and ended so
-abbrev pub Worked_as : ServiceView → ℕ → UploadEnd → List PassView → List PassView → Sums → Sums → Type 0
-Worked_as service upload end p q s t = (visits : List RunVisit) × HasVisited (shards_of service) p q s t visits × IsWorked service (worked upload end visits)
+abbrev pub Worked_as : ServiceView → ℕ → UploadEnd → List PassView → List PassView → Sums → Sums
+    → Type 0
+Worked_as service upload end p q s t =
+    (visits : List RunVisit) × HasVisited (shards_of service) p q s t visits
+    × IsWorked service (worked upload end visits)
 
-posted_taps_are : (shards : ℕ) (p q : List PassView) (s t : Sums) (more : List RunVisit) (taps : ℕ) → HasVisited shards p q s t more → taps ≡ t.taps - s.taps → taps ≡ taps_posted more
-posted_taps_are shards p q s t more taps made e = omega (arith, e, counted_taps shards p q s t more made)
+posted_taps_are : (shards : ℕ) (p q : List PassView) (s t : Sums) (more : List RunVisit) (taps : ℕ)
+    → HasVisited shards p q s t more → taps ≡ t.taps - s.taps → taps ≡ taps_posted more
+posted_taps_are shards p q s t more taps made e =
+    omega (arith, e, counted_taps shards p q s t more made)
 
-by_end : (service : ServiceView) (upload : ℕ) (end : UploadEnd) (file : List ℕ) (batches : List (List Tap)) (rest : List ℕ) (visits : List RunVisit) (p q : List PassView) (s t : Sums)
-    → upload < length service.uploads → file ≡ upload_at service upload → IsFile file batches rest → HasVisited (shards_of service) p q s t visits → IsEndOf (shards_of service) file batches rest visits end
+by_end : (service : ServiceView) (upload : ℕ) (end : UploadEnd) (file : List ℕ)
+    (batches : List (List Tap)) (rest : List ℕ) (visits : List RunVisit) (p q : List PassView)
+    (s t : Sums)
+    → upload < length service.uploads → file ≡ upload_at service upload → IsFile file batches rest
+    → HasVisited (shards_of service) p q s t visits
+    → IsEndOf (shards_of service) file batches rest visits end
     → Worked_as service upload end p q s t
 by_end service upload end file batches rest visits p q s t within same is made ended =
     let F : List ℕ → Type 0 = λ f. IsFile f batches rest in
-    let E : List ℕ → Type 0 = λ f. IsEndOf (shards_of service) f batches rest visits end in
-    (visits, made, record { within = within; batches = batches; rest = rest; is_file = subst F same is; ended = subst E same ended; entered = made.entered })
+    let E : List ℕ → Type 0 = λ f. IsEndOf (shards_of service) f batches rest visits end in (
+      visits,
+      made,
+      record {
+        within = within;
+        batches = batches;
+        rest = rest;
+        is_file = subst F same is;
+        ended =
+            subst E same ended;
+        entered = made.entered;
+      },
+    )
 
-pub upload_whole : (service : ServiceView) (upload taps : ℕ) (found : Option (ℕ × LayoutFault)) (file : List ℕ) (p q : List PassView) (s t : Sums) (r : Result (Option (ℕ × LayoutFault)) Stop)
-    → upload < length service.uploads → file ≡ upload_at service upload → Ended (shards_of service) file p q s t r → r ≡ Ok found → taps ≡ t.taps - s.taps → Worked_as service upload (end_by taps found) p q s t
+pub upload_whole : (service : ServiceView) (upload taps : ℕ) (found : Option (ℕ × LayoutFault))
+    (file : List ℕ) (p q : List PassView) (s t : Sums) (r : Result (Option (ℕ × LayoutFault)) Stop)
+    → upload < length service.uploads → file ≡ upload_at service upload
+    → Ended (shards_of service) file p q s t r → r ≡ Ok found → taps ≡ t.taps - s.taps
+    → Worked_as service upload (end_by taps found) p q s t
 upload_whole service upload taps found file p q s t r within same ended e counted =
-    let P : Result (Option (ℕ × LayoutFault)) Stop → Type 0 = Ended (shards_of service) file p q s t in
+    let P : Result (Option (ℕ × LayoutFault)) Stop → Type 0 =
+    Ended (shards_of service) file p q s t in
     let (batches, rest, is, (more, made, posted), fault) = subst P e ended in
-    by_end service upload (end_by taps found) file batches rest more p q s t within same is made (ended_so batches rest more made posted found fault)
+    by_end service upload (end_by taps found) file batches rest more p q s t within same is made
+    (ended_so batches rest more made posted found fault)
   where
-    ended_so : (batches : List (List Tap)) (rest : List ℕ) (more : List RunVisit) → HasVisited (shards_of service) p q s t more → ArePostedWhole (runs_of (shards_of service) 0 batches) more → (found : Option (ℕ × LayoutFault)) → IsEndAfterBatches file rest found
+    ended_so : (batches : List (List Tap)) (rest : List ℕ) (more : List RunVisit)
+        → HasVisited (shards_of service) p q s t more
+        → ArePostedWhole (runs_of (shards_of service) batches) more
+        → (found : Option (ℕ × LayoutFault)) → IsEndAfterBatches file rest found
         → IsEndOf (shards_of service) file batches rest more (end_by taps found)
-    ended_so batches rest more made posted None clean = (clean, posted, posted_taps_are (shards_of service) p q s t more taps made counted)
-    ended_so batches rest more made posted (Some (offset, fault)) refused = (refused, posted, posted_taps_are (shards_of service) p q s t more taps made counted)
+    ended_so batches rest more made posted None clean =
+        (clean, posted, posted_taps_are (shards_of service) p q s t more taps made counted)
+    ended_so batches rest more made posted (Some (offset, fault)) refused =
+        (refused, posted, posted_taps_are (shards_of service) p q s t more taps made counted)
 
-pub upload_cut : (service : ServiceView) (upload taps : ℕ) (stop : Stop) (file : List ℕ) (p q : List PassView) (s t : Sums) (r : Result (Option (ℕ × LayoutFault)) Stop)
-    → upload < length service.uploads → file ≡ upload_at service upload → Ended (shards_of service) file p q s t r → r ≡ Err stop → taps ≡ t.taps - s.taps → Worked_as service upload (Cut taps) p q s t
+pub upload_cut : (service : ServiceView) (upload taps : ℕ) (stop : Stop) (file : List ℕ)
+    (p q : List PassView) (s t : Sums) (r : Result (Option (ℕ × LayoutFault)) Stop)
+    → upload < length service.uploads → file ≡ upload_at service upload
+    → Ended (shards_of service) file p q s t r → r ≡ Err stop → taps ≡ t.taps - s.taps
+    → Worked_as service upload (Cut taps) p q s t
 upload_cut service upload taps stop file p q s t r within same ended e counted =
-    let P : Result (Option (ℕ × LayoutFault)) Stop → Type 0 = Ended (shards_of service) file p q s t in
+    let P : Result (Option (ℕ × LayoutFault)) Stop → Type 0 =
+    Ended (shards_of service) file p q s t in
     let (batches, rest, is, (more, made, posted), any) = subst P e ended in
-    by_end service upload (Cut taps) file batches rest more p q s t within same is made (posted, posted_taps_are (shards_of service) p q s t more taps made counted)
+    by_end service upload (Cut taps) file batches rest more p q s t within same is made
+    (posted, posted_taps_are (shards_of service) p q s t more taps made counted)
 
 -- the bytes of the upload at a place
-pub the_upload : {A : Type 0} (items : A → List ℕ) (all : List A) (i : ℕ) (one : A) (uploads : List (List ℕ)) → map items all ≡ uploads → i < length uploads → items (get_or all i one) ≡ get_or uploads i []
+pub the_upload : {A : Type 0} (items : A → List ℕ) (all : List A) (i : ℕ) (one : A)
+    (uploads : List (List ℕ)) → map items all ≡ uploads → i < length uploads
+    → items (get_or all i one) ≡ get_or uploads i []
 the_upload items all i one uploads same within =
-    sym (get_or-map items all i one [] (omega (arith, within, ap length same, length-map all items))) ∙ ap (λ us. get_or us i []) same
+    sym (get_or-map items all i one []
+    (omega (arith, within, ap length same, length-map all items))) ∙ ap (λ us. get_or us i []) same

@@ -1,19 +1,19 @@
 -- What a worker's visits change.
-use Rattle.std.specs.Prelude.{ℕ, ◌≡◌, ◌≢◌, ◌⊎◌, ◌+◌, ◌<◌, ◌==◌, true, false, cond, List, [], ◌∷◌, ◌++◌, length, map, filter, take, All}
-use Rattle.std.proofs.Common.{refl, sym, ◌∙◌, ap, inl, inr, subst, append_assoc, append-nil, arith, get_or, set, length-append, add-zero, add_assoc}
-use Rattle.std.proofs.lemmas.List.{map-append, map-set, length-map, get_or-set_same, get_or-set_other}
+use Rattle.std.specs.Prelude.{ℕ, ◌≡◌, ◌≢◌, ◌⊎◌, ◌+◌, ◌<◌, ◌==◌, true, false, List, [], ◌∷◌, ◌++◌}
+use Rattle.std.specs.Prelude.{length, map, filter, take, All, slice_get, Some}
+use Rattle.std.proofs.Common.{refl, sym, ◌∙◌, ap, inl, inr, subst, append_assoc, append-nil, arith}
+use Rattle.std.proofs.Common.{get_or, set}
+use Rattle.std.proofs.lemmas.List.{map-append, map-set, length-map, get_or-set_same}
+use Rattle.std.proofs.lemmas.List.{get_or-set_other, take_more}
 use Rattle.std.proofs.lemmas.List.Elements.{filter-append, All-nil, All-append}
-use Rattle.std.proofs.lemmas.List.Sums.{sum_by-append}
 use Rattle.std.proofs.lemmas.Grind.{flat_map-append}
-use Rattle.std.specs.Prelude.{slice_get, Some}
-use Rattle.std.proofs.lemmas.List.{take_more}
 use Rattle.std.proofs.lemmas.Option.{slice_get_within, get_or_from_slice_get}
 use Rattle.std.proofs.lemmas.Bool.Decides.{eqb_tells}
 use Rattle.std.proofs.Math.Seq.{map-set_same}
 use Rattle.account_rule.specs.declared.reply.Reply.{Reply}
 use Rattle.shard_book.specs.declared.entry.Entry.{Entry}
-use Rattle.shard_book.specs.Entry.{reply_of}
-use Rattle.shard_book.specs.Sums.{Sums, sums, sums_of_replies, add_sums, is_paid, is_transfer, is_capped, is_stale, is_unknown}
+use Rattle.shard_book.specs.Sums.{Sums, sums, sums_of_replies, add_sums}
+use Rattle.shard_book.proofs.SumsLemmas.{replies-append, sums-append, add_none, add_assoc}
 use Rattle.shared_books.specs.declared.turns.rule.Mark.{Mark}
 use Rattle.shared_books.specs.Marks.{mark, others}
 use Rattle.shared_books.specs.Passes.{PassView, HasSeenMore, Visits}
@@ -21,93 +21,80 @@ use Rattle.fare_service.specs.Runs.{RunVisit, IsEntered, entries_to, entries_of}
 use Rattle.fare_service.specs.inside.Runs.{visits_to}
 use Rattle.fare_service.specs.Shares.{made_visits, marks_at, made_visits_at, HasVisited}
 
--- sums are their seven numbers
-abbrev pub seven : ℕ → ℕ → ℕ → ℕ → ℕ → ℕ → ℕ → Sums
-seven a b c d e f g = record { taps = a; paid = b; transfers = c; capped = d; stale = e; unknown = f; cents = g }
-
-pub same_seven : (a a' b b' c c' d d' e e' f f' g g' : ℕ) → a ≡ a' → b ≡ b' → c ≡ c' → d ≡ d' → e ≡ e' → f ≡ f' → g ≡ g' → seven a b c d e f g ≡ seven a' b' c' d' e' f' g'
-same_seven a a' b b' c c' d d' e e' f f' g g' p q r s t u v = cc
-
--- the sums of two lists of replies
-pub sums_of_replies-append : (xs ys : List Reply) → sums_of_replies (xs ++ ys) ≡ add_sums (sums_of_replies xs) (sums_of_replies ys)
-unfolding sums_of_replies
-sums_of_replies-append xs ys =
-    same_seven _ _ _ _ _ _ _ _ _ _ _ _ _ _
-    (length-append xs ys)
-    (sum_by-append (λ r. cond (is_paid r.answer) 1 0) xs ys)
-    (sum_by-append (λ r. cond (is_transfer r.answer) 1 0) xs ys)
-    (sum_by-append (λ r. cond (is_capped r.answer) 1 0) xs ys)
-    (sum_by-append (λ r. cond (is_stale r.answer) 1 0) xs ys)
-    (sum_by-append (λ r. cond (is_unknown r.answer) 1 0) xs ys)
-    (sum_by-append (λ r. r.cents) xs ys)
-
-pub sums-append : (xs ys : List Entry) → sums (xs ++ ys) ≡ add_sums (sums xs) (sums ys)
-sums-append xs ys = ap sums_of_replies (map-append reply_of xs ys) ∙ sums_of_replies-append (map reply_of xs) (map reply_of ys)
-
-pub add_none : (s : Sums) → add_sums s (sums []) ≡ s
-unfolding sums_of_replies
-add_none s = same_seven _ _ _ _ _ _ _ _ _ _ _ _ _ _ (add-zero s.taps) (add-zero s.paid) (add-zero s.transfers) (add-zero s.capped) (add-zero s.stale) (add-zero s.unknown) (add-zero s.cents)
-
-pub add_add : (r s t : Sums) → add_sums (add_sums r s) t ≡ add_sums r (add_sums s t)
-add_add r s t =
-    same_seven _ _ _ _ _ _ _ _ _ _ _ _ _ _
-    (add_assoc r.taps s.taps t.taps) (add_assoc r.paid s.paid t.paid) (add_assoc r.transfers s.transfers t.transfers) (add_assoc r.capped s.capped t.capped)
-    (add_assoc r.stale s.stale t.stale) (add_assoc r.unknown s.unknown t.unknown) (add_assoc r.cents s.cents t.cents)
-
 pub own-append : (xs ys : List Mark) → made_visits (xs ++ ys) ≡ made_visits xs ++ made_visits ys
 own-append xs ys =
-    ap (map (λ m. m.visit)) (filter-append (λ m. m.mine) xs ys) ∙ map-append (λ m. m.visit) (filter (λ m. m.mine) xs) (filter (λ m. m.mine) ys)
+    ap (map (λ m. m.visit)) (filter-append (λ m. m.mine) xs ys)
+    ∙ map-append (λ m. m.visit) (filter (λ m. m.mine) xs) (filter (λ m. m.mine) ys)
 
 pub own-others : (visits : List (List Entry)) → made_visits (others visits) ≡ []
 own-others [] = refl
 own-others (visit ∷ visits) = own-others visits
 
 -- a pass that made a visit
-pub own-visits : (old new : PassView) (number : ℕ) (visit : List Entry) → Visits old new number visit → made_visits new.marks ≡ made_visits old.marks ++ visit ∷ []
+pub own-visits : (old new : PassView) (number : ℕ) (visit : List Entry)
+    → Visits old new number visit → made_visits new.marks ≡ made_visits old.marks ++ visit ∷ []
 own-visits old new number visit v =
     ap made_visits v.marks
     ∙ own-append (old.marks ++ others v.between) (mark true visit ∷ [])
-    ∙ ap (λ vs. vs ++ visit ∷ []) (own-append old.marks (others v.between) ∙ ap (λ vs. made_visits old.marks ++ vs) (own-others v.between) ∙ append-nil (made_visits old.marks))
+    ∙ ap (λ vs. vs ++ visit ∷ [])
+    (own-append old.marks (others v.between)
+    ∙ ap (λ vs. made_visits old.marks ++ vs) (own-others v.between)
+    ∙ append-nil (made_visits old.marks))
 
 -- a pass that has only seen more
-pub own-later : (old new : PassView) → HasSeenMore old new → made_visits new.marks ≡ made_visits old.marks ++ []
+pub own-later : (old new : PassView) → HasSeenMore old new
+    → made_visits new.marks ≡ made_visits old.marks ++ []
 own-later old new l =
-    ap made_visits l.marks ∙ own-append old.marks (others l.between) ∙ ap (λ vs. made_visits old.marks ++ vs) (own-others l.between)
+    ap made_visits l.marks ∙ own-append old.marks (others l.between)
+    ∙ ap (λ vs. made_visits old.marks ++ vs) (own-others l.between)
 
 -- the passes with another one at a shard
-pub marks-set_same : (passes : List PassView) (shard : ℕ) (new : PassView) → shard < length passes → marks_at shard (set passes shard new) ≡ new.marks
+pub marks-set_same : (passes : List PassView) (shard : ℕ) (new : PassView) → shard < length passes
+    → marks_at shard (set passes shard new) ≡ new.marks
 marks-set_same passes shard new within =
     ap (λ ms. get_or ms shard []) (map-set (λ p. p.marks) passes shard new)
-    ∙ get_or-set_same (map (λ p. p.marks) passes) shard new.marks [] (omega (arith, length-map passes (λ (p : PassView). p.marks)))
+    ∙ get_or-set_same (map (λ p. p.marks) passes) shard new.marks []
+    (omega (arith, length-map passes (λ (p : PassView). p.marks)))
 
-pub marks-set_other : (passes : List PassView) (shard other : ℕ) (new : PassView) → other ≢ shard → marks_at other (set passes shard new) ≡ marks_at other passes
+pub marks-set_other : (passes : List PassView) (shard other : ℕ) (new : PassView) → other ≢ shard
+    → marks_at other (set passes shard new) ≡ marks_at other passes
 marks-set_other passes shard other new ne =
     ap (λ ms. get_or ms other []) (map-set (λ p. p.marks) passes shard new)
     ∙ get_or-set_other (map (λ p. p.marks) passes) shard other new.marks [] ne
 
 -- what one visit changed, or a look
-pub made_by_pass : (shards : ℕ) (passes : List PassView) (shard : ℕ) (old new : PassView) (totals totals' : Sums) (more : List RunVisit) → shard < length passes
-    → new.book ≡ (get_or passes shard old).book → new.claims ≡ (get_or passes shard old).claims → made_visits new.marks ≡ made_visits_at shard passes ++ entries_to shard more
+pub made_by_pass : (shards : ℕ) (passes : List PassView) (shard : ℕ) (old new : PassView)
+    (totals totals' : Sums) (more : List RunVisit) → shard < length passes
+    → new.book ≡ (get_or passes shard old).book → new.claims ≡ (get_or passes shard old).claims
+    → made_visits new.marks ≡ made_visits_at shard passes ++ entries_to shard more
     → ((other : ℕ) → other ≢ shard → entries_to other more ≡ [])
     → totals' ≡ add_sums totals (sums (entries_of more)) → All (IsEntered shards) more
     → HasVisited shards passes (set passes shard new) totals totals' more
-made_by_pass shards passes shard old new totals totals' more within book claims own others_none counted entered = record {
-  books = map-set_same (λ p. p.book) passes shard new old book;
-  claims = map-set_same (λ p. p.claims) passes shard new old claims;
-  visits = λ s. visits_at s (eqb_tells s shard);
-  counted = counted;
-  entered = entered;
-}
+made_by_pass shards passes shard old new totals totals' more within book claims own others_none
+    counted entered = record {
+      books = map-set_same (λ p. p.book) passes shard new old book;
+      claims = map-set_same (λ p. p.claims) passes shard new old claims;
+      visits = λ s. visits_at s (eqb_tells s shard);
+      counted = counted;
+      entered = entered;
+    }
   where
-    visits_at : (s : ℕ) → (((s == shard) ≡ true) × (s ≡ shard)) ⊎ (((s == shard) ≡ false) × (s ≢ shard)) → made_visits_at s (set passes shard new) ≡ made_visits_at s passes ++ entries_to s more
+    visits_at : (s : ℕ) → (((s == shard) ≡ true) × (s ≡ shard))
+        ⊎ (((s == shard) ≡ false) × (s ≢ shard))
+        → made_visits_at s (set passes shard new) ≡ made_visits_at s passes ++ entries_to s more
     visits_at s (inl (b, e)) =
-        let P : ℕ → Type 0 = λ n. made_visits_at n (set passes shard new) ≡ made_visits_at n passes ++ entries_to n more in
+        let P : ℕ → Type 0 =
+        λ n. made_visits_at n (set passes shard new)
+        ≡ made_visits_at n passes ++ entries_to n more in
         subst P (sym e) (ap made_visits (marks-set_same passes shard new within) ∙ own)
     visits_at s (inr (b, ne)) =
-        ap made_visits (marks-set_other passes shard s new ne) ∙ sym (ap (λ vs. made_visits_at s passes ++ vs) (others_none s ne) ∙ append-nil (made_visits_at s passes))
+        ap made_visits (marks-set_other passes shard s new ne)
+        ∙ sym (ap (λ vs. made_visits_at s passes ++ vs) (others_none s ne)
+        ∙ append-nil (made_visits_at s passes))
 
 -- nothing was made
-pub made_none : (shards : ℕ) (passes : List PassView) (totals : Sums) → HasVisited shards passes passes totals totals []
+pub made_none : (shards : ℕ) (passes : List PassView) (totals : Sums)
+    → HasVisited shards passes passes totals totals []
 made_none shards passes totals = record {
   books = refl;
   claims = refl;
@@ -117,39 +104,48 @@ made_none shards passes totals = record {
 }
 
 -- two lists of visits
-pub entries_to-append : (shard : ℕ) (xs ys : List RunVisit) → entries_to shard (xs ++ ys) ≡ entries_to shard xs ++ entries_to shard ys
+pub entries_to-append : (shard : ℕ) (xs ys : List RunVisit)
+    → entries_to shard (xs ++ ys) ≡ entries_to shard xs ++ entries_to shard ys
 entries_to-append shard xs ys =
-    ap (map (λ v. v.entries)) (filter-append (λ v. v.shard == shard) xs ys) ∙ map-append (λ v. v.entries) (visits_to shard xs) (visits_to shard ys)
+    ap (map (λ v. v.entries)) (filter-append (λ v. v.shard == shard) xs ys)
+    ∙ map-append (λ v. v.entries) (visits_to shard xs) (visits_to shard ys)
 
-pub made_more : (shards : ℕ) (p q r : List PassView) (s t u : Sums) (xs ys : List RunVisit) → HasVisited shards p q s t xs → HasVisited shards q r t u ys → HasVisited shards p r s u (xs ++ ys)
+pub made_more : (shards : ℕ) (p q r : List PassView) (s t u : Sums) (xs ys : List RunVisit)
+    → HasVisited shards p q s t xs → HasVisited shards q r t u ys
+    → HasVisited shards p r s u (xs ++ ys)
 made_more shards p q r s t u xs ys a b = record {
   books = b.books ∙ a.books;
   claims = b.claims ∙ a.claims;
-  visits = λ n. b.visits n ∙ (ap (λ vs. vs ++ entries_to n ys) (a.visits n) ∙ append_assoc (made_visits_at n p) (entries_to n xs) (entries_to n ys)
+  visits = λ n. b.visits n
+      ∙ (ap (λ vs. vs ++ entries_to n ys) (a.visits n)
+      ∙ append_assoc (made_visits_at n p) (entries_to n xs) (entries_to n ys)
       ∙ ap (λ vs. made_visits_at n p ++ vs) (sym (entries_to-append n xs ys)));
-  counted = b.counted ∙ ap (λ c. add_sums c (sums (entries_of ys))) a.counted ∙ add_add s (sums (entries_of xs)) (sums (entries_of ys))
-      ∙ ap (add_sums s) (sym (ap sums (flat_map-append (λ v. v.entries) xs ys) ∙ sums-append (entries_of xs) (entries_of ys)));
+  counted = b.counted ∙ ap (λ c. add_sums c (sums (entries_of ys))) a.counted
+      ∙ add_assoc s (sums (entries_of xs)) (sums (entries_of ys))
+      ∙ ap (add_sums s)
+      (sym (ap sums (flat_map-append (λ v. v.entries) xs ys)
+      ∙ sums-append (entries_of xs) (entries_of ys)));
   entered = All-append (IsEntered shards) xs ys a.entered b.entered;
 }
 
 -- one reply more
 pub next_reply : (replies : List Reply) (i : ℕ) (reply : Reply) → slice_get replies i ≡ Some reply
-    → add_sums (sums_of_replies (take i replies)) (sums_of_replies (reply ∷ [])) ≡ sums_of_replies (take (i + 1) replies)
+    → add_sums (sums_of_replies (take i replies)) (sums_of_replies (reply ∷ []))
+    ≡ sums_of_replies (take (i + 1) replies)
 next_reply replies i reply at =
-    sym (ap sums_of_replies (take_more replies i reply (slice_get_within replies i reply at) ∙ ap (λ r. take i replies ++ r ∷ []) (get_or_from_slice_get replies i reply reply at))
-    ∙ sums_of_replies-append (take i replies) (reply ∷ []))
+    sym (ap sums_of_replies
+    (take_more replies i reply (slice_get_within replies i reply at)
+    ∙ ap (λ r. take i replies ++ r ∷ []) (get_or_from_slice_get replies i reply reply at))
+    ∙ replies-append (take i replies) (reply ∷ []))
 
 -- the taps that are counted are the replies
 pub taps_of_replies : (replies : List Reply) → (sums_of_replies replies).taps ≡ length replies
 unfolding sums_of_replies
 taps_of_replies replies = refl
 
-pub one_tap : (totals : Sums) (reply : Reply) → (add_sums totals (sums_of_replies (reply ∷ []))).taps ≡ totals.taps + 1
-unfolding sums_of_replies
-one_tap totals reply = refl
-
 -- how many taps the sums count after some replies
-pub taps_after : (totals : Sums) (replies : List Reply) → (add_sums totals (sums_of_replies replies)).taps ≡ totals.taps + length replies
+pub taps_after : (totals : Sums) (replies : List Reply)
+    → (add_sums totals (sums_of_replies replies)).taps ≡ totals.taps + length replies
 unfolding sums_of_replies
 taps_after totals replies = refl
 

@@ -7,7 +7,7 @@ use Rattle.fare_service.specs.Runs.{entries_of}
 use Rattle.fare_service.specs.Shares.{Worked, all_visits}
 
 -- Each worker's totals are those of its replies. The totals are the sum of the workers', and of the
--- books', and their taps are those that the uploads' ends tell.
+-- books', and their taps are as many as the uploads' ends say.
 pub record AddUp (works : List (List Worked)) (outcome : OutcomeView) : Type 0 where
   pub each : outcome.workers ≡ map (λ done. sums (entries_of (all_visits done))) works
   pub workers : outcome.totals ≡ add_all outcome.workers

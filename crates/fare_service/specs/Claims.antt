@@ -10,7 +10,7 @@ use Rattle.fare_service.specs.ShareView.{ShareView}
 abbrev pub claims_of : List PassView → List ℕ
 claims_of passes = map (λ pass. pass.claims) passes
 
--- the claims of the pass to a shard; none where there is no such shard
+-- the claims of the pass to a shard; none if there is no such shard
 abbrev pub claims_at : ℕ → List PassView → ℕ
 claims_at shard passes = slice_index_or (claims_of passes) shard 0
 

@@ -33,7 +33,7 @@ pub record IsHistoryOf (opened : List SharedBookView) (shares : List ShareView) 
 abbrev pub HoldAllVisits : List SharedBookView → List ShareView → ℕ → Type 0
 HoldAllVisits opened shares shard = (book : Book) × IsHistoryOf opened shares shard book
 
--- Of the shards that miss visits the first one is told, and missing uploads are told where no
+-- Of the shards that miss visits the first one is named, and missing uploads are reported if no
 -- visits are missing. A count leaves out nothing that a share has seen.
 abbrev pub TellsFirst : List SharedBookView → ℕ → List ShareView → GatherFault → Type 0
 TellsFirst opened uploads shares NoMemory = Unit {0}

@@ -37,21 +37,21 @@ pub record IsOneThread (shard : ℕ) (works : List (List Worked)) (entries : Lis
   pub order : (worker : ℕ) → by_worker worker visits
       ≡ entries_to shard (all_visits (slice_index_or works worker []))
 
--- how an upload ended: as the worker that drew it tells
+-- how an upload ended: as the worker that drew it says
 abbrev pub end_of : ℕ → List Worked → UploadEnd
 end_of upload [] = Undrawn
 end_of upload (w ∷ works) = if w.upload == upload then w.end else end_of upload works
 
--- What an outcome of files is, under a table and with so many shards, by what each worker did.
--- A field marked `follows` says again, in the subject's words, what the named fields imply. No
--- field says why an upload was cut or left undrawn: see `HaveStopped` and `StoppedWell`.
+-- What an outcome of files is, under a table and with `shards` shards, by what each worker did. A
+-- field marked `follows` says again, in the subject's words, what the named fields imply. No field
+-- says why an upload was cut or left undrawn: see `HaveStopped` and `StoppedWell`.
 pub record Headline (fares : Fares) (shards : ℕ) (files : List (List ℕ))
     (works : List (List Worked)) (outcome : OutcomeView) : Type 0 where
   -- Each worker posted of the uploads that it drew what their bytes call for, and no upload was
   -- drawn twice.
   pub worked : All (λ done. All (IsWorkOf shards files) done) works
   pub drawn_once : NoneTwice (map (λ w. w.upload) (all_works works))
-  -- Each upload ended as the worker that drew it tells. Those that nobody drew are the last ones.
+  -- Each upload ended as the worker that drew it says. Those that nobody drew are the last ones.
   pub uploads : length outcome.ends ≡ length files
   pub ended : (upload : ℕ) (end : UploadEnd) → slice_get outcome.ends upload ≡ Some end
       → end ≡ end_of upload (all_works works)
@@ -75,7 +75,7 @@ pub record Headline (fares : Fares) (shards : ℕ) (files : List (List ℕ))
   pub limits : EachBook (λ shard book. (token : Token)
       → WindowsKeepLimits fares book.entries token) outcome.books
 
--- the headline, for what so many workers did
+-- the headline, for what `workers` workers did
 abbrev pub HasRun : Fares → ℕ → List (List ℕ) → ℕ → OutcomeView → Type 0
 HasRun fares shards files workers outcome =
     (works : List (List Worked)) × (length works ≡ workers)

@@ -7,9 +7,7 @@ use std::marker::Model;
 /// What the work of a service came to. Each shard has a book, whose history is one thread's.
 #[derive(Drop)]
 pub struct Outcome {
-    /// The book of each shard.
     pub(crate) books: Vec<ShardBook>,
-    /// How each upload ended.
     pub(crate) ends: Vec<UploadEnd>,
     /// The totals of each worker.
     pub(crate) workers: Vec<Totals>,

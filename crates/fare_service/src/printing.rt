@@ -20,7 +20,6 @@ use std::thread::Threads;
 use tap_views::{NoMemory, Token, shard_of};
 
 impl Outcome {
-    /// The sums of each validator, and those of each token.
     fn sums<R: Threads + Sync>(
         &self,
         rt: &R,
@@ -36,7 +35,6 @@ impl Outcome {
         Ok((validators, tokens))
     }
 
-    /// The text of a token's statement.
     fn statement(&self, alloc: Global, token: &Token) -> Result<String, NoMemory>
         ensures { IfOk result (λ text. IsStatementOf self.now token.now (string_bytes text)) }
     {
@@ -49,8 +47,8 @@ impl Outcome {
 
     /// Writes the report: the end of each upload, the totals of all books, the sums of each
     /// validator, by rising validator, and those of each token, by rising token. Of many entries,
-    /// threads sum up a quarter of the books each; where one is refused, another does its part. On
-    /// a fault of memory nothing was written.
+    /// threads sum up a quarter of the books each; if one is refused, another does its part. On a
+    /// fault of memory nothing was written.
     pub fn write_report<R: Threads + Sync, W: Write>(
         &self,
         rt: &R,
@@ -65,7 +63,7 @@ impl Outcome {
     }
 
     /// Writes the report as `write_report` does, with these ends of uploads in place of the
-    /// outcome's own: of the uploads that were given, where others were made of them and posted.
+    /// outcome's own: of the uploads that were given, if others were made of them and posted.
     pub fn write_report_with<R: Threads + Sync, W: Write>(
         &self,
         rt: &R,

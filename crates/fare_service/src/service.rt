@@ -18,10 +18,8 @@ pub(crate) mod share;
 pub(crate) mod worker_totals;
 pub(crate) mod working;
 
-/// The most shards of a service.
 const MAX_SHARDS: u32 = 64;
 
-/// The most uploads of a service.
 const MAX_UPLOADS: usize = 65_535;
 
 /// The uploads, a shared book for each shard, and the fare table. Many threads may work at it at
@@ -32,9 +30,7 @@ pub struct Service<'a> {
     pub(crate) table: FareTable,
     /// What the workers draw the uploads' numbers from.
     pub(crate) draw: Draw,
-    /// The book of each shard.
     pub(crate) books: Vec<SharedBook>,
-    /// The bytes of each upload.
     pub(crate) uploads: &'a [Vec<u8>],
 }
 
@@ -67,9 +63,9 @@ impl<'a> Service<'a> {
     ghost use Rattle.fare_service.specs.Faults.{IsOpenFault};
     ghost use Rattle.fare_service.specs.Shares.{IsFresh, IsShareOf};
 
-    /// Opens a service of so many shards, 1 to 64, over at most 65,535 uploads, none of them drawn,
-    /// and gives its first share, which has all claims. Every shard's visits are numbered from 0.
-    /// On a fault what was handed in is dropped.
+    /// Opens a service of `shards` shards, 1 to 64, over at most 65,535 uploads, none of them
+    /// drawn, and gives its first share, which has all claims. Every shard's visits are numbered
+    /// from 0. On a fault what was handed in is dropped.
     pub fn open<R: RandomSource>(
         rt: &R,
         alloc: Global,

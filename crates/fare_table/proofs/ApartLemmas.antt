@@ -33,7 +33,8 @@ pub record AreApart (range next : ℕ × RangeRest) (more : List (ℕ × RangeRe
   pub ends : range.1.last < next.0
   pub rest : stand_apart (next ∷ more) ≡ true
 
-pub apart : (range next : ℕ × RangeRest) (more : List (ℕ × RangeRest)) → stand_apart (range ∷ next ∷ more) ≡ true
+pub apart : (range next : ℕ × RangeRest) (more : List (ℕ × RangeRest))
+    → stand_apart (range ∷ next ∷ more) ≡ true
     → AreApart range next more
 apart range next more stands =
     let both = and_parts (nat_le range.0 range.1.last && nat_lt range.1.last next.0)
@@ -45,7 +46,8 @@ apart range next more stands =
       rest = both.1;
     }
 
-found_step : (n : ℕ) (range next : ℕ × RangeRest) (more : List (ℕ × RangeRest)) → AreApart range next more
+found_step : (n : ℕ) (range next : ℕ × RangeRest) (more : List (ℕ × RangeRest))
+    → AreApart range next more
     → find (has_number n) (next ∷ more) ≡ reaching n (last_begun n (next ∷ more))
     → ((nat_le range.0 n ≡ true) × (range.0 ≤ n)) ⊎ ((nat_le range.0 n ≡ false) × (n < range.0))
     → ((nat_le next.0 n ≡ true) × (next.0 ≤ n)) ⊎ ((nat_le next.0 n ≡ false) × (n < next.0))
@@ -69,8 +71,8 @@ found n (range ∷ next ∷ more) stands =
     (leb_tells next.0 n)
 
 -- the first of ranges that stand apart begins no later than it ends
-begins_first : (range : ℕ × RangeRest) (more : List (ℕ × RangeRest)) → stand_apart (range ∷ more) ≡ true
-    → range.0 ≤ range.1.last
+pub begins_first : (range : ℕ × RangeRest) (more : List (ℕ × RangeRest))
+    → stand_apart (range ∷ more) ≡ true → range.0 ≤ range.1.last
 begins_first range [] stands = leb-true _ _ stands
 begins_first range (next ∷ more) stands = (apart range next more stands).begins
 
@@ -97,7 +99,8 @@ passed n range more ends =
     rw (past, and-false (nat_le range.0 n))
 
 -- of ranges that stand apart, one that has a number is the one that is found
-pub only_one : (n : ℕ) (ranges : List (ℕ × RangeRest)) (i : ℕ) (d : ℕ × RangeRest) → stand_apart ranges ≡ true
+pub only_one : (n : ℕ) (ranges : List (ℕ × RangeRest)) (i : ℕ) (d : ℕ × RangeRest)
+    → stand_apart ranges ≡ true
     → i < length ranges
     → (get_or ranges i d).0 ≤ n → n ≤ (get_or ranges i d).1.last
     → find (has_number n) ranges ≡ Some (get_or ranges i d)
@@ -114,7 +117,8 @@ only_one n (range ∷ next ∷ more) (suc i) d stands inside begins ends =
     (only_one n (next ∷ more) i d two.rest (omega arith) begins ends)
 
 -- of ranges that stand apart none has a number before the first one
-pub none_before : (n : ℕ) (ranges : List (ℕ × RangeRest)) (d : ℕ × RangeRest) → stand_apart ranges ≡ true
+pub none_before : (n : ℕ) (ranges : List (ℕ × RangeRest)) (d : ℕ × RangeRest)
+    → stand_apart ranges ≡ true
     → n < (get_or ranges 0 d).0
     → find (has_number n) ranges ≡ None
 none_before n [] d stands begins = refl

@@ -9,7 +9,7 @@ use Rattle.std.specs.Ordering.{nat_cmp}
 use Rattle.std.specs.Prelude.{pos, nat_le, if◌then◌else◌}
 use Rattle.toml.specs.Data.{Data, Items, no_items, item, Members, string, integer, array, table}
 use Rattle.toml.specs.Data.{as_table, get_member, get_item}
-use Rattle.fare_table.proofs.OverlapLemmas.{stands-insert, comes_after, comes_before, ends_after}
+use Rattle.fare_table.proofs.OverlapLemmas.{stands-insert, comes_after, comes_before}
 use Rattle.fare_table.proofs.OverlapLemmas.{free_apart, rest_stands}
 use Rattle.fare_table.proofs.PartLemmas.{bind_ok, parts}
 use Rattle.fare_table.proofs.ReadLemmas.{array-read, is_table, number-read, text-read}
@@ -25,14 +25,10 @@ use Rattle.fare_table.specs.declared.fault.Key.TheVariants as the_key
 use Rattle.fare_table.specs.declared.fault.TableFault.{TableFault}
 use Rattle.fare_table.specs.declared.fault.TableFault.TheVariants.{Kind, Overlap}
 use Rattle.fare_table.specs.declared.validators.RangeRest.{RangeRest}
+use Rattle.fare_table.proofs.ApartLemmas.{begins_first}
+use Rattle.tap_views.proofs.Choices.{cond_swap}
 
 -- ---- ranges that stand apart, and one more
--- of two choices that exclude each other the order is free
-swap : {A : Type 0} (a b : Bool) (x y z : A) → (a ≡ true → b ≡ false)
-    → cond a x (cond b y z) ≡ cond b y (cond a x z)
-swap true true x y z apart = absurd (false≢true (sym (apart refl)))
-swap true false x y z apart = refl
-swap false b x y z apart = refl
 
 -- ranges that stand apart have no number both
 other_has : (n : ℕ) (one other : ℕ × RangeRest) → one.1.last < other.0 → has_number n one ≡ true
@@ -48,7 +44,8 @@ other_has n one other ends has = elim (cases_Bool (has_number n other)) [
 with_one : ℕ × RangeRest → List (ℕ × RangeRest) → List (ℕ × RangeRest)
 with_one range ranges = insert_entry nat_cmp ranges range.0 range.1
 
-found_step : (n : ℕ) (range other : ℕ × RangeRest) (more : List (ℕ × RangeRest)) → range.0 ≤ range.1.last
+found_step : (n : ℕ) (range other : ℕ × RangeRest) (more : List (ℕ × RangeRest))
+    → range.0 ≤ range.1.last
     → other.0 ≤ other.1.last → share_number range other ≡ false
     → find (has_number n) (with_one range more)
     ≡ cond (has_number n range) (Some range) (find (has_number n) more)
@@ -58,13 +55,14 @@ unfolding with_one
 found_step n range other more order further free ih = elim (free_apart range other free) [
   | inl a ↦ rw (comes_before range other order a) refl
   | inr a ↦ rw (comes_after range other further a, ih)
-      (swap (has_number n other) (has_number n range) (Some other) (Some range)
+      (cond_swap (has_number n other) (has_number n range) (Some other) (Some range)
       (find (has_number n) more) (other_has n other range a))
 ]
 
 -- one more range that shares no number with the others has its numbers, and each other keeps its
 -- own
-found_with : (n : ℕ) (range : ℕ × RangeRest) (ranges : List (ℕ × RangeRest)) → range.0 ≤ range.1.last
+found_with : (n : ℕ) (range : ℕ × RangeRest) (ranges : List (ℕ × RangeRest))
+    → range.0 ≤ range.1.last
     → stand_apart ranges ≡ true → list_any (share_number range) ranges ≡ false
     → find (has_number n) (with_one range ranges)
     ≡ cond (has_number n range) (Some range) (find (has_number n) ranges)
@@ -72,11 +70,12 @@ unfolding with_one
 found_with n range [] order stands free = refl
 found_with n range (other ∷ more) order stands free =
     let apart = or_parts (share_number range other) (list_any (share_number range) more) free in
-    found_step n range other more order (ends_after other more stands) apart.0
+    found_step n range other more order (begins_first other more stands) apart.0
     (found_with n range more order (rest_stands other more stands) apart.1)
 
 -- ranges that both have a number share it
-both_have : (n : ℕ) (range other : ℕ × RangeRest) → has_number n range ≡ true → has_number n other ≡ true
+both_have : (n : ℕ) (range other : ℕ × RangeRest) → has_number n range ≡ true
+    → has_number n other ≡ true
     → share_number range other ≡ true
 both_have n range other one two =
     let a = and_parts (nat_le range.0 n) (nat_le n range.1.last) one in
@@ -89,7 +88,8 @@ both_have n range other one two =
     let second : nat_le other.0 range.1.last ≡ true = le-leb _ _ (omega (arith, b0, a1)) in
     rw (first, second) refl
 
-shared_if : (n : ℕ) (range other : ℕ × RangeRest) (more : List (ℕ × RangeRest)) (b : Bool) (found : ℕ × RangeRest)
+shared_if : (n : ℕ) (range other : ℕ × RangeRest) (more : List (ℕ × RangeRest)) (b : Bool)
+    (found : ℕ × RangeRest)
     → has_number n range ≡ true → has_number n other ≡ b
     → cond b (Some other) (find (has_number n) more) ≡ Some found
     → (find (has_number n) more ≡ Some found → list_any (share_number range) more ≡ true)
@@ -103,7 +103,8 @@ shared_if n range other more false found has is at later =
     or_true false = refl
 
 -- a range with a number shares one with ranges of which one has it
-shares : (n : ℕ) (range found : ℕ × RangeRest) (ranges : List (ℕ × RangeRest)) → has_number n range ≡ true
+shares : (n : ℕ) (range found : ℕ × RangeRest) (ranges : List (ℕ × RangeRest))
+    → has_number n range ≡ true
     → find (has_number n) ranges ≡ Some found → list_any (share_number range) ranges ≡ true
 shares n range found [] has at = absurd (cc)
 shares n range found (other ∷ more) has at =
@@ -152,7 +153,8 @@ by_last modes element first last =
 
 abbrev by_first : List (List ℕ) → Members → ℕ → OrFault (ℕ × RangeRest)
 by_first modes element first =
-    number_at (codes "last") the_key.Last first 4_294_967_295 element >>= by_last modes element first
+    number_at (codes "last") the_key.Last first 4_294_967_295 element >>= by_last modes element
+    first
 
 one_range : (first last mode : ℕ) (range : ℕ × RangeRest) → by_mode first last mode ≡ Ok range
     → (first ≡ range.0) × (last ≡ range.1.last) × (mode ≡ range.1.mode)
@@ -184,7 +186,8 @@ reads_table modes value element range whole is =
     let mode = bind_ok (mode_named modes name.0) (by_mode first.0 last.0) range name.2 in
     let same = one_range first.0 last.0 mode.0 range mode.2 in
     let from = number-read (codes "first") the_key.First 0 4_294_967_295 element first.0 first.1 in
-    let upto = number-read (codes "last") the_key.Last first.0 4_294_967_295 element last.0 last.1 in
+    let upto = number-read (codes "last") the_key.Last first.0 4_294_967_295 element last.0
+    last.1 in
     record {
       element = element;
       is_table = whole;
@@ -211,7 +214,8 @@ abbrev pub IsRangeAt : List (List ℕ) → Items → ℕ → ℕ × RangeRest �
 IsRangeAt modes items place range =
     (value : Data) × (get_item place items ≡ Some value) × (range_in modes value ≡ Ok range)
 
-pub record Steps (modes : List (List ℕ)) (earlier : List (ℕ × RangeRest)) (value : Data) (more : Items)
+pub record Steps (modes : List (List ℕ)) (earlier : List (ℕ × RangeRest)) (value : Data)
+    (more : Items)
     (ranges : List (ℕ × RangeRest)) : Type 0 where
   pub range : ℕ × RangeRest
   pub read : range_in modes value ≡ Ok range
@@ -223,7 +227,8 @@ pub record Steps (modes : List (List ℕ)) (earlier : List (ℕ × RangeRest)) (
       ≡ cond (has_number n range) (Some range) (find (has_number n) earlier)
   pub rest : ranges_from modes next more ≡ Ok ranges
 
-abbrev after_range : List (List ℕ) → List (ℕ × RangeRest) → Items → ℕ × RangeRest → OrFault (List (ℕ × RangeRest))
+abbrev after_range : List (List ℕ) → List (ℕ × RangeRest) → Items → ℕ × RangeRest
+    → OrFault (List (ℕ × RangeRest))
 after_range modes earlier more range =
     with_range earlier range >>= (λ ranges. ranges_from modes ranges more)
 
@@ -261,7 +266,8 @@ has_if false n range found next is = (found, is)
 
 -- an earlier range that has a number is kept
 still : (modes : List (List ℕ)) (n : ℕ) (earlier : List (ℕ × RangeRest)) (items : Items)
-    (ranges : List (ℕ × RangeRest)) (found : ℕ × RangeRest) → ranges_from modes earlier items ≡ Ok ranges
+    (ranges : List (ℕ × RangeRest)) (found : ℕ × RangeRest)
+    → ranges_from modes earlier items ≡ Ok ranges
     → stand_apart earlier ≡ true
     → find (has_number n) earlier ≡ Some found → find (has_number n) ranges ≡ Some found
 still modes n earlier no_items ranges found is stands at = let same : earlier ≡ ranges = cc in
@@ -294,7 +300,8 @@ there modes n earlier (item first more) ranges (suc place) value is stands at =
     let s = step modes earlier first more ranges is stands in
     there modes n s.next more ranges place value s.rest s.stands at
 
-came_if : (modes : List (List ℕ)) (n : ℕ) (earlier : List (ℕ × RangeRest)) (value : Data) (more : Items)
+came_if : (modes : List (List ℕ)) (n : ℕ) (earlier : List (ℕ × RangeRest)) (value : Data)
+    (more : Items)
     (range found : ℕ × RangeRest) (b : Bool) → range_in modes value ≡ Ok range
     → cond b (Some range) (find (has_number n) earlier) ≡ Some found
     → (find (has_number n) earlier ≡ Some found)
@@ -304,7 +311,8 @@ came_if modes n earlier value more range found true read at = let same : range �
 came_if modes n earlier value more range found false read at = inl at
 
 -- a range that is found is an earlier one or an element's
-came : (modes : List (List ℕ)) (n : ℕ) (earlier : List (ℕ × RangeRest)) (items : Items) (ranges : List (ℕ
+came : (modes : List (List ℕ)) (n : ℕ) (earlier : List (ℕ × RangeRest)) (items : Items)
+    (ranges : List (ℕ
     × RangeRest)) (found : ℕ × RangeRest) → ranges_from modes earlier items ≡ Ok ranges
     → stand_apart earlier ≡ true
     → find (has_number n) ranges ≡ Some found → (find (has_number n) earlier ≡ Some found)
@@ -353,14 +361,16 @@ first_has modes n earlier first value one range next is found at read has =
     )
 
 -- an element that has a number is the only one
-only : (modes : List (List ℕ)) (n : ℕ) (earlier : List (ℕ × RangeRest)) (items : Items) (ranges : List (ℕ
+only : (modes : List (List ℕ)) (n : ℕ) (earlier : List (ℕ × RangeRest)) (items : Items)
+    (ranges : List (ℕ
     × RangeRest)) (place place' : ℕ) (value value' : Data) (range range' : ℕ × RangeRest)
     → ranges_from modes earlier items ≡ Ok ranges → stand_apart earlier ≡ true
     → get_item place items ≡ Some value → range_in modes value ≡ Ok range
     → has_number n range ≡ true
     → get_item place' items ≡ Some value' → range_in modes value' ≡ Ok range'
     → has_number n range' ≡ true → place ≡ place'
-only modes n earlier no_items ranges place place' value value' range range' is stands at read has at'
+only modes n earlier no_items ranges place place' value value' range range' is stands at read has
+    at'
     read' has' = absurd (cc)
 only modes n earlier (item first more) ranges zero zero value value' range range' is stands at read
     has at' read' has' = refl
@@ -370,7 +380,8 @@ only modes n earlier (item first more) ranges zero (suc place') value value' ran
     absurd (again modes n s.next more ranges place' value' range' s.rest s.stands
     (first_has modes n earlier first value s.range range s.next s.read (s.found n) at read has)
     at' read' has')
-only modes n earlier (item first more) ranges (suc place) zero value value' range range' is stands at
+only modes n earlier (item first more) ranges (suc place) zero value value' range range' is stands
+    at
     read has at' read' has' =
     let s = step modes earlier first more ranges is stands in
     absurd (again modes n s.next more ranges place value range s.rest s.stands
@@ -379,7 +390,8 @@ only modes n earlier (item first more) ranges (suc place) zero value value' rang
 only modes n earlier (item first more) ranges (suc place) (suc place') value value' range range' is
     stands at read has at' read' has' =
     let s = step modes earlier first more ranges is stands in
-    ap suc (only modes n s.next more ranges place place' value value' range range' s.rest s.stands at
+    ap suc (only modes n s.next more ranges place place' value value' range range' s.rest s.stands
+    at
     read has at' read' has')
 
 -- ---- the laws
@@ -461,7 +473,8 @@ maps : (o : Option (ℕ × RangeRest)) (mode : ℕ)
 maps None mode is = absurd (cc)
 maps (Some range) mode is = (range, refl, cc)
 
-gives : (modes : List (List ℕ)) (tree : Members) (ranges : List (ℕ × RangeRest)) (validator mode : ℕ)
+gives : (modes : List (List ℕ)) (tree : Members) (ranges : List (ℕ × RangeRest))
+    (validator mode : ℕ)
     → AreRead modes tree ranges → MapsTo (range_at ranges validator) mode
     → RangeGives modes tree validator mode
 gives modes tree ranges validator mode text at = ⊎_elim
@@ -495,7 +508,8 @@ pub record IsFound (modes : List (List ℕ)) (ranges : List (ℕ × RangeRest)) 
   pub has : has_number validator range ≡ true
   pub found : find (has_number validator) ranges ≡ Some range
 
-is_found : (modes : List (List ℕ)) (tree : Members) (ranges : List (ℕ × RangeRest)) (validator place : ℕ)
+is_found : (modes : List (List ℕ)) (tree : Members) (ranges : List (ℕ × RangeRest))
+    (validator place : ℕ)
     (element : Members) (text : AreRead modes tree ranges) → HasRange tree place element
     → HasValidator element validator
     → IsFound modes ranges validator text.items place element
@@ -505,11 +519,13 @@ is_found modes tree ranges validator place element text listed has =
     let same : listed.items ≡ text.items = cc in
     let stands : get_item place text.items ≡ Some (table element) =
     ap (get_item place) (sym same) ∙ listed.stands in
-    let at = there modes validator [] text.items ranges place (table element) text.read refl stands in
+    let at = there modes validator [] text.items ranges place (table element) text.read refl
+    stands in
     let here = agrees modes element at.0 validator (reads modes (table element) at.0 at.1) has in
     record { range = at.0; stands = stands; read = at.1; has = here; found = at.2 here }
 
-is_given : (modes : List (List ℕ)) (tree : Members) (ranges : List (ℕ × RangeRest)) (validator mode : ℕ)
+is_given : (modes : List (List ℕ)) (tree : Members) (ranges : List (ℕ × RangeRest))
+    (validator mode : ℕ)
     → AreRead modes tree ranges → RangeGives modes tree validator mode
     → option_map (λ (range : ℕ × RangeRest). range.1.mode) (range_at ranges validator) ≡ Some mode
 is_given modes tree ranges validator mode text g =
@@ -552,7 +568,8 @@ mode-none tree fares validator is =
     let text = ranges_read fares.meaning.modes tree fares.meaning.ranges
     (parts tree fares.meaning is).ranges in (
       λ none place e.
-          let f = is_found fares.meaning.modes tree fares.meaning.ranges validator place e.element text
+          let f = is_found fares.meaning.modes tree fares.meaning.ranges validator place e.element
+          text
           e.listed e.has in
           maps_none (range_at fares.meaning.ranges validator) f.range f.found none,
       λ none. none_or_gives (mode_at fares validator) (λ mode at.
@@ -568,7 +585,8 @@ one-entry tree meaning validator place place' is one other =
     let text = ranges_read meaning.modes tree meaning.ranges (parts tree meaning is).ranges in
     let f = is_found meaning.modes tree meaning.ranges validator place one.element text one.listed
     one.has in
-    let g = is_found meaning.modes tree meaning.ranges validator place' other.element text other.listed
+    let g = is_found meaning.modes tree meaning.ranges validator place' other.element text
+    other.listed
     other.has in
     only meaning.modes validator [] text.items meaning.ranges place place' (table one.element)
     (table other.element) f.range g.range text.read refl f.stands f.read f.has g.stands g.read

@@ -1,7 +1,7 @@
 -- The fault that the meaning of a tree tells is that of the first row that holds.
-use Rattle.std.proofs.Common.{◌≡◌, ℕ, zero, suc, ◌+◌, ◌*◌, ◌&&◌, ◌||◌, not, Bool, true}
-use Rattle.std.proofs.Common.{false, List, [], ◌∷◌, ◌++◌, Option, Some, None, Ok, Err, cond}
-use Rattle.std.proofs.Common.{option_map, refl, sym, ap, ◌∙◌, subst, arith, codes, append_assoc}
+use Rattle.std.proofs.Common.{◌≡◌, ℕ, zero, suc, ◌+◌, ◌*◌, ◌&&◌, ◌||◌, not, Bool, true, false, List}
+use Rattle.std.proofs.Common.{[], ◌∷◌, ◌++◌, Option, Some, None, Ok, Err, cond, option_map, refl}
+use Rattle.std.proofs.Common.{sym, ap, ◌∙◌, subst, arith, codes, append_assoc, Ordering}
 use Rattle.std.proofs.lemmas.Bool.{false≢true}
 use Rattle.std.proofs.lemmas.List.Folds.{find-append}
 use Rattle.std.specs.Cmp.Lexicographic.{slice_cmp}
@@ -10,7 +10,6 @@ use Rattle.std.specs.Option.{is_none, is_some, ok_or, option_or}
 use Rattle.std.specs.Ordering.{is_eq, match_ordering, nat_cmp}
 use Rattle.std.specs.declared.cmp.Ordering.TheVariants.{Less, Equal, Greater}
 use Rattle.std.proofs.lemmas.Map.Text.{is_eq-slice_cmp}
-use Rattle.std.proofs.Common.{Ordering}
 use Rattle.std.specs.Prelude.{pos, int_le, position, replicate, slice_set, unsigned_abs}
 use Rattle.std.specs.Prelude.{if◌then◌else◌}
 use Rattle.std.specs.Result.{result_err}
@@ -61,7 +60,8 @@ told tree at fault more =
 
 or_map : (a b : Option FaultRow)
     → option_map (λ (one : FaultRow). one.1) (option_or a b)
-    ≡ option_or (option_map (λ (one : FaultRow). one.1) a) (option_map (λ (one : FaultRow). one.1) b)
+    ≡ option_or (option_map (λ (one : FaultRow). one.1) a)
+    (option_map (λ (one : FaultRow). one.1) b)
 or_map None b = refl
 or_map (Some r) b = refl
 
@@ -443,7 +443,8 @@ number_or_tells (Some (integer z)) key default low high =
 number_or_tells (Some _) key default low high = refl
 
 ride_transfers-told : (tree : Members) (n : ℕ)
-    → fault_in (ride_transfers_of (members_at (class n) tree)) ≡ first_row tree (rows_of_transfers n)
+    → fault_in (ride_transfers_of (members_at (class n) tree))
+    ≡ first_row tree (rows_of_transfers n)
 unfolding ride_transfers_of
 ride_transfers-told tree n =
     let at = class n in

@@ -1,6 +1,7 @@
 pub mod ApartLemmas
 pub mod ElementLemmas
 pub mod FaultLemmas
+pub mod KeyLemmas
 pub mod MaskLemmas
 pub mod MemberLemmas
 pub mod NameLemmas
@@ -11,6 +12,7 @@ pub mod PartLemmas
 pub mod PayLemmas
 pub mod ReadLemmas
 pub mod RideLemmas
+pub mod RiderLemmas
 pub mod RowLemmas
 pub mod SortLemmas
 pub mod UntilLemmas

@@ -1,12 +1,12 @@
 -- The words of bits beside the pairs that they stand for.
-use Rattle.std.proofs.Common.{◌≡◌, ◌≢◌, ◌⊎◌, ℕ, ◌*◌, ◌%◌, ◌^◌, ◌<◌, ◌==◌, ◌||◌, Bool, true, false}
-use Rattle.std.proofs.Common.{List, [], ◌∷◌, ◌++◌, length, get_or, refl, sym, ap, ◌∙◌, arith}
+use Rattle.std.proofs.Common.{◌≡◌, ◌≢◌, ◌⊎◌, ℕ, ◌*◌, ◌%◌, ◌^◌, ◌<◌, ◌==◌, ◌||◌, true, false}
+use Rattle.std.proofs.Common.{List, [], ◌∷◌, ◌++◌, length, get_or, sym, ap, ◌∙◌, arith}
 use Rattle.std.proofs.Common.{bit_or, slice_set, w32, inl, inr}
 use Rattle.std.proofs.lemmas.Bool.Decides.{eqb_tells}
 use Rattle.std.proofs.lemmas.List.{get_or-set_same, get_or-set_other, get_or-replicate}
 use Rattle.std.proofs.lemmas.List.Folds.{list_any-append}
 use Rattle.std.proofs.lemmas.Nat.Bits.{bit_at-zero, bit_at_set_same, bit_at_set_other}
-use Rattle.std.proofs.Math.Bool.{or-false}
+use Rattle.std.proofs.Math.Bool.{or-false, or-true}
 use Rattle.std.proofs.Math.ListN.{replicate}
 use Rattle.std.specs.Int.{bit_at}
 use Rattle.fare_table.specs.Transfers.{has_pair, joins}
@@ -17,10 +17,6 @@ pub masks-none : AreMasksOf (replicate 32 0) []
 masks-none from to f t =
     let zero_word : get_or (replicate 32 0) from 0 ≡ 0 = get_or-replicate {A = ℕ} 32 from 0 0 f in
     rw (zero_word, bit_at-zero to)
-
-or-true : (b : Bool) → (b || true) ≡ true
-or-true true = refl
-or-true false = refl
 
 -- the masks with bit t of the mask at f set
 with_bit : List ℕ → ℕ → ℕ → List ℕ

@@ -1,9 +1,8 @@
 -- The names of classes by their places, which rise.
-use Rattle.std.proofs.Common.{◌≡◌, ℕ, zero, suc, ◌<◌, ◌≤◌, ◌&&◌, Bool, true, false, List, []}
-use Rattle.std.proofs.Common.{◌∷◌, ◌++◌, Option, Some, None, Ok, Err, refl, sym, ap, ◌∙◌, subst, arith, length}
-use Rattle.std.proofs.Common.{get_or, map, option_map, Ordering, Less, Equal, Greater, append_assoc}
-use Rattle.std.proofs.Common.{Bor, String, Global, string_bytes}
-use Rattle.std.proofs.lemmas.Bool.{and_parts, cases_Bool, false≢true}
+use Rattle.std.proofs.Common.{◌≡◌, ℕ, zero, suc, ◌<◌, true, false, List, [], ◌∷◌, ◌++◌, Some, refl}
+use Rattle.std.proofs.Common.{sym, ap, ◌∙◌, arith, length, get_or, map, Less, Equal, Bor, String}
+use Rattle.std.proofs.Common.{Global, string_bytes}
+use Rattle.std.proofs.lemmas.Bool.{and_parts, and_from}
 use Rattle.std.proofs.lemmas.List.{get_or-map, length-map}
 use Rattle.std.proofs.lemmas.Map.Lookups.{exact_bytes}
 use Rattle.std.proofs.lemmas.Map.Text.{is_eq-slice_cmp}
@@ -13,33 +12,28 @@ use Rattle.std.specs.Map.{keys_of}
 use Rattle.std.specs.Ordering.{is_eq, is_lt, nat_cmp, ordering_reverse}
 use Rattle.std.specs.String.{string_cmp}
 use Rattle.toml.proofs.Views.{is_before-sorted}
-use Rattle.toml.specs.Data.{Data, Members, no_members, member, is_before}
+use Rattle.toml.specs.Data.{Members, no_members, member, is_before}
 use Rattle.toml.specs.View.{members_view}
 use Rattle.toml.specs.declared.value.Value.{Value}
-use Rattle.fare_table.proofs.PayLemmas.{is_itself}
 use Rattle.fare_table.specs.ByteOrder.{in_byte_order}
-use Rattle.fare_table.specs.Classes.{count_of, names_in, place_of}
+use Rattle.fare_table.specs.Classes.{count_of, place_of}
 use Rattle.fare_table.specs.Modes.{same_name}
-
-both : (a b : Bool) → a ≡ true → b ≡ true → (a && b) ≡ true
-both true b one other = other
-both false b one other = one
+use Rattle.fare_table.specs.inside.Classes.{names_in}
+use Rattle.fare_table.proofs.KeyLemmas.{is_itself}
+use Rattle.tap_views.proofs.Orderings.{less_of}
 
 -- the keys of a map come in byte order
-pub ordered_view : (entries : List (String Global × Value)) → IsStrictlySortedBy string_cmp (keys_of entries)
+pub ordered_view : (entries : List (String Global × Value))
+    → IsStrictlySortedBy string_cmp (keys_of entries)
     → in_byte_order (members_view entries) ≡ true
 unfolding IsStrictlySortedBy
 ordered_view [] sorted = refl
 ordered_view (e ∷ more) sorted =
-    both (is_before (string_bytes e.0) (members_view more)) (in_byte_order (members_view more))
+    and_from (is_before (string_bytes e.0) (members_view more)) (in_byte_order (members_view more))
     (is_before-sorted e.0 more sorted.0) (ordered_view more sorted.1)
 
-less_of : (r : Ordering) → is_lt r ≡ true → r ≡ Less
-less_of Less is = refl
-less_of Equal is = absurd (false≢true is)
-less_of Greater is = absurd (false≢true is)
-
-before_rest : (key first : List ℕ) (rest : Members) → slice_cmp nat_cmp key first ≡ Less
+-- a name before the first one is before those behind it
+pub before_rest : (key first : List ℕ) (rest : Members) → slice_cmp nat_cmp key first ≡ Less
     → is_before first rest ≡ true → is_before key rest ≡ true
 before_rest key first no_members less before = refl
 before_rest key first (member next value rest) less before =
@@ -59,7 +53,8 @@ before_all key (member first value rest) (suc n) d before order below =
     (before_rest key first rest (less_of (slice_cmp nat_cmp key first) before) parts.0) parts.1
     (omega (arith, below))
 
-not_same : (name other : List ℕ) → slice_cmp nat_cmp other name ≡ Less → same_name name other ≡ false
+not_same : (name other : List ℕ) → slice_cmp nat_cmp other name ≡ Less
+    → same_name name other ≡ false
 not_same name other less =
     sym (is_eq-slice_cmp name other)
     ∙ ap is_eq ((nat_list_cmp_total).antisymm name other ∙ ap ordering_reverse less)

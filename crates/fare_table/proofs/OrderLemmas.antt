@@ -2,7 +2,8 @@
 use Rattle.std.proofs.Common.{◌≡◌, ⊎_elim, ℕ, zero, suc, ◌&&◌, ◌==◌, Bool, true, false, List, []}
 use Rattle.std.proofs.Common.{◌∷◌, ◌++◌, Option, Some, None, option_map, refl, ap, ◌∙◌, subst}
 use Rattle.std.proofs.Common.{length, drop, Ordering, Less, Equal, Greater}
-use Rattle.std.proofs.lemmas.Bool.{and_parts}
+use Rattle.std.proofs.lemmas.Bool.{and_parts, and_from}
+use Rattle.std.proofs.lemmas.Option.{same_Some}
 use Rattle.std.specs.Cmp.Lexicographic.{nat_list_cmp_total, slice_cmp}
 use Rattle.std.specs.Option.{option_and_then}
 use Rattle.std.specs.Ordering.{is_eq, is_lt, match_ordering, nat_cmp, ordering_reverse}
@@ -25,12 +26,8 @@ use Rattle.toml.specs.Tables.{by_header, close, close_node, define, define_as, d
 use Rattle.toml.specs.Tables.{get_node, header, header_node, implicit, insert, key_value, new_node}
 use Rattle.toml.specs.Tables.{no_nodes, node, open_array, open_table, put, redefine, replace}
 use Rattle.toml.specs.Tables.{std_table, value}
-use Rattle.fare_table.proofs.PayLemmas.{member-found}
 use Rattle.fare_table.specs.ByteOrder.{in_byte_order}
-
-both : (a b : Bool) → a ≡ true → b ≡ true → (a && b) ≡ true
-both true b one other = other
-both false b one other = one
+use Rattle.fare_table.proofs.KeyLemmas.{member-found}
 
 -- ---- options
 pub record From {A B : Type 0} (o : Option A) (f : A → Option B) (b : B) : Type 0 where
@@ -48,12 +45,9 @@ pub record Maps {A B : Type 0} (o : Option A) (f : A → B) (b : B) : Type 0 whe
   pub is : o ≡ Some of
   pub gives : f of ≡ b
 
-some_of : {A : Type 0} (x y : A) → Some x ≡ Some y → x ≡ y
-some_of x y is = cc
-
 maps : {A B : Type 0} (o : Option A) (f : A → B) (b : B) → option_map f o ≡ Some b → Maps o f b
 maps None f b is = absurd (cc)
-maps (Some a) f b is = record { of = a; is = refl; gives = some_of (f a) b is }
+maps (Some a) f b is = record { of = a; is = refl; gives = same_Some (f a) b is }
 
 -- ---- sorted parts
 abbrev Sorted : Nodes → Type 0
@@ -77,13 +71,13 @@ heads key x nodes is =
 headed : (key : List ℕ) (x : Node) (nodes : Nodes) → is_before key (close nodes) ≡ true → IsSorted x
     → Sorted nodes → Sorted (node key x nodes)
 headed key x nodes before here later =
-    both (is_before key (close nodes) && is_sorted (close_node x))
+    and_from (is_before key (close nodes) && is_sorted (close_node x))
     (members_are_sorted (close nodes))
-    (both (is_before key (close nodes)) (is_sorted (close_node x)) before here) later
+    (and_from (is_before key (close nodes)) (is_sorted (close_node x)) before here) later
 
 got_if : (b : Bool) (first x : Node) (o : Option Node) → (if b then Some first else o) ≡ Some x
     → IsSorted first → (o ≡ Some x → IsSorted x) → IsSorted x
-got_if true first x o is here later = let same : first ≡ x = some_of first x is in
+got_if true first x o is here later = let same : first ≡ x = same_Some first x is in
     subst (λ (n : Node). IsSorted n) same here
 got_if false first x o is here later = later is
 
@@ -164,10 +158,10 @@ replaced key x (node other y more) new old =
 
 pushed : (ds : Items) (d : Data) → items_are_sorted ds ≡ true → is_sorted d ≡ true
     → items_are_sorted (push_item ds d) ≡ true
-pushed no_items d old new = both (is_sorted d) true new refl
+pushed no_items d old new = and_from (is_sorted d) true new refl
 pushed (item first more) d old new =
     let h = and_parts (is_sorted first) (items_are_sorted more) old in
-    both (is_sorted first) (items_are_sorted (push_item more d)) h.0 (pushed more d h.1 new)
+    and_from (is_sorted first) (items_are_sorted (push_item more d)) h.0 (pushed more d h.1 new)
 
 unpushed : (ds : Items) (d : Data) → items_are_sorted (push_item ds d) ≡ true
     → (items_are_sorted ds ≡ true) × (is_sorted d ≡ true)
@@ -175,7 +169,7 @@ unpushed no_items d is = (refl, (and_parts (is_sorted d) true is).0)
 unpushed (item first more) d is =
     let h = and_parts (is_sorted first) (items_are_sorted (push_item more d)) is in
     let rest = unpushed more d h.1 in
-    (both (is_sorted first) (items_are_sorted more) h.0 rest.0, rest.1)
+    (and_from (is_sorted first) (items_are_sorted more) h.0 rest.0, rest.1)
 
 -- ---- edits keep the order
 Keeps : Edit → Type 0
@@ -274,10 +268,10 @@ new_sorted array_table sorted = refl
 
 redefined : (what : Definition) (x y : Node) → redefine what x ≡ Some y → IsSorted x → IsSorted y
 redefined std_table (open_table implicit inner) y is sorted =
-    subst (λ (n : Node). IsSorted n) (some_of (open_table header inner) y is) sorted
+    subst (λ (n : Node). IsSorted n) (same_Some (open_table header inner) y is) sorted
 redefined array_table (open_array done last) y is sorted =
     subst (λ (n : Node).
-    IsSorted n) (some_of (open_array (push_item done (table (close last))) no_nodes) y is)
+    IsSorted n) (same_Some (open_array (push_item done (table (close last))) no_nodes) y is)
     (pushed (push_item done (table (close last))) (table no_members) sorted refl)
 redefined _ _ y is sorted = absurd (cc)
 
@@ -285,7 +279,7 @@ found_kept : (key : List ℕ) (what : Definition) (old new : Nodes) (o : Option 
     → WritesSorted what → get_node key old ≡ o → at_found key what old o ≡ Some new → Sorted old
     → Sorted new
 found_kept key what old new None writes at is sorted =
-    subst (λ (n : Nodes). Sorted n) (some_of (insert key (new_node what) old) new is)
+    subst (λ (n : Nodes). Sorted n) (same_Some (insert key (new_node what) old) new is)
     (inserted key (new_node what) old (new_sorted what writes) sorted)
 found_kept key what old new (Some x) writes at is sorted =
     changed key (redefine what x) old new is (λ y made.
@@ -368,7 +362,8 @@ items_if : (read : List ℕ
     → items_are_sorted found ≡ true → items_are_sorted p.0 ≡ true
 unfolding SortsValues
 items_if read n true found start p sorts ih is sorted =
-    subst (λ (q : Items × List ℕ). items_are_sorted q.0 ≡ true) (some_of (found, drop 1 start) p is)
+    subst (λ (q : Items × List ℕ). items_are_sorted q.0 ≡ true)
+    (same_Some (found, drop 1 start) p is)
     sorted
 items_if read n false found start p sorts ih is sorted =
     let v = and_then (read start) (λ (v : Data × List ℕ).
@@ -411,7 +406,7 @@ members_if : (read : List ℕ
 unfolding Keeps
 members_if read n true found start p sorts ih is sorted =
     subst (λ (q : Members × List ℕ). members_are_sorted q.0 ≡ true)
-    (some_of (close found, drop 1 start) p is) sorted
+    (same_Some (close found, drop 1 start) p is) sorted
 members_if read n false found start p sorts ih is sorted =
     let e = and_then (keyval read start) (λ (e : (Key × Data) × List ℕ).
     option_and_then (λ more.
@@ -483,7 +478,7 @@ expressions text e is = expression_if
     text e is
 
 ended : (b : Bool) (e end : Expression × List ℕ) → (if b then Some e else None) ≡ Some end → e ≡ end
-ended true e end is = some_of e end is
+ended true e end is = same_Some e end is
 ended false e end is = absurd (cc)
 
 line_sorted : (text : List ℕ) (e : Expression × List ℕ) → line text ≡ Some e → WritesSorted e.0.1
@@ -503,7 +498,7 @@ lines_if : (n : ℕ) (b : Bool) (doc : Document) (start : List ℕ) (last : Docu
     option_and_then (λ next. lines n next e.1) (define doc e.0)) (line start)) ≡ Some last
     → Sorted doc.0 → Sorted last.0
 lines_if n true doc start last ih is sorted =
-    subst (λ (d : Document). Sorted d.0) (some_of doc last is) sorted
+    subst (λ (d : Document). Sorted d.0) (same_Some doc last is) sorted
 lines_if n false doc start last ih is sorted =
     let e = and_then (line start) (λ (e : Expression × List ℕ).
     option_and_then (λ next. lines n next e.1) (define doc e.0)) last is in
@@ -554,7 +549,7 @@ ordered : (tree : Members) → members_are_sorted tree ≡ true → in_byte_orde
 ordered no_members sorted = refl
 ordered (member key d more) sorted =
     let h = firsts key d more sorted in
-    both (is_before key more) (in_byte_order more) h.before (ordered more h.later)
+    and_from (is_before key more) (in_byte_order more) h.before (ordered more h.later)
 
 pub keys-ordered : (text key : List ℕ) (tree inner : Members) → parse_document text ≡ Some tree
     → get_member key tree ≡ Some (table inner) → in_byte_order inner ≡ true

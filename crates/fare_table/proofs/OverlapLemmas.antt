@@ -1,10 +1,10 @@
 -- Where a new range shares a number with ranges that stand apart, and that they stay apart without.
-use Rattle.std.proofs.Common.{◌≡◌, ◌⊎◌, ℕ, ◌<◌, ◌≤◌, ◌&&◌, not, Bool, true, false, List, [], ◌∷◌}
+use Rattle.std.proofs.Common.{◌≡◌, ◌⊎◌, ℕ, ◌<◌, ◌≤◌, not, Bool, true, false, List, [], ◌∷◌}
 use Rattle.std.proofs.Common.{◌++◌, refl, sym, ap, ◌∙◌, arith, Option, Some, None, cond, inl, inr}
 use Rattle.std.proofs.Common.{le-leb, Ordering, Less, Equal, Greater}
-use Rattle.std.proofs.lemmas.Bool.{and_parts, false≢true, leb-true, or_parts}
+use Rattle.std.proofs.lemmas.Bool.{and_parts, false≢true, or_parts}
 use Rattle.std.proofs.lemmas.Bool.Decides.{leb_tells, nat_tests}
-use Rattle.std.proofs.Math.Bool.{or-false}
+use Rattle.std.proofs.Math.Bool.{or-false, and-false, and-true}
 use Rattle.std.specs.BTreeMap.{insert_entry}
 use Rattle.std.specs.BTreeMap.Range.{entries_between}
 use Rattle.std.specs.List.{list_any}
@@ -13,7 +13,7 @@ use Rattle.std.specs.Cmp.{nat_cmp_is}
 use Rattle.std.specs.Ordering.{nat_cmp, is_lt, match_ordering}
 use Rattle.std.specs.Prelude.{nat_le, nat_lt}
 use Rattle.std.specs.declared.ops.Bound.TheVariants.{Unbounded, Included}
-use Rattle.fare_table.proofs.ApartLemmas.{AreApart, apart, or_twice}
+use Rattle.fare_table.proofs.ApartLemmas.{AreApart, apart, or_twice, begins_first}
 use Rattle.fare_table.specs.Validators.{are_modes_below, stand_apart, share_number}
 use Rattle.fare_table.specs.inside.Validators.{last_begun}
 use Rattle.fare_table.specs.declared.validators.RangeRest.{RangeRest}
@@ -34,9 +34,6 @@ last_of-append (y ∷ ys) x = rw (last_of-append ys x)
 abbrev pub begun : ℕ → List (ℕ × RangeRest) → List (ℕ × RangeRest)
 begun n ranges = entries_between nat_cmp Unbounded (Included n) ranges
 
-alone : (range : ℕ × RangeRest) → stand_apart (range ∷ []) ≡ true → range.0 ≤ range.1.last
-alone range stands = leb-true _ _ stands
-
 not_past : (n q : ℕ) → not (is_lt (nat_cmp n q)) ≡ nat_le q n
 not_past n q = grind (arith, nat_tests)
 
@@ -45,13 +42,15 @@ begun_cons : (n : ℕ) (range : ℕ × RangeRest) (more : List (ℕ × RangeRest
 begun_cons n range more =
     ap (λ b. cond b (range ∷ begun n more) (begun n more)) (not_past n range.0)
 
-begun_step : (n : ℕ) (range : ℕ × RangeRest) (more : List (ℕ × RangeRest)) → n < range.0 → begun n more ≡ []
+begun_step : (n : ℕ) (range : ℕ × RangeRest) (more : List (ℕ × RangeRest)) → n < range.0
+    → begun n more ≡ []
     → begun n (range ∷ more) ≡ []
 begun_step n range more after rest =
     let past : nat_le range.0 n ≡ false = grind (arith, nat_tests) in
     begun_cons n range more ∙ rw (past, rest)
 
-begun_none : (n : ℕ) (range : ℕ × RangeRest) (more : List (ℕ × RangeRest)) → stand_apart (range ∷ more) ≡ true
+begun_none : (n : ℕ) (range : ℕ × RangeRest) (more : List (ℕ × RangeRest))
+    → stand_apart (range ∷ more) ≡ true
     → n < range.0 → begun n (range ∷ more) ≡ []
 begun_none n range [] stands after = begun_step n range [] after refl
 begun_none n range (next ∷ more) stands after =
@@ -59,15 +58,8 @@ begun_none n range (next ∷ more) stands after =
     let later : n < next.0 = omega (arith, two.begins, two.ends) in
     begun_step n range (next ∷ more) after (begun_none n next more two.rest later)
 
-and_false : (b : Bool) → (b && false) ≡ false
-and_false true = refl
-and_false false = refl
-
-and_true : (b : Bool) → (b && true) ≡ b
-and_true true = refl
-and_true false = refl
-
-pub rest_stands : (range : ℕ × RangeRest) (more : List (ℕ × RangeRest)) → stand_apart (range ∷ more) ≡ true
+pub rest_stands : (range : ℕ × RangeRest) (more : List (ℕ × RangeRest))
+    → stand_apart (range ∷ more) ≡ true
     → stand_apart more ≡ true
 rest_stands range [] stands = refl
 rest_stands range (next ∷ more) stands = (apart range next more stands).rest
@@ -77,14 +69,10 @@ pub last_begun-begun : (n : ℕ) (ranges : List (ℕ × RangeRest)) → stand_ap
     → last_of (begun n ranges) ≡ last_begun n ranges
 last_begun-begun n [] stands = refl
 last_begun-begun n (range ∷ more) stands = elim (leb_tells range.0 n) [
-  | inl a ↦ rw (begun_cons n range more, a.0, last_begun-begun n more (rest_stands range more stands))
+  | inl a ↦ rw
+      (begun_cons n range more, a.0, last_begun-begun n more (rest_stands range more stands))
   | inr a ↦ rw (begun_none n range more stands a.1, a.0)
 ]
-
-pub ends_after : (range : ℕ × RangeRest) (more : List (ℕ × RangeRest)) → stand_apart (range ∷ more) ≡ true
-    → range.0 ≤ range.1.last
-ends_after range [] stands = alone range stands
-ends_after range (next ∷ more) stands = (apart range next more stands).begins
 
 -- the range reaches back to the number
 abbrev pub reaches : ℕ → Option (ℕ × RangeRest) → Bool
@@ -92,7 +80,8 @@ reaches number None = false
 reaches number (Some range) = nat_le number range.1.last
 
 -- the last range that begins no later than a number reaches any number that an earlier one reaches
-reached : (x n : ℕ) (range : ℕ × RangeRest) (more : List (ℕ × RangeRest)) → stand_apart (range ∷ more) ≡ true
+reached : (x n : ℕ) (range : ℕ × RangeRest) (more : List (ℕ × RangeRest))
+    → stand_apart (range ∷ more) ≡ true
     → nat_le range.0 n ≡ true → x ≤ range.1.last
     → reaches x (last_begun n (range ∷ more)) ≡ true
 reached x n range [] stands here back = rw here (le-leb _ _ back)
@@ -100,14 +89,15 @@ reached x n range (next ∷ more) stands here back =
     let two = apart range next more stands in
     elim (leb_tells next.0 n) [
       | inl a ↦
-          let further : next.0 ≤ next.1.last = ends_after next more two.rest in
+          let further : next.0 ≤ next.1.last = begins_first next more two.rest in
           let past : x ≤ next.1.last = omega (arith, two.ends) in
           rw (here, a.0, or_twice (last_begun n more) next range)
           (rw a.0 at (reached x n next more two.rest a.0 past))
       | inr a ↦ rw (here, a.0) (le-leb _ _ back)
     ]
 
-shares_step : (range other next : ℕ × RangeRest) (more : List (ℕ × RangeRest)) → range.0 ≤ range.1.last
+shares_step : (range other next : ℕ × RangeRest) (more : List (ℕ × RangeRest))
+    → range.0 ≤ range.1.last
     → AreApart other next more
     → list_any (share_number range) (next ∷ more)
     ≡ reaches range.0 (last_begun range.1.last (next ∷ more))
@@ -123,11 +113,11 @@ shares_step range other next more order two ih back (inr a) nexts =
     let later : nat_le next.0 range.1.last ≡ false =
     grind (arith, nat_tests, two.begins, two.ends) in
     let none : list_any (share_number range) (next ∷ more) ≡ false = ih ∙ rw later in
-    rw (a.0, none, and_false (nat_le range.0 other.1.last))
+    rw (a.0, none, and-false (nat_le range.0 other.1.last))
 shares_step range other next more order two ih (inl b) (inl a) (inl d) =
     let all : reaches range.0 (last_begun range.1.last (next ∷ more)) ≡ true =
     reached range.0 range.1.last next more two.rest d.0
-    (omega (arith, two.ends, ends_after next more two.rest)) in
+    (omega (arith, two.ends, begins_first next more two.rest)) in
     let same : reaches range.0 (option_or (last_begun range.1.last more) (Some next)) ≡ true =
     rw d.0 at all in
     rw (a.0, b.0, d.0, or_twice (last_begun range.1.last more) next other) (sym same)
@@ -145,19 +135,20 @@ shares_step range other next more order two ih back (inl a) (inr d) =
       none,
       a.0,
       d.0,
-      and_true (nat_le range.0 other.1.last),
+      and-true (nat_le range.0 other.1.last),
       or-false (nat_le range.0 other.1.last),
     )
 
 -- a range shares a number with one of those that stand apart where the last one that begins no
 -- later than it ends reaches back to it
-pub shares-last_begun : (range : ℕ × RangeRest) (ranges : List (ℕ × RangeRest)) → range.0 ≤ range.1.last
+pub shares-last_begun : (range : ℕ × RangeRest) (ranges : List (ℕ × RangeRest))
+    → range.0 ≤ range.1.last
     → stand_apart ranges ≡ true
     → list_any (share_number range) ranges ≡ reaches range.0 (last_begun range.1.last ranges)
 shares-last_begun range [] order stands = refl
 shares-last_begun range (other ∷ []) order stands = elim (leb_tells other.0 range.1.last) [
-  | inl a ↦ rw (a.0, and_true (nat_le range.0 other.1.last), or-false (nat_le range.0 other.1.last))
-  | inr a ↦ rw (a.0, and_false (nat_le range.0 other.1.last))
+  | inl a ↦ rw (a.0, and-true (nat_le range.0 other.1.last), or-false (nat_le range.0 other.1.last))
+  | inr a ↦ rw (a.0, and-false (nat_le range.0 other.1.last))
 ]
 shares-last_begun range (other ∷ next ∷ more) order stands =
     shares_step range other next more order (apart other next more stands)
@@ -195,18 +186,21 @@ comes_after range other order after = sym (nat_cmp_is range.0 other.0 Greater (o
 with_one : ℕ × RangeRest → List (ℕ × RangeRest) → List (ℕ × RangeRest)
 with_one range ranges = insert_entry nat_cmp ranges range.0 range.1
 
-one_before : (range other : ℕ × RangeRest) (more : List (ℕ × RangeRest)) → nat_cmp range.0 other.0 ≡ Less
+one_before : (range other : ℕ × RangeRest) (more : List (ℕ × RangeRest))
+    → nat_cmp range.0 other.0 ≡ Less
     → with_one range (other ∷ more) ≡ range ∷ other ∷ more
 unfolding with_one
 one_before range other more less = rw less
 
-one_after : (range other : ℕ × RangeRest) (more : List (ℕ × RangeRest)) → nat_cmp range.0 other.0 ≡ Greater
+one_after : (range other : ℕ × RangeRest) (more : List (ℕ × RangeRest))
+    → nat_cmp range.0 other.0 ≡ Greater
     → with_one range (other ∷ more) ≡ other ∷ with_one range more
 unfolding with_one
 one_after range other more greater = rw greater
 
 -- before ranges that go on with a new one stands a range that ends before both
-cons_with_one : (first range next : ℕ × RangeRest) (more : List (ℕ × RangeRest)) → first.0 ≤ first.1.last
+cons_with_one : (first range next : ℕ × RangeRest) (more : List (ℕ × RangeRest))
+    → first.0 ≤ first.1.last
     → first.1.last < range.0 → first.1.last < next.0
     → range.0 ≤ range.1.last → next.0 ≤ next.1.last → share_number range next ≡ false
     → stand_apart (with_one range (next ∷ more)) ≡ true
@@ -221,13 +215,14 @@ cons_with_one first range next more begins ends further order onward free stands
           rw same (cons_stands first next (with_one range more) begins further (rw same at stands))
     ]
 
-stands-with_one : (range other : ℕ × RangeRest) (more : List (ℕ × RangeRest)) → range.0 ≤ range.1.last
+stands-with_one : (range other : ℕ × RangeRest) (more : List (ℕ × RangeRest))
+    → range.0 ≤ range.1.last
     → stand_apart (other ∷ more) ≡ true
     → list_any (share_number range) (other ∷ more) ≡ false
     → stand_apart (with_one range (other ∷ more)) ≡ true
 unfolding with_one
 stands-with_one range other [] order stands free =
-    let begins : other.0 ≤ other.1.last = alone other stands in
+    let begins : other.0 ≤ other.1.last = begins_first other [] stands in
     elim (free_apart range other (or_parts (share_number range other) false free).0) [
       | inl a ↦ rw (one_before range other [] (comes_before range other order a))
           (cons_stands range other [] order a stands)
@@ -245,7 +240,7 @@ stands-with_one range other (next ∷ more) order stands free =
           (cons_stands range other (next ∷ more) order a stands)
       | inr a ↦ rw (one_after range other (next ∷ more) (comes_after range other two.begins a))
           (cons_with_one other range next more two.begins a two.ends order
-          (ends_after next more two.rest) later.0
+          (begins_first next more two.rest) later.0
           (stands-with_one range next more order two.rest apart_from.1))
     ]
 
@@ -272,7 +267,8 @@ known_step count range other more Greater known all later =
     rw ((and_parts (nat_lt other.1.mode count) (are_modes_below count more) all).0) later
 
 -- one more range of a mode of the table
-pub known-insert : (count : ℕ) (range : ℕ × RangeRest) (ranges : List (ℕ × RangeRest)) → range.1.mode < count
+pub known-insert : (count : ℕ) (range : ℕ × RangeRest) (ranges : List (ℕ × RangeRest))
+    → range.1.mode < count
     → are_modes_below count ranges ≡ true
     → are_modes_below count (insert_entry nat_cmp ranges range.0 range.1) ≡ true
 known-insert count range [] below all = let known : nat_lt range.1.mode count ≡ true =

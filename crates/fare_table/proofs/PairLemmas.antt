@@ -1,11 +1,12 @@
 -- The pairs of places of a table are those of the pairs of names that its text lists.
-use Rattle.std.proofs.Common.{◌≡◌, ◌⊎◌, ◌↔◌, ℕ, ◌<◌, ◌==◌, ◌||◌, ◌&&◌, Bool, true, false, List, []}
+use Rattle.std.proofs.Common.{◌≡◌, ◌⊎◌, ◌↔◌, ℕ, ◌<◌, ◌==◌, ◌||◌, Bool, true, false, List, []}
 use Rattle.std.proofs.Common.{◌∷◌, ◌++◌, length, Ok, refl, sym, ap, ◌∙◌, subst, arith, inl, inr}
 use Rattle.std.proofs.Common.{⊎_elim, slice_index_or, zero, suc}
 use Rattle.std.specs.Prelude.{Contains, codes, if◌then◌else◌}
-use Rattle.std.proofs.lemmas.Bool.Decides.{eqb_tells}
 use Rattle.std.proofs.lemmas.List.Elements.{Contains-append_right, Contains-get_or}
 use Rattle.std.proofs.lemmas.List.Folds.{list_any-append}
+use Rattle.std.proofs.lemmas.Bool.{and_from, and_parts, eq-eqb, eqb-true, or_cases, or_left}
+use Rattle.std.proofs.lemmas.Bool.{or_right}
 use Rattle.toml.specs.Data.{Items, Members}
 use Rattle.fare_table.proofs.PartLemmas.{bind_ok, parts}
 use Rattle.fare_table.specs.Members.{array_at}
@@ -14,37 +15,6 @@ use Rattle.fare_table.specs.TableMeaning.{TableMeaning, meaning_of_tree}
 use Rattle.fare_table.specs.Transfers.{has_pair, joins, named_pairs, pairs_from, places_of}
 use Rattle.fare_table.specs.Transfers.{transfers_from, transfers_of, with_pair, ListsPair}
 use Rattle.fare_table.specs.declared.fault.Key.TheVariants as the_key
-
-or_left : (a b : Bool) → a ≡ true → (a || b) ≡ true
-or_left true b is = refl
-or_left false b is = cc
-
-or_right : (a b : Bool) → b ≡ true → (a || b) ≡ true
-or_right true b is = refl
-or_right false b is = is
-
-or_cases : (a b : Bool) → (a || b) ≡ true → (a ≡ true) ⊎ (b ≡ true)
-or_cases true b is = inl refl
-or_cases false b is = inr is
-
-and_both : (a b : Bool) → a ≡ true → b ≡ true → (a && b) ≡ true
-and_both true b one other = other
-and_both false b one other = one
-
-and_left : (a b : Bool) → (a && b) ≡ true → a ≡ true
-and_left true b is = refl
-and_left false b is = is
-
-and_right : (a b : Bool) → (a && b) ≡ true → b ≡ true
-and_right true b is = is
-and_right false b is = absurd (cc)
-
-eq_refl : (n : ℕ) → (n == n) ≡ true
-eq_refl n = ⊎_elim (λ same. same.0) (λ other. absurd (other.1 refl)) (eqb_tells n n)
-
-eq_true : (a b : ℕ) → (a == b) ≡ true → a ≡ b
-eq_true a b is = ⊎_elim (λ same. same.1) (λ other. let no = other.0 in absurd (cc (no, is)))
-    (eqb_tells a b)
 
 abbrev pair_by : ℕ → ℕ → ℕ × ℕ
 pair_by a b = (a, b)
@@ -76,7 +46,7 @@ adds_if false pairs f t is =
     list_any-append (joins f t) pairs ((f, t) ∷ [])
     ∙ or_right (has_pair pairs f t) _
     (or_left (joins f t (pair_by f t)) false
-    (and_both (f == f) (t == t) (eq_refl f) (eq_refl t)))
+    (and_from (f == f) (t == t) (eq-eqb f f refl) (eq-eqb t t refl)))
 
 -- one more pair is one of them
 adds : (pairs : List (ℕ × ℕ)) (f t : ℕ) → has_pair (with_pair pairs f t) f t ≡ true
@@ -91,8 +61,9 @@ only_if false pairs f t from to has =
     sym (list_any-append (joins from to) pairs ((f, t) ∷ [])) ∙ has in
     ⊎_elim (λ old. inl old)
     (λ last. ⊎_elim
-    (λ joined. inr (same_pair f t from to (eq_true f from (and_left (f == from) (t == to) joined))
-    (eq_true t to (and_right (f == from) (t == to) joined))))
+    (λ joined. inr
+    (same_pair f t from to (eqb-true f from (and_parts (f == from) (t == to) joined).0)
+    (eqb-true t to (and_parts (f == from) (t == to) joined).1)))
     (λ none. absurd (cc (none)))
     (or_cases (joins from to (pair_by f t)) false last))
     (or_cases (has_pair pairs from to) (joins from to (pair_by f t) || false) one_of)

@@ -88,10 +88,12 @@ pub parts : (tree : Members) (meaning : TableMeaning) â†’ meaning_of_tree tree â
 unfolding meaning_of_tree
 parts tree meaning is =
     let modes = bind_ok (modes_of tree) (by_modes tree) meaning is in
-    let transfers = bind_ok (transfers_of modes.0 tree) (by_transfers tree modes.0) meaning modes.2 in
+    let transfers = bind_ok (transfers_of modes.0 tree) (by_transfers tree modes.0) meaning
+    modes.2 in
     let table = bind_ok (classes_of tree) (by_table tree modes.0 transfers.0) meaning
     transfers.2 in
-    let classes = bind_ok (classes_from modes.0 [] table.0) (by_classes tree modes.0 transfers.0 table.0)
+    let classes = bind_ok (classes_from modes.0 [] table.0)
+    (by_classes tree modes.0 transfers.0 table.0)
     meaning table.2 in
     let standard = bind_ok (default_of table.0 tree)
     (by_default tree modes.0 transfers.0 table.0 classes.0) meaning classes.2 in

@@ -1,19 +1,19 @@
 -- What a token pays for a ride on a mode, and what its rides give, is what its class of the text
 -- says.
-use Rattle.std.proofs.Common.{◌≡◌, ◌≢◌, ℕ, ◌*◌, ◌<◌, ◌≤◌, ◌&&◌, Bool, true, false, List, []}
-use Rattle.std.proofs.Common.{Option, Some, None, Ok, Err, cond, refl, sym, ap, ◌∙◌, subst, inl, inr}
-use Rattle.std.proofs.Common.{arith, codes, get_or, get_or-set_other, length, length-set, set}
-use Rattle.std.proofs.Common.{Ordering, Less, Equal, Greater, replicate, zero-add}
+use Rattle.std.proofs.Common.{◌≡◌, ◌≢◌, ℕ, ◌*◌, ◌<◌, ◌≤◌, ◌&&◌, Bool, true, false, List, [], Option}
+use Rattle.std.proofs.Common.{Some, None, Ok, Err, cond, refl, sym, ap, ◌∙◌, subst, inl, inr, arith}
+use Rattle.std.proofs.Common.{codes, get_or, get_or-set_other, length, length-set, set, replicate}
+use Rattle.std.proofs.Common.{zero-add}
 use Rattle.std.proofs.lemmas.Bool.{and_parts, cases_Bool, false≢true, leb-true, ltb-true}
 use Rattle.std.proofs.lemmas.Grind.{get_or-set_at}
 use Rattle.std.proofs.lemmas.List.{get_or-replicate, length-replicate}
 use Rattle.std.proofs.lemmas.List.Sums.{passes_at_first}
 use Rattle.std.proofs.lemmas.Map.Text.{is_eq-slice_cmp}
 use Rattle.std.proofs.lemmas.Option.{get_or_from_slice_get}
-use Rattle.std.specs.Cmp.Lexicographic.{nat_list_cmp_total, slice_cmp}
+use Rattle.std.specs.Cmp.Lexicographic.{slice_cmp}
 use Rattle.std.specs.List.{list_all, position_or_len}
 use Rattle.std.specs.Option.{ok_or}
-use Rattle.std.specs.Ordering.{is_eq, is_lt, nat_cmp}
+use Rattle.std.specs.Ordering.{is_eq, nat_cmp}
 use Rattle.std.specs.Prelude.{nat_le, nat_lt, pos, position, if◌then◌else◌}
 use Rattle.toml.specs.Data.{Data, Items, Members, no_members, member, integer, table, as_table}
 use Rattle.toml.specs.Data.{get_member, is_before}
@@ -21,15 +21,13 @@ use Rattle.toml.specs.Parse.{parse_document}
 use Rattle.fare_table.proofs.ElementLemmas.{if_ok}
 use Rattle.fare_table.proofs.OrderLemmas.{nested-ordered}
 use Rattle.fare_table.proofs.PartLemmas.{bind_ok, parts}
-use Rattle.fare_table.proofs.PayLemmas.{AreClassParts, Named, class_if, class_parts, classes_read}
-use Rattle.fare_table.proofs.PayLemmas.{has_terms, is_itself, member-here, member-later}
-use Rattle.fare_table.proofs.PayLemmas.{place_found, placed, riders_read, same_bytes, same_ok}
+use Rattle.fare_table.proofs.PayLemmas.{AreClassParts, class_if, class_parts, classes_read}
+use Rattle.fare_table.proofs.PayLemmas.{has_terms, place_found, placed, riders_read, same_ok}
 use Rattle.fare_table.proofs.ReadLemmas.{is_number, is_table}
 use Rattle.fare_table.specs.ByteOrder.{in_byte_order}
 use Rattle.fare_table.specs.Classes.{class_of as class_by, fares_from, fares_of, place_of}
 use Rattle.fare_table.specs.Classes.{ride_transfers_of}
-use Rattle.fare_table.specs.Fares.{Fares, class_at, class_of, no_class, ride_terms}
-use Rattle.fare_table.specs.Fares.{transfer_terms}
+use Rattle.fare_table.specs.Fares.{Fares, class_at, class_of, no_class, ride_terms, transfer_terms}
 use Rattle.fare_table.specs.Members.{array_at, hold_numbers, number_in, number_or, of_kind}
 use Rattle.fare_table.specs.Modes.{are_distinct, are_mode_names, is_mode_name, mode_named, modes_of}
 use Rattle.fare_table.specs.Modes.{same_name, strings_from}
@@ -42,6 +40,10 @@ use Rattle.fare_table.specs.declared.fault.Key.{Key}
 use Rattle.fare_table.specs.declared.fault.Key.TheVariants as the_key
 use Rattle.fare_table.specs.declared.fault.TableFault.TheVariants.{Kind, Mode, Range}
 use Rattle.fare_table.specs.declared.transfer_terms.TransferTerms.{TransferTerms}
+use Rattle.fare_table.proofs.NameLemmas.{before_rest}
+use Rattle.fare_table.proofs.RiderLemmas.{Named}
+use Rattle.fare_table.proofs.KeyLemmas.{is_itself, member-here, member-later, same_bytes}
+use Rattle.tap_views.proofs.Orderings.{less_of}
 
 -- ---- names of modes
 same_by : (name key other : List ℕ) → same_name name other ≡ true → same_name key other ≡ true
@@ -79,17 +81,6 @@ one_name names name key place one two =
     (is_at (same_name key) names place two).passes
 
 -- ---- keys in byte order
-less_of : (r : Ordering) → is_lt r ≡ true → r ≡ Less
-less_of Less is = refl
-less_of Equal is = absurd (false≢true is)
-less_of Greater is = absurd (false≢true is)
-
-before_rest : (key first : List ℕ) (rest : Members) → slice_cmp nat_cmp key first ≡ Less
-    → is_before first rest ≡ true → is_before key rest ≡ true
-before_rest key first no_members less before = refl
-before_rest key first (member next value rest) less before =
-    ap is_lt ((nat_list_cmp_total).trans key first next less
-    (less_of (slice_cmp nat_cmp first next) before))
 
 -- a key does not come again behind itself
 not_later : (key : List ℕ) (more : Members) → is_before key more ≡ true → in_byte_order more ≡ true
@@ -125,7 +116,8 @@ fare_named modes name mode fares list no_members own at below order is has =
 fare_named modes name mode fares list (member key value more) own at below order is has =
     let parts = and_parts (is_before key more) (in_byte_order more) order in
     let place = bind_ok (mode_named modes key) (by_place modes fares value more) list is in
-    let cents = bind_ok (number_in the_key.Fares 0 100_000 value) (by_cents modes fares more place.0)
+    let cents = bind_ok (number_in the_key.Fares 0 100_000 value)
+    (by_cents modes fares more place.0)
     list place.2 in
     let found = mode_found (position (same_name key) modes) place.0 place.1 in
     let next = set fares place.0 cents.0 in

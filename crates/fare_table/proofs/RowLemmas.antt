@@ -17,16 +17,18 @@ use Rattle.toml.specs.Data.{Data, Items, no_items, item, Members, no_members, me
 use Rattle.toml.specs.Data.{integer, array, table, get_member, get_item, as_str, as_array}
 use Rattle.toml.specs.Parse.{parse_document}
 use Rattle.fare_table.proofs.ElementLemmas.{Reads, by_mode, by_tables, reads}
-use Rattle.fare_table.proofs.FaultLemmas.{Stand, classes-told, classes_tables, default-told, done, fails, fault_in, list-told}
+use Rattle.fare_table.proofs.FaultLemmas.{Stand, classes-told, classes_tables, default-told, done}
+use Rattle.fare_table.proofs.FaultLemmas.{fails, fault_in, list-told}
 use Rattle.fare_table.proofs.FaultLemmas.{modes-known, modes-told, named-told, needs, number_tells}
 use Rattle.fare_table.proofs.FaultLemmas.{stand_all, stand_here, stand_next, steps, told}
 use Rattle.fare_table.proofs.FaultLemmas.{told_needed, told_two, transfers-told}
-use Rattle.fare_table.proofs.OverlapLemmas.{stands-insert, comes_after, comes_before, ends_after}
+use Rattle.fare_table.proofs.OverlapLemmas.{stands-insert, comes_after, comes_before}
 use Rattle.fare_table.proofs.OverlapLemmas.{free_apart, rest_stands}
-use Rattle.fare_table.proofs.PayLemmas.{Named, by_class, classes_read, named_with}
+use Rattle.fare_table.proofs.PayLemmas.{classes_read}
 use Rattle.fare_table.proofs.ReadLemmas.{number-read}
 use Rattle.fare_table.specs.Classes.{class_named, classes_from, classes_of, default_of}
-use Rattle.fare_table.specs.Faults.{FaultRow, Where, class_rows, classes_step, default_step, riders_step, transfers_step}
+use Rattle.fare_table.specs.Faults.{FaultRow, Where, class_rows, classes_step, default_step}
+use Rattle.fare_table.specs.Faults.{riders_step, transfers_step}
 use Rattle.fare_table.specs.Faults.{validators_step, zone_step, top, range, rider, a_row, amount_of}
 use Rattle.fare_table.specs.Faults.{classes_in, elements_in, first_at, first_fault, first_row}
 use Rattle.fare_table.specs.Faults.{is_again, is_earlier, is_from, is_kind, is_mode, is_no_zone}
@@ -37,8 +39,7 @@ use Rattle.fare_table.specs.Faults.{token_at, value_at, string_of}
 use Rattle.fare_table.specs.Members.{are_tables, hold_strings, number_at, of_kind}
 use Rattle.fare_table.specs.Modes.{mode_named, modes_of, same_name}
 use Rattle.fare_table.specs.OrFault.{OrFault, ◌>>=◌}
-use Rattle.fare_table.specs.Riders.{is_rider, rider_of, riders_from, riders_of, token_of_digits}
-use Rattle.fare_table.specs.Riders.{with_rider}
+use Rattle.fare_table.specs.Riders.{is_rider, riders_from, riders_of, with_rider}
 use Rattle.fare_table.specs.Riders as riders
 use Rattle.fare_table.specs.TableMeaning.{TableMeaning, meaning_in, meaning_of_tree}
 use Rattle.fare_table.specs.Transfers.{transfers_of}
@@ -48,9 +49,12 @@ use Rattle.fare_table.specs.Zone.{zone_in, zone_of}
 use Rattle.fare_table.specs.declared.fault.Key.TheVariants as the_key
 use Rattle.fare_table.specs.declared.fault.TableFault.{TableFault}
 use Rattle.fare_table.specs.declared.fault.TableFault.TheVariants as the_fault
-use Rattle.fare_table.specs.declared.fault.TableFault.TheVariants.{Missing, Kind, Range, Mode}
+use Rattle.fare_table.specs.declared.fault.TableFault.TheVariants.{Missing, Kind, Mode}
 use Rattle.fare_table.specs.declared.fault.TableFault.TheVariants.{Overlap, Rider}
 use Rattle.fare_table.specs.declared.validators.RangeRest.{RangeRest}
+use Rattle.fare_table.proofs.ApartLemmas.{begins_first}
+use Rattle.fare_table.proofs.RiderLemmas.{Named, by_class, named_with}
+use Rattle.tap_views.proofs.Choices.{or_swap}
 
 -- ---- one element of `validators`
 told_three : (tree : Members) (at : Where) (one two three : TableFault)
@@ -115,10 +119,6 @@ range-told tree modes n known =
     ∙ sym (told_three tree at (Missing the_key.ModeName) (Kind the_key.ModeName) Mode)))
 
 -- ---- the elements, each with those before it
-swap_or : (a b c : Bool) → (a || (b || c)) ≡ (b || (a || c))
-swap_or true true c = refl
-swap_or true false c = refl
-swap_or false b c = refl
 
 with_one : ℕ × RangeRest → List (ℕ × RangeRest) → List (ℕ × RangeRest)
 with_one one ranges = insert_entry nat_cmp ranges one.0 one.1
@@ -131,18 +131,19 @@ unfolding with_one
 any_step test one other more order further free ih = elim (free_apart one other free) [
   | inl a ↦ rw (comes_before one other order a) refl
   | inr a ↦ rw (comes_after one other further a, ih)
-      (swap_or (test other) (test one) (list_any test more))
+      (or_swap (test other) (test one) (list_any test more))
 ]
 
 -- a test of ranges holds of one more range or of the others
-any_with : (test : ℕ × RangeRest → Bool) (one : ℕ × RangeRest) (ranges : List (ℕ × RangeRest)) → one.0 ≤ one.1.last
+any_with : (test : ℕ × RangeRest → Bool) (one : ℕ × RangeRest) (ranges : List (ℕ × RangeRest))
+    → one.0 ≤ one.1.last
     → stand_apart ranges ≡ true → list_any (share_number one) ranges ≡ false
     → list_any test (with_one one ranges) ≡ (test one || list_any test ranges)
 unfolding with_one
 any_with test one [] order stands free = refl
 any_with test one (other ∷ more) order stands free =
     let apart = or_parts (share_number one other) (list_any (share_number one) more) free in
-    any_step test one other more order (ends_after other more stands) apart.0
+    any_step test one other more order (begins_first other more stands) apart.0
     (any_with test one more order (rest_stands other more stands) apart.1)
 
 -- the range shares a number with the element at a place
@@ -159,7 +160,8 @@ abbrev StandItems : Items → ℕ → Items → Type 0
 StandItems whole n part = (k j : ℕ) → j ≡ n + k → get_item j whole ≡ get_item k part
 
 overlap_if : (b : Bool) (next : List (ℕ × RangeRest)) (f : List (ℕ × RangeRest)
-    → OrFault (List (ℕ × RangeRest))) (rest : Option TableFault) → (b ≡ false → fault_in (f next) ≡ rest)
+    → OrFault (List (ℕ × RangeRest))) (rest : Option TableFault)
+    → (b ≡ false → fault_in (f next) ≡ rest)
     → fault_in ((if b then Err Overlap else Ok next) >>= f) ≡ cond b (Some Overlap) rest
 overlap_if true next f rest same = refl
 overlap_if false next f rest same = same refl
@@ -267,7 +269,8 @@ entries-told tree modes known =
     let o = get_member (codes "validators") tree in
     entries_steps o modes (first_row tree (range_rows 0 (elements_in tree))) (λ ds is tables.
     let same : elements_in tree ≡ ds = ap items_of is in
-    ranges-told tree modes 0 [] ds known (stand_items (elements_in tree) ds same) tables refl (λ one.
+    ranges-told tree modes 0 [] ds known (stand_items (elements_in tree) ds same) tables refl
+    (λ one.
     refl) ∙ ap (λ (d : Items). first_row tree (range_rows 0 d)) (sym same))
     ∙ sym (told tree top (Missing the_key.Validators) (a_row top (Kind the_key.Validators)
     ∷ range_rows 0 (elements_in tree))
@@ -330,7 +333,8 @@ rider_if : (o : Option (List ℕ)) (classes : Members) (name : List ℕ) (earlie
     → ((token : List ℕ) → o ≡ Some token → is_rider earlier token ≡ again token)
     → fault_in ((ok_or o Rider >>= (λ token. class_named classes name >>= by_class token))
     >>= (λ rider. with_rider earlier rider.0 rider.1 >>= f))
-    ≡ cond (is_none o || (is_none (get_member name classes) || holds_of_some again o)) (Some Rider) rest
+    ≡ cond (is_none o || (is_none (get_member name classes) || holds_of_some again o)) (Some Rider)
+    rest
 rider_if None classes name earlier again f rest later are = refl
 rider_if (Some token) classes name earlier again f rest later are =
     assoc (class_named classes name) token (λ rider. with_rider earlier rider.0 rider.1 >>= f)
@@ -444,7 +448,8 @@ regroup : (tree : Members) (rest : List FaultRow) {o : Option TableFault}
     → o ≡ first_row tree (classes_step tree ++ rest)
 regroup tree rest is =
     is ∙ ap (λ (rows : List FaultRow). first_row tree rows)
-    (sym (append_assoc (needed_rows top the_key.Classes) (class_rows tree 0 (classes_in tree)) rest))
+    (sym (append_assoc (needed_rows top the_key.Classes) (class_rows tree 0 (classes_in tree))
+    rest))
 
 meaning-told : (tree : Members) → fault_in (meaning_of_tree tree) ≡ first_row tree (rows tree)
 unfolding meaning_of_tree

@@ -11,11 +11,12 @@ use Rattle.std.specs.Ordering.{match_ordering, nat_cmp, ordering_reverse}
 use Rattle.toml.specs.Data.{Data, Items, no_items, item, Members, no_members, member, get_member}
 use Rattle.fare_table.proofs.ElementLemmas.{ranges_read, step}
 use Rattle.fare_table.proofs.PartLemmas.{bind_ok, parts}
-use Rattle.fare_table.proofs.PayLemmas.{AreRiders, adds_rider, after_rider, riders_read}
+use Rattle.fare_table.proofs.PayLemmas.{AreRiders, riders_read}
 use Rattle.fare_table.specs.Riders.{rider_of, riders_from, with_rider}
 use Rattle.fare_table.specs.TableMeaning.{TableMeaning, meaning_of_tree}
 use Rattle.fare_table.specs.Validators.{stand_apart, ranges_from}
 use Rattle.fare_table.specs.declared.validators.RangeRest.{RangeRest}
+use Rattle.fare_table.proofs.RiderLemmas.{adds_rider, after_rider}
 
 abbrev Riders : Type 0
 Riders = List (List ℕ × ℕ)
@@ -101,7 +102,8 @@ riders-rise tree meaning is =
     rise_all p.table (get_member (codes "riders") tree) meaning.riders
     (riders_read p.table tree meaning.riders p.riders)
 
-stands_from : (modes : List (List ℕ)) (earlier : List (ℕ × RangeRest)) (part : Items) (ranges : List (ℕ
+stands_from : (modes : List (List ℕ)) (earlier : List (ℕ × RangeRest)) (part : Items)
+    (ranges : List (ℕ
     × RangeRest)) → ranges_from modes earlier part ≡ Ok ranges → stand_apart earlier ≡ true
     → stand_apart ranges ≡ true
 stands_from modes earlier no_items ranges is stands = let same : earlier ≡ ranges = cc in

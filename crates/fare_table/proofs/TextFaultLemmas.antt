@@ -9,11 +9,12 @@ use Rattle.jiff.specs.Words.{read_whole}
 use Rattle.toml.specs.Data.{Data, Items, no_items, item, Members, no_members, member, get_member}
 use Rattle.toml.specs.Data.{as_str, as_integer, as_array, as_table}
 use Rattle.fare_table.specs.Classes.{ceiling_of, class_in, class_named, class_of, classes_from}
-use Rattle.fare_table.specs.Classes.{classes_of, default_of, fares_from, fares_of, is_empty, place_of}
-use Rattle.fare_table.specs.Classes.{ride_transfers_of, terms_of}
+use Rattle.fare_table.specs.Classes.{classes_of, default_of, fares_from, fares_of, is_empty}
+use Rattle.fare_table.specs.Classes.{place_of, ride_transfers_of, terms_of}
 use Rattle.fare_table.specs.declared.class.Class.{Class}
-use Rattle.fare_table.specs.Members.{are_tables, array_at, hold_numbers, hold_strings, hold_tables, needed}
-use Rattle.fare_table.specs.Members.{number_at, number_in, number_or, of_kind, table_at, text_at, within}
+use Rattle.fare_table.specs.Members.{are_tables, array_at, hold_numbers, hold_strings, hold_tables}
+use Rattle.fare_table.specs.Members.{needed, number_at, number_in, number_or, of_kind, table_at}
+use Rattle.fare_table.specs.Members.{text_at, within}
 use Rattle.fare_table.specs.Modes.{are_mode_names, mode_named, modes_of, strings_from}
 use Rattle.fare_table.specs.OrFault.{OrFault, ◌>>=◌}
 use Rattle.fare_table.specs.Riders.{rider_of, riders_from, riders_at, riders_of, token_of_digits}
@@ -195,7 +196,8 @@ class_of-text modes element =
 
 class_in-text : (modes : List (List ℕ)) (value : Data) → NotText (class_in modes value)
 class_in-text modes value =
-    steps (of_kind the_key.Classes (as_table value)) _ (of_kind-text the_key.Classes (as_table value))
+    steps (of_kind the_key.Classes (as_table value)) _
+    (of_kind-text the_key.Classes (as_table value))
     (class_of-text modes)
 
 classes_from-text : (modes : List (List ℕ)) (earlier : List Class) (classes : Members)

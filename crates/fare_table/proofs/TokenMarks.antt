@@ -25,7 +25,8 @@ marked-kept marks i j inside marked =
 pub marked-more : (marks : List Bool) (i : ℕ) (token : Token) → i < length marks
     → is_marked marks token ≡ true → is_marked (slice_set marks i true) token ≡ true
 marked-more marks i token inside marked =
-    rw (length-set marks i true) (marked-kept marks i (mark_place token (length marks)) inside marked)
+    rw (length-set marks i true)
+    (marked-kept marks i (mark_place token (length marks)) inside marked)
 
 -- the token whose place it is has the new mark
 pub marked-new : (marks : List Bool) (i : ℕ) (token : Token) → i ≡ mark_place token (length marks)
@@ -47,7 +48,8 @@ lookup-unmarked marks token (element ∷ entries) all free =
     All-head (λ key. is_marked marks key ≡ true) _ _ all in
     let rest = lookup-unmarked marks token entries
     (All-tail (λ key. is_marked marks key ≡ true) _ _ all) free in
-    other (is_eq (token_cmp token element.0)) (λ same. let low = same_low token element.0 same in cc)
+    other (is_eq (token_cmp token element.0))
+    (λ same. let low = same_low token element.0 same in cc)
     rest
   where
     other : (same : Bool) → (same ≡ true → false ≡ true)

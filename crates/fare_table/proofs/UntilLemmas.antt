@@ -15,9 +15,9 @@ use Rattle.jiff_tz.specs.PosixRule as rule
 use Rattle.jiff_tz.specs.Year.{year_of_day}
 use Rattle.jiff_tz.specs.declared.posix.Dst.{Dst}
 use Rattle.jiff_tz.specs.declared.posix.TimeZone.{TimeZone as PosixRule}
-use Rattle.fare_table.specs.Until.{IsCivilWindowEnd, IsWindowEnd, civil_window_end, day_at, window_end_in}
-use Rattle.fare_table.specs.Until.{midnight_instant, midnight_nanos, midnight_offset, moment_nanos}
-use Rattle.fare_table.specs.Until.{offsets_by, until}
+use Rattle.fare_table.specs.Until.{IsCivilWindowEnd, IsWindowEnd, civil_window_end, day_at}
+use Rattle.fare_table.specs.Until.{window_end_in, midnight_instant, midnight_nanos, midnight_offset}
+use Rattle.fare_table.specs.Until.{moment_nanos, offsets_by, until}
 use Rattle.fare_table.specs.Fares.{Fares}
 
 offsets-date : (std : Offset) (dst : Option Dst) (dt : DateTime)
@@ -54,7 +54,8 @@ whole_millis : (window_end : ℕ) (instant : ℤ) → pos (window_end * 1_000_00
 whole_millis window_end instant same = omega (arith, signed_arith)
 
 -- the civil window end is the one that the function gives
-pub civil_window_end-is : (zone : PosixRule) (start window_end : ℕ) → IsCivilWindowEnd (Posix zone) start window_end
+pub civil_window_end-is : (zone : PosixRule) (start window_end : ℕ)
+    → IsCivilWindowEnd (Posix zone) start window_end
     → window_end ≡ civil_window_end zone start
 unfolding civil_window_end
 civil_window_end-is zone start window_end is =
@@ -159,7 +160,8 @@ whole_window_end start shown offset instant dt midnight below at shows date time
     }
 
 -- so it is an instant, and its milliseconds are that number
-pub is_instant : (start : ℕ) (instant : ℤ) → IsWholeWindowEnd start instant → IsTimestampNanos instant
+pub is_instant : (start : ℕ) (instant : ℤ) → IsWholeWindowEnd start instant
+    → IsTimestampNanos instant
 is_instant start instant window_end =
     rw window_end.whole (
       omega (arith, signed_arith, window_end.small),
@@ -179,8 +181,10 @@ pub picked_window_end : (zone : TimeZone) (start : ℕ) (shown : Offset) (instan
     → epoch_day later ≡ epoch_day date +ℤ pos 7 → (midnight.date ≡ later)
     × (time_nanos midnight.time ≡ 0)
     → IsWholeWindowEnd start (picked_instant zone midnight)
-picked_window_end zone start shown instant dt midnight date later below at shows is seven is_midnight =
-    whole_window_end start shown (compatible_offset (ambiguous_at zone midnight)) instant dt midnight
+picked_window_end zone start shown instant dt midnight date later below at shows is seven
+    is_midnight =
+    whole_window_end start shown (compatible_offset (ambiguous_at zone midnight)) instant dt
+    midnight
     below at shows
     (ap epoch_day is_midnight.0 ∙ seven ∙ ap (λ d. epoch_day d +ℤ pos 7) is) is_midnight.1
 

@@ -84,11 +84,6 @@ abbrev pub count_of : Members → ℕ
 count_of no_members = 0
 count_of (member name value more) = suc (count_of more)
 
--- their names by their places
-abbrev pub names_in : Members → List (List ℕ)
-names_in no_members = []
-names_in (member name value more) = name ∷ names_in more
-
 -- there is no class
 abbrev pub is_empty : Members → Bool
 is_empty no_members = true

@@ -1,13 +1,11 @@
 -- The lines of entries in order of token are the lines of each token.
 use Rattle.std.proofs.Common.{◌≡◌, ℕ, ◌+◌, Bool, true, false, ◌||◌, List, [], ◌∷◌, ◌++◌, length}
 use Rattle.std.proofs.Common.{map, refl, sym, ap, subst, ◌∙◌, append_assoc, ⊎_elim}
-use Rattle.std.specs.List.{AllByRecursion}
 use Rattle.std.specs.List.Sorted.{IsStrictlySortedBy}
 use Rattle.std.specs.Ordering.{eq_by_cmp}
-use Rattle.std.specs.Set.{is_member}
-use Rattle.std.specs.declared.cmp.Ordering.TheVariants.{Less}
 use Rattle.std.proofs.lemmas.Bool.{cases_Bool}
 use Rattle.std.proofs.lemmas.List.Sorted.{IsPermutation-map, list_any-IsPermutation}
+use Rattle.std.proofs.Math.Bool.{or_self_left}
 use Rattle.fare_table.specs.Fares.{Fares}
 use Rattle.shard_book.specs.Entry.{own}
 use Rattle.shard_book.specs.SumsByKey.{token_of, tokens}
@@ -15,26 +13,20 @@ use Rattle.shard_book.specs.Rising.{IsRising, rising}
 use Rattle.tap_views.specs.Token.{token_cmp, token_eq}
 use Rattle.shard_book.specs.declared.entry.Entry.{Entry}
 use Rattle.tap_views.specs.declared.token.Token.{Token}
-use Rattle.tap_views.proofs.TokenLemmas.{same_token, token_eq-refl, token_eq-sym, token_cmp-total, token_cmp-ties}
-use Rattle.shard_book.proofs.RisingLemmas.{rising-only}
-use Rattle.fare_texts.specs.LedgerLines.{AreLedgerLinesAfter, AreLedgerLines, IsLedgerLine, reason_after}
+use Rattle.tap_views.proofs.TokenLemmas.{same_token, token_eq-refl, token_eq-sym, token_cmp-total}
+use Rattle.tap_views.proofs.TokenLemmas.{token_cmp-ties, among}
+use Rattle.shard_book.proofs.RisingLemmas.{rising-only, below_all}
+use Rattle.shard_book.proofs.OwnEntries.{own-append, own_none, own_other, own_same}
+use Rattle.fare_texts.specs.LedgerLines.{AreLedgerLinesAfter, AreLedgerLines, IsLedgerLine}
+use Rattle.fare_texts.specs.LedgerLines.{reason_after}
 use Rattle.fare_texts.specs.Ledger.{AreLinesOfEach}
-use Rattle.fare_texts.specs.Lines.{AreLinesAlong, AreUpTo, IsLineAfter, IsUpTo}
+use Rattle.fare_texts.specs.Lines.{AreLinesAlong, AreUpTo, IsLineAfter, IsUpTo, NoFall, NoFallFrom}
 use Rattle.fare_texts.specs.inside.ByToken.{IsByToken}
-use Rattle.fare_texts.specs.Lines.{NoFall, NoFallFrom}
-use Rattle.fare_texts.proofs.Rising.{none_above, none_below, own_both, own_here, own_none}
-use Rattle.fare_texts.proofs.Rising.{own_not, own_push, up_apart, up_itself, up_push, up_weaker}
-
--- whether a token is among those of a list
-abbrev among : List Token → Token → Bool
-among list key = is_member (eq_by_cmp token_cmp) list key
+use Rattle.fare_texts.proofs.Rising.{none_above, none_below}
+use Rattle.fare_texts.proofs.Rising.{own_push, up_apart, up_itself, up_push, up_weaker}
 
 abbrev ties : Token → Token → Bool
 ties key token = eq_by_cmp token_cmp key token
-
-or_twice : (a b : Bool) → (a || b) ≡ (a || (a || b))
-or_twice true b = refl
-or_twice false b = refl
 
 -- What the text of entries is that follow those before, while the lines of a token are told: first
 -- the other lines of that token, and then those of each later token.
@@ -50,14 +42,6 @@ record RestOfToken (fares : Fares) (whole : List Entry) (token : Token) (before 
   pub of_others : AreLinesOfEach fares whole others other_lines
   pub shown : text ≡ own_lines ++ other_lines
 
--- below the first of a rising list, below all of it
-below_all : (key first : Token) (keys : List Token) → token_cmp key first ≡ Less
-    → AllByRecursion (λ z. token_cmp first z ≡ Less) keys
-    → AllByRecursion (λ z. token_cmp key z ≡ Less) keys
-below_all key first [] less above = tt
-below_all key first (z ∷ keys) less above =
-    (token_cmp-total.trans key first z less above.0, below_all key first keys less above.1)
-
 module _ (fares : Fares) (whole before : List Entry) (entry : Entry) (rest : List Entry)
     (line more text : List ℕ)
     (is : whole ≡ before ++ entry ∷ rest) (told : IsLineAfter fares before entry line) (shown : text
@@ -72,20 +56,21 @@ module _ (fares : Fares) (whole before : List Entry) (entry : Entry) (rest : Lis
         own_lines = line ++ g.own_lines;
         of_own = subst (λ (es : List Entry).
             AreLedgerLinesAfter fares token (own token before) es (line ++ g.own_lines))
-            (sym (own_here token entry rest here)) (
+            (sym (own_same token entry rest here)) (
               line,
               g.own_lines,
               subst (λ (t : Token).
                   IsLedgerLine fares t (length (own t before) + 1) entry
                   (reason_after fares t (own t before) entry) line) same told,
-              subst (λ (es : List Entry). AreLedgerLinesAfter fares token es (own token rest) g.own_lines)
+              subst (λ (es : List Entry). AreLedgerLinesAfter fares token es (own token rest)
+                  g.own_lines)
                   (own_push token before entry here) g.of_own,
               refl,
             );
         others = g.others;
         rises = g.rises;
         members = λ key.
-            g.members key ∙ or_twice (ties key token) (among (map token_of rest) key)
+            g.members key ∙ sym (or_self_left (ties key token) (among (map token_of rest) key))
             ∙ ap (λ (t : Token). ties key token || (ties key t || among (map token_of rest) key))
             (sym same);
         other_lines = g.other_lines;
@@ -101,9 +86,9 @@ module _ (fares : Fares) (whole before : List Entry) (entry : Entry) (rest : Lis
   all_lines none g =
       let here = token_eq-refl entry.token in
       let all : own entry.token whole ≡ entry ∷ own entry.token rest =
-      ap (own entry.token) is ∙ own_both entry.token before (entry ∷ rest)
+      ap (own entry.token) is ∙ own-append entry.token before (entry ∷ rest)
       ∙ ap (λ (es : List Entry). es ++ own entry.token (entry ∷ rest)) none
-      ∙ own_here entry.token entry rest here in
+      ∙ own_same entry.token entry rest here in
       let pushed : own entry.token (before ++ entry ∷ []) ≡ entry ∷ [] =
       own_push entry.token before entry here ∙ ap (λ (es : List Entry). es ++ entry ∷ []) none in
       subst (λ (es : List Entry). AreLedgerLinesAfter fares entry.token [] es (line ++ g.own_lines))
@@ -114,7 +99,8 @@ module _ (fares : Fares) (whole before : List Entry) (entry : Entry) (rest : Lis
             IsLedgerLine fares entry.token (length es + 1) entry
             (reason_after fares entry.token es entry) line) none told,
         subst (λ (es : List Entry).
-            AreLedgerLinesAfter fares entry.token es (own entry.token rest) g.own_lines) pushed g.of_own,
+            AreLedgerLinesAfter fares entry.token es (own entry.token rest) g.own_lines) pushed
+            g.of_own,
         refl,
       )
 
@@ -141,11 +127,20 @@ module _ (fares : Fares) (whole before : List Entry) (entry : Entry) (rest : Lis
       let less = up_apart token entry.token to apart in
       record {
         own_lines = [];
-        of_own = subst (λ (es : List Entry). AreLedgerLinesAfter fares token (own token before) es [])
-            (sym (own_not token entry rest apart ∙ none_above token entry.token rest to apart no_fall))
+        of_own = subst
+            (λ (es : List Entry). AreLedgerLinesAfter fares token (own token before) es [])
+            (sym (own_other token entry rest apart
+            ∙ none_above token entry.token rest to apart no_fall))
             refl;
         others = entry.token ∷ g.others;
-        rises = ((less, below_all token entry.token g.others less g.rises.0), g.rises);
+        rises = (
+          (
+            less,
+            below_all token_cmp-total token_cmp-ties token entry.token g.others less
+                g.rises.0,
+          ),
+          g.rises,
+        );
         members = λ key. ap (λ (b : Bool). ties key token || b) (g.members key);
         other_lines = text;
         of_others = each_lines (none_below before token entry.token up to beyond) g;
@@ -169,8 +164,10 @@ no_more fares whole token before text none = record {
 rest_of_token : (fares : Fares) (whole : List Entry) (token : Token) (before rest : List Entry)
     (text : List ℕ) → whole ≡ before ++ rest → AreUpTo before token → NoFallFrom token rest
     → AreLinesAlong fares before rest text → RestOfToken fares whole token before rest text
-rest_of_token fares whole token before [] text is up no_fall none = no_more fares whole token before text none
-rest_of_token fares whole token before (entry ∷ rest) text is up no_fall (line, more, told, along, shown) =
+rest_of_token fares whole token before [] text is up no_fall none =
+    no_more fares whole token before text none
+rest_of_token fares whole token before (entry ∷ rest) text is up no_fall
+    (line, more, told, along, shown) =
     let longer : whole ≡ (before ++ entry ∷ []) ++ rest =
     is ∙ sym (append_assoc before (entry ∷ []) rest) in
     ⊎_elim
@@ -182,7 +179,8 @@ rest_of_token fares whole token before (entry ∷ rest) text is up no_fall (line
     (subst (λ (t : Token). IsUpTo t token) (sym same) (up_itself token)))
     (subst (λ (t : Token). NoFallFrom t rest) same no_fall.1) along))
     (λ (apart : token_eq entry.token token ≡ false).
-    next_case fares whole before entry rest line more text is told shown token up no_fall.0 no_fall.1
+    next_case fares whole before entry rest line more text is told shown token up no_fall.0
+    no_fall.1
     apart (token_eq-sym token entry.token ∙ apart)
     (rest_of_token fares whole entry.token (before ++ entry ∷ []) rest more longer
     (up_push before entry entry.token (up_weaker before token entry.token up no_fall.0)
@@ -218,7 +216,8 @@ each_same fares entries others (token ∷ order) text same (lines, rest, are, ea
   shown,
 )
 
-pub every_token : (fares : Fares) (entries list : List Entry) (text : List ℕ) → IsByToken entries list
+pub every_token : (fares : Fares) (entries list : List Entry) (text : List ℕ)
+    → IsByToken entries list
     → AreLinesAlong fares [] list text
     → AreLinesOfEach fares entries (tokens entries) text
 unfolding tokens

@@ -8,12 +8,11 @@ use Rattle.fare_table.specs.declared.mode.Mode.{Mode}
 use Rattle.account_rule.specs.Trips.{ends_in_transfer}
 use Rattle.account_rule.specs.Blocks.{last_block}
 use Rattle.account_rule.specs.Laws.{is_ride}
-use Rattle.account_rule.specs.Replies.{reply, reply_with, ride_reply}
+use Rattle.account_rule.specs.Replies.{reply, reply_with}
 use Rattle.account_rule.specs.TokenRules.{TokenRules}
-use Rattle.account_rule.specs.Taps.{LiveTap, is_later, live_at, live_tap}
+use Rattle.account_rule.specs.Taps.{LiveTap, is_later, live_at}
 use Rattle.account_rule.specs.Windows.{is_within, last_window, shown_window, windows}
-use Rattle.account_rule.specs.declared.reply.Answer.TheVariants.{Stale, Transfer}
-use Rattle.account_rule.specs.declared.reply.Answer.TheVariants.{Unknown}
+use Rattle.account_rule.specs.declared.reply.Answer.TheVariants.{Stale, Transfer, Unknown}
 use Rattle.account_rule.specs.declared.reply.Reply.{Reply}
 use Rattle.account_rule.specs.declared.tap.TapIn.{TapIn}
 use Rattle.account_rule.specs.declared.window.WindowView.{WindowView}
@@ -21,6 +20,7 @@ use Rattle.account_rule.proofs.BlockLemmas.{extend}
 use Rattle.account_rule.proofs.StepLemmas.{is_live, not_known, not_later, reply_live, reply_ride}
 use Rattle.account_rule.proofs.StepLemmas.{reply_stale, reply_transfer, reply_unknown}
 use Rattle.account_rule.proofs.TapLemmas.{windows-ride, windows-same, windows-transfer}
+use Rattle.account_rule.proofs.ShareLemmas.{is_ride-reply}
 use Rattle.fare_texts.specs.Explained.{but_last, earlier_windows}
 use Rattle.fare_texts.specs.inside.Windows.{window_ended}
 
@@ -72,7 +72,8 @@ ended-free None moment = refl
 ended-free (Some window) moment = refl
 
 -- a tap that is no ride ends no window
-free : (rules : TokenRules) (taps : List TapIn) (tap : TapIn) → is_ride (reply rules taps tap) ≡ false
+free : (rules : TokenRules) (taps : List TapIn) (tap : TapIn)
+    → is_ride (reply rules taps tap) ≡ false
     → windows rules (taps ++ tap ∷ []) ≡ windows rules taps
     → earlier_windows rules (taps ++ tap ∷ [])
     ≡ earlier_windows rules taps
@@ -81,11 +82,6 @@ unfolding earlier_windows
 free rules taps tap none same =
     rw (none, same, ended-free (last_window rules taps) tap.moment)
     (sym (append-nil (shown_in rules (but_last (windows rules taps)))))
-
-rides : (paid : Option ℕ) → is_ride (ride_reply paid) ≡ true
-unfolding ride_reply reply_with
-rides None = refl
-rides (Some cents) = refl
 
 free_unknown : is_ride (reply_with Unknown 0) ≡ false
 unfolding reply_with
@@ -125,7 +121,7 @@ known rules taps tap mode is = ⊎_elim
     (windows-transfer rules taps tap _ shown ends))
     (λ (ends : ends_in_transfer rules (taps ++ tap ∷ []) ≡ false).
     ride rules taps tap mode (ap is_ride (answered ∙ reply_ride rules (taps ++ tap ∷ []) ends)
-    ∙ rides _)
+    ∙ is_ride-reply _)
     (windows-ride rules taps tap _ shown ends))
     (cases_Bool (ends_in_transfer rules (taps ++ tap ∷ []))))
     (λ (stale : is_later taps tap.moment ≡ false).
@@ -168,8 +164,10 @@ next_earlier rules taps tap before after window ride answered longer kept last r
     done =
     done
     ∙ ap (λ (ws : List WindowView). ws ++ window_ended window ride tap.moment) kept
-    ∙ ap (λ (w : Option WindowView). earlier_windows rules taps ++ window_ended w ride tap.moment) last
-    ∙ ap (λ (b : Bool). earlier_windows rules taps ++ window_ended (last_window rules taps) b tap.moment)
+    ∙ ap (λ (w : Option WindowView). earlier_windows rules taps ++ window_ended w ride tap.moment)
+    last
+    ∙ ap (λ (b : Bool). earlier_windows rules taps ++ window_ended (last_window rules taps) b
+    tap.moment)
     (rode ∙ ap is_ride replied)
     ∙ sym (earlier-push rules taps tap)
     ∙ ap (λ (ts : List TapIn). earlier_windows rules ts) more

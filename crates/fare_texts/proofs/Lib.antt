@@ -13,3 +13,4 @@ pub mod Sorting
 pub mod StatementLines
 pub mod Whole
 pub mod PieceWriting
+pub mod Years

@@ -1,5 +1,7 @@
 -- One line after another: what the teller has come to, and what was written.
-use Rattle.std.proofs.Common.{◌≡◌, ℕ, ◌+◌, ◌<◌, true, false, List, [], ◌∷◌, ◌++◌, Option, Some, None, length, take, drop, get_or, refl, sym, ap, subst, ◌∙◌, append_assoc, append-nil, add-one, drop-cons, arith}
+use Rattle.std.proofs.Common.{◌≡◌, ℕ, ◌+◌, ◌<◌, true, false, List, [], ◌∷◌, ◌++◌, Option, Some}
+use Rattle.std.proofs.Common.{None, length, take, drop, get_or, refl, sym, ap, subst, ◌∙◌}
+use Rattle.std.proofs.Common.{append_assoc, append-nil, add-one, drop-cons, arith}
 use Rattle.std.specs.Prelude.{slice_get}
 use Rattle.std.specs.Io.KnownBytes.{Appends, Keeps, append_known}
 use Rattle.std.proofs.lemmas.List.{get_or-map, length-map}
@@ -11,7 +13,8 @@ use Rattle.shard_book.specs.declared.entry.Entry.{Entry}
 use Rattle.tap_views.specs.declared.token.Token.{Token}
 use Rattle.tap_views.proofs.TokenLemmas.{token_eq-refl}
 use Rattle.fare_texts.specs.Tellers.{HasTold}
-use Rattle.fare_texts.specs.Lines.{AreLinesAlong, AreUpTo, HasCome, IsLineAfter, IsUpTo, NoFall, NoFallFrom}
+use Rattle.fare_texts.specs.Lines.{AreLinesAlong, AreUpTo, HasCome, IsLineAfter, IsUpTo, NoFall}
+use Rattle.fare_texts.specs.Lines.{NoFallFrom}
 use Rattle.fare_texts.specs.inside.Spots.{entry_at_spot, entries_at_spots}
 use Rattle.fare_texts.specs.declared.spot.Spot.{Spot}
 use Rattle.shard_book.specs.Book.{Book}
@@ -19,7 +22,8 @@ use Rattle.fare_texts.specs.declared.teller.Teller.{Teller}
 use Rattle.fare_texts.proofs.Rising.{none_below, own_push, up_itself, up_push, up_weaker}
 
 -- ---- the teller
-pub come_first : (fares : Fares) (teller : Teller) → HasTold fares teller [] → HasCome fares teller []
+pub come_first : (fares : Fares) (teller : Teller) → HasTold fares teller []
+    → HasCome fares teller []
 unfolding own
 come_first fares teller told = record { told = told; up = tt }
 
@@ -27,23 +31,30 @@ pub come_on : (fares : Fares) (old new : Teller) (earlier : List Entry) → HasC
     → IsUpTo old.token new.token → token_eq old.token new.token ≡ false → HasTold fares new []
     → HasCome fares new earlier
 come_on fares old new earlier come to apart fresh =
-    let none : [] ≡ own new.token earlier = sym (none_below earlier old.token new.token come.up to apart) in
+    let none : [] ≡ own new.token earlier =
+    sym (none_below earlier old.token new.token come.up to apart) in
     record {
       told = subst (λ (es : List Entry). HasTold fares new es) none fresh;
       up = up_weaker earlier old.token new.token come.up to;
     }
 
-pub come_next : (fares : Fares) (old new : Teller) (earlier : List Entry) (entry : Entry) → old.token ≡ entry.token
-    → new.token ≡ old.token → HasCome fares old earlier → HasTold fares new (own old.token earlier ++ entry ∷ [])
+-- the teller has come one entry further in its token's entries
+pub come_next : (fares : Fares) (old new : Teller) (earlier : List Entry) (entry : Entry)
+    → old.token ≡ entry.token
+    → new.token ≡ old.token → HasCome fares old earlier
+    → HasTold fares new (own old.token earlier ++ entry ∷ [])
     → HasCome fares new (earlier ++ entry ∷ [])
 come_next fares old new earlier entry same token come told =
-    let here : token_eq entry.token old.token ≡ true = ap (λ (t : Token). token_eq t old.token) (sym same) ∙ token_eq-refl old.token in
+    let here : token_eq entry.token old.token ≡ true =
+    ap (λ (t : Token). token_eq t old.token) (sym same) ∙ token_eq-refl old.token in
     let all = earlier ++ entry ∷ [] in
     record {
       told = subst (λ (t : Token). HasTold fares new (own t all)) (sym token)
-          (subst (λ (es : List Entry). HasTold fares new es) (sym (own_push old.token earlier entry here)) told);
+          (subst (λ (es : List Entry). HasTold fares new es)
+          (sym (own_push old.token earlier entry here)) told);
       up = subst (λ (t : Token). AreUpTo all t) (sym token)
-          (up_push earlier entry old.token come.up (subst (λ (t : Token). IsUpTo t old.token) same (up_itself old.token)));
+          (up_push earlier entry old.token come.up
+          (subst (λ (t : Token). IsUpTo t old.token) same (up_itself old.token)));
     }
 
 -- ---- the lines
@@ -64,8 +75,10 @@ along_append fares earlier (x ∷ xs) ys text more (line, rest, is, front, shown
   ap (λ (t : List ℕ). t ++ more) shown ∙ append_assoc line rest more,
 )
 
-pub along_push : (fares : Fares) (earlier entries : List Entry) (entry : Entry) (text line : List ℕ) → AreLinesAlong fares earlier entries text
-    → IsLineAfter fares (earlier ++ entries) entry line → AreLinesAlong fares earlier (entries ++ entry ∷ []) (text ++ line)
+pub along_push : (fares : Fares) (earlier entries : List Entry) (entry : Entry) (text line : List ℕ)
+    → AreLinesAlong fares earlier entries text
+    → IsLineAfter fares (earlier ++ entries) entry line
+    → AreLinesAlong fares earlier (entries ++ entry ∷ []) (text ++ line)
 along_push fares earlier [] entry text line empty is = (
   line,
   [],
@@ -78,52 +91,80 @@ along_push fares earlier (first ∷ entries) entry text line (start, rest, told,
   rest ++ line,
   told,
   along_push fares (earlier ++ first ∷ []) entries entry rest line along
-      (subst (λ (es : List Entry). IsLineAfter fares es entry line) (sym (append_assoc earlier (first ∷ []) entries)) is),
+      (subst (λ (es : List Entry). IsLineAfter fares es entry line)
+      (sym (append_assoc earlier (first ∷ []) entries)) is),
   ap (λ t. t ++ line) whole ∙ append_assoc start rest line,
 )
 
 -- what stands before, at and from a place of what stands at spots
-pub seen_taken : (books : List Book) (list : List Spot) (place : ℕ) (other : Spot) → place < length list
-    → take (place + 1) (entries_at_spots books list) ≡ take place (entries_at_spots books list) ++ entry_at_spot books (get_or list place other) ∷ []
+pub seen_taken : (books : List Book) (list : List Spot) (place : ℕ) (other : Spot)
+    → place < length list
+    → take (place + 1) (entries_at_spots books list)
+    ≡ take place (entries_at_spots books list) ++ entry_at_spot books (get_or list place other) ∷ []
 seen_taken books list place other within =
-    let inside : place < length (entries_at_spots books list) = omega (arith, length-map list (entry_at_spot books), within) in
+    let inside : place < length (entries_at_spots books list) =
+    omega (arith, length-map list (entry_at_spot books), within) in
     (rw (add-one) (take-suc (entries_at_spots books list) place (entry_at_spot books other) inside))
-    ∙ ap (λ (entry : Entry). take place (entries_at_spots books list) ++ entry ∷ []) (get_or-map (entry_at_spot books) list place other (entry_at_spot books other) within)
+    ∙ ap (λ (entry : Entry). take place (entries_at_spots books list) ++ entry ∷ [])
+    (get_or-map (entry_at_spot books) list place other (entry_at_spot books other) within)
 
 seen_left : (books : List Book) (list : List Spot) (place : ℕ) (other : Spot) → place < length list
-    → drop place (entries_at_spots books list) ≡ entry_at_spot books (get_or list place other) ∷ drop (place + 1) (entries_at_spots books list)
+    → drop place (entries_at_spots books list)
+    ≡ entry_at_spot books (get_or list place other) ∷ drop (place + 1) (entries_at_spots books list)
 seen_left books list place other within =
-    let inside : place < length (entries_at_spots books list) = omega (arith, length-map list (entry_at_spot books), within) in
-    (rw (add-one) (drop-cons (entries_at_spots books list) place (entry_at_spot books other) inside))
-    ∙ ap (λ (entry : Entry). entry ∷ drop (place + 1) (entries_at_spots books list)) (get_or-map (entry_at_spot books) list place other (entry_at_spot books other) within)
+    let inside : place < length (entries_at_spots books list) =
+    omega (arith, length-map list (entry_at_spot books), within) in
+    (rw (add-one)
+    (drop-cons (entries_at_spots books list) place (entry_at_spot books other) inside))
+    ∙ ap (λ (entry : Entry). entry ∷ drop (place + 1) (entries_at_spots books list))
+    (get_or-map (entry_at_spot books) list place other (entry_at_spot books other) within)
 
-pub rise_here : (books : List Book) (list : List Spot) (place : ℕ) (other : Spot) (token : Token) → place < length list → NoFallFrom token (drop place (entries_at_spots books list))
+pub rise_here : (books : List Book) (list : List Spot) (place : ℕ) (other : Spot) (token : Token)
+    → place < length list → NoFallFrom token (drop place (entries_at_spots books list))
     → IsUpTo token (entry_at_spot books (get_or list place other)).token
 rise_here books list place other token within no_fall =
-    let both : NoFallFrom token (entry_at_spot books (get_or list place other) ∷ drop (place + 1) (entries_at_spots books list)) = subst (λ (es : List Entry). NoFallFrom token es) (seen_left books list place other within) no_fall in
+    let both : NoFallFrom token
+    (entry_at_spot books (get_or list place other) ∷ drop (place + 1)
+    (entries_at_spots books list)) =
+    subst (λ (es : List Entry). NoFallFrom token es) (seen_left books list place other within)
+    no_fall in
     both.0
 
-pub rise_on : (books : List Book) (list : List Spot) (place : ℕ) (other : Spot) (token : Token) → place < length list → NoFallFrom token (drop place (entries_at_spots books list))
-    → NoFallFrom (entry_at_spot books (get_or list place other)).token (drop (place + 1) (entries_at_spots books list))
+pub rise_on : (books : List Book) (list : List Spot) (place : ℕ) (other : Spot) (token : Token)
+    → place < length list → NoFallFrom token (drop place (entries_at_spots books list))
+    → NoFallFrom (entry_at_spot books (get_or list place other)).token
+    (drop (place + 1) (entries_at_spots books list))
 rise_on books list place other token within no_fall =
-    let both : NoFallFrom token (entry_at_spot books (get_or list place other) ∷ drop (place + 1) (entries_at_spots books list)) = subst (λ (es : List Entry). NoFallFrom token es) (seen_left books list place other within) no_fall in
+    let both : NoFallFrom token
+    (entry_at_spot books (get_or list place other) ∷ drop (place + 1)
+    (entries_at_spots books list)) =
+    subst (λ (es : List Entry). NoFallFrom token es) (seen_left books list place other within)
+    no_fall in
     both.1
 
 -- entries in order of token do not fall from the first one's token
-pub rise_first : (books : List Book) (list : List Spot) (first : Spot) → slice_get list 0 ≡ Some first → NoFall (entries_at_spots books list) → NoFallFrom (entry_at_spot books first).token (entries_at_spots books list)
+pub rise_first : (books : List Book) (list : List Spot) (first : Spot)
+    → slice_get list 0 ≡ Some first → NoFall (entries_at_spots books list)
+    → NoFallFrom (entry_at_spot books first).token (entries_at_spots books list)
 rise_first books [] first is no_fall = tt
 rise_first books (one ∷ list) first is no_fall =
     let same : one ≡ first = cc in
-    subst (λ (x : Spot). NoFallFrom (entry_at_spot books x).token (entries_at_spots books (one ∷ list))) same (up_itself (entry_at_spot books one).token, no_fall)
+    subst (λ (x : Spot). NoFallFrom (entry_at_spot books x).token
+    (entries_at_spots books (one ∷ list))) same (up_itself (entry_at_spot books one).token, no_fall)
 
 -- ---- the bytes
-pub grown : (a b : Option (List ℕ)) (text longer written line : List ℕ) → Appends a (append_known b text) written → longer ≡ text ++ line → Appends a (append_known b longer) (written ++ line)
+pub grown : (a b : Option (List ℕ)) (text longer written line : List ℕ)
+    → Appends a (append_known b text) written → longer ≡ text ++ line
+    → Appends a (append_known b longer) (written ++ line)
 grown None b text longer written line p e = tt
 grown (Some x) None text longer written line p e = absurd p
 grown (Some x) (Some y) text longer written line p e =
-    ap (λ t. y ++ t) e ∙ sym (append_assoc y text line) ∙ ap (λ t. t ++ line) p ∙ append_assoc x written line
+    ap (λ t. y ++ t) e ∙ sym (append_assoc y text line) ∙ ap (λ t. t ++ line) p
+    ∙ append_assoc x written line
 
-pub last_out : (a b c : Option (List ℕ)) (first text left written : List ℕ) → Appends (append_known a first) (append_known b text) written
+-- what was written, and what waited until the end, was appended
+pub last_out : (a b c : Option (List ℕ)) (first text left written : List ℕ)
+    → Appends (append_known a first) (append_known b text) written
     → Keeps (append_known b text) (append_known c left) → left ≡ [] → Appends a c (first ++ written)
 last_out None b c first text left written p q e = tt
 last_out (Some x) None c first text left written p q e = absurd p

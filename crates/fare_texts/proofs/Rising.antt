@@ -1,18 +1,17 @@
 -- Tokens that do not fall, and the entries of one token among entries in order of token.
-use Rattle.std.proofs.Common.{◌≡◌, Bool, true, false, cond, List, [], ◌∷◌, ◌++◌, refl, sym, ap}
+use Rattle.std.proofs.Common.{◌≡◌, Bool, true, false, List, [], ◌∷◌, ◌++◌, refl, sym, ap}
 use Rattle.std.proofs.Common.{subst, ◌∙◌}
-use Rattle.std.specs.List.{filter}
 use Rattle.std.specs.Cmp.{IsStrictWeakOrder}
 use Rattle.std.specs.Ordering.{is_lt, ordering_reverse}
 use Rattle.std.specs.declared.cmp.Ordering.{Ordering}
 use Rattle.std.specs.declared.cmp.Ordering.TheVariants.{Less, Equal, Greater}
 use Rattle.std.proofs.lemmas.Bool.{false≢true}
 use Rattle.std.proofs.lemmas.Cmp.{tied_itself}
-use Rattle.std.proofs.lemmas.List.Elements.{filter-append}
 use Rattle.std.proofs.lemmas.List.Sorted.{ranks_by}
-use Rattle.shard_book.specs.Entry.{is_of, own}
+use Rattle.shard_book.specs.Entry.{own}
 use Rattle.tap_views.specs.Token.{token_cmp, token_eq}
 use Rattle.shard_book.specs.declared.entry.Entry.{Entry}
+use Rattle.shard_book.proofs.OwnEntries.{own-append, own_none, own_other, own_same}
 use Rattle.tap_views.specs.declared.token.Token.{Token}
 use Rattle.tap_views.proofs.TokenLemmas.{same_token, token_eq-refl, token_cmp-total, token_cmp-ties}
 use Rattle.fare_texts.specs.Lines.{AreUpTo, IsUpTo, NoFallFrom}
@@ -21,13 +20,16 @@ use Rattle.fare_texts.specs.Lines.{AreUpTo, IsUpTo, NoFallFrom}
 ranked : IsStrictWeakOrder (λ (a b : Token). is_lt (token_cmp a b))
 ranked = ranks_by token_cmp-total (λ (token : Token). token)
 
+-- tokens that do not fall, one after another
 pub up_chain : (a b c : Token) → IsUpTo a b → IsUpTo b c → IsUpTo a c
 up_chain a b c first second = ranked.chain c b a second first
 
+-- a token does not fall from itself
 pub up_itself : (a : Token) → IsUpTo a a
 up_itself a = ap is_lt (tied_itself token_cmp-total a)
 
-not_greater : (a b : Token) → IsUpTo a b → token_cmp a b ≡ Greater → ⊥
+-- a token that another is not above is not greater
+pub not_greater : (a b : Token) → IsUpTo a b → token_cmp a b ≡ Greater → ⊥
 not_greater a b up greater =
     let less : token_cmp b a ≡ Less = token_cmp-total.antisymm b a ∙ ap ordering_reverse greater in
     false≢true (sym up ∙ ap is_lt less)
@@ -53,37 +55,13 @@ up_apart a b up apart = by (token_cmp a b) refl
     by Greater greater = absurd (not_greater a b up greater)
 
 -- ---- the entries of a token
-pub own_here : (token : Token) (entry : Entry) (entries : List Entry)
-    → token_eq entry.token token ≡ true
-    → own token (entry ∷ entries) ≡ entry ∷ own token entries
-unfolding own
-own_here token entry entries is =
-    ap (λ (b : Bool). cond b (entry ∷ filter (is_of token) entries) (filter (is_of token) entries))
-    is
-
-pub own_not : (token : Token) (entry : Entry) (entries : List Entry)
-    → token_eq entry.token token ≡ false
-    → own token (entry ∷ entries) ≡ own token entries
-unfolding own
-own_not token entry entries is =
-    ap (λ (b : Bool). cond b (entry ∷ filter (is_of token) entries) (filter (is_of token) entries))
-    is
-
-pub own_none : (token : Token) → own token [] ≡ []
-unfolding own
-own_none token = refl
-
-pub own_both : (token : Token) (entries more : List Entry)
-    → own token (entries ++ more) ≡ own token entries ++ own token more
-unfolding own
-own_both token entries more = filter-append (is_of token) entries more
 
 pub own_push : (token : Token) (entries : List Entry) (entry : Entry)
     → token_eq entry.token token ≡ true
     → own token (entries ++ entry ∷ []) ≡ own token entries ++ entry ∷ []
 own_push token entries entry is =
-    own_both token entries (entry ∷ [])
-    ∙ ap (λ (es : List Entry). own token entries ++ es) (own_here token entry [] is
+    own-append token entries (entry ∷ [])
+    ∙ ap (λ (es : List Entry). own token entries ++ es) (own_same token entry [] is
     ∙ ap (λ (es : List Entry). entry ∷ es) (own_none token))
 
 -- entries whose tokens are not above one have none of a token beyond it
@@ -91,7 +69,7 @@ pub none_below : (entries : List Entry) (a b : Token) → AreUpTo entries a → 
     → token_eq a b ≡ false → own b entries ≡ []
 none_below [] a b up to apart = own_none b
 none_below (entry ∷ entries) a b up to apart =
-    own_not b entry entries (by (token_eq entry.token b) refl)
+    own_other b entry entries (by (token_eq entry.token b) refl)
     ∙ none_below entries a b up.1 to apart
   where
     by : (t : Bool) → token_eq entry.token b ≡ t → token_eq entry.token b ≡ false
@@ -106,7 +84,7 @@ pub none_above : (token from : Token) (entries : List Entry) → IsUpTo token fr
 none_above token from [] to apart no_fall = own_none token
 none_above token from (entry ∷ entries) to apart no_fall =
     let beyond = by (token_eq entry.token token) refl in
-    own_not token entry entries beyond
+    own_other token entry entries beyond
     ∙ none_above token entry.token entries (up_chain token from entry.token to no_fall.0) beyond
     no_fall.1
   where
@@ -117,6 +95,7 @@ none_above token from (entry ∷ entries) to apart no_fall =
         absurd (not_apart from token
         (up_both from token (subst (λ (t : Token). IsUpTo from t) same no_fall.0) to) apart)
 
+-- entries up to a token are up to a token that is not below it
 pub up_weaker : (entries : List Entry) (a b : Token) → AreUpTo entries a → IsUpTo a b
     → AreUpTo entries b
 up_weaker [] a b up to = tt

@@ -41,7 +41,7 @@ fn is_ride(entry: &Entry, last: u8) -> bool {
         }
 }
 
-/// The book has so many of the forty rides, the first ones, and nothing else.
+/// The book has the first `count` of the forty rides, and nothing else.
 fn has_rides(book: &ShardBook, count: u64) -> Case {
     promise(book.len() == count, "another number of entries")?;
     for last in 0..40u8 {
@@ -52,7 +52,7 @@ fn has_rides(book: &ShardBook, count: u64) -> Case {
     Ok(())
 }
 
-/// Posts the taps as one run. Where memory is refused before that, nothing is posted.
+/// Posts the taps as one run. If memory is refused before that, nothing is posted.
 fn post(
     alloc: Global,
     book: &mut ShardBook,
@@ -76,7 +76,7 @@ fn left(taps: &[TapFields], end: RunEnd) -> &[TapFields] {
     }
 }
 
-/// The replies are so many paid rides.
+/// The replies are `count` paid rides.
 fn are_paid(out: &Replies, count: u64) -> Case {
     promise(out.len() == count, "another number of replies")?;
     for i in 0..out.len() {
@@ -133,8 +133,8 @@ fn post_tap(alloc: Global, book: &mut ShardBook, tap: &TapFields) -> Case {
     )
 }
 
-/// Posts the tap to a book of so many rides. Where it is refused the book stays as it was, and the
-/// tap can be posted again. Tells whether it was refused.
+/// Posts the tap to a book of `rides` rides. If it is refused, the book stays as it was, and the
+/// tap can be posted again. Returns whether it was refused.
 fn post_twice(
     alloc: Global,
     book: &mut ShardBook,
@@ -154,9 +154,9 @@ fn post_twice(
     Ok(true)
 }
 
-/// `post` of forty taps, one at a time. Would catch one that gives up where memory is there, as a
-/// book whose first growth is forgotten and which never takes a tap, and one that gives up for good
-/// after a refusal.
+/// `post` of forty taps, one at a time. Would catch one that gives up although memory is there, as
+/// a book whose first growth is forgotten and which never takes a tap, and one that gives up for
+/// good after a refusal.
 pub(crate) fn posts<R: RandomSource>(rt: &R, alloc: Global) -> Case {
     let taps = forty_taps(alloc)?;
     let mut book = book(rt, alloc)?;
@@ -196,8 +196,8 @@ fn lists_tokens(alloc: Global, book: &ShardBook) -> Case {
     Ok(())
 }
 
-/// `tokens`. Would catch one that always gives up, or does so for good after a refusal, also where
-/// the book stayed the same.
+/// `tokens`. Would catch one that always gives up, or does so for good after a refusal, also if the
+/// book stayed the same.
 pub(crate) fn tokens<R: RandomSource>(rt: &R, alloc: Global) -> Case {
     let book = full_book(rt, alloc)?;
     twice!({

@@ -1,11 +1,11 @@
 //! Hostile use of the service's libraries: memory that is refused, in every place.
 //!
 //! `hostile CASE` makes one case of calls that take memory, and looks at what a refused call left
-//! behind. Its status is 0 where all was answered, 3 where memory was refused and all stood as
-//! promised, 4 where a run told so of an upload that was cut or left undrawn, and 1 where something
-//! else was found, which it names. The script `hostile/refuse` runs each case with its first
-//! allocation refused, then with its second, and so on, until a run meets no refusal. Without a
-//! word the program makes every case with the memory that there is, and each answers.
+//! behind. Its status is 0 if all was answered, 3 if memory was refused and all stood as promised,
+//! 4 if a run reported an upload that was cut or left undrawn, and 1 if something else was found,
+//! which it names. The script `hostile/refuse` runs each case with its first allocation refused,
+//! then with its second, and so on, until a run meets no refusal. Without a word the program makes
+//! every case with the memory that there is, and each answers.
 #![tactic(auto)]
 
 mod books;
@@ -26,7 +26,6 @@ use std::thread::Threads;
 use std::{env, io};
 use stop::{Case, Stop};
 
-/// The status of a case.
 fn status_of(case: &Case) -> u8 {
     match case {
         Ok(()) => 0,

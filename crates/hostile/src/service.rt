@@ -81,7 +81,7 @@ fn posted(outcome: &Outcome) -> Result<(u128, bool), Stop> {
     Ok((taps, whole))
 }
 
-/// One worker posts all, or tells of less, and the books have what the ends tell.
+/// One worker posts all, or reports less, and the books have what the ends say.
 fn runs<R: Threads + Wait + RandomSource + Sync + Print, G: Gate + Sync>(
     rt: &R,
     alloc: Global,
@@ -104,12 +104,12 @@ fn runs<R: Threads + Wait + RandomSource + Sync + Print, G: Gate + Sync>(
 }
 
 /// `run` with one worker. After a refusal another service posts the same uploads. Would catch a
-/// worker that stops though no memory was refused, and an upload told as cut of which all was
-/// posted: each is told truly, and the promises hold.
+/// worker that stops though no memory was refused, and an upload reported as cut of which all was
+/// posted: each is reported truly, and the promises hold.
 ///
 /// It prints when the run begins and which uploads have ended, and `hostile/refuse` holds it to
-/// this: memory that is refused in between leaves an upload cut or undrawn, or no outcome; and
-/// where it is refused after the last upload's end, none is.
+/// this: memory that is refused in between leaves an upload cut or undrawn, or no outcome; and if
+/// it is refused after the last upload's end, none is.
 pub(crate) fn run<R: Threads + Wait + RandomSource + Sync + Print>(rt: &R, alloc: Global) -> Case {
     let uploads = uploads(alloc)?;
     let first = runs(rt, alloc, uploads.as_slice(), &Telling { rt });

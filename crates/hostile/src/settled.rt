@@ -75,7 +75,6 @@ fn is_billed(made: &Billed) -> Case {
     Ok(())
 }
 
-/// The bill of the uploads.
 fn bills<R: Threads + RandomSource + Sync>(rt: &R, alloc: Global, uploads: &[Vec<u8>]) -> Case {
     let table = table(alloc)?;
     let seed = HashSeed::new(rt)?;
@@ -89,7 +88,6 @@ pub(crate) fn bill<R: Threads + RandomSource + Sync>(rt: &R, alloc: Global) -> C
     twice!(bills(rt, alloc, uploads.as_slice()))
 }
 
-/// The bill of the sorted files.
 fn bills_sorted<R: Threads + RandomSource + Sync>(
     rt: &R,
     alloc: Global,
@@ -107,7 +105,6 @@ pub(crate) fn bill_of_sorted<R: Threads + RandomSource + Sync>(rt: &R, alloc: Gl
     twice!(bills_sorted(rt, alloc, &files))
 }
 
-/// The ledger of the sorted files.
 fn writes_ledger<R: Threads + Sync>(rt: &R, alloc: Global, files: &[InMemory<'_>]) -> Case {
     let table = table(alloc)?;
     let mut written = Vec::with_capacity(alloc, 2000)?;

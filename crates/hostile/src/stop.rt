@@ -12,16 +12,16 @@ use tap_views::{EncodeFault, LayoutFault, NoMemory};
 pub(crate) enum Stop {
     /// Memory was refused, and what stood then was as promised.
     Refused,
-    /// A run was gathered, and it tells of an upload that was cut or left undrawn.
+    /// A run was gathered, and it reports an upload that was cut or left undrawn.
     Less,
     /// What was found in place of what is promised.
     Wrong(&'static str),
 }
 
-/// What became of a case: `Ok` where all was answered.
+/// What became of a case: `Ok` if all was answered.
 pub(crate) type Case = Result<(), Stop>;
 
-/// Stops with `what` where the promise does not hold.
+/// Stops with `what` if the promise does not hold.
 pub(crate) fn promise(holds: bool, what: &'static str) -> Case {
     if holds {
         Ok(())
@@ -45,7 +45,7 @@ pub(crate) fn again(second: Case) -> Case {
     }
 }
 
-/// Asks, and asks again where memory was refused. It is a macro, since the borrow checker does not
+/// Asks, and asks again if memory was refused. It is a macro, since the borrow checker does not
 /// cover a closure whose result has a `&'static str`.
 macro_rules! twice {
     ($ask:expr) => {

@@ -39,14 +39,13 @@ fn encoded(alloc: Global, taps: &[TapFields; 2]) -> Case {
     )
 }
 
-/// `encode` and `encode_tap2`. Would catch one that gives up where memory is there, or that keeps a
-/// mark of a refusal and gives up from then on.
+/// `encode` and `encode_tap2`. Would catch one that gives up although memory is there, or that
+/// keeps a mark of a refusal and gives up from then on.
 pub(crate) fn encodes(alloc: Global) -> Case {
     let taps = [tap_after(0xa1, SUBWAY, 0), tap_after(0xa1, BUS, 7_200_000)];
     twice!(encoded(alloc, &taps))
 }
 
-/// The table is the sample table.
 fn is_sample(table: &FareTable) -> Case {
     for (validator, name) in [
         (999, None),
@@ -79,8 +78,8 @@ fn was_read(alloc: Global) -> Case {
     is_sample(&table(alloc)?)
 }
 
-/// `FareTable::read`. Would catch one that gives up where memory is there. A refusal inside `toml`
-/// must not be told as a fault of the text, which a contract says too.
+/// `FareTable::read`. Would catch one that gives up although memory is there. A refusal inside
+/// `toml` must not be reported as a fault of the text, which a contract says too.
 pub(crate) fn read(alloc: Global) -> Case {
     twice!(was_read(alloc))
 }
@@ -102,7 +101,7 @@ pub(crate) fn clone(alloc: Global) -> Case {
     })
 }
 
-/// A clock of the sample table tells where windows end: in March, before its first second, and when
+/// A clock of the sample table says where windows end: in March, before its first second, and when
 /// clocks are turned back.
 fn tells_ends(alloc: Global, table: &FareTable) -> Case {
     let clock = table.clock(alloc)?;

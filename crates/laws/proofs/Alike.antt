@@ -4,13 +4,13 @@ use Rattle.std.proofs.Common.{sym, ap, ◌∙◌, arith, All, inl, inr}
 use Rattle.std.specs.Prelude.{◌⊎◌, Contains}
 use Rattle.std.specs.List.Sorted.{IsPermutation}
 use Rattle.std.proofs.lemmas.List.Elements.{All-contains, All-contains_itself, All-head, All-tail}
-use Rattle.std.proofs.lemmas.List.Elements.{All-cons, filter_passes}
+use Rattle.std.proofs.lemmas.List.Elements.{All-cons, filter_passes, All-weaker}
 use Rattle.std.proofs.lemmas.List.Sorted.{Contains-permutation, IsPermutation-sym}
 use Rattle.std.proofs.lemmas.List.Sorted.{sum_by-IsPermutation}
 use Rattle.std.proofs.lemmas.List.Sums.{sum_by-append, sum_by-cons}
 use Rattle.fare_service.proofs.AddingLemmas.{sum_by-map}
 use Rattle.settlement.proofs.Contained.{kept_there, there_cases, was_there}
-use Rattle.settlement.proofs.Placed.{Pairs, all_map}
+use Rattle.settlement.proofs.Placed.{Pairs}
 use Rattle.settlement.proofs.Same.{sum_filter}
 use Rattle.settlement.proofs.Unique.{AreAlike}
 
@@ -55,12 +55,12 @@ split_at x (y ∷ ys) there = by_cases (there_cases y x ys there) (split_at x ys
 pub moved_all : {X : Type 0} (p : X → Bool) (P : X → Type 0) (xs ys : List X) → IsPermutation xs ys
     → All P (filter p xs) → All P (filter p ys)
 moved_all p P xs ys moved all =
-    all_map (Contains (filter p ys)) P (filter p ys) (λ z there.
+    All-weaker (Contains (filter p ys)) P (λ z there.
     let passes : p z ≡ true =
     All-contains (λ x. p x ≡ true) (filter p ys) z (filter_passes p ys) there in
     All-contains P (filter p xs) z all
     (kept_there p xs z passes (Contains-permutation ys xs z (IsPermutation-sym xs ys moved)
-    (was_there p ys z there))))
+    (was_there p ys z there)))) (filter p ys)
     (All-contains_itself (filter p ys))
 
 -- what is kept of the one is kept of the other

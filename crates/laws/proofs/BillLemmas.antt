@@ -6,9 +6,8 @@ use Rattle.std.specs.Prelude.{Contains, sum_by}
 use Rattle.std.proofs.lemmas.List.{map-append}
 use Rattle.std.proofs.lemmas.List.Concat.{flat_map-append}
 use Rattle.std.proofs.lemmas.List.Elements.{All-nil, All-cons, All-head, All-tail, All-filter}
-use Rattle.std.proofs.lemmas.List.Elements.{All-append}
-use Rattle.std.proofs.lemmas.List.Elements.{All-contains, All-contains_itself, All-weaker}
-use Rattle.std.proofs.lemmas.List.Elements.{Contains-append_left}
+use Rattle.std.proofs.lemmas.List.Elements.{All-append, All-contains, All-contains_itself}
+use Rattle.std.proofs.lemmas.List.Elements.{All-weaker, Contains-append_left}
 use Rattle.std.proofs.lemmas.List.Sorted.{Contains-permutation, IsPermutation-sym}
 use Rattle.std.proofs.lemmas.List.Sums.{sum_by-cons}
 use Rattle.tap_views.specs.Encoding.{fields_of}
@@ -31,12 +30,11 @@ use Rattle.shard_book.specs.Sums.{is_capped, is_paid, is_transfer, sums, sums_of
 use Rattle.shard_book.specs.SumsByKey.{entries_of_validator}
 use Rattle.shard_book.specs.declared.entry.Entry.{Entry}
 use Rattle.shard_book.specs.Plain.{answered}
-use Rattle.fare_service.proofs.PlainLists.{filter-filter}
-use Rattle.fare_service.proofs.PlainRuns.{AllZip-append}
 use Rattle.tap_parts.specs.Parts.{taps_of_uploads}
 use Rattle.settlement.specs.Settled.{IsSettledHistory}
 use Rattle.settlement.proofs.Histories.{entry_of}
 use Rattle.tap_views.proofs.ReadingLemmas.{one_list}
+use Rattle.tap_views.proofs.Lists.{filter-filter, AllZip-append}
 use Rattle.laws.specs.Bills.{BillAlike, ChargeAlike, is_live, is_live_answer, live_entries}
 use Rattle.laws.specs.TapSets.{AreSentAgain, HaveSameSetOfTaps, fields_of_uploads}
 use Rattle.laws.proofs.Posts.{SameBill, after, plain_is_after}

@@ -8,14 +8,15 @@ use Rattle.std.proofs.Common.{refl, sym, ◌∙◌, ap, subst, append_assoc}
 use Rattle.std.proofs.lemmas.List.{map-append}
 use Rattle.std.proofs.lemmas.List.Concat.{flat_map-append}
 use Rattle.std.proofs.lemmas.List.Elements.{All-weaker, filter-append}
-use Rattle.std.proofs.lemmas.List.Sorted.{All-permutation, IsPermutation-append, IsPermutation-append_comm}
-use Rattle.std.proofs.lemmas.List.Sorted.{IsPermutation-append_right, IsPermutation-map, IsPermutation-refl}
-use Rattle.std.proofs.lemmas.List.Sorted.{IsPermutation-sym, IsPermutation-trans}
-use Rattle.std.proofs.lemmas.List.Sorted.{list_any-IsPermutation, sum_by-IsPermutation}
+use Rattle.std.proofs.lemmas.List.Sorted.{All-permutation, IsPermutation-append}
+use Rattle.std.proofs.lemmas.List.Sorted.{IsPermutation-append_comm, IsPermutation-append_right}
+use Rattle.std.proofs.lemmas.List.Sorted.{IsPermutation-map, IsPermutation-refl, IsPermutation-sym}
+use Rattle.std.proofs.lemmas.List.Sorted.{IsPermutation-trans, list_any-IsPermutation}
+use Rattle.std.proofs.lemmas.List.Sorted.{sum_by-IsPermutation}
 use Rattle.std.proofs.lemmas.List.Sums.{sum_by-cons}
 use Rattle.shard_book.specs.Sums.{Sums, add_all, sums, sums_of_replies}
-use Rattle.part_reports.specs.Reports.{IsMerged, IsPartReport, Report, report_text, sums_of_validator}
-use Rattle.part_reports.specs.Reports.{tokens_of_reports, validators_of_reports}
+use Rattle.part_reports.specs.Reports.{IsMerged, IsPartReport, Report, report_text}
+use Rattle.part_reports.specs.Reports.{sums_of_validator, tokens_of_reports, validators_of_reports}
 
 -- ---- lists of which two pieces change their places
 pieces_moved : {X : Type 0} (front a middle b back : List X)
@@ -94,7 +95,8 @@ field f none some (s ∷ list) =
 add_moved : (xs ys : List Sums) → IsPermutation xs ys → add_all xs ≡ add_all ys
 unfolding sums_of_replies
 add_moved xs ys moved =
-    let by : (f : Sums → ℕ) → sum_by f xs ≡ sum_by f ys = λ f. sym (sum_by-IsPermutation f xs ys moved)
+    let by : (f : Sums → ℕ) → sum_by f xs ≡ sum_by f ys =
+    λ f. sym (sum_by-IsPermutation f xs ys moved)
     in
     λ i. record {
       taps = (field (λ s. s.taps) refl (λ a b. refl) xs ∙ by (λ s. s.taps)
@@ -161,7 +163,8 @@ one_there (part ∷ parts) (file ∷ front) a back is =
       one = rest.one;
       behind = rest.behind;
       whole = ap (λ more. part ∷ more) rest.whole;
-      front_is = ap (λ file. file ∷ front) head ∙ ap (λ more. report_text part ∷ more) rest.front_is;
+      front_is = ap (λ file. file ∷ front) head
+          ∙ ap (λ more. report_text part ∷ more) rest.front_is;
       a_is = rest.a_is;
       back_is = rest.back_is;
     }
@@ -261,7 +264,8 @@ exchanged ends front a middle b back text merged = record {
     same_sums validator =
         let test : (ℕ × Sums) → Bool = λ sum. sum.0 == validator in
         let of : Report → List (ℕ × Sums) = λ part. filter test part.validators in
-        add_moved (map (λ (sum : ℕ × Sums). sum.1) (filter test (validators_of_reports merged.parts)))
+        add_moved
+        (map (λ (sum : ℕ × Sums). sum.1) (filter test (validators_of_reports merged.parts)))
         (map (λ (sum : ℕ × Sums). sum.1) (filter test (validators_of_reports later)))
         (IsPermutation-map (λ (sum : ℕ × Sums). sum.1)
         (filter test (validators_of_reports merged.parts))

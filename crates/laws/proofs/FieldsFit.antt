@@ -1,12 +1,9 @@
 -- The validators and the tokens of a part's history have the sizes that the bytes of taps have.
-use Rattle.std.specs.Prelude.{◌≡◌, ◌⊎◌, ℕ, ◌<◌, ◌≤◌, ◌^◌, ◌==◌, List, [], ◌∷◌}
+use Rattle.std.specs.Prelude.{◌≡◌, ℕ, ◌<◌, ◌^◌, ◌==◌, List, [], ◌∷◌}
 use Rattle.std.specs.Prelude.{◌++◌, length, map, flat_map, take, drop, All, Some, slice_get}
-use Rattle.std.specs.Int.{from_be_bytes, w64}
 use Rattle.std.specs.List.{AllByRecursion}
-use Rattle.std.proofs.Common.{sym, subst, arith, get_or, inl, inr}
-use Rattle.std.proofs.lemmas.Bool.{cases_lt}
-use Rattle.std.proofs.lemmas.List.{get_or_past}
-use Rattle.std.proofs.lemmas.List.Elements.{All-append, All-cons, All-drop, All-filter, All-get_or}
+use Rattle.std.proofs.Common.{sym, subst, arith}
+use Rattle.std.proofs.lemmas.List.Elements.{All-append, All-cons, All-drop, All-filter}
 use Rattle.std.proofs.lemmas.List.Elements.{All-head, All-map, All-nil, All-tail, All-take}
 use Rattle.std.proofs.lemmas.List.Elements.{recursion_from_All}
 use Rattle.std.proofs.lemmas.List.Sorted.{All-permutation}
@@ -17,10 +14,11 @@ use Rattle.tap_views.specs.Layout.{spelling}
 use Rattle.tap_views.specs.declared.encoder.TapFields.{TapFields}
 use Rattle.fare_table.specs.Fares.{Fares}
 use Rattle.tap_views.specs.Token.{Fits}
+use Rattle.tap_views.proofs.Lists.{All-split, All-unmap}
+use Rattle.tap_views.proofs.TokenBytes.{eight_bytes}
 use Rattle.shard_book.specs.declared.entry.Entry.{Entry}
 use Rattle.shard_book.specs.Plain.{token_of_bytes, unanswered}
-use Rattle.fare_service.proofs.PlainFields.{AreBytes}
-use Rattle.fare_service.proofs.PlainLists.{All-split}
+use Rattle.fare_service.proofs.PlainFields.{AreBytes, byte_at}
 use Rattle.shard_book.proofs.PlainReplies.{bare}
 use Rattle.tap_parts.specs.Parts.{taps_of_uploads, of_part, part_of_token}
 use Rattle.laws.specs.Split.{IsSplit, Part}
@@ -34,13 +32,6 @@ FieldsFit fields = (fields.validator < 2 ^ 32) × Fits (token_of_bytes fields.to
 abbrev TapFits : Tap → Type 0
 TapFits tap = FieldsFit (fields_of tap)
 
-byte_at : (bytes : List ℕ) → AreBytes bytes → (i : ℕ) → get_or bytes i 0 < 256
-byte_at bytes all i = by_place (cases_lt i (length bytes))
-  where
-    by_place : (i < length bytes) ⊎ (length bytes ≤ i) → get_or bytes i 0 < 256
-    by_place (inl within) = All-get_or (λ byte. byte < 256) bytes i 0 within all
-    by_place (inr past) = omega (arith, get_or_past bytes i 0 past)
-
 four_bytes : (bytes : List ℕ) → length bytes ≡ 4 → AllByRecursion (λ byte. byte < 256) bytes
     → num bytes < 2 ^ 32
 four_bytes [] long all = absurd (omega (arith, long))
@@ -50,11 +41,6 @@ four_bytes (a ∷ b ∷ c ∷ []) long all = absurd (omega (arith, long))
 four_bytes (a ∷ b ∷ c ∷ d ∷ []) long all =
     omega (arith, all.0, all.1.0, all.1.1.0, all.1.1.1.0)
 four_bytes (a ∷ b ∷ c ∷ d ∷ e ∷ bytes) long all = absurd (omega (arith, long))
-
-eight_bytes : (bytes : List ℕ) → ((i : ℕ) → get_or bytes i 0 < 256)
-    → from_be_bytes w64 bytes < 2 ^ 64
-eight_bytes bytes small =
-    omega (arith, small 0, small 1, small 2, small 3, small 4, small 5, small 6, small 7)
 
 token_fits : (bytes : List ℕ) → AreBytes bytes → Fits (token_of_bytes bytes)
 token_fits bytes all = record {
@@ -130,19 +116,12 @@ uploads_fit (file ∷ files) (ts ∷ taps) each all =
     (upload_fits file ts each.0 (All-head AreBytes file files all))
     (uploads_fit files taps each.1 (All-tail AreBytes file files all))
 
-from_map : {A B : Type 0} (P : B → Type 0) (f : A → B) (xs : List A) → All P (map f xs)
-    → All (λ x. P (f x)) xs
-from_map P f [] all = All-nil (λ x. P (f x))
-from_map P f (x ∷ xs) all =
-    All-cons (λ x. P (f x)) x xs (All-head P (f x) (map f xs) all)
-    (from_map P f xs (All-tail P (f x) (map f xs) all))
-
 module _ (fares : Fares) (uploads : List (List ℕ)) (history : List Entry) (parts : List Part)
     (split : IsSplit fares uploads history parts) where
   order_fits : All TapFits split.settled.order
   order_fits =
       let taps = taps_of_uploads split.settled.taps in
-      from_map FieldsFit fields_of split.settled.order
+      All-unmap FieldsFit fields_of split.settled.order
       (All-permutation FieldsFit (map fields_of taps) (map fields_of split.settled.order)
       split.settled.canonical.moved (All-map FieldsFit fields_of taps
       (uploads_fit uploads split.settled.taps split.settled.of_uploads split.bytes)))
@@ -156,6 +135,6 @@ module _ (fares : Fares) (uploads : List (List ℕ)) (history : List Entry) (par
       let mine_fit : All TapFits mine =
       All-filter (λ (tap : Tap). part_of_token tap.token (length parts) == number) TapFits
       split.settled.order order_fits in
-      from_map EntryFits bare part.history
+      All-unmap EntryFits bare part.history
       (subst E (sym (part_bare_all fares uploads history parts split number part there))
       (All-map EntryFits unanswered mine mine_fit))

@@ -6,44 +6,31 @@ use Rattle.std.specs.List.Sorted.{IsStrictlySortedBy}
 use Rattle.std.specs.Ordering.{eq_by_cmp, is_eq, nat_cmp}
 use Rattle.std.specs.Set.{is_member}
 use Rattle.std.specs.declared.cmp.Ordering.{Ordering}
-use Rattle.std.specs.declared.cmp.Ordering.TheVariants.{Less, Equal, Greater}
+use Rattle.std.specs.declared.cmp.Ordering.TheVariants.{Less}
 use Rattle.std.proofs.Common.{refl, sym, ◌∙◌, ap, arith, inl, inr}
 use Rattle.std.proofs.lemmas.Bool.{true≢false}
 use Rattle.std.proofs.lemmas.Bool.Decides.{nat_tests}
 use Rattle.std.proofs.lemmas.Cmp.{tied_itself}
+use Rattle.std.specs.Cmp.{Equal-is}
 use Rattle.tap_views.specs.Token.{token_cmp, token_eq}
 use Rattle.tap_views.specs.declared.token.Token.{Token}
+use Rattle.tap_views.proofs.TokenLemmas.{token_eq-refl, same_token, token_cmp-ties, token_cmp-total}
 use Rattle.shard_book.specs.declared.entry.Entry.{Entry}
 use Rattle.shard_book.specs.Entry.{is_at, is_of, own}
 use Rattle.shard_book.specs.Rising.{rising}
-use Rattle.shard_book.specs.Sums.{Sums, add_all, add_sums, sums, sums_of_replies}
+use Rattle.shard_book.specs.Sums.{Sums, add_all, add_sums, sums}
 use Rattle.shard_book.specs.SumsByKey.{entries_of_validator, sums_by_token, sums_by_validator}
 use Rattle.shard_book.specs.SumsByKey.{token_of, tokens, validator_of, validators}
+use Rattle.shard_book.proofs.SameEntries.{RisingNumbers, RisingTokens}
+use Rattle.shard_book.proofs.SumsLemmas.{add_assoc, none_add}
 use Rattle.part_reports.specs.Reports.{added}
-use Rattle.part_reports.proofs.Leasts.{same_token as tied_same, token_total}
-use Rattle.part_reports.proofs.PermutedTokens.{eq_of, same_token}
-use Rattle.laws.proofs.Merging.{RisingNumbers, RisingTokens}
-use Rattle.laws.proofs.PartSums.{add_assoc}
+use Rattle.part_reports.proofs.SumsAdded.{same_key}
 use Rattle.laws.proofs.Validators.{SumsAdd}
 
 -- ---- sums
-none_first : (n : ℕ) → 0 + n ≡ n
-none_first n = omega arith
 
 plus_swap : (a b c : ℕ) → a + (b + c) ≡ b + (a + c)
 plus_swap a b c = omega arith
-
-nothing_first : (s : Sums) → add_sums (sums []) s ≡ s
-unfolding sums_of_replies
-nothing_first s = λ i. record {
-  taps = none_first s.taps i;
-  paid = none_first s.paid i;
-  transfers = none_first s.transfers i;
-  capped = none_first s.capped i;
-  stale = none_first s.stale i;
-  unknown = none_first s.unknown i;
-  cents = none_first s.cents i;
-}
 
 add_swap : (a b c : Sums) → add_sums a (add_sums b c) ≡ add_sums b (add_sums a c)
 add_swap a b c = λ i. record {
@@ -92,7 +79,7 @@ module _ {K : Type 0} (at : K → Entry → Bool) (law : SumsAdd) where
       (its true k entry entries here.0)
       ∙ ap (add_sums (sums (entry ∷ filter (at k) entries))) (no_key keys entry entries here.1)
       ∙ ap (λ s. add_sums s (keyed at keys entries)) (law (entry ∷ []) (filter (at k) entries))
-      ∙ sym (add_assoc (sums (entry ∷ [])) (sums (filter (at k) entries)) (keyed at keys entries))
+      ∙ (add_assoc (sums (entry ∷ [])) (sums (filter (at k) entries)) (keyed at keys entries))
   one_key (k ∷ keys) entry entries (inr there) =
       ap (λ list. add_sums (sums list) (keyed at keys (entry ∷ entries)))
       (its false k entry entries there.0)
@@ -101,7 +88,7 @@ module _ {K : Type 0} (at : K → Entry → Bool) (law : SumsAdd) where
 
   no_entries : (keys : List K) → keyed at keys [] ≡ sums []
   no_entries [] = refl
-  no_entries (k ∷ keys) = nothing_first (keyed at keys []) ∙ no_entries keys
+  no_entries (k ∷ keys) = none_add (keyed at keys []) ∙ no_entries keys
 
   all_keys : (keys : List K) (entries : List Entry) → AllByRecursion (HasOneKey at keys) entries
       → keyed at keys entries ≡ sums entries
@@ -186,29 +173,22 @@ number_above : (k other q : ℕ) → is_eq (nat_cmp q k) ≡ true → nat_cmp k 
     → is_eq (nat_cmp q other) ≡ false
 number_above k other q is less = grind (arith, nat_tests)
 
-number_same : (k : ℕ) → is_eq (nat_cmp k k) ≡ true
-number_same k = grind (arith, nat_tests)
-
-equal : (o : Ordering) → is_eq o ≡ true → o ≡ Equal
-equal Less is = absurd (true≢false (sym is))
-equal Equal is = refl
-equal Greater is = absurd (true≢false (sym is))
-
 token_same : (k : Token) → is_eq (token_cmp k k) ≡ true
-token_same k = ap is_eq (tied_itself token_total k)
+token_same k = ap is_eq (tied_itself token_cmp-total k)
 
 tells_by : (token k : Token) (a b : Bool) → token_eq token k ≡ a → is_eq (token_cmp token k) ≡ b
     → a ≡ b
 tells_by token k true true is also = refl
 tells_by token k true false is also =
     let yes : is_eq (token_cmp token k) ≡ true =
-    ap (λ (other : Token). is_eq (token_cmp token other)) (sym (eq_of token k is)) ∙ token_same token
+    ap (λ (other : Token). is_eq (token_cmp token other)) (sym (same_token token k is))
+    ∙ token_same token
     in
     absurd (true≢false (sym yes ∙ also))
 tells_by token k false true is also =
     let yes : token_eq token k ≡ true =
     ap (λ (other : Token). token_eq token other)
-    (sym (tied_same token k (equal (token_cmp token k) also))) ∙ same_token token in
+    (sym (token_cmp-ties token k ((Equal-is (token_cmp token k)).0 also))) ∙ token_eq-refl token in
     absurd (true≢false (sym yes ∙ is))
 tells_by token k false false is also = refl
 
@@ -220,7 +200,7 @@ token_above : (k other q : Token) → is_eq (token_cmp q k) ≡ true → token_c
     → is_eq (token_cmp q other) ≡ false
 token_above k other q is less =
     ap (λ (token : Token). is_eq (token_cmp token other))
-    (tied_same q k (equal (token_cmp q k) is))
+    (token_cmp-ties q k ((Equal-is (token_cmp q k)).0 is))
     ∙ ap is_eq less
 
 seconds : {K : Type 0} (f : K → Sums) (keys : List K)
@@ -234,7 +214,7 @@ unfolding sums_by_validator validators entries_of_validator
 validators_add numbers law entries =
     let keys = rising nat_cmp (map validator_of entries) in
     let risen = (numbers (map validator_of entries) keys).1 refl in
-    sym (keys_add nat_cmp validator_of is_at number_tells number_above number_same law keys entries
+    sym (keys_add nat_cmp validator_of is_at number_tells number_above same_key law keys entries
     risen.rises risen.same)
     ∙ ap add_all (sym (seconds (λ k. sums (filter (is_at k) entries)) keys))
 

@@ -1,5 +1,8 @@
 -- A line of a written ledger has its newline at its end, and nowhere else.
-use Rattle.std.proofs.Common.{◌≡◌, ◌≢◌, ℕ, ◌+◌, ◌/◌, ◌%◌, ◌<◌, ◌≤◌, ◌==◌, ℤ, pos, negsuc, Bool, true, false, cond, List, [], ◌∷◌, ◌++◌, zero, suc, refl, sym, ap, subst, ◌∙◌, arith, append_assoc, ⊎_elim, Option, Some, None, true≢false, codes, nat_lt}
+use Rattle.std.proofs.Common.{◌≡◌, ◌≢◌, ℕ, ◌+◌, ◌/◌, ◌%◌, ◌<◌, ◌≤◌, ◌==◌, ℤ, pos, negsuc, Bool}
+use Rattle.std.proofs.Common.{true, false, cond, List, [], ◌∷◌, ◌++◌, zero, suc, refl, sym, ap}
+use Rattle.std.proofs.Common.{subst, ◌∙◌, arith, append_assoc, ⊎_elim, Option, Some, None}
+use Rattle.std.proofs.Common.{true≢false, codes, nat_lt}
 use Rattle.std.specs.Prelude.{slice_index_or}
 use Rattle.std.specs.Char.{is_ascii_lowercase}
 use Rattle.std.specs.Fmt.{decimal, digit_glyph, digits, digits_onto}
@@ -10,7 +13,8 @@ use Rattle.jiff_core.specs.declared.civil.date.Date.{Date}
 use Rattle.jiff_fmt.specs.Text.{date_text, pad2, pad4, year_text}
 use Rattle.fare_table.specs.Fares.{Fares, mode_at}
 use Rattle.account_rule.specs.declared.reason.Charge.{Charge}
-use Rattle.account_rule.specs.declared.reason.Charge.TheVariants.{Full, CeilingCut, CeilingReached, RideLimitReached}
+use Rattle.account_rule.specs.declared.reason.Charge.TheVariants.{Full, CeilingCut, CeilingReached}
+use Rattle.account_rule.specs.declared.reason.Charge.TheVariants.{RideLimitReached}
 use Rattle.account_rule.specs.declared.reason.Reason.{Reason}
 use Rattle.account_rule.specs.declared.reason.Reason.TheVariants.{Unknown, Stale, Transfer, Ride}
 use Rattle.account_rule.specs.declared.reply.Answer.{Answer}
@@ -20,7 +24,8 @@ use Rattle.shard_book.specs.declared.entry.Entry.{Entry}
 use Rattle.tap_views.specs.declared.token.Token.{Token}
 use Rattle.fare_texts.specs.Moments.{IsCivilText, IsMomentText, clock_text, pad3}
 use Rattle.fare_texts.specs.StatementText.{answer_text}
-use Rattle.fare_texts.specs.LedgerLines.{IsReasonFields, IsLedgerLine, entry_fields, line_head, mode_field, name_or_empty, place_fields, ride_rest}
+use Rattle.fare_texts.specs.LedgerLines.{IsReasonFields, IsLedgerLine, entry_fields, line_head}
+use Rattle.fare_texts.specs.LedgerLines.{mode_field, name_or_empty, place_fields, ride_rest}
 use Rattle.ledger_check.specs.Lines.{Lacks}
 use Rattle.ledger_check.proofs.LineLemmas.{has_none, lacks-append, lacks-at, lacks-tested}
 use Rattle.laws.specs.Written.{AreLetters}
@@ -36,12 +41,14 @@ glyph_other d = by (nat_lt d 10)
 onto_lacks : (k n : ℕ) (acc : List ℕ) → Lacks 10 acc → Lacks 10 (digits_onto k 10 false n acc)
 onto_lacks zero n acc lacks = lacks
 onto_lacks (suc k) n acc lacks =
-    by (n / 10 == 0) (onto_lacks k (n / 10) (digit_glyph false (n % 10) ∷ acc) (glyph_other (n % 10), lacks))
+    by (n / 10 == 0)
+    (onto_lacks k (n / 10) (digit_glyph false (n % 10) ∷ acc) (glyph_other (n % 10), lacks))
   where
     more : List ℕ
     more = digit_glyph false (n % 10) ∷ acc
 
-    by : (b : Bool) → Lacks 10 (digits_onto k 10 false (n / 10) more) → Lacks 10 (cond b more (digits_onto k 10 false (n / 10) more))
+    by : (b : Bool) → Lacks 10 (digits_onto k 10 false (n / 10) more)
+        → Lacks 10 (cond b more (digits_onto k 10 false (n / 10) more))
     by true onto = (glyph_other (n % 10), lacks)
     by false onto = onto
 
@@ -61,15 +68,19 @@ unfolding encode_with
 encoded_lacks [] = tt
 encoded_lacks (b ∷ bytes) =
     let table = lacks-tested 10 lower_digits refl in
-    let zeros = (lacks-tested 10 (0 ∷ []) refl).0 in
-    (lacks-at 10 lower_digits (b / 16) table zeros, (lacks-at 10 lower_digits (b % 16) table zeros, encoded_lacks bytes))
+    let zeros = (lacks-tested 10 (0 ∷ []) refl).0 in (
+      lacks-at 10 lower_digits (b / 16) table zeros,
+      (lacks-at 10 lower_digits (b % 16) table zeros, encoded_lacks bytes),
+    )
 
 -- ---- moments
 year_lacks : (year : ℤ) → Lacks 10 (year_text year)
-year_lacks (pos n) = lacks-append 10 (pad2 (n / 100)) (pad2 (n % 100)) (pad2_lacks (n / 100)) (pad2_lacks (n % 100))
+year_lacks (pos n) =
+    lacks-append 10 (pad2 (n / 100)) (pad2 (n % 100)) (pad2_lacks (n / 100)) (pad2_lacks (n % 100))
 year_lacks (negsuc n) =
     lacks-append 10 (45 ∷ 48 ∷ 48 ∷ []) (pad4 (suc n)) (lacks-tested 10 (45 ∷ 48 ∷ 48 ∷ []) refl)
-    (lacks-append 10 (pad2 (suc n / 100)) (pad2 (suc n % 100)) (pad2_lacks (suc n / 100)) (pad2_lacks (suc n % 100)))
+    (lacks-append 10 (pad2 (suc n / 100)) (pad2 (suc n % 100)) (pad2_lacks (suc n / 100))
+    (pad2_lacks (suc n % 100)))
 
 date_lacks : (date : Date) → Lacks 10 (date_text date)
 date_lacks date =
@@ -78,7 +89,8 @@ date_lacks date =
     lacks-append 10 (year ++ 45 ∷ [] ++ pad2 date.month ++ 45 ∷ []) (pad2 date.day)
     (lacks-append 10 (year ++ 45 ∷ [] ++ pad2 date.month) (45 ∷ [])
     (lacks-append 10 (year ++ 45 ∷ []) (pad2 date.month)
-    (lacks-append 10 year (45 ∷ []) (year_lacks date.year) dash) (pad2_lacks date.month)) dash) (pad2_lacks date.day)
+    (lacks-append 10 year (45 ∷ []) (year_lacks date.year) dash) (pad2_lacks date.month)) dash)
+    (pad2_lacks date.day)
 
 -- a text without a newline
 record Free (text : List ℕ) : Type 0 where
@@ -105,20 +117,23 @@ comma = written (codes ",") refl
 clock_free : (ms : ℕ) → Free (clock_text ms)
 clock_free ms =
     let colon = written (codes ":") refl in
-    both (written (codes "T") refl) (both (two_digits (ms / 3_600_000)) (both colon (both (two_digits (ms / 60_000 % 60))
+    both (written (codes "T") refl)
+    (both (two_digits (ms / 3_600_000)) (both colon (both (two_digits (ms / 60_000 % 60))
     (both colon (both (two_digits (ms / 1_000 % 60)) (both (written (codes ".") refl)
     (both (free (pad3 (ms % 1_000)) (pad3_lacks (ms % 1_000))) (written (codes "Z") refl))))))))
 
 civil_lacks : (moment : ℕ) (text : List ℕ) → IsCivilText moment text → Lacks 10 text
 civil_lacks moment text is =
     subst (Lacks 10) (sym is.shown)
-    (lacks-append 10 (date_text is.date) (clock_text (moment % 86_400_000)) (date_lacks is.date) (clock_free (moment % 86_400_000)).lacks)
+    (lacks-append 10 (date_text is.date) (clock_text (moment % 86_400_000)) (date_lacks is.date)
+    (clock_free (moment % 86_400_000)).lacks)
 
 moment_lacks : (moment : ℕ) (text : List ℕ) → IsMomentText moment text → Lacks 10 text
 moment_lacks moment text is =
     ⊎_elim
     (λ (below : moment < 253_402_207_200_000). civil_lacks moment text (is.civil below))
-    (λ (above : 253_402_207_200_000 ≤ moment). subst (Lacks 10) (sym (is.past above)) (decimal_lacks moment))
+    (λ (above : 253_402_207_200_000 ≤ moment). subst (Lacks 10) (sym (is.past above))
+    (decimal_lacks moment))
     (cases_lt moment 253_402_207_200_000)
 
 -- ---- modes
@@ -133,12 +148,14 @@ name_lacks (c ∷ name) letters =
     let parts = and_parts (is_ascii_lowercase c) (list_all is_ascii_lowercase name) letters in
     (letter_other c parts.0, name_lacks name parts.1)
 
-named_lacks : (names : List (List ℕ)) (place : ℕ) → AreLetters names → Lacks 10 (slice_index_or names place [])
+named_lacks : (names : List (List ℕ)) (place : ℕ) → AreLetters names
+    → Lacks 10 (slice_index_or names place [])
 named_lacks [] place letters = tt
 named_lacks (name ∷ names) zero letters = name_lacks name letters.0
 named_lacks (name ∷ names) (suc place) letters = named_lacks names place letters.1
 
-mode_lacks : (names : List (List ℕ)) (mode : Option ℕ) → AreLetters names → Lacks 10 (name_or_empty names mode)
+mode_lacks : (names : List (List ℕ)) (mode : Option ℕ) → AreLetters names
+    → Lacks 10 (name_or_empty names mode)
 mode_lacks names None letters = tt
 mode_lacks names (Some place) letters = named_lacks names place letters
 
@@ -153,13 +170,17 @@ answer_lacks answer.Unknown = lacks-tested 10 (codes "unknown") refl
 head_free : (token : Token) (place : ℕ) → Free (line_head token place)
 unfolding line_head
 head_free token place =
-    both (free (encode_lower (bytes_of token)) (encoded_lacks (bytes_of token))) (both comma (both (number place) comma))
+    both (free (encode_lower (bytes_of token)) (encoded_lacks (bytes_of token)))
+    (both comma (both (number place) comma))
 
-fields_free : (fares : Fares) (entry : Entry) → AreLetters fares.meaning.modes → Free (entry_fields fares entry)
+fields_free : (fares : Fares) (entry : Entry) → AreLetters fares.meaning.modes
+    → Free (entry_fields fares entry)
 unfolding entry_fields
 fields_free fares entry letters =
     both comma (both (number entry.validator)
-    (both comma (both (free (mode_field fares entry.validator) (mode_lacks fares.meaning.modes (mode_at fares entry.validator) letters))
+    (both comma
+    (both (free (mode_field fares entry.validator)
+    (mode_lacks fares.meaning.modes (mode_at fares entry.validator) letters))
     (both comma (both (free (answer_text entry.answer) (answer_lacks entry.answer))
     (both comma (both (number entry.cents) comma)))))))
 
@@ -169,16 +190,23 @@ placed_free place word is = both comma (both (number (place + 1)) (both comma (b
 
 ride_free : (charge : Charge) → Free (ride_rest charge)
 ride_free (Full place cents) = placed_free place (codes "full") (written (codes "full") refl)
-ride_free (CeilingCut place cents) = placed_free place (codes "ceiling-cut") (written (codes "ceiling-cut") refl)
-ride_free (CeilingReached place) = placed_free place (codes "ceiling") (written (codes "ceiling") refl)
+ride_free (CeilingCut place cents) =
+    placed_free place (codes "ceiling-cut") (written (codes "ceiling-cut") refl)
+ride_free (CeilingReached place) =
+    placed_free place (codes "ceiling") (written (codes "ceiling") refl)
 ride_free RideLimitReached = written (codes ",,ride-limit,") refl
 
 reason_fields_lacks : (why : Reason) (text : List ℕ) → IsReasonFields why text → Lacks 10 text
-reason_fields_lacks Unknown text is = subst (Lacks 10) (sym is) (lacks-tested 10 (codes ",,,unknown,") refl)
+reason_fields_lacks Unknown text is =
+    subst (Lacks 10) (sym is) (lacks-tested 10 (codes ",,,unknown,") refl)
 reason_fields_lacks (Stale latest) text is =
-    subst (Lacks 10) (sym is.shown) (lacks-append 10 (codes ",,,stale,") is.moment (lacks-tested 10 (codes ",,,stale,") refl) (moment_lacks latest is.moment is.is))
+    subst (Lacks 10) (sym is.shown)
+    (lacks-append 10 (codes ",,,stale,") is.moment (lacks-tested 10 (codes ",,,stale,") refl)
+    (moment_lacks latest is.moment is.is))
 reason_fields_lacks (Transfer moment mode) text is =
-    subst (Lacks 10) (sym is.shown) (lacks-append 10 (codes ",,,transfer,") is.moment (lacks-tested 10 (codes ",,,transfer,") refl) (moment_lacks moment is.moment is.is))
+    subst (Lacks 10) (sym is.shown)
+    (lacks-append 10 (codes ",,,transfer,") is.moment (lacks-tested 10 (codes ",,,transfer,") refl)
+    (moment_lacks moment is.moment is.is))
 reason_fields_lacks (Ride start until charge) text is =
     let from = free is.from (moment_lacks start is.from is.starts) in
     let to = free is.to (moment_lacks until is.to is.ends) in
@@ -193,13 +221,18 @@ pub record EndsOnce (line : List ℕ) : Type 0 where
 five : (a b c d e : List ℕ) → a ++ (b ++ (c ++ (d ++ e))) ≡ (a ++ (b ++ (c ++ d))) ++ e
 five a b c d e =
     sym (append_assoc a (b ++ (c ++ d)) e
-    ∙ ap (λ (t : List ℕ). a ++ t) (append_assoc b (c ++ d) e ∙ ap (λ (t : List ℕ). b ++ t) (append_assoc c d e)))
+    ∙ ap (λ (t : List ℕ). a ++ t)
+    (append_assoc b (c ++ d) e ∙ ap (λ (t : List ℕ). b ++ t) (append_assoc c d e)))
 
-pub line_ends_once : (fares : Fares) (token : Token) (place : ℕ) (entry : Entry) (why : Reason) (line : List ℕ) → AreLetters fares.meaning.modes
+pub line_ends_once : (fares : Fares) (token : Token) (place : ℕ) (entry : Entry) (why : Reason)
+    (line : List ℕ) → AreLetters fares.meaning.modes
     → IsLedgerLine fares token place entry why line → EndsOnce line
 line_ends_once fares token place entry why line letters is = record {
   front = line_head token place ++ (is.moment ++ (entry_fields fares entry ++ is.reason_fields));
-  lacks = (both (head_free token place) (both (free is.moment (moment_lacks entry.moment is.moment is.is))
-      (both (fields_free fares entry letters) (free is.reason_fields (reason_fields_lacks why is.reason_fields is.told))))).lacks;
-  shown = is.shown ∙ five (line_head token place) is.moment (entry_fields fares entry) is.reason_fields (10 ∷ []);
+  lacks = (both (head_free token place)
+      (both (free is.moment (moment_lacks entry.moment is.moment is.is))
+      (both (fields_free fares entry letters)
+      (free is.reason_fields (reason_fields_lacks why is.reason_fields is.told))))).lacks;
+  shown = is.shown ∙ five (line_head token place) is.moment (entry_fields fares entry)
+      is.reason_fields (10 ∷ []);
 }

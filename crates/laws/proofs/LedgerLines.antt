@@ -5,7 +5,6 @@ use Rattle.std.specs.Fmt.{decimal}
 use Rattle.std.specs.List.{AllByRecursion}
 use Rattle.std.specs.List.Sorted.{IsStrictlySortedBy}
 use Rattle.std.specs.Ordering.{eq_by_cmp, is_eq}
-use Rattle.std.specs.Set.{is_member}
 use Rattle.std.specs.declared.cmp.Ordering.{Ordering}
 use Rattle.std.specs.declared.cmp.Ordering.TheVariants.{Less, Equal, Greater}
 use Rattle.std.proofs.Common.{◌∙◌, refl, sym, ap, subst, append_assoc, append-nil}
@@ -20,23 +19,23 @@ use Rattle.fare_table.specs.Fares.{Fares}
 use Rattle.tap_views.specs.Token.{Fits, bytes_of, token_cmp, token_eq}
 use Rattle.tap_views.specs.declared.token.Token.{Token}
 use Rattle.tap_views.proofs.TokenLemmas.{same_token, token_eq-refl, token_eq-sym}
-use Rattle.tap_views.proofs.TokenLemmas.{token_cmp-total, token_cmp-ties}
+use Rattle.tap_views.proofs.TokenLemmas.{token_cmp-total, token_cmp-ties, among}
+use Rattle.tap_views.proofs.Lists.{each-append}
 use Rattle.account_rule.specs.declared.reason.Reason.{Reason}
 use Rattle.shard_book.specs.Entry.{is_of, own}
 use Rattle.shard_book.specs.declared.entry.Entry.{Entry}
 use Rattle.shard_book.specs.SumsByKey.{token_of, tokens}
-use Rattle.fare_texts.specs.LedgerLines.{AreLedgerLines, AreLedgerLinesAfter, IsLedgerLine, entry_fields}
-use Rattle.fare_texts.specs.LedgerLines.{head_text, line_head, reason_after}
+use Rattle.shard_book.proofs.SameEntries.{RisingTokens}
+use Rattle.fare_texts.specs.LedgerLines.{AreLedgerLines, AreLedgerLinesAfter, IsLedgerLine}
+use Rattle.fare_texts.specs.LedgerLines.{entry_fields, head_text, line_head, reason_after}
 use Rattle.fare_texts.specs.Ledger.{AreLinesOfEach, IsLedgerOver}
 use Rattle.ledger_check.specs.Lines.{Lacks}
 use Rattle.ledger_check.proofs.LineLemmas.{lacks-end}
 use Rattle.laws.specs.Written.{AreLetters}
 use Rattle.laws.proofs.Lacking.{line_ends_once}
-use Rattle.laws.proofs.Owned.{all_append}
 use Rattle.part_reports.specs.Ledgers.{IsLedgerEntryLine, IsPartLedger}
 use Rattle.part_reports.specs.TokenLines.{TokenLine, lines_of_token, text_of}
 use Rattle.part_reports.proofs.Unique.{entry_line_unique}
-use Rattle.laws.proofs.Merging.{RisingTokens}
 use Rattle.laws.proofs.SumsFit.{EntryFits}
 use Rattle.laws.proofs.Tokens.{all_rising}
 
@@ -103,7 +102,8 @@ token_texts fares token earlier (entry ∷ entries) text letters fits are =
       shown = shown ∙ ap (λ rest. line ++ rest) behind.shown;
     }
 
-all_its : (token : Token) (lines : List TokenLine) → AllByRecursion (λ line. line.token ≡ token) lines
+all_its : (token : Token) (lines : List TokenLine)
+    → AllByRecursion (λ line. line.token ≡ token) lines
     → lines_of_token token lines ≡ lines
 all_its token [] its = refl
 all_its token (line ∷ lines) its =
@@ -120,8 +120,6 @@ none_its token other (line ∷ lines) apart its =
     ∙ none_its token other lines apart its.1
 
 -- ---- the lines of several tokens
-abbrev pub among : List Token → Token → Bool
-among list token = is_member (eq_by_cmp token_cmp) list token
 
 -- the token's own entries, if it is among these
 abbrev own_if : Bool → Token → List Entry → List Entry
@@ -172,14 +170,15 @@ ledger_texts fares history (first ∷ list) text letters fit rise are =
     let behind = ledger_texts fares history list rest letters fit.1 rise.1 more in
     let split : (token : Token) → lines_of_token token (here.lines ++ behind.lines)
     ≡ lines_of_token token here.lines ++ lines_of_token token behind.lines =
-    λ token. filter-append (λ (line : TokenLine). token_eq token line.token) here.lines behind.lines in
+    λ token. filter-append (λ (line : TokenLine). token_eq token line.token) here.lines
+    behind.lines in
     let told : (token : Token) (t : Bool) → eq_by_cmp token_cmp token first ≡ t
     → AreLedgerLines fares token (own_if (t || among list token) token history)
     (text_of (lines_of_token token (here.lines ++ behind.lines))) = λ token t is_t.
     told_by token t is_t here behind (split token) is rise.0 in
     record {
       lines = here.lines ++ behind.lines;
-      each = all_append IsLedgerEntryLine here.lines behind.lines here.each behind.each;
+      each = each-append IsLedgerEntryLine here.lines behind.lines here.each behind.each;
       shown = shown ∙ (λ i. here.shown i ++ behind.shown i)
           ∙ sym (flat_map-append (λ (line : TokenLine). line.text) here.lines behind.lines);
       told = λ token. told token (eq_by_cmp token_cmp token first) refl;
@@ -290,7 +289,8 @@ ledger_lines risen fares history file lines letters fit over part token =
     append_cancel_left head_text (text_of lines) (text_of texts.lines)
     (sym part.shown ∙ over.whole ∙ ap (λ text. head_text ++ text) texts.shown) in
     let same : lines ≡ texts.lines =
-    one_way lines texts.lines (recursion_from_All IsLedgerEntryLine lines part.each) texts.each text in
+    one_way lines texts.lines (recursion_from_All IsLedgerEntryLine lines part.each) texts.each
+    text in
     subst (λ lines. AreLedgerLines fares token (own token history)
     (text_of (lines_of_token token lines))) (sym same)
     (subst (λ entries. AreLedgerLines fares token entries
@@ -302,7 +302,8 @@ ledger_lines risen fares history file lines letters fit over part token =
     one_way (line ∷ lines) [] each also same =
         absurd (some_bytes line (text_of lines) each.0 same)
     one_way (line ∷ lines) (other ∷ others) each also same =
-        let (first, rest) = entry_line_unique line other (text_of lines) (text_of others) each.0 also.0
+        let (first, rest) = entry_line_unique line other (text_of lines) (text_of others) each.0
+        also.0
         same in
         ap (λ line. line ∷ lines) first
         ∙ ap (λ lines. other ∷ lines) (one_way lines others each.1 also.1 rest)

@@ -5,7 +5,7 @@ use Rattle.std.specs.Prelude.{slice_index_or}
 use Rattle.std.specs.List.Sorted.{IsPermutation}
 use Rattle.std.specs.Ordering.{is_lt}
 use Rattle.std.proofs.lemmas.Bool.{ltb-false, ltb-true}
-use Rattle.std.proofs.lemmas.List.Elements.{All-head, All-tail}
+use Rattle.std.proofs.lemmas.List.Elements.{All-head, All-tail, All-weaker}
 use Rattle.std.proofs.lemmas.List.Kept.{IsSortedBy-filter}
 use Rattle.std.proofs.lemmas.List.Sorted.{IsPermutation-sym, ranks_by}
 use Rattle.tap_views.specs.Encoding.{fields_of}
@@ -24,7 +24,7 @@ use Rattle.tap_parts.proofs.Total.{tap_cmp_exact, tap_cmp_total}
 use Rattle.settlement.specs.Settled.{IsSettledHistory}
 use Rattle.settlement.proofs.Histories.{entry_of}
 use Rattle.settlement.proofs.Own.{IsNamedBy}
-use Rattle.settlement.proofs.Placed.{Pairs, Rises, all_map, all_rising, no_earlier}
+use Rattle.settlement.proofs.Placed.{Pairs, Rises, all_rising, no_earlier}
 use Rattle.settlement.proofs.Unique.{AreAlike, same_sorted}
 use Rattle.laws.specs.Bills.{lines_before}
 use Rattle.laws.specs.TapSets.{HaveTapsAlikeBefore, fields_of_uploads, is_tap_before}
@@ -89,8 +89,9 @@ module _ (fares : Fares) (moment : ℕ) where
           let alike = answered_alike fares (token_of_bytes f.token) one other (entry_of f) refl
           (All-head (SameFor one other) f fs same e) in
           ap (λ es. entry ∷ es) (more (one ++ entry ∷ []) (other ++ entry ∷ [])
-          (all_map (SameFor one other) (SameFor (one ++ entry ∷ []) (other ++ entry ∷ [])) fs
+          (All-weaker (SameFor one other) (SameFor (one ++ entry ∷ []) (other ++ entry ∷ []))
           (λ g here before. push_mine fares (token_of_bytes g.token) one other entry (here before))
+          fs
           (All-tail (SameFor one other) f fs same)))
           ∙ ap (λ (g : Entry). g ∷ after fares (other ++ g ∷ [])
           (filter (is_tap_before moment) fs)) alike
@@ -118,7 +119,8 @@ lines fares moment uploads others history again cuts other_cuts same one other n
     let xs = map fields_of one.order in
     let ys = map fields_of other.order in
     let A : List (List Tap) → Type 0 = λ ts.
-    IsPermutation (filter q (fields_of_uploads ts)) (filter q (fields_of_uploads same.other_taps)) in
+    IsPermutation (filter q (fields_of_uploads ts))
+    (filter q (fields_of_uploads same.other_taps)) in
     let B : List (List Tap) → Type 0 = λ ts.
     IsPermutation (filter q mine) (filter q (fields_of_uploads ts)) in
     let between : IsPermutation (filter q mine) (filter q yours) =

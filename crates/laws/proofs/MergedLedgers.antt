@@ -1,6 +1,6 @@
 -- What is merged of the parts' ledgers is the ledger of the whole.
-use Rattle.std.specs.Prelude.{◌≡◌, ◌≢◌, ℕ, zero, suc, ◌<◌, ◌||◌, Bool, true, false, List, []}
-use Rattle.std.specs.Prelude.{◌∷◌, ◌++◌, ◌⊎◌, All, Some, None, filter, flat_map, if◌then◌else◌, length}
+use Rattle.std.specs.Prelude.{◌≡◌, ◌≢◌, ℕ, zero, suc, ◌<◌, ◌||◌, Bool, true, false, List, [], ◌∷◌}
+use Rattle.std.specs.Prelude.{◌++◌, ◌⊎◌, All, Some, None, filter, flat_map, if◌then◌else◌, length}
 use Rattle.std.specs.Prelude.{map, slice_get}
 use Rattle.std.specs.List.{AllByRecursion, AllZip}
 use Rattle.std.specs.List.Sorted.{IsStrictlySortedBy}
@@ -16,10 +16,12 @@ use Rattle.fare_table.specs.Fares.{Fares}
 use Rattle.tap_views.specs.Token.{bytes_of, token_cmp, token_eq}
 use Rattle.tap_views.specs.declared.token.Token.{Token}
 use Rattle.tap_views.proofs.TokenLemmas.{same_token, token_eq-refl, token_eq-sym}
-use Rattle.tap_views.proofs.TokenLemmas.{token_cmp-total, token_cmp-ties}
+use Rattle.tap_views.proofs.TokenLemmas.{token_cmp-total, token_cmp-ties, less_apart, among}
+use Rattle.tap_views.proofs.Lists.{each-weaker, each-back}
 use Rattle.shard_book.specs.Entry.{own}
 use Rattle.shard_book.specs.SumsByKey.{tokens}
 use Rattle.shard_book.specs.declared.entry.Entry.{Entry}
+use Rattle.shard_book.proofs.SameEntries.{RisingTokens}
 use Rattle.fare_texts.specs.LedgerLines.{AreLedgerLines}
 use Rattle.fare_texts.specs.Ledger.{AreLinesOfEach, IsLedgerOver}
 use Rattle.laws.specs.Written.{AreLetters}
@@ -31,13 +33,11 @@ use Rattle.part_reports.proofs.JoinedTokens.{joined_each}
 use Rattle.part_reports.proofs.Orders.{NotBelow, below_not_below, below_then}
 use Rattle.part_reports.proofs.Orders.{not_below_itself, not_below_trans}
 use Rattle.part_reports.proofs.Places.{map_at, one_at}
-use Rattle.part_reports.proofs.Risings.{each_behind, each_weaker}
-use Rattle.settlement.proofs.Concats.{less_apart}
 use Rattle.laws.specs.Split.{IsSplit, Part}
 use Rattle.laws.proofs.FieldsFit.{entries_fit}
-use Rattle.laws.proofs.LedgerLines.{among, eq_test, ledger_lines, no_text, none_own}
+use Rattle.laws.proofs.LedgerLines.{eq_test, ledger_lines, no_text, none_own}
 use Rattle.laws.proofs.LedgerLines.{same_among, tokens_rise}
-use Rattle.laws.proofs.Merging.{RisingTokens, own_elsewhere, own_there}
+use Rattle.laws.proofs.Merging.{own_elsewhere, own_there}
 
 -- ---- tokens in order
 differ_of : (a b : Token) → token_eq a b ≡ false → a ≢ b
@@ -66,7 +66,7 @@ behind_next : (line next : TokenLine) (lines : List TokenLine) → NotBelow line
     → AllByRecursion (λ other. NotBelow line.token other.token) (next ∷ lines)
 behind_next line next lines first falls = (
   first,
-  each_weaker (λ (other : TokenLine). NotBelow next.token other.token)
+  each-weaker (λ (other : TokenLine). NotBelow next.token other.token)
       (λ (other : TokenLine). NotBelow line.token other.token) lines
       (λ other may. not_below_trans line.token next.token other.token first may) falls.0,
 )
@@ -107,7 +107,8 @@ least_out token (line ∷ lines) rise least =
         → lines_of_token token lines ≡ []
     none_of token [] apart = refl
     none_of token (line ∷ lines) apart =
-        ap (λ b. if b then line ∷ lines_of_token token lines else lines_of_token token lines) apart.0
+        ap (λ b. if b then line ∷ lines_of_token token lines else lines_of_token token lines)
+        apart.0
         ∙ none_of token lines apart.1
 
     kept : (t : Bool) → List TokenLine
@@ -131,7 +132,7 @@ least_out token (line ∷ lines) rise least =
     by_test rest false is =
         let less = not_below_apart token line.token least.0 is in
         let apart : AllByRecursion (λ line. token_eq token line.token ≡ false) lines =
-        each_weaker (λ (other : TokenLine). NotBelow line.token other.token)
+        each-weaker (λ (other : TokenLine). NotBelow line.token other.token)
         (λ (other : TokenLine). token_eq token other.token ≡ false) lines
         (λ other may. token_eq-sym token other.token
         ∙ less_apart token other.token (below_then token line.token other.token less may))
@@ -159,7 +160,7 @@ least_of : (token : Token) (list : List Token) (lines : List TokenLine)
     → AllByRecursion (λ line. Stands line.token (token ∷ list)) lines
     → AllByRecursion (λ line. NotBelow token line.token) lines
 least_of token list lines less stand =
-    each_weaker (λ (line : TokenLine). Stands line.token (token ∷ list))
+    each-weaker (λ (line : TokenLine). Stands line.token (token ∷ list))
     (λ (line : TokenLine). NotBelow token line.token) lines
     (λ line stands. ⊎_elim
     (λ (same : line.token ≡ token). subst (λ t. NotBelow token t) (sym same)
@@ -191,7 +192,7 @@ assembled fares history [] (line ∷ lines) rise sorted stand told = absurd stan
 assembled fares history (token ∷ list) lines rise sorted stand told =
     let out = least_out token lines rise (least_of token list lines sorted.0 stand) in
     let behind : AllByRecursion (λ line. Stands line.token (token ∷ list)) out.others =
-    each_behind (λ (line : TokenLine). Stands line.token (token ∷ list))
+    each-back (λ (line : TokenLine). Stands line.token (token ∷ list))
     (lines_of_token token lines) out.others
     (subst (λ lines. AllByRecursion (λ (line : TokenLine). Stands line.token (token ∷ list)) lines)
     out.whole stand) in (
@@ -205,7 +206,8 @@ assembled fares history (token ∷ list) lines rise sorted stand told =
           (less_apart token other (above token other list sorted.0 there))))
           (told other (inr there))),
       ap text_of out.whole
-          ∙ flat_map-append (λ (line : TokenLine). line.text) (lines_of_token token lines) out.others,
+          ∙ flat_map-append (λ (line : TokenLine). line.text) (lines_of_token token lines)
+          out.others,
     )
 
 -- ---- the tokens of the lines
@@ -366,7 +368,8 @@ module _ (risen : RisingTokens) (fares : Fares) (uploads : List (List ℕ)) (his
           → slice_get (map (lines_of_token token) merged.parts) other ≡ Some some
           → other ≢ part_of_token (bytes_of token) (length parts) → some ≡ []
       elsewhere other some there apart =
-          let (lines, listed, is) = mapped_at (lines_of_token token) merged.parts other some there in
+          let (lines, listed, is) =
+          mapped_at (lines_of_token token) merged.parts other some there in
           let at = part_at fares parts files merged.parts overs merged.each other
           (listed_within parts files merged.parts
           (λ part file. IsLedgerOver fares part.history None file) overs merged.each other lines

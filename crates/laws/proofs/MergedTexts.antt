@@ -10,53 +10,41 @@ use Rattle.std.proofs.Common.{refl, sym, ◌∙◌, ap, subst, arith}
 use Rattle.std.proofs.lemmas.List.{length-map}
 use Rattle.std.proofs.lemmas.List.Elements.{All-cons, All-head, All-nil, All-tail}
 use Rattle.std.proofs.lemmas.List.Elements.{All-from_recursion, All-weaker, recursion_from_All}
+use Rattle.std.proofs.lemmas.Slice.Zip.{AllZip-long}
 use Rattle.fare_table.specs.Fares.{Fares}
 use Rattle.tap_views.specs.declared.token.Token.{Token}
 use Rattle.shard_book.specs.declared.entry.Entry.{Entry}
 use Rattle.shard_book.specs.SumsByKey.{sums_by_token, sums_by_validator}
 use Rattle.shard_book.specs.Sums.{Sums, add_all, sums}
-use Rattle.report_texts.specs.UploadEnds.{ArePlainEnds}
+use Rattle.shard_book.proofs.SameEntries.{RisingNumbers}
+use Rattle.report_texts.specs.UploadEnds.{ArePlainEnds, IsPlainEnd}
 use Rattle.report_texts.specs.OverHistory.{IsReportOver}
 use Rattle.report_texts.specs.Report.{report, upload_lines}
 use Rattle.report_texts.specs.declared.upload_end.UploadEnd.{UploadEnd}
-use Rattle.fare_service.proofs.RunVisits.{AllZip-length}
-use Rattle.report_texts.specs.UploadEnds.{IsPlainEnd}
 use Rattle.report_texts.specs.Numbers.{IsUploadEnd}
 use Rattle.part_reports.specs.Reports.{HasTapNumbers, IsMerged, IsPartReport, Report, end_texts}
-use Rattle.part_reports.specs.Reports.{all_ends, report_text, tokens_of_reports, validators_of_reports}
-use Rattle.part_reports.specs.Reports.{sums_of_validator as listed_at}
+use Rattle.part_reports.specs.Reports.{all_ends, report_text, tokens_of_reports}
+use Rattle.part_reports.specs.Reports.{validators_of_reports, sums_of_validator as listed_at}
 use Rattle.part_reports.proofs.TextsRead.{end_lines_joined, lines_whole}
+use Rattle.part_reports.proofs.UniqueTexts.{told as told_of_part}
 use Rattle.laws.specs.Sizes.{CanBeWritten, HasSize, HaveBoundedTerms}
-use Rattle.laws.specs.Split.{AreTokensOf, AreValidatorsOf, IsSplit, Part, pairs_of_parts}
-use Rattle.laws.specs.Split.{sums_at}
+use Rattle.laws.specs.Split.{AreTokensOf, AreValidatorsOf, IsSplit, Part, pairs_of_parts, sums_at}
 use Rattle.laws.proofs.CentsFit.{entries_few}
 use Rattle.laws.proofs.FieldsFit.{entries_fit}
-use Rattle.laws.proofs.Merging.{RisingNumbers}
 use Rattle.laws.proofs.PartSums.{by_validator, listed_parts, members}
-use Rattle.laws.proofs.ReportTexts.{end_of, ends_fit, same_lines, same_text}
-use Rattle.laws.proofs.ReportTexts.{told_by}
+use Rattle.laws.proofs.ReportTexts.{end_of, ends_fit, same_lines, same_text, told_by}
 use Rattle.laws.proofs.SumsFit.{CanBeSummed, CostsFew, EntryFits, summed}
 
 -- reports that tell something else have other texts
 abbrev pub TextsDiffer : Type 0
-TextsDiffer = (a b : Report) → HasTapNumbers a → HasTapNumbers b → report_text a ≡ report_text b → a ≡ b
+TextsDiffer = (a b : Report) → HasTapNumbers a → HasTapNumbers b → report_text a ≡ report_text b
+    → a ≡ b
 
 -- the report tells the part's totals, validators and tokens
 pub record TellsOf (part : Part) (told : Report) : Type 0 where
   pub totals : told.totals ≡ sums part.history
   pub validators : told.validators ≡ sums_by_validator part.history
   pub tokens : told.tokens ≡ sums_by_token part.history
-
-can_be_told : (told : Report) → IsPartReport told → HasTapNumbers told
-can_be_told told is = record {
-  number = is.number;
-  ends = is.ends;
-  totals = is.totals;
-  validators_number = is.validators_number;
-  validators = is.validators;
-  tokens_number = is.tokens_number;
-  tokens = is.tokens;
-}
 
 -- what the part's report tells has 64 bits
 pub record IsWritable (part : Part) : Type 0 where
@@ -98,7 +86,7 @@ own_can_be_told part ends can plain = record {
   number = omega (
     arith,
     can.number,
-    AllZip-length IsPlainEnd part.files ends plain,
+    sym (AllZip-long IsPlainEnd part.files ends plain),
     length-map ends end_of,
   );
   ends = All-from_recursion IsUploadEnd (map end_of ends)
@@ -116,7 +104,7 @@ module _ (differ : TextsDiffer) where
   tells part told can is over =
       let same : own_told part over.ends ≡ told =
       differ (own_told part over.ends) told (own_can_be_told part over.ends can over.of_uploads)
-      (can_be_told told is)
+      (told_of_part told is)
       (sym (over.shown ∙ same_text over.ends (sums part.history)
       (sums_by_validator part.history) (sums_by_token part.history))) in
       record {

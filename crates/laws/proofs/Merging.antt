@@ -1,39 +1,30 @@
 -- The entries of a token are in one part, and are those of the plain history.
-use Rattle.std.specs.Prelude.{ℕ, zero, suc, ◌≡◌, ◌≢◌, ◌⊎◌, ◌↔◌, ◌==◌, Bool, true, false, cond, List}
+use Rattle.std.specs.Prelude.{ℕ, zero, suc, ◌≡◌, ◌≢◌, ◌⊎◌, ◌==◌, Bool, true, false, cond, List}
 use Rattle.std.specs.Prelude.{[], ◌∷◌, ◌++◌, length, map, filter, flat_map, All, Some, slice_get}
-use Rattle.std.specs.Prelude.{IsPermutation}
-use Rattle.std.specs.Ordering.{eq_by_cmp, nat_cmp}
-use Rattle.std.specs.declared.cmp.Ordering.{Ordering}
-use Rattle.std.proofs.Common.{refl, sym, ◌∙◌, ap, subst, arith, inl, inr, get_or, eq-eqb, mod-lt}
-use Rattle.std.proofs.lemmas.Bool.Decides.{nat_tests, eqb_tells}
+use Rattle.std.proofs.Common.{refl, sym, ◌∙◌, ap, subst, inl, inr, get_or, eq-eqb, mod-lt}
+use Rattle.std.proofs.lemmas.Bool.Decides.{eqb_tells}
 use Rattle.std.proofs.lemmas.List.Elements.{All-head, All-tail, All-nil, All-cons, filter-append}
-use Rattle.std.proofs.lemmas.List.Sorted.{IsPermutation-map, length_permutation}
-use Rattle.std.proofs.lemmas.List.Sorted.{sum_by-IsPermutation, list_any-IsPermutation}
+use Rattle.std.proofs.lemmas.List.Sorted.{sum_by-IsPermutation, All-permutation, ranks_by}
 use Rattle.std.proofs.lemmas.Option.{slice_get-get_or}
-use Rattle.account_rule.specs.declared.reply.Reply.{Reply}
 use Rattle.tap_views.specs.Layout.{Tap}
 use Rattle.fare_table.specs.Fares.{Fares}
 use Rattle.shard_book.specs.declared.entry.Entry.{Entry}
 use Rattle.tap_views.specs.declared.token.Token.{Token}
-use Rattle.shard_book.specs.Entry.{is_of, is_at, own, reply_of}
-use Rattle.shard_book.specs.SumsByKey.{entries_of_validator, validators, tokens, sums_by_validator, sums_by_token}
-use Rattle.shard_book.specs.SumsByKey.{validator_of, token_of}
+use Rattle.shard_book.specs.Entry.{is_of, own}
+use Rattle.shard_book.specs.SumsByKey.{sums_by_validator, sums_by_token}
 use Rattle.shard_book.specs.Keys.{same_token}
-use Rattle.shard_book.specs.Rising.{rising, IsRising}
-use Rattle.shard_book.specs.Sums.{sums, sums_of_replies, is_paid, is_transfer, is_capped, is_stale}
-use Rattle.shard_book.specs.Sums.{is_unknown}
-use Rattle.tap_views.specs.Token.{bytes_of, token_cmp, token_eq}
+use Rattle.shard_book.specs.Sums.{sums}
+use Rattle.tap_views.specs.Token.{bytes_of}
 use Rattle.std.specs.List.{sum_by}
 use Rattle.std.specs.List.Sorted.{IsSorted}
 use Rattle.std.specs.Ordering.{is_lt}
 use Rattle.std.proofs.lemmas.List.Kept.{IsSortedBy-filter}
-use Rattle.std.proofs.lemmas.List.Sorted.{All-permutation, ranks_by}
 use Rattle.tap_views.specs.Encoding.{fields_of}
 use Rattle.tap_views.specs.declared.encoder.TapFields.{TapFields}
 use Rattle.fare_service.specs.Plain.{IsPlain}
 use Rattle.shard_book.specs.Plain.{unanswered, plain}
 use Rattle.tap_parts.specs.Canonical.{tap_cmp}
-use Rattle.tap_parts.specs.Parts.{taps_of_uploads}
+use Rattle.tap_parts.specs.Parts.{taps_of_uploads, part_of_token, of_part}
 use Rattle.settlement.proofs.Histories.{same_after}
 use Rattle.settlement.proofs.Own.{IsNamedBy}
 use Rattle.settlement.proofs.Same.{part_fields, sum_filter}
@@ -41,87 +32,11 @@ use Rattle.settlement.proofs.OwnEntries.{fields_named, same_plain}
 use Rattle.tap_parts.proofs.Total.{tap_cmp_total, tap_cmp_exact}
 use Rattle.settlement.proofs.Unique.{same_sorted}
 use Rattle.fare_service.proofs.PlainFields.{plain_fields}
-use Rattle.fare_service.proofs.PlainLists.{flat_alone, mapped_at, same_elements, filter-filter}
+use Rattle.fare_service.proofs.PlainLists.{flat_alone, mapped_at}
 use Rattle.shard_book.proofs.PlainReplies.{bare, own_bare, plain_bare}
-use Rattle.tap_parts.specs.Parts.{part_of_token, of_part}
+use Rattle.shard_book.proofs.SameEntries.{same_sums, same_entries, RisingNumbers, RisingTokens}
+use Rattle.shard_book.proofs.SameEntries.{same_by_validator, same_by_token}
 use Rattle.laws.specs.Split.{Part, IsSplit, entries_of_parts}
-
--- ---- histories with the same entries of each token have the same sums (as in the service's own
--- proof)
-pub same_sums : (xs ys : List Entry) → IsPermutation xs ys → sums xs ≡ sums ys
-unfolding sums_of_replies
-same_sums xs ys moved =
-    let replies = IsPermutation-map reply_of xs ys moved in
-    let one = map reply_of xs in
-    let other = map reply_of ys in
-    λ i. record {
-      taps = sym (length_permutation one other replies) i;
-      paid = sym (sum_by-IsPermutation (λ (r : Reply). cond (is_paid r.answer) 1 0) one other
-          replies) i;
-      transfers = sym (sum_by-IsPermutation (λ (r : Reply). cond (is_transfer r.answer) 1 0) one
-          other replies) i;
-      capped = sym (sum_by-IsPermutation (λ (r : Reply). cond (is_capped r.answer) 1 0) one other
-          replies) i;
-      stale = sym (sum_by-IsPermutation (λ (r : Reply). cond (is_stale r.answer) 1 0) one other
-          replies) i;
-      unknown = sym (sum_by-IsPermutation (λ (r : Reply). cond (is_unknown r.answer) 1 0) one other
-          replies) i;
-      cents = sym (sum_by-IsPermutation (λ (r : Reply). r.cents) one other replies) i;
-    }
-
-same_rising : {K : Type 0} (cmp : K → K → Ordering)
-    → ((keys risen : List K) → IsRising cmp keys risen ↔ (risen ≡ rising cmp keys))
-    → (xs ys : List K) → IsPermutation xs ys → rising cmp xs ≡ rising cmp ys
-same_rising cmp law xs ys moved =
-    let is = (law xs (rising cmp xs)).1 refl in
-    (law ys (rising cmp xs)).0 (record {
-      rises = is.rises;
-      same = λ key. is.same key ∙ list_any-IsPermutation (eq_by_cmp cmp key) xs ys moved;
-    })
-
-pub token_itself : (token : Token) → token_eq token token ≡ true
-token_itself token = grind (arith, nat_tests)
-
-pub same_entries : (xs ys : List Entry) → ((token : Token) → own token xs ≡ own token ys)
-    → IsPermutation xs ys
-unfolding own
-same_entries xs ys same =
-    same_elements (λ (entry : Entry). entry.token) token_eq token_itself same_token xs ys same
-
-pub same_at : (validator : ℕ) (xs ys : List Entry) → ((token : Token) → own token xs ≡ own token ys)
-    → (token : Token) → own token (entries_of_validator validator xs) ≡ own token (entries_of_validator validator ys)
-unfolding own entries_of_validator
-same_at validator xs ys same token =
-    filter-filter (is_of token) (is_at validator) xs ∙ ap (filter (is_at validator)) (same token)
-    ∙ sym (filter-filter (is_of token) (is_at validator) ys)
-
-abbrev pub RisingNumbers : Type 0
-RisingNumbers = (keys risen : List ℕ) → IsRising nat_cmp keys risen ↔ (risen ≡ rising nat_cmp keys)
-
-abbrev pub RisingTokens : Type 0
-RisingTokens = (keys risen : List Token) → IsRising token_cmp keys risen
-    ↔ (risen ≡ rising token_cmp keys)
-
-module _ (numbers : RisingNumbers) (names : RisingTokens) (xs ys : List Entry)
-    (same : (token : Token) → own token xs ≡ own token ys) where
-  same_by_validator : sums_by_validator xs ≡ sums_by_validator ys
-  unfolding sums_by_validator validators
-  same_by_validator =
-      let keys = same_rising nat_cmp numbers (map validator_of xs) (map validator_of ys)
-      (IsPermutation-map validator_of xs ys (same_entries xs ys same)) in
-      let each : (v : ℕ) → sums (entries_of_validator v xs) ≡ sums (entries_of_validator v ys) =
-      λ v. same_sums (entries_of_validator v xs) (entries_of_validator v ys)
-      (same_entries (entries_of_validator v xs) (entries_of_validator v ys) (same_at v xs ys same)) in
-      ap (map (λ (v : ℕ). (v, sums (entries_of_validator v xs)))) keys
-      ∙ (λ i. map (λ (v : ℕ). (v, each v i)) (rising nat_cmp (map validator_of ys)))
-
-  same_by_token : sums_by_token xs ≡ sums_by_token ys
-  unfolding sums_by_token tokens
-  same_by_token =
-      let keys = same_rising token_cmp names (map token_of xs) (map token_of ys)
-      (IsPermutation-map token_of xs ys (same_entries xs ys same)) in
-      ap (map (λ (t : Token). (t, sums (own t xs)))) keys
-      ∙ (λ i. map (λ (t : Token). (t, sums (same t i))) (rising token_cmp (map token_of ys)))
 
 -- ---- the taps of a token fall to its part
 abbrev pub IsName : Tap → Type 0
@@ -236,12 +151,17 @@ module _ (fares : Fares) (uploads : List (List ℕ)) (history : List Entry) (par
       is.settled.canonical.sorted sorted
       (λ f. sum_by-IsPermutation f files here is.settled.canonical.moved
       ∙ sum_by-IsPermutation f
-      (map fields_of (of_part number (length parts) (taps_of_uploads split.settled.taps))) files is.its_taps
-      ∙ ap (sum_by f) (part_fields (λ token. part_of_token token (length parts)) number (taps_of_uploads split.settled.taps))
+      (map fields_of (of_part number (length parts) (taps_of_uploads split.settled.taps))) files
+      is.its_taps
+      ∙ ap (sum_by f)
+      (part_fields (λ token. part_of_token token (length parts)) number
+      (taps_of_uploads split.settled.taps))
       ∙ sum_filter p f all
       ∙ sym (sum_by-IsPermutation (λ x. cond (p x) (f x) 0) all order split.settled.canonical.moved)
       ∙ sym (sum_filter p f order)
-      ∙ ap (sum_by f) (sym (part_fields (λ token. part_of_token token (length parts)) number split.settled.order))) in
+      ∙ ap (sum_by f)
+      (sym (part_fields (λ token. part_of_token token (length parts)) number
+      split.settled.order))) in
       is.settled.entries ∙ same_after fares [] is.settled.order own same
 
   pub part_bare_all : (number : ℕ) (part : Part) → slice_get parts number ≡ Some part
@@ -320,7 +240,8 @@ module _ (fares : Fares) (uploads : List (List ℕ)) (history : List Entry) (par
       × (sums_by_validator (entries_of_parts parts) ≡ sums_by_validator history)
       × (sums_by_token (entries_of_parts parts) ≡ sums_by_token history)
   merged numbers rising_tokens = (
-    same_sums (entries_of_parts parts) history (same_entries (entries_of_parts parts) history own_all),
+    same_sums (entries_of_parts parts) history
+        (same_entries (entries_of_parts parts) history own_all),
     same_by_validator numbers rising_tokens (entries_of_parts parts) history own_all,
     same_by_token numbers rising_tokens (entries_of_parts parts) history own_all,
   )

@@ -3,10 +3,10 @@
 use Rattle.std.proofs.Common.{◌≡◌, List, [], ◌∷◌, ◌++◌, Bool}
 use Rattle.std.proofs.Common.{true, false, cond, refl, sym, ap, subst, ◌∙◌, arith, inl, inr}
 use Rattle.std.specs.Prelude.{◌⊎◌, Contains}
-use Rattle.std.specs.Cmp.{IsTotalOrder, tied_itself}
+use Rattle.std.specs.Cmp.{IsTotalOrder, tied_itself, Equal-is}
 use Rattle.std.specs.List.{dedup, dedup_from}
 use Rattle.std.specs.List.Sorted.{IsStrictlySortedBy}
-use Rattle.std.specs.Ordering.{eq_by_cmp, is_eq, ordering_reverse}
+use Rattle.std.specs.Ordering.{eq_by_cmp, ordering_reverse}
 use Rattle.std.specs.declared.cmp.Ordering.{Ordering}
 use Rattle.std.specs.declared.cmp.Ordering.TheVariants.{Less, Equal, Greater}
 use Rattle.std.proofs.lemmas.List.Elements.{All-from_recursion, All-contains}
@@ -24,11 +24,6 @@ use Rattle.laws.proofs.Posts.{SameBill, bill-refl, bill-trans, bill-cons, bill-t
 abbrev pub same_tap : TapFields → TapFields → Bool
 same_tap = eq_by_cmp tap_cmp
 
-pub equal_from : (r : Ordering) → is_eq r ≡ true → r ≡ Equal
-equal_from Less e = absurd (let h : false ≡ true = e in cc)
-equal_from Equal e = refl
-equal_from Greater e = absurd (let h : false ≡ true = e in cc)
-
 once_from : (fares : Fares) (earlier : List Entry) (f : TapFields) (fs : List TapFields)
     → SameBill fares earlier (f ∷ fs) (dedup_from same_tap f fs)
 once_from fares earlier f [] = bill-refl fares earlier (f ∷ [])
@@ -43,7 +38,7 @@ once_from fares earlier f (x ∷ fs) =
         → SameBill fares earlier (f ∷ x ∷ fs)
         (cond b (dedup_from same_tap f fs) (f ∷ dedup_from same_tap x fs))
     by_test true e rest later =
-        let same : x ≡ f = tap_cmp_exact x f (equal_from (tap_cmp x f) e) in
+        let same : x ≡ f = tap_cmp_exact x f ((Equal-is (tap_cmp x f)).0 e) in
         let B : TapFields → Type 0 =
         λ y. SameBill fares earlier (f ∷ y ∷ fs) (dedup_from same_tap f fs) in
         subst B (sym same)

@@ -19,6 +19,7 @@ use Rattle.tap_views.specs.declared.encoder.TapFields.{TapFields}
 use Rattle.tap_views.specs.Token.{bytes_of}
 use Rattle.tap_views.specs.declared.token.Token.{Token}
 use Rattle.tap_views.proofs.ReadingLemmas.{one_list}
+use Rattle.tap_views.proofs.Lists.{All-split}
 use Rattle.fare_table.specs.Fares.{Fares, mode_at}
 use Rattle.account_rule.specs.Laws.{is_ride}
 use Rattle.account_rule.specs.Replies.{replies}
@@ -27,7 +28,6 @@ use Rattle.account_rule.specs.declared.tap.TapIn.{TapIn}
 use Rattle.shard_book.specs.Entry.{mode_of_place, tap_of, taps_of}
 use Rattle.shard_book.specs.declared.entry.Entry.{Entry}
 use Rattle.shard_book.proofs.WindowsLemmas.{replies-own}
-use Rattle.fare_service.proofs.PlainLists.{All-split}
 use Rattle.tap_parts.specs.Canonical.{tap_cmp}
 use Rattle.tap_parts.proofs.Total.{tap_cmp_exact, tap_cmp_total}
 use Rattle.settlement.specs.Settled.{IsSettledHistory}
@@ -39,8 +39,7 @@ use Rattle.settlement.proofs.Settlings.{legal_history}
 use Rattle.settlement.proofs.Sorting.{sorted_by_pairs}
 use Rattle.settlement.proofs.Unique.{AreAlike, same_sorted}
 use Rattle.laws.specs.Bills.{GivesOneAtMost, rides_of}
-use Rattle.laws.specs.TapSets.{HaveOneMoreTap, fields_of_uploads, is_known_tap, is_tap_of}
-use Rattle.laws.specs.TapSets.{own_taps}
+use Rattle.laws.specs.TapSets.{HaveOneMoreTap, fields_of_uploads, is_known_tap, is_tap_of, own_taps}
 use Rattle.laws.proofs.Alike.{alike-filter, alike-without, moved_all, moved_kept}
 use Rattle.laws.proofs.Alike.{pairs_behind, pairs_without, permuted_alike, split_at}
 use Rattle.laws.proofs.OwnTaps.{own_after, tap_in, taps_after}

@@ -2,7 +2,7 @@
 use Rattle.std.proofs.Common.{◌≡◌, ℕ, ◌+◌, ◌<◌, ◌≤◌, ℤ, List, [], ◌∷◌, ◌++◌, length, map}
 use Rattle.std.proofs.Common.{sym, ap, subst, ◌∙◌, Option, Some, None, ⊎_elim, codes}
 use Rattle.std.proofs.lemmas.Bool.{cases_lt}
-use Rattle.std.specs.Prelude.{unsigned_abs}
+use Rattle.std.specs.Prelude.{unsigned_abs, ◌/◌, ◌%◌, ◌+ℤ◌, if◌then◌else◌, nat_lt}
 use Rattle.jiff_core.specs.declared.civil.datetime.DateTime.{DateTime}
 use Rattle.jiff_core.specs.declared.offset.Offset.{Offset}
 use Rattle.jiff_core.specs.DateTime.{civil_nanos}
@@ -11,7 +11,6 @@ use Rattle.jiff_core.proofs.DateLemmas.{epoch_day_injective}
 use Rattle.jiff_core.proofs.DateTimeLemmas.{civil_nanos_injective, time_nanos_injective}
 use Rattle.jiff.specs.Names.{iso_datetime_text}
 use Rattle.jiff_fmt.specs.Text.{fraction_part, offset_text, pad2, sign_byte, year_text}
-use Rattle.std.specs.Prelude.{◌/◌, ◌%◌, ◌+ℤ◌, if◌then◌else◌, nat_lt}
 use Rattle.jiff_tz.specs.declared.posix.TimeZone.{TimeZone as PosixRule}
 use Rattle.fare_table.specs.Fares.{Fares, terms_at}
 use Rattle.tap_views.specs.Token.{bytes_of}
@@ -36,10 +35,10 @@ use Rattle.fare_texts.specs.LedgerLines.{AreLedgerLinesAfter, head_text, reason_
 use Rattle.account_rule.specs.declared.no_transfer.NoTransfer.{NoTransfer}
 use Rattle.account_rule.specs.declared.no_transfer.NoTransfer.TheVariants.{FirstTap, TooLate}
 use Rattle.account_rule.specs.declared.no_transfer.NoTransfer.TheVariants.{AfterTransfer, NoneGiven}
-use Rattle.account_rule.specs.declared.no_transfer.NoTransfer.TheVariants.{NotPermitted, RideTooLate}
-use Rattle.fare_texts.specs.NoTransferWords.{IsAfterTransferText, IsNoTransferEnd}
-use Rattle.fare_texts.specs.NoTransferWords.{IsNoTransferText, IsRideTooLateText, IsTooLateText}
-use Rattle.fare_texts.specs.NoTransferWords.{gap_words}
+use Rattle.account_rule.specs.declared.no_transfer.NoTransfer.TheVariants.{NotPermitted}
+use Rattle.account_rule.specs.declared.no_transfer.NoTransfer.TheVariants.{RideTooLate}
+use Rattle.fare_texts.specs.NoTransferWords.{IsAfterTransferText, IsNoTransferEnd, IsNoTransferText}
+use Rattle.fare_texts.specs.NoTransferWords.{IsRideTooLateText, IsTooLateText, gap_words}
 use Rattle.fare_texts.specs.NoTransferWords.{no_transfer_after}
 use Rattle.fare_texts.specs.ReasonWords.{IsReasonWords, IsRideText, IsStaleText, IsTransferText}
 use Rattle.fare_texts.specs.ReasonWords.{IsWindowText, charge_end, charge_start, giver_start}

@@ -1,5 +1,6 @@
 -- The entries of one token among entries, and what holds of each of them.
-use Rattle.std.proofs.Common.{◌≡◌, true, false, List, [], ◌∷◌, ◌++◌, map, refl, sym, ap, subst, ◌∙◌, arith, zero, suc, ⊎_elim, All}
+use Rattle.std.proofs.Common.{◌≡◌, true, false, List, [], ◌∷◌, ◌++◌, map, refl, sym, ap, subst, ◌∙◌}
+use Rattle.std.proofs.Common.{⊎_elim}
 use Rattle.std.specs.List.{AllByRecursion}
 use Rattle.std.specs.declared.cmp.Ordering.TheVariants.{Less, Equal}
 use Rattle.std.proofs.lemmas.Bool.{cases_Bool}
@@ -11,48 +12,41 @@ use Rattle.shard_book.specs.Entry.{is_of, own, tap_of, taps_of}
 use Rattle.shard_book.specs.History.{IsLegal, IsReplied}
 use Rattle.tap_views.specs.Token.{bytes_of, token_cmp, token_eq}
 use Rattle.shard_book.specs.declared.entry.Entry.{Entry}
+use Rattle.shard_book.proofs.OwnEntries.{own_same, own_other, own_none}
 use Rattle.tap_views.specs.declared.token.Token.{Token}
-use Rattle.fare_texts.proofs.Rising.{own_here, own_none, own_not}
 use Rattle.tap_views.proofs.TokenLemmas.{same_token, token_eq-refl, token_cmp-total}
 
 -- each of these is the token's
 abbrev pub AllOf : Token → List Entry → Type 0
 AllOf token entries = AllByRecursion (λ entry. entry.token ≡ token) entries
 
-pub all_append : {X : Type 0} (P : X → Type 0) (xs ys : List X) → AllByRecursion P xs → AllByRecursion P ys → AllByRecursion P (xs ++ ys)
-all_append P [] ys px py = py
-all_append P (x ∷ xs) ys px py = (px.0, all_append P xs ys px.1 py)
-
-pub all_parts : {X : Type 0} (P : X → Type 0) (xs ys : List X) → AllByRecursion P (xs ++ ys) → AllByRecursion P xs × AllByRecursion P ys
+pub all_parts : {X : Type 0} (P : X → Type 0) (xs ys : List X) → AllByRecursion P (xs ++ ys)
+    → AllByRecursion P xs × AllByRecursion P ys
 all_parts P [] ys all = (tt, all)
 all_parts P (x ∷ xs) ys all = let rest = all_parts P xs ys all.1 in ((all.0, rest.0), rest.1)
-
-pub all_weaker : {X : Type 0} (P Q : X → Type 0) (xs : List X) → ((x : X) → P x → Q x) → AllByRecursion P xs → AllByRecursion Q xs
-all_weaker P Q [] weaker all = tt
-all_weaker P Q (x ∷ xs) weaker all = (weaker x all.0, all_weaker P Q xs weaker all.1)
-
-pub all_read : {X : Type 0} (P : X → Type 0) (xs : List X) → AllByRecursion P xs → All P xs
-all_read P [] all k d within = absurd (omega arith)
-all_read P (x ∷ xs) all zero d within = all.0
-all_read P (x ∷ xs) all (suc k) d within = all_read P xs all.1 k d (omega arith)
 
 is_own : (token : Token) (entry : Entry) → entry.token ≡ token → is_of token entry ≡ true
 is_own token entry is = ap (λ (t : Token). token_eq t token) is ∙ token_eq-refl token
 
 -- entries that are all the token's
-pub own_all : (token : Token) (entries : List Entry) → AllOf token entries → own token entries ≡ entries
+pub own_all : (token : Token) (entries : List Entry) → AllOf token entries
+    → own token entries ≡ entries
 own_all token [] all = own_none token
 own_all token (entry ∷ entries) all =
-    own_here token entry entries (is_own token entry all.0) ∙ ap (λ (es : List Entry). entry ∷ es) (own_all token entries all.1)
+    own_same token entry entries (is_own token entry all.0)
+    ∙ ap (λ (es : List Entry). entry ∷ es) (own_all token entries all.1)
 
 -- of the token's own entries holds what holds of all, and they are its
-pub own_each : (P : Entry → Type 0) (token : Token) (entries : List Entry) → AllByRecursion P entries → AllByRecursion P (own token entries) × AllOf token (own token entries)
+pub own_each : (P : Entry → Type 0) (token : Token) (entries : List Entry)
+    → AllByRecursion P entries
+    → AllByRecursion P (own token entries) × AllOf token (own token entries)
 own_each P token [] all = rw own_none (tt, tt)
 own_each P token (entry ∷ entries) all =
     let rest = own_each P token entries all.1 in
     ⊎_elim
-    (λ (is : is_of token entry ≡ true). rw (own_here token entry entries is) ((all.0, rest.0), (same_token entry.token token is, rest.1)))
-    (λ (other : is_of token entry ≡ false). rw (own_not token entry entries other) rest)
+    (λ (is : is_of token entry ≡ true). rw (own_same token entry entries is)
+    ((all.0, rest.0), (same_token entry.token token is, rest.1)))
+    (λ (other : is_of token entry ≡ false). rw (own_other token entry entries other) rest)
     (cases_Bool (is_of token entry))
 
 -- a token below another is another
@@ -60,25 +54,31 @@ less_apart : (a b : Token) → token_cmp a b ≡ Less → token_eq a b ≡ false
 less_apart a b less =
     ⊎_elim
     (λ (same : token_eq a b ≡ true).
-    let tied : token_cmp a a ≡ Less = subst (λ (t : Token). token_cmp a t ≡ Less) (sym (same_token a b same)) less in
+    let tied : token_cmp a a ≡ Less =
+    subst (λ (t : Token). token_cmp a t ≡ Less) (sym (same_token a b same)) less in
     let bad : Less ≡ Equal = sym tied ∙ tied_itself token_cmp-total a in
     absurd (cc))
     (λ (apart : token_eq a b ≡ false). apart)
     (cases_Bool (token_eq a b))
 
 -- entries of tokens below one have none of it
-pub own_below : (token : Token) (entries : List Entry) → AllByRecursion (λ entry. token_cmp entry.token token ≡ Less) entries → own token entries ≡ []
+pub own_below : (token : Token) (entries : List Entry)
+    → AllByRecursion (λ entry. token_cmp entry.token token ≡ Less) entries → own token entries ≡ []
 own_below token [] below = own_none token
 own_below token (entry ∷ entries) below =
-    own_not token entry entries (less_apart entry.token token below.0) ∙ own_below token entries below.1
+    own_other token entry entries (less_apart entry.token token below.0)
+    ∙ own_below token entries below.1
 
 -- ---- legal histories
 -- a reply depends on the token's own entries before
-pub replied_same : (fares : Fares) (before other : List Entry) (entry : Entry) → own entry.token before ≡ own entry.token other
+pub replied_same : (fares : Fares) (before other : List Entry) (entry : Entry)
+    → own entry.token before ≡ own entry.token other
     → IsReplied fares before entry → IsReplied fares other entry
 unfolding IsReplied taps_of
 replied_same fares before other entry same replied =
-    replied ∙ ap (λ (es : List Entry). reply (rules_of fares (bytes_of entry.token)) (map (tap_of fares) es) (tap_of fares entry)) same
+    replied ∙ ap
+    (λ (es : List Entry). reply (rules_of fares (bytes_of entry.token)) (map (tap_of fares) es)
+    (tap_of fares entry)) same
 
 -- where an entry stands in the history of which it is an own one
 record Place (token : Token) (history before : List Entry) (entry : Entry) : Type 0 where
@@ -88,27 +88,32 @@ record Place (token : Token) (history before : List Entry) (entry : Entry) : Typ
   pub own_front : own token front ≡ before
   pub is : entry.token ≡ token
 
-place_of : (token : Token) (history before : List Entry) (entry : Entry) (after : List Entry) → own token history ≡ before ++ entry ∷ after
+place_of : (token : Token) (history before : List Entry) (entry : Entry) (after : List Entry)
+    → own token history ≡ before ++ entry ∷ after
     → Place token history before entry
 place_of token [] [] entry after is = let bad : [] ≡ entry ∷ after = sym (own_none token) ∙ is in cc
-place_of token [] (b ∷ before) entry after is = let bad : [] ≡ b ∷ (before ++ entry ∷ after) = sym (own_none token) ∙ is in cc
+place_of token [] (b ∷ before) entry after is = let bad : [] ≡ b ∷ (before ++ entry ∷ after) =
+    sym (own_none token) ∙ is in cc
 place_of token (e ∷ history) before entry after is =
     ⊎_elim
-    (λ (here : is_of token e ≡ true). at before (sym (own_here token e history here) ∙ is) (same_token e.token token here)
+    (λ (here : is_of token e ≡ true). at before (sym (own_same token e history here) ∙ is)
+    (same_token e.token token here)
     (λ b same. place_of token history b entry after same))
     (λ (other : is_of token e ≡ false).
-    let place = place_of token history before entry after (sym (own_not token e history other) ∙ is) in
+    let place = place_of token history before entry after
+    (sym (own_other token e history other) ∙ is) in
     record {
       front = e ∷ place.front;
       behind = place.behind;
       whole = ap (λ (es : List Entry). e ∷ es) place.whole;
-      own_front = own_not token e place.front other ∙ place.own_front;
+      own_front = own_other token e place.front other ∙ place.own_front;
       is = place.is;
     })
     (cases_Bool (is_of token e))
   where
     at : (before : List Entry) → e ∷ own token history ≡ before ++ entry ∷ after → e.token ≡ token
-        → ((b : List Entry) → own token history ≡ b ++ entry ∷ after → Place token history b entry) → Place token (e ∷ history) before entry
+        → ((b : List Entry) → own token history ≡ b ++ entry ∷ after → Place token history b entry)
+        → Place token (e ∷ history) before entry
     at [] same of further =
         let first : e ≡ entry = cc in
         record {
@@ -126,24 +131,29 @@ place_of token (e ∷ history) before entry after is =
           front = e ∷ place.front;
           behind = place.behind;
           whole = ap (λ (es : List Entry). e ∷ es) place.whole;
-          own_front = own_here token e place.front (is_own token e of) ∙ ap (λ (es : List Entry). e ∷ es) place.own_front
+          own_front = own_same token e place.front (is_own token e of)
+              ∙ ap (λ (es : List Entry). e ∷ es) place.own_front
               ∙ ap (λ (x : Entry). x ∷ before) first;
           is = place.is;
         }
 
-front_of : (token : Token) (before more whole : List Entry) → whole ≡ before ++ more → AllOf token whole → AllOf token before
-front_of token before more whole is all = (all_parts (λ (e : Entry). e.token ≡ token) before more (subst (AllOf token) is all)).0
+front_of : (token : Token) (before more whole : List Entry) → whole ≡ before ++ more
+    → AllOf token whole → AllOf token before
+front_of token before more whole is all =
+    (all_parts (λ (e : Entry). e.token ≡ token) before more (subst (AllOf token) is all)).0
 
 none_is : (entries : List Entry) → AllByRecursion (λ entry. entry ≡ entry) entries
 none_is [] = tt
 none_is (e ∷ entries) = (refl, none_is entries)
 
-pub own_is_legal : (fares : Fares) (history : List Entry) (token : Token) → IsLegal fares history → IsLegal fares (own token history)
+pub own_is_legal : (fares : Fares) (history : List Entry) (token : Token) → IsLegal fares history
+    → IsLegal fares (own token history)
 own_is_legal fares history token legal = record {
   each = λ before entry after is.
       let place = place_of token history before entry after is in
       let all = (own_each (λ (e : Entry). e ≡ e) token history (none_is history)).1 in
-      let owned : own token before ≡ before = own_all token before (front_of token before (entry ∷ after) (own token history) is all) in
+      let owned : own token before ≡ before =
+      own_all token before (front_of token before (entry ∷ after) (own token history) is all) in
       let same : own token place.front ≡ own token before = place.own_front ∙ sym owned in
       replied_same fares place.front before entry
       (subst (λ (t : Token). own t place.front ≡ own t before) (sym place.is) same)

@@ -8,65 +8,31 @@ use Rattle.std.specs.Ordering.{eq_by_cmp, nat_cmp}
 use Rattle.std.specs.Set.{is_member}
 use Rattle.std.specs.declared.cmp.Ordering.TheVariants.{Less}
 use Rattle.std.proofs.Common.{refl, sym, ◌∙◌, ap, subst, arith}
-use Rattle.std.proofs.lemmas.Bool.{false≢true}
+use Rattle.std.proofs.lemmas.Bool.{false≢true, eqb-true}
 use Rattle.std.proofs.lemmas.Bool.Decides.{nat_tests}
 use Rattle.std.proofs.lemmas.List.{map-append}
 use Rattle.std.proofs.lemmas.List.Elements.{filter-append}
+use Rattle.std.proofs.Math.Bool.{or_assoc}
 use Rattle.shard_book.specs.declared.entry.Entry.{Entry}
-use Rattle.shard_book.specs.SumsByKey.{entries_of_validator, sums_by_validator, validators, validator_of}
+use Rattle.shard_book.specs.SumsByKey.{entries_of_validator, sums_by_validator, validators}
+use Rattle.shard_book.specs.SumsByKey.{validator_of}
 use Rattle.shard_book.specs.Rising.{rising}
-use Rattle.shard_book.specs.Sums.{Sums, add_all, add_sums, sums, sums_of_replies}
+use Rattle.shard_book.specs.Sums.{Sums, add_all, add_sums, sums}
+use Rattle.shard_book.proofs.SameEntries.{RisingNumbers}
+use Rattle.shard_book.proofs.SumsLemmas.{add_assoc, add_none, none_add}
 use Rattle.part_reports.specs.Reports.{sums_of_validator as listed_at}
 use Rattle.laws.specs.Split.{Part, entries_of_parts, sums_at}
-use Rattle.laws.proofs.Merging.{RisingNumbers}
 
 -- the sums by validator of each part, part by part
 abbrev pub by_validator : List Part → List (ℕ × Sums)
 by_validator parts = flat_map (λ part. sums_by_validator part.history) parts
 
 -- ---- adding up
-add_none : (s : Sums) → add_sums s (sums []) ≡ s
-unfolding sums_of_replies
-add_none s = λ i. record {
-  taps = (let e : s.taps + 0 ≡ s.taps = omega arith in e) i;
-  paid = (let e : s.paid + 0 ≡ s.paid = omega arith in e) i;
-  transfers = (let e : s.transfers + 0 ≡ s.transfers = omega arith in e) i;
-  capped = (let e : s.capped + 0 ≡ s.capped = omega arith in e) i;
-  stale = (let e : s.stale + 0 ≡ s.stale = omega arith in e) i;
-  unknown = (let e : s.unknown + 0 ≡ s.unknown = omega arith in e) i;
-  cents = (let e : s.cents + 0 ≡ s.cents = omega arith in e) i;
-}
-
-none_add : (s : Sums) → s ≡ add_sums (sums []) s
-unfolding sums_of_replies
-none_add s = λ i. record {
-  taps = (let e : s.taps ≡ 0 + s.taps = omega arith in e) i;
-  paid = (let e : s.paid ≡ 0 + s.paid = omega arith in e) i;
-  transfers = (let e : s.transfers ≡ 0 + s.transfers = omega arith in e) i;
-  capped = (let e : s.capped ≡ 0 + s.capped = omega arith in e) i;
-  stale = (let e : s.stale ≡ 0 + s.stale = omega arith in e) i;
-  unknown = (let e : s.unknown ≡ 0 + s.unknown = omega arith in e) i;
-  cents = (let e : s.cents ≡ 0 + s.cents = omega arith in e) i;
-}
-
-sum_assoc : (a b c : ℕ) → a + (b + c) ≡ (a + b) + c
-sum_assoc a b c = omega arith
-
-pub add_assoc : (a b c : Sums) → add_sums a (add_sums b c) ≡ add_sums (add_sums a b) c
-add_assoc a b c = λ i. record {
-  taps = sum_assoc a.taps b.taps c.taps i;
-  paid = sum_assoc a.paid b.paid c.paid i;
-  transfers = sum_assoc a.transfers b.transfers c.transfers i;
-  capped = sum_assoc a.capped b.capped c.capped i;
-  stale = sum_assoc a.stale b.stale c.stale i;
-  unknown = sum_assoc a.unknown b.unknown c.unknown i;
-  cents = sum_assoc a.cents b.cents c.cents i;
-}
 
 add_append : (xs ys : List Sums) → add_all (xs ++ ys) ≡ add_sums (add_all xs) (add_all ys)
-add_append [] ys = none_add (add_all ys)
+add_append [] ys = sym (none_add (add_all ys))
 add_append (x ∷ xs) ys =
-    ap (add_sums x) (add_append xs ys) ∙ add_assoc x (add_all xs) (add_all ys)
+    ap (add_sums x) (add_append xs ys) ∙ sym (add_assoc x (add_all xs) (add_all ys))
 
 listed_append : (v : ℕ) (xs ys : List (ℕ × Sums))
     → listed_at v (xs ++ ys) ≡ add_sums (listed_at v xs) (listed_at v ys)
@@ -83,9 +49,6 @@ same_test v k = grind (arith, nat_tests)
 
 less_apart : (k q : ℕ) → nat_cmp k q ≡ Less → (q == k) ≡ false
 less_apart k q less = grind (arith, nat_tests)
-
-is_same : (k v : ℕ) → (k == v) ≡ true → k ≡ v
-is_same k v is = grind (arith, nat_tests)
 
 -- the validator is none of these
 abbrev IsNone : ℕ → List ℕ → Type 0
@@ -119,8 +82,8 @@ listed_one v f (k ∷ keys) rise out =
         → listed_at v (pairs f (k ∷ keys)) ≡ f v
     by_test true is rest =
         rw is (ap (add_sums (f k)) (listed_none v f keys
-        (others_none k v keys (is_same k v is) rise.0)) ∙ add_none (f k)
-        ∙ ap f (is_same k v is))
+        (others_none k v keys (eqb-true k v is) rise.0)) ∙ add_none (f k)
+        ∙ ap f (eqb-true k v is))
     by_test false is rest = let more = rest is in rw is more
 
 none_member : (v : ℕ) (keys : List ℕ) → IsNone v keys
@@ -139,7 +102,8 @@ or_right true b is = absurd (false≢true (sym is))
 or_right false b is = is
 
 none_at : (v : ℕ) (entries : List Entry)
-    → is_member (eq_by_cmp nat_cmp) (map validator_of entries) v ≡ false → entries_of_validator v entries ≡ []
+    → is_member (eq_by_cmp nat_cmp) (map validator_of entries) v ≡ false
+    → entries_of_validator v entries ≡ []
 unfolding entries_of_validator
 none_at v [] none = refl
 none_at v (entry ∷ entries) none =
@@ -159,10 +123,6 @@ keys-append (x ∷ xs) ys = ap (λ ks. x.0 ∷ ks) (keys-append xs ys)
 pub keys-map : (f : ℕ → Sums) (ks : List ℕ) → keys_of (map (λ k. (k, f k)) ks) ≡ ks
 keys-map f [] = refl
 keys-map f (k ∷ ks) = ap (λ more. k ∷ more) (keys-map f ks)
-
-or_assoc : (a b c : Bool) → ((a || b) || c) ≡ (a || (b || c))
-or_assoc true b c = refl
-or_assoc false b c = refl
 
 among-append : (xs ys : List ℕ) (v : ℕ) → among (xs ++ ys) v ≡ (among xs v || among ys v)
 among-append [] ys v = refl
@@ -196,11 +156,13 @@ module _ (risen : RisingNumbers) where
   members (p ∷ parts) v =
       let first = sums_by_validator p.history in
       let keys = rising nat_cmp (map validator_of p.history) in
-      let own_keys : keys_of first ≡ keys = keys-map (λ k. sums (entries_of_validator k p.history)) keys in
+      let own_keys : keys_of first ≡ keys =
+      keys-map (λ k. sums (entries_of_validator k p.history)) keys in
       ap (λ vs. among vs v) (keys-append first (by_validator parts))
       ∙ among-append (keys_of first) (keys_of (by_validator parts)) v
       ∙ ap (λ b. b || among (keys_of (by_validator parts)) v)
       (ap (λ vs. among vs v) own_keys ∙ ((risen (map validator_of p.history) keys).1 refl).same v)
       ∙ ap (λ b. among (map validator_of p.history) v || b) (members parts v)
-      ∙ sym (among-append (map validator_of p.history) (map validator_of (entries_of_parts parts)) v)
+      ∙ sym (among-append (map validator_of p.history) (map validator_of (entries_of_parts parts))
+      v)
       ∙ sym (ap (λ vs. among vs v) (map-append validator_of p.history (entries_of_parts parts)))

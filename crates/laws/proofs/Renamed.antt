@@ -45,8 +45,7 @@ use Rattle.settlement.proofs.Placed.{NotLess, Pairs, sorted_pairs}
 use Rattle.settlement.proofs.Sorting.{sorted_by_pairs}
 use Rattle.settlement.proofs.Unique.{AreAlike, same_sorted}
 use Rattle.laws.specs.Bills.{ChargedAlike, HaveSameTerms, entry_for}
-use Rattle.laws.specs.TapSets.{HaveTapsAlike, fields_of_uploads, is_tap_of, own_taps}
-use Rattle.laws.specs.TapSets.{with_token}
+use Rattle.laws.specs.TapSets.{HaveTapsAlike, fields_of_uploads, is_tap_of, own_taps, with_token}
 use Rattle.laws.proofs.Alike.{alike-filter, alike-map, permuted_alike}
 use Rattle.laws.proofs.OwnTaps.{own_after}
 use Rattle.laws.proofs.Posts.{after, plain_is_after}
@@ -115,7 +114,8 @@ same_ride_of rules place [] = refl
 same_ride_of rules place (first ∷ window) = refl
 
 answer_alike : (rules : TokenRules) (place : ℕ) → AnswerAlike rules (of_class rules place)
-unfolding reply live_reply reason live_reason ends_in_transfer last_trip trips windows rides of_class
+unfolding reply live_reply reason live_reason ends_in_transfer last_trip trips windows rides
+    of_class
 answer_alike rules place = record {
   replies = λ earlier tap. refl;
   reasons = λ earlier tap.
@@ -175,14 +175,16 @@ module _ (fares : Fares) (token other : Token) (bytes : List ℕ)
   push_renamed : (one two : List Entry) (entry : Entry) → is_of token entry ≡ true
       → is_of other (entry_for other entry) ≡ true
       → taps_of fares token one ≡ taps_of fares other two
-      → taps_of fares token (one ++ entry ∷ []) ≡ taps_of fares other (two ++ entry_for other entry ∷ [])
+      → taps_of fares token (one ++ entry ∷ [])
+      ≡ taps_of fares other (two ++ entry_for other entry ∷ [])
   unfolding tap_of
   push_renamed one two entry is is_too same =
       let tap = tap_of fares entry in
       taps-push fares token one entry
       ∙ ap (λ b. cond b (taps_of fares token one ++ tap ∷ []) (taps_of fares token one)) is
       ∙ ap (λ ts. ts ++ tap ∷ []) same
-      ∙ sym (ap (λ b. cond b (taps_of fares other two ++ tap ∷ []) (taps_of fares other two)) is_too)
+      ∙ sym (ap (λ b. cond b (taps_of fares other two ++ tap ∷ []) (taps_of fares other two))
+      is_too)
       ∙ sym (taps-push fares other two (entry_for other entry))
 
   renamed_after : (fs : List TapFields) (one two : List Entry)
@@ -241,7 +243,8 @@ pub renamed : (fares : Fares) (token other : Token) (uploads others : List (List
     → All IsNamedBy (map fields_of one.order) → All IsNamedBy (map fields_of two.order)
     → ChargedAlike fares token other history again
 unfolding taps_of own
-renamed fares token other uploads others history again cuts other_cuts terms same one two names more =
+renamed fares token other uploads others history again cuts other_cuts terms same one two names
+    more =
     let here = one_list uploads same.taps one.taps cuts same.of_uploads one.of_uploads in
     let there = one_list others same.other_taps two.taps other_cuts same.of_others two.of_uploads in
     let bytes = bytes_of other in

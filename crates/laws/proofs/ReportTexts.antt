@@ -12,10 +12,10 @@ use Rattle.tap_views.specs.declared.fault.LayoutFault.TheVariants.{Length, Momen
 use Rattle.tap_views.specs.declared.token.Token.{Token}
 use Rattle.shard_book.specs.Sums.{Sums}
 use Rattle.fare_texts.specs.Counts.{totals_line}
-use Rattle.report_texts.specs.UploadEnds.{end_by}
-use Rattle.report_texts.specs.UploadEnds.{ArePlainEnds, IsPlainEnd}
+use Rattle.report_texts.specs.UploadEnds.{end_by, ArePlainEnds, IsPlainEnd}
 use Rattle.tap_views.specs.Files.{IsEndAfterBatches}
-use Rattle.report_texts.specs.Report.{report, tokens_section, upload_line, upload_lines, validators_section}
+use Rattle.report_texts.specs.Report.{report, tokens_section, upload_line, upload_lines}
+use Rattle.report_texts.specs.Report.{validators_section}
 use Rattle.tap_views.specs.Names.{fault_name}
 use Rattle.report_texts.specs.declared.upload_end.UploadEnd.{UploadEnd}
 use Rattle.report_texts.specs.declared.upload_end.UploadEnd.TheVariants.{Posted, Refused, Cut}
@@ -67,7 +67,8 @@ told_by ends totals validators tokens = record {
   tokens = tokens;
 }
 
-same_line : (number : ℕ) (end : UploadEnd) → upload_line number end ≡ upload_line number (end_of end)
+same_line : (number : ℕ) (end : UploadEnd)
+    → upload_line number end ≡ upload_line number (end_of end)
 unfolding upload_line
 same_line number (Posted taps) = refl
 same_line number (Refused taps offset fault) =
@@ -89,7 +90,8 @@ pub same_text : (ends : List UploadEnd) (totals : Sums) (validators : List (ℕ 
     → report ends totals validators tokens ≡ report_text (told_by ends totals validators tokens)
 same_text ends totals validators tokens =
     let sizes : length ends ≡ length (map end_of ends) = sym (length-map ends end_of) in
-    let behind : List ℕ = totals_line totals ++ (validators_section validators ++ tokens_section tokens) in
+    let behind : List ℕ =
+    totals_line totals ++ (validators_section validators ++ tokens_section tokens) in
     λ i. (number_line (codes "uploads ") (sizes i) ++ same_lines 0 ends i) ++ behind
 
 -- ---- the ends that the bytes of uploads call for

@@ -1,5 +1,6 @@
 -- One more tap of a token and its number of rides.
-use Rattle.std.proofs.Common.{◌≡◌, ℕ, zero, suc, ◌+◌, ◌-◌, ◌≤◌, ◌<◌, Bool, true, false, not, ◌&&◌, ◌||◌, cond}
+use Rattle.std.proofs.Common.{◌≡◌, ℕ, zero, suc, ◌+◌, ◌-◌, ◌≤◌, ◌<◌, Bool, true, false, not, ◌&&◌}
+use Rattle.std.proofs.Common.{◌||◌, cond}
 use Rattle.std.proofs.Common.{List, [], ◌∷◌, ◌++◌, Option, Some, None, refl, sym, ap, subst, ◌∙◌}
 use Rattle.std.proofs.Common.{arith, is_some, nat_le, nat_lt, option_map, All, inl, inr, count_by}
 use Rattle.std.specs.Prelude.{◌⊎◌}
@@ -12,7 +13,6 @@ use Rattle.account_rule.specs.declared.tap.TapIn.{TapIn}
 use Rattle.account_rule.specs.Trips.{TripEnd, ends_in_transfer, last_trip}
 use Rattle.account_rule.specs.Laws.{is_ride}
 use Rattle.account_rule.specs.Replies.{live_reply, replies, replies_after, reply, reply_with}
-use Rattle.account_rule.specs.Replies.{ride_reply}
 use Rattle.account_rule.specs.Taps.{LiveTap, is_later, live_at, live_tap}
 use Rattle.account_rule.specs.TokenRules.{TokenRules, TransferRules}
 use Rattle.account_rule.specs.inside.Kept.{gives}
@@ -20,6 +20,7 @@ use Rattle.account_rule.proofs.StepLemmas.{is_live, not_known, not_later, reply_
 use Rattle.account_rule.proofs.StepLemmas.{reply_stale, reply_transfer, reply_unknown}
 use Rattle.account_rule.proofs.TapLemmas.{after_tap, ends_in_transfer-push, is_later-push}
 use Rattle.account_rule.proofs.TapLemmas.{trip-push, trip-same}
+use Rattle.account_rule.proofs.ShareLemmas.{is_ride-reply}
 
 -- ---- how far the second of two walks over taps is ahead of the first, by the trip that can give a
 -- transfer in each, and how many rides each has had: it never falls behind again
@@ -156,11 +157,6 @@ same_live added one other tap follows behind = by_mode tap.mode refl
 abbrev ride_of : Reply → ℕ
 ride_of replied = cond (is_ride replied) 1 0
 
-is_ride_reply : (paid : Option ℕ) → is_ride (ride_reply paid) ≡ true
-unfolding ride_reply reply_with
-is_ride_reply None = refl
-is_ride_reply (Some cents) = refl
-
 -- the trip, if it has given no transfer yet
 abbrev unspent : ℕ → TripEnd → Option TripEnd
 unspent zero trip = Some trip
@@ -230,7 +226,7 @@ module _ (rules : TokenRules) (few : GiveOneAtMost rules.transfers) where
           ∙ ap not (sym e ∙ ends))
       by_test false e =
           is_shown shown some (ap is_ride (replied ∙ reply_ride rules (taps ++ tap ∷ []) e)
-          ∙ is_ride_reply _ ∙ ap not (sym e ∙ ends))
+          ∙ is_ride-reply _ ∙ ap not (sym e ∙ ends))
 
   view : (taps : List TapIn) (tap : TapIn) → View taps tap
   unfolding reply_with
@@ -258,7 +254,8 @@ module _ (rules : TokenRules) (few : GiveOneAtMost rules.transfers) where
   unfolding giver
   giver_shown taps tap shown some =
       ap can_give (trip-push rules taps tap shown some)
-      ∙ can_give-after (gives rules.transfers (last_trip rules taps) shown) (last_trip rules taps) shown
+      ∙ can_give-after (gives rules.transfers (last_trip rules taps) shown) (last_trip rules taps)
+      shown
       ∙ ap (λ b. giver_by b shown) (same_gives rules.transfers (last_trip rules taps) shown few)
 
   -- a tap that both take, live in both or in none
@@ -338,7 +335,8 @@ module _ (rules : TokenRules) (few : GiveOneAtMost rules.transfers) where
   added_after added [] taps earlier all =
       let first = walk added taps earlier (earlier ++ added ∷ []) 0
       (0 + ride_of (reply rules earlier added))
-      (more earlier earlier added 0 0 (same refl (omega arith))) (follows-added added earlier) all in
+      (more earlier earlier added 0 0 (same refl (omega arith))) (follows-added added earlier)
+      all in
       let there = rides-cons earlier added taps in
       omega (arith, first, there)
   added_after added (tap ∷ front) taps earlier all =

@@ -1,6 +1,6 @@
 -- Canonical lists that have the same set of taps are billed alike.
 use Rattle.std.proofs.Common.{◌≡◌, List, [], sym, subst, refl}
-use Rattle.std.specs.Cmp.{eq_by_cmp_equiv}
+use Rattle.std.specs.Cmp.{eq_by_cmp_equiv, Equal-is}
 use Rattle.std.specs.List.{dedup}
 use Rattle.std.specs.List.Sorted.{IsSorted}
 use Rattle.std.proofs.lemmas.List.Kept.{Contains-dedup, Contains-from_dedup}
@@ -9,14 +9,14 @@ use Rattle.tap_views.specs.declared.encoder.TapFields.{TapFields}
 use Rattle.fare_table.specs.Fares.{Fares}
 use Rattle.tap_parts.specs.Canonical.{tap_cmp}
 use Rattle.tap_parts.proofs.Total.{tap_cmp_total, tap_cmp_exact}
-use Rattle.laws.proofs.Once.{Among, equal_from, once, same_set, same_tap}
+use Rattle.laws.proofs.Once.{Among, once, same_set, same_tap}
 use Rattle.laws.proofs.Posts.{SameBill, bill-sym, bill-trans}
 
 -- what is among the others stays so when each run of equal taps is taken once
 among_once : (xs ys : List TapFields) → Among xs ys
     → Among (dedup same_tap xs) (dedup same_tap ys)
 among_once xs ys there = λ z c. Contains-dedup (eq_by_cmp_equiv tap_cmp_total)
-    (λ x y e. tap_cmp_exact x y (equal_from (tap_cmp x y) e)) ys z
+    (λ x y e. tap_cmp_exact x y ((Equal-is (tap_cmp x y)).0 e)) ys z
     (there z (Contains-from_dedup same_tap xs z c))
 
 pub same_bill : (fares : Fares) (xs ys : List TapFields) → IsSorted tap_cmp xs → IsSorted tap_cmp ys

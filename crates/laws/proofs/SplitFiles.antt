@@ -10,14 +10,13 @@ use Rattle.std.proofs.lemmas.List.Sorted.{IsPermutation-append, IsPermutation-re
 use Rattle.tap_views.specs.Encoding.{fields_of}
 use Rattle.tap_views.specs.Layout.{Tap}
 use Rattle.tap_views.specs.declared.encoder.TapFields.{TapFields}
-use Rattle.tap_parts.specs.Parts.{part_of_token, of_part}
+use Rattle.tap_parts.specs.Parts.{part_of_token, of_part, taps_of_uploads}
 use Rattle.tap_views.specs.Files.{AreGoodTaps, AreGoodTapsOfEach, HasOneReading}
 use Rattle.tap_parts.specs.Split.{IsSplitFile}
-use Rattle.fare_service.proofs.PlainRuns.{AllZip-append}
-use Rattle.tap_parts.specs.Parts.{taps_of_uploads}
 use Rattle.laws.specs.Files.{HasNoFault}
 use Rattle.settlement.proofs.Histories.{read_fields}
 use Rattle.tap_views.proofs.ReadingLemmas.{one_list}
+use Rattle.tap_views.proofs.Lists.{AllZip-append}
 
 -- the uploads of all groups, group after group
 abbrev pub all_of : List (List (List ℕ)) → List (List ℕ)
@@ -88,7 +87,8 @@ module _ (number parts : ℕ) where
       → AllZip (λ group file. IsSplitFile group parts number file) groups files
       → (uploads : List (List ℕ)) → uploads ≡ all_of groups → All HasOneReading uploads
       → All HasOneReading files
-      → (taps list : List (List Tap)) → AreGoodTapsOfEach uploads taps → AreGoodTapsOfEach files list
+      → (taps list : List (List Tap)) → AreGoodTapsOfEach uploads taps
+      → AreGoodTapsOfEach files list
       → IsPermutation (map fields_of (of_part number parts (taps_of_uploads taps)))
       (map fields_of (taps_of_uploads list))
   own_taps groups files zip uploads whole cuts file_cuts taps list each is =

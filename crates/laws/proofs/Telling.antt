@@ -1,5 +1,8 @@
 -- The lines of each token, one token after another, are those of a ledger.
-use Rattle.std.proofs.Common.{◌≡◌, ℕ, ◌+◌, ◌≤◌, ◌^◌, List, [], ◌∷◌, ◌++◌, length, length-append, flat_map, map, refl, sym, ap, subst, ◌∙◌, append_assoc, append-nil, arith, Option, Some, None, codes}
+use Rattle.std.proofs.Common.{◌≡◌, ℕ, ◌+◌, ◌≤◌, ◌^◌, List, [], ◌∷◌, ◌++◌, length, length-append}
+use Rattle.std.proofs.Common.{flat_map, map, refl, sym, ap, subst, ◌∙◌, append_assoc, append-nil}
+use Rattle.std.proofs.Common.{arith, Option, Some, None, codes}
+use Rattle.std.proofs.lemmas.List.Elements.{All-from_recursion}
 use Rattle.std.specs.List.{AllByRecursion}
 use Rattle.std.specs.List.Sorted.{IsStrictlySortedBy}
 use Rattle.std.specs.declared.cmp.Ordering.TheVariants.{Less}
@@ -11,17 +14,19 @@ use Rattle.tap_views.specs.Token.{token_cmp}
 use Rattle.shard_book.specs.declared.entry.Entry.{Entry}
 use Rattle.tap_views.specs.declared.token.Token.{Token}
 use Rattle.shard_book.proofs.RisingLemmas.{rising-is}
+use Rattle.shard_book.proofs.OwnEntries.{own-append}
 use Rattle.tap_views.proofs.TokenLemmas.{token_cmp-total, token_cmp-ties}
+use Rattle.tap_views.proofs.Lists.{each-append, each-weaker}
 use Rattle.fare_texts.specs.LedgerLines.{AreLedgerLinesAfter, IsLedgerLine, head_text, reason_after}
 use Rattle.fare_texts.specs.Ledger.{AreLinesOfEach, IsLedgerOver, tokens_told}
-use Rattle.ledger_check.specs.Ledger.{AreNext, IsLedgerOf, IsNextLine, IsNext, IsPostable, token_number}
+use Rattle.ledger_check.specs.Ledger.{AreNext, IsLedgerOf, IsNextLine, IsNext, IsPostable}
+use Rattle.ledger_check.specs.Ledger.{token_number}
 use Rattle.ledger_check.specs.Lines.{lines_of}
 use Rattle.ledger_check.proofs.LineLemmas.{lacks-tested, lines-line}
 use Rattle.ledger_check.proofs.TokenOrder.{less_number}
 use Rattle.laws.specs.Written.{AreLetters, AreShort, CanBeTold, told_entries}
 use Rattle.laws.proofs.Lacking.{line_ends_once}
-use Rattle.fare_texts.proofs.Rising.{own_both}
-use Rattle.laws.proofs.Owned.{AllOf, all_append, all_parts, all_read, all_weaker, own_all, own_below, own_each, replied_same}
+use Rattle.laws.proofs.Owned.{AllOf, all_parts, own_all, own_below, own_each, replied_same}
 
 abbrev Short : List ℕ → Type 0
 Short line = length line ≤ 255
@@ -32,19 +37,23 @@ record Told (fares : Fares) (done entries : List Entry) (text : List ℕ) : Type
   pub cut : (more : List ℕ) → lines_of (text ++ more) ≡ lines ++ lines_of more
   pub are : AllByRecursion Short lines → AreNext fares done entries lines
 
-next_append : (fares : Fares) (done one two : List Entry) (lines more : List (List ℕ)) → AreNext fares done one lines → AreNext fares (done ++ one) two more
+next_append : (fares : Fares) (done one two : List Entry) (lines more : List (List ℕ))
+    → AreNext fares done one lines → AreNext fares (done ++ one) two more
     → AreNext fares done (one ++ two) (lines ++ more)
-next_append fares done [] two [] more first then = subst (λ (es : List Entry). AreNext fares es two more) (append-nil done) then
+next_append fares done [] two [] more first then =
+    subst (λ (es : List Entry). AreNext fares es two more) (append-nil done) then
 next_append fares done [] two (l ∷ lines) more first then = absurd first
 next_append fares done (e ∷ one) two [] more first then = absurd first
 next_append fares done (e ∷ one) two (l ∷ lines) more first then = (
   first.0,
   next_append fares (done ++ e ∷ []) one two lines more first.1
-      (subst (λ (es : List Entry). AreNext fares es two more) (sym (append_assoc done (e ∷ []) one)) then),
+      (subst (λ (es : List Entry). AreNext fares es two more) (sym (append_assoc done (e ∷ []) one))
+      then),
 )
 
 -- nothing is told of no entries
-told_none : (fares : Fares) (done : List Entry) (text : List ℕ) → text ≡ [] → Told fares done [] text
+told_none : (fares : Fares) (done : List Entry) (text : List ℕ) → text ≡ []
+    → Told fares done [] text
 told_none fares done text empty = record {
   lines = [];
   cut = λ more. ap (λ (t : List ℕ). lines_of (t ++ more)) empty;
@@ -53,7 +62,8 @@ told_none fares done text empty = record {
 
 -- entries of tokens below this one, which can all be posted
 abbrev AreBelow : Token → List Entry → Type 0
-AreBelow token entries = AllByRecursion (λ entry. IsPostable entry × (token_cmp entry.token token ≡ Less)) entries
+AreBelow token entries =
+    AllByRecursion (λ entry. IsPostable entry × (token_cmp entry.token token ≡ Less)) entries
 
 -- what is known of the entries of one token
 record IsOwn (fares : Fares) (token : Token) (entries : List Entry) : Type 0 where
@@ -61,63 +71,94 @@ record IsOwn (fares : Fares) (token : Token) (entries : List Entry) : Type 0 whe
   pub postable : AllByRecursion IsPostable entries
   pub legal : IsLegal fares entries
 
-module _ (fares : Fares) (letters : AreLetters fares.meaning.modes) (token : Token) (done : List Entry) (below : AreBelow token done) where
-  no_fall : (earlier : List Entry) (entry : Entry) → AllOf token earlier → entry.token ≡ token → IsPostable entry
-      → AllByRecursion (λ before. token_number before.token ≤ token_number entry.token) (done ++ earlier)
+module _ (fares : Fares) (letters : AreLetters fares.meaning.modes) (token : Token)
+    (done : List Entry) (below : AreBelow token done) where
+  no_fall : (earlier : List Entry) (entry : Entry) → AllOf token earlier → entry.token ≡ token
+      → IsPostable entry
+      → AllByRecursion (λ before. token_number before.token ≤ token_number entry.token)
+      (done ++ earlier)
   no_fall earlier entry all is postable =
-      all_append _ done earlier
-      (all_weaker _ _ done (λ before known.
-      let less = less_number before.token entry.token known.0.token postable.token (subst (λ (t : Token). token_cmp before.token t ≡ Less) (sym is) known.1) in
+      each-append _ done earlier
+      (each-weaker _ _ done (λ before known.
+      let less = less_number before.token entry.token known.0.token postable.token
+      (subst (λ (t : Token). token_cmp before.token t ≡ Less) (sym is) known.1) in
       omega arith) below)
-      (all_weaker _ _ earlier (λ before of.
-      let same : token_number before.token ≡ token_number entry.token = ap token_number (of ∙ sym is) in
+      (each-weaker _ _ earlier (λ before of.
+      let same : token_number before.token ≡ token_number entry.token =
+      ap token_number (of ∙ sym is) in
       omega arith) all)
 
   own_is : (earlier : List Entry) → AllOf token earlier → own token (done ++ earlier) ≡ earlier
   own_is earlier all =
-      own_both token done earlier
-      ∙ ap (λ (es : List Entry). es ++ own token earlier) (own_below token done (all_weaker _ _ done (λ entry known. known.1) below))
+      own-append token done earlier
+      ∙ ap (λ (es : List Entry). es ++ own token earlier)
+      (own_below token done (each-weaker _ _ done (λ entry known. known.1) below))
       ∙ own_all token earlier all
 
-  next_is : (earlier rest : List Entry) (entry : Entry) (line : List ℕ) → IsOwn fares token (earlier ++ entry ∷ rest) → length (done ++ (earlier ++ entry ∷ rest)) ≤ 2 ^ 62
-      → IsLedgerLine fares token (length earlier + 1) entry (reason_after fares token earlier entry) line → Short line → IsNext fares (done ++ earlier) entry line
+  next_is : (earlier rest : List Entry) (entry : Entry) (line : List ℕ)
+      → IsOwn fares token (earlier ++ entry ∷ rest)
+      → length (done ++ (earlier ++ entry ∷ rest)) ≤ 2 ^ 62
+      → IsLedgerLine fares token (length earlier + 1) entry (reason_after fares token earlier entry)
+      line → Short line → IsNext fares (done ++ earlier) entry line
   next_is earlier rest entry line known few shown short =
       let of = all_parts (λ (e : Entry). e.token ≡ token) earlier (entry ∷ rest) known.of in
       let postable = (all_parts IsPostable earlier (entry ∷ rest) known.postable).1.0 in
       let is : entry.token ≡ token = of.1.0 in
-      let owned : own entry.token (done ++ earlier) ≡ earlier = ap (λ (t : Token). own t (done ++ earlier)) is ∙ own_is earlier of.0 in
-      let alone : own entry.token earlier ≡ earlier = ap (λ (t : Token). own t earlier) is ∙ own_all token earlier of.0 in
-      let line_is : IsLedgerLine fares entry.token (length earlier + 1) entry (reason_after fares entry.token earlier entry) line
-      = subst (λ (t : Token). IsLedgerLine fares t (length earlier + 1) entry (reason_after fares t earlier entry) line) (sym is) shown in
+      let owned : own entry.token (done ++ earlier) ≡ earlier =
+      ap (λ (t : Token). own t (done ++ earlier)) is ∙ own_is earlier of.0 in
+      let alone : own entry.token earlier ≡ earlier =
+      ap (λ (t : Token). own t earlier) is ∙ own_all token earlier of.0 in
+      let line_is : IsLedgerLine fares entry.token (length earlier + 1) entry
+      (reason_after fares entry.token earlier entry) line
+      = subst (λ (t : Token). IsLedgerLine fares t (length earlier + 1) entry
+      (reason_after fares t earlier entry) line) (sym is) shown in
       record {
         postable = postable;
-        no_fall = all_read (λ (before : Entry). token_number before.token ≤ token_number entry.token) (done ++ earlier) (no_fall earlier entry of.0 is postable);
-        replied = replied_same fares earlier (done ++ earlier) entry (alone ∙ sym owned) (known.legal.each earlier entry rest refl);
+        no_fall = All-from_recursion
+            (λ (before : Entry). token_number before.token ≤ token_number entry.token)
+            (done ++ earlier) (no_fall earlier entry of.0 is postable);
+        replied = replied_same fares earlier (done ++ earlier) entry (alone ∙ sym owned)
+            (known.legal.each earlier entry rest refl);
         shown = subst (λ (es : List Entry). IsNextLine fares es entry line) (sym owned) line_is;
         short = short;
-        few = omega (arith, few, length-append done earlier, length-append done (earlier ++ entry ∷ rest), length-append earlier (entry ∷ rest));
+        few = omega (
+          arith,
+          few,
+          length-append done earlier,
+          length-append done (earlier ++ entry ∷ rest),
+          length-append earlier (entry ∷ rest),
+        );
       }
 
-  told_token : (earlier rest : List Entry) (text : List ℕ) → IsOwn fares token (earlier ++ rest) → length (done ++ (earlier ++ rest)) ≤ 2 ^ 62
+  told_token : (earlier rest : List Entry) (text : List ℕ) → IsOwn fares token (earlier ++ rest)
+      → length (done ++ (earlier ++ rest)) ≤ 2 ^ 62
       → AreLedgerLinesAfter fares token earlier rest text → Told fares (done ++ earlier) rest text
   told_token earlier [] text known few lines = told_none fares (done ++ earlier) text lines
   told_token earlier (entry ∷ rest) text known few lines =
       let line = lines.0 in
       let others = lines.1 in
-      let same : (earlier ++ entry ∷ []) ++ rest ≡ earlier ++ entry ∷ rest = append_assoc earlier (entry ∷ []) rest in
-      let more = told_token (earlier ++ entry ∷ []) rest others (subst (IsOwn fares token) (sym same) known)
+      let same : (earlier ++ entry ∷ []) ++ rest ≡ earlier ++ entry ∷ rest =
+      append_assoc earlier (entry ∷ []) rest in
+      let more = told_token (earlier ++ entry ∷ []) rest others
+      (subst (IsOwn fares token) (sym same) known)
       (subst (λ (es : List Entry). length (done ++ es) ≤ 2 ^ 62) (sym same) few) lines.3 in
-      let ends = line_ends_once fares token (length earlier + 1) entry (reason_after fares token earlier entry) line letters lines.2 in
-      let split : (behind : List ℕ) → text ++ behind ≡ ends.front ++ 10 ∷ (others ++ behind) = λ behind.
+      let ends = line_ends_once fares token (length earlier + 1) entry
+      (reason_after fares token earlier entry) line letters lines.2 in
+      let split : (behind : List ℕ) → text ++ behind ≡ ends.front ++ 10 ∷ (others ++ behind) =
+      λ behind.
       ap (λ (t : List ℕ). t ++ behind) (lines.4 ∙ ap (λ (t : List ℕ). t ++ others) ends.shown)
-      ∙ append_assoc (ends.front ++ 10 ∷ []) others behind ∙ append_assoc ends.front (10 ∷ []) (others ++ behind) in
+      ∙ append_assoc (ends.front ++ 10 ∷ []) others behind
+      ∙ append_assoc ends.front (10 ∷ []) (others ++ behind) in
       record {
         lines = line ∷ more.lines;
-        cut = λ behind. ap lines_of (split behind) ∙ lines-line ends.front (others ++ behind) ends.lacks
-            ∙ ap (λ (l : List ℕ). l ∷ lines_of (others ++ behind)) (sym ends.shown) ∙ ap (λ (ls : List (List ℕ)). line ∷ ls) (more.cut behind);
+        cut = λ behind. ap lines_of (split behind)
+            ∙ lines-line ends.front (others ++ behind) ends.lacks
+            ∙ ap (λ (l : List ℕ). l ∷ lines_of (others ++ behind)) (sym ends.shown)
+            ∙ ap (λ (ls : List (List ℕ)). line ∷ ls) (more.cut behind);
         are = λ short. (
           next_is earlier rest entry line known few lines.2 short.0,
-          subst (λ (es : List Entry). AreNext fares es rest more.lines) (sym (append_assoc done earlier (entry ∷ []))) (more.are short.1),
+          subst (λ (es : List Entry). AreNext fares es rest more.lines)
+              (sym (append_assoc done earlier (entry ∷ []))) (more.are short.1),
         );
       }
 
@@ -127,52 +168,80 @@ record Goes (fares : Fares) (history done : List Entry) (list : List Token) : Ty
   pub above : AllByRecursion (λ token. AreBelow token done) list
   pub few : length (done ++ flat_map (λ token. own token history) list) ≤ 2 ^ 62
 
-own_known : (fares : Fares) (history : List Entry) (token : Token) → ((t : Token) → IsLegal fares (own t history)) → AllByRecursion IsPostable history → IsOwn fares token (own token history)
+own_known : (fares : Fares) (history : List Entry) (token : Token)
+    → ((t : Token) → IsLegal fares (own t history)) → AllByRecursion IsPostable history
+    → IsOwn fares token (own token history)
 own_known fares history token legal postable =
     let each = own_each IsPostable token history postable in
     record { of = each.1; postable = each.0; legal = legal token }
 
-own_are_below : (fares : Fares) (token next : Token) (entries : List Entry) → IsOwn fares token entries → token_cmp token next ≡ Less → AreBelow next entries
+own_are_below : (fares : Fares) (token next : Token) (entries : List Entry)
+    → IsOwn fares token entries → token_cmp token next ≡ Less → AreBelow next entries
 own_are_below fares token next entries known less = by entries known.of known.postable
   where
     by : (es : List Entry) → AllOf token es → AllByRecursion IsPostable es → AreBelow next es
     by [] of postable = tt
-    by (e ∷ es) of postable = ((postable.0, subst (λ (t : Token). token_cmp t next ≡ Less) (sym of.0) less), by es of.1 postable.1)
+    by (e ∷ es) of postable = (
+      (postable.0, subst (λ (t : Token). token_cmp t next ≡ Less) (sym of.0) less),
+      by es of.1 postable.1,
+    )
 
-goes_on : (fares : Fares) (history done : List Entry) (token : Token) (list : List Token) → IsOwn fares token (own token history)
+goes_on : (fares : Fares) (history done : List Entry) (token : Token) (list : List Token)
+    → IsOwn fares token (own token history)
     → Goes fares history done (token ∷ list) → Goes fares history (done ++ own token history) list
 unfolding IsStrictlySortedBy
 goes_on fares history done token list known goes = record {
   rises = goes.rises.1;
   above = by list goes.rises.0 goes.above.1;
-  few = subst (λ (es : List Entry). length es ≤ 2 ^ 62) (sym (append_assoc done (own token history) (flat_map (λ t. own t history) list))) goes.few;
+  few = subst (λ (es : List Entry). length es ≤ 2 ^ 62)
+      (sym (append_assoc done (own token history) (flat_map (λ t. own t history) list))) goes.few;
 }
   where
-    by : (ts : List Token) → AllByRecursion (λ z. token_cmp token z ≡ Less) ts → AllByRecursion (λ t. AreBelow t done) ts
+    by : (ts : List Token) → AllByRecursion (λ z. token_cmp token z ≡ Less) ts
+        → AllByRecursion (λ t. AreBelow t done) ts
         → AllByRecursion (λ t. AreBelow t (done ++ own token history)) ts
     by [] less before = tt
-    by (t ∷ ts) less before =
-        (all_append _ done (own token history) before.0 (own_are_below fares token t (own token history) known less.0), by ts less.1 before.1)
+    by (t ∷ ts) less before = (
+      each-append _ done (own token history) before.0
+          (own_are_below fares token t (own token history) known less.0),
+      by ts less.1 before.1,
+    )
 
-told_each : (fares : Fares) (history done : List Entry) (list : List Token) (text : List ℕ) → AreLetters fares.meaning.modes → ((t : Token) → IsLegal fares (own t history))
-    → AllByRecursion IsPostable history → Goes fares history done list → AreLinesOfEach fares history list text
+told_each : (fares : Fares) (history done : List Entry) (list : List Token) (text : List ℕ)
+    → AreLetters fares.meaning.modes → ((t : Token) → IsLegal fares (own t history))
+    → AllByRecursion IsPostable history → Goes fares history done list
+    → AreLinesOfEach fares history list text
     → Told fares done (flat_map (λ token. own token history) list) text
-told_each fares history done [] text letters legal postable goes lines = told_none fares done text lines
+told_each fares history done [] text letters legal postable goes lines =
+    told_none fares done text lines
 told_each fares history done (token ∷ list) text letters legal postable goes lines =
     let known = own_known fares history token legal postable in
     let mine = own token history in
     let others = flat_map (λ t. own t history) list in
-    let few : length (done ++ mine) ≤ 2 ^ 62 = omega (arith, goes.few, length-append done (mine ++ others), length-append mine others, length-append done mine) in
-    let first = told_token fares letters token done goes.above.0 [] mine lines.0 known few lines.2 in
-    let then = told_each fares history (done ++ mine) list lines.1 letters legal postable (goes_on fares history done token list known goes) lines.3 in
+    let few : length (done ++ mine) ≤ 2 ^ 62 =
+    omega (
+      arith,
+      goes.few,
+      length-append done (mine ++ others),
+      length-append mine others,
+      length-append done mine,
+    ) in
+    let first = told_token fares letters token done goes.above.0 [] mine lines.0 known few
+    lines.2 in
+    let then = told_each fares history (done ++ mine) list lines.1 letters legal postable
+    (goes_on fares history done token list known goes) lines.3 in
     record {
       lines = first.lines ++ then.lines;
-      cut = λ behind. ap (λ (t : List ℕ). lines_of (t ++ behind)) lines.4 ∙ ap lines_of (append_assoc lines.0 lines.1 behind)
-          ∙ first.cut (lines.1 ++ behind) ∙ ap (λ (ls : List (List ℕ)). first.lines ++ ls) (then.cut behind) ∙ sym (append_assoc first.lines then.lines (lines_of behind));
+      cut = λ behind. ap (λ (t : List ℕ). lines_of (t ++ behind)) lines.4
+          ∙ ap lines_of (append_assoc lines.0 lines.1 behind)
+          ∙ first.cut (lines.1 ++ behind)
+          ∙ ap (λ (ls : List (List ℕ)). first.lines ++ ls) (then.cut behind)
+          ∙ sym (append_assoc first.lines then.lines (lines_of behind));
       are = λ short.
           let parts = all_parts Short first.lines then.lines short in
           next_append fares done mine others first.lines then.lines
-          (subst (λ (es : List Entry). AreNext fares es mine first.lines) (append-nil done) (first.are parts.0)) (then.are parts.1);
+          (subst (λ (es : List Entry). AreNext fares es mine first.lines) (append-nil done)
+          (first.are parts.0)) (then.are parts.1);
     }
 
 -- nothing was told yet
@@ -180,21 +249,38 @@ above_none : (list : List Token) → AllByRecursion (λ token. AreBelow token []
 above_none [] = tt
 above_none (token ∷ list) = (tt, above_none list)
 
-told_rise : (only : Option Token) (history : List Entry) → IsStrictlySortedBy token_cmp (tokens_told only history)
+told_rise : (only : Option Token) (history : List Entry)
+    → IsStrictlySortedBy token_cmp (tokens_told only history)
 unfolding IsStrictlySortedBy tokens
 told_rise None history = (rising-is token_cmp-total token_cmp-ties (map token_of history)).rises
 told_rise (Some token) history = (tt, tt)
 
 head_front : List ℕ
-head_front = codes "token,line,moment,validator,mode,answer,cents,window_start,window_end,ride,reason,points_at"
+head_front = codes
+    "token,line,moment,validator,mode,answer,cents,window_start,window_end,ride,reason,points_at"
 
-pub written_is_read : (fares : Fares) (only : Option Token) (history : List Entry) (text : List ℕ) → CanBeTold fares only history → AreShort text
+pub written_is_read : (fares : Fares) (only : Option Token) (history : List Entry) (text : List ℕ)
+    → CanBeTold fares only history → AreShort text
     → IsLedgerOver fares history only text → IsLedgerOf fares (told_entries only history) text
 unfolding lines_of told_each head_front
 written_is_read fares only history text can short over =
-    let told = told_each fares history [] (tokens_told only history) over.lines can.names can.legal can.postable
-    (record { rises = told_rise only history; above = above_none (tokens_told only history); few = can.few }) over.of_each in
-    let body : lines_of over.lines ≡ told.lines = ap lines_of (sym (append-nil over.lines)) ∙ told.cut [] ∙ append-nil told.lines in
-    let head : lines_of (head_text ++ over.lines) ≡ head_text ∷ lines_of over.lines = lines-line head_front over.lines (lacks-tested 10 head_front refl) in
-    let cut : lines_of text ≡ head_text ∷ told.lines = ap lines_of over.whole ∙ head ∙ ap (λ (ls : List (List ℕ)). head_text ∷ ls) body in
-    record { lines = told.lines; split = cut; are = told.are (subst (AllByRecursion Short) cut short).1 }
+    let told = told_each fares history [] (tokens_told only history) over.lines can.names can.legal
+    can.postable
+    (record {
+      rises = told_rise only history;
+      above = above_none (tokens_told only history);
+      few =
+          can.few;
+    }) over.of_each in
+    let body : lines_of over.lines ≡ told.lines =
+    ap lines_of (sym (append-nil over.lines)) ∙ told.cut [] ∙ append-nil told.lines in
+    let head : lines_of (head_text ++ over.lines) ≡ head_text ∷ lines_of over.lines =
+    lines-line head_front over.lines (lacks-tested 10 head_front refl) in
+    let cut : lines_of text ≡ head_text ∷ told.lines =
+    ap lines_of over.whole ∙ head ∙ ap (λ (ls : List (List ℕ)). head_text ∷ ls) body in
+    record {
+      lines = told.lines;
+      split = cut;
+      are =
+          told.are (subst (AllByRecursion Short) cut short).1;
+    }

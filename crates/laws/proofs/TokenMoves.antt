@@ -1,11 +1,9 @@
 -- The parts' sums by token are those of the settled history, in another order.
-use Rattle.std.specs.Prelude.{ℕ, zero, suc, ◌≡◌, ◌||◌, Bool, true, false, cond, List, []}
-use Rattle.std.specs.Prelude.{◌∷◌, ◌++◌, length, map, filter, flat_map, Some, slice_get}
-use Rattle.std.specs.Prelude.{IsPermutation}
+use Rattle.std.specs.Prelude.{ℕ, zero, suc, ◌≡◌, ◌||◌, Bool, true, false, cond, List, [], ◌∷◌, ◌++◌}
+use Rattle.std.specs.Prelude.{length, map, filter, flat_map, Some, slice_get, IsPermutation}
 use Rattle.std.specs.List.{AllByRecursion}
 use Rattle.std.specs.List.Sorted.{IsStrictlySortedBy}
 use Rattle.std.specs.Ordering.{eq_by_cmp}
-use Rattle.std.specs.Set.{is_member}
 use Rattle.std.specs.declared.cmp.Ordering.TheVariants.{Less}
 use Rattle.std.proofs.Common.{refl, sym, ◌∙◌, ap, subst, arith, get_or, mod-lt}
 use Rattle.std.proofs.lemmas.Bool.Decides.{nat_tests}
@@ -14,19 +12,19 @@ use Rattle.std.proofs.lemmas.Option.{slice_get-get_or}
 use Rattle.fare_table.specs.Fares.{Fares}
 use Rattle.tap_views.specs.Token.{bytes_of, token_cmp, token_eq}
 use Rattle.tap_views.specs.declared.token.Token.{Token}
+use Rattle.tap_views.proofs.TokenLemmas.{token_eq-refl, among, less_apart}
 use Rattle.shard_book.specs.declared.entry.Entry.{Entry}
 use Rattle.shard_book.specs.Entry.{is_of, own}
 use Rattle.shard_book.specs.SumsByKey.{sums_by_token, token_of, tokens}
 use Rattle.shard_book.specs.Keys.{same_token}
 use Rattle.shard_book.specs.Rising.{rising}
 use Rattle.shard_book.specs.Sums.{Sums, sums}
-use Rattle.fare_service.proofs.PlainLists.{flat_alone, mapped_at, same_elements}
+use Rattle.shard_book.proofs.SameUnderKeys.{same_elements}
+use Rattle.shard_book.proofs.SameEntries.{RisingTokens}
+use Rattle.fare_service.proofs.PlainLists.{flat_alone, mapped_at}
 use Rattle.tap_parts.specs.Parts.{part_of_token}
 use Rattle.laws.specs.Split.{IsSplit, Part, pairs_of_parts}
-use Rattle.laws.proofs.Merging.{RisingTokens, own_elsewhere, own_there, token_itself}
-
-abbrev among : List Token → Token → Bool
-among list token = is_member (eq_by_cmp token_cmp) list token
+use Rattle.laws.proofs.Merging.{own_elsewhere, own_there}
 
 -- the sums of this token
 abbrev of : Token → List (Token × Sums) → List (Token × Sums)
@@ -37,9 +35,6 @@ pairs f keys = map (λ k. (k, f k)) keys
 
 same_test : (t k : Token) → eq_by_cmp token_cmp t k ≡ token_eq k t
 same_test t k = grind (arith, nat_tests)
-
-less_apart : (k q : Token) → token_cmp k q ≡ Less → token_eq q k ≡ false
-less_apart k q less = grind (arith, nat_tests)
 
 others_none : (f : Token → Sums) (k t : Token) (keys : List Token) → k ≡ t
     → AllByRecursion (λ q. token_cmp k q ≡ Less) keys → of t (pairs f keys) ≡ []
@@ -146,5 +141,5 @@ module _ (fares : Fares) (uploads : List (List ℕ)) (history : List Entry) (par
 
   pub pairs_moved : IsPermutation (pairs_of_parts parts) (sums_by_token history)
   pairs_moved =
-      same_elements (λ (pair : Token × Sums). pair.0) token_eq token_itself same_token
+      same_elements (λ (pair : Token × Sums). pair.0) token_eq token_eq-refl same_token
       (pairs_of_parts parts) (sums_by_token history) each_token

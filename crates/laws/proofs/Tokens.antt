@@ -4,7 +4,6 @@ use Rattle.std.specs.Prelude.{length, map, flat_map, All, Some, slice_get, IsPer
 use Rattle.std.specs.List.Sorted.{IsStrictlySortedBy}
 use Rattle.std.specs.Map.{keys_of}
 use Rattle.std.specs.Ordering.{eq_by_cmp}
-use Rattle.std.specs.Set.{is_member}
 use Rattle.std.specs.declared.cmp.Ordering.{Ordering}
 use Rattle.std.proofs.Common.{refl, sym, ◌∙◌, ap, subst}
 use Rattle.std.proofs.lemmas.Bool.{eqb-true}
@@ -23,12 +22,13 @@ use Rattle.shard_book.specs.SumsByKey.{tokens, sums_by_token, token_of}
 use Rattle.shard_book.specs.Rising.{rising}
 use Rattle.shard_book.specs.Sums.{Sums, sums}
 use Rattle.tap_views.specs.Token.{bytes_of, token_cmp}
+use Rattle.tap_views.proofs.TokenLemmas.{among, among-append}
 use Rattle.shard_book.specs.Plain.{unanswered}
 use Rattle.shard_book.proofs.PlainReplies.{bare}
+use Rattle.shard_book.proofs.SameEntries.{RisingTokens, same_entries}
 use Rattle.tap_parts.specs.Parts.{part_of_token, of_part}
 use Rattle.laws.specs.Split.{Part, IsSplit, entries_of_parts, pairs_of_parts}
-use Rattle.laws.proofs.Merging.{IsName, RisingTokens, same_entries, own_all, own_there, names}
-use Rattle.laws.proofs.Merging.{part_bare_all}
+use Rattle.laws.proofs.Merging.{IsName, own_all, own_there, names, part_bare_all}
 
 -- what holds of all keys holds of them in their order
 pub all_rising : {K : Type 0} (cmp : K → K → Ordering) (P : K → Type 0) (keys : List K) → All P keys
@@ -78,20 +78,6 @@ pub keys-map : (f : Token → Sums) (ts : List Token) → keys_of (map (λ t. (t
 keys-map f [] = refl
 keys-map f (t ∷ ts) = ap (λ more. t ∷ more) (keys-map f ts)
 
-abbrev among : List Token → Token → Bool
-among list token = is_member (eq_by_cmp token_cmp) list token
-
-or_assoc : (a b c : Bool) → ((a || b) || c) ≡ (a || (b || c))
-or_assoc true b c = refl
-or_assoc false b c = refl
-
-among-append : (xs ys : List Token) (token : Token)
-    → among (xs ++ ys) token ≡ (among xs token || among ys token)
-among-append [] ys token = refl
-among-append (x ∷ xs) ys token =
-    ap (λ b. eq_by_cmp token_cmp token x || b) (among-append xs ys token)
-    ∙ sym (or_assoc (eq_by_cmp token_cmp token x) (among xs token) (among ys token))
-
 pairs_as : (entries : List Entry) (pairs : List (Token × Sums))
     → All (λ pair. pair.1 ≡ sums (own pair.0 entries)) pairs
     → pairs ≡ map (λ token. (token, sums (own token entries))) (keys_of pairs)
@@ -127,7 +113,8 @@ module _ (fares : Fares) (uploads : List (List ℕ)) (history : List Entry) (par
       (subst (λ n. slice_get parts n ≡ Some part) (sym (here k d within)) there)))
 
   members : (list : List Part) (token : Token)
-      → among (keys_of (pairs_of_parts list)) token ≡ among (map token_of (entries_of_parts list)) token
+      → among (keys_of (pairs_of_parts list)) token
+      ≡ among (map token_of (entries_of_parts list)) token
   unfolding sums_by_token tokens
   members [] token = refl
   members (p ∷ list) token =
@@ -135,7 +122,8 @@ module _ (fares : Fares) (uploads : List (List ℕ)) (history : List Entry) (par
       keys-map (λ t. sums (own t p.history)) (rising token_cmp (map token_of p.history)) in
       ap (λ ts. among ts token) (keys-append (sums_by_token p.history) (pairs_of_parts list))
       ∙ among-append (keys_of (sums_by_token p.history)) (keys_of (pairs_of_parts list)) token
-      ∙ ap (λ b. b || among (keys_of (pairs_of_parts list)) token) (ap (λ ts. among ts token) own_keys
+      ∙ ap (λ b. b || among (keys_of (pairs_of_parts list)) token)
+      (ap (λ ts. among ts token) own_keys
       ∙ ((risen (map token_of p.history) (rising token_cmp (map token_of p.history))).1
       refl).same token)
       ∙ ap (λ b. among (map token_of p.history) token || b) (members list token)

@@ -10,22 +10,26 @@ use Rattle.std.proofs.lemmas.List.Sorted.{IsPermutation-map, list_any-IsPermutat
 use Rattle.fare_table.specs.Fares.{Fares}
 use Rattle.shard_book.specs.declared.entry.Entry.{Entry}
 use Rattle.shard_book.specs.Entry.{is_at}
-use Rattle.shard_book.specs.SumsByKey.{entries_of_validator, validators, sums_by_validator, validator_of}
+use Rattle.shard_book.specs.SumsByKey.{entries_of_validator, validators, sums_by_validator}
+use Rattle.shard_book.specs.SumsByKey.{validator_of}
 use Rattle.shard_book.specs.Rising.{rising}
-use Rattle.shard_book.specs.Sums.{Sums, sums, add_sums}
-use Rattle.shard_book.specs.Sums.{add_all}
+use Rattle.shard_book.specs.Sums.{Sums, sums, add_sums, add_all}
+use Rattle.shard_book.proofs.SameEntries.{RisingNumbers, same_sums, same_at, same_entries}
 use Rattle.laws.specs.Split.{Part, IsSplit, entries_of_parts, sums_at}
-use Rattle.laws.proofs.Merging.{RisingNumbers, same_sums, same_at, same_entries, own_all}
+use Rattle.laws.proofs.Merging.{own_all}
 
 abbrev pub SumsAdd : Type 0
 SumsAdd = (before after : List Entry) → sums (before ++ after) ≡ add_sums (sums before) (sums after)
 
 module _ (law : SumsAdd) where
-  added : (list : List Part) → sums (entries_of_parts list) ≡ add_all (map (λ p. sums p.history) list)
+  added : (list : List Part)
+      → sums (entries_of_parts list) ≡ add_all (map (λ p. sums p.history) list)
   added [] = refl
-  added (p ∷ list) = law p.history (entries_of_parts list) ∙ ap (add_sums (sums p.history)) (added list)
+  added (p ∷ list) = law p.history (entries_of_parts list)
+      ∙ ap (add_sums (sums p.history)) (added list)
 
-  added_at : (v : ℕ) (list : List Part) → sums (entries_of_validator v (entries_of_parts list)) ≡ sums_at v list
+  added_at : (v : ℕ) (list : List Part)
+      → sums (entries_of_validator v (entries_of_parts list)) ≡ sums_at v list
   unfolding entries_of_validator
   added_at v [] = refl
   added_at v (p ∷ list) = ap sums (filter-append (is_at v) p.history (entries_of_parts list))
@@ -40,7 +44,8 @@ pairs_as entries (pair ∷ pairs) each =
     ap (λ (s : Sums). (pair.0, s) ∷ pairs)
     (All-head (λ p. p.1 ≡ sums (entries_of_validator p.0 entries)) pair pairs each)
     ∙ ap (λ (ps : List (ℕ × Sums)). (pair.0, sums (entries_of_validator pair.0 entries)) ∷ ps)
-    (pairs_as entries pairs (All-tail (λ p. p.1 ≡ sums (entries_of_validator p.0 entries)) pair pairs each))
+    (pairs_as entries pairs
+    (All-tail (λ p. p.1 ≡ sums (entries_of_validator p.0 entries)) pair pairs each))
 
 module _ (fares : Fares) (uploads : List (List ℕ)) (history : List Entry) (parts : List Part)
     (split : IsSplit fares uploads history parts) (law : SumsAdd) (risen : RisingNumbers) where
@@ -51,8 +56,10 @@ module _ (fares : Fares) (uploads : List (List ℕ)) (history : List Entry) (par
 
   pub at_history : (v : ℕ) → sums_at v parts ≡ sums (entries_of_validator v history)
   at_history v =
-      sym (added_at law v parts) ∙ same_sums (entries_of_validator v (entries_of_parts parts)) (entries_of_validator v history)
-      (same_entries (entries_of_validator v (entries_of_parts parts)) (entries_of_validator v history)
+      sym (added_at law v parts)
+      ∙ same_sums (entries_of_validator v (entries_of_parts parts)) (entries_of_validator v history)
+      (same_entries (entries_of_validator v (entries_of_parts parts))
+      (entries_of_validator v history)
       (same_at v (entries_of_parts parts) history (own_all fares uploads history parts split)))
 
   pub merged_validators : (merged : List (ℕ × Sums)) → IsStrictlySortedBy nat_cmp (keys_of merged)
@@ -67,7 +74,8 @@ module _ (fares : Fares) (uploads : List (List ℕ)) (history : List Entry) (par
       (risen (map validator_of history) (keys_of merged)).0 (record {
         rises = rises;
         same = λ v. members v
-            ∙ list_any-IsPermutation (eq_by_cmp nat_cmp v) (map validator_of (entries_of_parts parts))
+            ∙ list_any-IsPermutation (eq_by_cmp nat_cmp v)
+            (map validator_of (entries_of_parts parts))
             (map validator_of history) moved;
       }) in
       pairs_as history merged (λ k d within. each k d within ∙ at_history _)

@@ -21,17 +21,17 @@ use Rattle.tap_views.specs.Token.{token_cmp}
 use Rattle.tap_views.specs.declared.token.Token.{Token}
 use Rattle.shard_book.specs.declared.entry.Entry.{Entry}
 use Rattle.shard_book.specs.Entry.{own, reply_of}
-use Rattle.shard_book.specs.SumsByKey.{entries_of_validator, sums_by_token, sums_by_validator, token_of, tokens}
-use Rattle.shard_book.specs.SumsByKey.{validator_of, validators}
+use Rattle.shard_book.specs.SumsByKey.{entries_of_validator, sums_by_token, sums_by_validator}
+use Rattle.shard_book.specs.SumsByKey.{token_of, tokens, validator_of, validators}
 use Rattle.shard_book.specs.Rising.{rising}
 use Rattle.shard_book.specs.Sums.{Sums, add_all, sums, sums_of_replies}
-use Rattle.report_texts.specs.UploadEnds.{end_by, is_posted, taps_told}
+use Rattle.report_texts.specs.UploadEnds.{end_by, is_posted, taps_told, ArePlainEnds, IsPlainEnd}
 use Rattle.tap_views.specs.Files.{AreGoodTaps, AreGoodTapsOfEach, HasOneReading, IsEndAfterBatches}
-use Rattle.report_texts.specs.UploadEnds.{ArePlainEnds, IsPlainEnd}
 use Rattle.report_texts.specs.OverHistory.{IsReportOver}
 use Rattle.shard_book.specs.Plain.{unanswered}
 use Rattle.report_texts.specs.declared.upload_end.UploadEnd.{UploadEnd}
 use Rattle.shard_book.proofs.PlainReplies.{bare, plain_bare}
+use Rattle.shard_book.proofs.SameEntries.{RisingNumbers, RisingTokens, same_entries}
 use Rattle.tap_parts.specs.Parts.{taps_of_uploads}
 use Rattle.report_texts.specs.Numbers.{IsUploadEnd}
 use Rattle.part_reports.specs.Reports.{IsMerged, IsPartReport, IsWholeReport, Report, end_texts}
@@ -43,10 +43,9 @@ use Rattle.laws.specs.Split.{IsSplit, Part, entries_of_parts}
 use Rattle.laws.proofs.MergedTexts.{IsWritable, TellsOf, own_can_be_told, own_told}
 use Rattle.laws.proofs.MergedTexts.{tokens_told, totals_told, validators_told}
 use Rattle.laws.proofs.KeySums.{tokens_add, validators_add}
-use Rattle.laws.proofs.Merging.{RisingNumbers, RisingTokens, own_all, same_entries}
+use Rattle.laws.proofs.Merging.{own_all}
 use Rattle.laws.proofs.PartSums.{keys-map as number_keys, listed_parts, members}
-use Rattle.laws.proofs.ReportTexts.{end_of, ends_fit, same_lines, same_text}
-use Rattle.laws.proofs.ReportTexts.{told_by}
+use Rattle.laws.proofs.ReportTexts.{end_of, ends_fit, same_lines, same_text, told_by}
 use Rattle.laws.proofs.TokenMoves.{pairs_moved}
 use Rattle.laws.proofs.Tokens.{keys-map as name_keys}
 use Rattle.laws.proofs.Validators.{SumsAdd, at_history, merged_totals}
@@ -79,7 +78,8 @@ numbers_rise : RisingNumbers → (entries : List Entry)
 unfolding sums_by_validator validators
 numbers_rise risen entries =
     let keys = rising nat_cmp (map validator_of entries) in
-    subst (IsStrictlySortedBy nat_cmp) (sym (number_keys (λ k. sums (entries_of_validator k entries)) keys))
+    subst (IsStrictlySortedBy nat_cmp)
+    (sym (number_keys (λ k. sums (entries_of_validator k entries)) keys))
     ((risen (map validator_of entries) keys).1 refl).rises
 
 names_rise : RisingTokens → (entries : List Entry)
@@ -215,7 +215,8 @@ all_sums : (entries : List Entry) (P : ℕ × Sums → Type 0)
     → ((v : ℕ) → P (v, sums (entries_of_validator v entries))) → All P (sums_by_validator entries)
 unfolding sums_by_validator validators
 all_sums entries P each =
-    All-map P (λ v. (v, sums (entries_of_validator v entries))) (rising nat_cmp (map validator_of entries))
+    All-map P (λ v. (v, sums (entries_of_validator v entries)))
+    (rising nat_cmp (map validator_of entries))
     (λ k d within. each (get_or (rising nat_cmp (map validator_of entries)) k d))
 
 module _ (fares : Fares) (uploads : List (List ℕ)) (history : List Entry) (parts : List Part)
@@ -272,7 +273,8 @@ module _ (fares : Fares) (uploads : List (List ℕ)) (history : List Entry) (par
             (map validator_of (entries_of_parts parts)) (map validator_of history) moved)
             ∙ sym (ap (λ (list : List (ℕ × Sums)). is_member (eq_by_cmp nat_cmp) (keys_of list) v)
             listed ∙ members numbers parts v);
-        validators_sums = all_sums history (λ sum. sum.1 ≡ listed_at sum.0 (validators_of_reports told))
+        validators_sums = all_sums history
+            (λ sum. sum.1 ≡ listed_at sum.0 (validators_of_reports told))
             (λ v. sym (ap (listed_at v) listed ∙ listed_parts numbers v parts
             ∙ at_history fares uploads history parts split law numbers v));
         tokens_moved = subst

@@ -1,4 +1,4 @@
--- What can be told in numbers of 64 bits.
+-- What numbers of 64 bits can hold.
 use Rattle.std.specs.Prelude.{ℕ, ◌<◌, ◌^◌, List, length, All}
 use Rattle.fare_table.specs.Fares.{Fares, class_of, ride_terms}
 use Rattle.fare_table.specs.Terms.{AreRideTerms}

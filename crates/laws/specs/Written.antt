@@ -1,4 +1,4 @@
--- Which entries a written ledger tells, in its order, and what they have to be.
+-- Which entries have a line in a written ledger, in its order, and what they have to be.
 use Rattle.std.specs.Prelude.{◌≡◌, ℕ, ◌^◌, ◌≤◌, true, List, length, flat_map, Option}
 use Rattle.std.specs.Char.{is_ascii_lowercase}
 use Rattle.std.specs.List.{AllByRecursion, list_all}
@@ -12,7 +12,7 @@ use Rattle.ledger_check.specs.Ledger.{IsPostable}
 use Rattle.ledger_check.specs.Lines.{lines_of}
 use Rattle.fare_texts.specs.Ledger.{tokens_told}
 
--- the entries of which a ledger tells: token by token, those of each in history order
+-- the entries that have a line in a ledger: token by token, those of each in history order
 abbrev pub told_entries : Option Token → List Entry → List Entry
 told_entries only history = flat_map (λ token. own token history) (tokens_told only history)
 
@@ -31,7 +31,7 @@ pub record CanBeTold (fares : Fares) (only : Option Token) (history : List Entry
   pub names : AreLetters fares.meaning.modes
   pub few : length (told_entries only history) ≤ 2 ^ 62
 
--- books under one table, each of its own shard of so many, and with a legal history
+-- books under one table, each of its own of `shards` shards, and with a legal history
 abbrev pub AreBooksOf : Fares → ℕ → List Book → Type 0
 AreBooksOf fares shards books = EachBook (λ shard book. (book.table ≡ fares)
     × AreOfShard shard shards book.entries × IsLegal fares book.entries) books

@@ -94,10 +94,10 @@ pub fn tokens_are_charged_by_their_taps(uploads: &[Vec<u8>], others: &[Vec<u8>])
 }
 
 /// One more tap of a token, at a moment at which it has no known tap, never lowers its number of
-/// rides: it may take a transfer from a later tap, which is a ride then, but no ride from the token.
-/// It can lower what the token pays, since it can open a window earlier. Where a ride gives more
-/// than one transfer, it can lower the number of rides: a tap between two modes that have no transfer
-/// joins them.
+/// rides: it may take a transfer from a later tap, which is a ride then, but no ride from the
+/// token. It can lower what the token pays, since it can open a window earlier. If a ride gives
+/// more than one transfer, it can lower the number of rides: a tap between two modes that have no
+/// transfer joins them.
 pub fn one_more_tap_makes_no_fewer_rides(uploads: &[Vec<u8>], others: &[Vec<u8>])
     ensures { (fares : Fares) (token : Token) (history again : List Entry)
         → GivesOneAtMost fares token

@@ -19,7 +19,7 @@ ghost use Rattle.laws.specs.Written.{told_entries};
 use ledger_check::laws::verdicts_decide;
 
 /// The written ledger of a history, or of one of its tokens, is a ledger as the check of ledgers
-/// reads it, of the same entries token by token, where no line is too long for one.
+/// reads it, of the same entries token by token, if no line is too long for one.
 pub fn written_is_a_ledger()
     ensures { (fares : Fares) (only : Option Token) (history : List Entry) (text : List ℕ)
         → CanBeTold fares only history → AreShort text → IsLedgerOver fares history only text
@@ -33,7 +33,7 @@ pub fn own_entries_are_legal()
 {}
 
 /// The ledger that a run prints of its books, or of one token, is a ledger as the check of ledgers
-/// reads it under the books' table, where no line is too long for one.
+/// reads it under the books' table, if no line is too long for one.
 pub fn printed_ledger_is_legal()
     ensures ledger { (fares : Fares) (shards : ℕ) (books : List Book) (only : Option Token)
         (text : List ℕ) → AreBooksOf fares shards books

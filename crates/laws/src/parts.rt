@@ -145,7 +145,7 @@ pub fn merged_report()
     merged_tokens();
 }
 
-/// Each part's file is the report of the part's settled history, and the ends' files tell how the
+/// Each part's file is the report of the part's settled history, and the ends' files say how the
 /// uploads ended. Whatever is merged of these files is the report of the uploads' settled history.
 /// The fares have bounded terms. The files have sizes of 64 bits, and each part has fewer than 2^47
 /// taps.

@@ -1,12 +1,12 @@
 -- The sums of each token: corrections in order are cut where the token changes.
-use Rattle.std.proofs.Common.{◌≡◌, ◌+◌, ℕ, suc, List, [], ◌∷◌, ◌++◌, Option, Some, None, Bool}
-use Rattle.std.proofs.Common.{true, false, cond, refl, sym, ap, subst, ◌∙◌, arith, length, length-append}
+use Rattle.std.proofs.Common.{◌≡◌, ◌+◌, ℕ, suc, List, [], ◌∷◌, ◌++◌, Option, Some, None, Bool, true}
+use Rattle.std.proofs.Common.{false, cond, refl, sym, ap, subst, ◌∙◌, arith, length, length-append}
 use Rattle.std.proofs.Common.{append_assoc, append-nil, filter, get_or, All}
 use Rattle.std.specs.Prelude.{⊤, Contains}
 use Rattle.std.specs.Cmp.{IsTotalOrder}
 use Rattle.std.specs.Cmp.Lexicographic.{on_texts}
 use Rattle.std.specs.Io.KnownBytes.{Appends}
-use Rattle.std.specs.List.{AllByRecursion, sum_by}
+use Rattle.std.specs.List.{AllByRecursion}
 use Rattle.std.specs.List.Sorted.{IsSorted, IsStrictlySortedBy}
 use Rattle.std.specs.Ordering.{is_eq, is_lt, ordering_reverse, ordering_then}
 use Rattle.std.specs.declared.cmp.Ordering.{Ordering}
@@ -16,19 +16,19 @@ use Rattle.std.proofs.lemmas.List.Elements.{All-from_recursion, filter-append, r
 use Rattle.std.proofs.lemmas.List.Kept.{IsSortedBy-filter}
 use Rattle.std.proofs.lemmas.List.Sorted.{ranks_by, sorted_far}
 use Rattle.std.proofs.lemmas.List.Sums.{sum_by-append}
+use Rattle.std.proofs.KnownBytes.{Appends-trans}
 use Rattle.ledger_changes.specs.Changes.{AreCorrections, Pair, is_changed}
 use Rattle.ledger_changes.specs.Ledgers.{IsSettledLedger}
 use Rattle.ledger_changes.specs.Rows.{Key, Row, is_same_text, key_cmp, text_cmp}
 use Rattle.ledger_changes.specs.Texts.{cents_of, is_removed}
-use Rattle.ledger_changes.specs.Tokens.{AreTokensOf, IsCorrectionsByTokenText, Sums, is_added, is_kept}
-use Rattle.ledger_changes.specs.Tokens.{is_of_token, of_token, sums_of, token_line, tokens_head}
-use Rattle.ledger_changes.specs.Tokens.{tokens_lines}
+use Rattle.ledger_changes.specs.Tokens.{AreTokensOf, IsCorrectionsByTokenText, Sums, is_added}
+use Rattle.ledger_changes.specs.Tokens.{is_kept, is_of_token, of_token, sums_of, token_line}
+use Rattle.ledger_changes.specs.Tokens.{tokens_head, tokens_lines}
 use Rattle.ledger_changes.specs.inside.Standings.{IsKnown, Standing, StandsBefore}
 use Rattle.ledger_changes.specs.inside.Sums.{AreSumsWritten, TokenSum, add_changes, add_sums}
 use Rattle.ledger_changes.specs.inside.Sums.{ended_lines, no_sums, sums_after, sums_line}
 use Rattle.ledger_changes.specs.inside.Written.{AreTold}
 use Rattle.ledger_changes.proofs.Keys.{key_cmp_total, tied}
-use Rattle.ledger_changes.proofs.Merging.{appends_more}
 
 -- ---- tokens
 text_total : IsTotalOrder text_cmp
@@ -334,7 +334,8 @@ cut t run (change ∷ rest) all some up order =
         → IsCut t (run ++ change ∷ rest)
         ((cond b [] (token_line t (sums_of run))
         ++ ended_lines (Some (add_changes (cond b (sum_with t run) (no_sums s)) one)) rest)
-        ++ sums_line (sums_after (Some (add_changes (cond b (sum_with t run) (no_sums s)) one)) rest))
+        ++ sums_line
+        (sums_after (Some (add_changes (cond b (sum_with t run) (no_sums s)) one)) rest))
     by_test true is same other =
         subst (λ (changes : List Pair).
         IsCut t changes (text_from (add_changes (sum_with t run) one) rest))
@@ -411,6 +412,6 @@ finished_by_token old_text new_text old new out mid end removed begun_old begun_
         shown = refl;
         counted = is.told.counted;
       },
-      appends_more out mid end tokens_head (tokens_lines is.changes by.tokens) head
+      Appends-trans out mid end tokens_head (tokens_lines is.changes by.tokens) head
           (subst (Appends mid end) by.shown is.told.written),
     )

@@ -1,5 +1,5 @@
 -- The order of keys is total, and keys that tie are the same.
-use Rattle.std.proofs.Common.{◌≡◌, ℕ, List, Bool, refl, sym, ap, ◌∙◌, true, false, ◌&&◌, ◌==◌, eqb-true}
+use Rattle.std.proofs.Common.{◌≡◌, ℕ, List, refl, sym, ap, ◌∙◌, true, false, ◌&&◌, ◌==◌, eqb-true}
 use Rattle.std.specs.Cmp.{IsTotalOrder}
 use Rattle.std.specs.Cmp.Lexicographic.{on_texts}
 use Rattle.std.specs.FinMap.{IsAntisymmetric, nat_cmp-IsAntisymmetric, slice_cmp-IsAntisymmetric}
@@ -7,23 +7,15 @@ use Rattle.std.specs.Ordering.{is_eq, is_lt, nat_cmp, ordering_then, ordering_re
 use Rattle.std.specs.declared.cmp.Ordering.{Ordering}
 use Rattle.std.specs.declared.cmp.Ordering.TheVariants.{Less, Equal, Greater}
 use Rattle.std.proofs.lemmas.Cmp.{nat_cmp_total, on_total, then_total}
+use Rattle.std.proofs.lemmas.Bool.{and_parts}
 use Rattle.ledger_changes.specs.Rows.{Charge, Key, is_same_charge, is_same_text, key_cmp, text_cmp}
+use Rattle.tap_views.proofs.Orderings.{first_equal, then_equal}
 
 pub key_cmp_total : IsTotalOrder key_cmp
 key_cmp_total =
     then_total (on_texts (λ (k : Key). k.token))
     (then_total (on_texts (λ (k : Key). k.moment))
     (on_total (λ (k : Key). k.validator) nat_cmp_total))
-
-first_equal : (r s : Ordering) → ordering_then r s ≡ Equal → r ≡ Equal
-first_equal Less s e = e
-first_equal Equal s e = refl
-first_equal Greater s e = e
-
-then_equal : (r s : Ordering) → ordering_then r s ≡ Equal → s ≡ Equal
-then_equal Less s e = absurd (let h : Less ≡ Equal = e in cc)
-then_equal Equal s e = e
-then_equal Greater s e = absurd (let h : Greater ≡ Equal = e in cc)
 
 key_cmp_exact : IsAntisymmetric key_cmp
 key_cmp_exact a b e =
@@ -51,9 +43,6 @@ same_key a b not back = by_order (key_cmp a b) refl
         ∙ ap ordering_reverse e)) ∙ back in cc)
 
 -- ---- charges
-both : (a b : Bool) → (a && b) ≡ true → (a ≡ true) × (b ≡ true)
-both true b e = (refl, e)
-both false b e = absurd (let h : false ≡ true = e in cc)
 
 pub tied : (a b : List ℕ) → is_same_text a b ≡ true → a ≡ b
 tied a b e = by_order (text_cmp a b) refl e
@@ -65,9 +54,9 @@ tied a b e = by_order (text_cmp a b) refl e
 
 pub same_charge : (a b : Charge) → is_same_charge a b ≡ true → a ≡ b
 same_charge a b e =
-    let first = both (is_same_text a.answer b.answer)
+    let first = and_parts (is_same_text a.answer b.answer)
     (a.cents == b.cents && is_same_text a.reason b.reason) e in
-    let second = both (a.cents == b.cents) (is_same_text a.reason b.reason) first.1 in
+    let second = and_parts (a.cents == b.cents) (is_same_text a.reason b.reason) first.1 in
     let answer = tied a.answer b.answer first.0 in
     let cents : a.cents ≡ b.cents = eqb-true _ _ second.0 in
     let reason = tied a.reason b.reason second.1 in

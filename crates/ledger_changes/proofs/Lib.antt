@@ -3,7 +3,6 @@ pub mod ByToken
 pub mod Keys
 pub mod Listed
 pub mod Merging
-pub mod Nones
 pub mod Readings
 pub mod Sorted
 pub mod Summing

@@ -12,7 +12,8 @@ same : (before after : Option Charge) → agree before after ≡ true → before
 same None None e = refl
 same None (Some after) e = absurd (let h : false ≡ true = e in cc)
 same (Some before) None e = absurd (let h : false ≡ true = e in cc)
-same (Some before) (Some after) e = ap (λ (charge : Charge). Some charge) (same_charge before after e)
+same (Some before) (Some after) e =
+    ap (λ (charge : Charge). Some charge) (same_charge before after e)
 
 longer : (first : Pair) (changes : List Pair) (pair : Pair) → IsSameOrListed changes pair
     → IsSameOrListed (first ∷ changes) pair

@@ -1,7 +1,7 @@
 -- Two ledgers that are read side by side.
-use Rattle.std.proofs.Common.{◌≡◌, ◌<◌, ◌≤◌, ◌+◌, ℕ, zero, suc, List, [], ◌∷◌, ◌++◌, Option, Some, None, Bool}
-use Rattle.std.proofs.Common.{true, false, refl, sym, ap, subst, ◌∙◌, arith, length, length-append, append_assoc}
-use Rattle.std.proofs.Common.{append-nil, filter, flat_map, get_or}
+use Rattle.std.proofs.Common.{◌≡◌, ◌<◌, ◌≤◌, ◌+◌, ℕ, zero, suc, List, [], ◌∷◌, ◌++◌, Option, Some}
+use Rattle.std.proofs.Common.{None, Bool, true, false, refl, sym, ap, subst, ◌∙◌, arith, length}
+use Rattle.std.proofs.Common.{length-append, append_assoc, append-nil, filter, flat_map, get_or}
 use Rattle.std.specs.Prelude.{⊤, if◌then◌else◌}
 use Rattle.std.specs.Io.KnownBytes.{Appends}
 use Rattle.std.specs.List.{AllByRecursion}
@@ -12,6 +12,7 @@ use Rattle.std.specs.declared.cmp.Ordering.TheVariants.{Less, Equal, Greater}
 use Rattle.std.proofs.lemmas.List.Concat.{flat_map-append}
 use Rattle.std.proofs.lemmas.List.Elements.{All-from_recursion, filter-append}
 use Rattle.std.proofs.lemmas.List.Sorted.{ranks_by}
+use Rattle.std.proofs.KnownBytes.{Appends-nil, Appends-trans}
 use Rattle.ledger_changes.specs.Changes.{AreSideBySide, IsSomeLine, Pair, UseUp, UsesUp}
 use Rattle.ledger_changes.specs.Changes.{afters, befores, is_changed, row_of}
 use Rattle.ledger_changes.specs.Rows.{Charge, Key, Row, key_cmp}
@@ -20,9 +21,10 @@ use Rattle.ledger_changes.specs.declared.row.LedgerRow.{LedgerRow}
 use Rattle.ledger_changes.specs.Texts.{IsCorrectionsText, correction_line, corrections_head}
 use Rattle.ledger_changes.specs.Texts.{corrections_lines, is_removed, removed_in}
 use Rattle.ledger_changes.specs.inside.LedgerRows.{rows_in}
-use Rattle.ledger_changes.specs.inside.Standings.{HasRows, HasRowsAt, IsKnown, IsMoved, Standing, StandsBefore}
-use Rattle.ledger_changes.specs.inside.Written.{AreTold, AreWritten, changes_of, next_sides, pairs_of}
-use Rattle.ledger_changes.specs.inside.Written.{row_in, sides_by, taken_if}
+use Rattle.ledger_changes.specs.inside.Standings.{HasRows, HasRowsAt, IsKnown, IsMoved, Standing}
+use Rattle.ledger_changes.specs.inside.Standings.{StandsBefore}
+use Rattle.ledger_changes.specs.inside.Written.{AreTold, AreWritten, changes_of, next_sides}
+use Rattle.ledger_changes.specs.inside.Written.{pairs_of, row_in, sides_by, taken_if}
 use Rattle.ledger_changes.proofs.Keys.{key_cmp_total, same_key}
 use Rattle.ledger_changes.proofs.Sorted.{Rise, rise_all}
 
@@ -168,9 +170,11 @@ paired_more b a pair olds news pairs first is = record {
         (subst (AllByRecursion (λ row. Le pair.key row.key)) (sym is.of_new) first.news_up),
     uses_all pair pairs
         (λ none. none_of (λ later. later.before) pair.key pairs
-        (subst (AllByRecursion (λ row. Lt pair.key row.key)) (sym is.of_old) (first.olds_past none)))
+        (subst (AllByRecursion (λ row. Lt pair.key row.key)) (sym is.of_old)
+        (first.olds_past none)))
         (λ none. none_of (λ later. later.after) pair.key pairs
-        (subst (AllByRecursion (λ row. Lt pair.key row.key)) (sym is.of_new) (first.news_past none))),
+        (subst (AllByRecursion (λ row. Lt pair.key row.key)) (sym is.of_new)
+        (first.news_past none))),
     is.order,
   );
   of_old = ap (λ (rows : List Row). rows ++ befores pairs) first.old
@@ -331,8 +335,10 @@ first_by old new Greater e olds news is also =
 first_of : (o n : Option Row) (olds news : List Row) → ¬ (next_sides o n ≡ (false, false))
     → First o n (next_sides o n) olds news
 first_of None None olds news some is also = absurd (some refl)
-first_of (Some old) None olds news some is also = only_old old olds news is (past_none old.key news also)
-first_of None (Some new) olds news some is also = only_new new olds news also (past_none new.key olds is)
+first_of (Some old) None olds news some is also =
+    only_old old olds news is (past_none old.key news also)
+first_of None (Some new) olds news some is also =
+    only_new new olds news also (past_none new.key olds is)
 first_of (Some old) (Some new) olds news some is also =
     first_by old new (key_cmp old.key new.key) refl olds news is also
 
@@ -361,18 +367,6 @@ pub record IsGoing (old0 new0 old new : Standing) (Told : List Pair → Type 0) 
   pub news : IsKnown new0 → (rows : List Row) → HasRows new0 rows
       → (rest : List Row) × HasRows new rest
   pub told : IsKnown old0 → IsKnown new0 → IsDone old0 new0 old new Told
-
-pub appends_none : (out : Option (List ℕ)) → Appends out out []
-appends_none None = tt
-appends_none (Some bytes) = sym (append-nil bytes)
-
-pub appends_more : (a b c : Option (List ℕ)) (x y : List ℕ) → Appends a b x → Appends b c y
-    → Appends a c (x ++ y)
-appends_more None b c x y p q = tt
-appends_more (Some xs) None c x y p q = elim p [ ]
-appends_more (Some xs) (Some ys) None x y p q = elim q [ ]
-appends_more (Some xs) (Some ys) (Some zs) x y p q =
-    q ∙ ap (λ (bytes : List ℕ). bytes ++ y) p ∙ append_assoc xs x y
 
 pub going_start : (old new : Standing) (Told : List Pair → Type 0) → Told []
     → IsGoing old new old new Told
@@ -435,7 +429,8 @@ pub going_next : (old0 new0 old new old' new' : Standing) (Told Told' : List Pai
     → (IsKnown old → IsMoved old old' (rows_in b)) → (IsKnown new → IsMoved new new' (rows_in a))
     → ((done : List Pair) → Told done → Told' (done ++ changes_of b a))
     → IsGoing old0 new0 old' new' Told'
-going_next old0 new0 old new old' new' Told Told' h k b a going sides some is_b is_a moved_old moved_new
+going_next old0 new0 old new old' new' Told Told' h k b a going sides some is_b is_a moved_old
+    moved_new
     more = record {
       known_old = λ known. (moved_old (going.known_old known)).known;
       known_new = λ known. (moved_new (going.known_new known)).known;
@@ -546,7 +541,7 @@ removed_more changes more =
     ∙ length-append (filter is_removed changes) (filter is_removed more)
 
 pub written_none : (out : Option (List ℕ)) → AreWritten out out 0 []
-written_none out = record { written = appends_none out; counted = refl }
+written_none out = record { written = Appends-nil out; counted = refl }
 
 pub written_more : (out0 out out' : Option (List ℕ)) (removed counted : ℕ) (more done : List Pair)
     → Appends out out' (corrections_lines more) → counted ≡ removed + removed_in more
@@ -556,7 +551,7 @@ written_more out0 out out' removed counted more done appends count written =
     let so_far = written.counted in
     record {
       written = subst (Appends out0 out') (sym (flat_map-append correction_line done more))
-          (appends_more out0 out out' (corrections_lines done) (corrections_lines more)
+          (Appends-trans out0 out out' (corrections_lines done) (corrections_lines more)
           written.written appends);
       counted = omega (arith, sum, so_far, count);
     }
@@ -579,5 +574,6 @@ finished old_text new_text old new out mid end removed begun_old begun_new head 
         shown = refl;
         counted = is.told.counted;
       },
-      appends_more out mid end corrections_head (corrections_lines is.changes) head is.told.written,
+      Appends-trans out mid end corrections_head (corrections_lines is.changes) head
+          is.told.written,
     )

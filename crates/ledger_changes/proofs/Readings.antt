@@ -39,6 +39,7 @@ same_fields : (a b c d e f g h i j k l a' b' c' d' e' f' g' h' i' j' k' l' : Lis
 same_fields a b c d e f g h i j k l a' b' c' d' e' f' g' h' i' j' k' l' is =
     record { token = cc; moment = cc; validator = cc; answer = cc; cents = cc; reason = cc }
 
+-- a line has one row
 pub one_row : (a b : Row) (line : List ℕ) → IsRowLine a line → IsRowLine b line → a ≡ b
 one_row a b line is also =
     let text : is.text ≡ also.text =
@@ -61,7 +62,8 @@ some_taken : (b : Bool) (x : ℕ) (front : List ℕ) → (if b then x ∷ [] els
 some_taken true x front is = absurd (omega (arith, ap length is))
 some_taken false x front is = absurd (omega (arith, ap length is))
 
-taken_none : (left : List ℕ) → take_through 10 left ≡ [] → left ≡ []
+-- no line is left of no bytes alone
+pub taken_none : (left : List ℕ) → take_through 10 left ≡ [] → left ≡ []
 taken_none [] is = refl
 taken_none (x ∷ left) is = absurd (some_taken (x == 10) x (take_through 10 left) is)
 
@@ -70,11 +72,6 @@ pub reads_end : (left line : List ℕ) (after : Option (List ℕ)) → line ≡ 
 reads_end left line after taken behind none =
     let end : left ≡ [] = taken_none left (sym taken ∙ none) in
     (end, behind ∙ ap (λ (bytes : List ℕ). Some (drop_through 10 bytes)) end)
-
-pub reads_row : (left line : List ℕ) (after : Option (List ℕ)) (row : Row)
-    → line ≡ take_through 10 left → after ≡ Some (drop_through 10 left) → IsRowLine row line
-    → ReadsRow left (Some row) after
-reads_row left line after row taken behind is = (subst (IsRowLine row) taken is, behind)
 
 pub no_row_lines : (left line : List ℕ) → line ≡ take_through 10 left → ¬ (line ≡ [])
     → ((row : Row) → ¬ (IsRowLine row line)) → (rows : List Row) → ¬ (AreRowLines rows left)

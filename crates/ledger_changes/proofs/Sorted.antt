@@ -38,15 +38,18 @@ pub rise_more : (row next : Row) (rows : List Row) → NotBelow row next → Ris
     → Rise (row ∷ next ∷ rows)
 rise_more row next rows first up = each
   where
-    each : (k : ℕ) (d : Row) → 0 ≤ k → k + 1 < length (row ∷ next ∷ rows) → At (row ∷ next ∷ rows) k d
+    each : (k : ℕ) (d : Row) → 0 ≤ k → k + 1 < length (row ∷ next ∷ rows)
+        → At (row ∷ next ∷ rows) k d
     each zero d low high = first
     each (suc k) d low high =
         let next_one : suc (k + 1) ≡ suc k + 1 = omega arith in
         subst (λ (n : ℕ). is_lt (key_cmp (get_or (row ∷ next ∷ rows) n d).key
-        (get_or (next ∷ rows) k d).key) ≡ false) next_one (up k d (omega arith) (omega (arith, high)))
+        (get_or (next ∷ rows) k d).key) ≡ false) next_one
+        (up k d (omega arith) (omega (arith, high)))
 
 -- all that follow are not below the first
-pub rise_all : (row : Row) (rows : List Row) → Rise (row ∷ rows) → AllByRecursion (NotBelow row) rows
+pub rise_all : (row : Row) (rows : List Row) → Rise (row ∷ rows)
+    → AllByRecursion (NotBelow row) rows
 rise_all row rows up =
     let all : All (NotBelow row) rows = λ j d high.
     sorted_far (λ a b. is_lt (key_cmp a.key b.key)) (ranks_by key_cmp_total (λ (r : Row). r.key))

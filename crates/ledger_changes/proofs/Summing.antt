@@ -1,6 +1,8 @@
 -- One correction more in the sums of its token.
-use Rattle.std.proofs.Common.{◌≡◌, ◌+◌, ℕ, List, [], ◌∷◌, ◌++◌, Option, Some, None, Bool, true, false}
+use Rattle.std.proofs.Common.{◌≡◌, ◌+◌, ℕ, List, [], ◌∷◌, ◌++◌, Option, Some, None, Bool, true}
+use Rattle.std.proofs.Common.{false}
 use Rattle.std.proofs.Common.{cond, not, refl, sym, ap, subst, ◌∙◌, append-nil, append_assoc, arith}
+use Rattle.std.proofs.KnownBytes.{Appends-nil, Appends-trans}
 use Rattle.std.specs.Io.KnownBytes.{Appends}
 use Rattle.std.specs.Option.{option_map}
 use Rattle.ledger_changes.specs.Changes.{Pair, agree}
@@ -8,10 +10,11 @@ use Rattle.ledger_changes.specs.inside.LedgerRows.{charge_of}
 use Rattle.ledger_changes.specs.Texts.{removed_in}
 use Rattle.ledger_changes.specs.inside.Standings.{Standing}
 use Rattle.ledger_changes.specs.inside.Sums.{AreSummed, AreSumsWritten, TokenSum, add_changes}
-use Rattle.ledger_changes.specs.inside.Sums.{ended_line, ended_lines, sums_after, sums_for, sums_line}
+use Rattle.ledger_changes.specs.inside.Sums.{ended_line, ended_lines, sums_after, sums_for}
+use Rattle.ledger_changes.specs.inside.Sums.{sums_line}
 use Rattle.ledger_changes.specs.inside.Written.{AreTold, changes_of, pairs_of, row_in}
 use Rattle.ledger_changes.specs.declared.row.LedgerRow.{LedgerRow}
-use Rattle.ledger_changes.proofs.Merging.{appends_more, appends_none, removed_more}
+use Rattle.ledger_changes.proofs.Merging.{removed_more}
 
 abbrev pub Agree : Option LedgerRow → Option LedgerRow → Bool
 Agree before after = agree (option_map charge_of before) (option_map charge_of after)
@@ -63,10 +66,12 @@ pub sums_one : (last : Option TokenSum) (row : LedgerRow) (before after : Option
     ≡ Some (add_changes (sums_for last row.token.items) (Pairs before after))
 sums_one last row None None is = absurd is
 sums_one last row None (Some after) is =
-    ap (λ (r : LedgerRow). Some (add_changes (sums_for last r.token.items) (Pairs None (Some after))))
+    ap (λ (r : LedgerRow). Some
+    (add_changes (sums_for last r.token.items) (Pairs None (Some after))))
     (sym is)
 sums_one last row (Some before) None is =
-    ap (λ (r : LedgerRow). Some (add_changes (sums_for last r.token.items) (Pairs (Some before) None)))
+    ap (λ (r : LedgerRow). Some
+    (add_changes (sums_for last r.token.items) (Pairs (Some before) None)))
     (sym is)
 sums_one last row (Some before) (Some after) is =
     ap (λ (r : LedgerRow). Some (add_changes (sums_for last r.token.items)
@@ -107,7 +112,7 @@ after_more last (change ∷ done) more =
     after_more (Some (add_changes (sums_for last change.key.token) (change ∷ []))) done more
 
 pub summed_none : (out : Option (List ℕ)) → AreSummed out out None 0 []
-summed_none out = record { written = appends_none out; is_last = refl; counted = refl }
+summed_none out = record { written = Appends-nil out; is_last = refl; counted = refl }
 
 pub summed_more : (out0 out out' : Option (List ℕ)) (last last' : Option TokenSum)
     (removed counted : ℕ) (more done : List Pair) → Appends out out' (ended_lines last more)
@@ -120,7 +125,7 @@ summed_more out0 out out' last last' removed counted more done appends after cou
       written = subst (Appends out0 out')
           (ap (λ (l : Option TokenSum). ended_lines None done ++ ended_lines l more) summed.is_last
           ∙ sym (ended_more None done more))
-          (appends_more out0 out out' (ended_lines None done) (ended_lines last more)
+          (Appends-trans out0 out out' (ended_lines None done) (ended_lines last more)
           summed.written appends);
       is_last = after ∙ ap (λ (l : Option TokenSum). sums_after l more) summed.is_last
           ∙ sym (after_more None done more);
@@ -131,9 +136,11 @@ pub summed_all : (out0 out out' : Option (List ℕ)) (last : Option TokenSum) (r
     (changes : List Pair) → Appends out out' (sums_line last)
     → AreSummed out0 out last removed changes → AreSumsWritten out0 out' removed changes
 summed_all out0 out out' last removed changes appends summed = record {
-  written = subst (λ (l : Option TokenSum). Appends out0 out' (ended_lines None changes ++ sums_line l))
+  written = subst
+      (λ (l : Option TokenSum). Appends out0 out' (ended_lines None changes ++ sums_line l))
       summed.is_last
-      (appends_more out0 out out' (ended_lines None changes) (sums_line last) summed.written appends);
+      (Appends-trans out0 out out' (ended_lines None changes) (sums_line last) summed.written
+      appends);
   counted = summed.counted;
 }
 

@@ -18,7 +18,8 @@ module _ (weight : Key → Charge → ℕ) where
   pub after_of : Pair → ℕ
   after_of pair = weight_of weight pair.key pair.after
 
-  one_row : (key : Key) (side : Option Charge) → sum_by of_row (row_of key side) ≡ weight_of weight key side
+  one_row : (key : Key) (side : Option Charge)
+      → sum_by of_row (row_of key side) ≡ weight_of weight key side
   unfolding of_row
   one_row key None = refl
   one_row key (Some charge) = omega arith
@@ -50,9 +51,11 @@ module _ (weight : Key → Charge → ℕ) where
           → sum_by of_row (befores pairs) + sum_by after_of (filter is_changed pairs)
           ≡ sum_by of_row (afters pairs) + sum_by before_of (filter is_changed pairs)
           → sum_by of_row (befores (pair ∷ pairs))
-          + sum_by after_of (cond (not b) (pair ∷ filter is_changed pairs) (filter is_changed pairs))
+          + sum_by after_of
+          (cond (not b) (pair ∷ filter is_changed pairs) (filter is_changed pairs))
           ≡ sum_by of_row (afters (pair ∷ pairs))
-          + sum_by before_of (cond (not b) (pair ∷ filter is_changed pairs) (filter is_changed pairs))
+          + sum_by before_of
+          (cond (not b) (pair ∷ filter is_changed pairs) (filter is_changed pairs))
       by_test true e rest =
           let equal : before_of pair ≡ after_of pair = alike pair.key pair.before pair.after e in
           let one = olds in

@@ -1,6 +1,6 @@
 -- The sums of the tokens add up to those of all corrections.
-use Rattle.std.proofs.Common.{◌≡◌, ◌+◌, ℕ, List, [], ◌∷◌, Bool, true, false, cond, refl, sym, ap, subst}
-use Rattle.std.proofs.Common.{◌∙◌, arith, Option, None, Some}
+use Rattle.std.proofs.Common.{◌≡◌, ◌+◌, ℕ, List, [], ◌∷◌, Bool, true, false, cond, refl, sym, ap}
+use Rattle.std.proofs.Common.{subst, ◌∙◌, arith, Option, None, Some}
 use Rattle.std.specs.Prelude.{Contains}
 use Rattle.std.specs.List.{AllByRecursion, sum_by}
 use Rattle.std.specs.List.Sorted.{IsStrictlySortedBy}
@@ -124,8 +124,10 @@ tokens_add old new changes tokens are by =
     let after = sums_by_token (λ change. cents_of change.after) tokens by.rising changes all in
     let before = sums_by_token (λ change. cents_of change.before) tokens by.rising changes all in
     let up = adds_up old new changes are (λ key charge. charge.cents) in
-    let weight_after = sum_same (λ change. weight_of (λ key charge. charge.cents) change.key change.after)
+    let weight_after = sum_same
+    (λ change. weight_of (λ key charge. charge.cents) change.key change.after)
     (λ change. cents_of change.after) (λ change. weight_is change.key change.after) changes in
-    let weight_before = sum_same (λ change. weight_of (λ key charge. charge.cents) change.key change.before)
+    let weight_before = sum_same
+    (λ change. weight_of (λ key charge. charge.cents) change.key change.before)
     (λ change. cents_of change.before) (λ change. weight_is change.key change.before) changes in
     omega (arith, after, before, up, weight_after, weight_before)

@@ -19,14 +19,13 @@ change_word None after = codes "added"
 change_word (Some before) None = codes "removed"
 change_word (Some before) (Some after) = codes "changed"
 
--- the answer, the cents and the reason, each behind a comma; three empty fields where there is no
--- line
+-- the answer, the cents and the reason, each behind a comma; three empty fields if there is no line
 abbrev pub charge_fields : Option Charge → List ℕ
 charge_fields None = codes ",,,"
 charge_fields (Some charge) =
     codes "," ++ (charge.answer ++ (codes "," ++ (decimal charge.cents ++ (codes "," ++ charge.reason))))
 
--- the cents of a line, and none where there is no line
+-- the cents of a line, and 0 if there is no line
 abbrev pub cents_of : Option Charge → ℕ
 cents_of None = 0
 cents_of (Some charge) = charge.cents
@@ -61,7 +60,7 @@ is_removed pair = is_only_before pair.before pair.after
 abbrev pub removed_in : List Pair → ℕ
 removed_in changes = length (filter is_removed changes)
 
--- the text is the corrections from the one ledger to the other, and so many lines are removed
+-- the text is the corrections from the one ledger to the other, and `removed` lines are removed
 pub record IsCorrectionsText (old new text : List ℕ) (removed : ℕ) : Type 0 where
   pub old_rows : List Row
   pub is_old : IsSettledLedger old_rows old

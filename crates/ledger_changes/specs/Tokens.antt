@@ -70,8 +70,8 @@ abbrev pub tokens_lines : List Pair → List (List ℕ) → List ℕ
 tokens_lines changes tokens =
     flat_map (λ token. token_line token (sums_of (of_token token changes))) tokens
 
--- the text is the sums of the corrections from the one ledger to the other, token by token, and so
--- many lines are removed
+-- the text is the sums of the corrections from the one ledger to the other, token by token, and
+-- `removed` lines are removed
 pub record IsCorrectionsByTokenText (old new text : List ℕ) (removed : ℕ) : Type 0 where
   pub old_rows : List Row
   pub is_old : IsSettledLedger old_rows old

@@ -21,12 +21,11 @@ use std::alloc::Global;
 use std::cmp::Ordering;
 use std::io::{BufRead, Write};
 
-/// The head line of corrections.
 const HEAD_LINE: &[u8] =
     b"token,moment,validator,change,answer_before,cents_before,reason_before,answer_after,cents_after,reason_after,cents_change\n";
 
-/// Which of two ledgers have the next row, at these rows of theirs: both do where the keys are the
-/// same. Nothing where both have ended.
+/// Which of two ledgers have the next row, at these rows of theirs: both do if the keys are the
+/// same. Nothing if both have ended.
 pub(crate) fn next_sides(old: &Option<LedgerRow>, new: &Option<LedgerRow>) -> Option<(bool, bool)>
     ensures { MatchOption result (next_sides (row_in old.now) (row_in new.now) ≡ (false, false))
         (λ sides. (sides ≡ next_sides (row_in old.now) (row_in new.now))
@@ -44,8 +43,8 @@ pub(crate) fn next_sides(old: &Option<LedgerRow>, new: &Option<LedgerRow>) -> Op
     }
 }
 
-/// The number of removed lines, with this change among them. No ledger has so many lines that
-/// there is none.
+/// The number of removed lines, with this change among them. None beyond 2^64 - 1, which no ledger
+/// reaches.
 pub(crate) fn count_removed(
     removed: u64,
     before: &Option<LedgerRow>,
@@ -111,7 +110,7 @@ pub fn corrections<R: BufRead + Drop, W: Write>(
         → R.remaining old ≡ Some old_text → R.remaining new ≡ Some new_text
         → (text : List ℕ) × IsCorrectionsText old_text new_text text removed
         × Appends (W.contents out.old) (W.contents out.new) text) }
-    // A fault of a ledger comes only where the text is no settled ledger.
+    // A fault of a ledger comes only if the text is no settled ledger.
     ensures refused_old { IfErr result (λ fault. IsOfLedger Old fault → (text : List ℕ)
         → R.remaining old ≡ Some text → (rows : List Row) → ¬ (IsSettledLedger rows text)) }
     ensures refused_new { IfErr result (λ fault. IsOfLedger New fault → (text : List ℕ)

@@ -41,7 +41,7 @@ fn change_word(before: &Option<LedgerRow>, after: &Option<LedgerRow>) -> &'stati
     }
 }
 
-/// The cents of a line, and none where there is no line.
+/// The cents of a line, and 0 if there is no line.
 pub(crate) fn cents_of(row: &Option<LedgerRow>) -> u32
     ensures { result ≡ cents_of (option_map charge_of row.now) }
 {
@@ -68,7 +68,7 @@ pub(crate) fn write_number(text: &mut Vec<u8>, number: u64) -> Result<(), AllocE
     write_field(text, buffer.format(number).as_bytes())
 }
 
-/// Appends the answer, the cents and the reason of a line; three empty fields where there is none.
+/// Appends the answer, the cents and the reason of a line; three empty fields if there is none.
 fn write_charge(text: &mut Vec<u8>, row: &Option<LedgerRow>) -> Result<(), AllocError>
     ensures { OnOk result (text.new.items ≡ text.old.items
         ++ charge_fields (option_map charge_of row.now)) }
@@ -131,7 +131,6 @@ fn correction_line(
     Ok(line)
 }
 
-/// Writes these bytes.
 pub(crate) fn write_text<W: Write>(out: &mut W, text: &[u8]) -> Result<(), CorrectionsFault>
     ensures written { OnOk result (Appends (W.contents out.old) (W.contents out.new) text.now) }
     ensures fault { IfErr result (λ fault. (bill : ABill) → ¬ (IsOfLedger bill fault)) }
@@ -142,7 +141,7 @@ pub(crate) fn write_text<W: Write>(out: &mut W, text: &[u8]) -> Result<(), Corre
     }
 }
 
-/// Writes the line of the correction from the one row to the other, where they do not agree.
+/// Writes the line of the correction from the one row to the other, if they do not agree.
 pub(crate) fn write_change<W: Write>(
     alloc: Global,
     out: &mut W,

@@ -20,9 +20,7 @@ pub enum CorrectionsFault {
     Order(Bill, u64),
     /// A read of this bill's ledger failed.
     Unread(Bill),
-    /// A write failed.
     Write,
-    /// A growth of memory was refused.
     NoMemory,
 }
 

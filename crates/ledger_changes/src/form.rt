@@ -37,17 +37,15 @@ pub struct RowFields<'a> {
     pub token: &'a [u8],
     /// The moment's text.
     pub moment: &'a [u8],
-    /// The validator.
     pub validator: u32,
     /// The word of the answer.
     pub answer: &'a [u8],
-    /// The cents.
     pub cents: u32,
     /// The word of the reason.
     pub reason: &'a [u8],
 }
 
-/// The first field of a text, and what follows its comma; nothing where the text is one field.
+/// The first field of a text, and what follows its comma; nothing if the text is one field.
 fn first_field(text: &[u8]) -> Option<(&[u8], &[u8])>
     ensures { MatchOption result (fields_of text.now ≡ text.now ∷ [])
         (λ parts. fields_of text.now ≡ parts.0.now ∷ fields_of parts.1.now) }
@@ -100,14 +98,13 @@ fn is_digit(byte: u8) -> bool
     (48 <= byte && byte <= 57) || (97 <= byte && byte <= 102)
 }
 
-/// Whether the text is the digits of a token.
 fn is_token(text: &[u8]) -> bool
     ensures { IsTrue result ↔ IsTokenText text.now }
 {
     text.len() == 32 && text.iter().all(|byte| is_digit(*byte))
 }
 
-/// The number of at most 32 bits that the digits write, where it is written so.
+/// The number of at most 32 bits that the digits write, if a ledger writes it so.
 fn number_of(digits: &[u8]) -> Option<u32>
     ensures { MatchOption result
         ((number : ℕ) → number < 2 ^ 32 → ¬ (digits.now ≡ decimal number))

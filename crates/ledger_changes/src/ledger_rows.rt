@@ -26,7 +26,6 @@ use std::mem;
 pub(crate) struct LedgerRows<R: BufRead + Drop> {
     /// What is left to read.
     from: R,
-    /// Whose ledger it is.
     bill: Bill,
     /// How many lines were read.
     lines: u64,
@@ -48,7 +47,6 @@ fn may_follow(before: &Option<LedgerRow>, row: &Option<LedgerRow>) -> bool
 }
 
 impl<R: BufRead + Drop> LedgerRows<R> {
-    /// The row at which it stands; none at the end.
     pub(crate) fn row(&self) -> &Option<LedgerRow>
         ensures { result.now ≡ self.now.row }
     {
@@ -76,7 +74,6 @@ impl<R: BufRead + Drop> LedgerRows<R> {
         }
     }
 
-    /// Whether the text has ended.
     fn is_over(&self) -> bool
         ensures { IsTrue result ↔ (self.now.line.items ≡ []) }
     {
@@ -152,8 +149,7 @@ impl<R: BufRead + Drop> LedgerRows<R> {
         Ok(mem::replace(&mut self.row, next))
     }
 
-    /// Where that is wanted, goes on to the next row and gives the row at which it stood; else
-    /// none.
+    /// If that is wanted, goes on to the next row and gives the row at which it stood; else none.
     pub(crate) fn row_if(
         &mut self,
         alloc: Global,

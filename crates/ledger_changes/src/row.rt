@@ -6,18 +6,14 @@ ghost use Rattle.ledger_changes.specs.inside.LedgerRows.{charge_of, key_of};
 
 use std::cmp::Ordering;
 
-/// A line of a ledger, as far as corrections look at it.
 #[derive(Drop)]
 pub(crate) struct LedgerRow {
     /// The token's digits.
     pub(crate) token: Vec<u8>,
     /// The moment's text.
     pub(crate) moment: Vec<u8>,
-    /// The validator.
     pub(crate) validator: u32,
-    /// The answer.
     pub(crate) answer: Vec<u8>,
-    /// The cents.
     pub(crate) cents: u32,
     /// The word of the reason.
     pub(crate) reason: Vec<u8>,
@@ -34,7 +30,6 @@ impl LedgerRow {
         tokens.then(moments.then(validators))
     }
 
-    /// Whether nothing is charged otherwise.
     pub(crate) fn is_charged_like(&self, other: &LedgerRow) -> bool
         ensures { result ≡ is_same_charge (charge_of self.now) (charge_of other.now) }
     {

@@ -21,7 +21,6 @@ use crate::token_sums::{TokenSums, sum_change, write_sums};
 use std::alloc::Global;
 use std::io::{BufRead, Write};
 
-/// The head line of the tokens' sums.
 const TOKENS_HEAD_LINE: &[u8] =
     b"token,added,removed,changed,cents_before,cents_after,cents_change\n";
 
@@ -78,7 +77,7 @@ pub fn corrections_by_token<R: BufRead + Drop, W: Write>(
         → R.remaining old ≡ Some old_text → R.remaining new ≡ Some new_text
         → (text : List ℕ) × IsCorrectionsByTokenText old_text new_text text removed
         × Appends (W.contents out.old) (W.contents out.new) text) }
-    // A fault of a ledger comes only where the text is no settled ledger.
+    // A fault of a ledger comes only if the text is no settled ledger.
     ensures refused_old { IfErr result (λ fault. IsOfLedger Old fault → (text : List ℕ)
         → R.remaining old ≡ Some text → (rows : List Row) → ¬ (IsSettledLedger rows text)) }
     ensures refused_new { IfErr result (λ fault. IsOfLedger New fault → (text : List ℕ)

@@ -48,7 +48,6 @@ fn is_only_before(before: &Option<LedgerRow>, after: &Option<LedgerRow>) -> bool
     }
 }
 
-/// Whether both bills have the line.
 fn is_in_both(before: &Option<LedgerRow>, after: &Option<LedgerRow>) -> bool
     ensures { result
         ≡ is_in_both (option_map charge_of before.now) (option_map charge_of after.now) }
@@ -76,7 +75,6 @@ impl TokenSums {
         })
     }
 
-    /// Whether the row is one of the token.
     fn is_of(&self, row: &LedgerRow) -> bool
         ensures { result ≡ is_same_text self.now.token.items row.now.token.items }
     {
@@ -102,7 +100,6 @@ impl TokenSums {
         })
     }
 
-    /// The line of the token.
     #[tactic(auto, unfolding(crate::specs::Tokens::token_line))]
     fn line(&self, alloc: Global) -> Result<Vec<u8>, AllocError>
         ensures { IfOk result (λ line. line.items
@@ -140,7 +137,7 @@ pub(crate) fn write_sums<W: Write>(
     }
 }
 
-/// the open sums, where they are of the row's token. Else their line is written, and sums of no
+/// The open sums, if they are of the row's token. Else their line is written, and sums of no
 /// correction begin.
 fn sums_for<W: Write>(
     alloc: Global,
@@ -164,8 +161,8 @@ fn sums_for<W: Write>(
     Ok(TokenSums::begin(alloc, row)?)
 }
 
-/// Adds the correction from the one row to the other to the sums of its token, where they do not
-/// agree. Where the open sums are of another token, their line is written, and new ones begin.
+/// Adds the correction from the one row to the other to the sums of its token, if they do not
+/// agree. If the open sums are of another token, their line is written, and new ones begin.
 pub(crate) fn sum_change<W: Write>(
     alloc: Global,
     out: &mut W,

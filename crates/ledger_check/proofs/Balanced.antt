@@ -1,7 +1,6 @@
 -- What a balance is after one tap more, and what it tells.
 use Rattle.std.proofs.Common.{◌≡◌, ℕ, ◌+◌, ◌<◌, Bool, true, false, List, [], ◌∷◌, ◌++◌, cond}
-use Rattle.std.proofs.Common.{Option, Some, None, is_some, refl, sym, ap, subst, ◌∙◌, arith}
-use Rattle.std.proofs.Common.{append_assoc}
+use Rattle.std.proofs.Common.{Option, Some, None, is_some, refl, sym, ap, ◌∙◌, arith}
 use Rattle.std.proofs.lemmas.List.Sums.{sum_by-append, sum_by-cons}
 use Rattle.std.specs.Prelude.{IfSome, MatchOption}
 use Rattle.std.specs.BTreeMap.{BTreeMap}
@@ -10,13 +9,13 @@ use Rattle.std.specs.List.Sorted.{IsPermutation}
 use Rattle.std.specs.Ordering.{is_eq, is_lt}
 use Rattle.tap_views.specs.declared.encoder.TapFields.{TapFields}
 use Rattle.tap_views.specs.TapOrder.{tap_cmp}
-use Rattle.ledger_check.specs.Balances.{left_at, copies_among}
-use Rattle.ledger_check.specs.Balances.{IsFirstMissing, IsFirstSurplus}
+use Rattle.ledger_check.specs.Balances.{left_at, copies_among, IsFirstMissing, IsFirstSurplus}
 use Rattle.ledger_check.proofs.SameTaps.{same_exact}
 use Rattle.ledger_check.proofs.Times.{one, one_self, permutation_of_times, times_push}
 
 -- IsBalance, of a balance's two fields
-abbrev pub Balances : BTreeMap TapFields ℕ → Option TapFields → List TapFields → List TapFields → Type 0
+abbrev pub Balances : BTreeMap TapFields ℕ → Option TapFields → List TapFields → List TapFields
+    → Type 0
 Balances left surplus good struck =
     MatchOption surplus ((tap : TapFields)
     → copies_among tap good ≡ left_at left tap + copies_among tap struck)
@@ -25,9 +24,11 @@ Balances left surplus good struck =
 -- in the one map one more is left of the tap than in the other
 abbrev pub HasOneMore : BTreeMap TapFields ℕ → BTreeMap TapFields ℕ → TapFields → Type 0
 HasOneMore more less key =
-    (other : TapFields) → left_at more other ≡ left_at less other + cond (is_eq (tap_cmp key other)) 1 0
+    (other : TapFields) → left_at more other
+    ≡ left_at less other + cond (is_eq (tap_cmp key other)) 1 0
 
-nowhere : (before after : List TapFields) (tap : TapFields) → [] ≡ before ++ tap ∷ after → ⊥
+-- no tap stands in a list of none
+pub nowhere : (before after : List TapFields) (tap : TapFields) → [] ≡ before ++ tap ∷ after → ⊥
 nowhere [] after tap is = absurd cc
 nowhere (other ∷ before) after tap is = absurd cc
 
@@ -40,15 +41,6 @@ added old new None good tap more is = λ t.
     let before = is t in
     omega (arith, push, here, before)
 added old new (Some s) good tap more is = absurd (nowhere is.before is.after s is.stands)
-
-pub struck_out : (old new : BTreeMap TapFields ℕ) (good struck : List TapFields) (tap : TapFields)
-    → HasOneMore old new tap
-    → Balances old None good struck → Balances new None good (struck ++ tap ∷ [])
-struck_out old new good struck tap more is = λ t.
-    let push = times_push t struck tap in
-    let here = more t in
-    let before = is t in
-    omega (arith, push, here, before)
 
 pub none_left : (left : BTreeMap TapFields ℕ) (good struck : List TapFields) (tap : TapFields)
     → left_at left tap ≡ 0
@@ -64,17 +56,6 @@ none_left left good struck tap none is =
       none_before = λ other. let e = is other in omega (arith, e);
       more = omega (arith, push, self, here, none);
     }
-
-pub still_more : (left new : BTreeMap TapFields ℕ) (good struck : List TapFields) (tap s : TapFields)
-    → Balances left (Some s) good struck → Balances new (Some s) good (struck ++ tap ∷ [])
-still_more left new good struck tap s is = record {
-  before = is.before;
-  after = is.after ++ tap ∷ [];
-  stands = ap (λ (ts : List TapFields). ts ++ tap ∷ []) is.stands
-      ∙ append_assoc is.before (s ∷ is.after) (tap ∷ []);
-  none_before = is.none_before;
-  more = is.more;
-}
 
 -- the first surplus tap is more often among all of the others
 pub surplus_is_more : (good others : List TapFields) (tap : TapFields)
@@ -107,7 +88,8 @@ some_left left good struck tap some first is =
       no_surplus = λ other. let e = is other in omega (arith, e);
     }
 
-pub unfound : (left : BTreeMap TapFields ℕ) (surplus : Option TapFields) (good struck : List TapFields)
+pub unfound : (left : BTreeMap TapFields ℕ) (surplus : Option TapFields)
+    (good struck : List TapFields)
     → is_some surplus ≡ false
     → Balances left surplus good struck → Balances left None good struck
 unfound left None good struck none is = is

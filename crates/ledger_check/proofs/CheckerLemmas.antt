@@ -1,13 +1,15 @@
 -- What a check of a text in pieces finds, by what its parts found.
-use Rattle.std.proofs.Common.{◌≡◌, ◌≢◌, ℕ, ◌+◌, ◌<◌, ◌≤◌, Bool, true, false, cond, List, [], ◌∷◌, ◌++◌, length, Option, Some, None, is_some, codes, refl, sym, ap, subst, ◌∙◌, arith, append_assoc, append-nil, length-append, inl, inr, ⊎_elim}
+use Rattle.std.proofs.Common.{◌≡◌, ◌≢◌, ℕ, ◌+◌, ◌<◌, ◌≤◌, Bool, true, false, cond, List, [], ◌∷◌}
+use Rattle.std.proofs.Common.{◌++◌, length, Option, Some, None, is_some, codes, refl, sym, ap}
+use Rattle.std.proofs.Common.{subst, ◌∙◌, arith, append_assoc, append-nil, length-append, inl, inr}
+use Rattle.std.proofs.Common.{⊎_elim}
 use Rattle.std.proofs.lemmas.Bool.{cases_lt}
 use Rattle.fare_table.specs.Fares.{Fares}
 use Rattle.shard_book.specs.declared.entry.Entry.{Entry}
 use Rattle.fare_texts.specs.LedgerLines.{head_text, line_head, entry_fields}
 use Rattle.ledger_check.specs.Ledger.{IsNext}
 use Rattle.ledger_check.specs.Lines.{IsLine, Lacks, lines_of}
-use Rattle.ledger_check.specs.Replays.{HasRead, IsWanted, IsWrongAfter}
-use Rattle.ledger_check.specs.inside.Replays.{IsStep}
+use Rattle.ledger_check.specs.Replays.{HasRead, IsWrongAfter}
 use Rattle.ledger_check.specs.Verdicts.{HasFed, HasTaken, IsFed, IsFirstWrong, IsTrueOf, IsVerdict}
 use Rattle.ledger_check.specs.inside.Verdicts.{IsTaken, number_after}
 use Rattle.ledger_check.specs.declared.checker.Checker.{Checker}
@@ -15,14 +17,16 @@ use Rattle.ledger_check.specs.declared.checker.LinesSoFar.{LinesSoFar}
 use Rattle.ledger_check.specs.declared.checker.Verdict.{Verdict}
 use Rattle.ledger_check.specs.declared.checker.Verdict.TheVariants.{Legal, NoLine}
 use Rattle.ledger_check.specs.declared.replay.Replay.{Replay}
-use Rattle.ledger_check.proofs.LineLemmas.{Opens, lacks-append, lacks-end, lacks-last, lines-line, lines-open, lines-part}
+use Rattle.ledger_check.proofs.LineLemmas.{lacks-append, lacks-end, lacks-last, lines-line}
+use Rattle.ledger_check.proofs.LineLemmas.{lines-open, lines-part}
 use Rattle.ledger_check.proofs.ReplayLemmas.{wrong, wrong_long}
 
 apart : true ≡ false → ⊥
 apart is = cc
 
 -- before the head line nothing was read
-pub no_head : (fares : Fares) (so_far : LinesSoFar) (lines : List (List ℕ)) → so_far.has_head ≡ false → HasTaken fares so_far lines
+pub no_head : (fares : Fares) (so_far : LinesSoFar) (lines : List (List ℕ))
+    → so_far.has_head ≡ false → HasTaken fares so_far lines
     → (lines ≡ []) × HasRead fares so_far.replay []
 no_head fares so_far [] none taken = (refl, taken.1)
 no_head fares so_far (l ∷ lines) none taken = absurd (apart (sym taken.0 ∙ none))
@@ -33,12 +37,15 @@ pub record Headed (fares : Fares) (so_far : LinesSoFar) (lines : List (List ℕ)
   pub is : lines ≡ head_text ∷ rest
   pub read : HasRead fares so_far.replay rest
 
-pub headed : (fares : Fares) (so_far : LinesSoFar) (lines : List (List ℕ)) → so_far.has_head ≡ true → HasTaken fares so_far lines
+pub headed : (fares : Fares) (so_far : LinesSoFar) (lines : List (List ℕ)) → so_far.has_head ≡ true
+    → HasTaken fares so_far lines
     → Headed fares so_far lines
 headed fares so_far [] some taken = absurd (apart (sym some ∙ taken.0))
-headed fares so_far (l ∷ lines) some taken = record { rest = lines; is = ap (λ (x : List ℕ). x ∷ lines) taken.1; read = taken.2 }
+headed fares so_far (l ∷ lines) some taken =
+    record { rest = lines; is = ap (λ (x : List ℕ). x ∷ lines) taken.1; read = taken.2 }
 
-abbrev pub first_wrong : (fares : Fares) (replay : Replay) (rest : List (List ℕ)) (line : List ℕ) (more : List (List ℕ)) (number : ℕ)
+abbrev pub first_wrong : (fares : Fares) (replay : Replay) (rest : List (List ℕ)) (line : List ℕ)
+    (more : List (List ℕ)) (number : ℕ)
     → HasRead fares replay rest → number ≡ replay.lines + 2 → IsWrongAfter fares rest line
     → IsFirstWrong fares (head_text ∷ (rest ++ line ∷ more)) number
 first_wrong fares replay rest line more number read counted wrong = record {
@@ -53,16 +60,23 @@ first_wrong fares replay rest line more number read counted wrong = record {
 }
 
 -- a line that is neither the head line nor can follow what was read
-pub no_line_true : (fares : Fares) (so_far : LinesSoFar) (lines : List (List ℕ)) (line : List ℕ) (more : List (List ℕ)) → HasTaken fares so_far lines
-    → line ≢ head_text → ((rest : List (List ℕ)) → HasRead fares so_far.replay rest → IsWrongAfter fares rest line)
+pub no_line_true : (fares : Fares) (so_far : LinesSoFar) (lines : List (List ℕ)) (line : List ℕ)
+    (more : List (List ℕ)) → HasTaken fares so_far lines
+    → line ≢ head_text
+    → ((rest : List (List ℕ)) → HasRead fares so_far.replay rest → IsWrongAfter fares rest line)
     → IsTrueOf fares (lines ++ line ∷ more) (NoLine (number_after so_far))
 no_line_true fares so_far [] line more taken other wrong =
-    inl (ap (λ (b : Bool). cond b (so_far.replay.lines + 2) 1) taken.0, λ others is. other (same_head line head_text more others is))
+    inl (
+      ap (λ (b : Bool). cond b (so_far.replay.lines + 2) 1) taken.0,
+      λ others is. other (same_head line head_text more others is),
+    )
   where
     same_head : (a b : List ℕ) (xs ys : List (List ℕ)) → a ∷ xs ≡ b ∷ ys → a ≡ b
     same_head a b xs ys is = cc
 no_line_true fares so_far (l ∷ lines) line more taken other wrong =
-    inr (subst (λ (head : List ℕ). IsFirstWrong fares (head ∷ (lines ++ line ∷ more)) (number_after so_far)) (sym taken.1)
+    inr (subst
+    (λ (head : List ℕ). IsFirstWrong fares (head ∷ (lines ++ line ∷ more)) (number_after so_far))
+    (sym taken.1)
     (first_wrong fares so_far.replay lines line more (number_after so_far) taken.2
     (ap (λ (b : Bool). cond b (so_far.replay.lines + 2) 1) taken.0) (wrong lines taken.2)))
 
@@ -70,15 +84,18 @@ no_line_true fares so_far (l ∷ lines) line more taken other wrong =
 head_short : length head_text ≤ 255
 head_short = omega arith
 
-pub long_true : (fares : Fares) (so_far : LinesSoFar) (lines : List (List ℕ)) (line : List ℕ) (more : List (List ℕ)) → HasTaken fares so_far lines
+pub long_true : (fares : Fares) (so_far : LinesSoFar) (lines : List (List ℕ)) (line : List ℕ)
+    (more : List (List ℕ)) → HasTaken fares so_far lines
     → 255 < length line → IsTrueOf fares (lines ++ line ∷ more) (NoLine (number_after so_far))
 long_true fares so_far lines line more taken long =
     no_line_true fares so_far lines line more taken
-    (λ is. let same : length line ≤ 255 = subst (λ (l : List ℕ). length l ≤ 255) (sym is) head_short in absurd (omega arith))
+    (λ is. let same : length line ≤ 255 =
+    subst (λ (l : List ℕ). length l ≤ 255) (sym is) head_short in absurd (omega arith))
     (λ rest read. wrong_long fares so_far.replay rest line read long)
 
 -- a ledger's line ends with a newline
-next_ends : (fares : Fares) (earlier : List Entry) (entry : Entry) (line : List ℕ) → IsNext fares earlier entry line → Lacks 10 line → ⊥
+next_ends : (fares : Fares) (earlier : List Entry) (entry : Entry) (line : List ℕ)
+    → IsNext fares earlier entry line → Lacks 10 line → ⊥
 next_ends fares earlier entry line is lacks =
     let shown = is.shown in
     let one = lacks-end 10 (line_head entry.token _) _ (subst (Lacks 10) shown.shown lacks) in
@@ -87,61 +104,82 @@ next_ends fares earlier entry line is lacks =
     let four = lacks-end 10 shown.reason_fields (10 ∷ []) three in
     four.0 refl
 
+-- a line without a line feed is not the head
 pub head_ends : (line : List ℕ) → Lacks 10 line → line ≢ head_text
 head_ends line lacks is =
-    lacks-last 10 (codes "token,line,moment,validator,mode,answer,cents,window_start,window_end,ride,reason,points_at") line is lacks
+    lacks-last 10
+    (codes "token,line,moment,validator,mode,answer,cents,window_start,window_end,ride,reason,points_at") line is lacks
 
-pub begun_true : (fares : Fares) (so_far : LinesSoFar) (lines : List (List ℕ)) (begun : List ℕ) (more : List (List ℕ)) → HasTaken fares so_far lines
+pub begun_true : (fares : Fares) (so_far : LinesSoFar) (lines : List (List ℕ)) (begun : List ℕ)
+    (more : List (List ℕ)) → HasTaken fares so_far lines
     → Lacks 10 begun → IsTrueOf fares (lines ++ begun ∷ more) (NoLine (number_after so_far))
 begun_true fares so_far lines begun more taken lacks =
     no_line_true fares so_far lines begun more taken (head_ends begun lacks)
-    (λ rest read. wrong fares so_far.replay rest begun read (λ entry is. next_ends fares read.entries entry begun is lacks))
+    (λ rest read. wrong fares so_far.replay rest begun read
+    (λ entry is. next_ends fares read.entries entry begun is lacks))
 
 -- a piece without a newline
-pub cut_more : (fares : Fares) (checker : Checker) (text piece : List ℕ) (fed : HasFed fares checker text) (more : List ℕ)
-    → lines_of ((text ++ piece) ++ more) ≡ fed.lines ++ lines_of ((checker.begun.items ++ piece) ++ more)
+pub cut_more : (fares : Fares) (checker : Checker) (text piece : List ℕ)
+    (fed : HasFed fares checker text) (more : List ℕ)
+    → lines_of ((text ++ piece) ++ more)
+    ≡ fed.lines ++ lines_of ((checker.begun.items ++ piece) ++ more)
 cut_more fares checker text piece fed more =
     ap lines_of (append_assoc text piece more) ∙ fed.split (piece ++ more)
-    ∙ ap (λ (t : List ℕ). fed.lines ++ lines_of t) (sym (append_assoc checker.begun.items piece more))
+    ∙ ap (λ (t : List ℕ). fed.lines ++ lines_of t)
+    (sym (append_assoc checker.begun.items piece more))
 
-abbrev pub kept : (fares : Fares) (checker after : Checker) (text piece : List ℕ) → HasFed fares checker text → Lacks 10 piece
-    → after.so_far ≡ checker.so_far → after.begun.items ≡ checker.begun.items ++ piece → length after.begun.items ≤ 255
+abbrev pub kept : (fares : Fares) (checker after : Checker) (text piece : List ℕ)
+    → HasFed fares checker text → Lacks 10 piece
+    → after.so_far ≡ checker.so_far → after.begun.items ≡ checker.begun.items ++ piece
+    → length after.begun.items ≤ 255
     → HasFed fares after (text ++ piece)
 kept fares checker after text piece fed lacks same begun short = record {
   lines = fed.lines;
   taken = subst (λ (r : LinesSoFar). HasTaken fares r fed.lines) (sym same) fed.taken;
-  split = λ more. cut_more fares checker text piece fed more ∙ ap (λ (p : List ℕ). fed.lines ++ lines_of (p ++ more)) (sym begun);
+  split = λ more. cut_more fares checker text piece fed more
+      ∙ ap (λ (p : List ℕ). fed.lines ++ lines_of (p ++ more)) (sym begun);
   lacks = subst (Lacks 10) (sym begun) (lacks-append 10 checker.begun.items piece fed.lacks lacks);
   short = short;
 }
 
-pub too_long : (fares : Fares) (checker : Checker) (text piece whole : List ℕ) → HasFed fares checker text → Lacks 10 piece
+pub too_long : (fares : Fares) (checker : Checker) (text piece whole : List ℕ)
+    → HasFed fares checker text → Lacks 10 piece
     → whole ≡ checker.begun.items ++ piece → 255 < length whole
-    → (more : List ℕ) → IsVerdict fares ((text ++ piece) ++ more) (NoLine (number_after checker.so_far))
+    → (more : List ℕ) → IsVerdict fares ((text ++ piece) ++ more)
+    (NoLine (number_after checker.so_far))
 too_long fares checker text piece whole fed lacks begun long more =
     let joined = checker.begun.items ++ piece in
     let size : 255 < length joined = subst (λ (p : List ℕ). 255 < length p) begun long in
-    let opens = lines-open joined more (lacks-append 10 checker.begun.items piece fed.lacks lacks) (omega arith) in
+    let opens = lines-open joined more (lacks-append 10 checker.begun.items piece fed.lacks lacks)
+    (omega arith) in
     let line = joined ++ opens.rest in
     subst (λ (ls : List (List ℕ)). IsTrueOf fares ls (NoLine (number_after checker.so_far)))
-    (sym (cut_more fares checker text piece fed more ∙ ap (λ (ls : List (List ℕ)). fed.lines ++ ls) opens.is))
-    (long_true fares checker.so_far fed.lines line opens.after fed.taken (omega (arith, length-append joined opens.rest)))
+    (sym (cut_more fares checker text piece fed more
+    ∙ ap (λ (ls : List (List ℕ)). fed.lines ++ ls) opens.is))
+    (long_true fares checker.so_far fed.lines line opens.after fed.taken
+    (omega (arith, length-append joined opens.rest)))
 
 -- a piece that ends a line
-line_cut : (fares : Fares) (checker : Checker) (text line : List ℕ) (fed : HasFed fares checker text) → IsLine line → (more : List ℕ)
+line_cut : (fares : Fares) (checker : Checker) (text line : List ℕ)
+    (fed : HasFed fares checker text) → IsLine line → (more : List ℕ)
     → lines_of ((text ++ line) ++ more) ≡ fed.lines ++ (checker.begun.items ++ line) ∷ lines_of more
 line_cut fares checker text line fed is more =
     let begun = checker.begun.items in
-    let whole : begun ++ line ≡ (begun ++ is.front) ++ 10 ∷ [] = ap (λ (l : List ℕ). begun ++ l) is.shown ∙ sym (append_assoc begun is.front (10 ∷ [])) in
-    let split : (begun ++ line) ++ more ≡ (begun ++ is.front) ++ 10 ∷ more = ap (λ (l : List ℕ). l ++ more) whole ∙ append_assoc (begun ++ is.front) (10 ∷ []) more in
+    let whole : begun ++ line ≡ (begun ++ is.front) ++ 10 ∷ [] =
+    ap (λ (l : List ℕ). begun ++ l) is.shown ∙ sym (append_assoc begun is.front (10 ∷ [])) in
+    let split : (begun ++ line) ++ more ≡ (begun ++ is.front) ++ 10 ∷ more =
+    ap (λ (l : List ℕ). l ++ more) whole ∙ append_assoc (begun ++ is.front) (10 ∷ []) more in
     cut_more fares checker text line fed more
     ∙ ap (λ (t : List ℕ). fed.lines ++ lines_of t) split
-    ∙ ap (λ (ls : List (List ℕ)). fed.lines ++ ls) (lines-line (begun ++ is.front) more (lacks-append 10 begun is.front fed.lacks is.lacks))
+    ∙ ap (λ (ls : List (List ℕ)). fed.lines ++ ls)
+    (lines-line (begun ++ is.front) more (lacks-append 10 begun is.front fed.lacks is.lacks))
     ∙ ap (λ (l : List ℕ). fed.lines ++ l ∷ lines_of more) (sym whole)
 
-pub took_cut : (fares : Fares) (checker after : Checker) (text line whole : List ℕ) → (fed : HasFed fares checker text) → IsLine line
+pub took_cut : (fares : Fares) (checker after : Checker) (text line whole : List ℕ)
+    → (fed : HasFed fares checker text) → IsLine line
     → whole ≡ checker.begun.items ++ line → after.begun.items ≡ [] → (more : List ℕ)
-    → lines_of ((text ++ line) ++ more) ≡ (fed.lines ++ whole ∷ []) ++ lines_of (after.begun.items ++ more)
+    → lines_of ((text ++ line) ++ more)
+    ≡ (fed.lines ++ whole ∷ []) ++ lines_of (after.begun.items ++ more)
 took_cut fares checker after text line whole fed is joined empty more =
     line_cut fares checker text line fed is more
     ∙ ap (λ (l : List ℕ). fed.lines ++ l ∷ lines_of more) (sym joined)
@@ -154,8 +192,10 @@ none_short begun empty = subst (λ (p : List ℕ). length p ≤ 255) (sym empty)
 pub none_lacks : (begun : List ℕ) → begun ≡ [] → Lacks 10 begun
 none_lacks begun empty = subst (Lacks 10) (sym empty) tt
 
-abbrev pub took_whole : (fares : Fares) (checker after : Checker) (text line whole : List ℕ) → (fed : HasFed fares checker text) → IsLine line
-    → whole ≡ checker.begun.items ++ line → after.begun.items ≡ [] → HasTaken fares after.so_far (fed.lines ++ whole ∷ [])
+abbrev pub took_whole : (fares : Fares) (checker after : Checker) (text line whole : List ℕ)
+    → (fed : HasFed fares checker text) → IsLine line
+    → whole ≡ checker.begun.items ++ line → after.begun.items ≡ []
+    → HasTaken fares after.so_far (fed.lines ++ whole ∷ [])
     → HasFed fares after (text ++ line)
 took_whole fares checker after text line whole fed is joined empty taken = record {
   lines = fed.lines ++ whole ∷ [];
@@ -165,34 +205,45 @@ took_whole fares checker after text line whole fed is joined empty taken = recor
   short = none_short after.begun.items empty;
 }
 
-pub took_line : (fares : Fares) (checker after : Checker) (text line whole : List ℕ) (told : Option Verdict) → (fed : HasFed fares checker text) → IsLine line
-    → whole ≡ checker.begun.items ++ line → after.begun.items ≡ [] → IsTaken fares after.so_far fed.lines whole told
+pub took_line : (fares : Fares) (checker after : Checker) (text line whole : List ℕ)
+    (told : Option Verdict) → (fed : HasFed fares checker text) → IsLine line
+    → whole ≡ checker.begun.items ++ line → after.begun.items ≡ []
+    → IsTaken fares after.so_far fed.lines whole told
     → IsFed fares after (text ++ line) told
-took_line fares checker after text line whole None fed is joined empty taken = took_whole fares checker after text line whole fed is joined empty taken
+took_line fares checker after text line whole None fed is joined empty taken =
+    took_whole fares checker after text line whole fed is joined empty taken
 took_line fares checker after text line whole (Some verdict) fed is joined empty taken = λ more.
     subst (λ (ls : List (List ℕ)). IsTrueOf fares ls verdict)
-    (sym (line_cut fares checker text line fed is more ∙ ap (λ (l : List ℕ). fed.lines ++ l ∷ lines_of more) (sym joined)))
+    (sym (line_cut fares checker text line fed is more
+    ∙ ap (λ (l : List ℕ). fed.lines ++ l ∷ lines_of more) (sym joined)))
     (taken (lines_of more))
 
 -- the text ends
-whole_cut : (fares : Fares) (checker : Checker) (text : List ℕ) (fed : HasFed fares checker text) → lines_of text ≡ fed.lines ++ lines_of checker.begun.items
+whole_cut : (fares : Fares) (checker : Checker) (text : List ℕ) (fed : HasFed fares checker text)
+    → lines_of text ≡ fed.lines ++ lines_of checker.begun.items
 whole_cut fares checker text fed =
-    ap lines_of (sym (append-nil text)) ∙ fed.split [] ∙ ap (λ (p : List ℕ). fed.lines ++ lines_of p) (append-nil checker.begun.items)
+    ap lines_of (sym (append-nil text)) ∙ fed.split []
+    ∙ ap (λ (p : List ℕ). fed.lines ++ lines_of p) (append-nil checker.begun.items)
 
-pub ended_in_line : (fares : Fares) (checker : Checker) (text : List ℕ) → HasFed fares checker text → 0 < length checker.begun.items
+pub ended_in_line : (fares : Fares) (checker : Checker) (text : List ℕ) → HasFed fares checker text
+    → 0 < length checker.begun.items
     → IsVerdict fares text (NoLine (number_after checker.so_far))
 ended_in_line fares checker text fed some =
     let begun = checker.begun.items in
     subst (λ (ls : List (List ℕ)). IsTrueOf fares ls (NoLine (number_after checker.so_far)))
-    (sym (whole_cut fares checker text fed ∙ ap (λ (ls : List (List ℕ)). fed.lines ++ ls) (lines-part begun fed.lacks some)))
+    (sym (whole_cut fares checker text fed
+    ∙ ap (λ (ls : List (List ℕ)). fed.lines ++ ls) (lines-part begun fed.lacks some)))
     (begun_true fares checker.so_far fed.lines begun [] fed.taken fed.lacks)
 
-pub ended_at_line : (fares : Fares) (checker : Checker) (text : List ℕ) (fed : HasFed fares checker text) → checker.begun.items ≡ [] → lines_of text ≡ fed.lines
+pub ended_at_line : (fares : Fares) (checker : Checker) (text : List ℕ)
+    (fed : HasFed fares checker text) → checker.begun.items ≡ [] → lines_of text ≡ fed.lines
 unfolding lines_of
 ended_at_line fares checker text fed empty =
-    whole_cut fares checker text fed ∙ ap (λ (p : List ℕ). fed.lines ++ lines_of p) empty ∙ append-nil fed.lines
+    whole_cut fares checker text fed ∙ ap (λ (p : List ℕ). fed.lines ++ lines_of p) empty
+    ∙ append-nil fed.lines
 
-pub ended_headless : (fares : Fares) (checker : Checker) (text : List ℕ) → HasFed fares checker text → checker.begun.items ≡ []
+pub ended_headless : (fares : Fares) (checker : Checker) (text : List ℕ) → HasFed fares checker text
+    → checker.begun.items ≡ []
     → checker.so_far.has_head ≡ false → IsVerdict fares text (NoLine (number_after checker.so_far))
 ended_headless fares checker text fed empty none =
     let first = no_head fares checker.so_far fed.lines none fed.taken in
@@ -205,7 +256,8 @@ ended_headless fares checker text fed empty none =
     nothing : (others : List (List ℕ)) → [] ≡ head_text ∷ others → ⊥
     nothing others is = cc
 
-pub ended_well : (fares : Fares) (checker : Checker) (text : List ℕ) → HasFed fares checker text → checker.begun.items ≡ []
+pub ended_well : (fares : Fares) (checker : Checker) (text : List ℕ) → HasFed fares checker text
+    → checker.begun.items ≡ []
     → checker.so_far.has_head ≡ true → IsVerdict fares text (Legal checker.so_far.replay.lines)
 ended_well fares checker text fed empty some =
     let head = headed fares checker.so_far fed.lines some fed.taken in
@@ -218,24 +270,32 @@ ended_well fares checker text fed empty some =
     }
 
 -- a piece after a piece
-pub fed_on : (fares : Fares) (after : Checker) (text consumed piece : List ℕ) (told : Option Verdict) → IsFed fares after ((text ++ consumed) ++ piece) told
+pub fed_on : (fares : Fares) (after : Checker) (text consumed piece : List ℕ)
+    (told : Option Verdict) → IsFed fares after ((text ++ consumed) ++ piece) told
     → IsFed fares after (text ++ (consumed ++ piece)) told
-fed_on fares after text consumed piece told fed = subst (λ (t : List ℕ). IsFed fares after t told) (append_assoc text consumed piece) fed
+fed_on fares after text consumed piece told fed =
+    subst (λ (t : List ℕ). IsFed fares after t told) (append_assoc text consumed piece) fed
 
-pub told_early : (fares : Fares) (after : Checker) (text consumed line behind : List ℕ) (told : Option Verdict) → is_some told ≡ true
-    → IsFed fares after ((text ++ consumed) ++ line) told → IsFed fares after (text ++ (consumed ++ (line ++ behind))) told
+pub told_early : (fares : Fares) (after : Checker) (text consumed line behind : List ℕ)
+    (told : Option Verdict) → is_some told ≡ true
+    → IsFed fares after ((text ++ consumed) ++ line) told
+    → IsFed fares after (text ++ (consumed ++ (line ++ behind))) told
 told_early fares after text consumed line behind None some fed = absurd (apart (sym some))
 told_early fares after text consumed line behind (Some verdict) some fed =
     λ more. subst (λ (t : List ℕ). IsVerdict fares t verdict) (joined more) (fed (behind ++ more))
   where
-    joined : (more : List ℕ) → ((text ++ consumed) ++ line) ++ (behind ++ more) ≡ (text ++ (consumed ++ (line ++ behind))) ++ more
+    joined : (more : List ℕ)
+        → ((text ++ consumed) ++ line) ++ (behind ++ more)
+        ≡ (text ++ (consumed ++ (line ++ behind))) ++ more
     joined more = simp append_assoc
 
-pub fed_none : (fares : Fares) (after : Checker) (text : List ℕ) (told : Option Verdict) → is_some told ≡ false → IsFed fares after text told
+pub fed_none : (fares : Fares) (after : Checker) (text : List ℕ) (told : Option Verdict)
+    → is_some told ≡ false → IsFed fares after text told
     → HasFed fares after text
 fed_none fares after text None none fed = fed
 fed_none fares after text (Some verdict) none fed = absurd (apart none)
 
+-- a text of no bytes is empty
 pub empty_list : (text : List ℕ) → length text ≤ 0 → text ≡ []
 empty_list [] none = refl
 empty_list (b ∷ text) none = absurd (omega arith)
@@ -245,5 +305,6 @@ pub ended_unheaded : (fares : Fares) (checker : Checker) (text : List ℕ) → H
 ended_unheaded fares checker text fed none =
     ⊎_elim
     (λ (some : 0 < length checker.begun.items). ended_in_line fares checker text fed some)
-    (λ (empty : length checker.begun.items ≤ 0). ended_headless fares checker text fed (empty_list checker.begun.items empty) none)
+    (λ (empty : length checker.begun.items ≤ 0). ended_headless fares checker text fed
+    (empty_list checker.begun.items empty) none)
     (cases_lt 0 (length checker.begun.items))

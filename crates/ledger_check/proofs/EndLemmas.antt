@@ -1,5 +1,7 @@
 -- The end of a text that a recount has read.
-use Rattle.std.proofs.Common.{◌≡◌, ◌≢◌, ℕ, ◌+◌, ◌^◌, ◌<◌, ◌≤◌, Bool, true, false, List, [], ◌∷◌, ◌++◌, length, Option, None, refl, sym, ap, subst, ◌∙◌, arith, append-nil, length-append, if◌then◌else◌}
+use Rattle.std.proofs.Common.{◌≡◌, ◌≢◌, ℕ, ◌+◌, ◌^◌, ◌<◌, ◌≤◌, Bool, true, false, List, [], ◌∷◌}
+use Rattle.std.proofs.Common.{◌++◌, length, Option, None, refl, sym, ap, subst, ◌∙◌, arith}
+use Rattle.std.proofs.Common.{append-nil, length-append, if◌then◌else◌}
 use Rattle.std.proofs.lemmas.Slice.Eq.{bytes_eq-Decides}
 use Rattle.std.specs.Prelude.{nat_eq}
 use Rattle.std.specs.Str.{bytes_eq}
@@ -9,7 +11,8 @@ use Rattle.ledger_check.specs.declared.full_balance.FullBalance.{FullBalance}
 use Rattle.tap_views.specs.declared.encoder.TapFields.{TapFields}
 use Rattle.fare_texts.specs.LedgerLines.{head_text}
 use Rattle.ledger_check.specs.Lines.{Lacks, lines_of}
-use Rattle.ledger_check.specs.Recounts.{IsTaken, TakenLine, lines_from, no_line_text, taps_from, taps_with, told_lines, told_text, with_first}
+use Rattle.ledger_check.specs.Recounts.{IsTaken, TakenLine, lines_from, no_line_text, taps_from}
+use Rattle.ledger_check.specs.Recounts.{taps_with, told_lines, told_text, with_first}
 use Rattle.ledger_check.specs.RecountStates.{AreSums, HasRecounted}
 use Rattle.ledger_check.specs.inside.Recounts.{HasEnded}
 use Rattle.ledger_check.specs.declared.recount.Recount.{Recount}
@@ -26,10 +29,12 @@ no_lines : lines_of [] ≡ []
 unfolding lines_of
 no_lines = refl
 
-lines_at_end : (lines : List (List ℕ)) (text begun : List ℕ) → ((more : List ℕ) → lines_of (text ++ more) ≡ lines ++ lines_of (begun ++ more))
+lines_at_end : (lines : List (List ℕ)) (text begun : List ℕ)
+    → ((more : List ℕ) → lines_of (text ++ more) ≡ lines ++ lines_of (begun ++ more))
     → lines_of text ≡ lines ++ lines_of begun
 lines_at_end lines text begun split =
-    ap lines_of (sym (append-nil text)) ∙ split [] ∙ ap (λ (b : List ℕ). lines ++ lines_of b) (append-nil begun)
+    ap lines_of (sym (append-nil text)) ∙ split []
+    ∙ ap (λ (b : List ℕ). lines ++ lines_of b) (append-nil begun)
 
 with_first_some : (lines : List (List ℕ)) → 0 < length lines → with_first lines ≡ lines
 with_first_some [] some = absurd (omega (arith, some))
@@ -40,19 +45,25 @@ lines_some [] some = absurd (omega (arith, some))
 lines_some (next ∷ taken) some = omega (arith, length-append (lines_from taken) (next.line ∷ []))
 
 -- the text ends behind a line
-pub ended_whole : (fares : Fares) (recount : Recount) (strikes : Bool) (full : FullBalance) (text written : List ℕ) (good : List TapFields) (told : List ℕ)
-    → HasRecounted fares recount strikes full text written good → 0 < recount.so_far.sums.lines → recount.begun.items ≡ []
+pub ended_whole : (fares : Fares) (recount : Recount) (strikes : Bool) (full : FullBalance)
+    (text written : List ℕ) (good : List TapFields) (told : List ℕ)
+    → HasRecounted fares recount strikes full text written good → 0 < recount.so_far.sums.lines
+    → recount.begun.items ≡ []
     → HasEnded fares strikes full text written good recount.so_far.sums told told
 ended_whole fares recount strikes full text written good told is some none =
     let begun : is.begun ≡ [] = kept_none recount.begun.items is.begun is.kept none in
     let counted : recount.so_far.sums.lines ≡ length is.taken = is.lines.sums.lines in
     let lines : lines_of text ≡ lines_from is.taken =
-    lines_at_end (lines_from is.taken) text is.begun is.split ∙ ap (λ (b : List ℕ). lines_from is.taken ++ lines_of b) begun
-    ∙ ap (λ (ls : List (List ℕ)). lines_from is.taken ++ ls) no_lines ∙ append-nil (lines_from is.taken) in
+    lines_at_end (lines_from is.taken) text is.begun is.split
+    ∙ ap (λ (b : List ℕ). lines_from is.taken ++ lines_of b) begun
+    ∙ ap (λ (ls : List (List ℕ)). lines_from is.taken ++ ls) no_lines
+    ∙ append-nil (lines_from is.taken) in
     record {
       taken = is.taken;
       recount = record {
-        split = ap with_first lines ∙ with_first_some (lines_from is.taken) (lines_some is.taken (omega (arith, some, counted)));
+        split = ap with_first lines
+            ∙ with_first_some (lines_from is.taken)
+            (lines_some is.taken (omega (arith, some, counted)));
         are = is.lines.are;
         few = is.lines.sums.few;
       };
@@ -64,34 +75,46 @@ ended_whole fares recount strikes full text written good told is some none =
     }
 
 -- the text's end cuts a line, or the text has none
-cut_taken : (fares : Fares) (taken : List TakenLine) (line : List ℕ) (finding : LineFinding) → Lacks 10 line → finding.tap ≡ None → finding.told ≡ NoLine
+cut_taken : (fares : Fares) (taken : List TakenLine) (line : List ℕ) (finding : LineFinding)
+    → Lacks 10 line → finding.tap ≡ None → finding.told ≡ NoLine
     → IsTaken fares taken (record { line = line; finding = finding; wanted = [] })
 cut_taken fares [] line finding lacks none told = (
   none,
-  told ∙ ap (λ (b : Bool). if b then Nothing else NoLine) (sym (by_test (bytes_eq line head_text) refl)),
+  told ∙ ap (λ (b : Bool). if b then Nothing else NoLine)
+      (sym (by_test (bytes_eq line head_text) refl)),
 )
   where
     by_test : (b : Bool) → bytes_eq line head_text ≡ b → bytes_eq line head_text ≡ false
     by_test true same = absurd (head_ends line lacks ((bytes_eq-Decides line head_text).0 same))
     by_test false other = other
-cut_taken fares (before ∷ earlier) line finding lacks none told = rw none (cut_line line lacks, told)
+cut_taken fares (before ∷ earlier) line finding lacks none told =
+    rw none (cut_line line lacks, told)
 
-lines_cut : (taken : List TakenLine) (text begun : List ℕ) → lines_of text ≡ lines_from taken ++ lines_of begun → Lacks 10 begun
-    → ((0 < length taken) × (begun ≡ []) → ⊥) → with_first (lines_of text) ≡ lines_from taken ++ begun ∷ []
+lines_cut : (taken : List TakenLine) (text begun : List ℕ)
+    → lines_of text ≡ lines_from taken ++ lines_of begun → Lacks 10 begun
+    → ((0 < length taken) × (begun ≡ []) → ⊥)
+    → with_first (lines_of text) ≡ lines_from taken ++ begun ∷ []
 lines_cut [] text [] lines lacks not_whole = ap with_first (lines ∙ no_lines)
 lines_cut (next ∷ taken) text [] lines lacks not_whole = absurd (not_whole (omega arith, refl))
 lines_cut taken text (byte ∷ begun) lines lacks not_whole =
     let all : lines_of text ≡ lines_from taken ++ (byte ∷ begun) ∷ [] =
-    lines ∙ ap (λ (ls : List (List ℕ)). lines_from taken ++ ls) (lines-part (byte ∷ begun) lacks (omega arith)) in
-    ap with_first all ∙ with_first_some (lines_from taken ++ (byte ∷ begun) ∷ []) (omega (arith, length-append (lines_from taken) ((byte ∷ begun) ∷ [])))
+    lines ∙ ap (λ (ls : List (List ℕ)). lines_from taken ++ ls)
+    (lines-part (byte ∷ begun) lacks (omega arith)) in
+    ap with_first all ∙ with_first_some (lines_from taken ++ (byte ∷ begun) ∷ [])
+    (omega (arith, length-append (lines_from taken) ((byte ∷ begun) ∷ [])))
 
-pub ended_cut : (fares : Fares) (recount : Recount) (strikes : Bool) (full : FullBalance) (text written : List ℕ) (good : List TapFields) (finding : LineFinding) (sums : RecountSums) (told told' : List ℕ)
-    → (is : HasRecounted fares recount strikes full text written good) → ((0 < recount.so_far.sums.lines) × (recount.begun.items ≡ []) → ⊥)
+pub ended_cut : (fares : Fares) (recount : Recount) (strikes : Bool) (full : FullBalance)
+    (text written : List ℕ) (good : List TapFields) (finding : LineFinding) (sums : RecountSums)
+    (told told' : List ℕ)
+    → (is : HasRecounted fares recount strikes full text written good)
+    → ((0 < recount.so_far.sums.lines) × (recount.begun.items ≡ []) → ⊥)
     → finding.tap ≡ None → finding.told ≡ NoLine
-    → ((taken : List TakenLine) (next : TakenLine) → next.finding ≡ finding → AreSums recount.so_far.sums taken → AreSums sums (next ∷ taken))
+    → ((taken : List TakenLine) (next : TakenLine) → next.finding ≡ finding
+    → AreSums recount.so_far.sums taken → AreSums sums (next ∷ taken))
     → told' ≡ told ++ no_line_text sums.lines
     → HasEnded fares strikes full text written good sums told told'
-ended_cut fares recount strikes full text written good finding sums told told' is not_whole none no_line grows grown =
+ended_cut fares recount strikes full text written good finding sums told told' is not_whole none
+    no_line grows grown =
     let next : TakenLine = record { line = is.begun; finding = finding; wanted = [] } in
     let counted : recount.so_far.sums.lines ≡ length is.taken = is.lines.sums.lines in
     let all = grows is.taken next refl is.lines.sums in
@@ -99,21 +122,30 @@ ended_cut fares recount strikes full text written good finding sums told told' i
     record {
       taken = next ∷ is.taken;
       recount = record {
-        split = lines_cut is.taken text is.begun (lines_at_end (lines_from is.taken) text is.begun is.split) is.lacks
-            (λ whole. not_whole (subst (λ (n : ℕ). 0 < n) (sym counted) whole.0, none_kept recount.begun.items is.begun is.kept whole.1));
+        split = lines_cut is.taken text is.begun
+            (lines_at_end (lines_from is.taken) text is.begun is.split) is.lacks
+            (λ whole. not_whole (
+              subst (λ (n : ℕ). 0 < n) (sym counted) whole.0,
+              none_kept recount.begun.items is.begun is.kept whole.1,
+            ));
         are = (is.lines.are, cut_taken fares is.taken is.begun finding is.lacks none no_line);
         few = all.few;
       };
       sums_are = all;
       more = no_line_text sums.lines;
       grown = grown;
-      all = ap (λ (w : List ℕ). w ++ no_line_text sums.lines) is.told ∙ ap (λ (t : List ℕ). told_lines is.taken ++ t)
+      all = ap (λ (w : List ℕ). w ++ no_line_text sums.lines) is.told
+          ∙ ap (λ (t : List ℕ). told_lines is.taken ++ t)
           (ap no_line_text number ∙ sym (told_no_line (length is.taken + 1) finding no_line));
       struck = λ strike. taps_none (is.struck strike);
     }
   where
-    told_no_line : (number : ℕ) (finding : LineFinding) → finding.told ≡ NoLine → told_text number finding.told [] ≡ no_line_text number
+    told_no_line : (number : ℕ) (finding : LineFinding) → finding.told ≡ NoLine
+        → told_text number finding.told [] ≡ no_line_text number
     told_no_line number finding told_is = ap (λ (t : Told). told_text number t []) told_is
 
-    taps_none : IsFullBalance full good (taps_from is.taken) → IsFullBalance full good (taps_with (taps_from is.taken) finding.tap)
-    taps_none struck = subst (λ (t : Option CountedTap). IsFullBalance full good (taps_with (taps_from is.taken) t)) (sym none) struck
+    taps_none : IsFullBalance full good (taps_from is.taken)
+        → IsFullBalance full good (taps_with (taps_from is.taken) finding.tap)
+    taps_none struck = subst
+        (λ (t : Option CountedTap). IsFullBalance full good (taps_with (taps_from is.taken) t))
+        (sym none) struck

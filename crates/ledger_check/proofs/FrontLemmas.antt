@@ -1,5 +1,6 @@
 -- A line tells one tap.
-use Rattle.std.proofs.Common.{◌≡◌, ℕ, ◌+◌, ◌*◌, ◌/◌, ◌%◌, ◌^◌, ◌<◌, ◌≤◌, ℤ, pos, List, [], ◌∷◌, ◌++◌, length, get_or, take, drop, Ok, refl, sym, ap, subst, ◌∙◌, arith, decimal}
+use Rattle.std.proofs.Common.{◌≡◌, ℕ, ◌+◌, ◌/◌, ◌%◌, ◌^◌, ◌<◌, pos, List, ◌∷◌, ◌++◌, get_or, Ok}
+use Rattle.std.proofs.Common.{refl, sym, ap, subst, ◌∙◌, arith, decimal}
 use Rattle.std.proofs.lemmas.Fmt.{decimal_injective}
 use Rattle.hex.specs.Hex.{decode_sized, encode_lower}
 use Rattle.hex.proofs.HexLemmas.{decode_sized-encode_lower}
@@ -8,38 +9,50 @@ use Rattle.jiff_core.specs.Date.{epoch_day}
 use Rattle.jiff_core.proofs.DateLemmas.{epoch_day_same}
 use Rattle.jiff_fmt.specs.Text.{date_text}
 use Rattle.fare_texts.specs.Moments.{IsMomentText, clock_text}
+use Rattle.fare_texts.proofs.Years.{year_of}
 use Rattle.tap_views.specs.Token.{Fits, bytes_of}
 use Rattle.tap_views.specs.declared.token.Token.{Token}
 use Rattle.tap_views.proofs.TokenLemmas.{bytes_of-injective}
-use Rattle.ledger_check.specs.Lines.{Lacks}
-use Rattle.ledger_check.specs.Recounts.{IsCentsField, IsLineOfTap}
+use Rattle.tap_views.proofs.TokenBytes.{token_bytes, token_length}
+use Rattle.ledger_check.specs.Recounts.{IsLineOfTap}
 use Rattle.ledger_check.specs.inside.Fronts.{HasFront}
-use Rattle.ledger_check.proofs.FieldLemmas.{date_bytes, date_shown, decimal_lacks, moment_lacks, moment_parts, token_bytes, token_lacks, token_length, year_of}
+use Rattle.ledger_check.proofs.FieldLemmas.{date_bytes, date_shown, decimal_lacks, moment_lacks}
+use Rattle.ledger_check.proofs.FieldLemmas.{moment_parts, token_lacks}
 use Rattle.ledger_check.proofs.LineLemmas.{same_cut}
 use Rattle.ledger_check.proofs.MomentLemmas.{clock_number}
 
 -- the same fields
-pub record SameFront (token number moment validator rest token' number' moment' validator' rest' : List ℕ) : Type 0 where
+pub record SameFront
+    (token number moment validator rest token' number' moment' validator' rest' : List ℕ) : Type
+    0 where
   pub token_is : token ≡ token'
   pub moment_is : moment ≡ moment'
   pub validator_is : validator ≡ validator'
   pub rest_is : rest ≡ rest'
 
 -- a line has its first four fields in one way
-pub front_same : (line token number moment validator rest token' number' moment' validator' rest' : List ℕ)
-    → HasFront line token number moment validator rest → HasFront line token' number' moment' validator' rest'
+pub front_same : (line token number moment validator rest token' number' moment' validator'
+    rest' : List ℕ)
+    → HasFront line token number moment validator rest
+    → HasFront line token' number' moment' validator' rest'
     → SameFront token number moment validator rest token' number' moment' validator' rest'
 front_same line token number moment validator rest token' number' moment' validator' rest' a b =
-    let one = same_cut 44 token (number ++ 44 ∷ (moment ++ 44 ∷ (validator ++ 44 ∷ rest))) token' (number' ++ 44 ∷ (moment' ++ 44 ∷ (validator' ++ 44 ∷ rest')))
+    let one = same_cut 44 token (number ++ 44 ∷ (moment ++ 44 ∷ (validator ++ 44 ∷ rest))) token'
+    (number' ++ 44 ∷ (moment' ++ 44 ∷ (validator' ++ 44 ∷ rest')))
     a.token_field b.token_field (sym a.shown ∙ b.shown) in
-    let two = same_cut 44 number (moment ++ 44 ∷ (validator ++ 44 ∷ rest)) number' (moment' ++ 44 ∷ (validator' ++ 44 ∷ rest')) a.number_field b.number_field one.1 in
-    let three = same_cut 44 moment (validator ++ 44 ∷ rest) moment' (validator' ++ 44 ∷ rest') a.moment_field b.moment_field two.1 in
-    let four = same_cut 44 validator rest validator' rest' a.validator_field b.validator_field three.1 in
+    let two = same_cut 44 number (moment ++ 44 ∷ (validator ++ 44 ∷ rest)) number'
+    (moment' ++ 44 ∷ (validator' ++ 44 ∷ rest')) a.number_field b.number_field one.1 in
+    let three = same_cut 44 moment (validator ++ 44 ∷ rest) moment' (validator' ++ 44 ∷ rest')
+    a.moment_field b.moment_field two.1 in
+    let four = same_cut 44 validator rest validator' rest' a.validator_field b.validator_field
+    three.1 in
     record { token_is = one.0; moment_is = three.0; validator_is = four.0; rest_is = four.1 }
 
 -- a line of a tap has these fields
-pub tap_front : (line : List ℕ) (token : Token) (validator moment : ℕ) (rest : List ℕ) (is : IsLineOfTap line token validator moment rest)
-    → HasFront line (encode_lower (bytes_of token)) is.number is.moment_text (decimal validator) rest
+pub tap_front : (line : List ℕ) (token : Token) (validator moment : ℕ) (rest : List ℕ)
+    (is : IsLineOfTap line token validator moment rest)
+    → HasFront line (encode_lower (bytes_of token)) is.number is.moment_text (decimal validator)
+    rest
 tap_front line token validator moment rest is =
     let small : validator < 2 ^ 32 = is.small in
     record {
@@ -51,11 +64,13 @@ tap_front line token validator moment rest is =
     }
 
 -- texts of tokens, and of moments, tell them apart
-pub token_exact : (a b : Token) → Fits a → Fits b → encode_lower (bytes_of a) ≡ encode_lower (bytes_of b) → a ≡ b
+pub token_exact : (a b : Token) → Fits a → Fits b
+    → encode_lower (bytes_of a) ≡ encode_lower (bytes_of b) → a ≡ b
 token_exact a b fits_a fits_b same =
     let left = decode_sized-encode_lower (bytes_of a) 16 (token_length a) (token_bytes a) in
     let right = decode_sized-encode_lower (bytes_of b) 16 (token_length b) (token_bytes b) in
-    let both : Ok (bytes_of a) ≡ Ok (bytes_of b) = sym left ∙ ap (λ (d : List ℕ). decode_sized d 16) same ∙ right in
+    let both : Ok (bytes_of a) ≡ Ok (bytes_of b) =
+    sym left ∙ ap (λ (d : List ℕ). decode_sized d 16) same ∙ right in
     bytes_of-injective a b fits_a fits_b (cc)
 
 two_same : (a b : ℕ) → 48 + a / 10 ≡ 48 + b / 10 → 48 + a % 10 ≡ 48 + b % 10 → a ≡ b
@@ -63,53 +78,74 @@ two_same a b tens ones = omega arith
 
 pub clock_exact : (a b : ℕ) → clock_text a ≡ clock_text b → a ≡ b
 clock_exact a b same =
-    let hour = two_same (a / 3_600_000) (b / 3_600_000) (ap (λ (l : List ℕ). get_or l 1 0) same) (ap (λ (l : List ℕ). get_or l 2 0) same) in
-    let minute = two_same (a / 60_000 % 60) (b / 60_000 % 60) (ap (λ (l : List ℕ). get_or l 4 0) same) (ap (λ (l : List ℕ). get_or l 5 0) same) in
-    let second = two_same (a / 1_000 % 60) (b / 1_000 % 60) (ap (λ (l : List ℕ). get_or l 7 0) same) (ap (λ (l : List ℕ). get_or l 8 0) same) in
-    let hundreds : 48 + a % 1_000 / 100 ≡ 48 + b % 1_000 / 100 = ap (λ (l : List ℕ). get_or l 10 0) same in
-    let rest = two_same (a % 1_000 % 100) (b % 1_000 % 100) (ap (λ (l : List ℕ). get_or l 11 0) same) (ap (λ (l : List ℕ). get_or l 12 0) same) in
+    let hour = two_same (a / 3_600_000) (b / 3_600_000) (ap (λ (l : List ℕ). get_or l 1 0) same)
+    (ap (λ (l : List ℕ). get_or l 2 0) same) in
+    let minute = two_same (a / 60_000 % 60) (b / 60_000 % 60)
+    (ap (λ (l : List ℕ). get_or l 4 0) same) (ap (λ (l : List ℕ). get_or l 5 0) same) in
+    let second = two_same (a / 1_000 % 60) (b / 1_000 % 60) (ap (λ (l : List ℕ). get_or l 7 0) same)
+    (ap (λ (l : List ℕ). get_or l 8 0) same) in
+    let hundreds : 48 + a % 1_000 / 100 ≡ 48 + b % 1_000 / 100 =
+    ap (λ (l : List ℕ). get_or l 10 0) same in
+    let rest = two_same (a % 1_000 % 100) (b % 1_000 % 100)
+    (ap (λ (l : List ℕ). get_or l 11 0) same) (ap (λ (l : List ℕ). get_or l 12 0) same) in
     sym (clock_number a _ _ _ _ _ refl refl refl refl refl)
-    ∙ clock_number b (a / 3_600_000) (a / 60_000 % 60) (a / 1_000 % 60) (a % 1_000 / 100) (a % 1_000 % 100) hour minute second (omega (arith, hundreds)) rest
+    ∙ clock_number b (a / 3_600_000) (a / 60_000 % 60) (a / 1_000 % 60) (a % 1_000 / 100)
+    (a % 1_000 % 100) hour minute second (omega (arith, hundreds)) rest
 
-date_exact : (a b : Date) (m n : ℕ) → epoch_day a ≡ pos m → epoch_day b ≡ pos n → date_text a ≡ date_text b → m ≡ n
+date_exact : (a b : Date) (m n : ℕ) → epoch_day a ≡ pos m → epoch_day b ≡ pos n
+    → date_text a ≡ date_text b → m ≡ n
 date_exact a b m n day_a day_b same =
     let year_a = year_of a m day_a in
     let year_b = year_of b n day_b in
     let bytes : date_bytes year_a.0 a.month a.day ≡ date_bytes year_b.0 b.month b.day =
     sym (date_shown a year_a.0 year_a.1) ∙ same ∙ date_shown b year_b.0 year_b.1 in
-    let century = two_same (year_a.0 / 100) (year_b.0 / 100) (ap (λ (l : List ℕ). get_or l 0 0) bytes) (ap (λ (l : List ℕ). get_or l 1 0) bytes) in
-    let year = two_same (year_a.0 % 100) (year_b.0 % 100) (ap (λ (l : List ℕ). get_or l 2 0) bytes) (ap (λ (l : List ℕ). get_or l 3 0) bytes) in
+    let century = two_same (year_a.0 / 100) (year_b.0 / 100)
+    (ap (λ (l : List ℕ). get_or l 0 0) bytes) (ap (λ (l : List ℕ). get_or l 1 0) bytes) in
+    let year = two_same (year_a.0 % 100) (year_b.0 % 100) (ap (λ (l : List ℕ). get_or l 2 0) bytes)
+    (ap (λ (l : List ℕ). get_or l 3 0) bytes) in
     let whole : year_a.0 ≡ year_b.0 = omega (arith, century, year) in
-    let month = two_same a.month b.month (ap (λ (l : List ℕ). get_or l 5 0) bytes) (ap (λ (l : List ℕ). get_or l 6 0) bytes) in
-    let day = two_same a.day b.day (ap (λ (l : List ℕ). get_or l 8 0) bytes) (ap (λ (l : List ℕ). get_or l 9 0) bytes) in
-    let days : pos m ≡ pos n = sym day_a ∙ epoch_day_same a b (year_a.1 ∙ ap pos whole ∙ sym year_b.1) month day ∙ day_b in
+    let month = two_same a.month b.month (ap (λ (l : List ℕ). get_or l 5 0) bytes)
+    (ap (λ (l : List ℕ). get_or l 6 0) bytes) in
+    let day = two_same a.day b.day (ap (λ (l : List ℕ). get_or l 8 0) bytes)
+    (ap (λ (l : List ℕ). get_or l 9 0) bytes) in
+    let days : pos m ≡ pos n =
+    sym day_a ∙ epoch_day_same a b (year_a.1 ∙ ap pos whole ∙ sym year_b.1) month day ∙ day_b in
     cc
 
-pub moment_exact : (m n : ℕ) (text : List ℕ) → m < 4_102_444_800_000 → n < 4_102_444_800_000 → IsMomentText m text → IsMomentText n text → m ≡ n
+pub moment_exact : (m n : ℕ) (text : List ℕ) → m < 4_102_444_800_000 → n < 4_102_444_800_000
+    → IsMomentText m text → IsMomentText n text → m ≡ n
 moment_exact m n text small_m small_n is_m is_n =
     let a = moment_parts m text (omega arith) is_m in
     let b = moment_parts n text (omega arith) is_n in
-    let days = date_exact a.date b.date (m / 86_400_000) (n / 86_400_000) a.day b.day (sym a.date_is ∙ b.date_is) in
+    let days = date_exact a.date b.date (m / 86_400_000) (n / 86_400_000) a.day b.day
+    (sym a.date_is ∙ b.date_is) in
     let clocks = clock_exact (m % 86_400_000) (n % 86_400_000) (sym a.clock_is ∙ b.clock_is) in
     omega (arith, days, clocks)
 
 -- the tap that a line tells is one
-pub record SameTap (token token' : Token) (validator validator' moment moment' : ℕ) (rest rest' : List ℕ) : Type 0 where
+pub record SameTap (token token' : Token) (validator validator' moment moment' : ℕ)
+    (rest rest' : List ℕ) : Type 0 where
   pub token_is : token ≡ token'
   pub validator_is : validator ≡ validator'
   pub moment_is : moment ≡ moment'
   pub rest_is : rest ≡ rest'
 
-pub tap_same_of_line : (line : List ℕ) (token token' : Token) (validator validator' moment moment' : ℕ) (rest rest' : List ℕ)
-    → IsLineOfTap line token validator moment rest → IsLineOfTap line token' validator' moment' rest'
+pub tap_same_of_line : (line : List ℕ) (token token' : Token)
+    (validator validator' moment moment' : ℕ) (rest rest' : List ℕ)
+    → IsLineOfTap line token validator moment rest
+    → IsLineOfTap line token' validator' moment' rest'
     → SameTap token token' validator validator' moment moment' rest rest'
 tap_same_of_line line token token' validator validator' moment moment' rest rest' a b =
-    let same = front_same line _ _ _ _ rest _ _ _ _ rest' (tap_front line token validator moment rest a) (tap_front line token' validator' moment' rest' b) in
+    let same = front_same line _ _ _ _ rest _ _ _ _ rest'
+    (tap_front line token validator moment rest a)
+    (tap_front line token' validator' moment' rest' b) in
     let small_a : validator < 2 ^ 32 = a.small in
     let small_b : validator' < 2 ^ 32 = b.small in
     record {
       token_is = token_exact token token' a.fits b.fits same.token_is;
-      validator_is = decimal_injective validator validator' (omega arith) (omega arith) same.validator_is;
-      moment_is = moment_exact moment moment' b.moment_text a.early b.early (subst (IsMomentText moment) same.moment_is a.is) b.is;
+      validator_is = decimal_injective validator validator' (omega arith) (omega arith)
+          same.validator_is;
+      moment_is = moment_exact moment moment' b.moment_text a.early b.early
+          (subst (IsMomentText moment) same.moment_is a.is) b.is;
       rest_is = same.rest_is;
     }

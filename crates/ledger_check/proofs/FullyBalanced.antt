@@ -9,17 +9,14 @@ use Rattle.tap_views.specs.TapOrder.{tap_cmp}
 use Rattle.ledger_check.specs.Balances.{copies_among, left_at}
 use Rattle.ledger_check.specs.FullBalances.{AreLacking, IsFullBalance}
 use Rattle.ledger_check.specs.declared.full_balance.FullBalance.{FullBalance}
-use Rattle.ledger_check.proofs.Balanced.{Balances, HasOneMore}
+use Rattle.ledger_check.proofs.Balanced.{Balances, HasOneMore, nowhere}
 use Rattle.ledger_check.proofs.SameTaps.{same_exact}
 use Rattle.ledger_check.proofs.Times.{times_push}
 
-nowhere : (before after : List TapFields) (tap : TapFields) → [] ≡ before ++ tap ∷ after → ⊥
-nowhere [] after tap is = absurd cc
-nowhere (other ∷ before) after tap is = absurd cc
-
 -- nothing was struck out yet
 pub begun : (left : BTreeMap TapFields ℕ) (surplus : Option TapFields) (full : FullBalance)
-    (good : List TapFields) → full.missing ≡ left → ((key : TapFields) → left_at full.surplus key ≡ 0)
+    (good : List TapFields) → full.missing ≡ left
+    → ((key : TapFields) → left_at full.surplus key ≡ 0)
     → Balances left surplus good [] → IsFullBalance full good []
 begun left None full good same none is = record {
   sums = λ tap.

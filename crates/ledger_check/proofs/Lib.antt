@@ -10,7 +10,6 @@ pub mod FrontLemmas
 mod FullyBalanced
 pub mod LineLemmas
 pub mod MomentLemmas
-pub mod Nones
 pub mod RecountLaw
 pub mod RecountLemmas
 pub mod ReplayLemmas

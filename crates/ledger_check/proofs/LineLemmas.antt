@@ -1,5 +1,8 @@
 -- Texts that lack a byte, and texts split into lines.
-use Rattle.std.proofs.Common.{◌≡◌, ◌≢◌, ℕ, ◌+◌, ◌<◌, Bool, true, false, cond, not, ◌&&◌, ◌==◌, List, [], ◌∷◌, ◌++◌, length, get_or, take, drop, refl, sym, ap, ◌∙◌, subst, arith, append_assoc, append-nil, zero, suc, ◌-◌, take_all, length-drop, add-one}
+use Rattle.std.proofs.Common.{◌≡◌, ◌≢◌, ℕ, ◌+◌, ◌<◌, Bool, true, cond, not, ◌&&◌, ◌==◌, List}
+use Rattle.std.proofs.Common.{[], ◌∷◌, ◌++◌, length, get_or, take, drop, refl, ap, ◌∙◌, subst}
+use Rattle.std.proofs.Common.{arith, zero, suc, ◌-◌, take_all}
+use Rattle.std.proofs.Common.{length-drop, add-one}
 use Rattle.std.proofs.lemmas.Bool.{and_parts, eqb-false, ne_eqb, not-true}
 use Rattle.ledger_check.specs.Lines.{IsLine, Lacks, begun_with, lines_of}
 
@@ -8,36 +11,44 @@ abbrev pub has_none : ℕ → List ℕ → Bool
 has_none byte [] = true
 has_none byte (other ∷ text) = not (other == byte) && has_none byte text
 
+-- a text in which the test finds no such byte has none
 pub lacks-tested : (byte : ℕ) (text : List ℕ) → has_none byte text ≡ true → Lacks byte text
 lacks-tested byte [] is = tt
 lacks-tested byte (other ∷ text) is =
     let parts = and_parts (not (other == byte)) (has_none byte text) is in
     (eqb-false other byte (not-true (other == byte) parts.0), lacks-tested byte text parts.1)
 
+-- two texts without the byte, joined
 pub lacks-append : (byte : ℕ) (a b : List ℕ) → Lacks byte a → Lacks byte b → Lacks byte (a ++ b)
 lacks-append byte [] b la lb = lb
 lacks-append byte (x ∷ a) b la lb = (la.0, lacks-append byte a b la.1 lb)
 
+-- the end of a text without the byte
 pub lacks-end : (byte : ℕ) (a b : List ℕ) → Lacks byte (a ++ b) → Lacks byte b
 lacks-end byte [] b lacks = lacks
 lacks-end byte (x ∷ a) b lacks = lacks-end byte a b lacks.1
 
 -- a text that ends with the byte does not lack it
 pub lacks-last : (byte : ℕ) (front text : List ℕ) → text ≡ front ++ byte ∷ [] → Lacks byte text → ⊥
-lacks-last byte front text is lacks = (lacks-end byte front (byte ∷ []) (subst (Lacks byte) is lacks)).0 refl
+lacks-last byte front text is lacks =
+    (lacks-end byte front (byte ∷ []) (subst (Lacks byte) is lacks)).0 refl
 
-pub lacks-reads : (byte : ℕ) (text : List ℕ) → ((k : ℕ) → k < length text → get_or text k 0 ≢ byte) → Lacks byte text
+pub lacks-reads : (byte : ℕ) (text : List ℕ) → ((k : ℕ) → k < length text → get_or text k 0 ≢ byte)
+    → Lacks byte text
 lacks-reads byte [] none = tt
 lacks-reads byte (other ∷ text) none =
     (none 0 (omega arith), lacks-reads byte text (λ k within. none (suc k) (omega arith)))
 
-pub lacks-at : (byte : ℕ) (text : List ℕ) (k : ℕ) → Lacks byte text → 0 ≢ byte → get_or text k 0 ≢ byte
+-- no byte of a text without the byte is that byte
+pub lacks-at : (byte : ℕ) (text : List ℕ) (k : ℕ) → Lacks byte text → 0 ≢ byte
+    → get_or text k 0 ≢ byte
 lacks-at byte [] k lacks zeros = zeros
 lacks-at byte (other ∷ text) zero lacks zeros = lacks.0
 lacks-at byte (other ∷ text) (suc k) lacks zeros = lacks-at byte text k lacks.1 zeros
 
 -- a text has one first such byte
-pub same_cut : (byte : ℕ) (a b c d : List ℕ) → Lacks byte a → Lacks byte c → a ++ byte ∷ b ≡ c ++ byte ∷ d → (a ≡ c) × (b ≡ d)
+pub same_cut : (byte : ℕ) (a b c d : List ℕ) → Lacks byte a → Lacks byte c
+    → a ++ byte ∷ b ≡ c ++ byte ∷ d → (a ≡ c) × (b ≡ d)
 same_cut byte [] b [] d la lc is = (refl, cc)
 same_cut byte [] b (x ∷ c) d la lc is = absurd (lc.0 (cc))
 same_cut byte (x ∷ a) b [] d la lc is = absurd (la.0 (cc))
@@ -53,20 +64,25 @@ pub cut_at : (byte : ℕ) (text : List ℕ) (at : ℕ) → at < length text → 
     → text ≡ take at text ++ byte ∷ drop (suc at) text
 cut_at byte [] at within is = absurd (omega arith)
 cut_at byte (x ∷ text) zero within is = ap (λ (b : ℕ). b ∷ text) is
-cut_at byte (x ∷ text) (suc at) within is = ap (λ (t : List ℕ). x ∷ t) (cut_at byte text at (omega arith) is)
+cut_at byte (x ∷ text) (suc at) within is =
+    ap (λ (t : List ℕ). x ∷ t) (cut_at byte text at (omega arith) is)
 
 -- a byte before the lines of a text that does not end a line
-begin : (byte : ℕ) (text : List ℕ) → byte ≢ 10 → lines_of (byte ∷ text) ≡ begun_with byte (lines_of text)
+begin : (byte : ℕ) (text : List ℕ) → byte ≢ 10
+    → lines_of (byte ∷ text) ≡ begun_with byte (lines_of text)
 unfolding lines_of
 begin byte text other =
-    ap (λ (test : Bool). cond test ((byte ∷ []) ∷ lines_of text) (begun_with byte (lines_of text))) (ne_eqb byte 10 other)
+    ap (λ (test : Bool). cond test ((byte ∷ []) ∷ lines_of text) (begun_with byte (lines_of text)))
+    (ne_eqb byte 10 other)
 
 -- the first line of a text
-pub lines-line : (front rest : List ℕ) → Lacks 10 front → lines_of (front ++ 10 ∷ rest) ≡ (front ++ 10 ∷ []) ∷ lines_of rest
+pub lines-line : (front rest : List ℕ) → Lacks 10 front
+    → lines_of (front ++ 10 ∷ rest) ≡ (front ++ 10 ∷ []) ∷ lines_of rest
 unfolding lines_of begun_with
 lines-line [] rest lacks = refl
 lines-line (byte ∷ front) rest lacks =
-    begin byte (front ++ 10 ∷ rest) lacks.0 ∙ ap (λ (ls : List (List ℕ)). begun_with byte ls) (lines-line front rest lacks.1)
+    begin byte (front ++ 10 ∷ rest) lacks.0
+    ∙ ap (λ (ls : List (List ℕ)). begun_with byte ls) (lines-line front rest lacks.1)
 
 -- a text without a newline is one line
 pub lines-part : (begun : List ℕ) → Lacks 10 begun → 0 < length begun → lines_of begun ≡ begun ∷ []
@@ -75,7 +91,8 @@ lines-part [] lacks some = absurd (omega arith)
 lines-part (byte ∷ []) lacks some = begin byte [] lacks.0
 lines-part (byte ∷ next ∷ begun) lacks some =
     begin byte (next ∷ begun) lacks.0
-    ∙ ap (λ (ls : List (List ℕ)). begun_with byte ls) (lines-part (next ∷ begun) lacks.1 (omega arith))
+    ∙ ap (λ (ls : List (List ℕ)). begun_with byte ls)
+    (lines-part (next ∷ begun) lacks.1 (omega arith))
 
 -- what a text begins with, its first line begins with
 pub record Opens (begun : List ℕ) (lines : List (List ℕ)) : Type 0 where
@@ -88,7 +105,9 @@ unfolding begun_with
 begun-open byte [] = record { rest = []; after = []; is = refl }
 begun-open byte (line ∷ lines) = record { rest = line; after = lines; is = refl }
 
-pub lines-open : (begun more : List ℕ) → Lacks 10 begun → 0 < length begun → Opens begun (lines_of (begun ++ more))
+-- a line that has begun, before more text, is the first line
+pub lines-open : (begun more : List ℕ) → Lacks 10 begun → 0 < length begun
+    → Opens begun (lines_of (begun ++ more))
 unfolding begun_with
 lines-open [] more lacks some = absurd (omega arith)
 lines-open (byte ∷ []) more lacks some =
@@ -99,31 +118,44 @@ lines-open (byte ∷ next ∷ begun) more lacks some =
     record {
       rest = opens.rest;
       after = opens.after;
-      is = begin byte ((next ∷ begun) ++ more) lacks.0 ∙ ap (λ (ls : List (List ℕ)). begun_with byte ls) opens.is;
+      is = begin byte ((next ∷ begun) ++ more) lacks.0
+          ∙ ap (λ (ls : List (List ℕ)). begun_with byte ls) opens.is;
     }
 
 -- what stands before a place at which and before which no such byte is
-pub first_lacks : (byte : ℕ) (text : List ℕ) (at : ℕ) → ((k : ℕ) → k < at → get_or text k 0 ≢ byte) → Lacks byte (take at text)
+pub first_lacks : (byte : ℕ) (text : List ℕ) (at : ℕ) → ((k : ℕ) → k < at → get_or text k 0 ≢ byte)
+    → Lacks byte (take at text)
 first_lacks byte text zero none = tt
 first_lacks byte [] (suc at) none = tt
 first_lacks byte (x ∷ text) (suc at) none =
     (none 0 (omega arith), first_lacks byte text at (λ k below. none (suc k) (omega arith)))
 
-pub rest_is : (text : List ℕ) (at : ℕ) → take (length text - (at + 1)) (drop (at + 1) text) ≡ drop (suc at) text
+pub rest_is : (text : List ℕ) (at : ℕ)
+    → take (length text - (at + 1)) (drop (at + 1) text) ≡ drop (suc at) text
 rest_is text at =
     let next : at + 1 ≡ suc at = omega arith in
-    take_all (length text - (at + 1)) (drop (at + 1) text) (omega (arith, length-drop (at + 1) text)) ∙ ap (λ (n : ℕ). drop n text) next
+    take_all (length text - (at + 1)) (drop (at + 1) text)
+    (omega (arith, length-drop (at + 1) text)) ∙ ap (λ (n : ℕ). drop n text) next
 
 -- the line up to the first newline
-pub line_is : (text : List ℕ) (at : ℕ) → at < length text → get_or text at 0 ≡ 10 → ((k : ℕ) → k < at → get_or text k 0 ≢ 10)
+pub line_is : (text : List ℕ) (at : ℕ) → at < length text → get_or text at 0 ≡ 10
+    → ((k : ℕ) → k < at → get_or text k 0 ≢ 10)
     → IsLine (take (at + 1) text)
 line_is text at within is none =
-    record { front = take at text; lacks = first_lacks 10 text at none; shown = taken text at within is }
+    record {
+      front = take at text;
+      lacks = first_lacks 10 text at none;
+      shown =
+          taken text at within is;
+    }
   where
-    taken : (text : List ℕ) (at : ℕ) → at < length text → get_or text at 0 ≡ 10 → take (at + 1) text ≡ take at text ++ 10 ∷ []
+    taken : (text : List ℕ) (at : ℕ) → at < length text → get_or text at 0 ≡ 10
+        → take (at + 1) text ≡ take at text ++ 10 ∷ []
     taken text at within is = rw add-one (more text at within is)
       where
-        more : (text : List ℕ) (at : ℕ) → at < length text → get_or text at 0 ≡ 10 → take (suc at) text ≡ take at text ++ 10 ∷ []
+        more : (text : List ℕ) (at : ℕ) → at < length text → get_or text at 0 ≡ 10
+            → take (suc at) text ≡ take at text ++ 10 ∷ []
         more [] at within is = absurd (omega arith)
         more (x ∷ text) zero within is = ap (λ (b : ℕ). b ∷ []) is
-        more (x ∷ text) (suc at) within is = ap (λ (t : List ℕ). x ∷ t) (more text at (omega arith) is)
+        more (x ∷ text) (suc at) within is =
+            ap (λ (t : List ℕ). x ∷ t) (more text at (omega arith) is)

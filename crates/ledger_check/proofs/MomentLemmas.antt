@@ -1,17 +1,20 @@
 -- Numbers of digits that make a date and a time of day.
-use Rattle.std.proofs.Common.{◌≡◌, ◌≢◌, ◌+◌, ◌*◌, ◌/◌, ◌%◌, ◌<◌, ◌≤◌, ◌^◌, ℕ, ℤ, pos, ◌+ℤ◌, List, Some, get_or, ap, sym, subst, ◌∙◌, arith, refl, to_z, w8, w16}
+use Rattle.std.proofs.Common.{◌≡◌, ◌≢◌, ◌+◌, ◌*◌, ◌/◌, ◌%◌, ◌<◌, ◌≤◌, ◌^◌, ℕ, ℤ, pos, ◌+ℤ◌, List}
+use Rattle.std.proofs.Common.{Some, get_or, ap, sym, subst, ◌∙◌, arith, refl, to_z, w8, w16}
 use Rattle.std.proofs.lemmas.Int.{ints}
 use Rattle.jiff_core.specs.declared.civil.date.Date.{Date}
 use Rattle.jiff_core.specs.Calendar.{IsDate, IsYear, days_in_month}
 use Rattle.jiff_core.proofs.CalendarLemmas.{days_in_month_bounds}
 use Rattle.jiff_core.proofs.SignedLemmas.{signed_arith}
 
-pub clock_number : (ms hour minute second hundreds rest : ℕ) → hour ≡ ms / 3_600_000 → minute ≡ ms / 60_000 % 60 → second ≡ ms / 1_000 % 60
+pub clock_number : (ms hour minute second hundreds rest : ℕ) → hour ≡ ms / 3_600_000
+    → minute ≡ ms / 60_000 % 60 → second ≡ ms / 1_000 % 60
     → hundreds ≡ ms % 1_000 / 100 → rest ≡ ms % 1_000 % 100
     → hour * 3_600_000 + minute * 60_000 + second * 1_000 + hundreds * 100 + rest ≡ ms
 clock_number ms hour minute second hundreds rest h m s f r = omega arith
 
-pub year_number : (year century rest : ℕ) → century ≡ year / 100 → rest ≡ year % 100 → century * 100 + rest ≡ year
+pub year_number : (year century rest : ℕ) → century ≡ year / 100 → rest ≡ year % 100
+    → century * 100 + rest ≡ year
 year_number year century rest c r = omega arith
 
 pub year_small : (date : Date) (year : ℕ) → date.year ≡ pos year → year < 10_000
@@ -40,5 +43,6 @@ is_date date =
       (omega (arith, signed_arith, day), omega (arith, signed_arith, day)),
     )
 
-pub moment_number : (moment day ms : ℕ) → day ≡ moment / 86_400_000 → ms ≡ moment % 86_400_000 → day * 86_400_000 + ms ≡ moment
+pub moment_number : (moment day ms : ℕ) → day ≡ moment / 86_400_000 → ms ≡ moment % 86_400_000
+    → day * 86_400_000 + ms ≡ moment
 moment_number moment day ms d m = omega arith

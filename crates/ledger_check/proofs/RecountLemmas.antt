@@ -1,28 +1,29 @@
 -- What a recount of a text in pieces knows, by what its parts found.
-use Rattle.std.proofs.Common.{◌≡◌, ◌≢◌, ℕ, ◌+◌, ◌^◌, ◌<◌, ◌≤◌, ◌⊎◌, inl, inr, ⊎_elim, Bool, true, false, cond, List, [], ◌∷◌, ◌++◌, length, Option, None, Some, refl, sym, ap, subst, ◌∙◌, arith, append_assoc, append-nil, length-append, codes, string_bytes, if◌then◌else◌}
+use Rattle.std.proofs.Common.{◌≡◌, ℕ, ◌+◌, ◌<◌, ◌≤◌, inl, inr, Bool, true, false, List, [], ◌∷◌}
+use Rattle.std.proofs.Common.{◌++◌, length, Option, None, Some, refl, sym, ap, subst, ◌∙◌, arith}
+use Rattle.std.proofs.Common.{append_assoc, append-nil, length-append, string_bytes, if◌then◌else◌}
 use Rattle.std.proofs.lemmas.Slice.Eq.{bytes_eq-Decides}
 use Rattle.std.specs.Str.{bytes_eq}
 use Rattle.fare_table.specs.Fares.{Fares}
 use Rattle.shard_book.specs.Entry.{own}
 use Rattle.shard_book.specs.declared.entry.Entry.{Entry}
-use Rattle.ledger_check.specs.FullBalances.{IsFullBalance}
 use Rattle.ledger_check.specs.declared.full_balance.FullBalance.{FullBalance}
 use Rattle.tap_views.specs.declared.encoder.TapFields.{TapFields}
 use Rattle.tap_views.specs.declared.token.Token.{Token}
 use Rattle.fare_texts.specs.LedgerLines.{head_text}
-use Rattle.fare_texts.specs.declared.teller.Teller.{Teller}
 use Rattle.ledger_check.specs.Lines.{IsLine, Lacks, lines_of}
-use Rattle.ledger_check.specs.Recounts.{IsJudged, IsLineOfTap, IsTaken, TakenLine, lines_from, run_of, run_with, taps_from, told_lines, told_text}
-use Rattle.ledger_check.specs.RecountStates.{AreSums, HasRecounted, HasRunTeller, HasTakenLines, IsKept}
+use Rattle.ledger_check.specs.Recounts.{IsJudged, IsLineOfTap, IsTaken, TakenLine, lines_from}
+use Rattle.ledger_check.specs.Recounts.{run_of, run_with, told_text}
+use Rattle.ledger_check.specs.RecountStates.{AreSums, HasRecounted, HasRunTeller, HasTakenLines}
+use Rattle.ledger_check.specs.RecountStates.{IsKept}
 use Rattle.ledger_check.specs.inside.Recounts.{HasFound, HasJudged, IsFirstFinding, TookLine}
 use Rattle.ledger_check.specs.declared.recount.LinesTaken.{LinesTaken}
 use Rattle.ledger_check.specs.declared.recount.Recount.{Recount}
 use Rattle.ledger_check.specs.declared.walk.CountedTap.{CountedTap}
 use Rattle.ledger_check.specs.declared.walk.LineFinding.{LineFinding}
-use Rattle.ledger_check.specs.declared.walk.Told.{Told}
 use Rattle.ledger_check.specs.declared.walk.Told.TheVariants.{Nothing, NoLine}
 use Rattle.ledger_check.specs.declared.walk.Walk.{Walk}
-use Rattle.ledger_check.proofs.LineLemmas.{lacks-append, lacks-last, lines-line, lines-part}
+use Rattle.ledger_check.proofs.LineLemmas.{lacks-append, lacks-last, lines-line}
 use Rattle.ledger_check.proofs.TokenOrder.{own-few}
 
 head_short : length head_text ≤ 255
@@ -35,24 +36,30 @@ long_head line long = by_test (bytes_eq line head_text) refl
     by_test : (b : Bool) → bytes_eq line head_text ≡ b → bytes_eq line head_text ≡ false
     by_test true same =
         let is : line ≡ head_text = (bytes_eq-Decides line head_text).0 same in
-        let short : length line ≤ 255 = subst (λ (l : List ℕ). length l ≤ 255) (sym is) head_short in
+        let short : length line ≤ 255 =
+        subst (λ (l : List ℕ). length l ≤ 255) (sym is) head_short in
         absurd (omega (arith, short, long))
     by_test false other = other
 
 -- the first line, of which this was kept
-first_kept : (kept whole : List ℕ) (finding : LineFinding) → IsKept kept whole → IsFirstFinding kept finding → IsFirstFinding whole finding
-first_kept kept whole finding (inl same) is = subst (λ (l : List ℕ). IsFirstFinding l finding) same is
+first_kept : (kept whole : List ℕ) (finding : LineFinding) → IsKept kept whole
+    → IsFirstFinding kept finding → IsFirstFinding whole finding
+first_kept kept whole finding (inl same) is =
+    subst (λ (l : List ℕ). IsFirstFinding l finding) same is
 first_kept kept whole finding (inr (long, longer)) is = (
   is.0,
-  is.1 ∙ ap (λ (b : Bool). if b then Nothing else NoLine) (long_head kept long ∙ sym (long_head whole longer)),
+  is.1 ∙ ap (λ (b : Bool). if b then Nothing else NoLine)
+      (long_head kept long ∙ sym (long_head whole longer)),
 )
 
 none_taken : (taken : List TakenLine) → length taken ≡ 0 → taken ≡ []
 none_taken [] is = refl
 none_taken (next ∷ taken) is = absurd (omega (arith, is))
 
-pub found_first : (fares : Fares) (so_far : LinesTaken) (taken : List TakenLine) (kept whole : List ℕ) (finding : LineFinding)
-    → HasTakenLines fares so_far taken → so_far.sums.lines ≡ 0 → IsKept kept whole → IsFirstFinding kept finding
+pub found_first : (fares : Fares) (so_far : LinesTaken) (taken : List TakenLine)
+    (kept whole : List ℕ) (finding : LineFinding)
+    → HasTakenLines fares so_far taken → so_far.sums.lines ≡ 0 → IsKept kept whole
+    → IsFirstFinding kept finding
     → HasFound fares taken whole so_far.walk finding
 found_first fares so_far taken kept whole finding lines none same is =
     let empty : taken ≡ [] = none_taken taken (sym lines.sums.lines ∙ none) in
@@ -61,12 +68,15 @@ found_first fares so_far taken kept whole finding lines none same is =
     subst (λ (ts : List TakenLine). HasFound fares ts whole so_far.walk finding) (sym empty)
     (record {
       is = first;
-      teller = subst (λ (r : List Entry). HasRunTeller fares so_far.walk.teller r) (run ∙ sym (ap (run_with []) first.0)) lines.teller;
+      teller = subst (λ (r : List Entry). HasRunTeller fares so_far.walk.teller r)
+          (run ∙ sym (ap (run_with []) first.0)) lines.teller;
     })
 
 -- behind the first line a line is judged
-judged_taken : (fares : Fares) (taken : List TakenLine) (line : List ℕ) (finding : LineFinding) (wanted : List ℕ) → 0 < length taken
-    → IsJudged fares (run_of taken) line finding.tap finding.told wanted → IsTaken fares taken (record { line = line; finding = finding; wanted = wanted })
+judged_taken : (fares : Fares) (taken : List TakenLine) (line : List ℕ) (finding : LineFinding)
+    (wanted : List ℕ) → 0 < length taken
+    → IsJudged fares (run_of taken) line finding.tap finding.told wanted
+    → IsTaken fares taken (record { line = line; finding = finding; wanted = wanted })
 judged_taken fares [] line finding wanted some is = absurd (omega (arith, some))
 judged_taken fares (before ∷ earlier) line finding wanted some is = is
 
@@ -78,11 +88,15 @@ kept_short : (kept whole : List ℕ) → IsKept kept whole → length kept ≤ 2
 kept_short kept whole (inl same) short = same
 kept_short kept whole (inr (left, right)) short = absurd (omega (arith, left, short))
 
-pub kept_line : (kept : List ℕ) → length kept ≤ 255 → (found : (whole : List ℕ) × IsLine whole × IsKept kept whole) → IsLine kept
-kept_line kept short (whole, line, same) = subst IsLine (sym (kept_short kept whole same short)) line
+pub kept_line : (kept : List ℕ) → length kept ≤ 255
+    → (found : (whole : List ℕ) × IsLine whole × IsKept kept whole) → IsLine kept
+kept_line kept short (whole, line, same) =
+    subst IsLine (sym (kept_short kept whole same short)) line
 
-pub found_long : (fares : Fares) (so_far : LinesTaken) (taken : List TakenLine) (kept whole : List ℕ) (finding : LineFinding)
-    → HasTakenLines fares so_far taken → 0 < so_far.sums.lines → IsKept kept whole → 255 < length kept
+pub found_long : (fares : Fares) (so_far : LinesTaken) (taken : List TakenLine)
+    (kept whole : List ℕ) (finding : LineFinding)
+    → HasTakenLines fares so_far taken → 0 < so_far.sums.lines → IsKept kept whole
+    → 255 < length kept
     → finding.tap ≡ None → finding.told ≡ NoLine → HasFound fares taken whole so_far.walk finding
 found_long fares so_far taken kept whole finding lines some same long none told =
     let counted : so_far.sums.lines ≡ length taken = lines.sums.lines in
@@ -90,14 +104,23 @@ found_long fares so_far taken kept whole finding lines some same long none told 
     let longer = kept_long kept whole same long in
     record {
       is = judged_taken fares taken whole finding wanted (omega (arith, some, counted))
-          (subst (λ (t : Option CountedTap). IsJudged fares (run_of taken) whole t finding.told wanted) (sym none)
-          (λ token validator moment rest is. let short : length whole ≤ 255 = is.short in omega (arith, longer, short), told));
-      teller = subst (λ (t : Option CountedTap). HasRunTeller fares so_far.walk.teller (run_with (run_of taken) t)) (sym none)
-          (subst (λ (r : List Entry). HasRunTeller fares so_far.walk.teller r) lines.is_run lines.teller);
+          (subst (λ (t : Option CountedTap). IsJudged fares (run_of taken) whole t finding.told
+          wanted) (sym none) (
+            λ token validator moment rest is. let short : length whole ≤ 255 = is.short in
+                omega (arith, longer, short),
+            told,
+          ));
+      teller = subst
+          (λ (t : Option CountedTap). HasRunTeller fares so_far.walk.teller
+          (run_with (run_of taken) t)) (sym none)
+          (subst (λ (r : List Entry). HasRunTeller fares so_far.walk.teller r) lines.is_run
+          lines.teller);
     }
 
-pub found_judged : (fares : Fares) (so_far : LinesTaken) (after : Walk) (taken : List TakenLine) (kept whole : List ℕ) (finding : LineFinding)
-    → (lines : HasTakenLines fares so_far taken) → 0 < so_far.sums.lines → IsKept kept whole → length kept ≤ 255
+pub found_judged : (fares : Fares) (so_far : LinesTaken) (after : Walk) (taken : List TakenLine)
+    (kept whole : List ℕ) (finding : LineFinding)
+    → (lines : HasTakenLines fares so_far taken) → 0 < so_far.sums.lines → IsKept kept whole
+    → length kept ≤ 255
     → HasJudged fares lines.run kept after finding → HasFound fares taken whole after finding
 found_judged fares so_far after taken kept whole finding lines some same short judged =
     let counted : so_far.sums.lines ≡ length taken = lines.sums.lines in
@@ -105,13 +128,17 @@ found_judged fares so_far after taken kept whole finding lines some same short j
     let line = kept_short kept whole same short in
     record {
       is = judged_taken fares taken whole finding wanted (omega (arith, some, counted))
-          (subst (λ (r : List Entry). IsJudged fares r whole finding.tap finding.told wanted) lines.is_run
-          (subst (λ (l : List ℕ). IsJudged fares lines.run l finding.tap finding.told wanted) line judged.is));
-      teller = subst (λ (r : List Entry). HasRunTeller fares after.teller (run_with r finding.tap)) lines.is_run judged.teller;
+          (subst (λ (r : List Entry). IsJudged fares r whole finding.tap finding.told wanted)
+          lines.is_run
+          (subst (λ (l : List ℕ). IsJudged fares lines.run l finding.tap finding.told wanted) line
+          judged.is));
+      teller = subst (λ (r : List Entry). HasRunTeller fares after.teller (run_with r finding.tap))
+          lines.is_run judged.teller;
     }
 
 -- a run has no more entries than there are lines
-few_with : (run : List Entry) (tap : Option CountedTap) (n : ℕ) → length run ≤ n → length (run_with run tap) ≤ n + 1
+few_with : (run : List Entry) (tap : Option CountedTap) (n : ℕ) → length run ≤ n
+    → length (run_with run tap) ≤ n + 1
 few_with run None n few = omega (arith, few)
 few_with run (Some tap) n few =
     let own_few = own-few tap.entry.token run in
@@ -119,56 +146,34 @@ few_with run (Some tap) n few =
     omega (arith, few, own_few, size)
 
 -- one line more was taken
-pub lines_more : (fares : Fares) (so_far after : LinesTaken) (taken : List TakenLine) (line : List ℕ) (finding : LineFinding)
+pub lines_more : (fares : Fares) (so_far after : LinesTaken) (taken : List TakenLine)
+    (line : List ℕ) (finding : LineFinding)
     → (lines : HasTakenLines fares so_far taken) → HasFound fares taken line after.walk finding
-    → AreSums after.sums (record { line = line; finding = finding; wanted = string_bytes after.walk.wanted } ∷ taken)
-    → HasTakenLines fares after (record { line = line; finding = finding; wanted = string_bytes after.walk.wanted } ∷ taken)
+    → AreSums after.sums
+    (record { line = line; finding = finding; wanted = string_bytes after.walk.wanted } ∷ taken)
+    → HasTakenLines fares after
+    (record { line = line; finding = finding; wanted = string_bytes after.walk.wanted } ∷ taken)
 lines_more fares so_far after taken line finding lines found sums = record {
   are = (lines.are, found.is);
   sums = sums;
   run = run_with (run_of taken) finding.tap;
   is_run = refl;
-  few = let size = subst (λ (r : List Entry). length (run_with r finding.tap) ≤ length taken + 1) lines.is_run
+  few = let size = subst (λ (r : List Entry). length (run_with r finding.tap) ≤ length taken + 1)
+      lines.is_run
       (few_with lines.run finding.tap (length taken) lines.few) in
       omega (arith, size);
   teller = found.teller;
 }
 
--- what is kept of a line that grows
-pub kept_all : (old new before text : List ℕ) → IsKept old before → new ≡ old ++ text → IsKept new (before ++ text)
-kept_all old new before text (inl same) grown = inl (grown ∙ ap (λ (l : List ℕ). l ++ text) same)
-kept_all old new before text (inr (left, right)) grown =
-    let size = length-append old text in
-    let size_too = length-append before text in
-    let is : length new ≡ length (old ++ text) = ap (λ (l : List ℕ). length l) grown in
-    inr (omega (arith, left, size, is), omega (arith, right, size_too))
-
-pub kept_full : (old before text : List ℕ) → IsKept old before → 255 < length old → IsKept old (before ++ text)
-kept_full old before text same long =
-    let longer = kept_long old before same long in
-    inr (long, omega (arith, longer, length-append before text))
-
-pub kept_front : (old new before text front : List ℕ) → IsKept old before → new ≡ old ++ front → length old + length front ≡ 256
-    → length front < length text → IsKept new (before ++ text)
-kept_front old new before text front (inl same) grown full less =
-    let size = length-append old front in
-    let size_too = length-append before text in
-    let is : length new ≡ length (old ++ front) = ap (λ (l : List ℕ). length l) grown in
-    let old_is : length old ≡ length before = ap (λ (l : List ℕ). length l) same in
-    inr (omega (arith, is, size, full), omega (arith, size_too, old_is, full, less))
-kept_front old new before text front (inr (left, right)) grown full less =
-    let size = length-append old front in
-    let size_too = length-append before text in
-    let is : length new ≡ length (old ++ front) = ap (λ (l : List ℕ). length l) grown in
-    inr (omega (arith, is, size, full), omega (arith, size_too, right))
-
 pub kept_none : (kept begun : List ℕ) → IsKept kept begun → kept ≡ [] → begun ≡ []
 kept_none kept begun (inl same) none = sym same ∙ none
-kept_none kept begun (inr (left, right)) none = absurd (omega (arith, left, ap (λ (l : List ℕ). length l) none))
+kept_none kept begun (inr (left, right)) none =
+    absurd (omega (arith, left, ap (λ (l : List ℕ). length l) none))
 
 pub none_kept : (kept begun : List ℕ) → IsKept kept begun → begun ≡ [] → kept ≡ []
 none_kept kept begun (inl same) none = same ∙ none
-none_kept kept begun (inr (left, right)) none = absurd (omega (arith, right, ap (λ (l : List ℕ). length l) none))
+none_kept kept begun (inr (left, right)) none =
+    absurd (omega (arith, right, ap (λ (l : List ℕ). length l) none))
 
 -- a piece without a newline
 pub split_part : (lines : List (List ℕ)) (text begun piece : List ℕ) → ((more : List ℕ) → lines_of (text ++ more) ≡ lines ++ lines_of (begun ++ more)) → (more : List ℕ)
@@ -177,9 +182,12 @@ split_part lines text begun piece split more =
     ap lines_of (append_assoc text piece more) ∙ split (piece ++ more)
     ∙ ap (λ (t : List ℕ). lines ++ lines_of t) (sym (append_assoc begun piece more))
 
-pub kept_piece : (fares : Fares) (recount after : Recount) (strikes : Bool) (full : FullBalance) (text piece written : List ℕ) (good : List TapFields)
-    → (is : HasRecounted fares recount strikes full text written good) → Lacks 10 piece → after.so_far ≡ recount.so_far
-    → IsKept after.begun.items (is.begun ++ piece) → HasRecounted fares after strikes full (text ++ piece) (written ++ []) good
+pub kept_piece : (fares : Fares) (recount after : Recount) (strikes : Bool) (full : FullBalance)
+    (text piece written : List ℕ) (good : List TapFields)
+    → (is : HasRecounted fares recount strikes full text written good) → Lacks 10 piece
+    → after.so_far ≡ recount.so_far
+    → IsKept after.begun.items (is.begun ++ piece)
+    → HasRecounted fares after strikes full (text ++ piece) (written ++ []) good
 kept_piece fares recount after strikes full text piece written good is lacks same kept = record {
   taken = is.taken;
   lines = subst (λ (s : LinesTaken). HasTakenLines fares s is.taken) (sym same) is.lines;
@@ -195,14 +203,18 @@ kept_piece fares recount after strikes full text piece written good is lacks sam
 pub split_line_at : (lines : List (List ℕ)) (text begun line : List ℕ) → ((more : List ℕ) → lines_of (text ++ more) ≡ lines ++ lines_of (begun ++ more)) → Lacks 10 begun → IsLine line
     → (more : List ℕ) → lines_of ((text ++ line) ++ more) ≡ (lines ++ (begun ++ line) ∷ []) ++ lines_of more
 split_line_at lines text begun line split lacks is more =
-    let whole : begun ++ line ≡ (begun ++ is.front) ++ 10 ∷ [] = ap (λ (l : List ℕ). begun ++ l) is.shown ∙ sym (append_assoc begun is.front (10 ∷ [])) in
-    let cut : (begun ++ line) ++ more ≡ (begun ++ is.front) ++ 10 ∷ more = ap (λ (l : List ℕ). l ++ more) whole ∙ append_assoc (begun ++ is.front) (10 ∷ []) more in
+    let whole : begun ++ line ≡ (begun ++ is.front) ++ 10 ∷ [] =
+    ap (λ (l : List ℕ). begun ++ l) is.shown ∙ sym (append_assoc begun is.front (10 ∷ [])) in
+    let cut : (begun ++ line) ++ more ≡ (begun ++ is.front) ++ 10 ∷ more =
+    ap (λ (l : List ℕ). l ++ more) whole ∙ append_assoc (begun ++ is.front) (10 ∷ []) more in
     split_part lines text begun line split more
     ∙ ap (λ (t : List ℕ). lines ++ lines_of t) cut
-    ∙ ap (λ (ls : List (List ℕ)). lines ++ ls) (lines-line (begun ++ is.front) more (lacks-append 10 begun is.front lacks is.lacks))
+    ∙ ap (λ (ls : List (List ℕ)). lines ++ ls)
+    (lines-line (begun ++ is.front) more (lacks-append 10 begun is.front lacks is.lacks))
     ∙ ap (λ (l : List ℕ). lines ++ l ∷ lines_of more) (sym whole)
     ∙ sym (append_assoc lines ((begun ++ line) ∷ []) (lines_of more))
 
+-- a line that has begun ends with the line behind it
 pub line_ends : (begun line : List ℕ) → Lacks 10 begun → (is : IsLine line) → IsLine (begun ++ line)
 line_ends begun line lacks is = record {
   front = begun ++ is.front;
@@ -211,26 +223,37 @@ line_ends begun line lacks is = record {
 }
 
 -- the next line was taken, and nothing is begun behind it
-pub took_line_of : (fares : Fares) (recount after : Recount) (strikes : Bool) (full full' : FullBalance) (text line written : List ℕ) (good : List TapFields) (told told' : List ℕ)
-    → (is : HasRecounted fares recount strikes full text written good) → IsLine line → after.begun.items ≡ []
+pub took_line_of : (fares : Fares) (recount after : Recount) (strikes : Bool)
+    (full full' : FullBalance) (text line written : List ℕ) (good : List TapFields)
+    (told told' : List ℕ)
+    → (is : HasRecounted fares recount strikes full text written good) → IsLine line
+    → after.begun.items ≡ []
     → TookLine fares is.taken (is.begun ++ line) after.so_far strikes full full' told told'
-    → (more : List ℕ) × (told' ≡ told ++ more) × HasRecounted fares after strikes full' (text ++ line) (written ++ more) good
-took_line_of fares recount after strikes full full' text line written good told told' is ends none took = (
-  told_text (length is.taken + 1) took.next.finding.told took.next.wanted,
-  took.written,
-  record {
-    taken = took.next ∷ is.taken;
-    lines = took.lines;
-    begun = [];
-    kept = inl none;
-    lacks = tt;
-    split = λ more. split_line_at (lines_from is.taken) text is.begun line is.split is.lacks ends more
-        ∙ ap (λ (l : List ℕ). (lines_from is.taken ++ l ∷ []) ++ lines_of more) (sym took.is);
-    told = ap (λ (t : List ℕ). t ++ told_text (length is.taken + 1) took.next.finding.told took.next.wanted) is.told;
-    struck = λ strike. took.struck good strike (is.struck strike);
-  },
-)
+    → (more : List ℕ) × (told' ≡ told ++ more)
+    × HasRecounted fares after strikes full' (text ++ line) (written ++ more) good
+took_line_of fares recount after strikes full full' text line written good told told' is ends none
+    took = (
+      told_text (length is.taken + 1) took.next.finding.told took.next.wanted,
+      took.written,
+      record {
+        taken = took.next ∷ is.taken;
+        lines = took.lines;
+        begun = [];
+        kept = inl none;
+        lacks = tt;
+        split = λ more. split_line_at (lines_from is.taken) text is.begun line is.split is.lacks
+            ends
+            more
+            ∙ ap (λ (l : List ℕ). (lines_from is.taken ++ l ∷ []) ++ lines_of more) (sym took.is);
+        told = ap
+            (λ (t : List ℕ). t ++ told_text (length is.taken + 1) took.next.finding.told
+            took.next.wanted) is.told;
+        struck = λ strike. took.struck good strike (is.struck strike);
+      },
+    )
 
 -- no tap is told by a line without its newline
-pub cut_line : (line : List ℕ) → Lacks 10 line → (token : Token) (validator moment : ℕ) (rest : List ℕ) → IsLineOfTap line token validator moment rest → ⊥
+pub cut_line : (line : List ℕ) → Lacks 10 line
+    → (token : Token) (validator moment : ℕ) (rest : List ℕ)
+    → IsLineOfTap line token validator moment rest → ⊥
 cut_line line lacks token validator moment rest is = lacks-last 10 is.front line is.ends lacks

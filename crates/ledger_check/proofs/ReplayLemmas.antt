@@ -1,5 +1,6 @@
 -- What a check of the next line finds, by what its parts found.
-use Rattle.std.proofs.Common.{◌≡◌, ℕ, ◌+◌, ◌^◌, ◌<◌, ◌≤◌, List, [], ◌∷◌, ◌++◌, length, All, Option, Some, refl, sym, ap, subst, ◌∙◌, arith, length-append}
+use Rattle.std.proofs.Common.{◌≡◌, ℕ, ◌+◌, ◌^◌, ◌<◌, ◌≤◌, List, [], ◌∷◌, ◌++◌, length, All, Option}
+use Rattle.std.proofs.Common.{Some, sym, ap, subst, ◌∙◌, arith, length-append}
 use Rattle.fare_table.specs.Fares.{Fares}
 use Rattle.account_rule.specs.declared.reason.Reason.{Reason}
 use Rattle.shard_book.specs.Entry.{own}
@@ -14,12 +15,13 @@ use Rattle.ledger_check.specs.inside.Replays.{GoesOn}
 use Rattle.ledger_check.specs.inside.Taps.{IsEntryOfTap, TellsTap}
 use Rattle.ledger_check.specs.declared.replay.Replay.{Replay}
 use Rattle.ledger_check.specs.declared.tap.Tap.{Tap}
-use Rattle.ledger_check.proofs.EntryLists.{next-parts, next-push}
+use Rattle.ledger_check.proofs.EntryLists.{next-parts, next-push, none_left}
 use Rattle.ledger_check.proofs.SameLines.{next_same}
 use Rattle.ledger_check.proofs.TokenOrder.{own-few}
 
 -- the entry of a further line follows the entries that were read
-last_of : (fares : Fares) (replay : Replay) (lines : List (List ℕ)) (line : List ℕ) (read : HasRead fares replay lines)
+last_of : (fares : Fares) (replay : Replay) (lines : List (List ℕ)) (line : List ℕ)
+    (read : HasRead fares replay lines)
     → (others : List Entry) → AreNext fares [] others (lines ++ line ∷ [])
     → (entry : Entry) × IsNext fares read.entries entry line × (others ≡ read.entries ++ entry ∷ [])
 last_of fares replay lines line read others are =
@@ -27,84 +29,107 @@ last_of fares replay lines line read others are =
     let same : parts.entries ≡ read.entries = read.only parts.entries parts.are in (
       parts.entry,
       subst (λ (es : List Entry). IsNext fares es parts.entry line) same parts.is,
-      parts.whole ∙ ap (λ (es : List Entry). parts.entries ++ parts.entry ∷ es) (none_left fares ((parts.entries) ++ parts.entry ∷ []) parts.after parts.rest)
+      parts.whole ∙ ap (λ (es : List Entry). parts.entries ++ parts.entry ∷ es)
+          (none_left fares ((parts.entries) ++ parts.entry ∷ []) parts.after parts.rest)
           ∙ ap (λ (es : List Entry). es ++ parts.entry ∷ []) same,
     )
-  where
-    none_left : (fares : Fares) (earlier after : List Entry) → AreNext fares earlier after [] → after ≡ []
-    none_left fares earlier [] rest = refl
-    none_left fares earlier (e ∷ after) rest = absurd rest
 
 -- a line that no entry can have after those that were read is wrong
-pub wrong : (fares : Fares) (replay : Replay) (lines : List (List ℕ)) (line : List ℕ) (read : HasRead fares replay lines)
+pub wrong : (fares : Fares) (replay : Replay) (lines : List (List ℕ)) (line : List ℕ)
+    (read : HasRead fares replay lines)
     → ((entry : Entry) → IsNext fares read.entries entry line → ⊥) → IsWrongAfter fares lines line
 wrong fares replay lines line read none = λ others are.
     let last = last_of fares replay lines line read others are in none last.0 last.1
 
-pub wrong_long : (fares : Fares) (replay : Replay) (lines : List (List ℕ)) (line : List ℕ) → HasRead fares replay lines
+pub wrong_long : (fares : Fares) (replay : Replay) (lines : List (List ℕ)) (line : List ℕ)
+    → HasRead fares replay lines
     → 255 < length line → IsWrongAfter fares lines line
 wrong_long fares replay lines line read long =
-    wrong fares replay lines line read (λ entry is. let short : length line ≤ 255 = is.short in absurd (omega arith))
+    wrong fares replay lines line read
+    (λ entry is. let short : length line ≤ 255 = is.short in absurd (omega arith))
 
-pub wrong_full : (fares : Fares) (replay : Replay) (lines : List (List ℕ)) (line : List ℕ) → HasRead fares replay lines
+pub wrong_full : (fares : Fares) (replay : Replay) (lines : List (List ℕ)) (line : List ℕ)
+    → HasRead fares replay lines
     → 4_611_686_018_427_387_904 ≤ replay.lines → IsWrongAfter fares lines line
 wrong_full fares replay lines line read full =
-    wrong fares replay lines line read (λ entry is. let few : length read.entries < 2 ^ 62 = is.few in absurd (omega (arith, read.counted)))
+    wrong fares replay lines line read
+    (λ entry is. let few : length read.entries < 2 ^ 62 = is.few in
+    absurd (omega (arith, read.counted)))
 
 -- no entry has the line
 abbrev pub TellsNone : Fares → List ℕ → Type 0
-TellsNone fares line = (number : ℕ) (entry : Entry) (why : Reason) → number < 2 ^ 64 → IsPostable entry
+TellsNone fares line =
+    (number : ℕ) (entry : Entry) (why : Reason) → number < 2 ^ 64 → IsPostable entry
     → IsLedgerLine fares entry.token number entry why line → ⊥
 
-small_number : (fares : Fares) (earlier : List Entry) (entry : Entry) (line : List ℕ) → IsNext fares earlier entry line
+small_number : (fares : Fares) (earlier : List Entry) (entry : Entry) (line : List ℕ)
+    → IsNext fares earlier entry line
     → length (own entry.token earlier) + 1 < 2 ^ 64
 small_number fares earlier entry line is =
     let few : length earlier < 2 ^ 62 = is.few in
     omega (arith, own-few entry.token earlier)
 
-pub wrong_unread : (fares : Fares) (replay : Replay) (lines : List (List ℕ)) (line : List ℕ) → HasRead fares replay lines
+pub wrong_unread : (fares : Fares) (replay : Replay) (lines : List (List ℕ)) (line : List ℕ)
+    → HasRead fares replay lines
     → TellsNone fares line → IsWrongAfter fares lines line
 wrong_unread fares replay lines line read none =
-    wrong fares replay lines line read (λ entry is. none _ entry _ (small_number fares read.entries entry line is) is.postable is.shown)
+    wrong fares replay lines line read
+    (λ entry is. none _ entry _ (small_number fares read.entries entry line is) is.postable
+    is.shown)
 
-pub tap_of_next : (fares : Fares) (earlier : List Entry) (entry : Entry) (line : List ℕ) (tap : Tap) → TellsTap fares line tap
+pub tap_of_next : (fares : Fares) (earlier : List Entry) (entry : Entry) (line : List ℕ) (tap : Tap)
+    → TellsTap fares line tap
     → IsNext fares earlier entry line → IsEntryOfTap tap entry
-tap_of_next fares earlier entry line tap tells is = tells _ entry _ (small_number fares earlier entry line is) is.postable is.shown
+tap_of_next fares earlier entry line tap tells is =
+    tells _ entry _ (small_number fares earlier entry line is) is.postable is.shown
 
 -- there is no teller for the token, since it is less than the last one
 abbrev pub IsLess : Fares → Replay → Token → Type 0
 IsLess fares replay token = (entries : List Entry) → HasTeller fares replay.teller entries
     → All (λ entry. token_number entry.token ≤ token_number token) entries → ⊥
 
-pub wrong_less : (fares : Fares) (replay : Replay) (lines : List (List ℕ)) (line : List ℕ) (tap : Tap) → HasRead fares replay lines
+pub wrong_less : (fares : Fares) (replay : Replay) (lines : List (List ℕ)) (line : List ℕ)
+    (tap : Tap) → HasRead fares replay lines
     → TellsTap fares line tap → IsLess fares replay tap.token → IsWrongAfter fares lines line
 wrong_less fares replay lines line tap read tells less =
     wrong fares replay lines line read (λ entry is.
     let of = tap_of_next fares read.entries entry line tap tells is in
-    less read.entries read.teller (subst (λ (t : Token). All (λ (e : Entry). token_number e.token ≤ token_number t) read.entries) of.token is.no_fall))
+    less read.entries read.teller
+    (subst (λ (t : Token). All (λ (e : Entry). token_number e.token ≤ token_number t) read.entries)
+    of.token is.no_fall))
 
 -- the entry that the tap makes, and its line
-pub same_next : (fares : Fares) (teller after : Teller) (earlier : List Entry) (line wanted : List ℕ) (tap : Tap) (goes : GoesOn fares teller earlier tap.validator tap.moment wanted after)
-    → teller.token ≡ tap.token → TellsTap fares line tap → (entry : Entry) → IsNext fares earlier entry line
+pub same_next : (fares : Fares) (teller after : Teller) (earlier : List Entry)
+    (line wanted : List ℕ) (tap : Tap)
+    (goes : GoesOn fares teller earlier tap.validator tap.moment wanted after)
+    → teller.token ≡ tap.token → TellsTap fares line tap → (entry : Entry)
+    → IsNext fares earlier entry line
     → (entry ≡ goes.entry) × (line ≡ wanted)
 same_next fares teller after earlier line wanted tap goes token tells entry is =
     let of = tap_of_next fares earlier entry line tap tells is in
     next_same fares earlier entry goes.entry line wanted is goes.replied goes.shown
-    (of.token ∙ sym token ∙ sym goes.token) (of.validator ∙ sym goes.of_validator) (of.moment ∙ sym goes.of_moment)
+    (of.token ∙ sym token ∙ sym goes.token) (of.validator ∙ sym goes.of_validator)
+    (of.moment ∙ sym goes.of_moment)
 
-pub wrong_other : (fares : Fares) (replay : Replay) (lines : List (List ℕ)) (line wanted : List ℕ) (teller after : Teller) (tap : Tap)
-    → (read : HasRead fares replay lines) → GoesOn fares teller read.entries tap.validator tap.moment wanted after
-    → teller.token ≡ tap.token → TellsTap fares line tap → (wanted ≡ line → ⊥) → IsWrongAfter fares lines line
+pub wrong_other : (fares : Fares) (replay : Replay) (lines : List (List ℕ)) (line wanted : List ℕ)
+    (teller after : Teller) (tap : Tap)
+    → (read : HasRead fares replay lines)
+    → GoesOn fares teller read.entries tap.validator tap.moment wanted after
+    → teller.token ≡ tap.token → TellsTap fares line tap → (wanted ≡ line → ⊥)
+    → IsWrongAfter fares lines line
 wrong_other fares replay lines line wanted teller after tap read goes token tells other =
     wrong fares replay lines line read (λ entry is.
-    other (sym (same_next fares teller after read.entries line wanted tap goes token tells entry is).1))
+    other (sym
+    (same_next fares teller after read.entries line wanted tap goes token tells entry is).1))
 
 -- what the tap makes is postable
 abbrev pub CanPost : Tap → Type 0
 CanPost tap = (tap.validator < 2 ^ 32) × (tap.moment < 4_102_444_800_000)
 
-pub next_of : (fares : Fares) (teller after : Teller) (earlier : List Entry) (wanted : List ℕ) (tap : Tap)
-    → (goes : GoesOn fares teller earlier tap.validator tap.moment wanted after) → StandsForOwn fares teller earlier → CanPost tap
+pub next_of : (fares : Fares) (teller after : Teller) (earlier : List Entry) (wanted : List ℕ)
+    (tap : Tap)
+    → (goes : GoesOn fares teller earlier tap.validator tap.moment wanted after)
+    → StandsForOwn fares teller earlier → CanPost tap
     → length wanted ≤ 255 → length earlier < 2 ^ 62 → IsNext fares earlier goes.entry wanted
 next_of fares teller after earlier wanted tap goes stands can short few =
     let validator : goes.entry.validator ≡ tap.validator = goes.of_validator in
@@ -115,7 +140,9 @@ next_of fares teller after earlier wanted tap goes stands can short few =
         validator = subst (λ (n : ℕ). n < 2 ^ 32) (sym validator) can.0;
         moment = subst (λ (n : ℕ). n < 4_102_444_800_000) (sym moment) can.1;
       };
-      no_fall = subst (λ (t : Token). All (λ (e : Entry). token_number e.token ≤ token_number t) earlier) (sym goes.token) stands.up_to;
+      no_fall = subst
+          (λ (t : Token). All (λ (e : Entry). token_number e.token ≤ token_number t) earlier)
+          (sym goes.token) stands.up_to;
       replied = goes.replied;
       shown = goes.shown;
       short = short;
@@ -123,31 +150,43 @@ next_of fares teller after earlier wanted tap goes stands can short few =
     }
 
 -- the line is the one that its tap should have
-pub read_more : (fares : Fares) (replay next : Replay) (lines : List (List ℕ)) (line wanted : List ℕ) (teller after : Teller) (tap : Tap)
-    → (read : HasRead fares replay lines) → GoesOn fares teller read.entries tap.validator tap.moment wanted after
+pub read_more : (fares : Fares) (replay next : Replay) (lines : List (List ℕ))
+    (line wanted : List ℕ) (teller after : Teller) (tap : Tap)
+    → (read : HasRead fares replay lines)
+    → GoesOn fares teller read.entries tap.validator tap.moment wanted after
     → StandsForOwn fares teller read.entries → CanPost tap
     → teller.token ≡ tap.token → TellsTap fares line tap → wanted ≡ line → length line ≤ 255
-    → replay.lines < 4_611_686_018_427_387_904 → next.lines ≡ replay.lines + 1 → next.teller ≡ Some after
+    → replay.lines < 4_611_686_018_427_387_904 → next.lines ≡ replay.lines + 1
+    → next.teller ≡ Some after
     → HasRead fares next (lines ++ line ∷ [])
-read_more fares replay next lines line wanted teller after tap read goes stands can token tells same short room counted is_teller =
+read_more fares replay next lines line wanted teller after tap read goes stands can token tells same
+    short room counted is_teller =
     let few : length read.entries < 2 ^ 62 = omega (arith, read.counted) in
-    let is : IsNext fares read.entries goes.entry line = subst (λ (l : List ℕ). IsNext fares read.entries goes.entry l) same
-    (next_of fares teller after read.entries wanted tap goes stands can (subst (λ (l : List ℕ). length l ≤ 255) (sym same) short) few) in
+    let is : IsNext fares read.entries goes.entry line =
+    subst (λ (l : List ℕ). IsNext fares read.entries goes.entry l) same
+    (next_of fares teller after read.entries wanted tap goes stands can
+    (subst (λ (l : List ℕ). length l ≤ 255) (sym same) short) few) in
     let more = length-append read.entries (goes.entry ∷ []) in
     record {
       entries = read.entries ++ goes.entry ∷ [];
       are = next-push fares [] read.entries lines goes.entry line read.are is;
       only = λ others are.
           let last = last_of fares replay lines line read others are in
-          last.2 ∙ ap (λ (e : Entry). read.entries ++ e ∷ []) (same_next fares teller after read.entries line wanted tap goes token tells last.0 last.1).0;
+          last.2 ∙ ap (λ (e : Entry). read.entries ++ e ∷ [])
+          (same_next fares teller after read.entries line wanted tap goes token tells last.0
+          last.1).0;
       counted = omega (arith, more, read.counted);
       few = omega (arith, more);
-      teller = subst (λ (t : Option Teller). HasTeller fares t (read.entries ++ goes.entry ∷ [])) (sym is_teller) (goes.stands, goes.some);
+      teller = subst (λ (t : Option Teller). HasTeller fares t (read.entries ++ goes.entry ∷ []))
+          (sym is_teller) (goes.stands, goes.some);
     }
 
-pub wanted_next : (fares : Fares) (replay : Replay) (lines : List (List ℕ)) (wanted : List ℕ) (teller after : Teller) (tap : Tap)
-    → (read : HasRead fares replay lines) → GoesOn fares teller read.entries tap.validator tap.moment wanted after
-    → StandsForOwn fares teller read.entries → CanPost tap → length wanted ≤ 255 → replay.lines < 4_611_686_018_427_387_904
+pub wanted_next : (fares : Fares) (replay : Replay) (lines : List (List ℕ)) (wanted : List ℕ)
+    (teller after : Teller) (tap : Tap)
+    → (read : HasRead fares replay lines)
+    → GoesOn fares teller read.entries tap.validator tap.moment wanted after
+    → StandsForOwn fares teller read.entries → CanPost tap → length wanted ≤ 255
+    → replay.lines < 4_611_686_018_427_387_904
     → IsWanted fares lines wanted
 wanted_next fares replay lines wanted teller after tap read goes stands can short room =
     let few : length read.entries < 2 ^ 62 = omega (arith, read.counted) in (

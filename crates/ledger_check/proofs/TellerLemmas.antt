@@ -1,5 +1,6 @@
 -- A teller that takes one more tap, and a teller that begins.
-use Rattle.std.proofs.Common.{◌≡◌, ℕ, ◌+◌, ◌<◌, ◌≤◌, List, [], ◌∷◌, ◌++◌, map, All, refl, sym, ap, subst, ◌∙◌, arith, length-append, le_of_eq}
+use Rattle.std.proofs.Common.{◌≡◌, ℕ, ◌+◌, ◌<◌, ◌≤◌, List, [], ◌∷◌, ◌++◌, map, All, refl, sym, ap}
+use Rattle.std.proofs.Common.{subst, ◌∙◌, arith, length-append, le_of_eq}
 use Rattle.std.proofs.lemmas.List.{map-append}
 use Rattle.std.proofs.lemmas.List.Elements.{All-push}
 use Rattle.fare_table.specs.Fares.{Fares}
@@ -24,7 +25,8 @@ use Rattle.ledger_check.specs.inside.Replays.{GoesOn}
 use Rattle.ledger_check.proofs.TokenOrder.{own-above, own-more}
 
 -- what the teller and a writer of the line give of a tap, and of the entry that it makes
-pub record Steps (fares : Fares) (teller after : Teller) (entries : List Entry) (tap entry : Entry) (why : Reason) (line : List ℕ) : Type 0 where
+pub record Steps (fares : Fares) (teller after : Teller) (entries : List Entry) (tap entry : Entry)
+    (why : Reason) (line : List ℕ) : Type 0 where
   pub token : entry.token ≡ teller.token
   pub is_tap : tap_of fares tap ≡ tap_of fares entry
   pub is_why : why ≡ reason_after fares teller.token (own teller.token entries) tap
@@ -34,35 +36,45 @@ pub record Steps (fares : Fares) (teller after : Teller) (entries : List Entry) 
   pub counted : after.number ≡ teller.number + 1
   pub shown : IsLedgerLine fares after.token after.number entry why line
 
-module _ (fares : Fares) (teller after : Teller) (entries : List Entry) (tap entry : Entry) (why : Reason) (line : List ℕ)
+module _ (fares : Fares) (teller after : Teller) (entries : List Entry) (tap entry : Entry)
+    (why : Reason) (line : List ℕ)
     (steps : Steps fares teller after entries tap entry why line) where
   why_is : why ≡ reason_after fares teller.token (own teller.token entries) entry
   why_is = steps.is_why
-      ∙ ap (λ (t : TapIn). reason (rules_of fares (bytes_of teller.token)) (map (tap_of fares) (own teller.token entries)) t) steps.is_tap
+      ∙ ap (λ (t : TapIn). reason (rules_of fares (bytes_of teller.token))
+      (map (tap_of fares) (own teller.token entries)) t) steps.is_tap
 
   replies : IsReplied fares entries entry
   unfolding IsReplied taps_of
   replies =
       steps.is_reply ∙ ap replied_by why_is
-      ∙ sym (reply-follows (rules_of fares (bytes_of teller.token)) (map (tap_of fares) (own teller.token entries)) (tap_of fares entry))
-      ∙ ap (λ (t : Token). reply (rules_of fares (bytes_of t)) (map (tap_of fares) (own t entries)) (tap_of fares entry)) (sym steps.token)
+      ∙ sym (reply-follows (rules_of fares (bytes_of teller.token))
+      (map (tap_of fares) (own teller.token entries)) (tap_of fares entry))
+      ∙ ap (λ (t : Token). reply (rules_of fares (bytes_of t)) (map (tap_of fares) (own t entries))
+      (tap_of fares entry)) (sym steps.token)
 
-  shows : StandsForOwn fares teller entries → IsLedgerLineAfter fares entry.token (own entry.token entries) entry line
+  shows : StandsForOwn fares teller entries
+      → IsLedgerLineAfter fares entry.token (own entry.token entries) entry line
   shows stands =
       let is = reason_after fares teller.token (own teller.token entries) entry in
       subst (λ (t : Token). IsLedgerLineAfter fares t (own t entries) entry line) (sym steps.token)
-      (subst (λ (n : ℕ). IsLedgerLine fares teller.token n entry is line) (steps.counted ∙ ap (λ n. n + 1) stands.told.counted)
+      (subst (λ (n : ℕ). IsLedgerLine fares teller.token n entry is line)
+      (steps.counted ∙ ap (λ n. n + 1) stands.told.counted)
       (subst (λ (t : Token). IsLedgerLine fares t after.number entry is line) steps.same_token
-      (subst (λ (w : Reason). IsLedgerLine fares after.token after.number entry w line) why_is steps.shown)))
+      (subst (λ (w : Reason). IsLedgerLine fares after.token after.number entry w line) why_is
+      steps.shown)))
 
   told_more : HasTold fares after (own teller.token entries ++ entry ∷ [])
   told_more =
       let done = own teller.token entries in
       record {
-        stands = subst (λ (ts : List TapIn). Stands (rules_of fares (bytes_of after.token)) after.account ts)
-            (map-append (tap_of fares) done (tap ∷ []) ∙ ap (λ (t : TapIn). map (tap_of fares) done ++ t ∷ []) steps.is_tap
+        stands = subst
+            (λ (ts : List TapIn). Stands (rules_of fares (bytes_of after.token)) after.account ts)
+            (map-append (tap_of fares) done (tap ∷ [])
+            ∙ ap (λ (t : TapIn). map (tap_of fares) done ++ t ∷ []) steps.is_tap
             ∙ sym (map-append (tap_of fares) done (entry ∷ []))) steps.told.stands;
-        counted = steps.told.counted ∙ length-append done (tap ∷ []) ∙ sym (length-append done (entry ∷ []));
+        counted = steps.told.counted ∙ length-append done (tap ∷ [])
+            ∙ sym (length-append done (entry ∷ []));
       }
 
   stands_more : StandsForOwn fares teller entries → StandsForOwn fares after (entries ++ entry ∷ [])
@@ -72,14 +84,18 @@ module _ (fares : Fares) (teller after : Teller) (entries : List Entry) (tap ent
       record {
         fits = subst Fits back stands.fits;
         told = subst (λ (t : Token). HasTold fares after (own t all)) back
-            (subst (λ (es : List Entry). HasTold fares after es) (sym (own-more teller.token entries entry steps.token)) told_more);
-        up_to = subst (λ (t : Token). All (λ (e : Entry). token_number e.token ≤ token_number t) all) back
-            (All-push (λ (e : Entry). token_number e.token ≤ token_number teller.token) entries entry stands.up_to
+            (subst (λ (es : List Entry). HasTold fares after es)
+            (sym (own-more teller.token entries entry steps.token)) told_more);
+        up_to = subst
+            (λ (t : Token). All (λ (e : Entry). token_number e.token ≤ token_number t) all) back
+            (All-push (λ (e : Entry). token_number e.token ≤ token_number teller.token) entries
+            entry stands.up_to
             (le_of_eq (ap (λ (t : Token). token_number t) steps.token)));
       }
 
   -- the next tap of a teller's token
-  pub goes_on : StandsForOwn fares teller entries → GoesOn fares teller entries entry.validator entry.moment line after
+  pub goes_on : StandsForOwn fares teller entries
+      → GoesOn fares teller entries entry.validator entry.moment line after
   goes_on stands = record {
     entry = entry;
     token = steps.token;
@@ -92,17 +108,20 @@ module _ (fares : Fares) (teller after : Teller) (entries : List Entry) (tap ent
   }
 
 -- a teller that begins above all entries
-pub begins : (fares : Fares) (teller : Teller) (entries : List Entry) (limit : ℕ) → Fits teller.token → HasTold fares teller []
+pub begins : (fares : Fares) (teller : Teller) (entries : List Entry) (limit : ℕ)
+    → Fits teller.token → HasTold fares teller []
     → All (λ entry. token_number entry.token ≤ limit) entries → limit < token_number teller.token
     → StandsForOwn fares teller entries
 begins fares teller entries limit fits told up_to above = record {
   fits = fits;
-  told = subst (λ (es : List Entry). HasTold fares teller es) (sym (own-above teller.token entries limit up_to above)) told;
+  told = subst (λ (es : List Entry). HasTold fares teller es)
+      (sym (own-above teller.token entries limit up_to above)) told;
   up_to = λ k d within. let before = up_to k d within in omega arith;
 }
 
 -- a teller that begins before all entries
-pub begins_first : (fares : Fares) (teller : Teller) (entries : List Entry) → Fits teller.token → HasTold fares teller []
+pub begins_first : (fares : Fares) (teller : Teller) (entries : List Entry) → Fits teller.token
+    → HasTold fares teller []
     → entries ≡ [] → StandsForOwn fares teller entries
 unfolding own
 begins_first fares teller entries fits told empty =

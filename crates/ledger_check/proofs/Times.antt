@@ -53,7 +53,8 @@ pub times_permutation : (tap : TapFields) (taps others : List TapFields) → IsP
 times_permutation tap taps others moved = sum_by-IsPermutation (one tap) taps others moved
 
 pub permutation_of_times : (taps others : List TapFields)
-    → ((tap : TapFields) → copies_among tap taps ≡ copies_among tap others) → IsPermutation taps others
+    → ((tap : TapFields) → copies_among tap taps ≡ copies_among tap others)
+    → IsPermutation taps others
 permutation_of_times [] [] same = IsPermutation-refl []
 permutation_of_times [] (other ∷ others) same =
     absurd (let none = same other in let whole = sum_by-cons (one other) other others in omega
@@ -61,7 +62,8 @@ permutation_of_times [] (other ∷ others) same =
 permutation_of_times (tap ∷ taps) others same =
     let whole = sum_by-cons (one tap) tap taps in
     let there = find tap others (let e = same tap in omega (arith, e, whole, one_self tap)) in
-    let rest : (t : TapFields) → copies_among t taps ≡ copies_among t (there.front ++ there.back) = λ t.
+    let rest : (t : TapFields) → copies_among t taps ≡ copies_among t (there.front ++ there.back) =
+    λ t.
     let all : copies_among t (tap ∷ taps) ≡ copies_among t (there.front ++ tap ∷ there.back) =
     same t ∙ ap (copies_among t) there.is in
     let left = sum_by-cons (one t) tap taps in

@@ -1,46 +1,56 @@
 -- Tokens in their order, and the entries of one of them.
-use Rattle.std.proofs.Common.{◌≡◌, ◌≢◌, ℕ, ◌+◌, ◌*◌, ◌^◌, ◌<◌, ◌≤◌, Bool, true, false, cond, List, [], ◌∷◌, ◌++◌, length, get_or, filter, map, All, Less, Equal, Greater, refl, sym, ap, subst, ◌∙◌, arith, zero, suc, length-append, ⊎_elim}
+use Rattle.std.proofs.Common.{◌≡◌, ℕ, ◌+◌, ◌<◌, ◌≤◌, Bool, true, false, cond, List, [], ◌∷◌, ◌++◌}
+use Rattle.std.proofs.Common.{length, filter, All, Less, Greater, refl, ap, ◌∙◌, arith, ⊎_elim}
 use Rattle.std.proofs.lemmas.Bool.{cases_Bool}
 use Rattle.std.proofs.lemmas.Bool.Decides.{nat_tests}
-use Rattle.std.proofs.lemmas.List.Elements.{filter-append}
-use Rattle.shard_book.specs.Entry.{is_of, own, taps_of}
+use Rattle.std.proofs.lemmas.List.Elements.{filter-append, All-tail}
+use Rattle.shard_book.specs.Entry.{is_of, own}
 use Rattle.tap_views.specs.Token.{Fits, token_cmp, token_eq}
 use Rattle.shard_book.specs.declared.entry.Entry.{Entry}
 use Rattle.tap_views.specs.declared.token.Token.{Token}
 use Rattle.tap_views.proofs.TokenLemmas.{same_token, token_eq-refl}
 use Rattle.ledger_check.specs.Ledger.{token_number}
 
-pub less_number : (a b : Token) → Fits a → Fits b → token_cmp a b ≡ Less → token_number a < token_number b
+-- of two tokens the lesser has the lesser number
+pub less_number : (a b : Token) → Fits a → Fits b → token_cmp a b ≡ Less
+    → token_number a < token_number b
 less_number a b fits_a fits_b less = grind (arith, nat_tests)
 
-pub greater_number : (a b : Token) → Fits a → Fits b → token_cmp a b ≡ Greater → token_number b < token_number a
+-- of two tokens the greater has the greater number
+pub greater_number : (a b : Token) → Fits a → Fits b → token_cmp a b ≡ Greater
+    → token_number b < token_number a
 greater_number a b fits_a fits_b greater = grind (arith, nat_tests)
 
 pub not_of : (a b : Token) → token_number a < token_number b → token_eq a b ≡ false
 not_of a b less =
     ⊎_elim
-    (λ (same : token_eq a b ≡ true). let is : a ≡ b = same_token a b same in let n : token_number a ≡ token_number b = ap (λ (t : Token). token_number t) is in absurd (omega arith))
+    (λ (same : token_eq a b ≡ true). let is : a ≡ b = same_token a b same in
+    let n : token_number a ≡ token_number b = ap (λ (t : Token). token_number t) is in
+    absurd (omega arith))
     (λ (apart : token_eq a b ≡ false). apart)
     (cases_Bool (token_eq a b))
 
-tail-all : {X : Type 0} (P : X → Type 0) (x : X) (xs : List X) → All P (x ∷ xs) → All P xs
-tail-all P x xs all = λ k d within. all (suc k) d (omega arith)
-
 -- a token that is above all entries' has none of them
-pub own-above : (token : Token) (entries : List Entry) (limit : ℕ) → All (λ entry. token_number entry.token ≤ limit) entries → limit < token_number token → own token entries ≡ []
+pub own-above : (token : Token) (entries : List Entry) (limit : ℕ)
+    → All (λ entry. token_number entry.token ≤ limit) entries → limit < token_number token
+    → own token entries ≡ []
 unfolding own
 own-above token [] limit up_to above = refl
 own-above token (e ∷ entries) limit up_to above =
     let first : token_number e.token ≤ limit = up_to 0 e (omega arith) in
-    ap (λ (test : Bool). cond test (e ∷ filter (is_of token) entries) (filter (is_of token) entries)) (not_of e.token token (omega arith))
-    ∙ own-above token entries limit (tail-all (λ (x : Entry). token_number x.token ≤ limit) e entries up_to) above
+    ap (λ (test : Bool). cond test (e ∷ filter (is_of token) entries)
+    (filter (is_of token) entries)) (not_of e.token token (omega arith))
+    ∙ own-above token entries limit
+    (All-tail (λ (x : Entry). token_number x.token ≤ limit) e entries up_to) above
 
 -- a token's entries with one more of its own
-pub own-more : (token : Token) (entries : List Entry) (entry : Entry) → entry.token ≡ token → own token (entries ++ entry ∷ []) ≡ own token entries ++ entry ∷ []
+pub own-more : (token : Token) (entries : List Entry) (entry : Entry) → entry.token ≡ token
+    → own token (entries ++ entry ∷ []) ≡ own token entries ++ entry ∷ []
 unfolding own
 own-more token entries entry is =
     filter-append (is_of token) entries (entry ∷ [])
-    ∙ ap (λ (test : Bool). filter (is_of token) entries ++ cond test (entry ∷ []) []) (ap (λ (t : Token). token_eq t token) is ∙ token_eq-refl token)
+    ∙ ap (λ (test : Bool). filter (is_of token) entries ++ cond test (entry ∷ []) [])
+    (ap (λ (t : Token). token_eq t token) is ∙ token_eq-refl token)
 
 -- no more entries of a token than entries
 pub own-few : (token : Token) (entries : List Entry) → length (own token entries) ≤ length entries
@@ -53,7 +63,9 @@ own-few token (e ∷ entries) =
     (cases_Bool (is_of token e))
 
 -- a token that has an entry is not above all
-pub own-some : (token : Token) (entries : List Entry) (limit : ℕ) → 0 < length (own token entries) → All (λ entry. token_number entry.token ≤ limit) entries → limit < token_number token → ⊥
+pub own-some : (token : Token) (entries : List Entry) (limit : ℕ) → 0 < length (own token entries)
+    → All (λ entry. token_number entry.token ≤ limit) entries → limit < token_number token → ⊥
 own-some token entries limit some up_to above =
-    let none : length (own token entries) ≡ 0 = ap (λ (es : List Entry). length es) (own-above token entries limit up_to above) in
+    let none : length (own token entries) ≡ 0 =
+    ap (λ (es : List Entry). length es) (own-above token entries limit up_to above) in
     omega arith

@@ -1,11 +1,13 @@
 -- What follows from a true verdict.
-use Rattle.std.proofs.Common.{◌≡◌, ℕ, ◌+◌, Bool, true, false, List, [], ◌∷◌, ◌++◌, length, refl, sym, ap, subst, ◌∙◌, arith, ⊎_elim, IsTrue, ◌↔◌, string_bytes, ◌⊎◌}
+use Rattle.std.proofs.Common.{◌≡◌, ℕ, ◌+◌, Bool, true, false, List, [], ◌∷◌, ◌++◌, length, refl}
+use Rattle.std.proofs.Common.{sym, ap, subst, ◌∙◌, arith, ⊎_elim, IsTrue, ◌↔◌, string_bytes, ◌⊎◌}
 use Rattle.fare_table.specs.Fares.{Fares}
 use Rattle.shard_book.specs.declared.entry.Entry.{Entry}
 use Rattle.fare_texts.specs.LedgerLines.{head_text}
 use Rattle.ledger_check.specs.Ledger.{AreNext, IsLedger}
 use Rattle.ledger_check.specs.Lines.{lines_of}
-use Rattle.ledger_check.specs.Verdicts.{IsFirstWrong, IsHeadless, IsTrueOf, IsVerdict, IsWholeLedger, VerdictsDecide, is_legal}
+use Rattle.ledger_check.specs.Verdicts.{IsFirstWrong, IsHeadless, IsTrueOf, IsVerdict}
+use Rattle.ledger_check.specs.Verdicts.{IsWholeLedger, VerdictsDecide, is_legal}
 use Rattle.ledger_check.specs.declared.checker.Verdict.{Verdict}
 use Rattle.ledger_check.specs.declared.checker.Verdict.TheVariants.{Legal, Wants, NoLine}
 use Rattle.ledger_check.proofs.EntryLists.{next-front}
@@ -14,19 +16,25 @@ tail_same : (a b : List ℕ) (xs ys : List (List ℕ)) → a ∷ xs ≡ b ∷ ys
 tail_same a b xs ys is = cc
 
 -- a text whose first wrong line is known is no ledger
-wrong_refutes : (fares : Fares) (text : List ℕ) (number : ℕ) → IsFirstWrong fares (lines_of text) number → IsLedger fares text → ⊥
+wrong_refutes : (fares : Fares) (text : List ℕ) (number : ℕ)
+    → IsFirstWrong fares (lines_of text) number → IsLedger fares text → ⊥
 wrong_refutes fares text number first ledger =
     let others = ledger.1 in
-    let same : others.lines ≡ first.before ++ first.line ∷ first.after = tail_same _ _ _ _ (sym others.split ∙ first.split) in
-    let front = next-front fares ledger.0 first.before first.line first.after (subst (λ (ls : List (List ℕ)). AreNext fares [] ledger.0 ls) same others.are) in
+    let same : others.lines ≡ first.before ++ first.line ∷ first.after =
+    tail_same _ _ _ _ (sym others.split ∙ first.split) in
+    let front = next-front fares ledger.0 first.before first.line first.after
+    (subst (λ (ls : List (List ℕ)). AreNext fares [] ledger.0 ls) same others.are) in
     first.wrong front.0 front.1
 
-headless_refutes : (fares : Fares) (text : List ℕ) → IsHeadless (lines_of text) → IsLedger fares text → ⊥
+headless_refutes : (fares : Fares) (text : List ℕ) → IsHeadless (lines_of text)
+    → IsLedger fares text → ⊥
 headless_refutes fares text headless ledger = headless ledger.1.lines ledger.1.split
 
 pub decide : VerdictsDecide
-decide fares text (Legal number) is = (λ _. (is.entries, record { lines = is.others; split = is.split; are = is.are }), λ _. refl)
-decide fares text (Wants number wanted) is = (λ h. absurd (false_true h), λ ledger. absurd (wrong_refutes fares text number is.first ledger))
+decide fares text (Legal number) is =
+    (λ _. (is.entries, record { lines = is.others; split = is.split; are = is.are }), λ _. refl)
+decide fares text (Wants number wanted) is =
+    (λ h. absurd (false_true h), λ ledger. absurd (wrong_refutes fares text number is.first ledger))
   where
     false_true : false ≡ true → ⊥
     false_true h = cc
@@ -34,8 +42,10 @@ decide fares text (NoLine number) is = (
   λ h. absurd (false_true h),
   λ ledger.
       absurd (⊎_elim
-      (λ (head : (number ≡ 1) × IsHeadless (lines_of text)). headless_refutes fares text head.1 ledger)
-      (λ (first : IsFirstWrong fares (lines_of text) number). wrong_refutes fares text number first ledger)
+      (λ (head : (number ≡ 1) × IsHeadless (lines_of text)). headless_refutes fares text head.1
+      ledger)
+      (λ (first : IsFirstWrong fares (lines_of text) number). wrong_refutes fares text number first
+      ledger)
       is),
 )
   where

@@ -1,12 +1,14 @@
 -- A walk's teller, and the entries of the last token.
-use Rattle.std.proofs.Common.{◌≡◌, ℕ, ◌+◌, ◌^◌, ◌<◌, ◌≤◌, Bool, true, false, cond, List, [], ◌∷◌, ◌++◌, length, filter, All, Option, None, Some, refl, sym, ap, subst, ◌∙◌, arith, zero, suc, length-append}
+use Rattle.std.proofs.Common.{◌≡◌, ◌+◌, ◌<◌, Bool, true, false, cond, List, [], ◌∷◌, ◌++◌, filter}
+use Rattle.std.proofs.Common.{All, Some, refl, sym, ap, subst, ◌∙◌, arith, length-append}
 use Rattle.std.specs.Prelude.{nat_lt}
 use Rattle.std.proofs.lemmas.Bool.{lt-ltb}
 use Rattle.std.proofs.lemmas.Bool.Decides.{nat_tests}
-use Rattle.std.proofs.lemmas.List.Elements.{All-push}
+use Rattle.std.proofs.lemmas.List.Elements.{All-push, All-tail}
 use Rattle.fare_table.specs.Fares.{Fares}
 use Rattle.shard_book.specs.Entry.{is_of, own}
 use Rattle.shard_book.specs.declared.entry.Entry.{Entry}
+use Rattle.shard_book.proofs.OwnEntries.{own_all}
 use Rattle.tap_views.proofs.TokenLemmas.{same_token}
 use Rattle.tap_views.specs.Token.{Fits, token_eq}
 use Rattle.tap_views.specs.declared.token.Token.{Token}
@@ -15,22 +17,21 @@ use Rattle.fare_texts.specs.declared.teller.Teller.{Teller}
 use Rattle.ledger_check.specs.Ledger.{token_number}
 use Rattle.ledger_check.specs.Recounts.{falls_after}
 use Rattle.ledger_check.specs.RecountStates.{HasRunTeller, StandsForRun}
-use Rattle.ledger_check.proofs.RunLemmas.{falls_is, own-all, own-of}
+use Rattle.ledger_check.proofs.RunLemmas.{falls_is, own-of}
 
 pub run_none : (token : Token) (run : List Entry) → run ≡ [] → own token run ≡ []
 unfolding own
 run_none token run none = ap (own token) none
 
-tail-all : {X : Type 0} (P : X → Type 0) (x : X) (xs : List X) → All P (x ∷ xs) → All P xs
-tail-all P x xs all = λ k d within. all (suc k) d (omega arith)
-
 -- entries of another token
-pub own-apart : (token other : Token) (run : List Entry) → All (λ entry. entry.token ≡ other) run → token_eq other token ≡ false → own token run ≡ []
+pub own-apart : (token other : Token) (run : List Entry) → All (λ entry. entry.token ≡ other) run
+    → token_eq other token ≡ false → own token run ≡ []
 unfolding own
 own-apart token other [] all apart = refl
 own-apart token other (e ∷ run) all apart =
-    ap (λ (test : Bool). cond test (e ∷ filter (is_of token) run) (filter (is_of token) run)) (ap (λ (t : Token). token_eq t token) (all 0 e (omega arith)) ∙ apart)
-    ∙ own-apart token other run (tail-all (λ (x : Entry). x.token ≡ other) e run all) apart
+    ap (λ (test : Bool). cond test (e ∷ filter (is_of token) run) (filter (is_of token) run))
+    (ap (λ (t : Token). token_eq t token) (all 0 e (omega arith)) ∙ apart)
+    ∙ own-apart token other run (All-tail (λ (x : Entry). x.token ≡ other) e run all) apart
 
 apart_of : (a b : Token) → (token_number a ≡ token_number b → ⊥) → token_eq a b ≡ false
 apart_of a b other = by_test (token_eq a b) refl
@@ -40,37 +41,52 @@ apart_of a b other = by_test (token_eq a b) refl
     by_test false apart = apart
 
 -- the token is another one
-pub run_less : (fares : Fares) (teller : Teller) (run : List Entry) (token : Token) → StandsForRun fares teller run → token_number teller.token < token_number token
+pub run_less : (fares : Fares) (teller : Teller) (run : List Entry) (token : Token)
+    → StandsForRun fares teller run → token_number teller.token < token_number token
     → (own token run ≡ []) × (falls_after run token ≡ false)
 run_less fares teller run token stands less = (
-  own-apart token teller.token run stands.of_token (apart_of teller.token token (λ is. omega (arith, is, less))),
-  falls_is run teller.token token stands.of_token stands.some ∙ (let e : nat_lt (token_number token) (token_number teller.token) ≡ false = grind (arith, nat_tests) in e),
+  own-apart token teller.token run stands.of_token
+      (apart_of teller.token token (λ is. omega (arith, is, less))),
+  falls_is run teller.token token stands.of_token stands.some
+      ∙ (let e : nat_lt (token_number token) (token_number teller.token) ≡ false =
+      grind (arith, nat_tests) in e),
 )
 
-pub run_greater : (fares : Fares) (teller : Teller) (run : List Entry) (token : Token) → StandsForRun fares teller run → token_number token < token_number teller.token
+pub run_greater : (fares : Fares) (teller : Teller) (run : List Entry) (token : Token)
+    → StandsForRun fares teller run → token_number token < token_number teller.token
     → (own token run ≡ []) × (falls_after run token ≡ true)
 run_greater fares teller run token stands less = (
-  own-apart token teller.token run stands.of_token (apart_of teller.token token (λ is. omega (arith, is, less))),
-  falls_is run teller.token token stands.of_token stands.some ∙ lt-ltb (token_number token) (token_number teller.token) less,
+  own-apart token teller.token run stands.of_token
+      (apart_of teller.token token (λ is. omega (arith, is, less))),
+  falls_is run teller.token token stands.of_token stands.some
+      ∙ lt-ltb (token_number token) (token_number teller.token) less,
 )
 
-pub run_equal : (fares : Fares) (teller : Teller) (run : List Entry) (token : Token) → StandsForRun fares teller run → teller.token ≡ token
+pub run_equal : (fares : Fares) (teller : Teller) (run : List Entry) (token : Token)
+    → StandsForRun fares teller run → teller.token ≡ token
     → (own token run ≡ run) × (falls_after run token ≡ false)
 run_equal fares teller run token stands same =
-    let number : token_number teller.token ≡ token_number token = ap (λ (t : Token). token_number t) same in (
-      own-all token run (subst (λ (t : Token). All (λ (e : Entry). e.token ≡ t) run) same stands.of_token),
-      falls_is run teller.token token stands.of_token stands.some ∙ (let e : nat_lt (token_number token) (token_number teller.token) ≡ false = grind (arith, nat_tests) in e),
+    let number : token_number teller.token ≡ token_number token =
+    ap (λ (t : Token). token_number t) same in (
+      own_all token run
+          (subst (λ (t : Token). All (λ (e : Entry). e.token ≡ t) run) same stands.of_token),
+      falls_is run teller.token token stands.of_token stands.some
+          ∙ (let e : nat_lt (token_number token) (token_number teller.token) ≡ false =
+          grind (arith, nat_tests) in e),
     )
 
 -- the teller that has told one entry more stands for the run with it
-pub stands_more : (fares : Fares) (teller : Teller) (run : List Entry) (token : Token) (entry : Entry) → Fits token → teller.token ≡ token → entry.token ≡ token
-    → HasTold fares teller (own token run ++ entry ∷ []) → HasRunTeller fares (Some teller) (own token run ++ entry ∷ [])
+pub stands_more : (fares : Fares) (teller : Teller) (run : List Entry) (token : Token)
+    (entry : Entry) → Fits token → teller.token ≡ token → entry.token ≡ token
+    → HasTold fares teller (own token run ++ entry ∷ [])
+    → HasRunTeller fares (Some teller) (own token run ++ entry ∷ [])
 stands_more fares teller run token entry fits same of told =
     let size = length-append (own token run) (entry ∷ []) in
     record {
       fits = subst Fits (sym same) fits;
       told = told;
-      of_token = subst (λ (t : Token). All (λ (e : Entry). e.token ≡ t) (own token run ++ entry ∷ [])) (sym same)
+      of_token = subst
+          (λ (t : Token). All (λ (e : Entry). e.token ≡ t) (own token run ++ entry ∷ [])) (sym same)
           (All-push (λ (e : Entry). e.token ≡ token) (own token run) entry (own-of token run) of);
       some = omega (arith, size);
     }

@@ -42,7 +42,6 @@ fn post(alloc: Global, book: &mut ShardBook, tap: TapFields) -> Result<Reply, Fa
     Ok(book.post(&clock, &tap)?)
 }
 
-/// A book with these taps.
 fn book_of<R: RandomSource>(alloc: Global, rt: &R, taps: &[TapFields]) -> Result<ShardBook, Fail> {
     let mut book = empty_book(alloc, rt)?;
     for tap in taps {
@@ -51,7 +50,7 @@ fn book_of<R: RandomSource>(alloc: Global, rt: &R, taps: &[TapFields]) -> Result
     Ok(book)
 }
 
-/// A ride and a transfer of one token, the transfer at so many cents.
+/// A ride and a transfer of one token. The transfer has these cents.
 fn two_entries(cents: u32) -> [Entry; 2] {
     let ride = Entry {
         token: token(0xa1),
@@ -131,7 +130,7 @@ fn sharing_books<R: RandomSource>(alloc: Global, rt: &R) -> Result<[ShardBook; 2
     Ok([one, other])
 }
 
-/// A token that stands in two books is told once.
+/// A token that stands in two books is summed once.
 #[test]
 fn sums_of_a_shared_token(rt: HostRuntime) -> Result<(), Fail> {
     let alloc = rt.alloc();

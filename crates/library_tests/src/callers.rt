@@ -41,7 +41,6 @@ fn run<R: Threads + Wait + Sync, G: Gate + Sync>(
     Ok(outcome)
 }
 
-/// The outcome of a service of so many shards.
 fn posted<R: Threads + Wait + RandomSource + Sync>(
     rt: &R,
     alloc: Global,

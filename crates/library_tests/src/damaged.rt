@@ -14,8 +14,8 @@ fn two_taps(alloc: Global) -> Result<Vec<u8>, Fail> {
     )?)
 }
 
-/// How a file ends whose first batch has two taps and whose second has one, of which so many bytes
-/// are there.
+/// How a file ends whose first batch has two taps and whose second has one, if it is cut to `bytes`
+/// bytes.
 fn end_of_a_cut_file(bytes: usize) -> UploadEnd {
     let have = bytes as u64;
     let (taps, offset, fault) = match bytes {

@@ -52,7 +52,7 @@ fn a_drawer_held_back_is_missing(rt: HostRuntime) -> Result<(), Fail> {
     Ok(())
 }
 
-/// Numbers that nobody drew are not told as drawn.
+/// Numbers that nobody drew are not reported as drawn.
 #[test]
 fn numbers_left_over_are_not_missing(rt: HostRuntime) -> Result<(), Fail> {
     let (draw, mut one) = Draw::new(rt.alloc(), 5)?;

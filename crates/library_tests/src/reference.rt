@@ -28,7 +28,6 @@ pub(crate) struct ReferenceAccount {
 }
 
 impl ReferenceAccount {
-    /// An account without taps.
     pub(crate) fn new(alloc: Global) -> Self {
         ReferenceAccount {
             alloc,
@@ -62,7 +61,6 @@ impl ReferenceAccount {
         Ok(Reply { answer, cents })
     }
 
-    /// The last window.
     pub(crate) fn window(&self) -> Result<Option<WindowView>, AllocError> {
         let rides = self.rides()?;
         if rides.is_empty() {

@@ -170,7 +170,7 @@ fn both_worked<'a, R: Threads + Wait + RandomSource + Sync>(
 /// How often shares are held back: each time the schedule is another.
 const TIMES: u32 = 100;
 
-/// Of two shares that posted so many taps each, only so many are gathered: one or none.
+/// Two shares posted `taps` taps each, and `shares` of them are gathered: one or none.
 fn fault_with<R: Threads + Wait + RandomSource + Sync + Abort>(
     rt: &R,
     alloc: Global,
@@ -188,7 +188,7 @@ fn fault_with<R: Threads + Wait + RandomSource + Sync + Abort>(
     Ok(service.gather(alloc, Vec::new(alloc)).err())
 }
 
-/// Of the two visits to the only shard only those of the gathered shares are told.
+/// Of the two visits to the only shard only those of the gathered shares are reported.
 #[test]
 fn a_share_held_back_is_missing(rt: HostRuntime) -> Result<(), Fail> {
     let alloc = rt.alloc();
@@ -218,7 +218,7 @@ fn pair(service: &Service, alloc: Global, one: Share, two: Share) -> Result<Vec<
     Ok(shares)
 }
 
-/// How many workers and taps there are where both shares are gathered.
+/// How many workers and taps there are if both shares are gathered.
 fn gathered_of_both<R: Threads + Wait + RandomSource + Sync>(
     rt: &R,
     alloc: Global,
@@ -240,7 +240,7 @@ fn both_shares_are_gathered(rt: HostRuntime) -> Result<(), Fail> {
     Ok(())
 }
 
-/// Of the two uploads without taps that were drawn only those of the gathered shares are told.
+/// Of the two uploads without taps that were drawn only those of the gathered shares are reported.
 #[test]
 fn an_upload_held_back_is_missing(rt: HostRuntime) -> Result<(), Fail> {
     let alloc = rt.alloc();
@@ -253,7 +253,7 @@ fn an_upload_held_back_is_missing(rt: HostRuntime) -> Result<(), Fail> {
     Ok(())
 }
 
-/// The outcome where nobody works.
+/// The outcome if nobody works.
 fn unused<R: RandomSource>(rt: &R, alloc: Global, uploads: &[Vec<u8>]) -> Result<Outcome, Fail> {
     let (service, share) = opened(rt, alloc, uploads, 8)?;
     Ok(service.gather(alloc, vec![in alloc; share]?)?)

@@ -53,7 +53,6 @@ pub(crate) fn opened<'a, R: RandomSource>(
     Ok(Service::open(rt, alloc, table, shards, uploads)?)
 }
 
-/// So many workers post the uploads to so many shards.
 pub(crate) fn run<R: Threads + Wait + RandomSource + Sync, G: Gate + Sync>(
     rt: &R,
     alloc: Global,
@@ -66,7 +65,7 @@ pub(crate) fn run<R: Threads + Wait + RandomSource + Sync, G: Gate + Sync>(
     Ok(service.run(rt, alloc, share, workers, gate)?)
 }
 
-/// The end of an upload, or nothing where there is no such upload.
+/// The end of an upload, or nothing if there is no such upload.
 pub(crate) fn end_of(outcome: &Outcome, upload: u32) -> Option<UploadEnd> {
     if upload < outcome.uploads() {
         Some(outcome.upload(upload))
@@ -75,7 +74,6 @@ pub(crate) fn end_of(outcome: &Outcome, upload: u32) -> Option<UploadEnd> {
     }
 }
 
-/// The text of the outcome's report.
 pub(crate) fn report_text<R: Threads + Sync>(
     rt: &R,
     alloc: Global,
@@ -86,7 +84,7 @@ pub(crate) fn report_text<R: Threads + Sync>(
     Ok(text)
 }
 
-/// Each upload was posted whole, so many taps of it.
+/// Each upload was posted whole, and has `taps` taps.
 pub(crate) fn are_posted<R: Abort>(rt: &R, outcome: &Outcome, taps: u64) {
     for upload in 0..outcome.uploads() {
         assert_eq!(rt;

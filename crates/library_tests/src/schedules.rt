@@ -11,7 +11,7 @@ use std::test::Fail;
 use std::thread::Threads;
 use tap_views::encode;
 
-/// The example report comes of every number of workers over so many shards.
+/// The example report comes of every number of workers over `shards` shards.
 fn report_by_all_workers<R: Threads + Wait + RandomSource + Sync + Abort>(
     rt: &R,
     alloc: Global,
@@ -35,8 +35,8 @@ fn report_by_all_workers<R: Threads + Wait + RandomSource + Sync + Abort>(
     Ok(())
 }
 
-/// Would catch a worker that stops while uploads are left, or that gives up where others hold the
-/// turn it wants: the contracts let a gathering tell of uploads that nobody drew.
+/// Would catch a worker that stops while uploads are left, or that gives up if others hold the turn
+/// it wants: the contracts let a gathering report uploads that nobody drew.
 #[test]
 fn the_report_is_the_same_for_every_number_of_workers(rt: HostRuntime) -> Result<(), Fail> {
     let alloc = rt.alloc();
@@ -56,8 +56,8 @@ fn ten_rides(alloc: Global, token: u8) -> Result<Vec<u8>, Fail> {
     Ok(file)
 }
 
-/// Would catch an upload that two workers draw, and batches that are lost where both workers want
-/// one shard.
+/// Would catch an upload that two workers draw, and batches that are lost if both workers want one
+/// shard.
 #[test]
 fn twenty_uploads_by_two_workers(rt: HostRuntime) -> Result<(), Fail> {
     let alloc = rt.alloc();

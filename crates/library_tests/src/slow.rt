@@ -17,7 +17,7 @@ pub struct SlowFile<'a> {
 }
 
 impl<'a> SlowFile<'a> {
-    /// A file of these bytes.
+    /// A file of these bytes, of which none is read yet.
     pub fn of(bytes: &'a [u8], fails_at: usize) -> SlowFile<'a> {
         SlowFile {
             bytes,

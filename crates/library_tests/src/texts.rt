@@ -7,7 +7,6 @@ use std::process::Abort;
 use std::test::Fail;
 use tap_views::{EncodeFault, LayoutFault};
 
-/// The fault has this text.
 fn is_told<R: Abort, T: Display>(rt: &R, alloc: Global, fault: &T, text: &str) -> Result<(), Fail> {
     let told = format!(in alloc; "{fault}")?;
     assert_eq!(rt; told.as_str(), text);

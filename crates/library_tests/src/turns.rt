@@ -34,8 +34,7 @@ fn shared_from<R: RandomSource>(
     Ok((shared, pass, clock))
 }
 
-/// Visits with one run of these taps: the visit's number and end, or nothing where the book is
-/// full.
+/// Visits with one run of these taps: the visit's number and end, or nothing if the book is full.
 fn visit<R: Wait>(
     rt: &R,
     alloc: Global,
@@ -177,7 +176,7 @@ fn begin(first: &Lines, second: &Lines) -> bool {
 
 const TURNS: u64 = 100;
 
-/// Reads the token again and again. Nothing where a read has no answer, or does not begin with the
+/// Reads the token again and again. Nothing if a read has no answer, or does not begin with the
 /// lines of the one before.
 fn read_often<R: Wait>(rt: &R, alloc: Global, shared: &SharedBook, mut pass: Pass) -> Option<Pass>
     requires belongs { pass.book ≡ shared.now }
@@ -199,7 +198,7 @@ fn read_often<R: Wait>(rt: &R, alloc: Global, shared: &SharedBook, mut pass: Pas
     Some(pass)
 }
 
-/// Visits with one tap of the token again and again. Nothing where a visit has no answer.
+/// Visits with one tap of the token again and again. Nothing if a visit has no answer.
 fn visit_often<R: Wait>(
     rt: &R,
     alloc: Global,
@@ -255,7 +254,7 @@ fn a_reader_beside_a_visitor_sees_the_history_grow(rt: HostRuntime) -> Result<()
     Ok(())
 }
 
-/// What one of several threads does: as many visits of these taps as it is told, or fewer where the
+/// What one of several threads does: as many visits of these taps as it is given, or fewer if the
 /// book gets full.
 #[derive(Drop)]
 struct Job<'a> {

@@ -7,7 +7,8 @@ use Rattle.shard_book.specs.declared.entry.Entry.{Entry}
 use Rattle.tap_views.specs.declared.encoder.TapFields.{TapFields}
 use Rattle.ledger_check.specs.Columns.{read_as}
 use Rattle.ledger_check.specs.Ledger.{IsLedgerOf}
-use Rattle.omny_audit.specs.Findings.{FindingsDecide, FullFindingsDecide, IsFindingOf, IsRightLedger}
+use Rattle.omny_audit.specs.Findings.{FindingsDecide, FullFindingsDecide, IsFindingOf}
+use Rattle.omny_audit.specs.Findings.{IsRightLedger}
 use Rattle.omny_audit.specs.Reports.{HasOwnReport, IsAudit, IsReportLine, IsRightAudit}
 use Rattle.omny_audit.specs.Traced.{AreColumnsTold, HasRightColumns, ReadLine, wrong_class}
 use Rattle.omny_audit.specs.declared.traced.WrongClass.{WrongClass}
@@ -19,7 +20,8 @@ false_true h = cc
 -- of all lines, or up to the first wrong one
 sound_is : FindingsDecide → FullFindingsDecide → (all : Bool) (fares : Fares) (ledger : List ℕ)
     (good : Option (List TapFields)) (found : List ℕ) (sound : Bool)
-    → IsFindingOf all fares ledger good found sound → (sound ≡ true) ↔ IsRightLedger fares ledger good
+    → IsFindingOf all fares ledger good found sound
+    → (sound ≡ true) ↔ IsRightLedger fares ledger good
 sound_is some full true fares ledger good found sound is = full fares ledger good found sound is
 sound_is some full false fares ledger good found sound is = some fares ledger good found sound is
 

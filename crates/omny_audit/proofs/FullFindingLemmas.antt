@@ -1,5 +1,6 @@
 -- What is found of all lines, by its parts.
-use Rattle.std.proofs.Common.{◌≡◌, ℕ, suc, length, Bool, true, false, List, [], ◌∷◌, map, Option, Some, None, if◌then◌else◌, refl, sym, ap, subst, ◌∙◌, arith}
+use Rattle.std.proofs.Common.{◌≡◌, ℕ, suc, length, Bool, true, false, List, [], ◌∷◌, map, Option}
+use Rattle.std.proofs.Common.{Some, None, if◌then◌else◌, refl, sym, ap, subst, ◌∙◌, arith}
 use Rattle.std.specs.Prelude.{◌↔◌, ◌&&◌, nat_eq}
 use Rattle.std.specs.List.Sorted.{IsPermutation}
 use Rattle.std.proofs.lemmas.Bool.{and_parts}
@@ -9,7 +10,8 @@ use Rattle.shard_book.specs.declared.entry.Entry.{Entry}
 use Rattle.ledger_check.specs.FullBalances.{AreLacking}
 use Rattle.tap_views.specs.declared.encoder.TapFields.{TapFields}
 use Rattle.ledger_check.specs.Ledger.{IsLedger}
-use Rattle.ledger_check.specs.Recounts.{IsRecount, RecountsDecide, TakenLine, taps_from, wrong_count}
+use Rattle.ledger_check.specs.Recounts.{IsRecount, RecountsDecide, TakenLine, taps_from}
+use Rattle.ledger_check.specs.Recounts.{wrong_count}
 use Rattle.ledger_check.specs.Struck.{tap_of_entry}
 use Rattle.omny_audit.specs.Findings.{HasGoodTaps, IsDifferencesEnd, IsFullFinding, IsRightLedger}
 use Rattle.omny_audit.specs.Text.{IsDifferencesText, are_none}
@@ -27,41 +29,56 @@ empty_of (tap ∷ taps) is = absurd (not_zero (length taps) is)
     not_zero : (n : ℕ) → nat_eq (suc n) 0 ≡ true → ⊥
     not_zero n is = grind (arith, nat_tests)
 
-pub none_of : (missing surplus : List TapFields) → are_none missing surplus ≡ true → (missing ≡ []) × (surplus ≡ [])
+pub none_of : (missing surplus : List TapFields) → are_none missing surplus ≡ true
+    → (missing ≡ []) × (surplus ≡ [])
 none_of missing surplus is =
     let parts = and_parts (nat_eq (length missing) 0) (nat_eq (length surplus) 0) is in
     (empty_of missing parts.0, empty_of surplus parts.1)
 
 -- taps that lack nothing on either side are the same in some order, and back
 pub record Even (good taps : List TapFields) : Type 0 where
-  pub none : (missing surplus : List TapFields) → AreLacking good taps missing → AreLacking taps good surplus → IsPermutation good taps
+  pub none : (missing surplus : List TapFields) → AreLacking good taps missing
+      → AreLacking taps good surplus → IsPermutation good taps
       → (missing ≡ []) × (surplus ≡ [])
   pub even : AreLacking good taps [] → AreLacking taps good [] → IsPermutation good taps
 
-pub end_right : (good : Option (List TapFields)) (taps : List TapFields) (legal : Bool) (rest : List ℕ) (well : Bool) (entries : List Entry)
-    → ((good : List TapFields) → Even good taps) → taps ≡ map tap_of_entry entries → IsDifferencesEnd good taps legal rest well → well ≡ true
+pub end_right : (good : Option (List TapFields)) (taps : List TapFields) (legal : Bool)
+    (rest : List ℕ) (well : Bool) (entries : List Entry)
+    → ((good : List TapFields) → Even good taps) → taps ≡ map tap_of_entry entries
+    → IsDifferencesEnd good taps legal rest well → well ≡ true
     → HasGoodTaps good entries
 end_right None taps legal rest well entries even is second right = tt
-end_right (Some good) taps legal rest well entries even is (missing, surplus, lacks, lacks_too, shown, all) right =
-    let none = none_of missing surplus (and_parts legal (are_none missing surplus) (sym all ∙ right)).1 in
+end_right (Some good) taps legal rest well entries even is
+    (missing, surplus, lacks, lacks_too, shown, all) right =
+    let none = none_of missing surplus
+    (and_parts legal (are_none missing surplus) (sym all ∙ right)).1 in
     subst (λ (ts : List TapFields). IsPermutation good ts) is
-    ((even good).even (subst (λ (ts : List TapFields). AreLacking good taps ts) none.0 lacks) (subst (λ (ts : List TapFields). AreLacking taps good ts) none.1 lacks_too))
+    ((even good).even (subst (λ (ts : List TapFields). AreLacking good taps ts) none.0 lacks)
+    (subst (λ (ts : List TapFields). AreLacking taps good ts) none.1 lacks_too))
 
-pub end_legal : (good : Option (List TapFields)) (taps : List TapFields) (legal : Bool) (rest : List ℕ) (well : Bool)
+pub end_legal : (good : Option (List TapFields)) (taps : List TapFields) (legal : Bool)
+    (rest : List ℕ) (well : Bool)
     → IsDifferencesEnd good taps legal rest well → well ≡ true → legal ≡ true
 end_legal None taps legal rest well second right = sym second.1 ∙ right
 end_legal (Some good) taps legal rest well (missing, surplus, lacks, lacks_too, shown, all) right =
     (and_parts legal (are_none missing surplus) (sym all ∙ right)).0
 
-pub end_well : (good : Option (List TapFields)) (taps : List TapFields) (legal : Bool) (rest : List ℕ) (well : Bool) (entries : List Entry)
-    → ((good : List TapFields) → Even good taps) → taps ≡ map tap_of_entry entries → IsDifferencesEnd good taps legal rest well → legal ≡ true
+pub end_well : (good : Option (List TapFields)) (taps : List TapFields) (legal : Bool)
+    (rest : List ℕ) (well : Bool) (entries : List Entry)
+    → ((good : List TapFields) → Even good taps) → taps ≡ map tap_of_entry entries
+    → IsDifferencesEnd good taps legal rest well → legal ≡ true
     → HasGoodTaps good entries → well ≡ true
 end_well None taps legal rest well entries even is second legal_is has = second.1 ∙ legal_is
-end_well (Some good) taps legal rest well entries even is (missing, surplus, lacks, lacks_too, shown, all) legal_is has =
-    let none = (even good).none missing surplus lacks lacks_too (subst (λ (ts : List TapFields). IsPermutation good ts) (sym is) has) in
-    all ∙ ap (λ (b : Bool). b && are_none missing surplus) legal_is ∙ ap (λ (m : List TapFields). are_none m surplus) none.0 ∙ ap (λ (s : List TapFields). are_none [] s) none.1
+end_well (Some good) taps legal rest well entries even is
+    (missing, surplus, lacks, lacks_too, shown, all) legal_is has =
+    let none = (even good).none missing surplus lacks lacks_too
+    (subst (λ (ts : List TapFields). IsPermutation good ts) (sym is) has) in
+    all ∙ ap (λ (b : Bool). b && are_none missing surplus) legal_is
+    ∙ ap (λ (m : List TapFields). are_none m surplus) none.0
+    ∙ ap (λ (s : List TapFields). are_none [] s) none.1
 
-pub decides : RecountsDecide → ((good taps : List TapFields) → Even good taps) → (fares : Fares) (text : List ℕ) (good : Option (List TapFields)) (told : List ℕ) (well : Bool)
+pub decides : RecountsDecide → ((good taps : List TapFields) → Even good taps)
+    → (fares : Fares) (text : List ℕ) (good : Option (List TapFields)) (told : List ℕ) (well : Bool)
     → IsFullFinding fares text good told well → (well ≡ true) ↔ IsRightLedger fares text good
 decides recounts even fares text good told well finding =
     let taken = finding.taken in
@@ -69,27 +86,40 @@ decides recounts even fares text good told well finding =
     let all = recounts fares text taken finding.recount in
     let legal = nat_eq (wrong_count taken) 0 in (
       λ right.
-          let ledger = all.right (zero_of (wrong_count taken) (end_legal good taps legal finding.rest well finding.second right)) in
-          (ledger.0, ledger.1, end_right good taps legal finding.rest well ledger.0 (λ g. even g taps) (all.taps ledger.0 ledger.1) finding.second right),
+          let ledger = all.right
+          (zero_of (wrong_count taken)
+          (end_legal good taps legal finding.rest well finding.second right)) in (
+            ledger.0,
+            ledger.1,
+            end_right good taps legal finding.rest well ledger.0 (λ g. even g taps)
+                (all.taps ledger.0 ledger.1) finding.second right,
+          ),
       λ ledger.
-          end_well good taps legal finding.rest well ledger.0 (λ g. even g taps) (all.taps ledger.0 ledger.1) finding.second
+          end_well good taps legal finding.rest well ledger.0 (λ g. even g taps)
+          (all.taps ledger.0 ledger.1) finding.second
           (of_zero (wrong_count taken) (all.all_right (ledger.0, ledger.1))) ledger.2,
     )
 
 -- no line is wrong exactly if the text is a ledger
-pub recount_legal : RecountsDecide → (fares : Fares) (text : List ℕ) (taken : List TakenLine) → IsRecount fares text taken
+pub recount_legal : RecountsDecide → (fares : Fares) (text : List ℕ) (taken : List TakenLine)
+    → IsRecount fares text taken
     → (nat_eq (wrong_count taken) 0 ≡ true) ↔ IsLedger fares text
 recount_legal recounts fares text taken is =
-    let all = recounts fares text taken is in
-    (λ yes. all.right (zero_of (wrong_count taken) yes), λ ledger. of_zero (wrong_count taken) (all.all_right ledger))
+    let all = recounts fares text taken is in (
+      λ yes. all.right (zero_of (wrong_count taken) yes),
+      λ ledger. of_zero (wrong_count taken) (all.all_right ledger),
+    )
 
-pub end_alone : (good taps : List TapFields) (has legal : Bool) (text : List ℕ) → has ≡ false → text ≡ []
+pub end_alone : (good taps : List TapFields) (has legal : Bool) (text : List ℕ) → has ≡ false
+    → text ≡ []
     → IsDifferencesEnd (if has then Some good else None) taps legal text legal
 end_alone good taps false legal text none empty = (empty, refl)
 end_alone good taps true legal text none empty = absurd cc
 
-pub end_beside : (good taps missing surplus : List TapFields) (has legal well : Bool) (text : List ℕ) → has ≡ true → AreLacking good taps missing → AreLacking taps good surplus
+pub end_beside : (good taps missing surplus : List TapFields) (has legal well : Bool)
+    (text : List ℕ) → has ≡ true → AreLacking good taps missing → AreLacking taps good surplus
     → IsDifferencesText missing surplus text → well ≡ (legal && are_none missing surplus)
     → IsDifferencesEnd (if has then Some good else None) taps legal text well
-end_beside good taps missing surplus true legal well text some lacks lacks_too shown is = (missing, surplus, lacks, lacks_too, shown, is)
+end_beside good taps missing surplus true legal well text some lacks lacks_too shown is =
+    (missing, surplus, lacks, lacks_too, shown, is)
 end_beside good taps missing surplus false legal well text some lacks lacks_too shown is = absurd cc

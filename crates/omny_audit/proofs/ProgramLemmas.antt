@@ -18,35 +18,36 @@ use Rattle.omny_audit.specs.declared.fault.Fault.{Fault}
 use Rattle.omny_audit.specs.declared.fault.Fault.TheVariants.{ClassName, File, Ledger, Table, Write, Closed, NoMemory}
 use Rattle.omny_audit.specs.Program.{AreClasses, AreGoodFieldsOfAll, IsRightAuditFault, IsTracedAs, LoadsNamedFiles, compared}
 use Rattle.omny_audit.specs.Source.{OpensOne}
-use Rattle.program_manners.specs.Refusals.{IsOneOf, Refuses, TellsRefusal}
+use Rattle.program_manners.specs.Refusals.{IsOneOf}
 use Rattle.program_manners.proofs.Refusals.{is_one_at}
 use Rattle.omny_audit.specs.inside.Fault.{is_of_loading}
 use Rattle.omny_audit.specs.inside.Source.{IsAllOf}
 use Rattle.program_manners.specs.Loads.{Loaded, Tells, TellsOne}
 use Rattle.program_manners.specs.declared.loading.LoadFault.{LoadFault}
+use Rattle.program_manners.proofs.LoadedFiles.{tells_on}
 
 pub tells_none : (told : Option (List Loaded)) → Tells told told []
 tells_none None = tt
 tells_none (Some before) = sym (append-nil before)
 
-tells_on : (told told' told'' : Option (List Loaded)) (loads more : List Loaded) → Tells told told' loads → Tells told' told'' more → Tells told told'' (loads ++ more)
-tells_on None told' told'' loads more first next = tt
-tells_on (Some before) None told'' loads more first next = absurd first
-tells_on (Some before) (Some now) None loads more first next = absurd next
-tells_on (Some before) (Some now) (Some after) loads more first next = next ∙ ap (λ (xs : List Loaded). xs ++ more) first ∙ append_assoc before loads more
-
 -- one more file that was loaded
-pub loads_push : (names : List Text) (name : Text) (told told' told'' : Option (List Loaded)) (files : List (List ℕ)) (bytes : List ℕ)
-    → LoadsNamedFiles names told told' files → TellsOne told' told'' (Some name) bytes → LoadsNamedFiles (names ++ name ∷ []) told told'' (files ++ bytes ∷ [])
+pub loads_push : (names : List Text) (name : Text) (told told' told'' : Option (List Loaded))
+    (files : List (List ℕ)) (bytes : List ℕ)
+    → LoadsNamedFiles names told told' files → TellsOne told' told'' (Some name) bytes
+    → LoadsNamedFiles (names ++ name ∷ []) told told'' (files ++ bytes ∷ [])
 loads_push names name told told' told'' files bytes all one = record {
   loads = all.loads ++ record { name = Some name; bytes = bytes } ∷ [];
-  named = map-append (λ (load : Loaded). load.name) all.loads _ ∙ ap (λ (xs : List (Option Text)). xs ++ Some name ∷ []) all.named ∙ sym (map-append Some names (name ∷ []));
-  bytes = map-append (λ (load : Loaded). load.bytes) all.loads _ ∙ ap (λ (xs : List (List ℕ)). xs ++ bytes ∷ []) all.bytes;
+  named = map-append (λ (load : Loaded). load.name) all.loads _
+      ∙ ap (λ (xs : List (Option Text)). xs ++ Some name ∷ []) all.named
+      ∙ sym (map-append Some names (name ∷ []));
+  bytes = map-append (λ (load : Loaded). load.bytes) all.loads _
+      ∙ ap (λ (xs : List (List ℕ)). xs ++ bytes ∷ []) all.bytes;
   told_is = tells_on told told' told'' all.loads _ all.told_is one;
 }
 
 -- and the taps of one more
-pub posted_push : (uploads : List (List ℕ)) (good : List TapFields) (upload : List ℕ) (taps : List TapFields) → AreGoodFieldsOfAll uploads good
+pub posted_push : (uploads : List (List ℕ)) (good : List TapFields) (upload : List ℕ)
+    (taps : List TapFields) → AreGoodFieldsOfAll uploads good
     → AreGoodFields upload taps → AreGoodFieldsOfAll (uploads ++ upload ∷ []) (good ++ taps)
 posted_push [] good upload taps all one =
     (taps, [], one, refl, ap (λ (xs : List TapFields). xs ++ taps) all ∙ sym (append-nil taps))
@@ -59,17 +60,20 @@ posted_push (first ∷ uploads) good upload taps all one = (
 )
 
 -- what a reader had is what the source tells
-pub opened : (before after : Option (List Loaded)) (name : Option Text) (left : Option (List ℕ)) (text : List ℕ) → OpensOne before after name left
+pub opened : (before after : Option (List Loaded)) (name : Option Text) (left : Option (List ℕ))
+    (text : List ℕ) → OpensOne before after name left
     → IsAllOf left text → TellsOne before after name text
 opened None after name left text opens all = tt
 opened (Some before) after name None text opens all = absurd opens
-opened (Some before) after name (Some known) text opens all = subst (λ (t : List ℕ). TellsOne (Some before) after name t) all opens
+opened (Some before) after name (Some known) text opens all =
+    subst (λ (t : List ℕ). TellsOne (Some before) after name t) all opens
 
 not_zero : (n : ℕ) → nat_eq (suc n) 0 ≡ false
 not_zero n = grind (arith, nat_tests)
 
 -- taps are compared where uploads are named
-pub compared_is : (names : List (Bor Text)) (good : List TapFields) (has : Bool) → has ≡ not (nat_eq (length names) 0)
+pub compared_is : (names : List (Bor Text)) (good : List TapFields) (has : Bool)
+    → has ≡ not (nat_eq (length names) 0)
     → (if has then Some good else None) ≡ compared (map (λ n. n.now) names) good
 compared_is [] good has is = rw is refl
 compared_is (name ∷ names) good has is =
@@ -78,81 +82,102 @@ compared_is (name ∷ names) good has is =
 
 -- a fault that names one at a place names one of the names
 pub names_at : (names : List (Bor Text)) (k : ℕ) (d : Bor Text) (fault : Fault) → k < length names
-    → IfSome (named_by fault) (λ told. told ≡ (get_or names k d).now) → NamesOneOf (map (λ n. n.now) names) fault
+    → IfSome (named_by fault) (λ told. told ≡ (get_or names k d).now)
+    → NamesOneOf (map (λ n. n.now) names) fault
 names_at names k d fault within is = weaker (named_by fault) is
   where
-    weaker : (o : Option Text) → IfSome o (λ told. told ≡ (get_or names k d).now) → IfSome o (λ name. IsOneOf name (map (λ n. n.now) names))
+    weaker : (o : Option Text) → IfSome o (λ told. told ≡ (get_or names k d).now)
+        → IfSome o (λ name. IsOneOf name (map (λ n. n.now) names))
     weaker None is = tt
     weaker (Some name) is = is_one_at names k d name within is
 
-is_one_left : (name : Text) (names more : List Text) → IsOneOf name names → IsOneOf name (names ++ more)
+is_one_left : (name : Text) (names more : List Text) → IsOneOf name names
+    → IsOneOf name (names ++ more)
 is_one_left name [] more one = absurd one
-is_one_left name (n ∷ names) more one = elim one [ inl is ↦ inl is | inr rest ↦ inr (is_one_left name names more rest) ]
+is_one_left name (n ∷ names) more one =
+    elim one [ inl is ↦ inl is | inr rest ↦ inr (is_one_left name names more rest) ]
 
-is_one_right : (name : Text) (names more : List Text) → IsOneOf name more → IsOneOf name (names ++ more)
+is_one_right : (name : Text) (names more : List Text) → IsOneOf name more
+    → IsOneOf name (names ++ more)
 is_one_right name [] more one = one
 is_one_right name (n ∷ names) more one = inr (is_one_right name names more one)
 
-is_one_last : (name : Text) (names : List Text) (last : Text) → name ≡ last → IsOneOf name (names ++ last ∷ [])
+is_one_last : (name : Text) (names : List Text) (last : Text) → name ≡ last
+    → IsOneOf name (names ++ last ∷ [])
 is_one_last name [] last is = inl is
 is_one_last name (n ∷ names) last is = inr (is_one_last name names last is)
 
--- of the files that are asked for
-pub at_table : (asked : AuditAsked) (fault : Fault) → IfSome (named_by fault) (λ told. told ≡ asked.table) → NamesOneOf (files_of asked) fault
-at_table asked fault is = weaker (named_by fault) is
-  where
-    weaker : (o : Option Text) → IfSome o (λ told. told ≡ asked.table) → IfSome o (λ name. IsOneOf name (files_of asked))
-    weaker None is = tt
-    weaker (Some name) is = inl is
-
-pub at_uploads : (asked : AuditAsked) (fault : Fault) → NamesOneOf asked.uploads fault → NamesOneOf (files_of asked) fault
+pub at_uploads : (asked : AuditAsked) (fault : Fault) → NamesOneOf asked.uploads fault
+    → NamesOneOf (files_of asked) fault
 at_uploads asked fault is = weaker (named_by fault) is
   where
-    weaker : (o : Option Text) → IfSome o (λ name. IsOneOf name asked.uploads) → IfSome o (λ name. IsOneOf name (files_of asked))
+    weaker : (o : Option Text) → IfSome o (λ name. IsOneOf name asked.uploads)
+        → IfSome o (λ name. IsOneOf name (files_of asked))
     weaker None is = tt
-    weaker (Some name) is = inr (is_one_left name (asked.uploads ++ named_file asked.report) _ (is_one_left name asked.uploads (named_file asked.report) is))
+    weaker (Some name) is =
+        inr (is_one_left name (asked.uploads ++ named_file asked.report) _
+        (is_one_left name asked.uploads (named_file asked.report) is))
 
-pub at_report : (asked : AuditAsked) (fault : Fault) → NamesOneOf (named_file asked.report) fault → NamesOneOf (files_of asked) fault
+pub at_report : (asked : AuditAsked) (fault : Fault) → NamesOneOf (named_file asked.report) fault
+    → NamesOneOf (files_of asked) fault
 at_report asked fault is = weaker (named_by fault) is
   where
-    weaker : (o : Option Text) → IfSome o (λ name. IsOneOf name (named_file asked.report)) → IfSome o (λ name. IsOneOf name (files_of asked))
+    weaker : (o : Option Text) → IfSome o (λ name. IsOneOf name (named_file asked.report))
+        → IfSome o (λ name. IsOneOf name (files_of asked))
     weaker None is = tt
-    weaker (Some name) is = inr (is_one_left name (asked.uploads ++ named_file asked.report) _ (is_one_right name asked.uploads (named_file asked.report) is))
+    weaker (Some name) is =
+        inr (is_one_left name (asked.uploads ++ named_file asked.report) _
+        (is_one_right name asked.uploads (named_file asked.report) is))
 
 -- a fault about the one file that is named
-pub names_single : (name : Text) (fault : Fault) → IfSome (named_by fault) (λ told. told ≡ name) → NamesOneOf (name ∷ []) fault
+pub names_single : (name : Text) (fault : Fault) → IfSome (named_by fault) (λ told. told ≡ name)
+    → NamesOneOf (name ∷ []) fault
 names_single name fault is = weaker (named_by fault) is
   where
-    weaker : (o : Option Text) → IfSome o (λ told. told ≡ name) → IfSome o (λ other. IsOneOf other (name ∷ []))
+    weaker : (o : Option Text) → IfSome o (λ told. told ≡ name)
+        → IfSome o (λ other. IsOneOf other (name ∷ []))
     weaker None is = tt
     weaker (Some other) is = inl is
 
-pub at_ledger : (asked : AuditAsked) (fault : Fault) → IfSome (named_by fault) (λ told. told ≡ unwrap_or asked.ledger (codes "standard input")) → NamesOneOf (files_of asked) fault
+pub at_ledger : (asked : AuditAsked) (fault : Fault)
+    → IfSome (named_by fault) (λ told. told ≡ unwrap_or asked.ledger (codes "standard input"))
+    → NamesOneOf (files_of asked) fault
 at_ledger asked fault is = weaker (named_by fault) is
   where
-    weaker : (o : Option Text) → IfSome o (λ told. told ≡ unwrap_or asked.ledger (codes "standard input")) → IfSome o (λ name. IsOneOf name (files_of asked))
+    weaker : (o : Option Text)
+        → IfSome o (λ told. told ≡ unwrap_or asked.ledger (codes "standard input"))
+        → IfSome o (λ name. IsOneOf name (files_of asked))
     weaker None is = tt
     weaker (Some name) is = inr (is_one_last name (asked.uploads ++ named_file asked.report) _ is)
 
 -- a fault that names nothing names no other
-pub names_none : (names : List Text) (fault : Fault) → named_by fault ≡ None → NamesOneOf names fault
+pub names_none : (names : List Text) (fault : Fault) → named_by fault ≡ None
+    → NamesOneOf names fault
 names_none names fault none = rw none tt
 
 -- a fault that is handed on
-pub handed_on : {A : Type 0} (r : Result A Fault) (fault : Fault) (P : Fault → Type 0) → IsErrAnd r (λ e. e ≡ fault) → P fault → IfErr r P
+pub handed_on : {A : Type 0} (r : Result A Fault) (fault : Fault) (P : Fault → Type 0)
+    → IsErrAnd r (λ e. e ≡ fault) → P fault → IfErr r P
 handed_on (Ok x) fault P same is = tt
 handed_on (Err e) fault P same is = subst P (sym same) is
 
 -- the same names, lent twice
-pub loads_same : (names same : List (Bor Text)) (told told' : Option (List Loaded)) (files : List (List ℕ)) → names ≡ same
-    → LoadsNamedFiles (map (λ n. n.now) names) told told' files → LoadsNamedFiles (map (λ n. n.now) same) told told' files
-loads_same names same told told' files is loads = subst (λ (ns : List (Bor Text)). LoadsNamedFiles (map (λ n. n.now) ns) told told' files) is loads
+pub loads_same : (names same : List (Bor Text)) (told told' : Option (List Loaded))
+    (files : List (List ℕ)) → names ≡ same
+    → LoadsNamedFiles (map (λ n. n.now) names) told told' files
+    → LoadsNamedFiles (map (λ n. n.now) same) told told' files
+loads_same names same told told' files is loads =
+    subst (λ (ns : List (Bor Text)). LoadsNamedFiles (map (λ n. n.now) ns) told told' files) is
+    loads
 
-pub names_same : (names same : List (Bor Text)) (fault : Fault) → names ≡ same → NamesOneOf (map (λ n. n.now) names) fault → NamesOneOf (map (λ n. n.now) same) fault
-names_same names same fault is one = subst (λ (ns : List (Bor Text)). NamesOneOf (map (λ n. n.now) ns) fault) is one
+pub names_same : (names same : List (Bor Text)) (fault : Fault) → names ≡ same
+    → NamesOneOf (map (λ n. n.now) names) fault → NamesOneOf (map (λ n. n.now) same) fault
+names_same names same fault is one =
+    subst (λ (ns : List (Bor Text)). NamesOneOf (map (λ n. n.now) ns) fault) is one
 
 -- a fault that comes after all files were loaded
-pub right_later : (table : Text) (told told' : Option (List Loaded)) (refused : Option (Option (List ℕ) × LoadFault)) (fault : Fault)
+pub right_later : (table : Text) (told told' : Option (List Loaded))
+    (refused : Option (Option (List ℕ) × LoadFault)) (fault : Fault)
     → is_of_loading fault ≡ false → IsRightFault table told told' refused fault
 right_later table told told' refused (File file) later = absurd (cc)
 right_later table told told' refused Ledger later = tt
@@ -163,13 +188,16 @@ right_later table told told' refused Closed later = tt
 right_later table told told' refused NoMemory later = tt
 
 -- what two clauses say of an error
-pub both_err : {A : Type 0} (r : Result A Fault) (P Q R : Fault → Type 0) → ((fault : Fault) → P fault → Q fault → R fault) → IfErr r P → IfErr r Q → IfErr r R
+pub both_err : {A : Type 0} (r : Result A Fault) (P Q R : Fault → Type 0)
+    → ((fault : Fault) → P fault → Q fault → R fault) → IfErr r P → IfErr r Q → IfErr r R
 both_err (Ok x) P Q R both p q = tt
 both_err (Err e) P Q R both p q = both e p q
 
 -- a fault of loading is no write that failed
-pub written_first : (asked : AuditAsked) (told told' : Option (List Loaded)) (refused : Option (Option (List ℕ) × LoadFault)) (fault : Fault) (out out' : Option (List ℕ))
-    → is_unwritten fault ≡ false → IsRightFault asked.table told told' refused fault → IsRightAuditFault asked told told' refused fault out out'
+pub written_first : (asked : AuditAsked) (told told' : Option (List Loaded))
+    (refused : Option (Option (List ℕ) × LoadFault)) (fault : Fault) (out out' : Option (List ℕ))
+    → is_unwritten fault ≡ false → IsRightFault asked.table told told' refused fault
+    → IsRightAuditFault asked told told' refused fault out out'
 written_first asked told told' refused fault out out' written right = record {
   right = right;
   begun = λ all un. absurd (apart (sym written ∙ un));
@@ -179,17 +207,20 @@ written_first asked told told' refused fault out out' written right = record {
     apart same = cc
 
 -- a name that is lent, or what stands for it
-pub lent_name : (name : Option (Bor Text)) (usual : Bor Text) → (unwrap_or name usual).now ≡ unwrap_or (option_map (λ n. n.now) name) usual.now
+pub lent_name : (name : Option (Bor Text)) (usual : Bor Text)
+    → (unwrap_or name usual).now ≡ unwrap_or (option_map (λ n. n.now) name) usual.now
 lent_name None usual = refl
 lent_name (Some n) usual = refl
 
 -- what is left behind where a write failed
-pub unwritten_on : {A : Type 0} (r : Result A Fault) (P : Type 0) → P → IfErr r (λ fault. is_unwritten fault ≡ true → P)
+pub unwritten_on : {A : Type 0} (r : Result A Fault) (P : Type 0) → P
+    → IfErr r (λ fault. is_unwritten fault ≡ true → P)
 unwritten_on (Ok x) P is = tt
 unwritten_on (Err e) P is = λ un. is
 
 -- nothing was written yet
-pub kept_all : {A : Type 0} (r : Result A Fault) (o : Option (List ℕ)) → IfErr r (λ fault. is_unwritten fault ≡ false → Keeps o o)
+pub kept_all : {A : Type 0} (r : Result A Fault) (o : Option (List ℕ))
+    → IfErr r (λ fault. is_unwritten fault ≡ false → Keeps o o)
 kept_all (Ok x) o = tt
 kept_all (Err e) None = λ un. tt
 kept_all (Err e) (Some xs) = λ un. refl

@@ -1,36 +1,31 @@
 -- What a reader has lost, and what follows of all that it had.
-use Rattle.std.proofs.Common.{ℕ, List, [], ◌++◌, Option, Some, None, refl, sym, ap, ◌∙◌, append_assoc, append-nil}
+use Rattle.std.proofs.Common.{ℕ, List, [], ◌++◌, Option, Some, None, ap, ◌∙◌, append-nil}
 use Rattle.std.specs.Prelude.{unwrap_or}
 use Rattle.std.specs.Io.KnownBytes.{Consumes, IsAtEnd}
 use Rattle.omny_audit.specs.inside.Source.{IsAllOf}
 
-pub consumes-none : (old : Option (List ℕ)) → Consumes old old []
-consumes-none None = tt
-consumes-none (Some xs) = refl
-
-pub consumes-more : (old middle new : Option (List ℕ)) (a b : List ℕ) → Consumes old middle a → Consumes middle new b → Consumes old new (a ++ b)
-consumes-more None middle new a b one two = tt
-consumes-more (Some xs) None new a b one two = absurd one
-consumes-more (Some xs) (Some ys) None a b one two = absurd two
-consumes-more (Some xs) (Some ys) (Some zs) a b one two =
-    one ∙ ap (λ (t : List ℕ). a ++ t) two ∙ sym (append_assoc a b zs)
-
-is_all : (old new : Option (List ℕ)) (read : List ℕ) → Consumes old new read → IsAtEnd new → IsAllOf old read
+is_all : (old new : Option (List ℕ)) (read : List ℕ) → Consumes old new read → IsAtEnd new
+    → IsAllOf old read
 is_all None new read consumed end = tt
 is_all (Some xs) None read consumed end = absurd consumed
-is_all (Some xs) (Some ys) read consumed end = consumed ∙ ap (λ (t : List ℕ). read ++ t) end ∙ append-nil read
+is_all (Some xs) (Some ys) read consumed end =
+    consumed ∙ ap (λ (t : List ℕ). read ++ t) end ∙ append-nil read
 
-is_front : (old new : Option (List ℕ)) (read : List ℕ) → Consumes old new read → IsAllOf old (read ++ unwrap_or new [])
+is_front : (old new : Option (List ℕ)) (read : List ℕ) → Consumes old new read
+    → IsAllOf old (read ++ unwrap_or new [])
 is_front None new read consumed = tt
 is_front (Some xs) None read consumed = absurd consumed
 is_front (Some xs) (Some ys) read consumed = consumed
 
 -- what was read is all that there was
-pub at_end : (P : List ℕ → Type 0) (old new : Option (List ℕ)) (read : List ℕ) → Consumes old new read → IsAtEnd new → P read
+pub at_end : (P : List ℕ → Type 0) (old new : Option (List ℕ)) (read : List ℕ)
+    → Consumes old new read → IsAtEnd new → P read
     → (text : List ℕ) × IsAllOf old text × P text
 at_end P old new read consumed end is = (read, is_all old new read consumed end, is)
 
 -- what was read is a front of all that there was
-pub whatever_follows : (P : List ℕ → Type 0) (old new : Option (List ℕ)) (read : List ℕ) → Consumes old new read
+pub whatever_follows : (P : List ℕ → Type 0) (old new : Option (List ℕ)) (read : List ℕ)
+    → Consumes old new read
     → ((more : List ℕ) → P (read ++ more)) → (text : List ℕ) × IsAllOf old text × P text
-whatever_follows P old new read consumed is = (read ++ unwrap_or new [], is_front old new read consumed, is (unwrap_or new []))
+whatever_follows P old new read consumed is =
+    (read ++ unwrap_or new [], is_front old new read consumed, is (unwrap_or new []))

@@ -3,7 +3,8 @@ use Rattle.std.proofs.Common.{ℕ, List, [], ◌∷◌, ◌++◌, refl, sym, ap,
 use Rattle.tap_views.specs.declared.encoder.TapFields.{TapFields}
 use Rattle.omny_audit.specs.Text.{AreTapLinesOf, IsTapLineOf}
 
-pub tap_lines_push : (words : List ℕ) (taps : List TapFields) (tap : TapFields) (written line : List ℕ) → AreTapLinesOf words taps written → IsTapLineOf words tap line
+pub tap_lines_push : (words : List ℕ) (taps : List TapFields) (tap : TapFields)
+    (written line : List ℕ) → AreTapLinesOf words taps written → IsTapLineOf words tap line
     → AreTapLinesOf words (taps ++ tap ∷ []) (written ++ line)
 tap_lines_push words [] tap written line are is =
     (line, [], is, refl, ap (λ (t : List ℕ). t ++ line) are ∙ sym (append-nil line))

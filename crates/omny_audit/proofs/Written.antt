@@ -1,30 +1,15 @@
 -- What was written, piece by piece.
-use Rattle.std.proofs.Common.{◌≡◌, ℕ, List, [], ◌++◌, Option, Some, None, sym, ap, ◌∙◌, append_assoc, append-nil, arith, drop, length, length-drop, take, take_all, ◌-◌}
+use Rattle.std.proofs.Common.{◌≡◌, ℕ, List, ◌++◌, sym, ap, ◌∙◌, append_assoc, arith, drop, length}
+use Rattle.std.proofs.Common.{length-drop, take, take_all, ◌-◌}
 use Rattle.std.proofs.lemmas.List.{take-append-drop}
-use Rattle.std.specs.Io.KnownBytes.{Appends, Keeps}
-
-pub appends_nothing : (o : Option (List ℕ)) → Appends o o []
-appends_nothing None = tt
-appends_nothing (Some xs) = sym (append-nil xs)
-
-pub appends_more : (a b c : Option (List ℕ)) (x y : List ℕ) → Appends a b x → Appends b c y → Appends a c (x ++ y)
-appends_more None b c x y first next = tt
-appends_more (Some xs) None c x y first next = absurd first
-appends_more (Some xs) (Some ys) None x y first next = absurd next
-appends_more (Some xs) (Some ys) (Some zs) x y first next = next ∙ ap (λ (t : List ℕ). t ++ y) first ∙ append_assoc xs x y
-
--- what was kept behind it
-pub appends_kept : (a b c : Option (List ℕ)) (x : List ℕ) → Appends a b x → Keeps b c → Appends a c x
-appends_kept None b c x first kept = tt
-appends_kept (Some xs) None c x first kept = absurd first
-appends_kept (Some xs) (Some ys) None x first kept = absurd kept
-appends_kept (Some xs) (Some ys) (Some zs) x first kept = kept ∙ first
 
 -- a beginning of a text, and some bytes more of the rest
-pub begun_more : (text front rest left : List ℕ) (count : ℕ) → text ≡ front ++ rest → left ≡ take (length rest - count) (drop count rest)
+pub begun_more : (text front rest left : List ℕ) (count : ℕ) → text ≡ front ++ rest
+    → left ≡ take (length rest - count) (drop count rest)
     → text ≡ (front ++ take count rest) ++ left
 begun_more text front rest left count whole is =
     let all : take (length rest - count) (drop count rest) ≡ drop count rest =
     take_all (length rest - count) (drop count rest) (omega (arith, length-drop count rest)) in
-    whole ∙ ap (λ (t : List ℕ). front ++ t) (sym (take-append-drop count rest)) ∙ sym (append_assoc front (take count rest) (drop count rest))
+    whole ∙ ap (λ (t : List ℕ). front ++ t) (sym (take-append-drop count rest))
+    ∙ sym (append_assoc front (take count rest) (drop count rest))
     ∙ ap (λ (t : List ℕ). (front ++ take count rest) ++ t) (sym (is ∙ all))

@@ -9,11 +9,8 @@ use std::sync::Wait;
 /// counts what it writes. What it holds is what the writer below holds.
 #[derive(Drop)]
 pub(crate) struct Hushing<'a, R: Wait, W: Write + Drop> {
-    /// What may wait for the line.
     rt: &'a R,
-    /// Where the line is.
     ticker: &'a Ticker,
-    /// Where the bytes go.
     to: W,
     /// Whether the line may stay, or was taken away.
     is_over: bool,

@@ -33,7 +33,7 @@ use ticker::Ticker;
 use watched::{Watched, WatchedDisk};
 
 /// The ticker of the run that the words ask for. If the standard error is a terminal, the note on
-/// them is told there, if there is one.
+/// them is printed there, if there is one.
 fn ticker_for(rt: &HostRuntime, words: &[String]) -> Ticker {
     let is_terminal = rt.stderr().is_terminal();
     if is_terminal && let Ok(Some(note)) = Note::of(rt.alloc(), words) {
@@ -42,8 +42,8 @@ fn ticker_for(rt: &HostRuntime, words: &[String]) -> Ticker {
     Ticker::new(Steps::of(words), rt.stderr(), is_terminal)
 }
 
-/// The words of the command line with the names of the list that they name, if they name one. The
-/// error is the status, where it was told why there are none.
+/// The words of the command line with the names of the list that they name, if they name one. On an
+/// error the reason was printed, and the error is the status.
 fn words_with_list(rt: &HostRuntime) -> Result<Vec<String>, u8> {
     let mut err = Complaints::new(rt.stderr());
     let words = match words_of(rt) {
@@ -56,7 +56,7 @@ fn words_with_list(rt: &HostRuntime) -> Result<Vec<String>, u8> {
 }
 
 /// Whether the standard output is a file, which no terminal shows. It is asked by the name that the
-/// system has for it: where there is none, it is taken for no file.
+/// system has for it: if there is none, it is taken for no file.
 fn writes_to_file(rt: &HostRuntime) -> bool {
     match fs::metadata(rt, "/dev/stdout") {
         Ok(about) => about.is_file(),
@@ -64,7 +64,6 @@ fn writes_to_file(rt: &HostRuntime) -> bool {
     }
 }
 
-/// The program.
 fn main(rt: HostRuntime) -> ExitCode {
     let words = match words_with_list(&rt) {
         Ok(words) => words,

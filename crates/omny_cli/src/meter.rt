@@ -6,23 +6,19 @@ use std::sync::atomic::{AtomicU64, Ordering};
 /// How much work is done, and of how much.
 #[derive(Drop)]
 pub(crate) struct Meter {
-    /// How much is done.
     done: AtomicU64,
-    /// How much there is.
     all: AtomicU64,
 }
 
 /// What a meter reads.
 #[derive(Clone, Copy, Debug, PartialEq, Eq)]
 pub(crate) struct Reading {
-    /// How much is done.
     pub(crate) done: u64,
     /// How much there is: 0 if that is not known.
     pub(crate) all: u64,
 }
 
 impl Meter {
-    /// There is nothing to do.
     pub(crate) fn new() -> Meter {
         Meter {
             done: AtomicU64::new(0),
@@ -30,23 +26,22 @@ impl Meter {
         }
     }
 
-    /// There is so much to do, and nothing of it is done.
+    /// Sets how much there is to do. Nothing of it is done.
     pub(crate) fn begin(&self, all: u64) {
         self.done.store(0, Ordering::SeqCst);
         self.all.store(all, Ordering::SeqCst);
     }
 
-    /// There is so much more to do.
+    /// Adds to what there is to do.
     pub(crate) fn extend(&self, more: u64) {
         self.all.fetch_add(more, Ordering::SeqCst);
     }
 
-    /// So much more is done.
+    /// Adds to what is done.
     pub(crate) fn add(&self, more: u64) {
         self.done.fetch_add(more, Ordering::SeqCst);
     }
 
-    /// What it reads now.
     pub(crate) fn read(&self) -> Reading {
         Reading {
             done: self.done.load(Ordering::SeqCst),
@@ -86,13 +81,9 @@ pub(crate) struct Meters {
 /// What the meters of a run read.
 #[derive(Clone, Copy, Debug, PartialEq, Eq)]
 pub(crate) struct Readings {
-    /// Taps that are charged.
     pub(crate) taps: Reading,
-    /// Bytes of uploads that are posted.
     pub(crate) posted: Reading,
-    /// Bytes of sorted files that are read.
     pub(crate) sorted: Reading,
-    /// Bytes that are written.
     pub(crate) written: Reading,
 }
 
@@ -105,7 +96,6 @@ impl Meters {
         }
     }
 
-    /// Nothing is done, and there is nothing to do.
     pub(crate) fn new() -> Meters {
         Meters {
             taps: Meter::new(),
@@ -115,7 +105,6 @@ impl Meters {
         }
     }
 
-    /// What they read now.
     pub(crate) fn read(&self) -> Readings {
         Readings {
             taps: self.taps.read(),

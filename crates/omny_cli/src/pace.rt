@@ -10,16 +10,14 @@ const WATCHED_MS: u64 = 1_000;
 /// What a meter read at a moment.
 #[derive(Clone, Copy, Debug)]
 struct First {
-    /// When: in milliseconds since the run began.
+    /// It is in milliseconds since the run began.
     at_ms: u64,
-    /// What it read.
     reading: Reading,
 }
 
 /// How fast work is done, on average since it was seen first.
 #[derive(Clone, Copy, Debug)]
 pub(crate) struct Pace {
-    /// When it was seen first.
     first: Option<First>,
 }
 
@@ -29,12 +27,11 @@ pub(crate) struct Pace {
 pub(crate) struct Left(Option<u64>);
 
 impl Pace {
-    /// Of work that was not seen yet.
     pub(crate) fn new() -> Pace {
         Pace { first: None }
     }
 
-    /// Sees the work, or none, at so many milliseconds since the run began.
+    /// Sees the work, or none, `at_ms` milliseconds after the run began.
     pub(crate) fn see(&mut self, at_ms: u64, reading: Option<Reading>) -> Left {
         let Some(reading) = reading else {
             self.first = None;
@@ -57,8 +54,8 @@ fn is_later(first: Reading, reading: Reading) -> bool {
     first.all == reading.all && first.done <= reading.done
 }
 
-/// In how many seconds at most the rest is done, if that takes as long as what was done in so many
-/// milliseconds. Before these so much was done.
+/// In how many seconds at most the rest is done, if it goes on at the pace of the last `passed_ms`
+/// milliseconds. Before these, `before` was done.
 fn seconds_left(passed_ms: u64, before: u64, reading: Reading) -> Option<u64> {
     let more = reading.done.saturating_sub(before);
     if more == 0 || passed_ms < WATCHED_MS || !reading.goes_on() {

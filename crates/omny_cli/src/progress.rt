@@ -22,25 +22,20 @@ enum Stage {
 /// A MiB in bytes.
 const MIB: u64 = 1_048_576;
 
-/// From so many taps on millions are shown, and thousands below.
+/// From this many taps on millions are shown, and thousands below.
 const MANY_TAPS: u64 = 10_000_000;
 
-/// A thousand taps.
 const THOUSAND: u64 = 1_000;
 
-/// A million taps.
 const MILLION: u64 = 1_000_000;
 
-/// How far a run is.
 #[derive(Clone, Copy, Debug)]
 pub(crate) struct Steps {
-    /// What it does.
     stage: Stage,
     /// Whether the words ask for a listing.
     asks_for_list: bool,
     /// Whether sorted files are read once to be checked, before they are read to be charged.
     checks_first: bool,
-    /// Whether it has read a fare table.
     has_table: bool,
     /// How many files there are, as far as it has looked.
     found: usize,
@@ -99,7 +94,7 @@ impl Steps {
         }
     }
 
-    /// Begins to read files in their turns. So many were read before.
+    /// Begins to read files in their turns. `ahead` were read before.
     pub(crate) fn keep_ahead(&mut self, ahead: usize) {
         self.stage = Stage::Files;
         self.ahead = ahead;
@@ -112,7 +107,6 @@ impl Steps {
         }
     }
 
-    /// Has read that file.
     pub(crate) fn end_load(&mut self) {
         if self.stage == Stage::Table {
             self.has_table = true;
@@ -125,12 +119,10 @@ impl Steps {
         }
     }
 
-    /// Begins to read the standard input.
     pub(crate) fn begin_input(&mut self) {
         self.stage = Stage::Input;
     }
 
-    /// Has read the standard input.
     pub(crate) fn end_input(&mut self) {
         self.stage = Stage::Loaded;
     }
@@ -162,9 +154,7 @@ fn asks_for(words: &[String], option: &str) -> bool {
 /// What is seen of a run at a moment. Shown, it is what the run does then.
 #[derive(Clone, Copy, Debug)]
 pub(crate) struct Sight {
-    /// How far it is.
     pub(crate) steps: Steps,
-    /// What its meters read.
     pub(crate) readings: Readings,
 }
 

@@ -12,7 +12,6 @@ use std::time::{Clock, Duration, Instant};
 /// The line as it is on the terminal.
 #[derive(Drop)]
 struct Line {
-    /// The line of the standard error.
     shown: TerminalLine<io::Stderr>,
     /// Whether no line may be shown any more.
     is_over: bool,
@@ -34,9 +33,7 @@ fn millis_of(passed: Duration) -> u64 {
 /// What a run and the thread that shows its line share.
 #[derive(Drop)]
 pub struct Ticker {
-    /// How far the run is.
     pub(crate) steps: Mutex<Steps>,
-    /// How much of its work is done.
     pub(crate) meters: Meters,
     /// The line, which one thread at a time writes.
     line: Mutex<Line>,
@@ -80,7 +77,7 @@ impl Ticker {
         }
     }
 
-    /// Waits so many milliseconds, or until the line is taken away for good, and says whether it
+    /// Waits `pause_ms` milliseconds, or until the line is taken away for good, and says whether it
     /// is.
     fn is_over_after<R: Wait + Clock>(&self, rt: &R, pause_ms: u64) -> bool {
         let line = self.line.lock(rt);
@@ -103,7 +100,6 @@ impl Ticker {
         }
     }
 
-    /// What is seen of the run now.
     fn sight<R: Wait>(&self, rt: &R) -> Sight {
         let steps = *self.steps.lock(rt);
         Sight {

@@ -11,16 +11,12 @@ use std::sync::Wait;
 /// A disk or a source whose reads are noted. It gives what the one below gives.
 #[derive(Drop)]
 pub(crate) struct Watched<'a, R: Wait, S: Drop> {
-    /// What may wait for the steps.
     rt: &'a R,
-    /// Where reads are noted.
     ticker: &'a Ticker,
-    /// What reads.
     from: S,
 }
 
 impl<'a, R: Wait, S: Drop> Watched<'a, R, S> {
-    /// One whose reads are noted from now on.
     pub(crate) fn new(rt: &'a R, ticker: &'a Ticker, from: S) -> Watched<'a, R, S> {
         Watched { rt, ticker, from }
     }
@@ -29,14 +25,11 @@ impl<'a, R: Wait, S: Drop> Watched<'a, R, S> {
 /// The disk of a runtime, whose reads are noted.
 #[derive(Clone, Copy)]
 pub(crate) struct WatchedDisk<'a, R: Wait> {
-    /// Where files lie.
     rt: &'a R,
-    /// Where reads are noted.
     ticker: &'a Ticker,
 }
 
 impl<'a, R: Wait> WatchedDisk<'a, R> {
-    /// One whose reads are noted from now on.
     pub(crate) fn new(rt: &'a R, ticker: &'a Ticker) -> WatchedDisk<'a, R> {
         WatchedDisk { rt, ticker }
     }
@@ -47,7 +40,6 @@ impl<'a, R: Wait> WatchedDisk<'a, R> {
 pub(crate) struct WatchedFile<'a, F: Drop> {
     /// Counts the bytes that are read.
     meter: &'a Meter,
-    /// What is read.
     from: F,
 }
 

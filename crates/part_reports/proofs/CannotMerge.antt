@@ -12,12 +12,15 @@ use Rattle.std.proofs.lemmas.List.Sorted.{All-permutation, sum_by-IsPermutation}
 use Rattle.std.proofs.lemmas.List.Sums.{sum_by-append}
 use Rattle.tap_views.specs.Token.{token_cmp, token_eq}
 use Rattle.tap_views.specs.declared.token.Token.{Token}
+use Rattle.tap_views.proofs.TokenLemmas.{token_eq-refl}
+use Rattle.tap_views.proofs.Lists.{All-front, All-back}
 use Rattle.shard_book.specs.Sums.{Sums, add_all}
 use Rattle.fare_texts.specs.ReportLines.{token_line}
 use Rattle.report_texts.specs.Numbers.{IsUploadEnd}
 use Rattle.part_reports.specs.Reports.{IsMerged, IsPartReport, Report, end_texts, all_ends}
 use Rattle.part_reports.specs.Reports.{report_text, tokens_of_reports}
-use Rattle.part_reports.specs.TokenLines.{ShareNoToken, HaveOtherTokens, IsMergedByToken, TokenLine, lines_of_token}
+use Rattle.part_reports.specs.TokenLines.{ShareNoToken, HaveOtherTokens, IsMergedByToken, TokenLine}
+use Rattle.part_reports.specs.TokenLines.{lines_of_token}
 use Rattle.part_reports.specs.declared.merging.LineKind.{LineKind}
 use Rattle.part_reports.specs.declared.merging.LineKind.TheVariants.{Entries, Tokens}
 use Rattle.part_reports.specs.declared.sums.WholeSums.{WholeSums}
@@ -28,12 +31,11 @@ use Rattle.part_reports.specs.inside.Kinds.{AreTexts}
 use Rattle.part_reports.specs.inside.Parts.{AreParts, BegunReport, begun_text, left_text}
 use Rattle.part_reports.specs.inside.Standings.{MayFollow, Standing}
 use Rattle.part_reports.proofs.WholeFronts.{whole_text}
-use Rattle.part_reports.proofs.EndsRead.{All-behind, All-front}
 use Rattle.part_reports.proofs.FewParts.{told_may, told_of}
 use Rattle.part_reports.proofs.JoinedTokens.{StandOnce, joined_lines, once_each}
 use Rattle.part_reports.proofs.Orders.{below_not_below}
 use Rattle.part_reports.proofs.PartsBegun.{told_unique}
-use Rattle.part_reports.proofs.PermutedTokens.{of_token, same_token}
+use Rattle.part_reports.proofs.PermutedTokens.{of_token}
 use Rattle.part_reports.specs.inside.Going.{Rise}
 use Rattle.part_reports.proofs.Risings.{falls_from}
 use Rattle.part_reports.proofs.TextsRead.{lines_whole}
@@ -55,8 +57,8 @@ ends_same first (a ∷ some) (b ∷ more) may may_too same =
     let is : a ≡ b = lines_whole first a b (All-front IsUploadEnd a (all_ends some) may)
     (All-front IsUploadEnd b (all_ends more) may_too) (cc) in
     let tail : end_texts (first + length a) some ≡ end_texts (first + length b) more = cc in
-    let rest = ends_same (first + length a) some more (All-behind IsUploadEnd a (all_ends some) may)
-    (All-behind IsUploadEnd b (all_ends more) may_too)
+    let rest = ends_same (first + length a) some more (All-back IsUploadEnd a (all_ends some) may)
+    (All-back IsUploadEnd b (all_ends more) may_too)
     (tail ∙ ap (λ (x : List UploadEnd). end_texts (first + length x) more) (sym is)) in
     ap (λ x. x ++ all_ends some) is ∙ ap (λ rest. b ++ rest) rest
 
@@ -65,7 +67,8 @@ abbrev pub part_left : Report → LineKind × List ℕ
 part_left part =
     (Tokens (length part.tokens) (left_of part.totals), flat_map token_line part.tokens)
 
-pub fronts_same : (begun : List BegunReport) (parts : List Report) → All (λ one. MayBePart one.0) begun
+pub fronts_same : (begun : List BegunReport) (parts : List Report)
+    → All (λ one. MayBePart one.0) begun
     → All IsPartReport parts → map begun_text begun ≡ map report_text parts
     → (map (λ one. one.0) begun ≡ map told_of parts) × (map left_text begun ≡ map part_left parts)
 fronts_same [] [] may fit same = (refl, refl)
@@ -78,7 +81,8 @@ fronts_same (one ∷ begun) (part ∷ parts) may fit same =
     (All-head (λ (one : BegunReport). MayBePart one.0) one begun may)
     (told_may part (All-head IsPartReport part parts fit))
     (head ∙ sym (whole_text part.ends part.totals part.validators part.tokens)) in
-    let rest = fronts_same begun parts (All-tail (λ (one : BegunReport). MayBePart one.0) one begun may)
+    let rest = fronts_same begun parts
+    (All-tail (λ (one : BegunReport). MayBePart one.0) one begun may)
     (All-tail IsPartReport part parts fit) tail in (
       ap (λ told. told ∷ map (λ (one : BegunReport). one.0) begun) first.0
           ∙ ap (λ more. told_of part ∷ more) rest.0,
@@ -102,7 +106,8 @@ reports_taps files sums standings parts read fit texts =
     ap (λ (s : Sums). s.taps) totals ∙ parts_taps parts
 
 -- the taps of the ends that were read are those of the ends that the texts are
-pub uploads_taps : (files : List (List ℕ)) (lists others : List (List UploadEnd)) (ends : UploadEnds)
+pub uploads_taps : (files : List (List ℕ)) (lists others : List (List UploadEnd))
+    (ends : UploadEnds)
     → files ≡ end_texts 0 lists → HaveReadEnds ends (all_ends lists)
     → All IsUploadEnd (all_ends others) → files ≡ end_texts 0 others
     → ends.taps ≡ sum_by taps_told (all_ends others)
@@ -111,7 +116,8 @@ uploads_taps files lists others ends told have fit texts =
     have.taps ∙ sym (ap (sum_by taps_told) joined)
 
 -- texts that have a report of the whole have as many taps
-pub same_taps : (end_files report_files : List (List ℕ)) (text : List ℕ) (lists : List (List UploadEnd))
+pub same_taps : (end_files report_files : List (List ℕ)) (text : List ℕ)
+    (lists : List (List UploadEnd))
     (ends : UploadEnds) (sums : WholeSums) (standings : List Standing)
     → IsMerged end_files report_files text → end_files ≡ end_texts 0 lists
     → HaveReadEnds ends (all_ends lists) → AreParts report_files sums standings
@@ -145,7 +151,8 @@ line_map : (some more : List Sum) → map line_of (some ++ more) ≡ map line_of
 line_map [] more = refl
 line_map (sum ∷ some) more = ap (λ rest. line_of sum ∷ rest) (line_map some more)
 
-lines_all : (parts : List Report) → whole_of (part_lines parts) ≡ map line_of (tokens_of_reports parts)
+lines_all : (parts : List Report)
+    → whole_of (part_lines parts) ≡ map line_of (tokens_of_reports parts)
 lines_all [] = refl
 lines_all (part ∷ parts) = ap (λ rest. map line_of part.tokens ++ rest) (lines_all parts)
     ∙ sym (line_map part.tokens (tokens_of_reports parts))
@@ -243,20 +250,23 @@ some_lines : (lines : List TokenLine) (i : ℕ) (d : TokenLine) → i < length l
     → 1 ≤ length (lines_of_token (get_or lines i d).token lines)
 some_lines [] i d within = absurd (omega (arith, within))
 some_lines (line ∷ lines) zero d within =
-    let here = ap (λ b. length (if b then line ∷ lines_of_token line.token lines else lines_of_token line.token
-    lines)) (same_token line.token) in
+    let here = ap
+    (λ b. length (if b then line ∷ lines_of_token line.token lines else lines_of_token line.token
+    lines)) (token_eq-refl line.token) in
     omega (arith, here)
 some_lines (line ∷ lines) (suc i) d within = more (token_eq (get_or lines i d).token line.token)
     (some_lines lines i d (omega (arith, within)))
   where
     more : (b : Bool) → 1 ≤ length (lines_of_token (get_or lines i d).token lines)
-        → 1 ≤ length (if b then line ∷ lines_of_token (get_or lines i d).token lines else lines_of_token
+        → 1 ≤ length
+        (if b then line ∷ lines_of_token (get_or lines i d).token lines else lines_of_token
         (get_or lines i d).token lines)
     more true rest = omega arith
     more false rest = rest
 
 parts_size : (token : Token) (list : List TokenLine) (lists : List (List TokenLine))
-    → length (lines_of_token token (list ++ whole_of lists)) ≡ length (lines_of_token token list) + length
+    → length (lines_of_token token (list ++ whole_of lists))
+    ≡ length (lines_of_token token list) + length
     (lines_of_token token (whole_of lists))
 parts_size token list lists = ap length (joined_lines token list (whole_of lists))
     ∙ length-append (lines_of_token token list) (lines_of_token token (whole_of lists))
@@ -269,7 +279,8 @@ some_in (list ∷ lists) zero second j e at within =
     let same : list ≡ second = cc in
     let here = some_lines second j e within in
     let size = parts_size (get_or second j e).token list lists in
-    let there = ap (λ (l : List TokenLine). length (lines_of_token (get_or second j e).token l)) same in
+    let there = ap (λ (l : List TokenLine). length (lines_of_token (get_or second j e).token l))
+    same in
     omega (arith, here, size, there)
 some_in (list ∷ lists) (suc k) second j e at within =
     let rest = some_in lists k second j e at within in
@@ -326,7 +337,8 @@ rise_of (sum ∷ sums) rise = (rise_each sum.0 sums rise.0, rise_of sums rise.1)
 
 -- the tokens of the whole's report are joined of those of its parts
 joined_of : (parts : List Report) (whole : List Sum) → IsPermutation (tokens_of_reports parts) whole
-    → IsStrictlySortedBy token_cmp (keys_of whole) → IsMergedByToken (part_lines parts) (map line_of whole)
+    → IsStrictlySortedBy token_cmp (keys_of whole)
+    → IsMergedByToken (part_lines parts) (map line_of whole)
 joined_of parts whole moved rise =
     let lines = map line_of whole in
     let once : StandOnce lines = once_each lines
@@ -340,13 +352,15 @@ joined_of parts whole moved rise =
     λ token. (let few = once token in let is =
     ap length (lines_filtered token whole) ∙ map_size (of_token token whole) in
     omega (arith, few, is)) in
-    let same : (token : Token) → lines_of_token token lines ≡ lines_of_token token (whole_of (part_lines parts))
+    let same : (token : Token)
+    → lines_of_token token lines ≡ lines_of_token token (whole_of (part_lines parts))
     =
     λ token. lines_filtered token whole
     ∙ ap (map line_of) (sym (same_of token (tokens_of_reports parts) whole
     (of_token token (tokens_of_reports parts)) (of_token token whole) refl refl moved (size token)
     (most token)))
-    ∙ sym (lines_filtered token (tokens_of_reports parts)) ∙ ap (lines_of_token token) (sym (lines_all parts)) in
+    ∙ sym (lines_filtered token (tokens_of_reports parts))
+    ∙ ap (lines_of_token token) (sym (lines_all parts)) in
     record {
       apart = apart_of (part_lines parts) (λ token. subst (λ some. length some ≤ 1) (same token)
           (once token));

@@ -1,13 +1,12 @@
 -- Reading how the uploads of the whole ended.
 use Rattle.std.proofs.Common.{◌≡◌, ℕ, suc, ◌+◌, ◌<◌, ◌^◌, List, [], ◌∷◌, ◌++◌, Option, Some, None}
 use Rattle.std.proofs.Common.{Ok, Err, length, refl, sym, ap, subst, ◌∙◌, arith, append_assoc}
-use Rattle.std.proofs.Common.{length-append, Bool, true, false, if◌then◌else◌, ◌==◌}
+use Rattle.std.proofs.Common.{length-append}
 use Rattle.std.proofs.lemmas.List.{append-nil}
-use Rattle.std.specs.Prelude.{All, IfSome, IsTrue, ◌↔◌}
+use Rattle.std.specs.Prelude.{All, IfSome, IsTrue, ◌↔◌, codes}
 use Rattle.std.specs.Io.BufRead.{take_through, drop_through}
-use Rattle.std.proofs.lemmas.List.Elements.{All-head, All-tail, All-cons, All-nil, All-push}
+use Rattle.std.proofs.lemmas.List.Elements.{All-head, All-tail, All-nil, All-push}
 use Rattle.std.proofs.lemmas.List.Sums.{sum_by-append}
-use Rattle.std.specs.Prelude.{codes}
 use Rattle.std.specs.Fmt.{decimal}
 use Rattle.report_texts.specs.inside.EndWords.{end_words}
 use Rattle.report_texts.proofs.EndTexts.{line_words}
@@ -17,22 +16,14 @@ use Rattle.report_texts.specs.Numbers.{IsUploadEnd}
 use Rattle.part_reports.specs.inside.UploadEnds.{AreEndsAdded, IsNextEnd, HaveMoreEnds}
 use Rattle.part_reports.specs.inside.LinesRead.{IsTold}
 use Rattle.part_reports.proofs.LinesRead.{through}
-use Rattle.part_reports.proofs.ListsWritten.{lines_more, end_lines_from}
 use Rattle.part_reports.proofs.OneLine.{end_line_is_one, taken_one}
 use Rattle.part_reports.proofs.Unique.{end_line_unique}
-use Rattle.report_texts.specs.Report.{upload_line}
-use Rattle.report_texts.specs.Report.{upload_lines}
-use Rattle.report_texts.specs.UploadEnds.{is_posted}
-use Rattle.report_texts.specs.UploadEnds.{taps_told}
+use Rattle.report_texts.specs.Report.{upload_line, upload_lines}
+use Rattle.report_texts.specs.UploadEnds.{is_posted, taps_told}
 use Rattle.report_texts.specs.declared.upload_end.UploadEnd.{UploadEnd}
-
-never_empty : (same : Bool) (x : ℕ) (front : List ℕ) → ¬ ((if same then x ∷ [] else x ∷ front) ≡ [])
-never_empty true x front is = absurd (cc)
-never_empty false x front is = absurd (cc)
-
-no_line : (text : List ℕ) → take_through 10 text ≡ [] → text ≡ []
-no_line [] is = refl
-no_line (x ∷ text) is = absurd (never_empty (x == 10) x (take_through 10 text) is)
+use Rattle.report_texts.proofs.Parts.{upload_lines-push}
+use Rattle.tap_views.proofs.Lists.{All-front}
+use Rattle.ledger_changes.proofs.Readings.{taken_none}
 
 abbrev IsLine : Option (List ℕ) → Option (List ℕ) → List ℕ → Type 0
 IsLine text after items = IfSome text (λ left. (items ≡ take_through 10 left)
@@ -42,16 +33,19 @@ pub next_over : (upload : ℕ) (text after : Option (List ℕ)) (items : List �
     → IsLine text after items → items ≡ []
     → IsNextEnd upload text after items (Ok None)
 next_over upload None after items line over = tt
-next_over upload (Some text) after items line over = no_line text (sym line.0 ∙ over)
+next_over upload (Some text) after items line over = taken_none text (sym line.0 ∙ over)
 
 pub next_told : (upload : ℕ) (text after : Option (List ℕ)) (items line : List ℕ)
     (told : Option UploadEnd) (end : UploadEnd)
-    → IsLine text after items → line ≡ items → IsTold (λ (end : UploadEnd). end) IsUploadEnd (upload_line upload) line told
+    → IsLine text after items → line ≡ items
+    → IsTold (λ (end : UploadEnd). end) IsUploadEnd (upload_line upload) line told
     → told ≡ Some end
     → IsNextEnd upload text after items (Ok (Some end))
 next_told upload None after items line told end is same form some = tt
 next_told upload (Some text) after items line told end is same form some =
-    let here = subst (λ told. IsTold (λ (end : UploadEnd). end) IsUploadEnd (upload_line upload) line told) some form in
+    let here = subst
+    (λ told. IsTold (λ (end : UploadEnd). end) IsUploadEnd (upload_line upload) line told) some
+    form in
     record {
       may = here.0;
       line_is = sym same ∙ here.1;
@@ -68,7 +62,9 @@ pub next_no : (upload : ℕ) (text after : Option (List ℕ)) (items line : List
     → IsNextEnd upload text after items (Err fault)
 next_no upload None after items line told fault small is same some form none = tt
 next_no upload (Some text) after items line told fault small is same some form none =
-    let here = subst (λ told. IsTold (λ (end : UploadEnd). end) IsUploadEnd (upload_line upload) line told) none form in
+    let here = subst
+    (λ told. IsTold (λ (end : UploadEnd). end) IsUploadEnd (upload_line upload) line told) none
+    form in
     λ _. (
       λ over. some (is.0 ∙ ap (take_through 10) over),
       λ end rest may shown. here end may (same ∙ is.0 ∙ ap (take_through 10) shown
@@ -103,25 +99,9 @@ adding_first ends (Some text) = record {
   left_is = refl;
 }
 
-pub All-front : {X : Type 0} (P : X → Type 0) (xs ys : List X) → All P (xs ++ ys) → All P xs
-All-front P [] ys all = All-nil P
-All-front P (x ∷ xs) ys all = All-cons P x xs (All-head P x (xs ++ ys) all)
-    (All-front P xs ys (All-tail P x (xs ++ ys) all))
-
-pub All-behind : {X : Type 0} (P : X → Type 0) (xs ys : List X) → All P (xs ++ ys) → All P ys
-All-behind P [] ys all = all
-All-behind P (x ∷ xs) ys all = All-behind P xs ys (All-tail P x (xs ++ ys) all)
-
 All-last : {X : Type 0} (P : X → Type 0) (xs : List X) (y : X) → All P (xs ++ y ∷ []) → P y
 All-last P [] y all = All-head P y [] all
 All-last P (x ∷ xs) y all = All-last P xs y (All-tail P x (xs ++ y ∷ []) all)
-
-end_lines_more : (first : ℕ) (ends : List UploadEnd) (end : UploadEnd)
-    → upload_lines first (ends ++ end ∷ []) ≡ upload_lines first ends ++ upload_line (first + length ends)
-    end
-end_lines_more first ends end = end_lines_from first (ends ++ end ∷ [])
-    ∙ lines_more upload_line first ends end ∙ ap (λ text. text ++ upload_line (first + length ends) end)
-    (sym (end_lines_from first ends))
 
 -- what adding a line did
 pub record OneAdded (now after : UploadEnds) (line : List ℕ) (end : UploadEnd) : Type 0 where
@@ -155,7 +135,7 @@ adding_more before now after (Some text) left then_left line items end same addi
             ∙ append_assoc before.text.items (upload_lines before.uploads adding.more)
             (upload_line (before.uploads + length adding.more) told)
             ∙ ap (λ text. before.text.items ++ text)
-            (sym (end_lines_more before.uploads adding.more told));
+            (sym (upload_lines-push before.uploads adding.more told));
         uploads = simp length-append (omega (arith, one.uploads, number));
         taps = omega (arith, sums, taps, one_taps);
         posted = (
@@ -176,29 +156,18 @@ adding_more before now after (Some text) left then_left line items end same addi
         each = All-push IsUploadEnd adding.more told adding.is.each here.may;
       };
       rest = here.rest;
-      shown = adding.shown ∙ ap (λ text. upload_lines before.uploads adding.more ++ text) (here.shown
+      shown = adding.shown
+          ∙ ap (λ text. upload_lines before.uploads adding.more ++ text) (here.shown
           ∙ ap (λ k. upload_line k told ++ here.rest) number)
           ∙ sym (append_assoc (upload_lines before.uploads adding.more)
           (upload_line (before.uploads + length adding.more) told) here.rest)
-          ∙ ap (λ text. text ++ here.rest) (sym (end_lines_more before.uploads adding.more told));
+          ∙ ap (λ text. text ++ here.rest)
+          (sym (upload_lines-push before.uploads adding.more told));
       left_is = here.left;
     }
 
-pub adding_done : (before now : UploadEnds) (text left then_left : Option (List ℕ)) (items : List ℕ)
-    → AddingSome before now text left → IsNextEnd now.uploads left then_left items (Ok None)
-    → AreEndsAdded before now text (Ok tt)
-adding_done before now None left then_left items adding next = tt
-adding_done before now (Some text) left then_left items adding next =
-    let over : adding.rest ≡ [] = subst (λ left. IsNextEnd now.uploads left then_left items
-    (Ok None)) adding.left_is next in (
-      adding.more,
-      adding.is,
-      adding.shown ∙ ap
-          (λ rest. upload_lines before.uploads adding.more ++ rest) over
-          ∙ append-nil (upload_lines before.uploads adding.more),
-    )
-
-pub some_line : (number : ℕ) (end : UploadEnd) (rest : List ℕ) → ¬ ([] ≡ upload_line number end ++ rest)
+pub some_line : (number : ℕ) (end : UploadEnd) (rest : List ℕ)
+    → ¬ ([] ≡ upload_line number end ++ rest)
 some_line number end rest is =
     let words : [] ≡ (codes "upload " ++ (decimal number ++ end_words end)) ++ rest =
     is ∙ ap (λ (t : List ℕ). t ++ rest) (line_words number end) in absurd (cc)
@@ -219,7 +188,8 @@ lines_rest number (a ∷ done) [] rest may may_too same some absent_end =
     ∙ append_assoc (upload_line number a) (upload_lines (number + 1) done) rest)
 lines_rest number (a ∷ done) (end ∷ ends) rest may may_too same some absent_end =
     let first = end_line_unique number a end (upload_lines (number + 1) done ++ rest)
-    (upload_lines (number + 1) ends) (All-head IsUploadEnd a done may) (All-head IsUploadEnd end ends may_too)
+    (upload_lines (number + 1) ends) (All-head IsUploadEnd a done may)
+    (All-head IsUploadEnd end ends may_too)
     (sym (append_assoc (upload_line number a) (upload_lines (number + 1) done) rest) ∙ same) in
     let at : number + 1 + length done ≡ number + suc (length done) = omega arith in
     lines_rest (number + 1) done ends rest (All-tail IsUploadEnd a done may)

@@ -1,5 +1,5 @@
 -- Reports of few parts have no more than any run has.
-use Rattle.std.proofs.Common.{inl, inr, ◌≡◌, ◌≢◌, ℕ, suc, ◌+◌, ◌*◌, ◌<◌, ◌≤◌, ◌^◌, List, [], ◌∷◌}
+use Rattle.std.proofs.Common.{inl, inr, ◌≡◌, ℕ, suc, ◌+◌, ◌*◌, ◌<◌, ◌≤◌, ◌^◌, List, [], ◌∷◌}
 use Rattle.std.proofs.Common.{◌++◌, length, drop, take, get_or, refl, sym, ap, subst, ◌∙◌, arith}
 use Rattle.std.proofs.Common.{true, false, ◌==◌, if◌then◌else◌, length-append, Option, Some}
 use Rattle.std.specs.Prelude.{All, filter, flat_map, map, sum_by, IfSome, slice_get}
@@ -8,7 +8,7 @@ use Rattle.std.specs.List.Sorted.{IsStrictlySortedBy}
 use Rattle.std.specs.Map.{keys_of}
 use Rattle.std.specs.Ordering.{nat_cmp}
 use Rattle.std.specs.declared.cmp.Ordering.TheVariants.{Less}
-use Rattle.std.proofs.lemmas.Bool.{cases_eq}
+use Rattle.std.proofs.lemmas.Bool.{cases_eq, ne_eqb}
 use Rattle.std.proofs.lemmas.Bool.Decides.{nat_tests}
 use Rattle.std.proofs.lemmas.List.Elements.{All-head, All-map, All-push, All-tail}
 use Rattle.std.proofs.lemmas.List.Elements.{recursion_from_All}
@@ -47,9 +47,6 @@ above_none q first (sum ∷ list) same all =
 pub same_test : (x y : ℕ) → x ≡ y → (x == y) ≡ true
 same_test x y same = grind (arith, nat_tests, same)
 
-other_test : (x y : ℕ) → x ≢ y → (x == y) ≡ false
-other_test x y other = grind (arith, nat_tests)
-
 pub one_small : (q : ℕ) (list : List (ℕ × Sums)) → All IsValidatorSum list
     → IsStrictlySortedBy nat_cmp (keys_of list) → (sums_of_validator q list).taps < 2 ^ 64
 unfolding IsStrictlySortedBy
@@ -69,7 +66,7 @@ one_small q (first ∷ list) all rise =
           let small = (All-head IsValidatorSum first list all).counts.taps in
           omega (arith, taps, nothing, small)
       | inr other ↦
-          let test = other_test first.0 q other in
+          let test = ne_eqb first.0 q other in
           let is : filter (λ (sum : ℕ × Sums). sum.0 == q) (first ∷ list) ≡ filter
           (λ (sum : ℕ × Sums). sum.0 == q) list =
           ap (λ b. if b then first ∷ filter (λ (sum : ℕ × Sums). sum.0 == q) list else filter

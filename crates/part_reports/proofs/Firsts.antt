@@ -16,15 +16,11 @@ use Rattle.part_reports.specs.declared.merging.LineKind.{LineKind}
 use Rattle.part_reports.specs.declared.merging.LineKind.TheVariants.{Tokens, Entries}
 use Rattle.part_reports.proofs.OneLine.{IsOneLine, entry_line_is_one, taken_one, token_line_is_one}
 use Rattle.part_reports.proofs.Unique.{entry_line_unique, token_line_unique}
-
--- what holds of known bytes, in another form
-pub weaker : (o : Option (List ℕ)) (P Q : List ℕ → Type 0) → ((text : List ℕ) → P text → Q text)
-    → IfSome o P → IfSome o Q
-weaker None P Q f holds = tt
-weaker (Some text) P Q f holds = f text holds
+use Rattle.ledger_changes.proofs.Readings.{taken_none}
 
 -- ---- single lines
-pub line_is_one : (kind : LineKind) (line : TokenLine) → IsLineOfKind kind line → IsOneLine line.text
+pub line_is_one : (kind : LineKind) (line : TokenLine) → IsLineOfKind kind line
+    → IsOneLine line.text
 line_is_one (Tokens left rest) line is =
     subst IsOneLine (sym is.shown) (token_line_is_one (line.token, is.sums) is.is)
 line_is_one Entries line is = entry_line_is_one line is
@@ -36,16 +32,9 @@ not_nothing (x ∷ front) byte is = cc
 pub one_is_some : (line : List ℕ) → IsOneLine line → ¬ (line ≡ [])
 one_is_some line is none = not_nothing is.front 10 (sym is.shown ∙ none)
 
-pub line_is_some : (kind : LineKind) (line : TokenLine) → IsLineOfKind kind line → ¬ (line.text ≡ [])
+pub line_is_some : (kind : LineKind) (line : TokenLine) → IsLineOfKind kind line
+    → ¬ (line.text ≡ [])
 line_is_some kind line is = one_is_some line.text (line_is_one kind line is)
-
--- the kind of a line is not in how many are left
-pub same_line : (kind behind : LineKind) (line : TokenLine) → IsBehindOne kind line behind
-    → IsLineOfKind kind line → IsLineOfKind behind line
-same_line (Tokens left rest) (Tokens behind after) line one is = is
-same_line (Tokens left rest) Entries line one is = elim one [ ]
-same_line Entries (Tokens behind after) line one is = elim one [ ]
-same_line Entries Entries line one is = is
 
 sum_line_unique : (a b : TokenLine) (x y : List ℕ) → IsSumLine a → IsSumLine b
     → a.text ++ x ≡ b.text ++ y → (a ≡ b) × (x ≡ y)
@@ -69,18 +58,11 @@ both_parts : (b : Bool) (x : ℕ) (xs ys zs : List ℕ) → ys ++ zs ≡ xs
 both_parts true x xs ys zs is = refl
 both_parts false x xs ys zs is = ap (λ rest. x ∷ rest) is
 
+-- a text is its first line and what is behind it
 pub taken_and_left : (text : List ℕ) → take_through 10 text ++ drop_through 10 text ≡ text
 taken_and_left [] = refl
 taken_and_left (x ∷ xs) = both_parts (x == 10) x xs (take_through 10 xs) (drop_through 10 xs)
     (taken_and_left xs)
-
-some_part : (b : Bool) (x : ℕ) (ys : List ℕ) → ¬ ((if b then x ∷ [] else x ∷ ys) ≡ [])
-some_part true x ys is = cc
-some_part false x ys is = cc
-
-pub taken_none : (text : List ℕ) → take_through 10 text ≡ [] → text ≡ []
-taken_none [] is = refl
-taken_none (x ∷ xs) is = absurd (some_part (x == 10) x (take_through 10 xs) is)
 
 -- ---- the first line
 pub first_is_source : (kind : LineKind) (text : List ℕ) (at : Standing) → at.line
@@ -99,11 +81,6 @@ first_is_source kind text at taken left first = by_head at.token first
       line = is.0;
       behind = is.1;
     }
-
--- no line may stand first where none does
-pub no_first_line : (kind : LineKind) (token : Token)
-    → ¬ (IsLineOfKind kind (record { token = token; text = [] }))
-no_first_line kind token is = line_is_some kind (record { token = token; text = [] }) is refl
 
 behind_of : (kind : LineKind) (line : TokenLine) (lines : List TokenLine) (text : List ℕ)
     → IsTextOf (kind, text) (line ∷ lines)
@@ -156,7 +133,8 @@ begins_with kind text at token here (first ∷ list) is =
 
 -- the text whose first line may not stand behind the token has no lines that may
 pub no_order : (kind : LineKind) (text : List ℕ) (at : Standing) (before : Option Token)
-    → StandsInText (kind, text) at → ¬ (MayFollowToken kind before at.token) → (list : List TokenLine)
+    → StandsInText (kind, text) at → ¬ (MayFollowToken kind before at.token)
+    → (list : List TokenLine)
     → IsTextOf (kind, text) list → IfSome before (λ token. ¬ (MayFollowAll kind token list))
 no_order kind text at None source wrong list is = tt
 no_order kind text at (Some before) source wrong list is = by_head at.token source wrong

@@ -26,7 +26,8 @@ shown entries = map (λ (entry : ℕ × Totals). (entry.0, sums_of entry.1)) ent
 pub shown_more : (items : List (Bor ℕ × Bor Totals)) (validator : Bor ℕ) (totals : Bor Totals)
     → flat_map validator_line (shown (map deref_pair (items ++ (validator, totals) ∷ [])))
     ≡ flat_map validator_line (shown (map deref_pair items))
-    ++ (codes "validator " ++ (decimal validator.now ++ (codes " " ++ counts_text (sums_of totals.now))))
+    ++ (codes "validator "
+    ++ (decimal validator.now ++ (codes " " ++ counts_text (sums_of totals.now))))
 shown_more items validator totals =
     ap (λ entries. flat_map validator_line (shown entries))
     (map-append deref_pair items ((validator, totals) ∷ []))
@@ -79,7 +80,8 @@ front_joined ends list sums count first with_ends whole none totals heads lines 
     let ends_is : with_ends ≡ h ++ e = p2 ∙ ap (λ text. text ++ ends.text.items) first_is
     ∙ ap (λ text. h ++ text) have.text in
     let totals_is : totals ≡ t = p4 ∙ ap (λ text. text ++ t) p3 in
-    let heads_is : heads ≡ t ++ v = p5 ∙ ap (λ text. text ++ number_line (codes "validators ") count)
+    let heads_is : heads ≡ t ++ v =
+    p5 ∙ ap (λ text. text ++ number_line (codes "validators ") count)
     totals_is ∙ ap (λ n. t ++ number_line (codes "validators ") n) (number
     ∙ sym (shown_length sums.validators.entries)) in
     let lines_is : lines ≡ (t ++ v) ++ f = p6 ∙ ap (λ text. text ++ f) heads_is in

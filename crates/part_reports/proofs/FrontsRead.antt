@@ -2,8 +2,8 @@
 use Rattle.std.proofs.Common.{◌≡◌, ℕ, ◌+◌, ◌<◌, List, [], ◌∷◌, ◌++◌, Option, Some, None, Ok, Err}
 use Rattle.std.proofs.Common.{length, refl, sym, ap, subst, ◌∙◌, arith, append_assoc, length-append}
 use Rattle.std.proofs.Common.{true, false}
-use Rattle.std.specs.Prelude.{All, IfSome}
-use Rattle.std.proofs.lemmas.List.Elements.{All-head, All-tail, All-nil, All-push}
+use Rattle.std.specs.Prelude.{All, IfSome, IsTrue}
+use Rattle.std.proofs.lemmas.List.Elements.{All-head, All-nil, All-push}
 use Rattle.std.proofs.lemmas.Bool.{false≢true}
 use Rattle.part_reports.specs.declared.fault.MergeFault.{MergeFault}
 use Rattle.part_reports.specs.Faults.{IsOfTexts}
@@ -12,11 +12,10 @@ use Rattle.part_reports.specs.inside.Fronts.{AreSoManyPosted}
 use Rattle.part_reports.specs.inside.LinesRead.{IsRead}
 use Rattle.part_reports.proofs.ListsWritten.{lines_from, lines_more, lines_begin, end_lines_from}
 use Rattle.part_reports.proofs.Unique.{end_line_unique}
-use Rattle.report_texts.specs.Report.{upload_line}
-use Rattle.report_texts.specs.Report.{upload_lines}
+use Rattle.report_texts.specs.Report.{upload_line, upload_lines}
 use Rattle.report_texts.specs.UploadEnds.{is_posted}
 use Rattle.report_texts.specs.declared.upload_end.UploadEnd.{UploadEnd}
-use Rattle.std.specs.Prelude.{IsTrue}
+use Rattle.tap_views.proofs.Lists.{All-back}
 
 -- so many uploads' lines were read of the text
 pub record Posted (count : ℕ) (text : List ℕ) (now : Option (List ℕ)) : Type 0 where
@@ -44,10 +43,6 @@ posted_first (Some text) = record {
   left = refl;
 }
 
-All-behind : {X : Type 0} (P : X → Type 0) (xs ys : List X) → All P (xs ++ ys) → All P ys
-All-behind P [] ys all = all
-All-behind P (x ∷ xs) ys all = All-behind P xs ys (All-tail P x (xs ++ ys) all)
-
 ends_one_more : (ends : List UploadEnd) (count : ℕ) (end : UploadEnd) → length ends ≡ count
     → upload_lines 0 ends ++ upload_line count end ≡ upload_lines 0 (ends ++ end ∷ [])
 ends_one_more ends count end long =
@@ -74,7 +69,8 @@ posted_more count (Some text) now after told posted read none =
       are = record {
         number = simp length-append (omega (arith, posted.are.number));
         each = All-push IsUploadEnd posted.ends end posted.are.each here.may;
-        posted = All-push (λ (end : UploadEnd). IsTrue (is_posted end)) posted.ends end posted.are.posted
+        posted = All-push (λ (end : UploadEnd). IsTrue (is_posted end)) posted.ends end
+            posted.are.posted
             (ap is_posted (sym is_told) ∙ none);
       };
       rest = here.rest;
@@ -88,21 +84,24 @@ posted_more count (Some text) now after told posted read none =
 pub posted_refused : (uploads count : ℕ) (text now after : Option (List ℕ)) (fault : MergeFault)
     → count < uploads
     → PostedSome count text now
-    → ((left : List ℕ) → now ≡ Some left → IsOfTexts fault → (end : UploadEnd) (more : List ℕ) → IsUploadEnd end
+    → ((left : List ℕ) → now ≡ Some left → IsOfTexts fault → (end : UploadEnd) (more : List ℕ)
+    → IsUploadEnd end
     → IsTrue (is_posted end) → ¬ (left ≡ upload_line count end ++ more))
     → IsRead {T = Unit {0}} (λ _ _. Unit {0}) (AreSoManyPosted uploads) (upload_lines 0) text after
     (Err fault)
 posted_refused uploads count None now after fault less posted absent = tt
 posted_refused uploads count (Some text) now after fault less posted absent =
     λ of_texts ends rest may shown.
-    let next = lines_begin IsUploadEnd upload_line end_line_unique 0 posted.ends ends posted.rest rest
+    let next = lines_begin IsUploadEnd upload_line end_line_unique 0 posted.ends ends posted.rest
+    rest
     posted.are.each may.each (omega (arith, posted.are.number, may.number, less))
     (ap (λ text. text ++ posted.rest) (sym (end_lines_from 0 posted.ends)) ∙ sym posted.shown
     ∙ shown ∙ ap (λ text. text ++ rest) (end_lines_from 0 ends)) in
     let at : 0 + length posted.ends ≡ count = omega (arith, posted.are.number) in
-    let is_posted : IsTrue (is_posted next.value) = All-head (λ (end : UploadEnd). IsTrue (is_posted end)) next.value
+    let is_posted : IsTrue (is_posted next.value) =
+    All-head (λ (end : UploadEnd). IsTrue (is_posted end)) next.value
     next.more
-    (All-behind (λ (end : UploadEnd). IsTrue (is_posted end)) posted.ends (next.value ∷ next.more)
+    (All-back (λ (end : UploadEnd). IsTrue (is_posted end)) posted.ends (next.value ∷ next.more)
     (subst (λ ends. All (λ (end : UploadEnd). IsTrue (is_posted end)) ends) next.is may.posted)) in
     let shown_next = next.rest ∙ ap (λ k. upload_line k next.value
     ++ (lines_from upload_line (0 + length posted.ends + 1) next.more ++ rest)) at in

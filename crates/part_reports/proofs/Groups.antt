@@ -230,7 +230,8 @@ pub stays_on : (current : Option Token) (rest more : Sums) (tokens : List Sum)
 stays_on current rest more tokens charge charges is add =
     (to, λ spent. (rest, tokens, more, inl (is, refl, refl), add, spent))
   where
-    to : UseUp current rest tokens (charge ∷ charges) → UseUp (Some charge.token) more tokens charges
+    to : UseUp current rest tokens (charge ∷ charges)
+        → UseUp (Some charge.token) more tokens charges
     to (before, behind, left, inl stays, left_is, spent) =
         let same : left ≡ more = left_unique charge.sums left more
         (sym left_is ∙ stays.1 ∙ add) in
@@ -274,7 +275,8 @@ no_stay current rest tokens charge charges is none (before, behind, more, next, 
 pub something_left : (current : Option Token) (rest : Sums) (tokens : List Sum)
     (charge : LineCharge) (charges : List LineCharge) → current ≢ Some charge.token
     → ¬ (rest ≡ sums []) → ¬ (UseUp current rest tokens (charge ∷ charges))
-something_left current rest tokens charge charges other some (before, behind, more, next, add, spent) =
+something_left current rest tokens charge charges other some
+    (before, behind, more, next, add, spent) =
     elim next [
       | inl stays ↦ other stays.0
       | inr turns ↦ some turns.1
@@ -294,7 +296,8 @@ pub no_turn : (current : Option Token) (rest before : Sums) (behind : List Sum)
     (charge : LineCharge) (charges : List LineCharge) → current ≢ Some charge.token
     → ((more : Sums) → ¬ (before ≡ add_sums charge.sums more))
     → ¬ (UseUp current rest ((charge.token, before) ∷ behind) (charge ∷ charges))
-no_turn current rest before behind charge charges other none (found, rest_of, more, next, add, spent) =
+no_turn current rest before behind charge charges other none
+    (found, rest_of, more, next, add, spent) =
     elim next [
       | inl stays ↦ other stays.0
       | inr turns ↦

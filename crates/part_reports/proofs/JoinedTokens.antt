@@ -12,12 +12,11 @@ use Rattle.std.proofs.lemmas.Bool.{true≢false}
 use Rattle.std.proofs.lemmas.List.Elements.{All-cons, All-filter, All-head, All-nil, All-tail}
 use Rattle.tap_views.specs.Token.{token_cmp, token_eq}
 use Rattle.tap_views.specs.declared.token.Token.{Token}
+use Rattle.tap_views.proofs.TokenLemmas.{token_eq-refl, same_token, token_cmp-ties, token_cmp-total}
 use Rattle.part_reports.specs.TokenLines.{ShareNoToken, DoNotFall, TokenLine, lines_of_token}
 use Rattle.part_reports.specs.declared.merging.LineKind.TheVariants.{Entries}
 use Rattle.part_reports.specs.inside.Standings.{MayFollow}
-use Rattle.part_reports.proofs.Leasts.{same_token as tied_same, token_total}
 use Rattle.part_reports.proofs.Orders.{NotBelow, below_differs}
-use Rattle.part_reports.proofs.PermutedTokens.{eq_of, same_token}
 use Rattle.part_reports.specs.inside.Going.{Rise}
 use Rattle.part_reports.proofs.Risings.{falls_to}
 
@@ -30,17 +29,19 @@ strictly a b above other = by_order (token_cmp a b) refl
   where
     by_order : (o : Ordering) → token_cmp a b ≡ o → token_cmp a b ≡ Less
     by_order Less is = is
-    by_order Equal is = absurd (other (tied_same a b is))
+    by_order Equal is = absurd (other (token_cmp-ties a b is))
     by_order Greater is =
-        let under : token_cmp b a ≡ Less = token_total.antisymm b a ∙ ap ordering_reverse is in
+        let under : token_cmp b a ≡ Less = token_cmp-total.antisymm b a ∙ ap ordering_reverse is in
         absurd (true≢false (sym (ap is_lt under) ∙ above))
 
 pub joined_lines : (token : Token) (some more : List TokenLine)
     → lines_of_token token (some ++ more) ≡ lines_of_token token some ++ lines_of_token token more
 joined_lines token [] more = refl
 joined_lines token (line ∷ some) more =
-    elim (token_eq token line.token) as (λ b. (if b then line ∷ lines_of_token token (some ++ more) else
-    lines_of_token token (some ++ more)) ≡ (if b then line ∷ lines_of_token token some else lines_of_token token some)
+    elim (token_eq token line.token) as (λ b.
+    (if b then line ∷ lines_of_token token (some ++ more) else
+    lines_of_token token (some ++ more))
+    ≡ (if b then line ∷ lines_of_token token some else lines_of_token token some)
     ++ lines_of_token token more) [
       | true ↦ ap (λ more. line ∷ more) (joined_lines token some more)
       | false ↦ joined_lines token
@@ -51,7 +52,7 @@ joined_lines token (line ∷ some) more =
 no_line_by : (token : Token) (line : TokenLine) (lines : List TokenLine) (b : Bool)
     → token ≢ line.token → token_eq token line.token ≡ b → lines_of_token token lines ≡ []
     → (if b then line ∷ lines_of_token token lines else lines_of_token token lines) ≡ []
-no_line_by token line lines true other is rest = absurd (other (eq_of token line.token is))
+no_line_by token line lines true other is rest = absurd (other (same_token token line.token is))
 no_line_by token line lines false other is rest = rest
 
 no_line : (token : Token) (lines : List TokenLine)
@@ -68,7 +69,8 @@ others_by : (token : Token) (line : TokenLine) (lines : List TokenLine) (b : Boo
 others_by token line lines true is rest none = absurd (cc)
 others_by token line lines false is rest none = (
   λ same. (let at : token_eq token line.token ≡ true =
-      subst (λ other. token_eq token other ≡ true) same (same_token token) in absurd (cc (at, is))),
+      subst (λ other. token_eq token other ≡ true) same (token_eq-refl token) in
+      absurd (cc (at, is))),
   rest none,
 )
 
@@ -85,7 +87,8 @@ StandOnce lines = (token : Token) → length (lines_of_token token lines) ≤ 1
 once_rest : (line : TokenLine) (lines : List TokenLine) → StandOnce (line ∷ lines) → StandOnce lines
 once_rest line lines once token = by_test (token_eq token line.token) (once token)
   where
-    by_test : (b : Bool) → length (if b then line ∷ lines_of_token token lines else lines_of_token token lines)
+    by_test : (b : Bool)
+        → length (if b then line ∷ lines_of_token token lines else lines_of_token token lines)
         ≤ 1 → length (lines_of_token token lines) ≤ 1
     by_test true most = omega (arith, most)
     by_test false most = most
@@ -97,8 +100,9 @@ nil_of (line ∷ lines) most = absurd (omega (arith, most))
 once_others : (line : TokenLine) (lines : List TokenLine) → StandOnce (line ∷ lines)
     → AllByRecursion (λ other. line.token ≢ other.token) lines
 once_others line lines once =
-    let here = ap (λ b. length (if b then line ∷ lines_of_token line.token lines else lines_of_token line.token
-    lines)) (same_token line.token) in
+    let here = ap
+    (λ b. length (if b then line ∷ lines_of_token line.token lines else lines_of_token line.token
+    lines)) (token_eq-refl line.token) in
     let most = once line.token in
     others line.token lines (nil_of (lines_of_token line.token lines) (omega (arith, here, most)))
 
@@ -145,7 +149,8 @@ once_by : (token : Token) (line : TokenLine) (lines : List TokenLine) (b : Bool)
     → length (if b then line ∷ lines_of_token token lines else lines_of_token token lines) ≤ 1
 once_by token line lines true is rest below =
     let none : lines_of_token token lines ≡ [] = no_line token lines
-    (subst (λ t. AllByRecursion (λ line. t ≢ line.token) lines) (sym (eq_of token line.token is))
+    (subst (λ t. AllByRecursion (λ line. t ≢ line.token) lines)
+    (sym (same_token token line.token is))
     (below_others line.token lines below)) in
     let size = ap length none in
     omega (arith, size)
@@ -158,7 +163,8 @@ once_each [] rise = λ token. omega arith
 once_each (line ∷ lines) rise = λ token. once_by token line lines (token_eq token line.token) refl
     (once_each lines rise.1 token) rise.0
 
-pub apart_rest : (list : List TokenLine) (lists : List (List TokenLine)) → ShareNoToken (list ∷ lists)
+pub apart_rest : (list : List TokenLine) (lists : List (List TokenLine))
+    → ShareNoToken (list ∷ lists)
     → ShareNoToken lists
 apart_rest list lists apart a b first second other at at_too =
     apart (suc a) (suc b) first second (λ same. other (cc)) at at_too
@@ -179,7 +185,8 @@ pub others_none : (line : TokenLine) (lists : List (List TokenLine))
 others_none line [] apart = refl
 others_none line (second ∷ lists) apart =
     joined_lines line.token second (flat_map (λ list. list) lists)
-    ∙ ap (λ some. some ++ lines_of_token line.token (flat_map (λ (list : List TokenLine). list) lists))
+    ∙ ap (λ some. some ++ lines_of_token line.token
+    (flat_map (λ (list : List TokenLine). list) lists))
     (no_line line.token second (all_others line second (apart 0 second refl)))
     ∙ others_none line lists (λ k third at. apart (suc k) third at)
 
@@ -190,8 +197,11 @@ some_by : (token : Token) (first : TokenLine) (lines : List TokenLine) (line : T
     → (if b then first ∷ lines_of_token token lines else lines_of_token token lines) ≡ line ∷ more
     → P line × (token ≡ line.token)
 some_by token first lines line more P true test holds rest is =
-    let same : first ≡ line = cc in
-    (subst P same holds, eq_of token first.token test ∙ ap (λ (line : TokenLine). line.token) same)
+    let same : first ≡ line = cc in (
+      subst P same holds,
+      same_token token first.token test
+          ∙ ap (λ (line : TokenLine). line.token) same,
+    )
 some_by token first lines line more P false test holds rest is = rest is
 
 pub some_of : (token : Token) (lines : List TokenLine) (line : TokenLine) (more : List TokenLine)
@@ -223,7 +233,8 @@ once_both token list lists (line ∷ some) is apart first rest =
     let (differs, same) = some_of token list line some is (λ a. (k : ℕ) (second : List TokenLine)
     → slice_get lists k ≡ Some second → All (λ (b : TokenLine). a.token ≢ b.token) second) apart in
     let none : lines_of_token token (whole_of lists) ≡ [] =
-    subst (λ t. lines_of_token t (whole_of lists) ≡ []) (sym same) (others_none line lists differs) in
+    subst (λ t. lines_of_token t (whole_of lists) ≡ []) (sym same)
+    (others_none line lists differs) in
     let none_size = ap length none in
     omega (arith, size, none_size, first)
 
@@ -231,7 +242,8 @@ pub once_all : (lists : List (List TokenLine))
     → All (λ list. IsStrictlySortedBy token_cmp (tokens_of list)) lists → ShareNoToken lists
     → StandOnce (flat_map (λ (list : List TokenLine). list) lists)
 once_all [] rise apart = λ token. omega arith
-once_all (list ∷ lists) rise apart = λ token. once_both token list lists (lines_of_token token list) refl
+once_all (list ∷ lists) rise apart =
+    λ token. once_both token list lists (lines_of_token token list) refl
     (λ i d within k second at. apart 0 (suc k) list second (λ same. absurd (cc)) refl at i d within)
     (once_each list (All-head (λ list. IsStrictlySortedBy token_cmp (tokens_of list)) list lists
     rise) token)
@@ -244,19 +256,21 @@ every P [] each = All-nil P
 every P (line ∷ lines) each =
     let here : lines_of_token line.token (line ∷ lines) ≡ line ∷ lines_of_token line.token lines =
     ap (λ b. if b then line ∷ lines_of_token line.token lines else lines_of_token line.token lines)
-    (same_token line.token) in
+    (token_eq-refl line.token) in
     All-cons P line lines (All-head P line (lines_of_token line.token lines)
     (subst (λ some. All P some) here (each line.token)))
     (every P lines (λ token. rest token (token_eq token line.token) (each token)))
   where
-    rest : (token : Token) (b : Bool) → All P (if b then line ∷ lines_of_token token lines else lines_of_token
+    rest : (token : Token) (b : Bool)
+        → All P (if b then line ∷ lines_of_token token lines else lines_of_token
         token lines) → All P (lines_of_token token lines)
     rest token true all = All-tail P line (lines_of_token token lines) all
     rest token false all = all
 
 -- each joined line is one of the lists
 pub joined_each : (P : TokenLine → Type 0) (all joined : List TokenLine)
-    → ((token : Token) → lines_of_token token joined ≡ lines_of_token token all) → All P all → All P joined
+    → ((token : Token) → lines_of_token token joined ≡ lines_of_token token all) → All P all
+    → All P joined
 joined_each P all joined same each =
     every P joined (λ token. subst (λ lines. All P lines) (sym (same token))
     (All-filter (λ (line : TokenLine). token_eq token line.token) P all each))

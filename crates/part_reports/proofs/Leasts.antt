@@ -1,17 +1,14 @@
 -- The least token of the first places.
 use Rattle.std.proofs.Common.{◌≡◌, ◌≢◌, ◌<◌, ◌≤◌, ◌+◌, ℕ, List, Some, None, Option, get_or, length}
-use Rattle.std.proofs.Common.{refl, sym, ap, subst, ◌∙◌, arith, ⊎_elim}
-use Rattle.std.specs.Cmp.{IsTotalOrder}
-use Rattle.std.specs.FinMap.{nat_cmp-IsAntisymmetric}
-use Rattle.std.specs.Ordering.{nat_cmp, ordering_reverse, ordering_then}
-use Rattle.std.specs.declared.cmp.Ordering.{Ordering}
-use Rattle.std.specs.declared.cmp.Ordering.TheVariants.{Less, Equal, Greater}
+use Rattle.std.proofs.Common.{sym, ap, subst, ◌∙◌, arith, ⊎_elim}
+use Rattle.std.specs.Ordering.{ordering_reverse}
+use Rattle.std.specs.declared.cmp.Ordering.TheVariants.{Less, Greater}
 use Rattle.std.proofs.lemmas.Bool.{cases_eq, cases_lt}
-use Rattle.std.proofs.lemmas.Cmp.{nat_cmp_total, on_total, then_total}
 use Rattle.std.proofs.lemmas.Option.{slice_get-get_or, slice_get_within}
 use Rattle.tap_views.specs.Token.{token_cmp}
 use Rattle.tap_views.specs.declared.token.Token.{Token}
-use Rattle.part_reports.specs.inside.Least.{IsBelowOthers, IsLeast, StandsTwice, StandsAt}
+use Rattle.tap_views.proofs.TokenLemmas.{token_cmp-total}
+use Rattle.part_reports.specs.inside.Least.{IsBelowOthers, IsLeast, StandsAt}
 
 -- of the places before the end, the one found has the least token
 abbrev pub IsLeastBelow : List (Option Token) → ℕ → Option (ℕ × Token) → Type 0
@@ -20,22 +17,6 @@ IsLeastBelow tokens end (Some (place, token)) =
     (place < end) × StandsAt tokens place token
     × ((k : ℕ) (above : Token) → k < end → k ≢ place → StandsAt tokens k above
     → token_cmp token above ≡ Less)
-
-pub token_total : IsTotalOrder token_cmp
-token_total = then_total (on_total (λ (t : Token). t.high) nat_cmp_total)
-    (on_total (λ (t : Token). t.low) nat_cmp_total)
-
-first_equal : (r s : Ordering) → ordering_then r s ≡ Equal → (r ≡ Equal) × (s ≡ Equal)
-first_equal Less s e = absurd (let h : Less ≡ Equal = e in cc)
-first_equal Equal s e = (refl, e)
-first_equal Greater s e = absurd (let h : Greater ≡ Equal = e in cc)
-
-pub same_token : (a b : Token) → token_cmp a b ≡ Equal → a ≡ b
-same_token a b e =
-    let (high, low) = first_equal (nat_cmp a.high b.high) (nat_cmp a.low b.low) e in
-    let is = nat_cmp-IsAntisymmetric a.high b.high high in
-    let is_too = nat_cmp-IsAntisymmetric a.low b.low low in
-    λ i. record { high = is i; low = is_too i }
 
 one_there : (tokens : List (Option Token)) (k : ℕ) (a b : Token) → StandsAt tokens k a
     → StandsAt tokens k b → a ≡ b
@@ -102,7 +83,7 @@ pub below_there : (tokens : List (Option Token)) (at place : ℕ) (token least :
     → IsLeastBelow tokens (at + 1) (Some (at, token))
 below_there tokens at place token least below there greater =
     let less : token_cmp token least ≡ Less =
-    token_total.antisymm token least ∙ ap ordering_reverse greater in (
+    token_cmp-total.antisymm token least ∙ ap ordering_reverse greater in (
       omega arith,
       there,
       λ k above within other stands.
@@ -111,20 +92,9 @@ below_there tokens at place token least below there greater =
           (one_there tokens place least above below.1
           (subst (λ n. StandsAt tokens n above) e stands)) less)
           (λ (differs : k ≢ place).
-          token_total.trans token least above less
+          token_cmp-total.trans token least above less
           (below.2 k above (at_or_before k at within other) differs stands)) (cases_eq k place),
     )
-
-pub twin_there : (tokens : List (Option Token)) (at place : ℕ) (token least : Token)
-    → IsLeastBelow tokens at (Some (place, least)) → StandsAt tokens at token
-    → token_cmp least token ≡ Equal → StandsTwice tokens at
-twin_there tokens at place token least below there equal = record {
-  token = token;
-  earlier = place;
-  before = below.0;
-  there = there;
-  first = subst (λ t. StandsAt tokens place t) (same_token least token equal) below.1;
-}
 
 pub none_at_all : (tokens : List (Option Token)) → IsLeastBelow tokens (length tokens) None
     → IsLeast tokens None

@@ -1,11 +1,13 @@
 -- Ledgers that are begun, and their merge.
 use Rattle.std.proofs.Common.{◌≡◌, ◌≢◌, ◌∙◌, ℕ, List, [], ◌∷◌, ◌++◌, Some, Option, refl, sym, ap}
-use Rattle.std.proofs.Common.{subst, map}
+use Rattle.std.proofs.Common.{map}
 use Rattle.std.specs.Prelude.{IfSome}
 use Rattle.std.specs.Io.BufRead.{drop_through, take_through}
 use Rattle.std.specs.Io.KnownBytes.{Appends}
 use Rattle.std.specs.List.{AllZip}
 use Rattle.std.proofs.lemmas.List.{append_cancel_left}
+use Rattle.std.proofs.KnownBytes.{Appends-trans}
+use Rattle.std.proofs.lemmas.Option.{MatchOption-at_some}
 use Rattle.fare_texts.specs.LedgerLines.{head_text}
 use Rattle.part_reports.specs.Ledgers.{IsPartLedger, IsMergedLedger, IsNoLedger}
 use Rattle.part_reports.specs.TokenLines.{IsMergedByToken, TokenLine, text_of}
@@ -15,7 +17,6 @@ use Rattle.part_reports.specs.inside.Standings.{StandsInText, Standing}
 use Rattle.part_reports.specs.declared.merging.LineKind.{LineKind}
 use Rattle.part_reports.specs.declared.merging.LineKind.TheVariants.{Entries}
 use Rattle.part_reports.proofs.Firsts.{taken_and_left}
-use Rattle.part_reports.proofs.Merges.{appends_more}
 
 -- ---- the head line
 head_taken : (rest : List ℕ) → take_through 10 (head_text ++ rest) ≡ head_text
@@ -24,17 +25,14 @@ head_taken rest = refl
 head_left : (rest : List ℕ) → drop_through 10 (head_text ++ rest) ≡ rest
 head_left rest = refl
 
-pub known : (P : List ℕ → Type 0) (now : Option (List ℕ)) (left : List ℕ) → now ≡ Some left
-    → IfSome now P → P left
-known P now left is holds = subst (λ now. IfSome now P) is holds
-
 pub behind_head : (file line : List ℕ) (now : Option (List ℕ)) (at : Standing)
     → line ≡ take_through 10 file → now ≡ Some (drop_through 10 file) → line ≡ head_text
     → IfSome now (λ left. StandsInText (Entries, left) at) → IsBegunLedger file at
 behind_head file line now at taken left head source = record {
   left = drop_through 10 file;
   shown = sym (taken_and_left file) ∙ ap (λ line. line ++ drop_through 10 file) (sym taken ∙ head);
-  stands = known (λ left. StandsInText (Entries, left) at) now (drop_through 10 file) left source;
+  stands = MatchOption-at_some (Unit {0}) (λ left. StandsInText (Entries, left) at)
+      (drop_through 10 file) left source;
 }
 
 pub no_head : (file line : List ℕ) → line ≡ take_through 10 file → line ≢ head_text
@@ -46,14 +44,16 @@ pub no_lines : (file : List ℕ) (now : Option (List ℕ)) → now ≡ Some (dro
     → IfSome now (λ left. (list : List TokenLine) → ¬ (IsTextOf (Entries, left) list))
     → IsNoLedger file
 no_lines file now left none lines is =
-    known (λ left. (list : List TokenLine) → ¬ (IsTextOf (Entries, left) list)) now
-    (drop_through 10 file) left none lines
+    MatchOption-at_some (Unit {0})
+    (λ left. (list : List TokenLine) → ¬ (IsTextOf (Entries, left) list)) (drop_through 10 file)
+    left none lines
     ((is.each, is.no_fall), ap (drop_through 10) is.shown ∙ head_left (text_of lines))
 
 -- ---- several ledgers
 pub begun_push : (files : List (Option (List ℕ))) (ats : List Standing)
     (file : Option (List ℕ)) (at : Standing) → AreBegunLedgers files ats
-    → IfSome file (λ file. IsBegunLedger file at) → AreBegunLedgers (files ++ file ∷ []) (ats ++ at ∷ [])
+    → IfSome file (λ file. IsBegunLedger file at)
+    → AreBegunLedgers (files ++ file ∷ []) (ats ++ at ∷ [])
 begun_push [] [] file at are is = (is, tt)
 begun_push [] (other ∷ ats) file at are is = elim are [ ]
 begun_push (other ∷ files) [] file at are is = elim are [ ]
@@ -68,7 +68,7 @@ no_ledgers [] back file [] parts same are none = absurd (cc)
 no_ledgers [] back file (first ∷ files) [] same are none = elim are [ ]
 no_ledgers [] back file (first ∷ files) (lines ∷ parts) same are none =
     let is : file ≡ Some first = cc in
-    known IsNoLedger file first is none lines are.0
+    MatchOption-at_some (Unit {0}) IsNoLedger first is none lines are.0
 no_ledgers (other ∷ front) back file [] parts same are none = absurd (cc)
 no_ledgers (other ∷ front) back file (first ∷ files) [] same are none = elim are [ ]
 no_ledgers (other ∷ front) back file (first ∷ files) (lines ∷ parts) same are none =
@@ -91,7 +91,8 @@ lefts_of (first ∷ files) (file ∷ knowns) [] same are = elim are [ ]
 lefts_of (first ∷ files) (file ∷ knowns) (at ∷ ats) same are =
     let is : file ≡ Some first = cc in
     let rest : knowns ≡ map (λ file. Some file) files = cc in
-    let begun : IsBegunLedger first at = known (λ file. IsBegunLedger file at) file first is are.0 in
+    let begun : IsBegunLedger first at =
+    MatchOption-at_some (Unit {0}) (λ file. IsBegunLedger file at) first is are.0 in
     let more = lefts_of files knowns ats rest are.1 in
     record {
       lefts = begun.left ∷ more.lefts;
@@ -151,7 +152,7 @@ merged_whole files known ats old mid new same are head merged =
         is = is;
         shown = refl;
       },
-      appends_more old mid new head_text (text_of joined) head written,
+      Appends-trans old mid new head_text (text_of joined) head written,
     )
 
 pub merged_none : (files : List (List ℕ)) (known : List (Option (List ℕ)))

@@ -47,7 +47,8 @@ merged_begun files known ats old mid new text same are head begun merged =
 
 -- ---- which ledger is named
 -- the text behind so many
-pub file_behind : (front back : List (Option (List ℕ))) (file : Option (List ℕ)) (files : List (List ℕ))
+pub file_behind : (front back : List (Option (List ℕ))) (file : Option (List ℕ))
+    (files : List (List ℕ))
     → front ++ file ∷ back ≡ map (λ file. Some file) files
     → (known : List ℕ) × (file ≡ Some known) × (slice_get files (length front) ≡ Some known)
 file_behind [] back file [] are = absurd (cc)

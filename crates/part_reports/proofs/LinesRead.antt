@@ -4,7 +4,6 @@ use Rattle.std.proofs.Common.{refl, sym, ap, subst, ◌∙◌, Bool, true, false
 use Rattle.std.specs.Prelude.{IfSome, IfOk, IfErr}
 use Rattle.std.specs.Io.BufRead.{take_through, drop_through}
 use Rattle.part_reports.specs.declared.fault.MergeFault.{MergeFault}
-use Rattle.part_reports.specs.Faults.{IsOfTexts}
 use Rattle.part_reports.specs.inside.LinesRead.{IsRead, IsTold}
 use Rattle.part_reports.proofs.OneLine.{IsOneLine, taken_one}
 
@@ -19,13 +18,6 @@ pub through : (byte : ℕ) (text : List ℕ) → text ≡ take_through byte text
 through byte [] = refl
 through byte (x ∷ text) = choice (x == byte) x text (take_through byte text)
     (drop_through byte text) (through byte text)
-
--- a fault that is not of the texts
-pub read_other : {T V : Type 0} (IsIt : T → V → Type 0) (MayStand : V → Type 0) (written : V
-    → List ℕ) (text after : Option (List ℕ)) (fault : MergeFault)
-    → ¬ (IsOfTexts fault) → IsRead IsIt MayStand written text after (Err fault)
-read_other IsIt MayStand written None after fault other = tt
-read_other IsIt MayStand written (Some text) after fault other = λ is. absurd (other is)
 
 -- a line was read, and a form tells what it is
 pub read_line : {T V : Type 0} (of : T → V) (MayStand : V → Type 0) (written : V → List ℕ)

@@ -1,16 +1,18 @@
 -- What was merged so far is a beginning of whatever the texts are merged into.
 use Rattle.std.proofs.Common.{◌≡◌, ◌≢◌, ◌∙◌, ℕ, zero, suc, List, [], ◌∷◌, ◌++◌, Some, None}
-use Rattle.std.proofs.Common.{Option, Bool, true, false, refl, sym, ap, subst, arith, map}
+use Rattle.std.proofs.Common.{Option, Bool, true, false, refl, sym, ap, subst, map}
 use Rattle.std.proofs.Common.{append_assoc, append-nil, ⊎_elim, ◌⊎◌, inl, inr, if◌then◌else◌}
-use Rattle.std.specs.Prelude.{All, IfSome, flat_map, slice_get, slice_set}
+use Rattle.std.specs.Prelude.{All, flat_map, slice_get, slice_set}
 use Rattle.std.specs.Io.KnownBytes.{Appends}
 use Rattle.std.specs.List.{AllByRecursion, AllZip}
 use Rattle.std.specs.Ordering.{is_lt}
 use Rattle.std.proofs.lemmas.Bool.{true≢false}
 use Rattle.std.proofs.lemmas.List.Concat.{flat_map-append}
-use Rattle.std.specs.declared.cmp.Ordering.TheVariants.{Less}
-use Rattle.tap_views.specs.Token.{token_cmp, token_eq}
+use Rattle.std.proofs.KnownBytes.{Appends-nil, Appends-trans}
+use Rattle.tap_views.specs.Token.{token_eq}
 use Rattle.tap_views.specs.declared.token.Token.{Token}
+use Rattle.tap_views.proofs.TokenLemmas.{token_eq-refl, same_token}
+use Rattle.tap_views.proofs.Lists.{each-weaker, each-back}
 use Rattle.part_reports.specs.Texts.{Begins}
 use Rattle.part_reports.specs.TokenLines.{IsMergedByToken, ShareNoToken, TokenLine, lines_of_token}
 use Rattle.part_reports.specs.TokenLines.{text_of}
@@ -24,19 +26,17 @@ use Rattle.part_reports.specs.declared.merging.LineKind.TheVariants.{Entries}
 use Rattle.part_reports.proofs.Firsts.{line_is_some}
 use Rattle.part_reports.proofs.JoinedTokens.{apart_rest, joined_lines, others_none, some_of}
 use Rattle.part_reports.proofs.JoinedTokens.{strictly}
-use Rattle.part_reports.proofs.Merges.{AreWritten, IsMerging, IsNext, appends_more, appends_nothing}
-use Rattle.part_reports.proofs.Merges.{at_changed, below_next, head_at, heads_of_parts, part_at}
-use Rattle.part_reports.proofs.Merges.{list_at, same_next}
+use Rattle.part_reports.proofs.Merges.{AreWritten, IsMerging, IsNext, below_next, head_at}
+use Rattle.part_reports.proofs.Merges.{heads_of_parts, part_at, list_at, same_next}
 use Rattle.part_reports.proofs.Orders.{NotBelow, may_not_below, not_below_itself, not_below_trans}
 use Rattle.part_reports.proofs.Parts.{going_end, going_line, line_at, next_part}
-use Rattle.part_reports.proofs.PermutedTokens.{eq_of, same_token}
 use Rattle.part_reports.proofs.Places.{at_map, each_at}
-use Rattle.part_reports.proofs.Risings.{begins, each_behind, each_weaker, falls_to, lines_each}
+use Rattle.part_reports.proofs.Risings.{begins, falls_to, lines_each}
 use Rattle.part_reports.proofs.Risings.{lines_rise, no_bytes, rise_behind, rise_middle, rise_push}
 
 -- ---- beginnings
 pub begins_nothing : (o : Option (List ℕ)) (text : List ℕ) → Begins o o text
-begins_nothing o text = record { front = []; rest = text; whole = refl; written = appends_nothing o }
+begins_nothing o text = record { front = []; rest = text; whole = refl; written = Appends-nil o }
 
 pub begins_whole : (a b : Option (List ℕ)) (text : List ℕ) → Appends a b text → Begins a b text
 begins_whole a b text written =
@@ -58,7 +58,7 @@ begins_behind a b c x y first next = record {
   front = x ++ next.front;
   rest = next.rest;
   whole = ap (λ text. x ++ text) next.whole ∙ sym (append_assoc x next.front next.rest);
-  written = appends_more a b c x next.front first next.written;
+  written = Appends-trans a b c x next.front first next.written;
 }
 
 -- a whole text, and a beginning of the next one
@@ -75,7 +75,7 @@ token_by : (P : Token → Type 0) (token : Token) (first : TokenLine) (lines : L
     → (if b then first ∷ lines_of_token token lines else lines_of_token token lines)
     ≡ line ∷ more → P token
 token_by P token first lines line more true same holds rest is =
-    subst P (sym (eq_of token first.token same)) holds
+    subst P (sym (same_token token first.token same)) holds
 token_by P token first lines line more false other holds rest is = rest is
 
 has_token : (P : Token → Type 0) (token : Token) (lines : List TokenLine) (line : TokenLine)
@@ -89,7 +89,7 @@ has_token P token (first ∷ lines) line more is all =
 not_both : (a b : Token) → NotBelow a b → NotBelow b a → token_eq a b ≡ false → ⊥
 not_both a b first second other =
     let differs : a ≢ b = λ same. (let yes : token_eq a b ≡ true =
-    subst (λ t. token_eq a t ≡ true) same (same_token a) in absurd (cc (yes, other))) in
+    subst (λ t. token_eq a t ≡ true) same (token_eq-refl a) in absurd (cc (yes, other))) in
     true≢false (ap is_lt (sym (strictly a b first differs)) ∙ second)
 
 -- the lines of the token in all are those of what was joined, and then some
@@ -102,7 +102,7 @@ pub record HasMore (joined all : List TokenLine) (token : Token) : Type 0 where
 own_first : (line : TokenLine) (lines : List TokenLine)
     → lines_of_token line.token (line ∷ lines) ≡ line ∷ lines_of_token line.token lines
 own_first line lines = ap (λ b. if b then line ∷ lines_of_token line.token lines
-    else lines_of_token line.token lines) (same_token line.token)
+    else lines_of_token line.token lines) (token_eq-refl line.token)
 
 other_first : (token : Token) (line : TokenLine) (lines : List TokenLine)
     → token_eq token line.token ≡ false
@@ -173,7 +173,8 @@ first_is line joined first all rise rise_all has = by_test (token_eq line.token 
         let below : NotBelow line.token first.token = ⊎_elim
         (λ (none : (has first.token).more ≡ []).
         some_there (lines_of_token first.token (line ∷ joined)) refl none)
-        (λ (each : AllByRecursion (λ line. NotBelow line.token first.token) (line ∷ joined)). each.0)
+        (λ (each : AllByRecursion (λ line. NotBelow line.token first.token) (line ∷ joined)).
+        each.0)
         (has first.token).below in
         absurd (not_both line.token first.token below above other)
 
@@ -207,7 +208,7 @@ pub record Continues (part : Part) (list : List TokenLine) : Type 0 where
 rise_any : (kind : LineKind) (lines : List TokenLine) → Rise kind lines → Rise Entries lines
 rise_any kind [] rise = tt
 rise_any kind (line ∷ lines) rise = (
-  each_weaker (λ other. MayFollow kind line.token other.token)
+  each-weaker (λ other. MayFollow kind line.token other.token)
       (λ other. NotBelow line.token other.token) lines
       (λ other may. may_not_below kind line.token other.token may) rise.0,
   rise_any kind lines rise.1,
@@ -235,7 +236,7 @@ continues part list going text = by_head part.at.token refl
         let (more, whole, left) = begins part.text.0 part.done list [] going.each each
         (sym text.1 ∙ end.1 ∙ sym (append-nil (text_of part.done))) in
         let nothing : more ≡ [] = none_left part.text.0 more
-        (each_behind (IsLineOfKind part.text.0) part.done more
+        (each-back (IsLineOfKind part.text.0) part.done more
         (subst (λ lines. AllByRecursion (IsLineOfKind part.text.0) lines) whole each)) left in
         record {
           rest = [];
@@ -260,7 +261,8 @@ continues part list going text = by_head part.at.token refl
 abbrev pub AllContinue : List Part → List (List TokenLine) → Type 0
 AllContinue parts lists = AllZip Continues parts lists
 
-pub all_continue : (parts : List Part) (lists : List (List TokenLine)) → AllByRecursion IsGoing parts
+pub all_continue : (parts : List Part) (lists : List (List TokenLine))
+    → AllByRecursion IsGoing parts
     → AllZip IsTextOf (map (λ part. part.text) parts) lists → AllContinue parts lists
 all_continue [] [] going are = tt
 all_continue [] (list ∷ lists) going are = elim are [ ]
@@ -439,7 +441,7 @@ front_of parts lists joined all so_far continue merged =
           subst (λ head. AreWritten head joined) at.is
           (each_at (λ (part : Part). AreWritten part.at.token joined) parts at.place at.part
           so_far.below at.there) in
-          inr (each_weaker (λ (line : TokenLine). NotBelow line.token at.head)
+          inr (each-weaker (λ (line : TokenLine). NotBelow line.token at.head)
           (λ (line : TokenLine). NotBelow line.token token) joined
           (λ line under. not_below_trans line.token at.head token under at.above) written))
           left.stands;
@@ -542,6 +544,7 @@ pub begun_least : (texts : List (LineKind × List ℕ)) (ats : List Standing)
     → (lists : List (List TokenLine)) (all : List TokenLine) → AreTexts texts lists
     → IsMergedByToken lists all → Begins old new (text_of all)
 begun_least texts ats old now new k merging least begun =
-    let (was, stands, is) = at_map (λ (at : Standing). at.token) ats k (Some least.token) least.there
+    let (was, stands, is) =
+    at_map (λ (at : Standing). at.token) ats k (Some least.token) least.there
     in
     begun_line texts ats old now new k merging least was stands (begun was stands)

@@ -2,22 +2,24 @@
 use Rattle.std.proofs.Common.{◌≡◌, ◌≢◌, ◌∙◌, ℕ, zero, suc, ◌+◌, List, [], ◌∷◌, ◌++◌, Some, None}
 use Rattle.std.proofs.Common.{Option, Bool, true, false, refl, sym, ap, subst, arith, map}
 use Rattle.std.proofs.Common.{append-nil, append_assoc, ⊎_elim, ◌⊎◌, inl, inr}
-use Rattle.std.specs.Prelude.{All, IfSome, flat_map, slice_get, slice_set, ◌==◌}
+use Rattle.std.specs.Prelude.{All, IfSome, flat_map, slice_get, slice_set}
 use Rattle.std.specs.Io.KnownBytes.{Appends}
 use Rattle.std.specs.List.{AllByRecursion, AllZip}
-use Rattle.std.proofs.lemmas.Bool.{and_parts, cases_eq, cond-false, eqb-true}
+use Rattle.std.proofs.lemmas.Bool.{cases_eq, cond-false}
 use Rattle.std.proofs.lemmas.List.Concat.{flat_map-append}
 use Rattle.std.proofs.lemmas.List.Elements.{All-from_recursion, filter-append, recursion_from_All}
+use Rattle.std.proofs.KnownBytes.{Appends-nil, Appends-trans}
 use Rattle.std.specs.declared.cmp.Ordering.TheVariants.{Less}
 use Rattle.tap_views.specs.Token.{token_cmp, token_eq}
 use Rattle.tap_views.specs.declared.token.Token.{Token}
-use Rattle.part_reports.specs.TokenLines.{HaveOtherTokens, IsMergedByToken, TokenLine, lines_of_token}
-use Rattle.part_reports.specs.TokenLines.{text_of}
+use Rattle.tap_views.proofs.TokenLemmas.{same_token}
+use Rattle.tap_views.proofs.Lists.{each-append, each-weaker}
+use Rattle.part_reports.specs.TokenLines.{HaveOtherTokens, IsMergedByToken, TokenLine}
+use Rattle.part_reports.specs.TokenLines.{lines_of_token, text_of}
 use Rattle.part_reports.specs.inside.Kinds.{AreTexts, IsTextOf}
 use Rattle.part_reports.specs.inside.Least.{IsBelowOthers, IsLeast, StandsTwice, StandsAt}
 use Rattle.part_reports.specs.inside.Standings.{IsMoved, IsMovedAt, StandsInText, MayFollowToken}
-use Rattle.part_reports.specs.inside.Standings.{IsStuck, IsStuckAt}
-use Rattle.part_reports.specs.inside.Standings.{Standing, standing}
+use Rattle.part_reports.specs.inside.Standings.{IsStuck, IsStuckAt, Standing, standing}
 use Rattle.part_reports.specs.declared.merging.OrderedText.{OrderedText}
 use Rattle.part_reports.specs.declared.merging.LineKind.{LineKind}
 use Rattle.part_reports.specs.declared.merging.LineKind.TheVariants.{Entries}
@@ -27,24 +29,11 @@ use Rattle.part_reports.specs.inside.Going.{IsGoing, Part, Rise}
 use Rattle.part_reports.proofs.Parts.{going_end, going_first, going_line, going_next}
 use Rattle.part_reports.proofs.Parts.{going_stuck, line_at, next_part, order_next}
 use Rattle.part_reports.proofs.Places.{at_map, each_at, each_by_place, each_set, join_of_map}
-use Rattle.part_reports.proofs.Places.{map_at}
-use Rattle.part_reports.proofs.Places.{map_kept, map_of_set, one_at, set_here, set_there, split_at}
-use Rattle.part_reports.proofs.Places.{IsSplit}
-use Rattle.part_reports.proofs.Risings.{each_middle, each_push, each_weaker, falls_from}
-use Rattle.part_reports.proofs.Risings.{rise_push}
+use Rattle.part_reports.proofs.Places.{map_at, map_kept, map_of_set, one_at, set_here, set_there}
+use Rattle.part_reports.proofs.Places.{split_at, IsSplit}
+use Rattle.part_reports.proofs.Risings.{each_middle, each_push, falls_from, rise_push}
 
 -- ---- known bytes
-pub appends_nothing : (o : Option (List ℕ)) → Appends o o []
-appends_nothing None = tt
-appends_nothing (Some xs) = sym (append-nil xs)
-
-pub appends_more : (a b c : Option (List ℕ)) (x y : List ℕ) → Appends a b x → Appends b c y
-    → Appends a c (x ++ y)
-appends_more None b c x y p q = tt
-appends_more (Some xs) None c x y p q = elim p [ ]
-appends_more (Some xs) (Some ys) None x y p q = elim q [ ]
-appends_more (Some xs) (Some ys) (Some zs) x y p q =
-    q ∙ ap (λ bs. bs ++ y) p ∙ append_assoc xs x y
 
 -- ---- parts that have nothing in common
 -- what was written of one has other tokens than what was written of the other, and they are below
@@ -143,20 +132,15 @@ merging_first texts ats old are =
       below = each_by_place (λ (part : Part). AreWritten part.at.token []) begun.parts
           (λ k part is. nothing_written part.at.token);
       same = λ token. ap (lines_of_token token) (sym (nothing_done begun.parts begun.nothing));
-      written = appends_nothing old;
+      written = Appends-nil old;
     }
 
 -- ---- a token and its lines
-token_of_eq : (a b : Token) → token_eq a b ≡ true → a ≡ b
-token_of_eq a b is =
-    let (high, low) = and_parts (a.high == b.high) (a.low == b.low) is in
-    let same_high = eqb-true a.high b.high high in
-    let same_low = eqb-true a.low b.low low in
-    λ i. record { high = same_high i; low = same_low i }
 
 -- where no line has the token there are none of its lines
 no_lines : (token : Token) (lines : List TokenLine)
-    → AllByRecursion (λ line. token_eq token line.token ≡ false) lines → lines_of_token token lines ≡ []
+    → AllByRecursion (λ line. token_eq token line.token ≡ false) lines
+    → lines_of_token token lines ≡ []
 no_lines token [] others = refl
 no_lines token (line ∷ lines) others =
     cond-false (token_eq token line.token) (line ∷ lines_of_token token lines)
@@ -167,7 +151,7 @@ differs_test : (a b : Token) → a ≢ b → token_eq a b ≡ false
 differs_test a b differs = by_test (token_eq a b) refl
   where
     by_test : (t : Bool) → token_eq a b ≡ t → token_eq a b ≡ false
-    by_test true is = absurd (differs (token_of_eq a b is))
+    by_test true is = absurd (differs (same_token a b is))
     by_test false is = is
 
 no_back : (front done line : List TokenLine)
@@ -198,7 +182,8 @@ line_more token front done back line others =
     L : List TokenLine
     L = lines_of_token token (line ∷ [])
 
-    split_more : lines_of_token token (front ++ ((done ++ line ∷ []) ++ back)) ≡ F ++ ((D ++ L) ++ B)
+    split_more : lines_of_token token (front ++ ((done ++ line ∷ []) ++ back))
+        ≡ F ++ ((D ++ L) ++ B)
     split_more = filter-append (λ (other : TokenLine). token_eq token other.token) front
         ((done ++ line ∷ []) ++ back)
         ∙ ap (λ lines. F ++ lines)
@@ -215,9 +200,9 @@ line_more token front done back line others =
     by_test : (t : Bool) → token_eq token line.token ≡ t → F ++ ((D ++ L) ++ B)
         ≡ (F ++ (D ++ B)) ++ L
     by_test true is =
-        let same : token ≡ line.token = token_of_eq token line.token is in
+        let same : token ≡ line.token = same_token token line.token is in
         let none : B ≡ [] = no_lines token back
-        (each_weaker (λ (other : TokenLine). line.token ≢ other.token)
+        (each-weaker (λ (other : TokenLine). line.token ≢ other.token)
         (λ (other : TokenLine). token_eq token other.token ≡ false) back
         (λ other differs. differs_test token other.token (λ e. differs (sym same ∙ e))) others) in
         subst (λ back. F ++ ((D ++ L) ++ back) ≡ (F ++ (D ++ back)) ++ L) (sym none) (no_back F D L)
@@ -225,17 +210,12 @@ line_more token front done back line others =
         let none : L ≡ [] = no_lines token (line ∷ []) (is, tt) in
         subst (λ line. F ++ ((D ++ line) ++ B) ≡ (F ++ (D ++ B)) ++ line) (sym none) (no_line F D B)
 
-each_joined : {X : Type 0} (P : X → Type 0) (xs ys : List X) → AllByRecursion P xs
-    → AllByRecursion P ys → AllByRecursion P (xs ++ ys)
-each_joined P [] ys first second = second
-each_joined P (x ∷ xs) ys first second = (first.0, each_joined P xs ys first.1 second)
-
 each_flat : (P : TokenLine → Type 0) (parts : List Part)
     → AllByRecursion (λ part. AllByRecursion P part.done) parts
     → AllByRecursion P (flat_map (λ part. part.done) parts)
 each_flat P [] each = tt
 each_flat P (part ∷ parts) each =
-    each_joined P part.done (flat_map (λ (part : Part). part.done) parts) each.0
+    each-append P part.done (flat_map (λ (part : Part). part.done) parts) each.0
     (each_flat P parts each.1)
 
 each_both : {X : Type 0} (P Q R : X → Type 0) (xs : List X) → ((x : X) → P x → Q x → R x)
@@ -254,7 +234,7 @@ other_tokens : (token : Token) (lines : List TokenLine)
     → AllByRecursion (λ line. token_cmp line.token token ≡ Less) lines
     → AllByRecursion (λ line. token ≢ line.token) lines
 other_tokens token lines below =
-    each_weaker (λ (line : TokenLine). token_cmp line.token token ≡ Less)
+    each-weaker (λ (line : TokenLine). token_cmp line.token token ≡ Less)
     (λ (line : TokenLine). token ≢ line.token) lines
     (λ line less same. below_differs line.token token less (sym same)) below
 
@@ -274,7 +254,7 @@ past_left part q token after is past may = record {
         (λ head. AllByRecursion (λ line. token_cmp line.token head ≡ Less) q.done)
     by_head None may = tt
     by_head (Some next) may =
-        each_weaker (λ (line : TokenLine). token_cmp line.token token ≡ Less)
+        each-weaker (λ (line : TokenLine). token_cmp line.token token ≡ Less)
         (λ (line : TokenLine). token_cmp line.token next ≡ Less) q.done
         (λ line less. below_then line.token token next less
         (may_not_below part.text.0 token next may)) below
@@ -404,7 +384,7 @@ written_next : (kind : LineKind) (token : Token) (head : Option Token) (lines : 
     → MayFollowToken kind (Some token) head → AreWritten head lines
 written_next kind token None lines below may = tt
 written_next kind token (Some head) lines below may =
-    each_weaker (λ (line : TokenLine). NotBelow line.token token)
+    each-weaker (λ (line : TokenLine). NotBelow line.token token)
     (λ (line : TokenLine). NotBelow line.token head) lines
     (λ line first. not_below_trans line.token token head first (may_not_below kind token head may))
     below
@@ -426,7 +406,8 @@ pub below_next : (parts : List Part) (k : ℕ) (tokens : List (Option Token)) (p
     → AllByRecursion (λ p. AreWritten p.at.token (joined ++ line_at part.at token ∷ []))
     (slice_set parts k (next_part part token after))
 below_next parts k tokens part token after joined next below =
-    each_by_place (λ (p : Part). AreWritten p.at.token (joined ++ line ∷ [])) (slice_set parts k now)
+    each_by_place (λ (p : Part). AreWritten p.at.token (joined ++ line ∷ []))
+    (slice_set parts k now)
     (λ i p is. ⊎_elim
     (λ (here : (i ≡ k) × (p ≡ now)).
     subst (λ (p : Part). AreWritten p.at.token (joined ++ line ∷ [])) (sym here.1)
@@ -456,7 +437,8 @@ pub same_next : (parts : List Part) (k : ℕ) (part : Part) (token : Token) (aft
     → part.at.token ≡ Some token → ArePast parts
     → lines_of_token any joined ≡ lines_of_token any (flat_map (λ part. part.done) parts)
     → lines_of_token any (joined ++ line_at part.at token ∷ [])
-    ≡ lines_of_token any (flat_map (λ part. part.done) (slice_set parts k (next_part part token after)))
+    ≡ lines_of_token any
+    (flat_map (λ part. part.done) (slice_set parts k (next_part part token after)))
 same_next parts k part token after joined any there is past same =
     filter-append (λ (other : TokenLine). token_eq any other.token) joined (line ∷ [])
     ∙ ap (λ lines. lines ++ lines_of_token any (line ∷ [])) (same ∙ ap (lines_of_token any) old)
@@ -518,7 +500,8 @@ merging_next texts ats after old now new k merging least moved =
     let token = least.token in
     let tokens = map (λ (at : Standing). at.token) ats in
     let is : part.at.token ≡ Some token =
-    ap (λ (at : Standing). at.token) found.is ∙ head_at ats k moved.was token moved.there least.there
+    ap (λ (at : Standing). at.token) found.is
+    ∙ head_at ats k moved.was token moved.there least.there
     in
     let going = each_at IsGoing parts k part merging.going found.there in
     let step : IsMoved part.at moved.is = subst (λ at. IsMoved at moved.is)
@@ -550,7 +533,7 @@ merging_next texts ats after old now new k merging least moved =
       same = λ any. same_next parts k part token moved.is merging.joined any found.there is
           merging.past (merging.same any);
       written = subst (λ text. Appends old new text) (text_more merging.joined line)
-          (appends_more old now new (text_of merging.joined) line.text merging.written
+          (Appends-trans old now new (text_of merging.joined) line.text merging.written
           (subst (λ (at : Standing). Appends now new at.line) (sym found.is) moved.written));
     }
 
@@ -602,7 +585,7 @@ others_all : (first second : List TokenLine)
     → HaveOtherTokens first second
 others_all first second others =
     All-from_recursion (λ a. All (λ b. a.token ≢ b.token) second) first
-    (each_weaker (λ (a : TokenLine). AllByRecursion (λ b. a.token ≢ b.token) second)
+    (each-weaker (λ (a : TokenLine). AllByRecursion (λ b. a.token ≢ b.token) second)
     (λ (a : TokenLine). All (λ b. a.token ≢ b.token) second) first
     (λ a each. All-from_recursion (λ b. a.token ≢ b.token) second each) others)
 
@@ -615,7 +598,8 @@ no_head ats k at none is = by_head at.token refl
     by_head (Some token) same = absurd (none k token
         (map_at (λ (at : Standing). at.token) ats k at is ∙ ap (λ head. Some head) same))
 
-pub merging_end : (texts : List (LineKind × List ℕ)) (ats : List Standing) (old new : Option (List ℕ))
+pub merging_end : (texts : List (LineKind × List ℕ)) (ats : List Standing)
+    (old new : Option (List ℕ))
     → IsMerging texts ats old new → IsLeast (map (λ at. at.token) ats) None
     → (lists : List (List TokenLine)) × (joined : List TokenLine) × AreTexts texts lists
     × IsMergedByToken lists joined × Appends old new (text_of joined)
@@ -669,7 +653,7 @@ list_at (first ∷ parts) (list ∷ lists) (suc k) part are is = list_at parts l
 pub others_each : (first second : List TokenLine) → HaveOtherTokens first second
     → AllByRecursion (λ a. AllByRecursion (λ b. a.token ≢ b.token) second) first
 others_each first second others =
-    each_weaker (λ (a : TokenLine). All (λ b. a.token ≢ b.token) second)
+    each-weaker (λ (a : TokenLine). All (λ b. a.token ≢ b.token) second)
     (λ (a : TokenLine). AllByRecursion (λ b. a.token ≢ b.token) second) first
     (λ a each. recursion_from_All (λ b. a.token ≢ b.token) second each)
     (recursion_from_All (λ a. All (λ b. a.token ≢ b.token) second) first others)
@@ -707,7 +691,8 @@ line_at_place texts ats old new merging k token stands lists are =
       whole = begun;
     }
 
-pub merging_twin : (texts : List (LineKind × List ℕ)) (ats : List Standing) (old new : Option (List ℕ))
+pub merging_twin : (texts : List (LineKind × List ℕ)) (ats : List Standing)
+    (old new : Option (List ℕ))
     → IsMerging texts ats old new → (k : ℕ) → StandsTwice (map (λ at. at.token) ats) k
     → (lists : List (List TokenLine)) (joined : List TokenLine) → AreTexts texts lists
     → ¬ (IsMergedByToken lists joined)

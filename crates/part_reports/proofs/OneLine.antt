@@ -8,7 +8,7 @@ use Rattle.std.specs.Fmt.{decimal}
 use Rattle.std.specs.Io.BufRead.{drop_through, take_through}
 use Rattle.std.specs.List.{AllByRecursion}
 use Rattle.std.specs.Str.{all_ascii_digits}
-use Rattle.std.proofs.lemmas.Bool.{false≢true}
+use Rattle.std.proofs.lemmas.Bool.{false≢true, and_parts}
 use Rattle.std.proofs.lemmas.Bool.Decides.{nat_tests}
 use Rattle.std.proofs.lemmas.List.Elements.{All-append, All-from_recursion, All-nil}
 use Rattle.std.proofs.lemmas.List.Elements.{recursion_from_All}
@@ -17,18 +17,18 @@ use Rattle.tap_views.specs.Token.{bytes_of}
 use Rattle.fare_texts.specs.Counts.{counts_text, totals_line}
 use Rattle.shard_book.specs.Sums.{Sums}
 use Rattle.tap_views.specs.declared.token.Token.{Token}
-use Rattle.report_texts.specs.Numbers.{AreCounts, IsUploadEnd, IsTokenSum}
-use Rattle.report_texts.specs.Numbers.{IsValidatorSum}
+use Rattle.report_texts.specs.Numbers.{AreCounts, IsUploadEnd, IsTokenSum, IsValidatorSum}
 use Rattle.fare_texts.specs.ReportLines.{number_line, token_line, validator_line}
 use Rattle.report_texts.specs.inside.EndWords.{end_words, fault_number}
-use Rattle.report_texts.specs.declared.upload_end.UploadEnd.TheVariants.{Posted, Refused, Cut, Undrawn}
+use Rattle.report_texts.specs.declared.upload_end.UploadEnd.TheVariants.{Posted, Refused, Cut}
+use Rattle.report_texts.specs.declared.upload_end.UploadEnd.TheVariants.{Undrawn}
 use Rattle.report_texts.proofs.EndTexts.{line_words, refused_spelt, small_number}
 use Rattle.part_reports.specs.Ledgers.{IsLedgerEntryLine}
 use Rattle.part_reports.specs.TokenLines.{TokenLine}
 use Rattle.report_texts.proofs.Counts.{counts_read, taps_counted, paid_counted, transfers_counted}
 use Rattle.report_texts.proofs.Counts.{capped_counted, stale_counted, unknown_counted}
 use Rattle.report_texts.proofs.Counts.{cents_counted}
-use Rattle.report_texts.proofs.Digits.{and_left, and_right, decimal_digits}
+use Rattle.report_texts.proofs.Digits.{decimal_digits}
 use Rattle.report_texts.specs.Report.{upload_line}
 use Rattle.report_texts.specs.declared.upload_end.UploadEnd.{UploadEnd}
 
@@ -108,9 +108,6 @@ no_feed_before (x ∷ left) front e =
     cons_cases x left (x == 10) refl front (no_feed_before left) e
 
 -- ---- texts with no line feed
-none_joined : (a b : List ℕ) → HasNoFeed a → HasNoFeed b → HasNoFeed (a ++ b)
-none_joined [] b is also = also
-none_joined (x ∷ a) b is also = (is.0, none_joined a b is.1 also)
 
 pub none_behind : (a b : List ℕ) → HasNoFeed (a ++ b) → HasNoFeed b
 none_behind [] b is = is
@@ -127,9 +124,9 @@ tested_one x is ten = false≢true (subst (λ n. not (n == 10) ≡ true) ten is)
 tested : (text : List ℕ) → has_none text ≡ true → HasNoFeed text
 tested [] is = tt
 tested (x ∷ text) is = (
-  tested_one x (and_left (not (x == 10)) (has_none text) is),
+  tested_one x (and_parts (not (x == 10)) (has_none text) is).0,
   tested text
-      (and_right (not (x == 10)) (has_none text) is),
+      (and_parts (not (x == 10)) (has_none text) is).1,
 )
 
 -- the bytes of a word, which has none
@@ -142,9 +139,9 @@ digit_no_feed c is e = false≢true (subst (λ n. is_ascii_digit n ≡ true) e i
 digits_none : (text : List ℕ) → all_ascii_digits text ≡ true → HasNoFeed text
 digits_none [] is = tt
 digits_none (c ∷ text) is = (
-  digit_no_feed c (and_left (is_ascii_digit c) (all_ascii_digits text) is),
+  digit_no_feed c (and_parts (is_ascii_digit c) (all_ascii_digits text) is).0,
   digits_none text
-      (and_right (is_ascii_digit c) (all_ascii_digits text) is),
+      (and_parts (is_ascii_digit c) (all_ascii_digits text) is).1,
 )
 
 decimal_none : (n : ℕ) → n < 2 ^ 64 → HasNoFeed (decimal n)

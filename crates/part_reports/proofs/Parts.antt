@@ -1,29 +1,27 @@
 -- A text that is being merged: how far it was written.
-use Rattle.std.proofs.Common.{◌≡◌, ◌∙◌, ℕ, List, [], ◌∷◌, ◌++◌, Some, None}
-use Rattle.std.proofs.Common.{Option, refl, sym, ap, subst, arith, append_assoc}
-use Rattle.std.proofs.Common.{append-nil, length-append}
+use Rattle.std.proofs.Common.{◌≡◌, ◌∙◌, ℕ, List, [], ◌∷◌, ◌++◌, Some, None, Option, refl, sym, ap}
+use Rattle.std.proofs.Common.{subst, arith, append_assoc, append-nil, length-append}
 use Rattle.std.specs.Prelude.{IfSome}
 use Rattle.std.specs.List.{AllByRecursion}
 use Rattle.std.proofs.lemmas.List.{length_push}
 use Rattle.std.proofs.lemmas.List.Concat.{flat_map-append}
 use Rattle.tap_views.specs.declared.token.Token.{Token}
+use Rattle.tap_views.proofs.Lists.{each-weaker, each-back}
 use Rattle.part_reports.specs.TokenLines.{TokenLine, text_of}
 use Rattle.shard_book.specs.Sums.{sums}
 use Rattle.part_reports.specs.inside.Going.{IsBehindSo, IsGoing, Part, Rise}
 use Rattle.part_reports.specs.inside.Kinds.{AreLines, HasTokenSums, IsTextOf}
 use Rattle.part_reports.specs.inside.SumsLeft.{sums_left}
-use Rattle.part_reports.specs.inside.Standings.{IsAtEnd, IsAtLine, IsBehindOne, IsLineOfKind, IsMoved}
-use Rattle.part_reports.specs.inside.Standings.{StandsInText, StandsInTextAt, IsStuck, MayEnd, MayFollow}
-use Rattle.part_reports.specs.inside.Standings.{MayFollowAll, MayFollowToken, Standing}
+use Rattle.part_reports.specs.inside.Standings.{IsAtEnd, IsAtLine, IsBehindOne, IsLineOfKind}
+use Rattle.part_reports.specs.inside.Standings.{IsMoved, StandsInText, StandsInTextAt, IsStuck}
+use Rattle.part_reports.specs.inside.Standings.{MayEnd, MayFollow, MayFollowAll, MayFollowToken}
+use Rattle.part_reports.specs.inside.Standings.{Standing}
 use Rattle.part_reports.specs.declared.merging.LineKind.{LineKind}
 use Rattle.part_reports.specs.declared.merging.LineKind.TheVariants.{Tokens, Entries}
 use Rattle.part_reports.proofs.Added.{leave_all, leave_behind, leave_push, one_of_token}
 use Rattle.part_reports.proofs.Orders.{may_follow_trans}
-use Rattle.part_reports.proofs.Risings.{AreCounted, begins, each_behind, each_push}
-use Rattle.part_reports.proofs.Risings.{each_weaker}
-use Rattle.part_reports.proofs.Risings.{lines_count, lines_each, lines_from, lines_rise}
-use Rattle.part_reports.proofs.Risings.{rise_behind}
-use Rattle.part_reports.proofs.Risings.{rise_middle, rise_push}
+use Rattle.part_reports.proofs.Risings.{AreCounted, begins, each_push, lines_count, lines_each}
+use Rattle.part_reports.proofs.Risings.{lines_from, lines_rise, rise_behind, rise_middle, rise_push}
 
 none_behind : (kind : LineKind) → IsBehindSo kind kind []
 none_behind (Tokens left rest) = (omega arith, refl)
@@ -64,7 +62,8 @@ rest_count (Tokens all total) Entries done more is counted = elim is [ ]
 rest_count Entries (Tokens left rest) done more is counted = elim is [ ]
 rest_count Entries Entries done more is counted = tt
 
-pub like_line : (all kind : LineKind) (done : List TokenLine) (line : TokenLine) → IsBehindSo all kind done
+pub like_line : (all kind : LineKind) (done : List TokenLine) (line : TokenLine)
+    → IsBehindSo all kind done
     → IsLineOfKind kind line → IsLineOfKind all line
 like_line (Tokens all total) (Tokens left rest) done line is fits = fits
 like_line (Tokens all total) Entries done line is fits = elim is [ ]
@@ -79,13 +78,15 @@ like_order Entries (Tokens left rest) done a b is may = elim is [ ]
 like_order Entries Entries done a b is may = may
 
 -- the lines behind so many, as lines of what is left
-rest_lines : (all kind : LineKind) (done : List TokenLine) (lines : List TokenLine) → IsBehindSo all kind done
+rest_lines : (all kind : LineKind) (done : List TokenLine) (lines : List TokenLine)
+    → IsBehindSo all kind done
     → AreCounted kind lines → AllByRecursion (IsLineOfKind all) lines → Rise all lines
     → AreLines kind lines
 rest_lines (Tokens all total) (Tokens left rest) done lines is counted each rise =
     lines_from (Tokens left rest) lines counted each (same_rise lines rise)
   where
-    same_rise : (lines : List TokenLine) → Rise (Tokens all total) lines → Rise (Tokens left rest) lines
+    same_rise : (lines : List TokenLine) → Rise (Tokens all total) lines
+        → Rise (Tokens left rest) lines
     same_rise [] rise = tt
     same_rise (line ∷ lines) rise = (rise.0, same_rise lines rise.1)
 rest_lines (Tokens all total) Entries done lines is counted each rise = elim is [ ]
@@ -158,7 +159,7 @@ next_below : (kind : LineKind) (before : Token) (head : Option Token) (lines : L
     → IfSome head (λ token. AllByRecursion (λ line. MayFollow kind line.token token) lines)
 next_below kind before None lines below may = tt
 next_below kind before (Some token) lines below may =
-    each_weaker (λ line. MayFollow kind line.token before) (λ line. MayFollow kind line.token token)
+    each-weaker (λ line. MayFollow kind line.token before) (λ line. MayFollow kind line.token token)
     lines (λ line first. may_follow_trans kind line.token before token first may) below
 
 itself_below : (kind : LineKind) (line : TokenLine) (head : Option Token)
@@ -206,7 +207,8 @@ going_next part token after going is moved =
     record {
       kind = part.at.behind;
       left = at.rest;
-      source = subst (λ left. IfSome left (λ text. StandsInText (part.at.behind, text) after)) at.left
+      source = subst (λ left. IfSome left (λ text. StandsInText (part.at.behind, text) after))
+          at.left
           moved.read;
       behind = behind;
       shown = shown_here part token going is;
@@ -263,7 +265,7 @@ going_stuck part token going is stuck list text =
     let lines : AreLines part.at.behind more =
     rest_lines part.text.0 part.at.behind front more behind
     (rest_count part.text.0 part.at.behind front more behind count)
-    (each_behind (IsLineOfKind part.text.0) front more each) (rise_behind part.text.0 front more rise)
+    (each-back (IsLineOfKind part.text.0) front more each) (rise_behind part.text.0 front more rise)
     in
     let may : MayFollowAll part.at.behind token more =
     rest_may part.text.0 part.at.behind front token more behind

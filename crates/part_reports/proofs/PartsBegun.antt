@@ -39,7 +39,8 @@ sections_unique a b x y may may_too same =
     may.totals may_too.totals ends.1 in
     let validators = validators_unique a.validators b.validators (tokens_text a.tokens ++ x)
     (tokens_text b.tokens ++ y) may.validators may_too.validators totals.1 in
-    let tokens = number_line_unique (codes "tokens ") a.tokens b.tokens x y may.tokens may_too.tokens
+    let tokens = number_line_unique (codes "tokens ") a.tokens b.tokens x y may.tokens
+    may_too.tokens
     validators.1 in (
       λ i. record {
         ends = ends.0 i;
@@ -166,7 +167,8 @@ pub is_part : (before after : WholeSums) (file now : Option (List ℕ)) (front :
     → IfSome file (λ file. IsPart before after file at)
 is_part before after None now front at read added stands = tt
 is_part before after (Some file) now front at read added stands =
-    let here = subst (λ now. IfSome now (λ left. StandsInText (front_kind front, left) at)) read.left
+    let here = subst (λ now. IfSome now (λ left. StandsInText (front_kind front, left) at))
+    read.left
     stands in
     record {
       begun = (read.value, read.rest);
@@ -184,7 +186,8 @@ BegunSo remaining readers sums sources = (files : List (List ℕ)) → AreLeft r
     → AreParts files sums sources
 
 pub begun_none : {R : Type 0} (remaining : R → Option (List ℕ)) (sums : WholeSums)
-    (sources : List Standing) → AreFrontsCounted sums [] → sources ≡ [] → BegunSo remaining [] sums sources
+    (sources : List Standing) → AreFrontsCounted sums [] → sources ≡ []
+    → BegunSo remaining [] sums sources
 begun_none remaining sums sources counted none files are =
     let no_text = no_files remaining files are in
     record {
@@ -220,7 +223,8 @@ begun_more remaining readers x before after sources all at all_is so_far part fi
           ∙ ap (λ some. some ++ parts.file ∷ []) done.shown
           ∙ ap (λ file. map begun_text done.begun ++ file ∷ []) here.shown
           ∙ sym (map-append begun_text done.begun (here.begun ∷ []));
-      may = All-push (λ (one : BegunReport). MayBePart one.0) done.begun here.begun done.may here.may;
+      may = All-push (λ (one : BegunReport). MayBePart one.0) done.begun here.begun done.may
+          here.may;
       counted = subst (λ fronts. AreFrontsCounted after fronts)
           (sym (map-append (λ (one : BegunReport). one.0) done.begun (here.begun ∷ [])))
           (here.added (map (λ one. one.0) done.begun) done.counted);

@@ -1,14 +1,14 @@
 -- Lists that have the same lines of each token have the same lines.
-use Rattle.std.proofs.Common.{◌≡◌, ℕ, List, [], ◌∷◌, ◌++◌, refl, sym, ap, subst, ◌∙◌, arith, Bool}
-use Rattle.std.proofs.Common.{true, false, ◌==◌, ◌&&◌, if◌then◌else◌}
+use Rattle.std.proofs.Common.{◌≡◌, List, [], ◌∷◌, ◌++◌, refl, sym, ap, subst, ◌∙◌, Bool}
+use Rattle.std.proofs.Common.{true, false, if◌then◌else◌}
 use Rattle.std.specs.Prelude.{filter}
 use Rattle.std.specs.List.Sorted.{IsPermutation}
-use Rattle.std.proofs.lemmas.Bool.Decides.{nat_tests}
 use Rattle.std.proofs.lemmas.List.Sorted.{IsPermutation-refl, IsPermutation-cons}
 use Rattle.std.proofs.lemmas.List.Sorted.{IsPermutation-middle, IsPermutation-sym}
 use Rattle.std.proofs.lemmas.List.Sorted.{IsPermutation-trans}
 use Rattle.tap_views.specs.Token.{token_eq}
 use Rattle.tap_views.specs.declared.token.Token.{Token}
+use Rattle.tap_views.proofs.TokenLemmas.{token_eq-refl, same_token}
 use Rattle.shard_book.specs.Sums.{Sums}
 
 abbrev pub Sum : Type 0
@@ -17,15 +17,6 @@ Sum = Token × Sums
 -- those of this token
 abbrev pub of_token : Token → List Sum → List Sum
 of_token token sums = filter (λ (sum : Sum). token_eq token sum.0) sums
-
-pub both : (a b : Bool) → a ≡ true → b ≡ true → (a && b) ≡ true
-both true true p q = refl
-both true false p q = q
-both false b p q = p
-
-pub same_token : (token : Token) → token_eq token token ≡ true
-same_token token = both (token.high == token.high) (token.low == token.low)
-    (grind (arith, nat_tests)) (grind (arith, nat_tests))
 
 -- where the first of a token stands
 pub record Found (token : Token) (first : Sum) (sums : List Sum) (rest : List Sum) : Type 0 where
@@ -93,42 +84,22 @@ left_same token true first one front back is none_before =
     ap (λ f. f ++ of_token token back) empty ∙ tails
 left_same token false first one front back is none_before = is
 
-pub eq_of : (a b : Token) → token_eq a b ≡ true → a ≡ b
-eq_of a b is = λ i. record { high = high i; low = low i }
-  where
-    first_of_both : (a b : Bool) → (a && b) ≡ true → a ≡ true
-    first_of_both true b is = refl
-    first_of_both false b is = is
-
-    second_of_both : (a b : Bool) → (a && b) ≡ true → b ≡ true
-    second_of_both true b is = is
-    second_of_both false b is = absurd (cc)
-
-    number : (x y : ℕ) → (x == y) ≡ true → x ≡ y
-    number x y is = grind (arith, nat_tests, is)
-
-    high : a.high ≡ b.high
-    high = number a.high b.high (first_of_both (a.high == b.high) (a.low == b.low) is)
-
-    low : a.low ≡ b.low
-    low = number a.low b.low (second_of_both (a.high == b.high) (a.low == b.low) is)
-
 pub permuted : (xs ys : List Sum) → ((token : Token) → of_token token xs ≡ of_token token ys)
     → IsPermutation xs ys
 permuted [] [] same = IsPermutation-refl []
 permuted [] (y ∷ ys) same =
-    let here = ap (λ b. if b then y ∷ of_token y.0 ys else of_token y.0 ys) (same_token y.0) in
+    let here = ap (λ b. if b then y ∷ of_token y.0 ys else of_token y.0 ys) (token_eq-refl y.0) in
     absurd (let is = same y.0 ∙ here in cc)
 permuted (x ∷ xs) ys same =
     let here : of_token x.0 (x ∷ xs) ≡ x ∷ of_token x.0 xs =
-    ap (λ b. if b then x ∷ of_token x.0 xs else of_token x.0 xs) (same_token x.0) in
+    ap (λ b. if b then x ∷ of_token x.0 xs else of_token x.0 xs) (token_eq-refl x.0) in
     let at = find x.0 x ys (of_token x.0 xs) (sym (same x.0) ∙ here) in
     let rest : (token : Token) → of_token token xs ≡ of_token token (at.front ++ at.back) =
     λ token. sym (filter_joined token at.front at.back
     ∙ left_same token (token_eq token x.0) x (of_token token xs) at.front at.back
     (sym (filter_joined token at.front (x ∷ at.back)) ∙ ap (of_token token) (sym at.is)
     ∙ sym (same token))
-    (λ is. subst (λ t. of_token t at.front ≡ []) (sym (eq_of token x.0 is)) at.none_before)) in
+    (λ is. subst (λ t. of_token t at.front ≡ []) (sym (same_token token x.0 is)) at.none_before)) in
     let moved = IsPermutation-cons x xs (at.front ++ at.back)
     (permuted xs (at.front ++ at.back) rest) in
     subst (λ ys. IsPermutation (x ∷ xs) ys) (sym at.is)

@@ -14,6 +14,7 @@ at_map f [] k y is = absurd (cc)
 at_map f (x ∷ xs) zero y is = (x, refl, let h : Some (f x) ≡ Some y = is in cc)
 at_map f (x ∷ xs) (suc k) y is = at_map f xs k y is
 
+-- what is at a place, mapped
 pub map_at : {X Y : Type 0} (f : X → Y) (xs : List X) (k : ℕ) (x : X) → slice_get xs k ≡ Some x
     → slice_get (map f xs) k ≡ Some (f x)
 map_at f [] k x is = absurd (cc)
@@ -21,6 +22,7 @@ map_at f (first ∷ xs) zero x is = let h : Some first ≡ Some x = is in
     let same : first ≡ x = cc in ap (λ x. Some (f x)) same
 map_at f (first ∷ xs) (suc k) x is = map_at f xs k x is
 
+-- one element is at a place
 pub one_at : {X : Type 0} (xs : List X) (k : ℕ) (x y : X) → slice_get xs k ≡ Some x
     → slice_get xs k ≡ Some y → x ≡ y
 one_at xs k x y is also = let h : Some x ≡ Some y = sym is ∙ also in cc

@@ -1,8 +1,9 @@
 -- What charges leave of a report: the next one, one that cannot be, and the end.
-use Rattle.std.proofs.Common.{◌≡◌, ◌≢◌, ◌∙◌, ◌<◌, ◌^◌, ◌⊎◌, zero, suc, ℕ, List, [], ◌∷◌, ◌++◌, Option, Some}
+use Rattle.std.proofs.Common.{◌≡◌, ◌≢◌, ◌∙◌, ◌<◌, ◌^◌, ◌⊎◌, zero, suc, ℕ, List, [], ◌∷◌, ◌++◌}
+use Rattle.std.proofs.Common.{Option, Some}
 use Rattle.std.proofs.Common.{None, inl, inr, refl, sym, ap, subst, arith, length, append-nil}
 use Rattle.std.proofs.Common.{append_assoc, true, false, length-append, Bool, ◌&&◌, ◌==◌, cond}
-use Rattle.std.proofs.lemmas.Bool.{and_parts, cases_eq, eqb-true}
+use Rattle.std.proofs.lemmas.Bool.{and_parts, cases_eq, eqb-true, and_from}
 use Rattle.std.specs.declared.cmp.Ordering.TheVariants.{Less}
 use Rattle.std.specs.Cmp.Lexicographic.{pointwise}
 use Rattle.std.specs.Prelude.{◌↔◌, All, flat_map, is_some, map}
@@ -22,6 +23,8 @@ use Rattle.shard_book.specs.declared.sums.ValidatorSum.{ValidatorSum}
 use Rattle.shard_book.specs.declared.sums.totals.Totals.{Totals}
 use Rattle.tap_views.specs.Token.{token_cmp}
 use Rattle.tap_views.specs.declared.token.Token.{Token}
+use Rattle.tap_views.proofs.Orderings.{less}
+use Rattle.tap_views.proofs.Lists.{each-weaker, All-front, All-back}
 use Rattle.part_reports.specs.Charges.{LineCharge}
 use Rattle.part_reports.specs.LedgersWithReports.{AddUpTo, AddUpToText, at_validator}
 use Rattle.part_reports.specs.Reports.{IsPartReport, Report, added, report_text, sums_found}
@@ -42,16 +45,14 @@ use Rattle.part_reports.specs.inside.SumsLeft.{left_of, sums_left}
 use Rattle.part_reports.specs.declared.merging.LineKind.{LineKind}
 use Rattle.part_reports.specs.declared.merging.LineKind.TheVariants.{Tokens}
 use Rattle.part_reports.proofs.Added.{leave_sums, lines_stand}
-use Rattle.part_reports.proofs.EndsRead.{All-behind, All-front}
 use Rattle.part_reports.proofs.FewParts.{few, one_small, same_test, told_may, told_of}
-use Rattle.part_reports.proofs.Groups.{groups_use, head_same, no_stay, no_turn, other_next, something_left}
-use Rattle.part_reports.proofs.Groups.{stays_on, turns_on, use_groups}
+use Rattle.part_reports.proofs.Groups.{groups_use, head_same, no_stay, no_turn, other_next}
+use Rattle.part_reports.proofs.Groups.{something_left, stays_on, turns_on, use_groups}
 use Rattle.part_reports.proofs.Parts.{going_end, going_first, going_line, going_next, going_stuck}
 use Rattle.part_reports.proofs.Parts.{here, like_line, line_at}
 use Rattle.part_reports.proofs.PartsBegun.{told_unique}
-use Rattle.part_reports.proofs.PermutedTokens.{both}
-use Rattle.part_reports.proofs.Rising.{is_less, less}
-use Rattle.part_reports.proofs.Risings.{begins, each_weaker, lines_each}
+use Rattle.part_reports.proofs.Rising.{is_less}
+use Rattle.part_reports.proofs.Risings.{begins, lines_each}
 use Rattle.part_reports.proofs.SumsAdded.{or_nothing_in, other_key, same_key, taps_joined}
 use Rattle.part_reports.proofs.TokenSums.{Sum, line_of, lines_keys, lines_length, lines_text}
 use Rattle.part_reports.proofs.TokenSums.{sums_same}
@@ -195,7 +196,7 @@ rest_by file left done is charges add back same no_more one_more =
       none = λ end. no_sums parts.more (parts.of_back ∙ no_more end);
       some = λ token there. let (behind, first) = one_more token there in
           first_is token left.at.line parts.more behind
-          (All-behind IsTokenSum parts.first parts.more fits) (parts.of_back ∙ first);
+          (All-back IsTokenSum parts.first parts.more fits) (parts.of_back ∙ first);
     }
   where
     no_sums : (sums : List Sum) → map line_of sums ≡ [] → sums ≡ []
@@ -294,7 +295,8 @@ not_begun file before charges nothing no_part add =
     (add.shown ∙ sym (whole_text report.ends report.totals report.validators report.tokens))
     (lines_stand report.tokens report.totals fit.tokens fit.tokens_rise fit.tokens_add)
     (few (told_of report ∷ [])
-    (All-cons MayBePart (told_of report) [] (told_may report fit) (All-nil MayBePart)) (omega arith))
+    (All-cons MayBePart (told_of report) [] (told_may report fit) (All-nil MayBePart))
+    (omega arith))
 
 -- ---- one charge more
 at_more : (done : List LineCharge) (charge : LineCharge)
@@ -650,13 +652,15 @@ tables_same test is (x ∷ some) (y ∷ more) same validator =
 found_head : (entry : ℕ × Totals) (entries : List (ℕ × Totals))
     → found_in (entry ∷ entries) entry.0 ≡ Some (sums_of entry.1)
 found_head entry entries =
-    ap (λ at. option_map sums_of (cond at (Some entry.1) (lookup (is_at (nat_cmp entry.0)) entries)))
+    ap (λ at. option_map sums_of
+    (cond at (Some entry.1) (lookup (is_at (nat_cmp entry.0)) entries)))
     (same_key entry.0)
 
 found_behind : (validator : ℕ) (entry : ℕ × Totals) (entries : List (ℕ × Totals))
     → validator ≢ entry.0 → found_in (entry ∷ entries) validator ≡ found_in entries validator
 found_behind validator entry entries other =
-    ap (λ at. option_map sums_of (cond at (Some entry.1) (lookup (is_at (nat_cmp validator)) entries)))
+    ap (λ at. option_map sums_of
+    (cond at (Some entry.1) (lookup (is_at (nat_cmp validator)) entries)))
     (other_key validator entry.0 other)
 
 below_not : (a b : ℕ) → nat_cmp a b ≡ Less → a ≢ b
@@ -674,7 +678,7 @@ above_all : (low high : ℕ) (keys : List ℕ) → low < high
     → AllByRecursion (λ key. nat_cmp high key ≡ Less) keys
     → AllByRecursion (λ key. nat_cmp low key ≡ Less) keys
 above_all low high keys lower above =
-    each_weaker (λ key. nat_cmp high key ≡ Less) (λ key. nat_cmp low key ≡ Less) keys
+    each-weaker (λ key. nat_cmp high key ≡ Less) (λ key. nat_cmp low key ≡ Less) keys
     (λ key below. let more = is_less high key below in less low key (omega (arith, lower, more)))
     above
 
@@ -704,22 +708,24 @@ tables_equal test is (x ∷ some) (y ∷ more) rise rise_too same = elim (cases_
       let found : Some (sums_of x.1) ≡ Some (sums_of y.1) =
       sym (found_head x some) ∙ same x.0 ∙ ap (found_in (y ∷ more)) key ∙ found_head y more in
       let sums : sums_of x.1 ≡ sums_of y.1 = cc in
-      both ((x.0 == y.0) && test x.1 y.1)
+      and_from ((x.0 == y.0) && test x.1 y.1)
       (pointwise (λ (p q : ℕ × Totals). (p.0 == q.0) && test p.1 q.1) some more)
-      (both (x.0 == y.0) (test x.1 y.1) (same_test x.0 y.0 key) (is x.1 y.1 sums))
+      (and_from (x.0 == y.0) (test x.1 y.1) (same_test x.0 y.0 key) (is x.1 y.1 sums))
       (tables_equal test is some more rise.1 rise_too.1 (λ validator. behind validator key))
   | inr other ↦
       elim (either_below x.0 y.0 other) [
         | inl below ↦
             let none : Some (sums_of x.1) ≡ None =
             sym (found_head x some) ∙ same x.0
-            ∙ none_above x.0 (y ∷ more) (less x.0 y.0 below, above_all x.0 y.0 (keys_of more) below rise_too.0)
+            ∙ none_above x.0 (y ∷ more)
+            (less x.0 y.0 below, above_all x.0 y.0 (keys_of more) below rise_too.0)
             in
             absurd (cc)
         | inr below ↦
             let none : Some (sums_of y.1) ≡ None =
             sym (found_head y more) ∙ sym (same y.0)
-            ∙ none_above y.0 (x ∷ some) (less y.0 x.0 below, above_all y.0 x.0 (keys_of some) below rise.0)
+            ∙ none_above y.0 (x ∷ some)
+            (less y.0 x.0 below, above_all y.0 x.0 (keys_of some) below rise.0)
             in
             absurd (cc)
       ]
@@ -729,7 +735,8 @@ tables_equal test is (x ∷ some) (y ∷ more) rise rise_too same = elim (cases_
     behind validator key = elim (cases_eq validator x.0) [
       | inl at ↦
           none_above validator some
-          (subst (λ k. AllByRecursion (λ other. nat_cmp k other ≡ Less) (keys_of some)) (sym at) rise.0)
+          (subst (λ k. AllByRecursion (λ other. nat_cmp k other ≡ Less) (keys_of some)) (sym at)
+          rise.0)
           ∙ sym (none_above validator more
           (subst (λ k. AllByRecursion (λ other. nat_cmp k other ≡ Less) (keys_of more))
           (sym (at ∙ key)) rise_too.0))
@@ -765,13 +772,13 @@ test_sums a b test =
 
 pub sums_test : (a b : Totals) → sums_of a ≡ sums_of b → totals_test a b ≡ true
 sums_test a b same =
-    both (a.taps == b.taps) _ (same_test a.taps b.taps (ap (λ (s : Sums). s.taps) same))
-    (both (a.paid == b.paid) _ (same_test a.paid b.paid (ap (λ (s : Sums). s.paid) same))
-    (both (a.transfers == b.transfers) _
+    and_from (a.taps == b.taps) _ (same_test a.taps b.taps (ap (λ (s : Sums). s.taps) same))
+    (and_from (a.paid == b.paid) _ (same_test a.paid b.paid (ap (λ (s : Sums). s.paid) same))
+    (and_from (a.transfers == b.transfers) _
     (same_test a.transfers b.transfers (ap (λ (s : Sums). s.transfers) same))
-    (both (a.capped == b.capped) _
+    (and_from (a.capped == b.capped) _
     (same_test a.capped b.capped (ap (λ (s : Sums). s.capped) same))
-    (both (a.stale == b.stale) _ (same_test a.stale b.stale (ap (λ (s : Sums). s.stale) same))
-    (both (a.unknown == b.unknown) (a.cents == b.cents)
+    (and_from (a.stale == b.stale) _ (same_test a.stale b.stale (ap (λ (s : Sums). s.stale) same))
+    (and_from (a.unknown == b.unknown) (a.cents == b.cents)
     (same_test a.unknown b.unknown (ap (λ (s : Sums). s.unknown) same))
     (same_test a.cents b.cents (ap (λ (s : Sums). s.cents) same)))))))

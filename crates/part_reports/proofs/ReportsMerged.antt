@@ -1,12 +1,15 @@
 -- Ledgers that are merged beside what is left of their reports.
-use Rattle.std.proofs.Common.{◌≡◌, ◌∙◌, ◌+◌, ◌<◌, ◌≤◌, ◌⊎◌, inl, inr, ℕ, zero, suc, List, [], ◌∷◌, ◌++◌, Option, Some, None, refl}
+use Rattle.std.proofs.Common.{◌≡◌, ◌∙◌, ◌+◌, ◌<◌, ◌≤◌, ◌⊎◌, inl, inr, ℕ, zero, suc, List, [], ◌∷◌}
+use Rattle.std.proofs.Common.{◌++◌, Option, Some, None, refl}
 use Rattle.std.proofs.Common.{sym, ap, subst, arith, append-nil, map, length}
 use Rattle.std.specs.Prelude.{IfSome, slice_get, slice_set}
-use Rattle.std.proofs.lemmas.Option.{slice_get_within}
+use Rattle.std.proofs.lemmas.Option.{slice_get_within, MatchOption-at_some}
+use Rattle.std.proofs.KnownBytes.{Appends-trans}
 use Rattle.std.specs.Io.KnownBytes.{Appends}
 use Rattle.std.specs.List.{AllByRecursion, AllZip}
 use Rattle.fare_texts.specs.LedgerLines.{head_text}
 use Rattle.tap_views.specs.declared.token.Token.{Token}
+use Rattle.tap_views.proofs.Lists.{each-back}
 use Rattle.part_reports.specs.Charges.{IsChargeOf, LineCharge}
 use Rattle.part_reports.specs.LedgersWithReports.{AddUpToText, HaveReport, IsMergedWithReports}
 use Rattle.part_reports.specs.TokenLines.{IsMergedByToken, TokenLine, text_of}
@@ -23,13 +26,13 @@ use Rattle.part_reports.specs.inside.Standings.{IsLineOfKind, IsMovedAt, Standin
 use Rattle.part_reports.specs.inside.Standings.{line_with}
 use Rattle.part_reports.proofs.ChargeLines.{one_charge}
 use Rattle.part_reports.proofs.Firsts.{line_is_some}
-use Rattle.part_reports.proofs.LedgerTexts.{known, lefts_of, texts_from, texts_to}
-use Rattle.part_reports.proofs.Merges.{IsMerging, appends_more, end_lists, first_nothing, list_at, merging_end}
+use Rattle.part_reports.proofs.LedgerTexts.{lefts_of, texts_from, texts_to}
+use Rattle.part_reports.proofs.Merges.{IsMerging, end_lists, first_nothing, list_at, merging_end}
 use Rattle.part_reports.proofs.Merges.{merging_first, merging_next, next_moved, part_at}
 use Rattle.part_reports.proofs.Parts.{going_end, going_line, line_at, next_part}
 use Rattle.part_reports.proofs.Places.{each_at, map_at, one_at}
 use Rattle.part_reports.proofs.ReportsLeft.{some_token}
-use Rattle.part_reports.proofs.Risings.{begins, each_behind, lines_each, no_bytes}
+use Rattle.part_reports.proofs.Risings.{begins, lines_each, no_bytes}
 
 -- ---- charges of lines
 charges_push : (lines : List TokenLine) (charges : List LineCharge) (line : TokenLine)
@@ -128,7 +131,8 @@ beside_set (first ∷ parts) (file ∷ files) (one ∷ lefts) zero part next was
           (subst (λ (part : Part). IsBeside part.done file one) same are.0)),
       are.1,
     )
-beside_set (first ∷ parts) (file ∷ files) (one ∷ lefts) (suc k) part next was is are there left step =
+beside_set (first ∷ parts) (file ∷ files) (one ∷ lefts) (suc k) part next was is are there left
+    step =
     (are.0, beside_set parts files lefts k part next was is are.1 there left step)
 
 -- what stands at one place
@@ -240,7 +244,8 @@ going_on texts files ats after lefts next old now new k so_far least taken moved
     let after_step = next_part part least.token moved.is in
     let beside : AreBeside (slice_set merging.parts k after_step) files
     (slice_set lefts k taken.is) =
-    beside_set merging.parts files lefts k part after_step taken.was taken.is so_far.beside step.there
+    beside_set merging.parts files lefts k part after_step taken.was taken.is so_far.beside
+    step.there
     taken.there
     (λ file is. let (charge, of_line, used) = one file is.charges is.used in
     record {
@@ -266,7 +271,8 @@ not_taken texts files ats lefts old now k so_far refused lists are summed =
     let found = part_at texts ats old now merging k refused.source refused.source_there in
     let part = found.part in
     let beside = beside_at merging.parts files lefts k refused.was so_far.beside refused.there in
-    let same : beside.part ≡ part = one_at merging.parts k beside.part part beside.part_there found.there
+    let same : beside.part ≡ part =
+    one_at merging.parts k beside.part part beside.part_there found.there
     in
     let here : IsBeside part.done beside.file refused.was =
     subst (λ (part : Part). IsBeside part.done beside.file refused.was) same beside.is in
@@ -314,8 +320,9 @@ all_lines part going end list text =
     let kind = part.text.0 in
     let (more, whole, bytes) = begins kind part.done list [] (lines_each kind part.done done.0)
     (lines_each kind list text.0) (sym text.1 ∙ done.1 ∙ sym (append-nil (text_of part.done))) in
-    let each = each_behind (IsLineOfKind kind) part.done more
-    (subst (λ lines. AllByRecursion (IsLineOfKind kind) lines) whole (lines_each kind list text.0)) in
+    let each = each-back (IsLineOfKind kind) part.done more
+    (subst (λ lines. AllByRecursion (IsLineOfKind kind) lines) whole
+    (lines_each kind list text.0)) in
     whole ∙ ap (λ more. part.done ++ more) (nothing kind more each bytes) ∙ append-nil part.done
   where
     nothing : (kind : LineKind) (more : List TokenLine)
@@ -421,7 +428,8 @@ no_reports [] back file [] lists same are none = absurd (cc)
 no_reports [] back file (first ∷ files) [] same are none = elim are [ ]
 no_reports [] back file (first ∷ files) (charges ∷ lists) same are none =
     let is : file ≡ Some first = cc in
-    known (λ file. (charges : List LineCharge) → ¬ (AddUpToText charges file)) file first is none
+    MatchOption-at_some (Unit {0})
+    (λ file. (charges : List LineCharge) → ¬ (AddUpToText charges file)) first is none
     charges are.0
 no_reports (other ∷ front) back file [] lists same are none = absurd (cc)
 no_reports (other ∷ front) back file (first ∷ files) [] same are none = elim are [ ]
@@ -429,7 +437,8 @@ no_reports (other ∷ front) back file (first ∷ files) (charges ∷ lists) sam
     let rest : front ++ file ∷ back ≡ map (λ file. Some file) files = cc in
     no_reports front back file files lists rest are.1 none
 
-pub unused_of : (files : List (List ℕ)) (known_files : List (Option (List ℕ))) (lefts : List ReportAt)
+pub unused_of : (files : List (List ℕ)) (known_files : List (Option (List ℕ)))
+    (lefts : List ReportAt)
     → known_files ≡ map (λ file. Some file) files → AreBegunReports known_files lefts
     → AreUnused files lefts
 unused_of [] [] [] same are = tt
@@ -440,7 +449,7 @@ unused_of (first ∷ files) (file ∷ others) [] same are = elim are [ ]
 unused_of (first ∷ files) (file ∷ others) (left ∷ lefts) same are =
     let is : file ≡ Some first = cc in
     let rest : others ≡ map (λ file. Some file) files = cc in (
-      known (λ file. IsUsedBy file left []) file first is are.0,
+      MatchOption-at_some (Unit {0}) (λ file. IsUsedBy file left []) first is are.0,
       unused_of files others lefts rest are.1,
     )
 
@@ -464,7 +473,8 @@ pub whole : (files report_files : List (List ℕ)) (ledgers reports : List (Opti
     → (lists : List (List TokenLine)) × (joined : List TokenLine) × AreTexts texts lists
     × IsMergedByToken lists joined × AreSummed lists files × Appends mid new (text_of joined))
     → (text : List ℕ) × IsMergedWithReports files report_files text × Appends old new text
-whole files report_files ledgers reports ats lefts old mid new same same_reports are begun head merged =
+whole files report_files ledgers reports ats lefts old mid new same same_reports are begun head
+    merged =
     let behind = lefts_of files ledgers ats same are in
     let (lists, joined, told, is, summed, written) =
     merged (map (λ left. (Entries, left)) behind.lefts) report_files behind.sources
@@ -480,7 +490,7 @@ whole files report_files ledgers reports ats lefts old mid new same same_reports
         };
         with_reports = summed;
       },
-      appends_more old mid new head_text (text_of joined) head written,
+      Appends-trans old mid new head_text (text_of joined) head written,
     )
 
 pub no_whole : (files report_files : List (List ℕ)) (ledgers reports : List (Option (List ℕ)))

@@ -198,7 +198,8 @@ shared_at files begun place may shown twin =
             twin.share (map line_of some.tokens) (map line_of more.tokens)
             (first.of some fits told) (found.of more fits_too told_too)
             (All-map (λ (a : TokenLine).
-            All (λ (b : TokenLine). a.token ≢ b.token) (map line_of more.tokens)) line_of some.tokens
+            All (λ (b : TokenLine). a.token ≢ b.token) (map line_of more.tokens)) line_of
+            some.tokens
             (λ i d within. All-map
             (λ (b : TokenLine). (line_of (get_or some.tokens i d)).token ≢ b.token) line_of
             more.tokens (others i d within))),

@@ -6,16 +6,13 @@ use Rattle.std.specs.List.{AllByRecursion}
 use Rattle.std.specs.List.Sorted.{IsStrictlySortedBy}
 use Rattle.std.specs.Map.{keys_of}
 use Rattle.std.specs.Ordering.{nat_cmp}
-use Rattle.std.specs.Cmp.{nat_cmp_is}
 use Rattle.std.specs.declared.cmp.Ordering.TheVariants.{Less, Equal, Greater}
 use Rattle.std.proofs.lemmas.Bool.{ltb-true}
 use Rattle.shard_book.specs.Shown.{validator_sum}
 use Rattle.shard_book.specs.Sums.{Sums}
 use Rattle.shard_book.specs.declared.sums.ValidatorSum.{ValidatorSum}
 use Rattle.part_reports.specs.inside.Fronts.{MayFollowValidators}
-
-pub less : (x y : ℕ) → x < y → nat_cmp x y ≡ Less
-less x y below = sym (nat_cmp_is x y Less below)
+use Rattle.tap_views.proofs.Orderings.{less}
 
 less_by : (below same : Bool) → cond below Less (cond same Equal Greater) ≡ Less → below ≡ true
 less_by true same is = refl
@@ -65,8 +62,10 @@ rise_follow (first ∷ (next ∷ done)) sum more rise = rise_follow (next ∷ do
 
 -- the last of some
 abbrev pub FollowsLast : Option ValidatorSum → List ValidatorSum → ℕ → Type 0
-FollowsLast last sums validator = MatchOption last (MayFollowValidators (map validator_sum sums) validator)
-    (λ before. before.validator < validator ↔ MayFollowValidators (map validator_sum sums) validator)
+FollowsLast last sums validator =
+    MatchOption last (MayFollowValidators (map validator_sum sums) validator)
+    (λ before. before.validator < validator ↔ MayFollowValidators (map validator_sum sums)
+    validator)
 
 pub follows_last : (sums : List ValidatorSum) (validator : ℕ)
     → FollowsLast (slice_get sums (length sums - 1)) sums validator

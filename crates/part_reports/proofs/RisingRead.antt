@@ -140,7 +140,8 @@ rising_not Is number count sums sum text now after fault less rising read not =
     ∙ shown) in
     let same_key : other.0 ≡ sum.validator = ap (λ (sum : ℕ × Sums). sum.0) (sym (here.is ∙ same.0))
     in
-    not (subst (λ validator. MayFollowValidators (map validator_sum sums) validator) same_key follow))
+    not (subst (λ validator. MayFollowValidators (map validator_sum sums) validator) same_key
+    follow))
 
 pub rising_done : {T : Type 0} (Is : T → List (ℕ × Sums) → Type 0) (number count : ℕ)
     (sums : List ValidatorSum) (text now : Option (List ℕ)) (x : T) → count ≡ number

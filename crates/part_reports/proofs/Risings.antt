@@ -1,7 +1,6 @@
 -- Lines of a kind in order, and their front.
-use Rattle.std.proofs.Common.{◌≡◌, ◌∙◌, ℕ, zero, suc, ◌<◌, List, [], ◌∷◌, ◌++◌}
-use Rattle.std.proofs.Common.{false, length, refl, ap, arith, map, get_or}
-use Rattle.std.proofs.Common.{add-one, append_assoc}
+use Rattle.std.proofs.Common.{◌≡◌, ◌∙◌, ℕ, zero, suc, ◌<◌, List, [], ◌∷◌, ◌++◌, false, length, refl}
+use Rattle.std.proofs.Common.{ap, arith, map, get_or, add-one, append_assoc}
 use Rattle.std.specs.List.{AllByRecursion}
 use Rattle.std.specs.List.Sorted.{IsStrictlySortedBy}
 use Rattle.std.specs.Ordering.{is_lt}
@@ -9,6 +8,7 @@ use Rattle.std.specs.declared.cmp.Ordering.TheVariants.{Less}
 use Rattle.std.proofs.lemmas.List.Elements.{All-from_recursion, recursion_from_All}
 use Rattle.tap_views.specs.Token.{token_cmp}
 use Rattle.tap_views.specs.declared.token.Token.{Token}
+use Rattle.tap_views.proofs.Lists.{each-weaker}
 use Rattle.part_reports.specs.Ledgers.{IsLedgerEntryLine}
 use Rattle.part_reports.specs.TokenLines.{DoNotFall, TokenLine, text_of}
 use Rattle.part_reports.specs.inside.Kinds.{AreLines, HasTokenSums, IsSumLine, Leave}
@@ -28,20 +28,10 @@ pub each_push : {X : Type 0} (P : X → Type 0) (xs : List X) (y : X) → AllByR
 each_push P [] y each last = (last, tt)
 each_push P (x ∷ xs) y each last = (each.0, each_push P xs y each.1 last)
 
-pub each_weaker : {X : Type 0} (P Q : X → Type 0) (xs : List X) → ((x : X) → P x → Q x)
-    → AllByRecursion P xs → AllByRecursion Q xs
-each_weaker P Q [] f each = tt
-each_weaker P Q (x ∷ xs) f each = (f x each.0, each_weaker P Q xs f each.1)
-
 pub each_middle : {X : Type 0} (P : X → Type 0) (xs : List X) (y : X) (ys : List X)
     → AllByRecursion P ((xs ++ y ∷ []) ++ ys) → P y
 each_middle P [] y ys each = each.0
 each_middle P (x ∷ xs) y ys each = each_middle P xs y ys each.1
-
-pub each_behind : {X : Type 0} (P : X → Type 0) (xs ys : List X) → AllByRecursion P (xs ++ ys)
-    → AllByRecursion P ys
-each_behind P [] ys each = each
-each_behind P (x ∷ xs) ys each = each_behind P xs ys each.1
 
 each_of_map : {X Y : Type 0} (f : X → Y) (P : Y → Type 0) (xs : List X)
     → AllByRecursion (λ x. P (f x)) xs → AllByRecursion P (map f xs)
@@ -81,7 +71,8 @@ rise_middle kind [] line lines rise = may_all kind line.token lines rise.0
 rise_middle kind (first ∷ front) line lines rise = rise_middle kind front line lines rise.1
 
 -- the same, as std says it
-strictly_from : (left : ℕ) (rest : SumsLeft) (lines : List TokenLine) → Rise (Tokens left rest) lines
+strictly_from : (left : ℕ) (rest : SumsLeft) (lines : List TokenLine)
+    → Rise (Tokens left rest) lines
     → IsStrictlySortedBy token_cmp (map (λ line. line.token) lines)
 unfolding IsStrictlySortedBy
 strictly_from left rest [] rise = tt
@@ -125,7 +116,7 @@ from_next : (line next : TokenLine) (lines : List TokenLine) → NotBelow line.t
     → AllByRecursion (λ other. MayFollow Entries line.token other.token) (next ∷ lines)
 from_next line next lines first rise = (
   first,
-  each_weaker (λ other. MayFollow Entries next.token other.token)
+  each-weaker (λ other. MayFollow Entries next.token other.token)
       (λ other. MayFollow Entries line.token other.token) lines
       (λ other may. not_below_trans line.token next.token other.token first may) rise.0,
 )

@@ -6,31 +6,29 @@ use Rattle.std.proofs.lemmas.List.{append-nil, map-append, take-append-drop, tak
 use Rattle.std.proofs.Math.Seq.{drop-cons, take-suc}
 use Rattle.std.specs.Prelude.{filter, map, flat_map, sum_by, if◌then◌else◌}
 use Rattle.std.specs.Option.{option_map}
-use Rattle.std.specs.BTreeMap.{Updates, get, is_at}
-use Rattle.std.specs.BTreeMap.{BTreeMap}
-use Rattle.std.specs.Map.{keys_of, lookup}
+use Rattle.std.specs.BTreeMap.{Updates, get, is_at, BTreeMap}
+use Rattle.std.specs.Map.{keys_of}
 use Rattle.std.specs.Ordering.{eq_by_cmp, is_eq, nat_cmp}
 use Rattle.std.specs.Set.{is_member}
-use Rattle.std.proofs.lemmas.Bool.{cases_eq}
+use Rattle.std.proofs.lemmas.Bool.{cases_eq, ne_eqb, eq-eqb}
 use Rattle.std.proofs.lemmas.Bool.Decides.{nat_tests}
 use Rattle.shard_book.specs.Shown.{validator_sum}
 use Rattle.shard_book.specs.Sums.{Sums, add_all, add_sums, sums, sums_of, sums_of_replies}
 use Rattle.shard_book.specs.declared.sums.ValidatorSum.{ValidatorSum}
 use Rattle.shard_book.specs.declared.sums.totals.Totals.{Totals}
+use Rattle.shard_book.proofs.SumsLemmas.{add_assoc}
 use Rattle.part_reports.specs.Reports.{sums_found, sums_of_validator}
 use Rattle.part_reports.specs.declared.front.Front.{Front}
 use Rattle.part_reports.specs.declared.sums.WholeSums.{WholeSums}
 use Rattle.part_reports.specs.inside.Fronts.{IsFront, ToldFront}
-use Rattle.part_reports.specs.inside.Sums.{AreFew, AreSumsOf, AreSmall, AreFrontsCounted, WithFront, WithOne}
-use Rattle.part_reports.specs.inside.Sums.{WithValidators, or_nothing}
+use Rattle.part_reports.specs.inside.Sums.{AreFew, AreSumsOf, AreSmall, AreFrontsCounted, WithFront}
+use Rattle.part_reports.specs.inside.Sums.{WithOne, WithValidators, or_nothing}
 use Rattle.std.proofs.lemmas.List.Concat.{flat_map-append}
 use Rattle.std.proofs.lemmas.List.Sums.{sum_by-append}
+use Rattle.std.proofs.Math.Bool.{or-false, or-true}
 
 zero_first : (n : ℕ) → n + 0 ≡ 0 + n
 zero_first n = omega arith
-
-plus_assoc : (a b c : ℕ) → a + (b + c) ≡ (a + b) + c
-plus_assoc a b c = omega arith
 
 nothing_first : (s : Sums) → add_sums s (sums []) ≡ add_sums (sums []) s
 unfolding sums_of_replies
@@ -44,49 +42,25 @@ nothing_first s = λ i. record {
   cents = zero_first s.cents i;
 }
 
-add_assoc : (a b c : Sums) → add_sums a (add_sums b c) ≡ add_sums (add_sums a b) c
-add_assoc a b c = λ i. record {
-  taps = plus_assoc a.taps b.taps c.taps i;
-  paid = plus_assoc a.paid b.paid c.paid i;
-  transfers = plus_assoc a.transfers b.transfers c.transfers i;
-  capped = plus_assoc a.capped b.capped c.capped i;
-  stale = plus_assoc a.stale b.stale c.stale i;
-  unknown = plus_assoc a.unknown b.unknown c.unknown i;
-  cents = plus_assoc a.cents b.cents c.cents i;
-}
-
 -- one more
 pub add_all_more : (list : List Sums) (more : Sums)
     → add_all (list ++ more ∷ []) ≡ add_sums (add_all list) more
 add_all_more [] more = nothing_first more
 add_all_more (first ∷ list) more = ap (add_sums first) (add_all_more list more)
-    ∙ add_assoc first (add_all list) more
+    ∙ sym (add_assoc first (add_all list) more)
 
 -- ---- the tests of keys
+-- a number ties with itself
 pub same_key : (k : ℕ) → is_eq (nat_cmp k k) ≡ true
 same_key k = grind (arith, nat_tests)
 
 pub other_key : (k q : ℕ) → k ≢ q → is_eq (nat_cmp k q) ≡ false
 other_key k q other = grind (arith, nat_tests)
 
-same_number : (k : ℕ) → (k == k) ≡ true
-same_number k = grind (arith, nat_tests)
-
-other_number : (k q : ℕ) → k ≢ q → (k == q) ≡ false
-other_number k q other = grind (arith, nat_tests)
-
-or_false : (b : Bool) → (b || false) ≡ b
-or_false true = refl
-or_false false = refl
-
-or_true : (b : Bool) → (b || true) ≡ true
-or_true true = refl
-or_true false = refl
-
 pub member_more : (list : List (ℕ × Sums)) (sum : ℕ × Sums) (q : ℕ)
     → is_member (eq_by_cmp nat_cmp) (keys_of (list ++ sum ∷ [])) q
     ≡ (is_member (eq_by_cmp nat_cmp) (keys_of list) q || is_eq (nat_cmp q sum.0))
-member_more [] sum q = or_false (is_eq (nat_cmp q sum.0))
+member_more [] sum q = or-false (is_eq (nat_cmp q sum.0))
 member_more (first ∷ list) sum q = more (is_eq (nat_cmp q first.0))
     (is_member (eq_by_cmp nat_cmp) (keys_of list) q)
     (is_member (eq_by_cmp nat_cmp) (keys_of (list ++ sum ∷ [])) q) (is_eq (nat_cmp q sum.0))
@@ -114,7 +88,7 @@ chosen_more (first ∷ list) sum q =
 pub sums_at_same : (list : List (ℕ × Sums)) (sum : ℕ × Sums)
     → sums_of_validator sum.0 (list ++ sum ∷ []) ≡ add_sums (sums_of_validator sum.0 list) sum.1
 sums_at_same list sum =
-    let same = same_number sum.0 in
+    let same = eq-eqb sum.0 sum.0 refl in
     let one : chosen sum.0 (sum ∷ []) ≡ sum.1 ∷ [] = rw same refl in
     ap add_all (chosen_more list sum sum.0 ∙ ap (λ more. chosen sum.0 list ++ more) one)
     ∙ add_all_more (chosen sum.0 list) sum.1
@@ -122,7 +96,7 @@ sums_at_same list sum =
 pub sums_at_other : (list : List (ℕ × Sums)) (sum : ℕ × Sums) (q : ℕ) → sum.0 ≢ q
     → sums_of_validator q (list ++ sum ∷ []) ≡ sums_of_validator q list
 sums_at_other list sum q other =
-    let differs = other_number sum.0 q other in
+    let differs = ne_eqb sum.0 q other in
     let none : chosen q (sum ∷ []) ≡ [] = rw differs refl in
     ap add_all (chosen_more list sum q ∙ ap (λ more. chosen q list ++ more) none
     ∙ append-nil (chosen q list))
@@ -132,7 +106,7 @@ sums_in_same : (list : List (ℕ × Sums)) (sum : ℕ × Sums)
 sums_in_same list sum =
     let member : is_member (eq_by_cmp nat_cmp) (keys_of (list ++ sum ∷ [])) sum.0 ≡ true =
     member_more list sum sum.0 ∙ ap (λ b. is_member (eq_by_cmp nat_cmp) (keys_of list) sum.0 || b)
-    (same_key sum.0) ∙ or_true (is_member (eq_by_cmp nat_cmp) (keys_of list) sum.0) in
+    (same_key sum.0) ∙ or-true (is_member (eq_by_cmp nat_cmp) (keys_of list) sum.0) in
     ap (λ b. if b then Some (sums_of_validator sum.0 (list ++ sum ∷ [])) else None) member
     ∙ ap (λ s. Some s) (sums_at_same list sum)
 
@@ -142,7 +116,7 @@ sums_in_other list sum q other =
     let member : is_member (eq_by_cmp nat_cmp) (keys_of (list ++ sum ∷ [])) q ≡ is_member
     (eq_by_cmp nat_cmp) (keys_of list) q = member_more list sum q
     ∙ ap (λ b. is_member (eq_by_cmp nat_cmp) (keys_of list) q || b) (other_key q sum.0 other)
-    ∙ or_false (is_member (eq_by_cmp nat_cmp) (keys_of list) q) in
+    ∙ or-false (is_member (eq_by_cmp nat_cmp) (keys_of list) q) in
     ap (λ b. if b then Some (sums_of_validator q (list ++ sum ∷ [])) else None) member
     ∙ ap (λ s. if is_member (eq_by_cmp nat_cmp) (keys_of list) q then Some s else None)
     (sums_at_other list sum q (λ e. other (sym e)))
@@ -156,7 +130,7 @@ not_member (first ∷ list) q absent =
     subst (λ k. is_eq (nat_cmp q k) ≡ true) (sym same) (same_key q) in
     true_or (is_eq (nat_cmp q first.0)) (is_member (eq_by_cmp nat_cmp) (keys_of list) q) at absent
     in
-    let test = other_number first.0 q apart in
+    let test = ne_eqb first.0 q apart in
     ap (λ b. map (λ (sum : ℕ × Sums). sum.1) (if b then first ∷ filter
     (λ (sum : ℕ × Sums). sum.0 == q) list else filter (λ (sum : ℕ × Sums). sum.0 == q) list))
     test
@@ -171,11 +145,13 @@ not_member (first ∷ list) q absent =
     rest_of true b absent = absurd (cc)
     rest_of false b absent = absent
 
-pub or_nothing_in : (list : List (ℕ × Sums)) (q : ℕ) → or_nothing (sums_found list q) ≡ sums_of_validator q list
+pub or_nothing_in : (list : List (ℕ × Sums)) (q : ℕ)
+    → or_nothing (sums_found list q) ≡ sums_of_validator q list
 or_nothing_in list q = by_member (is_member (eq_by_cmp nat_cmp) (keys_of list) q) refl
   where
     by_member : (b : Bool) → is_member (eq_by_cmp nat_cmp) (keys_of list) q ≡ b
-        → or_nothing (if b then Some (sums_of_validator q list) else None) ≡ sums_of_validator q list
+        → or_nothing (if b then Some (sums_of_validator q list) else None)
+        ≡ sums_of_validator q list
     by_member true is = refl
     by_member false is = ap add_all (sym (not_member list q is))
 
@@ -211,8 +187,10 @@ one_full before after sum kept kept_is over list are =
     let one = validator_sum sum in
     let old : sums_of kept ≡ sums_of_validator sum.validator list =
     kept_is ∙ ap or_nothing (are sum.validator) ∙ or_nothing_in list sum.validator in
-    let taps : kept.taps ≡ (sums_of_validator sum.validator list).taps = ap (λ (s : Sums). s.taps) old in
-    let whole : (sums_of_validator sum.validator (list ++ one ∷ [])).taps ≡ (sums_of_validator sum.validator list).taps
+    let taps : kept.taps ≡ (sums_of_validator sum.validator list).taps =
+    ap (λ (s : Sums). s.taps) old in
+    let whole : (sums_of_validator sum.validator (list ++ one ∷ [])).taps
+    ≡ (sums_of_validator sum.validator list).taps
     + sum.totals.taps = ap (λ (s : Sums). s.taps) (sums_at_same list one) in
     omega (arith, taps, whole, over)
 
@@ -222,7 +200,8 @@ unfolding sums_of_replies
 taps_nothing = refl
 
 pub taps_joined : (q : ℕ) (some more : List (ℕ × Sums))
-    → (sums_of_validator q (some ++ more)).taps ≡ (sums_of_validator q some).taps + (sums_of_validator q more).taps
+    → (sums_of_validator q (some ++ more)).taps
+    ≡ (sums_of_validator q some).taps + (sums_of_validator q more).taps
 taps_joined q [] more = let none = taps_nothing in omega (arith, none)
 taps_joined q (first ∷ some) more =
     elim (first.0 == q) as (λ b. (add_all (map (λ (sum : ℕ × Sums). sum.1)
@@ -297,8 +276,10 @@ first_full before now after all i sum within is so_far one list are small =
     let front = small_front (list ++ map validator_sum (take i all ++ sum ∷ []))
     (map validator_sum (drop (suc i) all)) (subst (λ some. AreSmall some) whole small) in
     let most = front sum.validator in
-    let same : (sums_of_validator sum.validator ((list ++ map validator_sum (take i all)) ++ validator_sum sum
-    ∷ [])).taps ≡ (sums_of_validator sum.validator (list ++ map validator_sum (take i all ++ sum ∷ []))).taps
+    let same : (sums_of_validator sum.validator
+    ((list ++ map validator_sum (take i all)) ++ validator_sum sum
+    ∷ [])).taps
+    ≡ (sums_of_validator sum.validator (list ++ map validator_sum (take i all ++ sum ∷ []))).taps
     =
     ap (λ list. (sums_of_validator sum.validator list).taps) (one_more list (take i all) sum) in
     omega (arith, over, most, same)
@@ -315,27 +296,23 @@ tokens_in fronts = sum_by (λ told. told.tokens) fronts
 
 totals_more : (fronts : List ToldFront) (told : ToldFront)
     → totals_in (fronts ++ told ∷ []) ≡ add_sums (totals_in fronts) told.totals
-totals_more fronts told = ap add_all (map-append (λ (told : ToldFront). told.totals) fronts (told ∷ []))
+totals_more fronts told =
+    ap add_all (map-append (λ (told : ToldFront). told.totals) fronts (told ∷ []))
     ∙ add_all_more (map (λ told. told.totals) fronts) told.totals
 
 validators_more : (fronts : List ToldFront) (told : ToldFront)
     → validators_in (fronts ++ told ∷ []) ≡ validators_in fronts ++ told.validators
-validators_more fronts told = flat_map-append (λ (told : ToldFront). told.validators) fronts (told ∷ [])
+validators_more fronts told =
+    flat_map-append (λ (told : ToldFront). told.validators) fronts (told ∷ [])
     ∙ ap (λ more. validators_in fronts ++ more) (append-nil told.validators)
 
-pub counted_none : (sums : WholeSums) → sums_of sums.totals ≡ sums_of_replies []
-    → sums.validators.entries ≡ [] → sums.tokens ≡ 0 → AreFrontsCounted sums []
-counted_none sums totals none tokens = record {
-  totals = totals;
-  validators = λ q. ap (λ es. option_map sums_of (lookup (is_at (nat_cmp q)) es)) none;
-  tokens = tokens;
-}
-
-pub front_added : (before after : WholeSums) (front : Front) (fronts : List ToldFront) (told : ToldFront)
+pub front_added : (before after : WholeSums) (front : Front) (fronts : List ToldFront)
+    (told : ToldFront)
     → after.tokens ≡ before.tokens + front.tokens
     → sums_of after.totals ≡ add_sums (sums_of before.totals) (sums_of front.totals)
     → WithValidators before.validators after.validators front.validators.items true
-    → AreFrontsCounted before fronts → IsFront front told → AreFrontsCounted after (fronts ++ told ∷ [])
+    → AreFrontsCounted before fronts → IsFront front told
+    → AreFrontsCounted after (fronts ++ told ∷ [])
 front_added before after front fronts told tokens totals validators counted is =
     let sums = sum_by-append (λ (told : ToldFront). told.tokens) fronts (told ∷ []) in
     let old_tokens = counted.tokens in
@@ -358,16 +335,6 @@ front_full before after validators_now front fronts told full counted is few =
     full (validators_in fronts) counted.validators
     (subst (λ list. AreSmall list) (validators_more fronts told
     ∙ ap (λ more. validators_in fronts ++ more) (sym is.validators)) few.validators)
-
-pub tokens_full : (before : WholeSums) (front : Front) (fronts : List ToldFront) (told : ToldFront)
-    → 2 ^ 128 ≤ before.tokens + front.tokens
-    → AreFrontsCounted before fronts → IsFront front told → ¬ (AreFew (fronts ++ told ∷ []))
-tokens_full before front fronts told over counted is few =
-    let sums = sum_by-append (λ (told : ToldFront). told.tokens) fronts (told ∷ []) in
-    let old_tokens = counted.tokens in
-    let more_tokens = is.tokens in
-    let most = few.tokens in
-    absurd (omega (arith, over, sums, old_tokens, more_tokens, most))
 
 pub totals_full : (before : WholeSums) (front : Front) (fronts : List ToldFront) (told : ToldFront)
     → 2 ^ 95 < before.totals.taps + front.totals.taps

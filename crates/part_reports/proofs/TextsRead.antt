@@ -15,13 +15,12 @@ use Rattle.report_texts.specs.Numbers.{IsUploadEnd}
 use Rattle.part_reports.specs.Reports.{end_texts, all_ends}
 use Rattle.part_reports.specs.Texts.{AreLeft}
 use Rattle.part_reports.specs.inside.UploadEnds.{HaveReadEnds, AreEndsAdded, HaveMoreEnds}
-use Rattle.part_reports.proofs.EndsRead.{All-behind, All-front, some_line}
+use Rattle.part_reports.proofs.EndsRead.{some_line}
 use Rattle.part_reports.proofs.Unique.{end_line_unique}
-use Rattle.report_texts.specs.Report.{upload_line}
-use Rattle.report_texts.specs.Report.{upload_lines}
-use Rattle.report_texts.specs.UploadEnds.{is_posted}
-use Rattle.report_texts.specs.UploadEnds.{taps_told}
+use Rattle.report_texts.specs.Report.{upload_line, upload_lines}
+use Rattle.report_texts.specs.UploadEnds.{is_posted, taps_told}
 use Rattle.report_texts.specs.declared.upload_end.UploadEnd.{UploadEnd}
+use Rattle.tap_views.proofs.Lists.{All-front, All-back}
 
 pub record Split {R : Type 0} (remaining : R → Option (List ℕ)) (front : List R) (x : R)
     (back : List R) (files : List (List ℕ)) : Type 0 where
@@ -91,23 +90,30 @@ lines_whole number [] (b ∷ bs) may may_too same =
 lines_whole number (a ∷ more) [] may may_too same =
     absurd (some_line number a (upload_lines (number + 1) more) (sym same))
 lines_whole number (a ∷ more) (b ∷ bs) may may_too same =
-    let first = end_line_unique number a b (upload_lines (number + 1) more) (upload_lines (number + 1) bs)
+    let first = end_line_unique number a b (upload_lines (number + 1) more)
+    (upload_lines (number + 1) bs)
     (All-head IsUploadEnd a more may) (All-head IsUploadEnd b bs may_too) same in
     let rest = lines_whole (number + 1) more bs (All-tail IsUploadEnd a more may)
     (All-tail IsUploadEnd b bs may_too) first.1 in
     ap (λ x. x ∷ more) first.0 ∙ ap (λ xs. b ∷ xs) rest
 
 -- the text behind some texts of ends is one of ends
-texts_at : (first : ℕ) (before lists : List (List UploadEnd)) (file : List ℕ) (after : List (List ℕ))
+texts_at : (first : ℕ) (before lists : List (List UploadEnd)) (file : List ℕ)
+    (after : List (List ℕ))
     → All IsUploadEnd (all_ends before) → All IsUploadEnd (all_ends lists)
     → end_texts first before ++ file ∷ after ≡ end_texts first lists
-    → (ends : List UploadEnd) × All IsUploadEnd ends × (file ≡ upload_lines (first + length (all_ends before))
+    → (ends : List UploadEnd) × All IsUploadEnd ends
+    × (file ≡ upload_lines (first + length (all_ends before))
     ends)
 texts_at first [] [] file after may may_too same = absurd (cc)
 texts_at first [] (ends ∷ lists) file after may may_too same =
     let at : first ≡ first + 0 = omega arith in
-    let is : file ≡ upload_lines first ends = cc in
-    (ends, All-front IsUploadEnd ends (all_ends lists) may_too, is ∙ ap (λ k. upload_lines k ends) at)
+    let is : file ≡ upload_lines first ends = cc in (
+      ends,
+      All-front IsUploadEnd ends (all_ends lists) may_too,
+      is
+          ∙ ap (λ k. upload_lines k ends) at,
+    )
 texts_at first (some ∷ before) [] file after may may_too same = absurd (cc)
 texts_at first (some ∷ before) (ends ∷ lists) file after may may_too same =
     let head : upload_lines first some ≡ upload_lines first ends = cc in
@@ -117,8 +123,8 @@ texts_at first (some ∷ before) (ends ∷ lists) file after may may_too same =
     let tail : end_texts (first + length some) before ++ file ∷ after ≡ end_texts
     (first + length ends) lists = cc in
     let next = texts_at (first + length some) before lists file after
-    (All-behind IsUploadEnd some (all_ends before) may)
-    (All-behind IsUploadEnd ends (all_ends lists) may_too)
+    (All-back IsUploadEnd some (all_ends before) may)
+    (All-back IsUploadEnd ends (all_ends lists) may_too)
     (tail ∙ ap (λ (x : List UploadEnd). end_texts (first + length x) lists) (sym is)) in
     let at : first + length some + length (all_ends before) ≡ first + length
     (some ++ all_ends before) = simp length-append (omega arith) in
@@ -140,8 +146,10 @@ joined_more : (lists : List (List UploadEnd)) (ends : List UploadEnd)
 joined_more lists ends = flat_map-append (λ (some : List UploadEnd). some) lists (ends ∷ [])
     ∙ ap (λ more. all_ends lists ++ more) (append-nil ends)
 
+-- the lines of two lists of uploads are joined
 pub end_lines_joined : (first : ℕ) (some more : List UploadEnd)
-    → upload_lines first (some ++ more) ≡ upload_lines first some ++ upload_lines (first + length some) more
+    → upload_lines first (some ++ more)
+    ≡ upload_lines first some ++ upload_lines (first + length some) more
 end_lines_joined first [] more = let at : first ≡ first + 0 = omega arith in
     ap (λ k. upload_lines k more) at
 end_lines_joined first (end ∷ some) more =
@@ -161,7 +169,8 @@ have_none ends text uploads taps posted = record {
   each = All-nil IsUploadEnd;
 }
 
-have_more : (before after : UploadEnds) (list more : List UploadEnd) → HaveReadEnds before list → HaveMoreEnds before after more
+have_more : (before after : UploadEnds) (list more : List UploadEnd) → HaveReadEnds before list
+    → HaveMoreEnds before after more
     → HaveReadEnds after (list ++ more)
 have_more before after list more have is =
     let sums = sum_by-append taps_told list more in
@@ -170,16 +179,18 @@ have_more before after list more have is =
     let at : before.uploads ≡ 0 + length list = omega (arith, have.uploads) in
     record {
       text = is.text ∙ ap (λ text. text ++ upload_lines before.uploads more) have.text
-          ∙ ap (λ k. upload_lines 0 list ++ upload_lines k more) at ∙ sym (end_lines_joined 0 list more);
+          ∙ ap (λ k. upload_lines 0 list ++ upload_lines k more) at
+          ∙ sym (end_lines_joined 0 list more);
       uploads = simp length-append (omega (arith, have.uploads, is.uploads));
       taps = omega (arith, sums, taps, more_taps);
       posted = (
-        λ yes. let both = is.posted.0 yes in All-append (λ (end : UploadEnd). IsTrue (is_posted end)) list more
+        λ yes. let both = is.posted.0 yes in
+            All-append (λ (end : UploadEnd). IsTrue (is_posted end)) list more
             (have.posted.0 both.0) both.1,
         λ all. is.posted.1 (
           have.posted.1 (All-front (λ (end : UploadEnd). IsTrue (is_posted end)) list more
               all),
-          All-behind (λ (end : UploadEnd). IsTrue (is_posted end)) list more all,
+          All-back (λ (end : UploadEnd). IsTrue (is_posted end)) list more all,
         ),
       );
       each = All-append IsUploadEnd list more have.each is.each;
@@ -188,9 +199,11 @@ have_more before after list more have is =
 -- the texts of these readers tell ends, which were added up
 abbrev pub AreRead : {R : Type 0} → (R → Option (List ℕ)) → List R → UploadEnds → Type 0
 AreRead remaining readers ends = (files : List (List ℕ)) → AreLeft remaining readers files
-    → (lists : List (List UploadEnd)) × (files ≡ end_texts 0 lists) × HaveReadEnds ends (all_ends lists)
+    → (lists : List (List UploadEnd)) × (files ≡ end_texts 0 lists)
+    × HaveReadEnds ends (all_ends lists)
 
-pub read_none : {R : Type 0} (remaining : R → Option (List ℕ)) (ends : UploadEnds) → HaveReadEnds ends []
+pub read_none : {R : Type 0} (remaining : R → Option (List ℕ)) (ends : UploadEnds)
+    → HaveReadEnds ends []
     → AreRead remaining [] ends
 read_none remaining ends have [] are = ([], refl, have)
 read_none remaining ends have (file ∷ files) are = absurd (cc)
@@ -235,7 +248,8 @@ read_refused remaining items readers x before after fault front within here read
     let parts = split remaining readers x (drop (suc (length readers)) items) files
     (subst (λ items. AreLeft remaining items files) all are) in
     let so_far = read parts.before parts.front_is in
-    let no_ends = (subst (λ left. AreEndsAdded before after left (Err fault)) parts.here added) of_texts
+    let no_ends = (subst (λ left. AreEndsAdded before after left (Err fault)) parts.here added)
+    of_texts
     in
     let next = texts_at 0 so_far.0 lists parts.file parts.after so_far.2.each may
     (ap (λ some. some ++ parts.file ∷ parts.after) (sym so_far.1) ∙ sym parts.is ∙ told) in

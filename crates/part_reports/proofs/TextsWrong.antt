@@ -62,7 +62,8 @@ pub stuck_is_wrong : (texts : List (LineKind × List ℕ)) (ats : List Standing)
     → IsBelowOthers (map (λ at. at.token) ats) k → (numbers : List ℕ) (fault : MergeFault)
     → NamesOnly fault (slice_get numbers k) → ¬ (IsOfTaps fault)
     → (IsOfTexts fault → IsStuckAt k ats) → IsWrongText texts numbers fault
-stuck_is_wrong texts ats old now merging k least numbers (Line named number wrong) only no_taps stuck
+stuck_is_wrong texts ats old now merging k least numbers (Line named number wrong) only no_taps
+    stuck
     = (k, only, inl (no_text texts ats old now merging k least (stuck tt)))
 stuck_is_wrong texts ats old now merging k least numbers (Taps reports uploads) only no_taps stuck =
     absurd (no_taps tt)

@@ -1,7 +1,7 @@
 -- Of which text a fault is.
-use Rattle.std.proofs.Common.{◌≡◌, ◌∙◌, ◌+◌, ◌<◌, ◌^◌, ℕ, zero, suc, List, [], ◌∷◌, ◌++◌, Option, Some}
-use Rattle.std.proofs.Common.{arith, length, sym, ap, subst}
-use Rattle.std.specs.Prelude.{Err, IfSome, Ok, OnErr, Result, slice_get}
+use Rattle.std.proofs.Common.{◌≡◌, ◌∙◌, ◌+◌, ◌<◌, ◌^◌, ℕ, zero, suc, List, [], ◌∷◌, ◌++◌, Option}
+use Rattle.std.proofs.Common.{Some, arith, length, sym, ap, subst}
+use Rattle.std.specs.Prelude.{IfSome, slice_get}
 use Rattle.std.proofs.lemmas.Option.{slice_get_within}
 use Rattle.part_reports.specs.Faults.{NamesAmong, number_from, text_named}
 use Rattle.part_reports.specs.declared.fault.MergeFault.{MergeFault}
@@ -99,6 +99,3 @@ pub first_from : (first : ℕ) → first < 2 ^ 64 → first ≡ number_from firs
 first_from first small = omega (arith, small)
 
 -- ---- what holds of an error, if it holds anyway
-pub on_err_any : {T E : Type 0} (P : Type 0) (result : Result T E) → P → OnErr result P
-on_err_any P (Ok x) holds = tt
-on_err_any P (Err fault) holds = holds

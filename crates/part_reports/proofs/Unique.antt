@@ -2,7 +2,7 @@
 -- that are the same text write the same, and have the same rest.
 use Rattle.std.proofs.Common.{◌≡◌, ◌∙◌, ℕ, ◌<◌, ◌^◌, List, ◌++◌, append_assoc}
 use Rattle.std.proofs.Common.{refl, sym, ap, arith, get_or}
-use Rattle.std.specs.Prelude.{codes}
+use Rattle.std.specs.Prelude.{codes, ◌==◌, if◌then◌else◌}
 use Rattle.std.specs.Fmt.{decimal}
 use Rattle.std.proofs.lemmas.List.{append_cancel_left}
 use Rattle.hex.specs.Hex.{encode_lower}
@@ -10,17 +10,17 @@ use Rattle.tap_views.specs.Token.{bytes_of}
 use Rattle.fare_texts.specs.Counts.{counts_text, totals_line}
 use Rattle.shard_book.specs.Sums.{Sums}
 use Rattle.tap_views.specs.declared.token.Token.{Token}
-use Rattle.report_texts.specs.Numbers.{AreCounts, IsUploadEnd, IsTokenSum}
-use Rattle.report_texts.specs.Numbers.{IsValidatorSum}
+use Rattle.report_texts.specs.Numbers.{AreCounts, IsUploadEnd, IsTokenSum, IsValidatorSum}
+use Rattle.report_texts.specs.Numbers.{IsNameAlone}
 use Rattle.fare_texts.specs.ReportLines.{number_line, token_line, validator_line}
 use Rattle.tap_views.specs.declared.fault.LayoutFault.{LayoutFault}
-use Rattle.tap_views.specs.declared.fault.LayoutFault.TheVariants.{Short, Magic, Flags, TooMany, Length, Moment}
-use Rattle.report_texts.specs.Numbers.{IsNameAlone}
+use Rattle.tap_views.specs.declared.fault.LayoutFault.TheVariants.{Short, Magic, Flags, TooMany}
+use Rattle.tap_views.specs.declared.fault.LayoutFault.TheVariants.{Length, Moment}
 use Rattle.report_texts.specs.inside.EndWords.{end_words, fault_number, fault_words}
 use Rattle.report_texts.specs.declared.upload_end.UploadEnd.{UploadEnd}
-use Rattle.report_texts.specs.declared.upload_end.UploadEnd.TheVariants.{Posted, Refused, Cut, Undrawn}
+use Rattle.report_texts.specs.declared.upload_end.UploadEnd.TheVariants.{Posted, Refused, Cut}
+use Rattle.report_texts.specs.declared.upload_end.UploadEnd.TheVariants.{Undrawn}
 use Rattle.report_texts.proofs.EndTexts.{line_words, refused_spelt, small_number}
-use Rattle.std.specs.Prelude.{◌==◌, if◌then◌else◌}
 use Rattle.part_reports.specs.Ledgers.{IsLedgerEntryLine}
 use Rattle.part_reports.specs.TokenLines.{TokenLine}
 use Rattle.report_texts.specs.inside.Counted.{IsCounted}
@@ -38,6 +38,7 @@ head_counted word n x small = record {
       ∙ ap (λ (t : List ℕ). word ++ t) (append_assoc (decimal n) (codes "\n") x);
 }
 
+-- a line's number, and what is behind the line, are determined by the text
 pub number_line_unique : (word : List ℕ) (n m : ℕ) (x y : List ℕ) → n < 2 ^ 64 → m < 2 ^ 64
     → number_line word n ++ x ≡ number_line word m ++ y → (n ≡ m) × (x ≡ y)
 number_line_unique word n m x y small small_too is =
@@ -128,6 +129,7 @@ end_text_unique (Posted a) Undrawn x y fits fits_too is = absurd fits_too
 end_text_unique (Refused a offset fault) (Cut b) x y fits fits_too is = absurd fits_too
 end_text_unique (Refused a offset fault) Undrawn x y fits fits_too is = absurd fits_too
 
+-- an upload's end, and what is behind its line, are determined by the text
 pub end_line_unique : (number : ℕ) (a b : UploadEnd) (x y : List ℕ) → IsUploadEnd a → IsUploadEnd b
     → upload_line number a ++ x ≡ upload_line number b ++ y → (a ≡ b) × (x ≡ y)
 end_line_unique number a b x y fits fits_too is =
@@ -170,7 +172,8 @@ pub validator_line_unique : (a b : ℕ × Sums) (x y : List ℕ) → IsValidator
     → validator_line a ++ x ≡ validator_line b ++ y → (a ≡ b) × (x ≡ y)
 validator_line_unique a b x y fits fits_too is =
     let (same, one) = counted_step (validator_line a ++ x) (validator_line b ++ y)
-    (codes "validator ") a.0 b.0 (codes " " ++ (counts_text a.1 ++ x)) (codes " " ++ (counts_text b.1 ++ y))
+    (codes "validator ") a.0 b.0 (codes " " ++ (counts_text a.1 ++ x))
+    (codes " " ++ (counts_text b.1 ++ y))
     is (validator_counted a x fits) (validator_counted b y fits_too) in
     let (sums, rest) = counts_line_unique a.1 b.1 x y fits.counts fits_too.counts
     (append_cancel_left (codes " ") (counts_text a.1 ++ x) (counts_text b.1 ++ y) one) in
@@ -201,6 +204,7 @@ entry_unique a b fits fits_too is =
 same_line : (a b : TokenLine) → a.token ≡ b.token → a.text ≡ b.text → a ≡ b
 same_line a b token text = λ i. record { token = token i; text = text i }
 
+-- a ledger's line, and what is behind it, are determined by the text
 pub entry_line_unique : (a b : TokenLine) (x y : List ℕ) → IsLedgerEntryLine a → IsLedgerEntryLine b
     → a.text ++ x ≡ b.text ++ y → (a ≡ b) × (x ≡ y)
 entry_line_unique a b x y fits fits_too is =

@@ -12,14 +12,12 @@ use Rattle.fare_texts.specs.LedgerLines.{head_text}
 use Rattle.part_reports.specs.Ledgers.{IsLedgerEntryLine, IsPartLedger}
 use Rattle.report_texts.specs.Numbers.{IsUploadEnd, IsTokenSum, IsValidatorSum}
 use Rattle.fare_texts.specs.ReportLines.{number_line, token_line, validator_line}
-use Rattle.part_reports.specs.Reports.{IsPartReport, Report, report_text}
-use Rattle.part_reports.specs.Reports.{HasTapNumbers}
+use Rattle.part_reports.specs.Reports.{IsPartReport, Report, report_text, HasTapNumbers}
 use Rattle.part_reports.specs.TokenLines.{TokenLine, text_of}
 use Rattle.report_texts.proofs.Tokens.{token_digits}
 use Rattle.part_reports.proofs.Unique.{end_line_unique, entry_line_unique, number_line_unique}
 use Rattle.part_reports.proofs.Unique.{token_line_unique, totals_line_unique, validator_line_unique}
-use Rattle.report_texts.specs.Report.{upload_line}
-use Rattle.report_texts.specs.Report.{upload_lines}
+use Rattle.report_texts.specs.Report.{upload_line, upload_lines}
 use Rattle.report_texts.specs.declared.upload_end.UploadEnd.{UploadEnd}
 
 -- lines of one form, as many in both texts
@@ -80,13 +78,15 @@ same_report : (a b : Report) → a.ends ≡ b.ends → a.totals ≡ b.totals
 same_report a b ends totals validators tokens =
     λ i. record { ends = ends i; totals = totals i; validators = validators i; tokens = tokens i }
 
-pub report_unique : (a b : Report) → HasTapNumbers a → HasTapNumbers b → report_text a ≡ report_text b
+pub report_unique : (a b : Report) → HasTapNumbers a → HasTapNumbers b
+    → report_text a ≡ report_text b
     → a ≡ b
 report_unique a b fits fits_too is =
     let (number, one) = number_line_unique (codes "uploads ") (length a.ends) (length b.ends) _ _
     fits.number fits_too.number (sym (text_spelt a) ∙ is ∙ text_spelt b) in
     let (ends, two) = ends_unique 0 a.ends b.ends _ _ number
-    (recursion_from_All IsUploadEnd a.ends fits.ends) (recursion_from_All IsUploadEnd b.ends fits_too.ends) one
+    (recursion_from_All IsUploadEnd a.ends fits.ends)
+    (recursion_from_All IsUploadEnd b.ends fits_too.ends) one
     in
     let (totals, three) = totals_line_unique a.totals b.totals _ _ fits.totals fits_too.totals two
     in
@@ -106,7 +106,8 @@ report_unique a b fits fits_too is =
     ∙ sym (append-nil (flat_map token_line b.tokens))) in
     same_report a b ends totals validators tokens
 
-told : (report : Report) → IsPartReport report → HasTapNumbers report
+-- a part's report has numbers that a report of one run can have
+pub told : (report : Report) → IsPartReport report → HasTapNumbers report
 told report part = record {
   number = part.number;
   ends = part.ends;
@@ -145,7 +146,8 @@ entries_unique (a ∷ ps) (b ∷ qs) fit fit_too is =
     let rest = entries_unique ps qs fit.1 fit_too.1 more in
     λ i. same i ∷ rest i
 
-pub ledger_unique : (a b : List TokenLine) (text : List ℕ) → IsPartLedger a text → IsPartLedger b text
+pub ledger_unique : (a b : List TokenLine) (text : List ℕ) → IsPartLedger a text
+    → IsPartLedger b text
     → a ≡ b
 ledger_unique a b text is is_too =
     entries_unique a b (recursion_from_All IsLedgerEntryLine a is.each)

@@ -5,22 +5,18 @@ use Rattle.std.specs.Prelude.{flat_map}
 use Rattle.fare_texts.specs.Counts.{totals_line}
 use Rattle.shard_book.specs.Sums.{Sums}
 use Rattle.tap_views.specs.declared.token.Token.{Token}
-use Rattle.fare_texts.specs.ReportLines.{token_line}
-use Rattle.part_reports.specs.inside.Fronts.{front_text}
-use Rattle.report_texts.specs.Report.{report}
+use Rattle.fare_texts.specs.ReportLines.{token_line, number_line, validator_line}
+use Rattle.part_reports.specs.inside.Fronts.{front_text, AreEnds, AreValidators, MayBeSections}
+use Rattle.part_reports.specs.inside.Fronts.{ToldFront, ends_text, told_text, validators_text}
+use Rattle.report_texts.specs.Report.{report, upload_line, upload_lines}
 use Rattle.report_texts.specs.declared.upload_end.UploadEnd.{UploadEnd}
 use Rattle.part_reports.specs.declared.fault.MergeFault.{MergeFault}
 use Rattle.part_reports.specs.Faults.{IsOfTexts}
 use Rattle.report_texts.specs.Numbers.{AreCounts, IsUploadEnd, IsValidatorSum}
-use Rattle.fare_texts.specs.ReportLines.{number_line, validator_line}
-use Rattle.part_reports.specs.inside.Fronts.{AreEnds, AreValidators, MayBeSections, ToldFront, ends_text}
-use Rattle.part_reports.specs.inside.Fronts.{told_text, validators_text}
 use Rattle.part_reports.specs.inside.LinesRead.{IsRead, BeginsWithValue}
 use Rattle.part_reports.proofs.ListsWritten.{lines_unique, end_lines_from, flat_map_from}
 use Rattle.part_reports.proofs.Unique.{end_line_unique, number_line_unique, totals_line_unique}
 use Rattle.part_reports.proofs.Unique.{validator_line_unique}
-use Rattle.report_texts.specs.Report.{upload_line}
-use Rattle.report_texts.specs.Report.{upload_lines}
 
 -- what is written determines the value and what is behind it
 abbrev pub IsUnique : {V : Type 0} → (V → Type 0) → (V → List ℕ) → Type 0
@@ -33,7 +29,8 @@ ends_unique a b x y may may_too same =
     (upload_lines 0 b ++ y) may.few may_too.few
     (sym (append_assoc (number_line (codes "uploads ") (length a)) (upload_lines 0 a) x) ∙ same
     ∙ append_assoc (number_line (codes "uploads ") (length b)) (upload_lines 0 b) y) in
-    lines_unique IsUploadEnd upload_line end_line_unique 0 a b x y may.are.each may_too.are.each head.0
+    lines_unique IsUploadEnd upload_line end_line_unique 0 a b x y may.are.each may_too.are.each
+    head.0
     (ap (λ text. text ++ x) (sym (end_lines_from 0 a)) ∙ head.1
     ∙ ap (λ text. text ++ y) (end_lines_from 0 b))
 
@@ -71,17 +68,13 @@ told_parts told rest = parts (number_line (codes "uploads ") (length told.ends))
     (number_line (codes "validators ") (length told.validators))
     (flat_map validator_line told.validators) (tokens_text told.tokens) rest
 
-joined_texts : (h e t v f k ts : List ℕ) → ((h ++ e) ++ (t ++ ((v ++ f) ++ k))) ++ ts
-    ≡ (h ++ e) ++ (t ++ ((v ++ f) ++ (k ++ ts)))
-joined_texts h e t v f k ts = simp append_assoc
-
 -- a report's text is the text before its tokens' lines, and these lines
 pub whole_text : (ends : List UploadEnd) (totals : Sums) (validators : List (ℕ × Sums))
     (tokens : List (Token × Sums))
     → front_text ends totals validators (length tokens) ++ flat_map token_line tokens
     ≡ report ends totals validators tokens
 whole_text ends totals validators tokens =
-    joined_texts (number_line (codes "uploads ") (length ends)) (upload_lines 0 ends)
+    parts (number_line (codes "uploads ") (length ends)) (upload_lines 0 ends)
     (totals_line totals) (number_line (codes "validators ") (length validators))
     (flat_map validator_line validators) (tokens_text (length tokens)) (flat_map token_line tokens)
 
@@ -89,7 +82,8 @@ whole_text ends totals validators tokens =
 pub behind : {V : Type 0} {IsIt May : V → Type 0} {written : V → List ℕ}
     (unique : IsUnique May written) (text : List ℕ) (now : Option (List ℕ)) (value : V)
     (more : List ℕ)
-    → BeginsWithValue IsIt May written text now → May value → text ≡ written value ++ more → (now ≡ Some more)
+    → BeginsWithValue IsIt May written text now → May value → text ≡ written value ++ more
+    → (now ≡ Some more)
 behind unique text now value more stood may shown =
     let same = unique stood.value value stood.rest more stood.may may (sym stood.shown ∙ shown) in
     stood.left ∙ ap (λ rest. Some rest) same.1
@@ -108,7 +102,8 @@ EndsRead text now result = IsRead {T = Unit {0}} (λ _ _. Unit {0}) AreEnds ends
 
 abbrev NumberRead : Option (List ℕ) → Option (List ℕ) → Result ℕ MergeFault → Type 0
 NumberRead text now result = IsRead {T = ℕ} {V =
-    ℕ} (λ told number. told ≡ number) (λ number. number < 2 ^ 64) (number_line (codes "tokens ")) text
+    ℕ} (λ told number. told ≡ number) (λ number. number < 2 ^ 64) (number_line (codes "tokens "))
+    text
     now result
 
 pub no_ends : {T : Type 0} (Is : T → ToldFront → Type 0) (text now after : Option (List ℕ))
@@ -141,7 +136,8 @@ behind_two IsA a text now then_now told rest ends totals may shown =
     behind totals_line_unique (behind_ends told rest) then_now told.totals (behind_totals told rest)
     (subst (λ now. IsRead IsA AreCounts totals_line now then_now (Ok a)) at totals) may.totals refl
 
-pub no_validators : {T A B : Type 0} (Is : T → ToldFront → Type 0) (IsA : A → Sums → Type 0) (IsB : B
+pub no_validators : {T A B : Type 0} (Is : T → ToldFront → Type 0) (IsA : A → Sums → Type 0)
+    (IsB : B
     → List (ℕ × Sums) → Type 0) (a : A)
     (text now then_now later after : Option (List ℕ)) (fault : MergeFault)
     → EndsRead text now (Ok tt) → IsRead IsA AreCounts totals_line now then_now (Ok a)
@@ -179,7 +175,8 @@ pub whole_front : {T A B : Type 0} (Is : T → ToldFront → Type 0) (IsA : A �
     → EndsRead text now (Ok tt) → IsRead IsA AreCounts totals_line now then_now (Ok a)
     → IsRead IsB AreValidators validators_text then_now later (Ok b)
     → NumberRead later last (Ok number)
-    → ((told : ToldFront) → IsA a told.totals → IsB b told.validators → number ≡ told.tokens → Is x told)
+    → ((told : ToldFront) → IsA a told.totals → IsB b told.validators → number ≡ told.tokens
+    → Is x told)
     → IsRead Is MayBeSections told_text text last (Ok x)
 whole_front Is IsA IsB a b number x None now then_now later last ends totals validators tokens is =
     tt

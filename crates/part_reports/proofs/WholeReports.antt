@@ -16,6 +16,7 @@ use Rattle.std.proofs.lemmas.List.Elements.{All-append, All-cons, All-filter, Al
 use Rattle.std.proofs.lemmas.List.Elements.{All-map, All-nil, All-tail}
 use Rattle.std.proofs.lemmas.List.Sorted.{length_permutation}
 use Rattle.std.proofs.lemmas.List.Sums.{sum_by-append}
+use Rattle.std.proofs.KnownBytes.{Appends-trans}
 use Rattle.tap_views.specs.Token.{token_cmp, token_eq}
 use Rattle.tap_views.specs.declared.token.Token.{Token}
 use Rattle.shard_book.specs.Sums.{Sums, add_all, sums, sums_of}
@@ -23,13 +24,13 @@ use Rattle.shard_book.specs.declared.sums.totals.Totals.{Totals}
 use Rattle.fare_texts.specs.ReportLines.{token_line}
 use Rattle.report_texts.specs.Numbers.{IsTokenSum}
 use Rattle.part_reports.specs.Reports.{IsMerged, IsPartReport, Report, added, end_texts}
-use Rattle.part_reports.specs.inside.Fronts.{front_text}
-use Rattle.part_reports.specs.Reports.{all_ends, report_text, sums_of_validator, tokens_of_reports, validators_of_reports}
+use Rattle.part_reports.specs.Reports.{all_ends, report_text, sums_of_validator, tokens_of_reports}
+use Rattle.part_reports.specs.Reports.{validators_of_reports}
+use Rattle.part_reports.specs.inside.Fronts.{front_text, MayBePart, ToldFront}
 use Rattle.part_reports.specs.TokenLines.{IsMergedByToken, TokenLine, lines_of_token, text_of}
 use Rattle.part_reports.specs.declared.sums.WholeSums.{WholeSums}
 use Rattle.part_reports.specs.declared.upload_ends.UploadEnds.{UploadEnds}
 use Rattle.part_reports.specs.inside.UploadEnds.{HaveReadEnds}
-use Rattle.part_reports.specs.inside.Fronts.{MayBePart, ToldFront}
 use Rattle.part_reports.specs.inside.Kinds.{AreTexts, HasTokenSums, IsSumLine, IsTextOf, Leave}
 use Rattle.part_reports.specs.inside.Parts.{AreParts, BegunReport, begun_text, left_text}
 use Rattle.part_reports.specs.inside.Standings.{Standing}
@@ -39,7 +40,6 @@ use Rattle.part_reports.proofs.WholeFronts.{whole_text}
 use Rattle.part_reports.proofs.Added.{leave_sums}
 use Rattle.part_reports.proofs.FewParts.{told_of}
 use Rattle.part_reports.proofs.JoinedTokens.{StandOnce, joined_each, once_all, strictly_rise}
-use Rattle.part_reports.proofs.Merges.{appends_more}
 use Rattle.part_reports.proofs.SumsAdded.{taps_nothing}
 use Rattle.part_reports.proofs.PermutedTokens.{of_token, permuted}
 use Rattle.part_reports.proofs.TokenSums.{Sum, line_of, lines_keys, lines_length, lines_text}
@@ -61,7 +61,8 @@ pub record PartsOf (begun : List BegunReport) (lists : List (List TokenLine)) : 
   pub rise : All (λ list. IsStrictlySortedBy token_cmp (map (λ line. line.token) list)) lists
   pub each : All IsSumLine (flat_map (λ list. list) lists)
 
-parts_of : (begun : List BegunReport) (lists : List (List TokenLine)) → All (λ one. MayBePart one.0) begun
+parts_of : (begun : List BegunReport) (lists : List (List TokenLine))
+    → All (λ one. MayBePart one.0) begun
     → AllZip IsTextOf (map left_text begun) lists → PartsOf begun lists
 parts_of [] [] may are = record {
   parts = [];
@@ -79,7 +80,8 @@ parts_of [] [] may are = record {
 parts_of [] (list ∷ lists) may are = absurd are
 parts_of (one ∷ begun) [] may are = absurd are
 parts_of (one ∷ begun) (list ∷ lists) may are =
-    let rest = parts_of begun lists (All-tail (λ (one : BegunReport). MayBePart one.0) one begun may)
+    let rest = parts_of begun lists
+    (All-tail (λ (one : BegunReport). MayBePart one.0) one begun may)
     are.1 in
     let front = one.0 in
     let fits = All-head (λ (one : BegunReport). MayBePart one.0) one begun may in
@@ -150,7 +152,8 @@ pub lines_filtered : (token : Token) (some : List Sum)
     → lines_of_token token (map line_of some) ≡ map line_of (of_token token some)
 lines_filtered token [] = refl
 lines_filtered token (sum ∷ some) =
-    elim (token_eq token sum.0) as (λ b. (if b then line_of sum ∷ lines_of_token token (map line_of some)
+    elim (token_eq token sum.0) as (λ b.
+    (if b then line_of sum ∷ lines_of_token token (map line_of some)
     else lines_of_token token (map line_of some)) ≡ map line_of
     (if b then sum ∷ of_token token some else of_token token some)) [
       | true ↦ ap (λ more. line_of sum ∷ more) (lines_filtered token some)
@@ -225,7 +228,8 @@ pub validators_member : (validators : BTreeMap ℕ Totals) (list : List (ℕ × 
 validators_member validators list are q =
     ap (λ keys. is_member (eq_by_cmp nat_cmp) keys q) (same_keys validators.entries)
     ∙ sym (found_member q validators.entries) ∙ sym (some_map sums_of (get nat_cmp validators q))
-    ∙ ap is_some (are q) ∙ some_if (is_member (eq_by_cmp nat_cmp) (keys_of list) q) (sums_of_validator q list)
+    ∙ ap is_some (are q)
+    ∙ some_if (is_member (eq_by_cmp nat_cmp) (keys_of list) q) (sums_of_validator q list)
 
 pub validators_sums : (validators : BTreeMap ℕ Totals) (list : List (ℕ × Sums))
     → AreSumsOf validators list
@@ -236,11 +240,13 @@ validators_sums validators list are found =
     (λ (entry : ℕ × Totals). (entry.0, sums_of entry.1)) validators.entries
     (All-weaker (λ (entry : ℕ × Totals). get nat_cmp validators entry.0 ≡ Some entry.1)
     (λ (entry : ℕ × Totals). sums_of entry.1 ≡ sums_of_validator entry.0 list)
-    (λ entry is. of_if (is_member (eq_by_cmp nat_cmp) (keys_of list) entry.0) (sums_of_validator entry.0 list)
+    (λ entry is. of_if (is_member (eq_by_cmp nat_cmp) (keys_of list) entry.0)
+    (sums_of_validator entry.0 list)
     (sums_of entry.1) (ap (option_map sums_of) (sym is) ∙ are entry.0)) validators.entries found)
 
 -- ---- the whole
-pub fronts_totals : (parts : List Report) → map (λ (told : ToldFront). told.totals) (map told_of parts)
+pub fronts_totals : (parts : List Report)
+    → map (λ (told : ToldFront). told.totals) (map told_of parts)
     ≡ map (λ part. part.totals) parts
 fronts_totals [] = refl
 fronts_totals (part ∷ parts) = ap (λ more. part.totals ∷ more) (fronts_totals parts)
@@ -250,12 +256,14 @@ fronts_validators : (parts : List Report) → flat_map (λ (told : ToldFront). t
 fronts_validators [] = refl
 fronts_validators (part ∷ parts) = ap (λ more. part.validators ++ more) (fronts_validators parts)
 
-fronts_tokens : (parts : List Report) → sum_by (λ (told : ToldFront). told.tokens) (map told_of parts)
+fronts_tokens : (parts : List Report)
+    → sum_by (λ (told : ToldFront). told.tokens) (map told_of parts)
     ≡ length (tokens_of_reports parts)
 fronts_tokens [] = refl
 fronts_tokens (part ∷ parts) =
     let rest = fronts_tokens parts in
-    let first = sum_by-append (λ (told : ToldFront). told.tokens) (told_of part ∷ []) (map told_of parts)
+    let first = sum_by-append (λ (told : ToldFront). told.tokens) (told_of part ∷ [])
+    (map told_of parts)
     in
     let size = length-append part.tokens (tokens_of_reports parts) in
     omega (arith, rest, first, size)
@@ -276,7 +284,8 @@ pub record Written (end_files report_files : List (List ℕ)) (posted : Type 0)
   pub posted_is : posted ↔ All (λ end. IsTrue (is_posted end)) (all_ends merged.ends)
   pub appends : Appends old new text
 
-pub merged : (end_files report_files : List (List ℕ)) (lists : List (List UploadEnd)) (ends : UploadEnds)
+pub merged : (end_files report_files : List (List ℕ)) (lists : List (List UploadEnd))
+    (ends : UploadEnds)
     (sums : WholeSums) (standings : List Standing) (front : List ℕ)
     (token_lists : List (List TokenLine)) (joined : List TokenLine) (old mid new : Option (List ℕ))
     → end_files ≡ end_texts 0 lists → HaveReadEnds ends (all_ends lists)
@@ -333,8 +342,10 @@ merged end_files report_files lists ends sums standings front token_lists joined
           totals = totals;
           validators_rise = subst (λ keys. IsStrictlySortedBy nat_cmp keys)
               (sym (same_keys sums.validators.entries)) ordered;
-          validators_same = validators_member sums.validators (validators_of_reports reports) validators;
-          validators_sums = validators_sums sums.validators (validators_of_reports reports) validators
+          validators_same = validators_member sums.validators (validators_of_reports reports)
+              validators;
+          validators_sums = validators_sums sums.validators (validators_of_reports reports)
+              validators
               found;
           tokens_moved = subst (λ all. IsPermutation all tokens.sums) of_parts.sums_are
               tokens.moved;
@@ -352,5 +363,5 @@ merged end_files report_files lists ends sums standings front token_lists joined
           ∙ lines_text tokens.sums)
           ∙ whole_text (all_ends lists) (sums_of sums.totals) (validators_in sums.validators)
           tokens.sums)
-          (appends_more old mid new front (text_of joined) first second);
+          (Appends-trans old mid new front (text_of joined) first second);
     }

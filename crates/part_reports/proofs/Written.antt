@@ -2,8 +2,8 @@
 use Rattle.std.proofs.Common.{◌≡◌, ℕ, List, ◌++◌, Option, Some, None, sym, ap, ◌∙◌, append_assoc}
 use Rattle.std.proofs.Common.{arith, drop, length, length-drop, take, take_all, ◌-◌}
 use Rattle.std.proofs.lemmas.List.{take-append-drop}
+use Rattle.std.proofs.KnownBytes.{Appends-trans}
 use Rattle.std.specs.Io.KnownBytes.{Appends, Keeps}
-use Rattle.part_reports.proofs.Merges.{appends_more}
 
 -- this is left to write of the text, and what is before it was written
 pub record IsWritten (text : List ℕ) (old now : Option (List ℕ)) (left : List ℕ) : Type 0 where
@@ -33,5 +33,5 @@ written_on text left count old now new so_far more = record {
       ∙ ap (λ (rest : List ℕ). (so_far.front ++ take count left) ++ rest)
       (sym (take_all (length left - count) (drop count left)
       (omega (arith, length-drop count left))));
-  written = appends_more old now new so_far.front (take count left) so_far.written more;
+  written = Appends-trans old now new so_far.front (take count left) so_far.written more;
 }

@@ -1,7 +1,7 @@
 //! Files that are read at any offset, as often as needed: files of the system, and bytes in memory.
 //!
-//! What a file of the system has is not known to any proof. So the contracts speak of the bytes
-//! where they are known, and they are for bytes in memory.
+//! What a file of the system has is not known to any proof. So the contracts speak of the bytes if
+//! they are known, as those in memory are.
 #![tactic(auto)]
 
 mod fill;

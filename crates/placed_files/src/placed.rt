@@ -13,7 +13,7 @@ use std::os::unix::fs::FileExt;
 pub trait Placed {
     ghost use Rattle.std.specs.Prelude.{List, ℕ, Option, None};
 
-    // All its bytes, where they are known. Known bytes do not change.
+    // All its bytes, if they are known. Known bytes do not change.
     ghost bytes: { Self → Option (List ℕ) } = { λ _. None };
 
     /// Reads bytes from this offset on into the front of the buffer, and returns their number. One
@@ -43,7 +43,6 @@ impl Placed for File {
 /// The bytes of a file, in memory. Its times are all 0.
 #[derive(Clone, Copy)]
 pub struct InMemory<'a> {
-    /// The bytes.
     pub all: &'a [u8],
 }
 

@@ -9,10 +9,10 @@ use std::io::ErrorKind;
 use std::{fs, io};
 use thiserror::Error;
 
-/// The system's error where this process has as many open files as it may.
+/// The system's error if this process has as many open files as it may.
 const EMFILE: i32 = 24;
 
-/// The system's error where all processes together have.
+/// The system's error if all processes together have.
 const ENFILE: i32 = 23;
 
 /// Why a file was not opened.
@@ -27,7 +27,6 @@ pub enum Unopened {
     /// As many files are open as the system allows.
     #[error("too many files are open")]
     TooManyOpen,
-    /// Memory was refused.
     #[error("out of memory")]
     NoMemory,
 }

@@ -1,5 +1,6 @@
 -- What was refused, and names of files among others.
-use Rattle.std.proofs.Common.{◌≡◌, ◌<◌, ℕ, List, [], ◌∷◌, Bor, Option, None, Some, ap, arith, codes, get_or, inl, inr, length, map, subst, suc, zero, ⊎_elim}
+use Rattle.std.proofs.Common.{◌≡◌, ◌<◌, ℕ, List, [], ◌∷◌, Bor, Option, None, Some, ap, arith, codes}
+use Rattle.std.proofs.Common.{get_or, inl, inr, length, map, subst, suc, zero, ⊎_elim}
 use Rattle.std.specs.Prelude.{Err, IsUtf8, Result, unwrap_or, ◌≢◌, ◌⊎◌}
 use Rattle.std.specs.Result.{IsErrOf}
 use Rattle.clap.specs.Words.{HasKind, Kinds, kind_of}
@@ -12,30 +13,40 @@ use Rattle.program_manners.specs.Refusals.{IsFirstTableFault, IsOneOf, Refuses, 
 use Rattle.program_manners.specs.declared.loading.LoadFault.{LoadFault}
 
 -- a name at a place is one of the names
-pub is_one_at : (names : List (Bor (List ℕ))) (k : ℕ) (d : Bor (List ℕ)) (name : List ℕ) → k < length names → name ≡ (get_or names k d).now
+pub is_one_at : (names : List (Bor (List ℕ))) (k : ℕ) (d : Bor (List ℕ)) (name : List ℕ)
+    → k < length names → name ≡ (get_or names k d).now
     → IsOneOf name (map (λ n. n.now) names)
 is_one_at [] k d name within is = absurd (omega arith)
 is_one_at (n ∷ names) zero d name within is = inl is
 is_one_at (n ∷ names) (suc k) d name within is = inr (is_one_at names k d name (omega arith) is)
 
 -- what the source refused under a name is told under it
-pub refusal_told : (refused : Option (Option (List ℕ) × LoadFault)) (name : Option (List ℕ)) (fault : LoadFault) → Refuses refused name fault
+pub refusal_told : (refused : Option (Option (List ℕ) × LoadFault)) (name : Option (List ℕ))
+    (fault : LoadFault) → Refuses refused name fault
     → TellsRefusal refused (unwrap_or name (codes "standard input")) fault
 refusal_told None name fault is = tt
-refusal_told (Some one) name fault is = (ap (λ (n : Option (List ℕ)). unwrap_or n (codes "standard input")) is.0, is.1)
+refusal_told (Some one) name fault is =
+    (ap (λ (n : Option (List ℕ)). unwrap_or n (codes "standard input")) is.0, is.1)
 
 -- an error is one
-one_error : {A : Type 0} (r : Result A TableFault) (fault other : TableFault) → r ≡ Err fault → IsErrOf r other → fault ≡ other
+one_error : {A : Type 0} (r : Result A TableFault) (fault other : TableFault) → r ≡ Err fault
+    → IsErrOf r other → fault ≡ other
 one_error r fault other same is = cc
 
 -- what the reader of a table says of its fault
-pub first_table_fault : {A : Type 0} (r : Result A TableFault) (text : List ℕ) (fault : TableFault) → r ≡ Err fault
-    → (fault ≢ NoMemory → IsUtf8 text → meaning_in text ≡ Err fault) → (¬ IsUtf8 text → IsErrOf r Text ⊎ IsErrOf r NoMemory) → IsFirstTableFault text fault
+pub first_table_fault : {A : Type 0} (r : Result A TableFault) (text : List ℕ) (fault : TableFault)
+    → r ≡ Err fault
+    → (fault ≢ NoMemory → IsUtf8 text → meaning_in text ≡ Err fault)
+    → (¬ IsUtf8 text → IsErrOf r Text ⊎ IsErrOf r NoMemory) → IsFirstTableFault text fault
 first_table_fault r text fault same first not_text = record {
   of_text = first;
-  no_text = λ room none. ⊎_elim (one_error r fault Text same) (λ is. absurd (room (one_error r fault NoMemory same is))) (not_text none);
+  no_text = λ room none. ⊎_elim (one_error r fault Text same)
+      (λ is. absurd (room (one_error r fault NoMemory same is))) (not_text none);
 }
 
 -- an error of words where no kind may come is want of memory
-pub only_memory : (kinds : Kinds) (e : Error) → kinds ≡ [] → HasKind kinds e → kind_of e ≡ OutOfMemory
-only_memory kinds e none has = elim (subst (λ (k : Kinds). HasKind k e) none has) [ inl memory ↦ memory | inr among ↦ absurd among ]
+pub only_memory : (kinds : Kinds) (e : Error) → kinds ≡ [] → HasKind kinds e
+    → kind_of e ≡ OutOfMemory
+only_memory kinds e none has =
+    elim (subst (λ (k : Kinds). HasKind k e) none has)
+    [ inl memory ↦ memory | inr among ↦ absurd among ]

@@ -173,7 +173,7 @@ impl Disk for Names {
 }
 
 /// The names of what two threads read ahead, in the order of the list. Each has its own bytes, or
-/// the fault that the disk tells of it.
+/// the fault that the disk reports of it.
 fn ahead_names<R: Threads + Sync + Abort>(
     rt: &R,
     alloc: Global,

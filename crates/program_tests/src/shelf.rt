@@ -1,4 +1,4 @@
-//! A source of named files in memory, which tells what it loaded.
+//! A source of named files in memory, which keeps what it loaded.
 ghost use Rattle.std.specs.Prelude.{◌≡◌, ◌++◌, ◌∷◌, [], IfOk, OnOk, Some, map, option_map};
 ghost use Rattle.std.specs.Prelude.{string_bytes};
 
@@ -13,7 +13,6 @@ pub(crate) const FIRST: &str =
 /// What a source has under a name.
 #[derive(Clone, Copy)]
 pub(crate) enum Content<'a> {
-    /// These bytes.
     Bytes(&'a [u8]),
     /// A file that is not loaded.
     Fault(LoadFault),
@@ -24,7 +23,6 @@ pub(crate) enum Content<'a> {
 struct Given {
     /// The name of the file; standard input has none.
     name: Option<String>,
-    /// What was loaded.
     bytes: Vec<u8>,
 }
 

@@ -283,8 +283,8 @@ fn run_fickle<R: Threads + Wait + RandomSource + Sync>(
     run_on(rt, alloc, &words, &disk, all, all)
 }
 
-/// The later a read fails, the later is the line that tells it. The text is short, and goes out only
-/// if no read fails.
+/// The later a read fails, the later is the line that reports it. The text is short, and goes out
+/// only if no read fails.
 #[test]
 fn a_read_that_fails_is_told_by_its_pass(rt: HostRuntime) -> Result<(), Fail> {
     let alloc = rt.alloc();

@@ -9,7 +9,7 @@ use tap_views::encode;
 /// The taps of a token of a long file.
 const TOKEN_TAPS: u64 = 100;
 
-/// A sorted file of so many taps, in batches of so many.
+/// A sorted file of `number` taps, in batches of `batch` taps.
 fn long_file(alloc: Global, number: u64, batch: usize) -> Result<Vec<u8>, Fail> {
     let mut file = Vec::new(alloc);
     let mut taps = Vec::new(alloc);
@@ -26,7 +26,7 @@ fn long_file(alloc: Global, number: u64, batch: usize) -> Result<Vec<u8>, Fail> 
     Ok(file)
 }
 
-/// In batches of 512 taps, where the ranges are found, and in others, where they are not.
+/// In batches of 512 taps, for which the ranges are found, and in others, for which they are not.
 #[test]
 fn the_text_does_not_depend_on_the_workers(rt: HostRuntime) -> Result<(), Fail> {
     let alloc = rt.alloc();

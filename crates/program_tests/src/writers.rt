@@ -61,7 +61,7 @@ fn run_first<R: Threads + Wait + RandomSource + Sync, W: Write>(
     Ok(run_over(rt, alloc, words, &NoDisk, &mut shelf, out)?)
 }
 
-/// The status and the complaint of such a run, where the writer takes so many bytes.
+/// The status and the complaint of such a run, if the writer takes `room` bytes.
 fn run_with_room<R: Threads + Wait + RandomSource + Sync>(
     rt: &R,
     alloc: Global,
@@ -72,7 +72,7 @@ fn run_with_room<R: Threads + Wait + RandomSource + Sync>(
     run_first(rt, alloc, words, &mut out)
 }
 
-/// The same, where the writer brings no byte anywhere.
+/// The same, if the writer brings no byte anywhere.
 fn run_stuck<R: Threads + Wait + RandomSource + Sync>(
     rt: &R,
     alloc: Global,
@@ -94,7 +94,7 @@ fn writes<R: Threads + Wait + RandomSource + Sync>(
     Ok(status == 0 && err.is_empty() && out.as_slice() == text)
 }
 
-/// The first room below the length with which such a run does not tell, with status 1, that it
+/// The first room below the length with which such a run does not report, with status 1, that it
 /// cannot write.
 fn first_untold<R: Threads + Wait + RandomSource + Sync>(
     rt: &R,
@@ -156,7 +156,7 @@ fn ends_with_its_status_where_the_fault_cannot_be_told(rt: HostRuntime) -> Resul
     Ok(())
 }
 
-/// Whether words that cannot be had are told by this line, with this status.
+/// Whether words that cannot be had are reported by this line, with this status.
 fn is_told(alloc: Global, fault: &WordsFault, line: &[u8], status: u8) -> bool {
     let mut err = Complaints::new(Vec::new(alloc));
     let ended = unread_words(fault, &mut err);

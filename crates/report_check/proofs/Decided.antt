@@ -1,6 +1,6 @@
 -- A true verdict says that a report is the ledger's exactly if it is.
-use Rattle.std.proofs.Common.{◌≡◌, ◌≢◌, ◌∙◌, ℕ, ◌<◌, ◌^◌, true, false, List, [], ◌++◌, length, append_assoc, append-nil, codes}
-use Rattle.std.proofs.Common.{refl, sym, ap, arith, inl, inr}
+use Rattle.std.proofs.Common.{◌≡◌, ◌≢◌, ◌∙◌, ℕ, ◌<◌, ◌^◌, true, false, List, [], ◌++◌, length}
+use Rattle.std.proofs.Common.{append_assoc, append-nil, codes, refl, sym, ap, arith, inl, inr}
 use Rattle.std.specs.Prelude.{◌↔◌, sum_by}
 use Rattle.std.specs.Io.BufRead.{drop_through, take_through}
 use Rattle.std.proofs.lemmas.List.{append_cancel_left}
@@ -9,15 +9,21 @@ use Rattle.fare_texts.specs.Counts.{totals_line}
 use Rattle.shard_book.specs.Sums.{sums}
 use Rattle.shard_book.specs.SumsByKey.{sums_by_token, sums_by_validator}
 use Rattle.shard_book.specs.declared.entry.Entry.{Entry}
-use Rattle.report_texts.specs.Report.{tokens_section, upload_line, upload_lines, uploads_section, validators_section}
+use Rattle.report_texts.specs.Report.{tokens_section, upload_line, upload_lines, uploads_section}
+use Rattle.report_texts.specs.Report.{validators_section}
 use Rattle.report_texts.specs.UploadEnds.{taps_told}
 use Rattle.report_texts.specs.declared.upload_end.UploadEnd.{UploadEnd}
-use Rattle.report_check.specs.Reports.{BeginsWithUploads, HasNoUploads, HasOtherTaps, HasReportBefore, HasWrongLine, HaveTapsOf, IsNoUploadLine, IsReportOfLedger, IsReportVerdict, IsWrongLine, is_of_ledger, report_of}
+use Rattle.report_check.specs.Reports.{BeginsWithUploads, HasNoUploads, HasOtherTaps}
+use Rattle.report_check.specs.Reports.{HasReportBefore, HasWrongLine, HaveTapsOf, IsNoUploadLine}
+use Rattle.report_check.specs.Reports.{IsReportOfLedger, IsReportVerdict, IsWrongLine, is_of_ledger}
+use Rattle.report_check.specs.Reports.{report_of}
 use Rattle.report_check.specs.declared.verdict.ReportVerdict.{ReportVerdict}
-use Rattle.report_check.specs.declared.verdict.ReportVerdict.TheVariants.{OfLedger, Wants, NoLine, Taps}
+use Rattle.report_check.specs.declared.verdict.ReportVerdict.TheVariants.{OfLedger, Wants, NoLine}
+use Rattle.report_check.specs.declared.verdict.ReportVerdict.TheVariants.{Taps}
 use Rattle.ledger_check.proofs.LineLemmas.{lacks-tested}
 use Rattle.report_check.proofs.EndsTold.{next_end, number_line_is, section_same, upload_line_is}
-use Rattle.report_check.proofs.Through.{taken_line, whole_through}
+use Rattle.report_check.proofs.Through.{taken_line}
+use Rattle.part_reports.proofs.Firsts.{taken_and_left}
 
 -- what a report has behind its uploads
 abbrev behind_uploads : List Entry → List ℕ
@@ -42,7 +48,7 @@ wrong_apart : (text wanted : List ℕ) (number : ℕ) (line : List ℕ)
     → IsWrongLine text wanted number line → ¬ (text ≡ wanted)
 wrong_apart text wanted number line is same =
     let left = append_cancel_left is.before is.rest is.left (sym is.has ∙ same ∙ is.wants) in
-    is.wrong (drop_through 10 is.left) (left ∙ whole_through is.left
+    is.wrong (drop_through 10 is.left) (left ∙ sym (taken_and_left is.left)
     ∙ ap (λ (t : List ℕ). t ++ drop_through 10 is.left) (sym is.line_is))
 
 -- so is one with more behind it
@@ -56,7 +62,8 @@ wrong_not entries text number line has own =
     wrong_apart text (report_of has.ends entries) number line has.is
     (wanted_is entries text has.ends has.begins own)
 
-begins_of : (entries : List Entry) (text more : List ℕ) (ends : List UploadEnd) → HaveTapsOf ends entries
+begins_of : (entries : List Entry) (text more : List ℕ) (ends : List UploadEnd)
+    → HaveTapsOf ends entries
     → text ≡ report_of ends entries ++ more → BeginsWithUploads text ends
 begins_of entries text more ends have is = record {
   each = have.each;

@@ -1,11 +1,12 @@
 -- Two texts, held against each other line by line.
-use Rattle.std.proofs.Common.{◌≡◌, ◌==◌, ℕ, ◌+◌, ◌<◌, ◌≤◌, ◌⊎◌, Bool, cond, List, [], ◌∷◌, ◌++◌, length, refl, sym, ap}
-use Rattle.std.proofs.Common.{◌∙◌, inl, inr, arith, append_assoc, append-nil, length-append}
+use Rattle.std.proofs.Common.{◌≡◌, ◌==◌, ℕ, ◌+◌, ◌<◌, ◌≤◌, ◌⊎◌, Bool, cond, List, [], ◌∷◌, ◌++◌}
+use Rattle.std.proofs.Common.{length, refl, sym, ap}
+use Rattle.std.proofs.Common.{◌∙◌, inl, inr, arith, append_assoc, length-append}
 use Rattle.std.proofs.lemmas.Bool.{ne_eqb}
 use Rattle.std.proofs.lemmas.List.Sums.{sum_by-append, sum_by-cons}
 use Rattle.ledger_check.specs.Lines.{IsLine, Lacks}
 use Rattle.ledger_check.proofs.LineLemmas.{lacks-last}
-use Rattle.report_check.specs.Reports.{EndsLine, HasLineBehind, IsWrongLine, line_feeds}
+use Rattle.report_check.specs.Reports.{EndsLine, IsWrongLine, line_feeds}
 use Rattle.report_check.specs.inside.Differences.{EndsWithFeed}
 use Rattle.report_check.proofs.Through.{taken_line}
 
@@ -57,7 +58,8 @@ suffix_ends (x ∷ a) b (y ∷ front) is =
 pub ends_behind : (left line behind : List ℕ) → 0 < length left → left ≡ line ++ behind
     → (left ≡ []) ⊎ EndsWithFeed left → (behind ≡ []) ⊎ EndsWithFeed behind
 ends_behind left line behind some is (inl none) =
-    let zero : length left ≡ 0 = ap (λ (t : List ℕ). length t) none in absurd (omega (arith, some, zero))
+    let zero : length left ≡ 0 = ap (λ (t : List ℕ). length t) none in
+    absurd (omega (arith, some, zero))
 ends_behind left line behind some is (inr ends) =
     suffix_ends line behind ends.0 (sym is ∙ ends.1)
 
@@ -71,34 +73,19 @@ pub wrong_line : (text wanted before left rest line behind : List ℕ) (number :
     → wanted ≡ before ++ left → text ≡ before ++ rest → number ≡ line_feeds before + 1
     → 0 < length left → IsLine line → left ≡ line ++ behind
     → ((more : List ℕ) → ¬ (rest ≡ line ++ more)) → IsWrongLine text wanted number line
-wrong_line text wanted before left rest line behind number whole wants has counted some is split wrong =
+wrong_line text wanted before left rest line behind number whole wants has counted some is split
+    wrong =
     record {
       before = before;
       whole = whole;
       counted = counted;
       left = left;
       some = λ none.
-          let zero : length left ≡ 0 = ap (λ (t : List ℕ). length t) none in omega (arith, some, zero);
+          let zero : length left ≡ 0 = ap (λ (t : List ℕ). length t) none in
+          omega (arith, some, zero);
       wants = wants;
       line_is = taken_line left line behind is split;
       rest = rest;
       has = has;
       wrong = wrong;
     }
-
-pub line_behind : (text wanted before left rest : List ℕ) (number : ℕ) → wanted ≡ before ++ left
-    → text ≡ before ++ rest → number ≡ line_feeds before + 1 → left ≡ [] → ¬ (rest ≡ [])
-    → HasLineBehind text wanted number
-line_behind text wanted before left rest number wants has counted none some =
-    let all : wanted ≡ before = wants ∙ ap (λ (t : List ℕ). before ++ t) none ∙ append-nil before in
-    record {
-      more = rest;
-      some = some;
-      has = has ∙ ap (λ (t : List ℕ). t ++ rest) (sym all);
-      counted = counted ∙ ap (λ (t : List ℕ). line_feeds t + 1) (sym all);
-    }
-
-pub same_texts : (text wanted before left rest : List ℕ) → wanted ≡ before ++ left
-    → text ≡ before ++ rest → left ≡ [] → rest ≡ [] → text ≡ wanted
-same_texts text wanted before left rest wants has none over =
-    has ∙ ap (λ (t : List ℕ). before ++ t) (over ∙ sym none) ∙ sym wants

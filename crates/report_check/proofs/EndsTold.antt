@@ -1,7 +1,7 @@
 -- The lines of uploads are determined by their text: two lists of ends, with any rests behind their
 -- lines, that are the same text are the same list, and have the same rest.
-use Rattle.std.proofs.Common.{◌≡◌, ◌∙◌, ℕ, ◌+◌, ◌<◌, ◌^◌, All, List, [], ◌∷◌, ◌++◌, length, append_assoc, codes}
-use Rattle.std.proofs.Common.{refl, sym, ap, arith, get_or, subst, suc}
+use Rattle.std.proofs.Common.{◌≡◌, ◌∙◌, ℕ, ◌+◌, ◌<◌, ◌^◌, All, List, [], ◌∷◌, ◌++◌, length}
+use Rattle.std.proofs.Common.{append_assoc, codes, refl, sym, ap, arith, get_or, subst, suc}
 use Rattle.std.specs.Fmt.{decimal}
 use Rattle.std.specs.List.{AllByRecursion}
 use Rattle.std.proofs.lemmas.Bool.Decides.{nat_tests}
@@ -18,7 +18,8 @@ use Rattle.report_check.specs.Reports.{IsReportEnd}
 use Rattle.report_texts.proofs.EndTexts.{line_words, refused_spelt, small_number}
 use Rattle.report_texts.specs.Report.{upload_line, upload_lines, uploads_section}
 use Rattle.report_texts.specs.declared.upload_end.UploadEnd.{UploadEnd}
-use Rattle.report_texts.specs.declared.upload_end.UploadEnd.TheVariants.{Posted, Refused, Cut, Undrawn}
+use Rattle.report_texts.specs.declared.upload_end.UploadEnd.TheVariants.{Posted, Refused, Cut}
+use Rattle.report_texts.specs.declared.upload_end.UploadEnd.TheVariants.{Undrawn}
 use Rattle.report_texts.specs.inside.EndWords.{end_words, fault_number}
 
 -- ---- what stands behind the number of an upload
@@ -47,7 +48,8 @@ end_same number (Posted a) (Refused b offset fault) x y fits fits_too is =
 end_same number (Refused a offset fault) (Posted b) x y fits fits_too is =
     end_line_unique number (Refused a offset fault) (Posted b) x y fits fits_too is
 end_same number (Refused a offset fault) (Refused b other_offset other) x y fits fits_too is =
-    end_line_unique number (Refused a offset fault) (Refused b other_offset other) x y fits fits_too is
+    end_line_unique number (Refused a offset fault) (Refused b other_offset other) x y fits fits_too
+    is
 end_same number (Cut a) (Cut b) x y fits fits_too is =
     let texts = behind_number number (Cut a) (Cut b) x y is in
     let (same, rest) = number_line_unique (codes " cut ") a b x y fits fits_too texts in
@@ -55,34 +57,48 @@ end_same number (Cut a) (Cut b) x y fits fits_too is =
 end_same number Undrawn Undrawn x y fits fits_too is =
     (refl, append_cancel_left (end_words Undrawn) x y (behind_number number Undrawn Undrawn x y is))
 end_same number (Posted a) (Cut b) x y fits fits_too is =
-    let apart : 112 ≡ 99 = second_byte (Posted a) (Cut b) x y (behind_number number (Posted a) (Cut b) x y is) in
+    let apart : 112 ≡ 99 =
+    second_byte (Posted a) (Cut b) x y (behind_number number (Posted a) (Cut b) x y is) in
     absurd (omega (arith, apart))
 end_same number (Posted a) Undrawn x y fits fits_too is =
-    let apart : 112 ≡ 117 = second_byte (Posted a) Undrawn x y (behind_number number (Posted a) Undrawn x y is) in
+    let apart : 112 ≡ 117 =
+    second_byte (Posted a) Undrawn x y (behind_number number (Posted a) Undrawn x y is) in
     absurd (omega (arith, apart))
 end_same number (Refused a offset fault) (Cut b) x y fits fits_too is =
-    let apart : 114 ≡ 99 = second_byte (Refused a offset fault) (Cut b) x y (behind_number number (Refused a offset fault) (Cut b) x y is) in
+    let apart : 114 ≡ 99 =
+    second_byte (Refused a offset fault) (Cut b) x y
+    (behind_number number (Refused a offset fault) (Cut b) x y is) in
     absurd (omega (arith, apart))
 end_same number (Refused a offset fault) Undrawn x y fits fits_too is =
-    let apart : 114 ≡ 117 = second_byte (Refused a offset fault) Undrawn x y (behind_number number (Refused a offset fault) Undrawn x y is) in
+    let apart : 114 ≡ 117 =
+    second_byte (Refused a offset fault) Undrawn x y
+    (behind_number number (Refused a offset fault) Undrawn x y is) in
     absurd (omega (arith, apart))
 end_same number (Cut a) (Posted b) x y fits fits_too is =
-    let apart : 99 ≡ 112 = second_byte (Cut a) (Posted b) x y (behind_number number (Cut a) (Posted b) x y is) in
+    let apart : 99 ≡ 112 =
+    second_byte (Cut a) (Posted b) x y (behind_number number (Cut a) (Posted b) x y is) in
     absurd (omega (arith, apart))
 end_same number (Cut a) (Refused b offset fault) x y fits fits_too is =
-    let apart : 99 ≡ 114 = second_byte (Cut a) (Refused b offset fault) x y (behind_number number (Cut a) (Refused b offset fault) x y is) in
+    let apart : 99 ≡ 114 =
+    second_byte (Cut a) (Refused b offset fault) x y
+    (behind_number number (Cut a) (Refused b offset fault) x y is) in
     absurd (omega (arith, apart))
 end_same number (Cut a) Undrawn x y fits fits_too is =
-    let apart : 99 ≡ 117 = second_byte (Cut a) Undrawn x y (behind_number number (Cut a) Undrawn x y is) in
+    let apart : 99 ≡ 117 =
+    second_byte (Cut a) Undrawn x y (behind_number number (Cut a) Undrawn x y is) in
     absurd (omega (arith, apart))
 end_same number Undrawn (Posted b) x y fits fits_too is =
-    let apart : 117 ≡ 112 = second_byte Undrawn (Posted b) x y (behind_number number Undrawn (Posted b) x y is) in
+    let apart : 117 ≡ 112 =
+    second_byte Undrawn (Posted b) x y (behind_number number Undrawn (Posted b) x y is) in
     absurd (omega (arith, apart))
 end_same number Undrawn (Refused b offset fault) x y fits fits_too is =
-    let apart : 117 ≡ 114 = second_byte Undrawn (Refused b offset fault) x y (behind_number number Undrawn (Refused b offset fault) x y is) in
+    let apart : 117 ≡ 114 =
+    second_byte Undrawn (Refused b offset fault) x y
+    (behind_number number Undrawn (Refused b offset fault) x y is) in
     absurd (omega (arith, apart))
 end_same number Undrawn (Cut b) x y fits fits_too is =
-    let apart : 117 ≡ 99 = second_byte Undrawn (Cut b) x y (behind_number number Undrawn (Cut b) x y is) in
+    let apart : 117 ≡ 99 =
+    second_byte Undrawn (Cut b) x y (behind_number number Undrawn (Cut b) x y is) in
     absurd (omega (arith, apart))
 
 -- ---- all lines
@@ -192,7 +208,8 @@ number_line_is word number lacks small =
     line_ends word _ lacks (line_ends (decimal number) _ (decimal_lacks number small) feed)
 
 words_are : (end : UploadEnd) → IsReportEnd end → IsLine (end_words end)
-words_are (Posted taps) fits = number_line_is (codes " posted ") taps (lacks-tested 10 (codes " posted ") refl) fits
+words_are (Posted taps) fits =
+    number_line_is (codes " posted ") taps (lacks-tested 10 (codes " posted ") refl) fits
 words_are (Refused taps offset fault) fits =
     subst_line (sym (refused_spelt taps offset fault))
     (line_ends (codes " refused ") _ (lacks-tested 10 (codes " refused ") refl)
@@ -204,7 +221,8 @@ words_are (Refused taps offset fault) fits =
   where
     subst_line : {a b : List ℕ} → a ≡ b → IsLine a → IsLine b
     subst_line same is = subst IsLine same is
-words_are (Cut taps) fits = number_line_is (codes " cut ") taps (lacks-tested 10 (codes " cut ") refl) fits
+words_are (Cut taps) fits =
+    number_line_is (codes " cut ") taps (lacks-tested 10 (codes " cut ") refl) fits
 words_are Undrawn fits = record {
   front = codes " undrawn";
   lacks = lacks-tested 10 (codes " undrawn") refl;

@@ -1,6 +1,6 @@
 -- The fields of an entry's line, and what its cents can be.
-use Rattle.std.proofs.Common.{◌≡◌, ℕ, ◌≤◌, Bool, true, false, List, [], ◌∷◌, ◌++◌, Option, Some, None}
-use Rattle.std.proofs.Common.{refl, sym, ap, subst, ◌∙◌, append_assoc, option_map}
+use Rattle.std.proofs.Common.{◌≡◌, ℕ, ◌≤◌, List, [], ◌∷◌, ◌++◌, Option, Some, None, refl, sym, ap}
+use Rattle.std.proofs.Common.{subst, ◌∙◌, append_assoc, option_map}
 use Rattle.std.specs.Fmt.{decimal}
 use Rattle.hex.specs.Hex.{encode_lower}
 use Rattle.fare_table.specs.Fares.{Fares, class_of, mode_at, ride_terms}
@@ -8,25 +8,14 @@ use Rattle.fare_table.specs.Terms.{AreRideTerms}
 use Rattle.fare_table.specs.declared.mode.Mode.{Mode}
 use Rattle.fare_texts.specs.Moments.{IsMomentText}
 use Rattle.fare_texts.specs.StatementText.{answer_text}
-use Rattle.account_rule.specs.Blocks.{last_block}
-use Rattle.account_rule.specs.Replies.{reply}
-use Rattle.account_rule.specs.Stands.{window_of}
-use Rattle.account_rule.specs.Taps.{is_later, live_at, live_tap}
-use Rattle.account_rule.specs.TokenRules.{TokenRules, rules_of}
-use Rattle.account_rule.specs.Trips.{ends_in_transfer}
-use Rattle.account_rule.specs.Windows.{windows}
+use Rattle.account_rule.specs.Taps.{live_at}
+use Rattle.account_rule.specs.TokenRules.{rules_of}
 use Rattle.account_rule.specs.declared.reason.Reason.{Reason}
 use Rattle.account_rule.specs.declared.reply.Answer.{Answer}
-use Rattle.account_rule.specs.declared.reply.Answer.TheVariants.{Paid, Transfer, Capped, Stale, Unknown}
+use Rattle.account_rule.specs.declared.reply.Answer.TheVariants.{Paid, Transfer, Capped, Stale}
+use Rattle.account_rule.specs.declared.reply.Answer.TheVariants.{Unknown}
 use Rattle.account_rule.specs.declared.reply.Reply.{Reply}
-use Rattle.account_rule.specs.declared.tap.TapIn.{TapIn}
-use Rattle.account_rule.specs.declared.window.Window.{Window}
-use Rattle.account_rule.specs.inside.Kept.{window_at}
-use Rattle.account_rule.proofs.FareLemmas.{free-few, ride-few}
-use Rattle.account_rule.proofs.StepLemmas.{is_live, reply_live, reply_ride, reply_stale, reply_transfer}
-use Rattle.account_rule.proofs.StepLemmas.{reply_unknown}
-use Rattle.account_rule.proofs.TapLemmas.{last_window-ride}
-use Rattle.account_rule.proofs.WindowLemmas.{charge-after}
+use Rattle.account_rule.proofs.CentsLemmas.{reply_most}
 use Rattle.report_check.specs.inside.RideTerms.{HasRideTerms}
 use Rattle.fare_texts.specs.LedgerLines.{IsLedgerLine, entry_fields, line_head, mode_field}
 use Rattle.ledger_check.specs.Lines.{Lacks}
@@ -78,57 +67,6 @@ cents_fields fares token number entry why line is = record {
       (is.reason_fields ++ 10 ∷ []);
 }
 
--- ---- no reply has more cents than the greatest fare
-ride_most : (rules : TokenRules) (taps : List TapIn) (tap : TapIn) (mode : Mode)
-    → tap.mode ≡ Some mode → is_later taps tap.moment ≡ true
-    → ends_in_transfer rules (taps ++ tap ∷ []) ≡ false
-    → AreRideTerms (rules.terms (live_at tap.moment mode))
-    → (reply rules taps tap).cents ≤ 100_000
-unfolding live_at
-ride_most rules taps tap mode known later ends bounds =
-    let terms = rules.terms (live_at tap.moment mode) in
-    let shown : live_tap taps tap ≡ Some (live_at tap.moment mode) = is_live taps tap mode known later in
-    let window : Window =
-    window_at (window_of rules (last_block (windows rules taps))) tap.moment (rules.until tap.moment) in
-    ride-few terms window.rides window.cents (reply rules taps tap) bounds
-    (reply_live rules taps tap mode known later
-    ∙ reply_ride rules (taps ++ tap ∷ []) ends
-    ∙ rw (
-      last_window-ride rules taps tap (live_at tap.moment mode) shown ends,
-      charge-after rules (last_block (windows rules taps)) (live_at tap.moment mode) terms refl bounds,
-    ) refl)
-
-live_most : (rules : TokenRules) (taps : List TapIn) (tap : TapIn) (mode : Mode)
-    → tap.mode ≡ Some mode → is_later taps tap.moment ≡ true
-    → AreRideTerms (rules.terms (live_at tap.moment mode))
-    → (reply rules taps tap).cents ≤ 100_000
-live_most rules taps tap mode known later bounds =
-    by (ends_in_transfer rules (taps ++ tap ∷ [])) refl
-  where
-    by : (b : Bool) → ends_in_transfer rules (taps ++ tap ∷ []) ≡ b
-        → (reply rules taps tap).cents ≤ 100_000
-    by true ends = free-few (reply rules taps tap) Transfer
-        (reply_live rules taps tap mode known later ∙ reply_transfer rules (taps ++ tap ∷ []) ends)
-    by false ends = ride_most rules taps tap mode known later ends bounds
-
-known_most : (rules : TokenRules) (taps : List TapIn) (tap : TapIn) (mode : Mode)
-    → tap.mode ≡ Some mode → AreRideTerms (rules.terms (live_at tap.moment mode))
-    → (reply rules taps tap).cents ≤ 100_000
-known_most rules taps tap mode known bounds = by (is_later taps tap.moment) refl
-  where
-    by : (b : Bool) → is_later taps tap.moment ≡ b → (reply rules taps tap).cents ≤ 100_000
-    by true later = live_most rules taps tap mode known later bounds
-    by false stale = free-few (reply rules taps tap) Stale (reply_stale rules taps tap mode known stale)
-
-reply_most : (rules : TokenRules) (taps : List TapIn) (tap : TapIn)
-    → ((mode : Mode) → tap.mode ≡ Some mode → AreRideTerms (rules.terms (live_at tap.moment mode)))
-    → (reply rules taps tap).cents ≤ 100_000
-reply_most rules taps tap bounds = by tap.mode refl
-  where
-    by : (o : Option Mode) → tap.mode ≡ o → (reply rules taps tap).cents ≤ 100_000
-    by None none = free-few (reply rules taps tap) Unknown (reply_unknown rules taps tap none)
-    by (Some mode) known = known_most rules taps tap mode known (bounds mode known)
-
 -- the terms on the mode of an entry
 terms_at_entry : (fares : Fares) (entry : Entry) → HasRideTerms fares entry.token entry.validator
     → (mode : Mode) → (tap_of fares entry).mode ≡ Some mode
@@ -141,7 +79,8 @@ terms_at_entry fares entry bounds mode is = by (mode_at fares entry.validator) r
     by None at none = absurd (cc)
     by (Some place) at one =
         let same : mode_of_place place ≡ mode = cc in
-        subst (λ (m : Mode). AreRideTerms (ride_terms fares (class_of fares (bytes_of entry.token)) m.place))
+        subst (λ (m : Mode). AreRideTerms
+        (ride_terms fares (class_of fares (bytes_of entry.token)) m.place))
         same (bounds place at)
 
 pub cents_most : (fares : Fares) (earlier : List Entry) (entry : Entry)

@@ -1,5 +1,6 @@
 -- Texts whose last line is whole: that of a report is.
-use Rattle.std.proofs.Common.{ℕ, List, [], ◌∷◌, ◌++◌, codes, refl, sym, ap, subst, ◌∙◌, append_assoc, append-nil}
+use Rattle.std.proofs.Common.{ℕ, List, [], ◌∷◌, ◌++◌, codes, refl, sym, ap, subst, ◌∙◌}
+use Rattle.std.proofs.Common.{append_assoc, append-nil}
 use Rattle.std.specs.Prelude.{length}
 use Rattle.std.specs.Fmt.{decimal}
 use Rattle.std.specs.List.{flat_map}
@@ -23,7 +24,8 @@ counts_end : (t : Sums) → EndsWithFeed (counts_text t)
 unfolding last_counts
 counts_end t =
     feed_behind (first_counts t) (last_counts t)
-    (feed_behind (codes " stale ") _ (feed_behind (decimal t.stale) _ (feed_behind (codes " unknown ") _
+    (feed_behind (codes " stale ") _
+    (feed_behind (decimal t.stale) _ (feed_behind (codes " unknown ") _
     (feed_behind (decimal t.unknown) _ (feed_behind (codes " cents ") _ (decimal t.cents, refl))))))
 
 token_end : (sum : Token × Sums) → EndsWithFeed (token_line sum)

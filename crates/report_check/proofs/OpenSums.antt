@@ -1,15 +1,13 @@
 -- Sums to which entries are added one by one.
-use Rattle.std.proofs.Common.{◌≡◌, ◌==◌, ◌+◌, ◌<◌, ◌≤◌, List, [], ◌∷◌, ◌++◌, length, map, All}
-use Rattle.std.proofs.Common.{sym, ap, subst, ◌∙◌, arith, append-nil, append_assoc, length-append, suc}
+use Rattle.std.proofs.Common.{◌≡◌, ◌==◌, ◌+◌, ◌<◌, ◌≤◌, List, [], ◌∷◌, ◌++◌, length, map, All, sym}
+use Rattle.std.proofs.Common.{ap, subst, ◌∙◌, arith, append-nil, append_assoc, length-append, suc}
 use Rattle.std.specs.declared.cmp.Ordering.TheVariants.{Less, Greater}
 use Rattle.std.specs.Prelude.{Option, Some}
 use Rattle.std.proofs.lemmas.List.Elements.{All-append, All-cons, All-head, All-map, All-nil}
+use Rattle.std.proofs.lemmas.List.Elements.{All-weaker}
 use Rattle.ledger_check.specs.Ledger.{token_number}
 use Rattle.ledger_check.proofs.TokenOrder.{greater_number}
 use Rattle.settlement.specs.inside.Apart.{AreBelow}
-use Rattle.settlement.proofs.Concats.{by_token_joined}
-use Rattle.settlement.proofs.Placed.{all_map}
-use Rattle.settlement.proofs.TokenRuns.{below_same, nothing_billed, one_token_list}
 use Rattle.shard_book.specs.Entry.{reply_of}
 use Rattle.shard_book.specs.Sums.{Sums, add_sums, sums_of_replies}
 use Rattle.shard_book.specs.SumsByKey.{sums_by_token, token_of, validator_of}
@@ -17,6 +15,7 @@ use Rattle.shard_book.specs.TalliesByKey.{AreByKey}
 use Rattle.shard_book.specs.Tally.{sums_of_tally}
 use Rattle.shard_book.specs.declared.entry.Entry.{Entry}
 use Rattle.shard_book.proofs.SumsLemmas.{sums-append, sums-taps}
+use Rattle.shard_book.proofs.SumsByToken.{by_token_joined, no_sums, one_token_list, below_same}
 use Rattle.tap_views.specs.Token.{Fits, token_cmp}
 use Rattle.tap_views.specs.declared.token.Token.{Token}
 use Rattle.tap_views.proofs.TokenLemmas.{token_cmp-total}
@@ -37,7 +36,7 @@ run_of_none entries tokens held fits tally none empty = record {
   below = All-nil (λ (e : Entry). token_cmp e.token held.token ≡ Less);
   its = All-nil (λ (e : Entry). e.token ≡ held.token);
   tally = tally;
-  tokens_are = nothing_billed tokens empty;
+  tokens_are = no_sums tokens empty;
 }
 
 -- the tokens of entries that are below one, as a list
@@ -46,10 +45,10 @@ as_below : (token : Token) (entries : List Entry)
     → AreBelow (map token_of entries) (token ∷ [])
 as_below token entries below =
     All-map (λ (t : Token). All (λ (o : Token). token_cmp t o ≡ Less) (token ∷ [])) token_of entries
-    (all_map (λ (e : Entry). token_cmp e.token token ≡ Less)
-    (λ (e : Entry). All (λ (o : Token). token_cmp e.token o ≡ Less) (token ∷ [])) entries
+    (All-weaker (λ (e : Entry). token_cmp e.token token ≡ Less)
+    (λ (e : Entry). All (λ (o : Token). token_cmp e.token o ≡ Less) (token ∷ []))
     (λ e less. All-cons (λ (o : Token). token_cmp e.token o ≡ Less) token [] less
-    (All-nil (λ (o : Token). token_cmp e.token o ≡ Less))) below)
+    (All-nil (λ (o : Token). token_cmp e.token o ≡ Less))) entries below)
 
 -- the sums by token, with those of the last
 pub closed : (entries : List Entry) (tokens : List (Token × Sums)) (held : OpenToken)
@@ -57,8 +56,10 @@ pub closed : (entries : List Entry) (tokens : List (Token × Sums)) (held : Open
     → tokens ++ (held.token, sums_of_tally held.tally) ∷ [] ≡ sums_by_token entries
 closed entries tokens held is some =
     let below : AreBelow (map token_of is.lower) (map token_of is.run) =
-    below_same (map token_of is.lower) held.token is.run (as_below held.token is.lower is.below) is.its in
-    ap (λ (ts : List (Token × Sums)). ts ++ (held.token, sums_of_tally held.tally) ∷ []) is.tokens_are
+    below_same (map token_of is.lower) held.token is.run (as_below held.token is.lower is.below)
+    is.its in
+    ap (λ (ts : List (Token × Sums)). ts ++ (held.token, sums_of_tally held.tally) ∷ [])
+    is.tokens_are
     ∙ ap (λ (s : Sums). sums_by_token is.lower ++ (held.token, s) ∷ []) is.tally
     ∙ ap (λ (ts : List (Token × Sums)). sums_by_token is.lower ++ ts)
     (sym (one_token_list held.token is.run some is.its))
@@ -73,13 +74,14 @@ all_below entries tokens held is next less =
     let P : Entry → Type 0 = λ e. token_cmp e.token next ≡ Less in
     subst (λ (es : List Entry). All P es) (sym is.both)
     (All-append P is.lower is.run
-    (all_map (λ (e : Entry). token_cmp e.token held.token ≡ Less) P is.lower
-    (λ e low. token_cmp-total.trans e.token held.token next low less) is.below)
-    (all_map (λ (e : Entry). e.token ≡ held.token) P is.run
-    (λ e same. ap (λ (t : Token). token_cmp t next) same ∙ less) is.its))
+    (All-weaker (λ (e : Entry). token_cmp e.token held.token ≡ Less) P
+    (λ e low. token_cmp-total.trans e.token held.token next low less) is.lower is.below)
+    (All-weaker (λ (e : Entry). e.token ≡ held.token) P
+    (λ e same. ap (λ (t : Token). token_cmp t next) same ∙ less) is.run is.its))
 
 -- a run that a higher token follows, of which no entry was added yet
-pub run_of_next : (entries : List Entry) (tokens tokens' : List (Token × Sums)) (last held : OpenToken)
+pub run_of_next : (entries : List Entry) (tokens tokens' : List (Token × Sums))
+    (last held : OpenToken)
     (is : IsRunOf entries tokens last) → 0 < length is.run → token_cmp last.token held.token ≡ Less
     → Fits held.token → sums_of_tally held.tally ≡ sums_of_replies []
     → tokens' ≡ tokens ++ (last.token, sums_of_tally last.tally) ∷ [] → IsRunOf entries tokens' held
@@ -95,7 +97,8 @@ run_of_next entries tokens tokens' last held is some less fits tally pushed = re
 }
 
 -- an entry has a token above one that is below the last
-pub below_last : (entries : List Entry) (tokens : List (Token × Sums)) (last : OpenToken) (token : Token)
+pub below_last : (entries : List Entry) (tokens : List (Token × Sums)) (last : OpenToken)
+    (token : Token)
     (is : IsRunOf entries tokens last) → 0 < length is.run → Fits token
     → token_cmp last.token token ≡ Greater → IsBelow token entries
 below_last entries tokens last token is some fits greater all =
@@ -123,7 +126,8 @@ below_last entries tokens last token is some fits greater all =
         omega (arith, here, same, above)
 
 -- an entry more of the held token
-pub run_more : (entries : List Entry) (tokens : List (Token × Sums)) (held after : OpenToken) (entry : Entry)
+pub run_more : (entries : List Entry) (tokens : List (Token × Sums)) (held after : OpenToken)
+    (entry : Entry)
     → IsRunOf entries tokens held → entry.token ≡ held.token → after.token ≡ held.token
     → sums_of_tally after.tally
     ≡ add_sums (sums_of_tally held.tally) (sums_of_replies (reply_of entry ∷ []))
@@ -159,7 +163,8 @@ run_few entries tokens held is =
     omega (arith, taps, both)
 
 -- an entry more in all sums
-pub entry_added : (entries : List Entry) (old new : OpenSums) (held after : OpenToken) (entry : Entry)
+pub entry_added : (entries : List Entry) (old new : OpenSums) (held after : OpenToken)
+    (entry : Entry)
     → AreOpenSums entries old → IsRunOf entries new.tokens held → held.token ≡ entry.token
     → new.last ≡ Some after → after.token ≡ held.token
     → sums_of_tally after.tally
@@ -168,15 +173,17 @@ pub entry_added : (entries : List Entry) (old new : OpenSums) (held after : Open
     → sums_of_tally new.totals
     ≡ add_sums (sums_of_tally old.totals) (sums_of_replies (reply_of entry ∷ []))
     → new.entries ≡ old.entries + 1 → AreOpenSums (entries ++ entry ∷ []) new
-entry_added entries old new held after entry are run same last kept tally validators totals counted = record {
-  split = subst (λ (l : Option OpenToken). IsSplitAt (entries ++ entry ∷ []) new.tokens l) (sym last)
-      (run_more entries new.tokens held after entry run (sym same) kept tally);
-  validators = validators;
-  totals = totals
-      ∙ ap (λ (s : Sums). add_sums s (sums_of_replies (reply_of entry ∷ []))) are.totals
-      ∙ sym (sums-append entries (entry ∷ []));
-  counted = omega (arith, counted, are.counted, length-append entries (entry ∷ []));
-}
+entry_added entries old new held after entry are run same last kept tally validators totals
+    counted = record {
+      split = subst (λ (l : Option OpenToken). IsSplitAt (entries ++ entry ∷ []) new.tokens l)
+          (sym last)
+          (run_more entries new.tokens held after entry run (sym same) kept tally);
+      validators = validators;
+      totals = totals
+          ∙ ap (λ (s : Sums). add_sums s (sums_of_replies (reply_of entry ∷ []))) are.totals
+          ∙ sym (sums-append entries (entry ∷ []));
+      counted = omega (arith, counted, are.counted, length-append entries (entry ∷ []));
+    }
 
 -- as many taps in all as entries
 pub all_few : (entries : List Entry) (held : OpenSums) → AreOpenSums entries held
@@ -186,4 +193,4 @@ all_few entries held are = ap (λ (s : Sums). s.taps) are.totals ∙ sums-taps e
 -- the sums of the tokens of no entries
 pub none_closed : (entries : List Entry) (tokens : List (Token × Sums)) → entries ≡ [] → tokens ≡ []
     → tokens ≡ sums_by_token entries
-none_closed entries tokens none empty = nothing_billed tokens empty ∙ ap sums_by_token (sym none)
+none_closed entries tokens none empty = no_sums tokens empty ∙ ap sums_by_token (sym none)

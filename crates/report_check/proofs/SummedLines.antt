@@ -1,8 +1,9 @@
 -- The lines of a ledger whose entries were added.
-use Rattle.std.proofs.Common.{◌≡◌, ℕ, ◌<◌, ◌≤◌, ◌^◌, Bool, true, false, List, [], ◌∷◌, ◌++◌, length, map}
-use Rattle.std.proofs.Common.{Some, None, All, refl, sym, ap, subst, ◌∙◌, arith, append_assoc, append-nil, length-append, ⊎_elim}
+use Rattle.std.proofs.Common.{◌≡◌, ℕ, ◌<◌, ◌≤◌, ◌^◌, Bool, true, false, List, [], ◌∷◌, ◌++◌, length}
+use Rattle.std.proofs.Common.{map, Some, None, All, refl, sym, ap, subst, ◌∙◌, arith, append_assoc}
+use Rattle.std.proofs.Common.{append-nil, length-append, ⊎_elim}
 use Rattle.std.specs.Prelude.{MatchBool}
-use Rattle.std.proofs.lemmas.Bool.{cases_Bool}
+use Rattle.std.proofs.lemmas.Bool.{cases_Bool, MatchBool-at_true, MatchBool-at_false}
 use Rattle.std.proofs.lemmas.List.{length-map, map-append}
 use Rattle.std.proofs.lemmas.List.Elements.{All-map}
 use Rattle.fare_table.specs.Fares.{Fares}
@@ -14,7 +15,8 @@ use Rattle.ledger_check.specs.Ledger.{AreNext, IsLedger, IsLedgerOf, IsNext, tok
 use Rattle.ledger_check.specs.Lines.{IsLine, Lacks, lines_of}
 use Rattle.ledger_check.proofs.EntryLists.{next-parts, none_left}
 use Rattle.ledger_check.proofs.CheckerLemmas.{head_ends}
-use Rattle.ledger_check.proofs.LineLemmas.{lacks-append, lacks-end, lines-line, lines-open, lines-part}
+use Rattle.ledger_check.proofs.LineLemmas.{lacks-append, lacks-end, lines-line, lines-open}
+use Rattle.ledger_check.proofs.LineLemmas.{lines-part}
 use Rattle.report_check.specs.LedgerSums.{AreBehindHead, AreSummed, HasSummed, IsSummed}
 use Rattle.report_check.specs.inside.LedgerSums.{HasNoLedger}
 use Rattle.report_check.specs.Sums.{AreSumsOf}
@@ -68,7 +70,8 @@ no_next fares sums (h ∷ rest) line is some wrong = λ entries head more others
     wrong parts.entries parts.entry (is.behind.1 parts.entries parts.are) parts.is
 
 -- the line's entry was added
-pub line_added : (fares : Fares) (old new : LineSums) (lines : List (List ℕ)) (line : List ℕ) (read : Entry)
+pub line_added : (fares : Fares) (old new : LineSums) (lines : List (List ℕ)) (line : List ℕ)
+    (read : Entry)
     (is : AreSummed fares old lines) → old.has_head ≡ true → new.has_head ≡ true
     → ((earlier : List Entry) (entry : Entry) → IsNext fares earlier entry line
     → Some read ≡ Some (without_moment entry))
@@ -85,7 +88,8 @@ line_added fares old new (h ∷ rest) line read is some still found few are = re
     λ entries next.
         let parts = next-parts fares [] entries rest line [] next in
         let last : parts.after ≡ [] = none_left fares _ parts.after parts.rest in
-        let one : without_moment parts.entry ≡ read = same_in (found parts.entries parts.entry parts.is) in
+        let one : without_moment parts.entry ≡ read =
+        same_in (found parts.entries parts.entry parts.is) in
         ap (map without_moment) (parts.whole
         ∙ ap (λ (es : List Entry). parts.entries ++ parts.entry ∷ es) last)
         ∙ map-append without_moment parts.entries (parts.entry ∷ [])
@@ -128,7 +132,8 @@ pub falls : (fares : Fares) (sums : LineSums) (lines : List (List ℕ)) (line : 
 falls fares sums lines line read is some found below =
     no_next fares sums lines line is some
     (λ earlier entry seen next.
-    let same : read.token ≡ entry.token = tokens read (without_moment entry) (found earlier entry next) in
+    let same : read.token ≡ entry.token =
+    tokens read (without_moment entry) (found earlier entry next) in
     let P : Token → Entry → Type 0 = λ t e. token_number e.token ≤ token_number t in
     let up_to : All (P entry.token) (map without_moment earlier) =
     All-map (P entry.token) without_moment earlier next.no_fall in
@@ -140,7 +145,8 @@ falls fares sums lines line read is some found below =
 
 -- ---- texts
 -- a ledger's line ends with its line feed
-line_ends : (fares : Fares) (token : Token) (number : ℕ) (entry : Entry) (why : Reason) (line : List ℕ)
+line_ends : (fares : Fares) (token : Token) (number : ℕ) (entry : Entry) (why : Reason)
+    (line : List ℕ)
     → IsLedgerLine fares token number entry why line → Lacks 10 line → ⊥
 line_ends fares token number entry why line is lacks =
     let one = lacks-end 10 (line_head token number) _ (subst (Lacks 10) is.shown lacks) in
@@ -150,9 +156,11 @@ line_ends fares token number entry why line is lacks =
     four.0 refl
 
 -- behind a piece
-piece_more : (fares : Fares) (sums : LedgerSums) (text piece : List ℕ) (is : IsSummed fares sums text)
+piece_more : (fares : Fares) (sums : LedgerSums) (text piece : List ℕ)
+    (is : IsSummed fares sums text)
     (more : List ℕ)
-    → lines_of ((text ++ piece) ++ more) ≡ is.lines ++ lines_of ((sums.begun.items ++ piece) ++ more)
+    → lines_of ((text ++ piece) ++ more)
+    ≡ is.lines ++ lines_of ((sums.begun.items ++ piece) ++ more)
 piece_more fares sums text piece is more =
     ap lines_of (append_assoc text piece more) ∙ is.split (piece ++ more)
     ∙ ap (λ (t : List ℕ). is.lines ++ lines_of t) (sym (append_assoc sums.begun.items piece more))
@@ -160,7 +168,8 @@ piece_more fares sums text piece is more =
 -- behind a piece that ends a line
 line_more : (fares : Fares) (sums : LedgerSums) (text line : List ℕ) (is : IsSummed fares sums text)
     → IsLine line → (more : List ℕ)
-    → lines_of ((text ++ line) ++ more) ≡ (is.lines ++ (sums.begun.items ++ line) ∷ []) ++ lines_of more
+    → lines_of ((text ++ line) ++ more)
+    ≡ (is.lines ++ (sums.begun.items ++ line) ∷ []) ++ lines_of more
 line_more fares sums text line is ends more =
     let begun = sums.begun.items in
     let whole : begun ++ line ≡ (begun ++ ends.front) ++ 10 ∷ [] =
@@ -175,7 +184,8 @@ line_more fares sums text line is ends more =
     ∙ sym (append_assoc is.lines ((begun ++ line) ∷ []) (lines_of more))
 
 -- a line was read whole, and is one of a ledger's
-pub read_on : (fares : Fares) (old new : LedgerSums) (text line whole : List ℕ) (is : IsSummed fares old text)
+pub read_on : (fares : Fares) (old new : LedgerSums) (text line whole : List ℕ)
+    (is : IsSummed fares old text)
     → IsLine line → whole ≡ old.begun.items ++ line
     → AreSummed fares new.lines (is.lines ++ whole ∷ []) → new.begun.items ≡ []
     → IsSummed fares new (text ++ line)
@@ -190,7 +200,8 @@ read_on fares old new text line whole is ends same summed none = record {
 }
 
 -- or none of a ledger's
-pub read_none : (fares : Fares) (old : LedgerSums) (text line whole : List ℕ) (is : IsSummed fares old text)
+pub read_none : (fares : Fares) (old : LedgerSums) (text line whole : List ℕ)
+    (is : IsSummed fares old text)
     → IsLine line → whole ≡ old.begun.items ++ line → HasNoLedger fares (is.lines ++ whole ∷ [])
     → (more : List ℕ) → ¬ (IsLedger fares ((text ++ line) ++ more))
 read_none fares old text line whole is ends same none more (entries, ledger) =
@@ -199,7 +210,8 @@ read_none fares old text line whole is ends same none more (entries, ledger) =
     ∙ sym (line_more fares old text line is ends more) ∙ ledger.split) ledger.are
 
 -- no ledger is behind a beginning of no ledger
-pub none_behind : (fares : Fares) (text piece : List ℕ) → ((more : List ℕ) → ¬ (IsLedger fares (text ++ more)))
+pub none_behind : (fares : Fares) (text piece : List ℕ)
+    → ((more : List ℕ) → ¬ (IsLedger fares (text ++ more)))
     → (more : List ℕ) → ¬ (IsLedger fares ((text ++ piece) ++ more))
 none_behind fares text piece none more ledger =
     none (piece ++ more) (subst (IsLedger fares) (append_assoc text piece more) ledger)
@@ -241,13 +253,15 @@ long_line fares (h ∷ rest) line after long entries others is are =
     tails : (x y : List ℕ) (xs ys : List (List ℕ)) → x ∷ xs ≡ y ∷ ys → xs ≡ ys
     tails x y xs ys is = cc
 
-pub kept_none : (fares : Fares) (old : LedgerSums) (text piece whole : List ℕ) → IsSummed fares old text
+pub kept_none : (fares : Fares) (old : LedgerSums) (text piece whole : List ℕ)
+    → IsSummed fares old text
     → Lacks 10 piece → whole ≡ old.begun.items ++ piece → 255 < length whole
     → (more : List ℕ) → ¬ (IsLedger fares ((text ++ piece) ++ more))
 kept_none fares old text piece whole is lacks same long more (entries, ledger) =
     let joined = old.begun.items ++ piece in
     let size : 255 < length joined = subst (λ (p : List ℕ). 255 < length p) same long in
-    let opens = lines-open joined more (lacks-append 10 old.begun.items piece is.lacks lacks) (omega (arith, size)) in
+    let opens = lines-open joined more (lacks-append 10 old.begun.items piece is.lacks lacks)
+    (omega (arith, size)) in
     long_line fares is.lines (joined ++ opens.rest) opens.after
     (omega (arith, size, length-append joined opens.rest)) entries ledger.lines
     (ap (λ (ls : List (List ℕ)). is.lines ++ ls) (sym opens.is)
@@ -283,7 +297,8 @@ cut_none fares sums text is some (entries, ledger) =
     ∙ sym (is.split []) ∙ ap lines_of (append-nil text) ∙ ledger.split) ledger.are
 
 -- the sums are those of the ledger
-pub all_added : (fares : Fares) (sums : LedgerSums) (text : List ℕ) (made : EntrySums) (is : IsSummed fares sums text)
+pub all_added : (fares : Fares) (sums : LedgerSums) (text : List ℕ) (made : EntrySums)
+    (is : IsSummed fares sums text)
     → sums.begun.items ≡ [] → AreSumsOf is.summed.seen made → (entries : List Entry)
     → IsLedgerOf fares entries text → AreSumsOf entries made
 unfolding lines_of
@@ -292,18 +307,12 @@ all_added fares sums text made is none are entries ledger =
     sym (append-nil is.lines)
     ∙ ap (λ (b : List ℕ). is.lines ++ lines_of (b ++ [])) (sym none)
     ∙ sym (is.split []) ∙ ap lines_of (append-nil text) ∙ ledger.split in
-    let behind = subst (λ (ls : List (List ℕ)). AreBehindHead fares sums.lines is.summed.seen ls) whole is.summed.behind in
+    let behind = subst (λ (ls : List (List ℕ)). AreBehindHead fares sums.lines is.summed.seen ls)
+    whole is.summed.behind in
     with_moments entries made
     (subst (λ (es : List Entry). AreSumsOf es made) (sym (behind.1 entries ledger.are)) are)
 
 -- ---- by whether a ledger may have the lines
-held_true : (A B : Type 0) (test : Bool) → test ≡ true → MatchBool test A B → A
-held_true A B true is held = held
-held_true A B false is held = absurd (cc)
-
-held_false : (A B : Type 0) (test : Bool) → test ≡ false → MatchBool test A B → B
-held_false A B true is held = absurd (cc)
-held_false A B false is held = held
 
 put_true : (A B : Type 0) (test : Bool) → test ≡ true → A → MatchBool test A B
 put_true A B true is held = held
@@ -316,11 +325,11 @@ put_false A B false is held = held
 -- what was read of a text that a ledger may begin with
 pub summed_of : (fares : Fares) (sums : LedgerSums) (text : List ℕ) → sums.lines.may_be ≡ true
     → HasSummed fares sums text → IsSummed fares sums text
-summed_of fares sums text may is = held_true _ _ sums.lines.may_be may is
+summed_of fares sums text may is = MatchBool-at_true _ _ may is
 
 pub none_of : (fares : Fares) (sums : LedgerSums) (text : List ℕ) → sums.lines.may_be ≡ false
     → HasSummed fares sums text → (more : List ℕ) → ¬ (IsLedger fares (text ++ more))
-none_of fares sums text cannot is = held_false _ _ sums.lines.may_be cannot is
+none_of fares sums text cannot is = MatchBool-at_false _ _ cannot is
 
 pub summed_by : (fares : Fares) (sums : LedgerSums) (text : List ℕ) → sums.lines.may_be ≡ true
     → IsSummed fares sums text → HasSummed fares sums text
@@ -335,25 +344,29 @@ pub match_map : {A B C D : Type 0} (test : Bool) → (A → C) → (B → D) →
 match_map true f g is = f is
 match_map false f g is = g is
 
-pub added_or : (fares : Fares) (old new : LineSums) (lines : List (List ℕ)) (line : List ℕ) (read : Entry)
+pub added_or : (fares : Fares) (old new : LineSums) (lines : List (List ℕ)) (line : List ℕ)
+    (read : Entry)
     (is_added : Bool) (is : AreSummed fares old lines) → old.has_head ≡ true → new.has_head ≡ true
     → ((earlier : List Entry) (entry : Entry) → IsNext fares earlier entry line
     → Some read ≡ Some (without_moment entry))
     → length is.seen < 2 ^ 62
     → MatchBool is_added (AreOpenSums (is.seen ++ read ∷ []) new.added) (IsBelow read.token is.seen)
-    → MatchBool is_added (AreSummed fares new (lines ++ line ∷ [])) (HasNoLedger fares (lines ++ line ∷ []))
+    → MatchBool is_added (AreSummed fares new (lines ++ line ∷ []))
+    (HasNoLedger fares (lines ++ line ∷ []))
 added_or fares old new lines line read is_added is some still found few added =
     match_map is_added (line_added fares old new lines line read is some still found few)
     (falls fares old lines line read is some found) added
 
 -- a line was read whole
-pub ended : (fares : Fares) (old new : LedgerSums) (text line whole : List ℕ) (is : IsSummed fares old text)
+pub ended : (fares : Fares) (old new : LedgerSums) (text line whole : List ℕ)
+    (is : IsSummed fares old text)
     → IsLine line → whole ≡ old.begun.items ++ line
     → MatchBool new.lines.may_be (AreSummed fares new.lines (is.lines ++ whole ∷ []))
     (HasNoLedger fares (is.lines ++ whole ∷ []))
     → new.begun.items ≡ [] → HasSummed fares new (text ++ line)
 ended fares old new text line whole is ends same read none =
-    match_map new.lines.may_be (λ summed. read_on fares old new text line whole is ends same summed none)
+    match_map new.lines.may_be
+    (λ summed. read_on fares old new text line whole is ends same summed none)
     (read_none fares old text line whole is ends same) read
 
 pub no_ledger : (fares : Fares) (sums : LedgerSums) (text : List ℕ) → HasSummed fares sums text

@@ -1,5 +1,5 @@
 -- The first line of a text.
-use Rattle.std.proofs.Common.{◌≡◌, ◌≢◌, ◌==◌, ℕ, Bool, true, false, List, [], ◌∷◌, ◌++◌, refl, sym, ap, ◌∙◌}
+use Rattle.std.proofs.Common.{◌≡◌, ◌≢◌, ℕ, Bool, List, [], ◌∷◌, ◌++◌, refl, sym, ap, ◌∙◌}
 use Rattle.std.proofs.Common.{if◌then◌else◌}
 use Rattle.std.specs.Io.BufRead.{drop_through, take_through}
 use Rattle.std.proofs.lemmas.Bool.{ne_eqb}
@@ -56,16 +56,3 @@ pub dropped_line : (text line behind : List ℕ) → IsLine line → text ≡ li
 dropped_line text line behind is whole =
     sym (ap (drop_through 10) (whole ∙ line_then line behind is)
     ∙ dropped_front is.front behind is.lacks)
-
-through_next : (test : Bool) (x : ℕ) (text : List ℕ)
-    → text ≡ take_through 10 text ++ drop_through 10 text
-    → x ∷ text ≡ (if test then x ∷ [] else x ∷ take_through 10 text)
-    ++ (if test then text else drop_through 10 text)
-through_next true x text is = refl
-through_next false x text is = ap (λ (t : List ℕ). x ∷ t) is
-
--- a text is its first line, and what is behind it
-pub whole_through : (text : List ℕ) → text ≡ take_through 10 text ++ drop_through 10 text
-whole_through [] = refl
-whole_through (x ∷ text) =
-    through_next (x == 10) x text (whole_through text)

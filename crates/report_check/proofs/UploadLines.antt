@@ -1,6 +1,6 @@
 -- The lines of uploads, one after another.
-use Rattle.std.proofs.Common.{◌≡◌, ℕ, ◌+◌, ◌<◌, ◌^◌, List, [], ◌∷◌, ◌++◌, length, codes, sym, ap, ◌∙◌}
-use Rattle.std.proofs.Common.{All, append_assoc, append-nil, arith, suc}
+use Rattle.std.proofs.Common.{◌≡◌, ℕ, ◌+◌, ◌<◌, ◌^◌, List, [], ◌∷◌, ◌++◌, length, codes, sym, ap}
+use Rattle.std.proofs.Common.{◌∙◌, All, append_assoc, append-nil, arith, suc}
 use Rattle.std.specs.Fmt.{decimal}
 use Rattle.std.specs.Prelude.{MatchOption, None, Option, Some}
 use Rattle.std.specs.Io.BufRead.{drop_through, take_through}
@@ -9,10 +9,11 @@ use Rattle.report_texts.specs.Numbers.{IsUploadEnd}
 use Rattle.report_texts.specs.Report.{upload_line, upload_lines}
 use Rattle.report_texts.specs.UploadEnds.{taps_told}
 use Rattle.report_texts.specs.declared.upload_end.UploadEnd.{UploadEnd}
-use Rattle.report_texts.specs.declared.upload_end.UploadEnd.TheVariants.{Posted, Refused, Cut, Undrawn}
-use Rattle.report_check.proofs.Through.{whole_through}
+use Rattle.report_texts.specs.declared.upload_end.UploadEnd.TheVariants.{Posted, Refused, Cut}
+use Rattle.report_texts.specs.declared.upload_end.UploadEnd.TheVariants.{Undrawn}
 use Rattle.report_check.specs.Reports.{BeginsWithUploads, IsNoUploadLine, IsReportEnd}
 use Rattle.report_check.specs.inside.UploadLines.{IsUnfinished}
+use Rattle.part_reports.proofs.Firsts.{taken_and_left}
 
 pub finished : (end : UploadEnd) → IsUploadEnd end → IsReportEnd end
 finished (Posted taps) fits = fits
@@ -44,7 +45,8 @@ pub none_unfinished : (line words undrawn : List ℕ) (upload : ℕ)
     → undrawn ≡ upload_line upload Undrawn → ¬ (line ≡ undrawn)
     → (end : UploadEnd) → IsUnfinished end → ¬ (line ≡ upload_line upload end)
 none_unfinished line words undrawn upload is no_cut same other (Posted taps) fits = absurd fits
-none_unfinished line words undrawn upload is no_cut same other (Refused taps offset fault) fits = absurd fits
+none_unfinished line words undrawn upload is no_cut same other (Refused taps offset fault) fits =
+    absurd fits
 none_unfinished line words undrawn upload is no_cut same other (Cut taps) fits =
     λ shown. no_cut taps fits (shown ∙ sym (cut_spelt words upload taps is))
 none_unfinished line words undrawn upload is no_cut same other Undrawn fits =
@@ -61,7 +63,8 @@ lines_then first [] end rest =
 lines_then first (e ∷ ends) end rest =
     let at : first + suc (length ends) ≡ (first + 1) + length ends = omega arith in
     append_assoc (upload_line first e) (upload_lines (first + 1) ends) _
-    ∙ ap (λ (n : ℕ). upload_line first e ++ (upload_lines (first + 1) ends ++ (upload_line n end ++ rest))) at
+    ∙ ap (λ (n : ℕ). upload_line first
+    e ++ (upload_lines (first + 1) ends ++ (upload_line n end ++ rest))) at
     ∙ ap (λ (t : List ℕ). upload_line first e ++ t) (lines_then (first + 1) ends end rest)
     ∙ sym (append_assoc (upload_line first e) (upload_lines (first + 1) (ends ++ end ∷ [])) rest)
 
@@ -70,17 +73,18 @@ pub head_then : (text head behind : List ℕ) (uploads : ℕ) → head ≡ take_
     → behind ≡ drop_through 10 text → head ≡ number_line (codes "uploads ") uploads
     → text ≡ number_line (codes "uploads ") uploads ++ (upload_lines 0 [] ++ behind)
 head_then text head behind uploads taken dropped is =
-    whole_through text ∙ ap (λ (t : List ℕ). t ++ drop_through 10 text) (sym taken ∙ is)
+    sym (taken_and_left text) ∙ ap (λ (t : List ℕ). t ++ drop_through 10 text) (sym taken ∙ is)
     ∙ ap (λ (t : List ℕ). number_line (codes "uploads ") uploads ++ t) (sym dropped)
 
-pub line_then : (text rest line more : List ℕ) (uploads : ℕ) (ends : List UploadEnd) (end : UploadEnd)
+pub line_then : (text rest line more : List ℕ) (uploads : ℕ) (ends : List UploadEnd)
+    (end : UploadEnd)
     → text ≡ number_line (codes "uploads ") uploads ++ (upload_lines 0 ends ++ rest)
     → line ≡ take_through 10 rest → more ≡ drop_through 10 rest
     → line ≡ upload_line (length ends) end
     → text ≡ number_line (codes "uploads ") uploads ++ (upload_lines 0 (ends ++ end ∷ []) ++ more)
 line_then text rest line more uploads ends end begun taken dropped is =
     let next : rest ≡ upload_line (length ends) end ++ more =
-    whole_through rest ∙ ap (λ (t : List ℕ). t ++ drop_through 10 rest) (sym taken ∙ is)
+    sym (taken_and_left rest) ∙ ap (λ (t : List ℕ). t ++ drop_through 10 rest) (sym taken ∙ is)
     ∙ ap (λ (t : List ℕ). upload_line (length ends) end ++ t) (sym dropped) in
     let at : length ends ≡ 0 + length ends = omega arith in
     begun
@@ -98,8 +102,10 @@ all_lines text rest uploads ends begun each counted small = record {
   number = omega (arith, counted, small);
   rest = rest;
   has = begun
-      ∙ ap (λ (n : ℕ). number_line (codes "uploads ") n ++ (upload_lines 0 ends ++ rest)) (sym counted)
-      ∙ sym (append_assoc (number_line (codes "uploads ") (length ends)) (upload_lines 0 ends) rest);
+      ∙ ap (λ (n : ℕ). number_line (codes "uploads ") n ++ (upload_lines 0 ends ++ rest))
+      (sym counted)
+      ∙ sym (append_assoc (number_line (codes "uploads ") (length ends)) (upload_lines 0 ends)
+      rest);
 }
 
 pub wrong_end : (text rest line : List ℕ) (uploads upload : ℕ) (ends : List UploadEnd) (number : ℕ)
@@ -108,18 +114,19 @@ pub wrong_end : (text rest line : List ℕ) (uploads upload : ℕ) (ends : List 
     → number ≡ length ends + 2 → line ≡ take_through 10 rest
     → ((end : UploadEnd) → IsReportEnd end → ¬ (line ≡ upload_line upload end))
     → IsNoUploadLine text number
-wrong_end text rest line uploads upload ends number begun each at fewer small counted taken wrong = record {
-  uploads = uploads;
-  ends = ends;
-  each = each;
-  fewer = omega (arith, at, fewer);
-  small = small;
-  rest = rest;
-  has = begun;
-  counted = counted;
-  wrong = λ end fits is.
-      wrong end fits (taken ∙ is ∙ ap (λ (n : ℕ). upload_line n end) at);
-}
+wrong_end text rest line uploads upload ends number begun each at fewer small counted taken wrong =
+    record {
+      uploads = uploads;
+      ends = ends;
+      each = each;
+      fewer = omega (arith, at, fewer);
+      small = small;
+      rest = rest;
+      has = begun;
+      counted = counted;
+      wrong = λ end fits is.
+          wrong end fits (taken ∙ is ∙ ap (λ (n : ℕ). upload_line n end) at);
+    }
 
 pub small_taps : (end : UploadEnd) → IsReportEnd end → taps_told end < 2 ^ 64
 small_taps (Posted taps) fits = fits

@@ -1,31 +1,19 @@
 -- What is told of a report, by its parts.
-use Rattle.std.proofs.Common.{◌≡◌, ℕ, ◌+◌, List, length, map, sym, ap, ◌∙◌, inr}
+use Rattle.std.proofs.Common.{◌≡◌, ℕ, ◌+◌, List, length, sym, ap, ◌∙◌, inr}
 use Rattle.std.specs.Prelude.{sum_by}
-use Rattle.report_texts.specs.Report.{report}
 use Rattle.report_texts.specs.UploadEnds.{taps_told}
 use Rattle.report_texts.specs.declared.upload_end.UploadEnd.{UploadEnd}
-use Rattle.shard_book.specs.Shown.{validator_sum}
-use Rattle.shard_book.specs.Sums.{Sums, sums, sums_of}
-use Rattle.shard_book.specs.SumsByKey.{sums_by_validator}
+use Rattle.shard_book.specs.Sums.{Sums}
 use Rattle.shard_book.specs.declared.entry.Entry.{Entry}
 use Rattle.shard_book.proofs.SumsLemmas.{sums-taps}
-use Rattle.tap_views.specs.declared.token.Token.{Token}
-use Rattle.report_check.specs.Reports.{BeginsWithUploads, HasOtherTaps, HaveTapsOf, IsReportVerdict, report_of}
+use Rattle.report_check.specs.Reports.{BeginsWithUploads, HasOtherTaps, HaveTapsOf, IsReportVerdict}
+use Rattle.report_check.specs.Reports.{report_of}
 use Rattle.report_check.specs.Sums.{AreSumsOf}
 use Rattle.report_check.specs.declared.open_sums.EntrySums.{EntrySums}
 use Rattle.report_check.specs.declared.verdict.ReportVerdict.{ReportVerdict}
-use Rattle.report_check.specs.declared.verdict.ReportVerdict.TheVariants.{OfLedger, Wants, NoLine, Taps}
+use Rattle.report_check.specs.declared.verdict.ReportVerdict.TheVariants.{OfLedger, Wants, NoLine}
+use Rattle.report_check.specs.declared.verdict.ReportVerdict.TheVariants.{Taps}
 use Rattle.report_check.specs.inside.Differences.{IsDifferenceFrom}
-
--- the report of sums is that of their entries
-pub of_sums : (ends : List UploadEnd) (made : EntrySums) (entries : List Entry) → AreSumsOf entries made
-    → report ends (sums_of made.totals) (map validator_sum made.validators.items) made.tokens
-    ≡ report_of ends entries
-of_sums ends made entries are =
-    ap (λ (t : Sums). report ends t (map validator_sum made.validators.items) made.tokens) are.totals
-    ∙ ap (λ (vs : List (ℕ × Sums)). report ends (sums entries) vs made.tokens) are.validators
-    ∙ ap (λ (ts : List (Token × Sums)). report ends (sums entries) (sums_by_validator entries) ts)
-    are.tokens
 
 -- as many taps as entries
 taps_of : (made : EntrySums) (entries : List Entry) → AreSumsOf entries made
@@ -45,7 +33,8 @@ other_taps entries text made ends line uploads are begins counted told apart = r
   apart = apart;
 }
 
-have_taps : (entries : List Entry) (text : List ℕ) (made : EntrySums) (ends : List UploadEnd) (uploads : ℕ)
+have_taps : (entries : List Entry) (text : List ℕ) (made : EntrySums) (ends : List UploadEnd)
+    (uploads : ℕ)
     → AreSumsOf entries made → BeginsWithUploads text ends → uploads ≡ sum_by taps_told ends
     → uploads ≡ made.totals.taps → HaveTapsOf ends entries
 have_taps entries text made ends uploads are begins told same = record {
@@ -55,26 +44,30 @@ have_taps entries text made ends uploads are begins told same = record {
 }
 
 -- the first difference from the report that it should be
-pub by_difference : (entries : List Entry) (text wanted : List ℕ) (made : EntrySums) (ends : List UploadEnd)
+pub by_difference : (entries : List Entry) (text wanted : List ℕ) (made : EntrySums)
+    (ends : List UploadEnd)
     (uploads : ℕ) (verdict : ReportVerdict) → AreSumsOf entries made → BeginsWithUploads text ends
     → uploads ≡ sum_by taps_told ends → uploads ≡ made.totals.taps → wanted ≡ report_of ends entries
     → IsDifferenceFrom text wanted verdict → IsReportVerdict entries text verdict
-by_difference entries text wanted made ends uploads OfLedger are begins told same is found = record {
-  ends = ends;
-  have = have_taps entries text made ends uploads are begins told same;
-  shown = found ∙ is;
-}
-by_difference entries text wanted made ends uploads (Wants number line) are begins told same is found = record {
-  ends = ends;
-  have = have_taps entries text made ends uploads are begins told same;
-  begins = begins;
-  is = rw is at found;
-}
+by_difference entries text wanted made ends uploads OfLedger are begins told same is found =
+    record {
+      ends = ends;
+      have = have_taps entries text made ends uploads are begins told same;
+      shown = found ∙ is;
+    }
+by_difference entries text wanted made ends uploads (Wants number line) are begins told same is
+    found = record {
+      ends = ends;
+      have = have_taps entries text made ends uploads are begins told same;
+      begins = begins;
+      is = rw is at found;
+    }
 by_difference entries text wanted made ends uploads (NoLine number) are begins told same is found =
     inr (record {
       ends = ends;
       have = have_taps entries text made ends uploads are begins told same;
       is = rw is at found;
     })
-by_difference entries text wanted made ends uploads (Taps line other ledger) are begins told same is found =
+by_difference entries text wanted made ends uploads (Taps line other ledger) are begins told same is
+    found =
     absurd found

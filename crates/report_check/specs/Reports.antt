@@ -1,4 +1,4 @@
--- What a check tells of a report beside the entries of a ledger.
+-- What a check finds of a report beside the entries of a ledger.
 use Rattle.std.specs.Prelude.{◌≡◌, ◌≢◌, ◌⊎◌, ◌↔◌, ◌==◌, ℕ, ◌+◌, ◌<◌, ◌^◌, All, List, [], ◌∷◌, ◌++◌}
 use Rattle.std.specs.Prelude.{Bool, true, false, codes, count_by, length, sum_by}
 use Rattle.std.specs.Io.BufRead.{take_through}
@@ -16,7 +16,7 @@ use Rattle.report_check.specs.declared.verdict.ReportVerdict.{ReportVerdict}
 use Rattle.report_check.specs.declared.verdict.ReportVerdict.TheVariants.{OfLedger, Wants, NoLine}
 use Rattle.report_check.specs.declared.verdict.ReportVerdict.TheVariants.{Taps}
 
--- an end as the line of an upload tells it, whole or cut: the numbers have 64 bits
+-- an end as the line of an upload has it, whole or cut: the numbers have 64 bits
 abbrev pub IsReportEnd : UploadEnd → Type 0
 IsReportEnd (Posted taps) = IsUploadEnd (Posted taps)
 IsReportEnd (Refused taps offset fault) = IsUploadEnd (Refused taps offset fault)
@@ -92,7 +92,7 @@ pub record HasReportBefore (entries : List Entry) (text : List ℕ) (number : �
   pub have : HaveTapsOf ends entries
   pub is : HasLineBehind text (report_of ends entries) number
 
--- behind the lines of these uploads, which are not all, the next line tells of no upload
+-- behind the lines of these uploads, which are not all, the next line is of no upload
 pub record IsNoUploadLine (text : List ℕ) (number : ℕ) : Type 0 where
   pub uploads : ℕ
   pub ends : List UploadEnd
@@ -115,7 +115,8 @@ abbrev pub IsNoReportLine : List ℕ → ℕ → Type 0
 IsNoReportLine text number =
     ((number ≡ 1) × HasNoUploads text) ⊎ IsNoUploadLine text number
 
--- the uploads, whose last line has this number, have so many taps, and the ledger so many others
+-- the uploads, whose last line is `line`, have `uploads` taps; the ledger has `ledger`, another
+-- number
 pub record HasOtherTaps (entries : List Entry) (text : List ℕ) (line uploads ledger : ℕ)
     : Type 0 where
   pub ends : List UploadEnd
@@ -125,7 +126,7 @@ pub record HasOtherTaps (entries : List Entry) (text : List ℕ) (line uploads l
   pub has : ledger ≡ length entries
   pub apart : uploads ≢ ledger
 
--- what is told of the text is true of it, beside the entries of the ledger
+-- the verdict on the text is true of it, beside the entries of the ledger
 abbrev pub IsReportVerdict : List Entry → List ℕ → ReportVerdict → Type 0
 IsReportVerdict entries text OfLedger = IsReportOfLedger entries text
 IsReportVerdict entries text (Wants number line) = HasWrongLine entries text number line.items

@@ -40,7 +40,6 @@ fn ride_terms_at(table: &FareTable, token: &Token, validator: u32) -> Option<Ter
     Some(table.ride_terms(class, mode))
 }
 
-/// The answer of this name.
 fn answer_by(name: &[u8]) -> Option<Answer>
     ensures { (answer : AnAnswer) → name.now ≡ answer_text answer → result ≡ Some answer }
 {

@@ -27,7 +27,6 @@ const MAX_ENTRIES: u64 = 4_611_686_018_427_387_904;
 /// The sums of the whole lines that were read.
 #[derive(Drop)]
 struct LineSums {
-    /// Whether the head line was read.
     has_head: bool,
     /// Whether a ledger may have these lines. Else no more are added.
     may_be: bool,
@@ -66,7 +65,6 @@ impl LineSums {
 /// of a line. It does not check the ledger: its sums are of use only if the text is one.
 #[derive(Drop)]
 pub struct LedgerSums {
-    /// The whole lines.
     lines: LineSums,
     /// The beginning of the line whose end has not come yet; of no use if no ledger has the lines.
     begun: Vec<u8>,

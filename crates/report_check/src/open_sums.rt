@@ -22,16 +22,13 @@ pub struct EntrySums {
     pub tokens: TokenSums,
     /// The validators, rising, each with its sums.
     pub validators: Vec<ValidatorSum>,
-    /// The sums of all entries.
     pub totals: Totals,
 }
 
 /// A token, and what its entries come to.
 #[derive(Clone, Copy)]
 pub(crate) struct OpenToken {
-    /// The token.
     token: Token,
-    /// The sums of its entries.
     tally: Tally,
 }
 
@@ -40,13 +37,11 @@ pub(crate) struct OpenToken {
 pub(crate) struct OpenSums {
     /// The tokens before the last one, rising, each with its sums.
     tokens: TokenSums,
-    /// The last token.
     last: Option<OpenToken>,
     /// The sums of all entries by validator.
     validators: ValidatorTallies,
     /// The sums of all entries.
     totals: Tally,
-    /// How many entries there are.
     pub(crate) entries: u64,
 }
 
@@ -132,7 +127,6 @@ impl OpenSums {
         Ok(true)
     }
 
-    /// The sums of the entries that were added.
     pub(crate) fn into_sums(self, alloc: Global) -> Result<EntrySums, NoMemory>
         requires { HasRoom self 0 }
         ensures { IfOk result (λ sums. (entries : List AnEntry) → AreOpenSums entries self

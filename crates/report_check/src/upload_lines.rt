@@ -15,7 +15,6 @@ use report_texts::{UploadEnd, end_of, head_of, write_upload};
 use std::alloc::{AllocError, Global};
 use tap_views::NoMemory;
 
-/// What the lines of the uploads tell.
 #[derive(Drop)]
 pub(crate) enum UploadLines {
     /// How the uploads ended, and how many taps of them were posted.
@@ -52,7 +51,7 @@ fn undrawn_line(alloc: Global, upload: u64) -> Result<String, AllocError>
     Ok(text)
 }
 
-/// The end that the line tells of an upload that was not posted up to its end or its fault.
+/// The end of an upload that was not posted up to its end or its fault, by the line.
 fn unfinished_end(alloc: Global, line: &[u8], upload: u64) -> Result<Option<UploadEnd>, AllocError>
     ensures { IfOk result (λ told. MatchOption told
         ((end : AnEnd) → IsUnfinished end → ¬ (line.now ≡ upload_line upload end))
@@ -69,7 +68,7 @@ fn unfinished_end(alloc: Global, line: &[u8], upload: u64) -> Result<Option<Uplo
     Ok(None)
 }
 
-/// The end that the line tells of the upload of this number.
+/// The end of the upload of this number, by the line.
 fn any_end(alloc: Global, line: &[u8], upload: u64) -> Result<Option<UploadEnd>, AllocError>
     ensures { IfOk result (λ told. MatchOption told
         ((end : AnEnd) → IsReportEnd end → ¬ (line.now ≡ upload_line upload end))
@@ -81,7 +80,7 @@ fn any_end(alloc: Global, line: &[u8], upload: u64) -> Result<Option<UploadEnd>,
     }
 }
 
-/// What the lines of the uploads tell, with which the text begins.
+/// What the lines of the uploads say, with which the text begins.
 pub(crate) fn upload_lines(alloc: Global, text: &[u8]) -> Result<UploadLines, NoMemory>
     ensures { IfOk result (AreUploadLines text.now) }
 {

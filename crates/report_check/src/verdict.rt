@@ -13,7 +13,7 @@ use report_texts::{UploadEnd, after_word, write_report};
 use std::alloc::Global;
 use tap_views::NoMemory;
 
-/// What a check tells of a report. Lines count from 1.
+/// What a check finds of a report. Lines count from 1.
 #[derive(Drop)]
 pub enum ReportVerdict {
     /// It is the report of the ledger.
@@ -22,10 +22,9 @@ pub enum ReportVerdict {
     Wants(u64, Vec<u8>),
     /// No report has a line of this number there.
     NoLine(u64),
-    /// Up to the line of this number, the last one of the uploads, the uploads have so many taps,
-    /// and the ledger has so many others.
+    /// Up to the line of this number, the last one of the uploads, these have another number of
+    /// taps than the ledger.
     Taps {
-        /// The number of the line.
         line: u64,
         /// How many taps the uploads have.
         uploads: u128,

@@ -31,10 +31,12 @@ from_paid t x = codes " paid " ++ (decimal t.paid ++ from_transfers t x)
 abbrev pub from_taps : Sums → List ℕ → List ℕ
 from_taps t x = codes "taps " ++ (decimal t.taps ++ from_paid t x)
 
+-- counts before more text, from the taps on
 pub counts_spelt : (t : Sums) (x : List ℕ) → counts_text t ++ x ≡ from_taps t x
 unfolding first_counts last_counts
 counts_spelt t x = simp append_assoc
 
+-- counts, from the taps on
 pub counts_read : (t : Sums) → counts_text t ≡ from_taps t []
 counts_read t = sym (append-nil (counts_text t)) ∙ counts_spelt t []
 
@@ -50,6 +52,7 @@ pub taps_counted : (t : Sums) (x : List ℕ) → AreCounts t
     → IsCounted (from_taps t x) (codes "taps ") t.taps (from_paid t x)
 taps_counted t x fits = record { small = fits.taps; ends = refl; shown = refl }
 
+-- the count of paid rides, and what is behind it
 pub paid_counted : (t : Sums) (x : List ℕ) → AreCounts t
     → IsCounted (from_paid t x) (codes " paid ") t.paid (from_transfers t x)
 paid_counted t x fits = record {
@@ -59,6 +62,7 @@ paid_counted t x fits = record {
   shown = refl;
 }
 
+-- the count of transfers, and what is behind it
 pub transfers_counted : (t : Sums) (x : List ℕ) → AreCounts t
     → IsCounted (from_transfers t x) (codes " transfers ") t.transfers (from_capped t x)
 transfers_counted t x fits = record {
@@ -68,6 +72,7 @@ transfers_counted t x fits = record {
   shown = refl;
 }
 
+-- the count of capped rides, and what is behind it
 pub capped_counted : (t : Sums) (x : List ℕ) → AreCounts t
     → IsCounted (from_capped t x) (codes " capped ") t.capped (from_stale t x)
 capped_counted t x fits = record {
@@ -77,6 +82,7 @@ capped_counted t x fits = record {
   shown = refl;
 }
 
+-- the count of stale taps, and what is behind it
 pub stale_counted : (t : Sums) (x : List ℕ) → AreCounts t
     → IsCounted (from_stale t x) (codes " stale ") t.stale (from_unknown t x)
 stale_counted t x fits = record {
@@ -86,6 +92,7 @@ stale_counted t x fits = record {
   shown = refl;
 }
 
+-- the count of taps without a mode, and what is behind it
 pub unknown_counted : (t : Sums) (x : List ℕ) → AreCounts t
     → IsCounted (from_unknown t x) (codes " unknown ") t.unknown (from_cents t x)
 unknown_counted t x fits = record {
@@ -95,6 +102,7 @@ unknown_counted t x fits = record {
   shown = refl;
 }
 
+-- the cents, and what is behind them
 pub cents_counted : (t : Sums) (x : List ℕ) → AreCounts t
     → IsCounted (from_cents t x) (codes " cents ") t.cents (codes "\n" ++ x)
 cents_counted t x fits = record { small = fits.cents; ends = refl; shown = refl }

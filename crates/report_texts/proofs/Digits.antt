@@ -1,33 +1,21 @@
 -- Numbers in a text: the digits at its front, and what follows them.
-use Rattle.std.proofs.Common.{◌≡◌, ℕ, suc, ◌+◌, ◌<◌, ◌≤◌, ◌^◌, Bool, true, false, cond, not, ◌&&◌}
-use Rattle.std.proofs.Common.{List, [], ◌∷◌, ◌++◌, length, take, drop, refl, sym, ap, subst, ◌∙◌}
-use Rattle.std.proofs.Common.{arith}
+use Rattle.std.proofs.Common.{◌≡◌, ℕ, suc, ◌+◌, ◌<◌, ◌≤◌, ◌^◌, Bool, true, false, cond, not, List}
+use Rattle.std.proofs.Common.{[], ◌∷◌, ◌++◌, length, take, drop, refl, sym, ap, subst, ◌∙◌, arith}
 use Rattle.std.specs.Char.{is_ascii_digit}
 use Rattle.std.specs.Fmt.{decimal}
 use Rattle.std.specs.List.{position_or_len}
 use Rattle.std.specs.Str.{all_ascii_digits}
 use Rattle.std.specs.Str.Parse.{digits_value}
-use Rattle.std.proofs.lemmas.Bool.{false≢true}
+use Rattle.std.proofs.lemmas.Bool.{false≢true, and_from, and_parts}
 use Rattle.std.proofs.lemmas.Fmt.{decimal_injective, digits_decimal}
 use Rattle.std.proofs.lemmas.List.{append_cancel_left, take-append-drop}
 use Rattle.std.proofs.lemmas.Str.Parse.{IsNumeralModel, numerals_by_value, tells_all_ascii_digits}
 use Rattle.report_texts.specs.inside.Counted.{BeginsWithNoDigit, IsCounted}
 
-pub and_left : (a b : Bool) → (a && b) ≡ true → a ≡ true
-and_left true b is = refl
-and_left false b is = is
-
-pub and_right : (a b : Bool) → (a && b) ≡ true → b ≡ true
-and_right true b is = is
-and_right false b is = absurd (false≢true is)
-
-both_true : (a b : Bool) → a ≡ true → b ≡ true → (a && b) ≡ true
-both_true true b is also = also
-both_true false b is also = is
-
 own : IsNumeralModel (λ ds. all_ascii_digits ds ≡ true) (digits_value 10)
 own = numerals_by_value _ tells_all_ascii_digits
 
+-- a decimal number is all digits
 pub decimal_digits : (n : ℕ) → n < 2 ^ 64 → all_ascii_digits (decimal n) ≡ true
 decimal_digits n small = digits_decimal own n small
 
@@ -37,15 +25,16 @@ digits_unique : (a b x y : List ℕ) → all_ascii_digits a ≡ true → all_asc
 digits_unique [] [] x y is also none none_too e = (refl, e)
 digits_unique [] (d ∷ b) x y is also none none_too e =
     let no : is_ascii_digit d ≡ false = subst BeginsWithNoDigit e none in
-    absurd (false≢true (sym no ∙ and_left (is_ascii_digit d) (all_ascii_digits b) also))
+    absurd (false≢true (sym no ∙ (and_parts (is_ascii_digit d) (all_ascii_digits b) also).0))
 digits_unique (c ∷ a) [] x y is also none none_too e =
     let no : is_ascii_digit c ≡ false = subst BeginsWithNoDigit (sym e) none_too in
-    absurd (false≢true (sym no ∙ and_left (is_ascii_digit c) (all_ascii_digits a) is))
+    absurd (false≢true (sym no ∙ (and_parts (is_ascii_digit c) (all_ascii_digits a) is).0))
 digits_unique (c ∷ a) (d ∷ b) x y is also none none_too e =
     let first : c ≡ d = cc in
     let more : a ++ x ≡ b ++ y = cc in
-    let (same, rest) = digits_unique a b x y (and_right (is_ascii_digit c) (all_ascii_digits a) is)
-    (and_right (is_ascii_digit d) (all_ascii_digits b) also) none none_too more in
+    let (same, rest) = digits_unique a b x y
+    (and_parts (is_ascii_digit c) (all_ascii_digits a) is).1
+    (and_parts (is_ascii_digit d) (all_ascii_digits b) also).1 none none_too more in
     (let t : c ∷ a ≡ d ∷ b = cc in t, rest)
 
 -- ---- what stands before the first byte that is no digit
@@ -67,7 +56,7 @@ front_step c text true is rest =
     (let one : suc (digits_in text) ≡ 1 + digits_in text = omega arith in
     one) ∙ sym (counts_on c text true is) in
     subst (AreDigitsUpTo (c ∷ text)) e (
-      both_true (is_ascii_digit c) (all_ascii_digits (take (digits_in text) text)) is rest.0,
+      and_from (is_ascii_digit c) (all_ascii_digits (take (digits_in text) text)) is rest.0,
       rest.1,
       omega (arith, rest.2),
     )

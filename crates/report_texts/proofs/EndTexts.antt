@@ -1,21 +1,25 @@
 -- How an upload ended, at the end of its line.
-use Rattle.std.proofs.Common.{◌≡◌, ℕ, ◌<◌, ◌^◌, ◌++◌, ◌+◌, ◌∷◌, [], List, refl, sym, ap, ◌∙◌, append_assoc, arith, codes}
+use Rattle.std.proofs.Common.{◌≡◌, ℕ, ◌<◌, ◌^◌, ◌++◌, ◌+◌, ◌∷◌, [], List, refl, sym, ap, ◌∙◌}
+use Rattle.std.proofs.Common.{append_assoc, arith, codes}
 use Rattle.std.specs.Fmt.{decimal}
 use Rattle.std.proofs.lemmas.Fmt.{decimal_digit}
 use Rattle.tap_views.specs.Names.{fault_name}
 use Rattle.tap_views.specs.declared.fault.LayoutFault.{LayoutFault}
-use Rattle.tap_views.specs.declared.fault.LayoutFault.TheVariants.{Short, Magic, Flags, TooMany, Length, Moment}
+use Rattle.tap_views.specs.declared.fault.LayoutFault.TheVariants.{Short, Magic, Flags, TooMany}
+use Rattle.tap_views.specs.declared.fault.LayoutFault.TheVariants.{Length, Moment}
 use Rattle.fare_texts.specs.ReportLines.{number_line}
 use Rattle.report_texts.specs.Numbers.{IsUploadEnd}
 use Rattle.report_texts.specs.Report.{upload_line}
 use Rattle.report_texts.specs.inside.Counted.{BeginsWithNoDigit}
 use Rattle.report_texts.specs.inside.EndWords.{end_words, fault_number, fault_words}
 use Rattle.report_texts.specs.declared.upload_end.UploadEnd.{UploadEnd}
-use Rattle.report_texts.specs.declared.upload_end.UploadEnd.TheVariants.{Posted, Refused, Cut, Undrawn}
+use Rattle.report_texts.specs.declared.upload_end.UploadEnd.TheVariants.{Posted, Refused, Cut}
+use Rattle.report_texts.specs.declared.upload_end.UploadEnd.TheVariants.{Undrawn}
 
 pub end_begins : (end : UploadEnd) → BeginsWithNoDigit (end_words end)
 end_begins end = refl
 
+-- an upload's line by its words
 pub line_words : (number : ℕ) (end : UploadEnd)
     → upload_line number end ≡ codes "upload " ++ (decimal number ++ end_words end)
 unfolding upload_line
@@ -34,7 +38,8 @@ name_spelt (Moment index) = named_by 6 (omega arith)
 
 -- the end of a refused upload, number behind number
 pub refused_spelt : (taps offset : ℕ) (fault : LayoutFault)
-    → end_words (Refused taps offset fault) ≡ codes " refused " ++ (decimal taps ++ fault_words offset fault)
+    → end_words (Refused taps offset fault)
+    ≡ codes " refused " ++ (decimal taps ++ fault_words offset fault)
 refused_spelt taps offset fault =
     let named = ap (λ (t : List ℕ). decimal offset ++ (codes " " ++ (t ++ codes "\n")))
     (name_spelt fault) in
@@ -44,6 +49,7 @@ refused_spelt taps offset fault =
     ++ (decimal offset ++ (codes " " ++ fault_name fault))) (codes "\n")
     ∙ ap (λ (t : List ℕ). decimal taps ++ (codes " at " ++ t)) behind)
 
+-- the number that a fault shows has 64 bits
 pub small_number : (fault : LayoutFault) → fault_number fault < 2 ^ 64
 small_number (Short have) = omega arith
 small_number Magic = omega arith

@@ -1,52 +1,53 @@
 -- Texts that are written part by part.
-use Rattle.std.specs.Prelude.{ℕ, ◌≡◌, ◌+◌, ◌<◌, ◌≤◌, List, [], ◌∷◌, ◌++◌, length, take, Option, Some, None, slice_get, codes}
+use Rattle.std.specs.Prelude.{ℕ, ◌≡◌, ◌+◌, ◌<◌, ◌≤◌, List, [], ◌∷◌, ◌++◌, length, take, Option}
+use Rattle.std.specs.Prelude.{Some, None, slice_get, codes}
 use Rattle.std.specs.Io.KnownBytes.{Appends, append_known}
 use Rattle.std.proofs.KnownBytes.{Appends-trans}
 use Rattle.std.specs.List.{flat_map}
 use Rattle.std.proofs.Common.{get_or, length-take}
-use Rattle.std.proofs.lemmas.List.{take_more, take_all, flat_map_more}
-use Rattle.std.proofs.lemmas.Option.{slice_get_within, get_or_from_slice_get}
 use Rattle.std.proofs.Common.{sym, ◌∙◌, ap, subst, append_assoc, append-nil, arith, add-zero}
+use Rattle.std.proofs.lemmas.List.{take_more, take_all, flat_map_more}
 use Rattle.shard_book.specs.Sums.{Sums}
 use Rattle.tap_views.specs.declared.token.Token.{Token}
+use Rattle.tap_views.proofs.Lists.{take_next}
 use Rattle.fare_texts.specs.ReportLines.{token_line}
+use Rattle.fare_texts.proofs.Parts.{in_parts}
 use Rattle.report_texts.specs.Report.{upload_line, upload_lines}
 use Rattle.report_texts.specs.declared.upload_end.UploadEnd.{UploadEnd}
 use Rattle.report_texts.specs.declared.upload_end.UploadEnd.TheVariants.{Posted}
 
--- what was written in two parts is what stood there and both parts
-pub in_parts : (start middle done first second : List ℕ) → middle ≡ start ++ first → done ≡ middle ++ second → done ≡ start ++ (first ++ second)
-in_parts start middle done first second a b = b ∙ (ap (λ text. text ++ second) a ∙ append_assoc start first second)
-
 -- a line of a word, a number and what follows, of which the rest was written after the two
-pub in_line : (start middle done word number rest : List ℕ) → middle ≡ start ++ (word ++ (number ++ codes " ")) → done ≡ middle ++ rest
+pub in_line : (start middle done word number rest : List ℕ)
+    → middle ≡ start ++ (word ++ (number ++ codes " ")) → done ≡ middle ++ rest
     → done ≡ start ++ (word ++ (number ++ (codes " " ++ rest)))
 in_line start middle done word number rest a b =
     in_parts start middle done (word ++ (number ++ codes " ")) rest a b
-    ∙ ap (λ text. start ++ text) (append_assoc word (number ++ codes " ") rest ∙ ap (λ text. word ++ text) (append_assoc number (codes " ") rest))
+    ∙ ap (λ text. start ++ text)
+    (append_assoc word (number ++ codes " ") rest
+    ∙ ap (λ text. word ++ text) (append_assoc number (codes " ") rest))
 
 -- four words with their numbers, put one before the other from the last
-pub four_counts : (start one two three done a m b n c o d p : List ℕ) → one ≡ d ++ (p ++ start) → two ≡ c ++ (o ++ one) → three ≡ b ++ (n ++ two) → done ≡ a ++ (m ++ three)
+pub four_counts : (start one two three done a m b n c o d p : List ℕ) → one ≡ d ++ (p ++ start)
+    → two ≡ c ++ (o ++ one) → three ≡ b ++ (n ++ two) → done ≡ a ++ (m ++ three)
     → done ≡ (a ++ (m ++ (b ++ (n ++ (c ++ (o ++ (d ++ p))))))) ++ start
-four_counts start one two three done a m b n c o d p first second third fourth = simp append_assoc (rw (third, second, first) at fourth)
-
--- one token more
-token_more : (sums : List (Token × Sums)) (i : ℕ) (sum : Token × Sums) → slice_get sums i ≡ Some sum
-    → flat_map token_line (take i sums) ++ token_line sum ≡ flat_map token_line (take (i + 1) sums)
-token_more sums i sum at =
-    flat_map_more token_line [] (take i sums) sum
-    ∙ ap (λ taken. flat_map token_line taken)
-    (ap (λ s. take i sums ++ s ∷ []) (sym (get_or_from_slice_get sums i sum sum at)) ∙ sym (take_more sums i sum (slice_get_within sums i sum at)))
+four_counts start one two three done a m b n c o d p first second third fourth =
+    simp append_assoc (rw (third, second, first) at fourth)
 
 -- the lines before a token's, and its line
-pub next_token : (a b c : Option (List ℕ)) (line : List ℕ) (sums : List (Token × Sums)) (i : ℕ) (sum : Token × Sums) → slice_get sums i ≡ Some sum
-    → Appends a b (flat_map token_line (take i sums)) → line ≡ token_line sum → Appends b c line → Appends a c (flat_map token_line (take (i + 1) sums))
+pub next_token : (a b c : Option (List ℕ)) (line : List ℕ) (sums : List (Token × Sums)) (i : ℕ)
+    (sum : Token × Sums) → slice_get sums i ≡ Some sum
+    → Appends a b (flat_map token_line (take i sums)) → line ≡ token_line sum → Appends b c line
+    → Appends a c (flat_map token_line (take (i + 1) sums))
 next_token a b c line sums i sum at before shown more =
-    subst (λ (text : List ℕ). Appends a c text) (ap (λ (last : List ℕ). flat_map token_line (take i sums) ++ last) shown ∙ token_more sums i sum at)
+    subst (λ (text : List ℕ). Appends a c text)
+    (ap (λ (last : List ℕ). flat_map token_line (take i sums) ++ last) shown
+    ∙ (flat_map_more token_line [] (take i sums) sum
+    ∙ ap (λ taken. flat_map token_line taken) (take_next sums i sum at)))
     (Appends-trans a b c (flat_map token_line (take i sums)) line before more)
 
 -- what waits is written after what was
-waits_out : (a b c : Option (List ℕ)) (start waits lines : List ℕ) → Appends (append_known a start) (append_known b waits) lines → Appends b c waits
+waits_out : (a b c : Option (List ℕ)) (start waits lines : List ℕ)
+    → Appends (append_known a start) (append_known b waits) lines → Appends b c waits
     → Appends a c (start ++ lines)
 waits_out None b c start waits lines p q = tt
 waits_out (Some x) None c start waits lines p q = absurd p
@@ -54,30 +55,51 @@ waits_out (Some x) (Some y) None start waits lines p q = absurd q
 waits_out (Some x) (Some y) (Some z) start waits lines p q = q ∙ p ∙ append_assoc x start lines
 
 -- so all lines are out at last
-pub last_out : (a b c : Option (List ℕ)) (start waits : List ℕ) (sums : List (Token × Sums)) (i : ℕ) → length sums ≤ i
-    → Appends (append_known a start) (append_known b waits) (flat_map token_line (take i sums)) → Appends b c waits → Appends a c (start ++ flat_map token_line sums)
+pub last_out : (a b c : Option (List ℕ)) (start waits : List ℕ) (sums : List (Token × Sums)) (i : ℕ)
+    → length sums ≤ i
+    → Appends (append_known a start) (append_known b waits) (flat_map token_line (take i sums))
+    → Appends b c waits → Appends a c (start ++ flat_map token_line sums)
 last_out a b c start waits sums i all p q =
-    subst (λ (taken : List (Token × Sums)). Appends a c (start ++ flat_map token_line taken)) (take_all i sums all) (waits_out a b c start waits (flat_map token_line (take i sums)) p q)
+    subst (λ (taken : List (Token × Sums)). Appends a c (start ++ flat_map token_line taken))
+    (take_all i sums all) (waits_out a b c start waits (flat_map token_line (take i sums)) p q)
 
 -- one upload more
-upload_lines-push : (upload : ℕ) (ends : List UploadEnd) (end : UploadEnd) → upload_lines upload (ends ++ end ∷ []) ≡ upload_lines upload ends ++ upload_line (upload + length ends) end
-upload_lines-push upload [] end = append-nil (upload_line upload end) ∙ ap (λ n. upload_line n end) (sym (add-zero upload))
+pub upload_lines-push : (upload : ℕ) (ends : List UploadEnd) (end : UploadEnd)
+    → upload_lines upload (ends ++ end ∷ [])
+    ≡ upload_lines upload ends ++ upload_line (upload + length ends) end
+upload_lines-push upload [] end =
+    append-nil (upload_line upload end) ∙ ap (λ n. upload_line n end) (sym (add-zero upload))
 upload_lines-push upload (first ∷ ends) end =
     let next : (upload + 1) + length ends ≡ upload + length (first ∷ ends) = omega arith in
-    ap (λ text. upload_line upload first ++ text) (upload_lines-push (upload + 1) ends end ∙ ap (λ n. upload_lines (upload + 1) ends ++ upload_line n end) next)
-    ∙ sym (append_assoc (upload_line upload first) (upload_lines (upload + 1) ends) (upload_line (upload + length (first ∷ ends)) end))
+    ap (λ text. upload_line upload first ++ text)
+    (upload_lines-push (upload + 1) ends end
+    ∙ ap (λ n. upload_lines (upload + 1) ends ++ upload_line n end) next)
+    ∙ sym (append_assoc (upload_line upload first) (upload_lines (upload + 1) ends)
+    (upload_line (upload + length (first ∷ ends)) end))
 
 -- what was written of the uploads before one, and the line of that one
-pub lines_more : (start : List ℕ) (ends : List UploadEnd) (i : ℕ) → i < length ends → (start ++ upload_lines 0 (take i ends)) ++ upload_line i (get_or ends i (Posted 0)) ≡ start ++ upload_lines 0 (take (i + 1) ends)
+pub lines_more : (start : List ℕ) (ends : List UploadEnd) (i : ℕ) → i < length ends
+    → (start ++ upload_lines 0 (take i ends)) ++ upload_line i (get_or ends i (Posted 0))
+    ≡ start ++ upload_lines 0 (take (i + 1) ends)
 lines_more start ends i within =
     let count : 0 + length (take i ends) ≡ i = omega (arith, length-take {A = UploadEnd}) in
     append_assoc start (upload_lines 0 (take i ends)) (upload_line i (get_or ends i (Posted 0)))
-    ∙ ap (λ text. start ++ text) (ap (λ n. upload_lines 0 (take i ends) ++ upload_line n (get_or ends i (Posted 0))) (sym count)
+    ∙ ap (λ text. start ++ text)
+    (ap (λ n. upload_lines 0 (take i ends) ++ upload_line n (get_or ends i (Posted 0))) (sym count)
     ∙ sym (upload_lines-push 0 (take i ends) (get_or ends i (Posted 0)))
     ∙ ap (λ taken. upload_lines 0 taken) (sym (take_more ends i (Posted 0) within)))
 
 -- the parts of a report, of which the last has a head and lines
-pub before_lines : (start after_first after_second after_third done first second third head lines : List ℕ) → start ≡ [] → after_first ≡ start ++ first → after_second ≡ after_first ++ second → after_third ≡ after_second ++ third → done ≡ after_third ++ head → done ++ lines ≡ first ++ (second ++ (third ++ (head ++ lines)))
-before_lines start after_first after_second after_third done first second third head lines none a b c d =
-    ap (λ text. text ++ lines) (d ∙ ap (λ text. text ++ head) (c ∙ ap (λ text. text ++ third) (b ∙ ap (λ text. text ++ second) (a ∙ ap (λ text. text ++ first) none))))
-    ∙ append_assoc ((first ++ second) ++ third) head lines ∙ append_assoc (first ++ second) third (head ++ lines) ∙ append_assoc first second (third ++ (head ++ lines))
+pub before_lines : (start after_first after_second after_third done first second third head
+    lines : List ℕ) → start ≡ [] → after_first ≡ start ++ first
+    → after_second ≡ after_first ++ second → after_third ≡ after_second ++ third
+    → done ≡ after_third ++ head → done ++ lines ≡ first ++ (second ++ (third ++ (head ++ lines)))
+before_lines start after_first after_second after_third done first second third head lines none a b
+    c d =
+    ap (λ text. text ++ lines)
+    (d ∙ ap (λ text. text ++ head)
+    (c ∙ ap (λ text. text ++ third)
+    (b ∙ ap (λ text. text ++ second) (a ∙ ap (λ text. text ++ first) none))))
+    ∙ append_assoc ((first ++ second) ++ third) head lines
+    ∙ append_assoc (first ++ second) third (head ++ lines)
+    ∙ append_assoc first second (third ++ (head ++ lines))

@@ -1,50 +1,18 @@
 -- The digits of a token at the front of a text.
-use Rattle.std.proofs.Common.{◌≡◌, ℕ, zero, suc, ◌*◌, ◌<◌, List, [], ◌∷◌, ◌++◌, length, take, drop}
-use Rattle.std.proofs.Common.{Ok, Err, Result, refl, sym, ap, subst, ◌∙◌, arith, w64}
+use Rattle.std.proofs.Common.{◌≡◌, ℕ, ◌*◌, List, ◌++◌, length, take, drop}
+use Rattle.std.proofs.Common.{Ok, Err, Result, sym, ap, subst, ◌∙◌}
 use Rattle.std.specs.Prelude.{MatchResult}
-use Rattle.std.specs.Int.{byte_at, bytes_high_first, to_be_bytes}
 use Rattle.std.proofs.lemmas.List.{drop_at, take_at}
-use Rattle.hex.specs.Hex.{IsBytes, decode_of, decode_sized, encode_lower, lower_digits}
+use Rattle.hex.specs.Hex.{decode_of, decode_sized, encode_lower, lower_digits}
 use Rattle.hex.specs.declared.error.FromHexError.{FromHexError}
 use Rattle.hex.proofs.HexLemmas.{decode_of-encode_lower, decode_sized-encode_lower}
 use Rattle.hex.proofs.HexLemmas.{length-encode_with}
 use Rattle.tap_views.specs.Token.{Fits, bytes_of}
 use Rattle.tap_views.specs.declared.token.Token.{Token}
 use Rattle.tap_views.proofs.TokenLemmas.{bytes_of-injective}
+use Rattle.tap_views.proofs.TokenBytes.{token_bytes, token_length}
 
--- the bytes of a token are bytes, sixteen of them
-abbrev AreBytes : List ℕ → Type 0
-AreBytes [] = Unit {0}
-AreBytes (b ∷ bytes) = (b < 256) × AreBytes bytes
-
-bytes_read : (bytes : List ℕ) → AreBytes bytes → IsBytes bytes
-bytes_read [] are i = omega arith
-bytes_read (b ∷ bytes) are zero = are.0
-bytes_read (b ∷ bytes) are (suc i) = bytes_read bytes are.1 i
-
-byte_small : (k n : ℕ) → byte_at k n < 256
-byte_small zero n = omega arith
-byte_small (suc k) n = omega arith
-
-high_first_bytes : (k n : ℕ) (more : List ℕ) → AreBytes more
-    → AreBytes (bytes_high_first k n ++ more)
-high_first_bytes zero n more are = are
-high_first_bytes (suc k) n more are = (byte_small k n, high_first_bytes k n more are)
-
-pub token_bytes : (token : Token) → IsBytes (bytes_of token)
-unfolding bytes_of
-token_bytes token =
-    bytes_read (bytes_of token)
-    (high_first_bytes 8 token.high (to_be_bytes w64 token.low)
-    (subst AreBytes (append_nil_8 token.low) (high_first_bytes 8 token.low [] tt)))
-  where
-    append_nil_8 : (n : ℕ) → bytes_high_first 8 n ++ [] ≡ to_be_bytes w64 n
-    append_nil_8 n = refl
-
-pub token_length : (token : Token) → length (bytes_of token) ≡ 16
-unfolding bytes_of
-token_length token = refl
-
+-- a token has 32 digits
 pub token_digits : (token : Token) → length (encode_lower (bytes_of token)) ≡ 32
 token_digits token =
     length-encode_with lower_digits (bytes_of token) ∙ ap (λ n. 2 * n) (token_length token)

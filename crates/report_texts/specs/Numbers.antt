@@ -10,7 +10,7 @@ use Rattle.report_texts.specs.declared.upload_end.UploadEnd.{UploadEnd}
 use Rattle.report_texts.specs.declared.upload_end.UploadEnd.TheVariants.{Posted, Refused, Cut}
 use Rattle.report_texts.specs.declared.upload_end.UploadEnd.TheVariants.{Undrawn}
 
--- a fault as a line tells it, by its name: each of its own numbers, which no line has, is 0
+-- a fault as a line has it, by its name: each of its own numbers, which no line has, is 0
 abbrev pub IsNameAlone : LayoutFault → Type 0
 IsNameAlone (Short have) = have ≡ 0
 IsNameAlone Magic = Unit {0}
@@ -19,7 +19,7 @@ IsNameAlone (TooMany count) = count ≡ 0
 IsNameAlone (Length want have) = (want ≡ 0) × (have ≡ 0)
 IsNameAlone (Moment index) = index ≡ 0
 
--- an end as the line of an upload tells it that was posted or refused: the numbers have 64 bits
+-- an end as the line of an upload that was posted or refused has it: the numbers have 64 bits
 abbrev pub IsUploadEnd : UploadEnd → Type 0
 IsUploadEnd (Posted taps) = taps < 2 ^ 64
 IsUploadEnd (Refused taps offset fault) =

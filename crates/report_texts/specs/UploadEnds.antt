@@ -9,7 +9,7 @@ use Rattle.report_texts.specs.declared.upload_end.UploadEnd.{UploadEnd}
 use Rattle.report_texts.specs.declared.upload_end.UploadEnd.TheVariants.{Posted, Refused, Cut}
 use Rattle.report_texts.specs.declared.upload_end.UploadEnd.TheVariants.{Undrawn}
 
--- how many taps of an upload were posted, as its end tells
+-- how many taps of an upload were posted, by its end
 abbrev pub taps_told : UploadEnd → ℕ
 taps_told (Posted taps) = taps
 taps_told (Refused taps offset fault) = taps
@@ -25,12 +25,12 @@ is_posted _ = false
 abbrev pub are_posted : List UploadEnd → Bool
 are_posted = list_all is_posted
 
--- how an upload ends: after so many taps, by this layout fault, if there is one
+-- how an upload ends: after `taps` taps, by this layout fault, if there is one
 abbrev pub end_by : ℕ → Option (ℕ × LayoutFault) → UploadEnd
 end_by taps None = Posted taps
 end_by taps (Some (offset, fault)) = Refused taps offset fault
 
--- How an upload of these bytes ends where all batches before its first fault are posted: with the
+-- How an upload of these bytes ends if all batches before its first fault are posted: with the
 -- number of their taps, and the fault, if there is one.
 pub record IsPlainEnd (file : List ℕ) (end : UploadEnd) : Type 0 where
   pub batches : List (List Tap)

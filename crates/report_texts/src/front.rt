@@ -36,7 +36,6 @@ pub(crate) fn report_front(
     Ok(text.into_bytes())
 }
 
-/// The end of each upload.
 fn write_uploads(text: &mut String, ends: &[UploadEnd]) -> Result<(), AllocError>
     ensures { OnOk result
         (string_bytes text.new ≡ string_bytes text.old ++ uploads_section ends.now) }
@@ -54,7 +53,6 @@ pub fn write_section_head(text: &mut String, word: &str, count: u128) -> Result<
     writeln!(text, "{word}{count}")
 }
 
-/// A line for each upload.
 #[tactic(auto, using(crate::proofs::Parts::lines_more))]
 fn write_upload_lines(text: &mut String, ends: &[UploadEnd]) -> Result<(), AllocError>
     ensures { OnOk result (string_bytes text.new ≡ string_bytes text.old
@@ -76,7 +74,6 @@ pub fn write_upload(text: &mut String, upload: u64, end: &UploadEnd) -> Result<(
     writeln!(text, "upload {upload} {end}")
 }
 
-/// The sums of each validator.
 fn write_validators(text: &mut String, sums: &[ValidatorSum]) -> Result<(), AllocError>
     ensures { OnOk result (string_bytes text.new ≡ string_bytes text.old
         ++ validators_section (map validator_sum sums.now)) }
@@ -85,7 +82,6 @@ fn write_validators(text: &mut String, sums: &[ValidatorSum]) -> Result<(), Allo
     write_validator_lines(text, sums)
 }
 
-/// A line for each validator.
 #[tactic(auto, using(std::proofs::lemmas::List::flat_map_more))]
 fn write_validator_lines(text: &mut String, sums: &[ValidatorSum]) -> Result<(), AllocError>
     ensures { OnOk result (string_bytes text.new ≡ string_bytes text.old

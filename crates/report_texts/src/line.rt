@@ -31,7 +31,6 @@ impl Model for Line {
 }
 
 impl Line {
-    /// Nothing of a line.
     pub(crate) fn new() -> Self
         ensures { result ≡ [] }
     {
@@ -41,7 +40,6 @@ impl Line {
         }
     }
 
-    /// Drops what was made.
     #[inline(always)]
     pub(crate) fn clear(&mut self)
         ensures { self.new ≡ [] }
@@ -49,7 +47,6 @@ impl Line {
         self.start = ROOM_BYTES;
     }
 
-    /// The bytes that were made.
     #[inline(always)]
     pub(crate) fn bytes(&self) -> &[u8]
         ensures value { result.now ≡ self.now }
@@ -103,7 +100,6 @@ impl Line {
         self.put(digits.format(number).as_bytes());
     }
 
-    /// Puts a number there with a word before it.
     #[inline(always)]
     pub(crate) fn put_count(&mut self, word: &[u8], number: u128)
         requires { length word.now + (40 + length self.old) ≤ 384 }

@@ -19,8 +19,8 @@ use std::alloc::Global;
 use std::io::Write;
 use tap_views::NoMemory;
 
-/// How much room there is at least for lines of a report that wait to be written: so many that a
-/// write is little beside them.
+/// The least room for lines of a report that wait to be written: enough that a write costs little
+/// beside making them.
 const PIECE_BYTES: usize = 65_536;
 
 /// The text of a report up to the lines of the tokens, with room for one of these at least.

@@ -1,4 +1,4 @@
-//! What the lines of a report tell.
+//! What the lines of a report say.
 
 ghost use Rattle.std.specs.Prelude.{◌≡◌, ◌++◌, ◌<◌, ◌≤◌, ◌^◌, ℕ, List, [], length, MatchOption};
 ghost use Rattle.std.specs.Prelude.{IsTrue, ◌↔◌, codes, not};
@@ -26,7 +26,6 @@ use itoa::Buffer;
 use shard_book::{TokenSum, Totals, ValidatorSum};
 use tap_views::{LayoutFault, Token};
 
-/// The end of a line.
 const END: &[u8] = b"\n";
 
 /// What follows the word with which the text begins.
@@ -37,7 +36,6 @@ pub fn after_word<'a>(text: &'a [u8], word: &[u8]) -> Option<&'a [u8]>
     text.strip_prefix(word)
 }
 
-/// How many digits the text begins with.
 fn digits_before(text: &[u8]) -> usize
     ensures { result ≡ position_or_len (λ byte. not (is_ascii_digit byte)) text.now }
 {
@@ -47,7 +45,7 @@ fn digits_before(text: &[u8]) -> usize
     }
 }
 
-/// The number of at most 64 bits that the digits write, where it is written so.
+/// The number of at most 64 bits that the digits write, if a report writes it so.
 fn number_of(digits: &[u8]) -> Option<u64>
     ensures { MatchOption result
         ((number : ℕ) → number < 2 ^ 64 → ¬ (digits.now ≡ decimal number))
@@ -65,7 +63,7 @@ fn number_of(digits: &[u8]) -> Option<u64>
     }
 }
 
-/// So many bytes with which the text begins, and what follows them.
+/// The first `size` bytes of the text, and what follows them.
 fn front_of(text: &[u8], size: usize) -> Option<(&[u8], &[u8])>
     ensures { MatchOption result (length text.now < size)
         (λ parts. IsSplitAt text.now size parts.0.now parts.1.now) }
@@ -95,14 +93,13 @@ fn count<'a>(text: &'a [u8], word: &[u8]) -> Option<(u64, &'a [u8])>
     Some((found, rest))
 }
 
-/// Whether the line ends here.
 fn is_end(text: &[u8]) -> bool
     ensures { IsTrue result ↔ (text.now ≡ codes "\n") }
 {
     text == END
 }
 
-/// The totals of these counts, where they can be those of some taps.
+/// The totals of these counts, if they can be those of some taps.
 fn totals_by(
     taps: u64,
     paid: u64,
@@ -166,7 +163,7 @@ pub fn head_of(line: &[u8], word: &[u8]) -> Option<u64>
     if is_end(rest) { Some(number) } else { None }
 }
 
-/// The totals that the line `totals ..` tells.
+/// The totals in the line `totals ..`.
 pub fn totals_of(line: &[u8]) -> Option<Totals>
     ensures { MatchOption result
         ((sums : Sums) → AreCounts sums → ¬ (line.now ≡ totals_line sums))
@@ -184,7 +181,7 @@ fn validator_by(number: u64) -> Option<u32>
     u32::try_from(number).ok()
 }
 
-/// The validator with its sums that the line `validator V ..` tells.
+/// The validator with its sums in the line `validator V ..`.
 pub fn validator_sum_of(line: &[u8]) -> Option<ValidatorSum>
     ensures { MatchOption result
         ((sum : ℕ × Sums) → IsValidatorSum sum → ¬ (line.now ≡ validator_line sum))
@@ -238,7 +235,7 @@ pub fn token_before(text: &[u8]) -> Option<(Token, &[u8])>
     Some((token, rest))
 }
 
-/// The token with its sums that the line `token T ..` tells.
+/// The token with its sums in the line `token T ..`.
 pub fn token_sum_of(line: &[u8]) -> Option<TokenSum>
     ensures { MatchOption result
         ((sum : AToken × Sums) → IsTokenSum sum → ¬ (line.now ≡ token_line sum))
@@ -251,7 +248,7 @@ pub fn token_sum_of(line: &[u8]) -> Option<TokenSum>
     Some(TokenSum { token, totals })
 }
 
-/// The layout fault whose name has this number. What the fault tells beside its name is 0.
+/// The layout fault whose name has this number. What the fault has beside its name is 0.
 fn fault_by(number: u64) -> Option<LayoutFault>
     ensures { MatchOption result ((fault : AFault) → ¬ (number ≡ fault_number fault))
         (λ fault. IsNameAlone fault × (number ≡ fault_number fault)) }
@@ -267,7 +264,7 @@ fn fault_by(number: u64) -> Option<LayoutFault>
     }
 }
 
-/// The fault that ` at OFFSET L5` tells, behind the offset of its batch.
+/// The fault in ` at OFFSET L5`, behind the offset of its batch.
 fn fault_of(text: &[u8]) -> Option<(u64, LayoutFault)>
     ensures { MatchOption result
         ((offset : ℕ) (fault : AFault) → offset < 2 ^ 64
@@ -281,7 +278,7 @@ fn fault_of(text: &[u8]) -> Option<(u64, LayoutFault)>
     Some((offset, fault))
 }
 
-/// The end that ` refused N at OFFSET L5` tells.
+/// The end in ` refused N at OFFSET L5`.
 fn refused_of(text: &[u8]) -> Option<UploadEnd>
     ensures { MatchOption result
         ((taps offset : ℕ) (fault : AFault) → taps < 2 ^ 64 → offset < 2 ^ 64
@@ -297,8 +294,8 @@ fn refused_of(text: &[u8]) -> Option<UploadEnd>
     })
 }
 
-/// How the upload of this number ended, as the line `upload K posted N`, or `upload K refused N at
-/// OFFSET L5`, tells. What the fault tells beside its name is 0.
+/// How the upload of this number ended, by the line `upload K posted N`, or `upload K refused N at
+/// OFFSET L5`. What the fault has beside its name is 0.
 pub fn end_of(line: &[u8], upload: u64) -> Option<UploadEnd>
     ensures { MatchOption result
         ((end : AnEnd) → IsUploadEnd end → ¬ (line.now ≡ upload_line upload end))

@@ -18,7 +18,7 @@ use shard_book::{TokenSum, TokenSums, Totals};
 use std::io::Write;
 use tap_views::Token;
 
-/// Writes out what waits in the text where it leaves too little room.
+/// Writes out what waits in the text if it leaves too little room.
 fn make_room<W: Write>(text: &mut Vec<u8>, needed: usize, out: &mut W) -> Result<(), PrintFault>
     requires { needed ≤ vec_capacity text.old }
     ensures kept { OnOk result

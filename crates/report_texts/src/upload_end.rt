@@ -1,4 +1,4 @@
-//! How an upload ended, and how a report tells it.
+//! How an upload ended, and how a report prints it.
 
 ghost use Rattle.std.specs.Prelude.{◌≡◌, Some};
 ghost use Rattle.report_texts.specs.UploadEnds.{end_by, is_posted, taps_told};
@@ -11,23 +11,19 @@ use tap_views::LayoutFault;
 pub enum UploadEnd {
     /// The upload has no layout fault, and all its batches were posted whole.
     Posted {
-        /// How many taps were posted.
         taps: u64,
     },
     /// All batches before the upload's first layout fault were posted whole. The fault's batch
     /// begins `offset` bytes into the upload.
     Refused {
-        /// How many taps were posted.
         taps: u64,
         /// The offset of the batch with the fault, in bytes.
         offset: u64,
-        /// The layout fault.
         fault: LayoutFault,
     },
     /// Want of memory, or a shard that takes no more visits, ended it: a beginning of the taps
     /// before its first layout fault was posted, and not all of them.
     Cut {
-        /// How many taps were posted.
         taps: u64,
     },
     /// No share drew it.
@@ -35,8 +31,8 @@ pub enum UploadEnd {
 }
 
 impl UploadEnd {
-    /// The end of an upload of which all taps before its layout fault, if it has one, were posted:
-    /// so many taps. A fault comes with the offset of its batch, in bytes.
+    /// The end of an upload of which all taps before its layout fault, if it has one, were posted,
+    /// which are `taps` taps. A fault comes with the offset of its batch, in bytes.
     pub fn by_fault(taps: u64, found: Option<(u64, LayoutFault)>) -> UploadEnd
         ensures { result ≡ end_by taps found }
     {
@@ -52,7 +48,7 @@ impl UploadEnd {
 }
 
 impl UploadEnd {
-    /// How many taps were posted; 0 where no share drew the upload.
+    /// How many taps were posted; 0 if no share drew the upload.
     pub fn taps(&self) -> u64
         ensures { result ≡ taps_told self.now }
     {

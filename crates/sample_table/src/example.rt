@@ -53,5 +53,5 @@ window 2024-03-08T17:00:00.000Z ",
 /// The statement under the sample table.
 pub const STATEMENT: &str = statement!("2024-03-15T17:00:00.000Z");
 
-/// The statement under New York's civil time, where the window ends at midnight.
+/// The statement under New York's civil time: the window ends at midnight.
 pub const NEW_YORK_STATEMENT: &str = statement!("2024-03-15T04:00:00.000Z");

@@ -79,7 +79,7 @@ pub fn tap(last: u8, validator: u32, moment: u64) -> TapFields {
     }
 }
 
-/// The tap of this token at a validator, so many milliseconds after the start.
+/// The tap of this token at a validator, `after` milliseconds behind `START`.
 pub fn tap_after(last: u8, validator: u32, after: u64) -> TapFields {
     tap(last, validator, START.saturating_add(after))
 }

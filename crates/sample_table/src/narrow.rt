@@ -3,10 +3,9 @@
 use std::io;
 use std::io::Write;
 
-/// A writer that takes so many bytes more and then fails. It takes no memory.
+/// A writer that takes `room` bytes more and then fails. It takes no memory.
 #[derive(Drop)]
 pub struct Narrow {
-    /// How many more bytes it takes.
     pub room: usize,
 }
 

@@ -1,15 +1,16 @@
 -- Classes that are kept of riders.
-use Rattle.std.proofs.Common.{◌≡◌, ◌∙◌, ℕ, List, Bool, true, false, Option, Some, None, refl, sym, ap, subst}
-use Rattle.std.specs.Prelude.{is_some, option_map, unwrap_or, if◌then◌else◌, string_bytes, String}
+use Rattle.std.proofs.Common.{◌≡◌, ◌∙◌, ℕ, List, Bool, true, false, Option, Some, None, refl, sym}
+use Rattle.std.proofs.Common.{ap, subst}
+use Rattle.std.specs.Prelude.{is_some, option_map, if◌then◌else◌, string_bytes, String}
 use Rattle.std.specs.BTreeMap.{BTreeMap, is_at}
 use Rattle.std.specs.Cmp.Lexicographic.{slice_cmp}
 use Rattle.std.specs.Map.{lookup}
 use Rattle.std.specs.Ordering.{nat_cmp}
 use Rattle.std.specs.declared.alloc.Global.{Global}
-use Rattle.toml.specs.Data.{Members, same_key}
-use Rattle.fare_table.proofs.PayLemmas.{same_bytes}
-use Rattle.settled_texts.specs.Classes.{class_among, class_of_token, default_in, first_class, riders_in}
+use Rattle.toml.specs.Data.{same_key}
+use Rattle.settled_texts.specs.Classes.{first_class}
 use Rattle.settled_texts.specs.Names.{rider_by}
+use Rattle.fare_table.proofs.KeyLemmas.{same_bytes}
 
 pub first_none : (o : Option (List ℕ)) → o ≡ first_class o None
 first_none None = refl
@@ -23,10 +24,6 @@ pub first_first : (a b c : Option (List ℕ))
     → first_class (first_class a b) c ≡ first_class a (first_class b c)
 first_first None b c = refl
 first_first (Some a) b c = refl
-
-pub first_or : (o : Option (List ℕ)) (d : List ℕ) → first_class o (Some d) ≡ Some (unwrap_or o d)
-first_or None d = refl
-first_or (Some c) d = refl
 
 map_some : {A : Type 0} (f : A → List ℕ) (o : Option A) → is_some o ≡ true
     → is_some (option_map f o) ≡ true
@@ -76,12 +73,3 @@ kept_now old new token other class free is = by (same_key token other) refl is
         (same_bytes token other same) free)))
     by false same put =
         ap (option_map string_bytes) put ∙ first_none (rider_by old other)
-
--- the class of a token, by its rider's and the default one
-pub class_is : (tree : Members) (riders : BTreeMap (List ℕ) (String Global)) (token usual : List ℕ)
-    → rider_by riders token ≡ class_among (riders_in tree) token → default_in tree ≡ Some usual
-    → class_of_token tree token ≡ Some (unwrap_or (rider_by riders token) usual)
-class_is tree riders token usual own default =
-    ap (λ (d : Option (List ℕ)). first_class (class_among (riders_in tree) token) d) default
-    ∙ first_or (class_among (riders_in tree) token) usual
-    ∙ ap (λ (o : Option (List ℕ)). Some (unwrap_or o usual)) (sym own)

@@ -1,20 +1,20 @@
 -- Lists one behind the other, and what goes out at once.
-use Rattle.std.proofs.Common.{◌≡◌, ℕ, ◌+◌, ◌<◌, List, [], ◌∷◌, ◌++◌, All, Option, Some, None, length}
-use Rattle.std.proofs.Common.{take, drop, get_or, flat_map, refl, sym, ap, subst, ◌∙◌, append-nil}
-use Rattle.std.proofs.Common.{add-one, drop-cons, Vec, Global, Bor}
+use Rattle.std.proofs.Common.{◌≡◌, ℕ, ◌+◌, ◌<◌, List, [], ◌∷◌, ◌++◌, All, Option, Some, None}
+use Rattle.std.proofs.Common.{length, take, drop, get_or, flat_map, refl, sym, ap, subst, ◌∙◌}
+use Rattle.std.proofs.Common.{append-nil, add-one, drop-cons, Vec, Global, Bor}
 use Rattle.std.specs.Prelude.{IfSome, slice_get}
 use Rattle.std.specs.Slice.{IsItemAt}
 use Rattle.std.proofs.lemmas.Option.{slice_get-get_or}
 use Rattle.std.specs.Io.KnownBytes.{Appends, Keeps, append_known}
-use Rattle.std.proofs.lemmas.List.{take-append-drop}
+use Rattle.std.proofs.lemmas.List.{take-append-drop, take_more}
 use Rattle.std.proofs.lemmas.List.Concat.{flat_map-append}
-use Rattle.std.proofs.lemmas.List.Elements.{All-cons, All-head, All-nil, All-tail}
 use Rattle.tap_views.specs.declared.token.Token.{Token}
 use Rattle.tap_views.specs.Layout.{moment_limit}
 use Rattle.tap_views.specs.declared.encoder.TapFields.{TapFields}
+use Rattle.tap_views.proofs.Lists.{All-split}
 use Rattle.settled_texts.specs.inside.Seats.{IsSoundList}
 use Rattle.settled_texts.specs.Telling.{NoTapFallsFrom, last_token}
-use Rattle.settled_texts.proofs.Tellings.{fall_within, taken}
+use Rattle.settled_texts.proofs.Tellings.{fall_within}
 
 -- the taps of lists, one list behind the other
 abbrev pub joined : List (Vec TapFields Global) → List TapFields
@@ -23,12 +23,6 @@ joined lists = flat_map (λ (list : Vec TapFields Global). list.items) lists
 abbrev pub Early : TapFields → Type 0
 Early tap = tap.moment < moment_limit
 
-pub both : {A : Type 0} (P : A → Type 0) (xs ys : List A) → All P (xs ++ ys) → All P xs × All P ys
-both P [] ys all = (All-nil P, all)
-both P (x ∷ xs) ys all =
-    let rest = both P xs ys (All-tail P x (xs ++ ys) all) in
-    (All-cons P x xs (All-head P x (xs ++ ys) all) rest.0, rest.1)
-
 -- one list more
 pub joined_more : (lists : List (Vec TapFields Global)) (place : ℕ) (other : Vec TapFields Global)
     → place < length lists
@@ -36,14 +30,15 @@ pub joined_more : (lists : List (Vec TapFields Global)) (place : ℕ) (other : V
     ≡ joined (take place lists) ++ (get_or lists place other).items
 joined_more lists place other within =
     let f : Vec TapFields Global → List TapFields = λ list. list.items in
-    ap (flat_map f) (taken lists place other within)
+    ap (flat_map f) (take_more lists place other within)
     ∙ flat_map-append f (take place lists) (get_or lists place other ∷ [])
     ∙ ap (λ ts. joined (take place lists) ++ ts) (append-nil (get_or lists place other).items)
 
 -- the lists before one, that one and those behind it
 pub joined_at : (lists : List (Vec TapFields Global)) (place : ℕ) (other : Vec TapFields Global)
     → place < length lists
-    → joined (take place lists) ++ ((get_or lists place other).items ++ joined (drop (place + 1) lists))
+    → joined (take place lists)
+    ++ ((get_or lists place other).items ++ joined (drop (place + 1) lists))
     ≡ joined lists
 joined_at lists place other within =
     let f : Vec TapFields Global → List TapFields = λ list. list.items in
@@ -64,7 +59,7 @@ sound_at token lists place other within early no_fall =
     let here = (get_or lists place other).items in
     let behind = joined (drop (place + 1) lists) in
     record {
-      early = (both Early here behind (both Early before (here ++ behind)
+      early = (All-split Early here behind (All-split Early before (here ++ behind)
           (subst (λ (ts : List TapFields). All Early ts) (sym whole) early)).1).0;
       from = last_token token before;
       no_fall = fall_within token (last_token token before) before here behind (joined lists) whole
@@ -82,7 +77,8 @@ passed_on (Some x) (Some y) (Some z) text left bytes p e q =
     ap (λ t. z ++ t) e ∙ append-nil z ∙ q
     ∙ ap (λ t. t ++ bytes) (sym (append-nil y) ∙ ap (λ t. y ++ t) (sym e) ∙ p)
 
-pub joined_append : (xs ys : List (Vec TapFields Global)) → joined (xs ++ ys) ≡ joined xs ++ joined ys
+pub joined_append : (xs ys : List (Vec TapFields Global))
+    → joined (xs ++ ys) ≡ joined xs ++ joined ys
 joined_append xs ys = flat_map-append (λ (list : Vec TapFields Global). list.items) xs ys
 
 -- what holds of the element at a place holds of the one that is lent there

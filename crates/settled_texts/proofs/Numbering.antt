@@ -1,6 +1,6 @@
 -- Taps that are numbered one after the other.
-use Rattle.std.proofs.Common.{◌≡◌, ◌∙◌, ℕ, ◌+◌, List, [], ◌∷◌, ◌++◌, map, length, refl, ap, sym, arith}
-use Rattle.std.proofs.Common.{append_assoc, append-nil, Bool, true, false, not}
+use Rattle.std.proofs.Common.{◌≡◌, ◌∙◌, ℕ, ◌+◌, List, [], ◌∷◌, ◌++◌, map, length, refl, ap, sym}
+use Rattle.std.proofs.Common.{arith, append_assoc, append-nil, Bool, true, false, not}
 use Rattle.std.specs.Prelude.{◌&&◌}
 use Rattle.std.specs.List.{list_all}
 use Rattle.std.proofs.lemmas.List.{map-append}
@@ -38,15 +38,18 @@ numbered_push upload place next old now new done tap fields was is of push =
     let long : length before ≡ length done = mapped done in
     let at : next ≡ place + length before = omega (arith, is, long) in
     push
-    ∙ ap (λ (ts : List TracedTap). ts ++ record { tap = fields; upload = upload; place = next } ∷ []) was
+    ∙ ap (λ (ts : List TracedTap). ts ++ record
+    { tap = fields; upload = upload; place = next } ∷ []) was
     ∙ append_assoc old (numbered upload place before)
     (record { tap = fields; upload = upload; place = next } ∷ [])
     ∙ ap (λ (ts : List TracedTap). old ++ ts)
-    (ap (λ (p : ℕ). numbered upload place before ++ record { tap = fields; upload = upload; place = p } ∷ []) at
+    (ap (λ (p : ℕ). numbered upload place before ++ record
+    { tap = fields; upload = upload; place = p } ∷ []) at
     ∙ ap (λ (f : TapFields). numbered upload place before
     ++ record { tap = f; upload = upload; place = place + length before } ∷ []) of
     ∙ sym (numbered_append upload place before (fields_of tap ∷ []))
-    ∙ ap (λ (ts : List TapFields). numbered upload place ts) (sym (map-append fields_of done (tap ∷ []))))
+    ∙ ap (λ (ts : List TapFields). numbered upload place ts)
+    (sym (map-append fields_of done (tap ∷ []))))
   where
     mapped : (taps : List Tap) → length (map fields_of taps) ≡ length taps
     mapped [] = refl

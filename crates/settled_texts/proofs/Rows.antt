@@ -12,6 +12,7 @@ use Rattle.tap_views.specs.Token.{token_cmp}
 use Rattle.tap_views.specs.declared.token.Token.{Token}
 use Rattle.tap_views.proofs.TokenBytes.{token-order}
 use Rattle.tap_views.specs.declared.encoder.TapFields.{TapFields}
+use Rattle.tap_views.proofs.Orderings.{first_not_less}
 use Rattle.shard_book.specs.declared.entry.Entry.{Entry}
 use Rattle.shard_book.specs.Plain.{answered}
 use Rattle.fare_texts.specs.Lines.{IsUpTo, NoFall, NoFallFrom}
@@ -20,18 +21,13 @@ use Rattle.settlement.specs.Posted.{HasName, posted_after, token_of_tap, unposte
 use Rattle.settlement.proofs.Placed.{NotLess, Pairs, sorted_pairs}
 use Rattle.settled_texts.specs.Telling.{NoTapFallsFrom}
 
-first_decides : (one other : Ordering) → is_lt (ordering_then one other) ≡ false → is_lt one ≡ false
-first_decides Less other not = not
-first_decides Equal other not = refl
-first_decides Greater other not = refl
-
 up_to : (a b : TapFields) → HasName a → HasName b → NotLess a b
     → IsUpTo (token_of_tap a) (token_of_tap b)
 up_to a b of_a of_b not =
     let bytes : token_cmp (token_of_tap b) (token_of_tap a) ≡ slice_cmp nat_cmp b.token a.token =
     token-order (token_of_tap b) (token_of_tap a) of_b.fits of_a.fits
     ∙ (λ i. slice_cmp nat_cmp (of_b.named i) (of_a.named i)) in
-    ap is_lt bytes ∙ first_decides (slice_cmp nat_cmp b.token a.token) _ not
+    ap is_lt bytes ∙ first_not_less (slice_cmp nat_cmp b.token a.token) _ not
 
 fall_from : (a : TapFields) (taps : List TapFields) → HasName a → All HasName taps
     → All (NotLess a) taps → Pairs NotLess taps → NoTapFallsFrom (token_of_tap a) taps
@@ -86,6 +82,7 @@ falls_whole : (token : Token) (entries : List Entry) → NoFallFrom token entrie
 falls_whole token [] no_fall = tt
 falls_whole token (entry ∷ entries) no_fall = no_fall.1
 
+-- entries posted in canonical order have tokens that do not fall
 pub posted_falls : (fares : Fares) (token : Token) (taps : List TapFields)
     → NoTapFallsFrom token taps → NoFall (posted_after fares [] taps)
 posted_falls fares token taps no_fall =

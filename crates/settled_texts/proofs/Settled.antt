@@ -1,6 +1,6 @@
 -- The taps of a trace are the settled taps of the files.
-use Rattle.std.proofs.Common.{◌≡◌, ◌∙◌, ℕ, ◌+◌, ◌<◌, Bool, false, List, [], ◌∷◌, ◌++◌, All, Less, Equal, Greater}
-use Rattle.std.proofs.Common.{Ordering, arith, length, map, refl, sym, ap, subst}
+use Rattle.std.proofs.Common.{◌≡◌, ◌∙◌, ℕ, ◌+◌, ◌<◌, Bool, false, List, [], ◌∷◌, ◌++◌, All, Less}
+use Rattle.std.proofs.Common.{Equal, Greater, Ordering, arith, length, map, refl, sym, ap, subst}
 use Rattle.std.specs.Prelude.{slice_index_or}
 use Rattle.std.specs.List.Sorted.{IsPermutation, IsSorted}
 use Rattle.std.specs.Ordering.{is_lt, nat_cmp, ordering_then}
@@ -11,7 +11,8 @@ use Rattle.shard_book.specs.Visits.{AreEntriesOf}
 use Rattle.shard_book.specs.declared.entry.Entry.{Entry}
 use Rattle.fare_service.specs.Plain.{IsPlain}
 use Rattle.tap_views.specs.Encoding.{fields_of}
-use Rattle.tap_views.specs.Files.{AreGoodTapsOfEach, GoodBatchesView, HasOneReading, taps_of_batches}
+use Rattle.tap_views.specs.Files.{AreGoodTapsOfEach, GoodBatchesView, HasOneReading}
+use Rattle.tap_views.specs.Files.{taps_of_batches}
 use Rattle.tap_views.specs.Layout.{Tap}
 use Rattle.tap_views.specs.TapOrder.{tap_cmp}
 use Rattle.tap_views.specs.declared.encoder.TapFields.{TapFields}

@@ -1,10 +1,9 @@
 -- What is told of taps, and of more taps behind them.
-use Rattle.std.proofs.Common.{◌≡◌, ℕ, ◌+◌, ◌<◌, List, [], ◌∷◌, ◌++◌, length, take, drop, get_or, Some}
-use Rattle.std.specs.Prelude.{slice_get}
-use Rattle.std.proofs.Common.{refl, sym, ap, subst, ◌∙◌, append-nil, append_assoc, add-one}
+use Rattle.std.proofs.Common.{◌≡◌, ℕ, ◌+◌, ◌<◌, List, [], ◌∷◌, ◌++◌, length, take, drop, get_or}
+use Rattle.std.proofs.Common.{Some, refl, sym, ap, subst, ◌∙◌, append-nil, append_assoc, add-one}
 use Rattle.std.proofs.Common.{drop-cons}
+use Rattle.std.specs.Prelude.{slice_get}
 use Rattle.std.proofs.lemmas.List.{take-append-drop}
-use Rattle.std.proofs.Math.Seq.{take-suc}
 use Rattle.fare_table.specs.Fares.{Fares}
 use Rattle.tap_views.specs.declared.token.Token.{Token}
 use Rattle.tap_views.specs.declared.encoder.TapFields.{TapFields}
@@ -29,6 +28,7 @@ fall_append token [] ys no_fall = (tt, no_fall)
 fall_append token (x ∷ xs) ys (up, no_fall) =
     let both = fall_append (token_of_tap x) xs ys no_fall in ((up, both.0), both.1)
 
+-- the last token of two lists of taps
 pub last_append : (token : Token) (xs ys : List TapFields)
     → last_token token (xs ++ ys) ≡ last_token (last_token token xs) ys
 last_append token [] ys = refl
@@ -36,6 +36,7 @@ last_append token (x ∷ xs) ys = last_append (token_of_tap x) xs ys
 
 -- ---- the lines
 
+-- no taps have no lines
 pub none_told : (fares : Fares) (earlier : List Entry) (teller : Teller)
     → HasCome fares teller earlier → AreTold fares earlier [] teller []
 unfolding posted_after
@@ -44,6 +45,7 @@ none_told fares earlier teller come = record {
   come = subst (λ (es : List Entry). HasCome fares teller es) (sym (append-nil earlier)) come;
 }
 
+-- the lines of two lists of taps, one after the other
 pub told_append : (fares : Fares) (earlier : List Entry) (xs ys : List TapFields)
     (teller next : Teller) (lines more : List ℕ) → AreTold fares earlier xs teller lines
     → AreTold fares (earlier ++ posted_after fares earlier xs) ys next more
@@ -93,7 +95,8 @@ one_told fares earlier tap teller next line its same come is told =
         line,
         [],
         subst (λ (t : Token). IsLedgerLineAfter fares t (own t earlier) entry line) here
-            (subst (λ (e : Entry). IsLedgerLineAfter fares teller.token (own teller.token earlier) e line)
+            (subst (λ (e : Entry). IsLedgerLineAfter fares teller.token (own teller.token earlier) e
+            line)
             of is),
         refl,
         sym (append-nil line),
@@ -101,11 +104,6 @@ one_told fares earlier tap teller next line its same come is told =
       come = come_next fares teller next earlier entry here same come
           (subst (λ (e : Entry). HasTold fares next (own teller.token earlier ++ e ∷ [])) of told);
     }
-
--- one more of the first
-pub taken : {A : Type 0} (xs : List A) (place : ℕ) (other : A) → place < length xs
-    → take (place + 1) xs ≡ take place xs ++ get_or xs place other ∷ []
-taken xs place other within = rw (add-one) (take-suc xs place other within)
 
 -- a tap is not below the token of the taps before it
 pub fall_here : (from token : Token) (taps : List TapFields) (place : ℕ) (other : TapFields)
@@ -142,7 +140,8 @@ pub fall_first : (token : Token) (taps : List TapFields) (first : TapFields)
 fall_first token [] first is no_fall = cc
 fall_first token (tap ∷ taps) first is (up, no_fall) =
     let same : tap ≡ first = cc in
-    subst (λ (t : TapFields). IsUpTo token (token_of_tap t) × NoTapFallsFrom (token_of_tap t) (tap ∷ taps))
+    subst (λ (t : TapFields). IsUpTo token (token_of_tap t)
+    × NoTapFallsFrom (token_of_tap t) (tap ∷ taps))
     same (up, (up_itself (token_of_tap tap), no_fall))
 
 -- where there is a tap, the last token does not depend on the one before

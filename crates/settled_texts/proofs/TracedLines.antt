@@ -1,7 +1,6 @@
 -- Columns behind the lines of a text.
-use Rattle.std.proofs.Common.{◌≡◌, ◌∙◌, ℕ, zero, suc, ◌+◌, ◌==◌, Bool, true, false, List, [], ◌∷◌, ◌++◌, refl, sym, ap}
-use Rattle.std.proofs.Common.{drop, append_assoc, arith}
-use Rattle.std.proofs.Common.{drop-drop}
+use Rattle.std.proofs.Common.{◌≡◌, ◌∙◌, ℕ, zero, suc, ◌+◌, ◌==◌, Bool, true, false, List, [], ◌∷◌}
+use Rattle.std.proofs.Common.{◌++◌, refl, sym, ap, drop, append_assoc, arith, drop-drop}
 use Rattle.std.specs.Prelude.{codes, if◌then◌else◌}
 use Rattle.fare_texts.specs.LedgerLines.{head_text}
 use Rattle.settled_texts.specs.Columns.{columns_by, head_columns, with_columns}
@@ -42,7 +41,8 @@ with_append (x ∷ a) b (c ∷ columns) =
         ++ with_columns b (drop (if t then feeds a + 1 else feeds a) (c ∷ columns))
     by true taken other =
         ap (λ (t : List ℕ). c ++ x ∷ t) taken
-        ∙ sym (append_assoc c (x ∷ with_columns a columns) (with_columns b (drop (feeds a) columns)))
+        ∙ sym (append_assoc c (x ∷ with_columns a columns)
+        (with_columns b (drop (feeds a) columns)))
         ∙ ap (λ (n : ℕ). (c ++ x ∷ with_columns a columns) ++ with_columns b (drop n (c ∷ columns)))
         (more (feeds a))
     by false taken other = ap (λ (t : List ℕ). x ∷ t) other
@@ -91,7 +91,8 @@ pub columns_on : (classes : List ℕ → List ℕ) (lines more : List ℕ) (trac
     ≡ with_columns lines (columns_by classes trace) ++ with_columns more (columns_by classes left)
 columns_on classes lines more trace left is =
     with_append lines more (columns_by classes trace)
-    ∙ ap (λ (cs : List (List ℕ)). with_columns lines (columns_by classes trace) ++ with_columns more cs)
+    ∙ ap (λ (cs : List (List ℕ)). with_columns lines (columns_by classes trace) ++ with_columns more
+    cs)
     (columns_left classes (feeds lines) trace ∙ ap (columns_by classes) (sym is))
 
 -- the taps that are left behind more lines

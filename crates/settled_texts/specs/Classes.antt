@@ -13,7 +13,7 @@ abbrev pub is_token : List ℕ → Option (List ℕ) → Bool
 is_token token None = false
 is_token token (Some bytes) = same_key bytes token
 
--- the class of a key of riders, where its 32 hexadecimal digits name the token
+-- the class of a key of riders, if its 32 hexadecimal digits name the token
 abbrev pub class_at : List ℕ → Data → List ℕ → Option (List ℕ)
 class_at key value token =
     if is_token token (result_ok (decode_sized key 16)) then as_str value else None
@@ -29,7 +29,7 @@ class_among no_members token = None
 class_among (member key value more) token =
     first_class (class_at key value token) (class_among more token)
 
--- the members of the table, or none where it is none
+-- the members of the table, or none if it is none
 abbrev pub members_or_none : Option Members → Members
 members_or_none None = no_members
 members_or_none (Some members) = members

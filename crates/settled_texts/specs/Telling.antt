@@ -1,4 +1,4 @@
--- What is told of taps whose tokens do not fall.
+-- Lines of taps whose tokens do not fall.
 use Rattle.std.specs.Prelude.{ℕ, List, [], ◌∷◌, ◌++◌}
 use Rattle.fare_table.specs.Fares.{Fares}
 use Rattle.tap_views.specs.declared.token.Token.{Token}
@@ -14,7 +14,7 @@ NoTapFallsFrom token [] = Unit {0}
 NoTapFallsFrom token (tap ∷ taps) =
     IsUpTo token (token_of_tap tap) × NoTapFallsFrom (token_of_tap tap) taps
 
--- the token of the last tap, or this one where there is none
+-- the token of the last tap, or this one if there is none
 abbrev pub last_token : Token → List TapFields → Token
 last_token token [] = token
 last_token token (tap ∷ taps) = last_token (token_of_tap tap) taps

@@ -20,7 +20,6 @@ use std::alloc::{AllocError, Global};
 use std::collections::BTreeMap;
 use toml::{Table, Value};
 
-/// The most bytes of a name.
 const MAX_NAME_BYTES: usize = 64;
 
 /// Why the names of classes are not had.
@@ -31,7 +30,6 @@ pub enum ClassFault {
     /// A name cannot stand in a ledger: it is empty, longer than 64 bytes, or has a byte that is no
     /// letter, digit, hyphen or low line.
     Name,
-    /// Memory was refused.
     NoMemory,
 }
 
@@ -48,7 +46,6 @@ impl From<AllocError> for ClassFault {
 /// The names of riders' classes, by their tokens.
 #[derive(Drop)]
 pub struct ClassNames {
-    /// The class of each rider.
     riders: BTreeMap<[u8; 16], String>,
     /// The class of all others.
     usual: String,
@@ -63,7 +60,6 @@ fn is_bare(byte: u8) -> bool
             || ((b'0' <= byte && byte <= b'9') || (byte == b'-' || byte == b'_')))
 }
 
-/// Whether all bytes are letters, digits, hyphens and low lines.
 fn are_bare(bytes: &[u8]) -> bool
     ensures { result ≡ list_all is_bare bytes.now }
 {
@@ -107,14 +103,12 @@ fn token_of(digits: &str) -> Option<[u8; 16]>
     }
 }
 
-/// The value at a key.
 fn at<'a>(table: &'a Table, key: &str) -> Option<&'a Value>
     ensures { option_map (λ v. view v.now) result ≡ get_member key.now (table_view table.now) }
 {
     table.get(key)
 }
 
-/// The keys of the text's `riders`.
 fn riders_of<'a>(tree: &'a Table) -> Option<&'a Table>
     ensures { option_map (λ m. table_view m.now) result
         ≡ option_and_then as_table (get_member (codes "riders") (table_view tree.now)) }
@@ -122,7 +116,6 @@ fn riders_of<'a>(tree: &'a Table) -> Option<&'a Table>
     at(tree, "riders")?.as_table()
 }
 
-/// The class that the text's `default_class` names.
 fn default_of<'a>(tree: &'a Table) -> Option<&'a str>
     ensures { option_map (λ s. s.now) result ≡ default_in (table_view tree.now) }
 {
@@ -146,7 +139,7 @@ fn keep(
     Ok(())
 }
 
-/// Keeps the class of a key, where it names a token that no earlier key has named.
+/// Keeps the class of a key, if it names a token that no earlier key has named.
 fn add(
     alloc: Global,
     riders: &mut BTreeMap<[u8; 16], String>,
@@ -170,7 +163,6 @@ fn add(
     Ok(())
 }
 
-/// The classes of the riders of these keys.
 fn classes_of(alloc: Global, keys: &Table) -> Result<BTreeMap<[u8; 16], String>, ClassFault>
     ensures classes { IfOk result (λ riders. HasRiders (table_view keys.now) riders) }
     ensures plain { OnOk result (are_plain (table_view keys.now) ≡ true) }
@@ -184,7 +176,6 @@ fn classes_of(alloc: Global, keys: &Table) -> Result<BTreeMap<[u8; 16], String>,
     Ok(riders)
 }
 
-/// The classes of the riders of the text.
 fn rider_classes(alloc: Global, tree: &Table) -> Result<BTreeMap<[u8; 16], String>, ClassFault>
     ensures classes { IfOk result (λ riders. HasRiders (riders_in (table_view tree.now)) riders) }
     ensures plain { OnOk result (are_plain (riders_in (table_view tree.now)) ≡ true) }

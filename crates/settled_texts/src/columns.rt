@@ -22,7 +22,6 @@ fn put_number(text: &mut Vec<u8>, number: u64) -> Result<(), AllocError>
     Ok(())
 }
 
-/// Appends the columns of a tap.
 fn put_columns(text: &mut Vec<u8>, class: &str, traced: &TracedTap) -> Result<(), AllocError>
     ensures { OnOk result
         (text.new.items ≡ text.old.items ++ columns_of class.now traced.now) }
@@ -54,7 +53,6 @@ fn put_next<'t>(
     }
 }
 
-/// Whether the byte is a line feed.
 fn is_feed(byte: u8) -> bool
     ensures { result ≡ (byte == 10) }
 {

@@ -1,7 +1,7 @@
-//! The texts of settled taps, which are posted account by account. The ledger of all tokens tells
-//! each tap in the step that posts it: no entry is kept, and nothing is sorted. The texts of one token
-//! are made from its taps alone. A traced ledger has behind each line the class of its token's rider,
-//! and the upload and the place there that its tap came from.
+//! The texts of settled taps, which are posted account by account. The line of each tap in the
+//! ledger of all tokens is made in the step that posts it: no entry is kept, and nothing is sorted.
+//! The texts of one token are made from its taps alone. A traced ledger has behind each line the
+//! class of its token's rider, and the upload and the place there that its tap came from.
 #![tactic(auto)]
 
 mod class_names;

@@ -16,7 +16,7 @@ use std::alloc::AllocError;
 use std::io::Write;
 use tap_views::{TapFields, Token};
 
-/// How many taps are told before their lines may go out.
+/// How many taps are posted before their lines may go out.
 const STRIDE_TAPS: usize = 64;
 
 /// More bytes than the lines of a stride have.

@@ -21,16 +21,13 @@ use std::alloc::Global;
 use std::io::Write;
 use tap_views::{NoMemory, TapFields, Token};
 
-/// The taps of a token, posted.
 #[derive(Drop)]
 struct PostedTaps {
-    /// Their entries, in order.
     entries: Vec<Entry>,
     /// The token, after its last tap.
     replay: Replay,
 }
 
-/// Posts the taps of the token, one after the other.
 fn post(
     alloc: Global,
     table: &FareTable,
@@ -94,7 +91,6 @@ pub fn write_token_explained<W: Write>(
     write_explained_of(alloc, table, token, &entries, out)
 }
 
-/// The statement of a token that has these taps.
 fn statement_of(
     alloc: Global,
     table: &FareTable,

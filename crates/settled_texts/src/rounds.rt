@@ -53,8 +53,8 @@ fn sit<R: Threads + Sync>(
     );
 }
 
-/// Writes the lines of a list: those that a seat has made, where they are whole and no earlier tap
-/// has the list's first token, and else by pieces.
+/// Writes the lines of a list: those that a seat has made, if they are whole and no earlier tap has
+/// the list's first token, and else by pieces.
 fn write_list<W: Write>(
     text: &mut String,
     table: &FareTable,

@@ -21,14 +21,12 @@ pub(crate) struct Seat {
     pub(crate) first: Token,
     /// The last token of the list, with its account after the list.
     pub(crate) teller: Teller,
-    /// The lines.
     pub(crate) text: String,
-    /// Whether these are the lines of all taps of the list, where its first token had none before.
+    /// Whether these are the lines of all taps of the list, if its first token had none before.
     pub(crate) is_whole: bool,
 }
 
 impl Seat {
-    /// A seat that has no list.
     pub(crate) fn new(alloc: Global) -> Self {
         let first = Token::of(&[0; 16]);
         Seat {

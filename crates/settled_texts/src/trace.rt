@@ -14,7 +14,6 @@ use tap_views::{Batch, NoMemory, TapFields, good_batches};
 /// then by place.
 #[derive(Clone, Copy, Debug, PartialEq, Eq, PartialOrd, Ord)]
 pub struct TracedTap {
-    /// The tap.
     pub tap: TapFields,
     /// The number of its upload, from 0.
     pub upload: u64,
@@ -25,7 +24,6 @@ pub struct TracedTap {
 /// The good taps of uploads in canonical order, each with its upload and its place there.
 #[derive(Drop)]
 pub struct Trace {
-    /// The taps.
     pub taps: Vec<TracedTap>,
     /// Whether no upload has a layout fault.
     pub whole: bool,
@@ -71,7 +69,6 @@ fn add_upload(taps: &mut Vec<TracedTap>, upload: u64, bytes: &[u8]) -> Result<bo
     Ok(good.fault().is_none())
 }
 
-/// Whether both are so.
 fn both(a: bool, b: bool) -> bool
     ensures { result ≡ (a && b) }
 {

@@ -38,7 +38,7 @@ const HEAD: &str =
 /// What is behind it in a traced ledger.
 const HEAD_COLUMNS: &str = ",class,upload,place\n";
 
-/// How many taps are told before their lines go out.
+/// How many taps are posted before their lines go out.
 const STRIDE_TAPS: usize = 64;
 
 /// More bytes than the columns of a stride have.
@@ -47,18 +47,15 @@ const COLUMNS_ROOM_BYTES: usize = STRIDE_TAPS * 128;
 /// What the lines of a stride are made in, with room for them, so that no memory is taken later.
 #[derive(Drop)]
 struct Room {
-    /// The taps of a stride.
     taps: Vec<TapFields>,
     /// Their lines, before they are whole.
     text: String,
-    /// Their lines.
     lines: Vec<u8>,
     /// Their lines with the columns behind them.
     traced: Vec<u8>,
 }
 
 impl Room {
-    /// Room for the lines of a stride.
     fn new(alloc: Global) -> Result<Room, NoMemory>
         ensures { IfOk result (λ room. string_bytes room.text ≡ []) }
     {
@@ -75,7 +72,6 @@ impl Room {
         })
     }
 
-    /// Takes the taps of a stride.
     fn take(&mut self, stride: &[TracedTap]) -> Result<(), AllocError>
         ensures taps { OnOk result (self.new.taps.items ≡ taps_of_trace stride.now) }
         ensures text { OnOk result (self.new.text ≡ self.old.text) }

@@ -1,33 +1,17 @@
 -- Histories of lists that share no token, one behind the other, and their sums by token.
-use Rattle.std.proofs.Common.{◌≡◌, Bool, true, false, ◌||◌, cond, List, ◌∷◌, ◌++◌, map, filter, []}
-use Rattle.std.proofs.Common.{refl, sym, ap, ◌∙◌, append-nil, append_assoc, All, ⊎_elim}
-use Rattle.std.specs.List.{AllByRecursion}
-use Rattle.std.specs.List.Sorted.{IsStrictlySortedBy}
-use Rattle.std.specs.Cmp.{tied_itself}
-use Rattle.std.specs.Ordering.{eq_by_cmp}
-use Rattle.std.specs.Set.{is_member}
-use Rattle.std.specs.declared.cmp.Ordering.TheVariants.{Less, Equal}
-use Rattle.std.proofs.lemmas.Bool.{cases_Bool}
-use Rattle.std.proofs.lemmas.List.{map-append}
-use Rattle.std.proofs.lemmas.List.Elements.{All-head, All-tail, All-nil, All-cons, filter-append}
-use Rattle.std.proofs.lemmas.Map.Views.{All-insert_key}
+use Rattle.std.proofs.Common.{◌≡◌, List, ◌∷◌, ◌++◌, map, filter, []}
+use Rattle.std.proofs.Common.{refl, sym, ap, ◌∙◌, append-nil, append_assoc}
+use Rattle.std.proofs.lemmas.List.Elements.{filter-append}
 use Rattle.fare_table.specs.Fares.{Fares}
-use Rattle.tap_views.specs.Token.{bytes_of, token_cmp, token_eq}
-use Rattle.tap_views.specs.declared.token.Token.{Token}
+use Rattle.tap_views.specs.Token.{bytes_of}
 use Rattle.tap_views.specs.declared.encoder.TapFields.{TapFields}
 use Rattle.account_rule.specs.Replies.{reply}
 use Rattle.account_rule.specs.TokenRules.{rules_of}
 use Rattle.shard_book.specs.Entry.{is_of, own, tap_of, taps_of}
-use Rattle.shard_book.specs.Rising.{rising}
-use Rattle.shard_book.specs.Sums.{Sums, sums}
-use Rattle.shard_book.specs.SumsByKey.{sums_by_token, token_of, tokens}
 use Rattle.shard_book.specs.declared.entry.Entry.{Entry}
-use Rattle.tap_views.proofs.TokenLemmas.{same_token, token_eq-sym, token_cmp-total, token_cmp-ties}
-use Rattle.shard_book.proofs.RisingLemmas.{rising-is, rising-only}
 use Rattle.shard_book.specs.Plain.{answered, with_reply}
 use Rattle.settlement.specs.Posted.{posted, posted_after, unposted}
-use Rattle.settlement.specs.inside.Apart.{AreBelow, AreOthers}
-use Rattle.settlement.proofs.Placed.{all_by, all_map}
+use Rattle.settlement.specs.inside.Apart.{AreOthers}
 
 -- entries of other tokens decide no reply
 answered_others : (fares : Fares) (front earlier : List Entry) (entry : Entry)
@@ -55,9 +39,11 @@ after_others fares front earlier (tap ∷ taps) others =
     ∙ ap (λ (es : List Entry). entry ∷ es)
     (after_others fares front (earlier ++ entry ∷ []) taps others.1)
 
+-- the entries of two lists of taps, one after the other
 pub posted_append : (fares : Fares) (earlier : List Entry) (xs ys : List TapFields)
     → posted_after fares earlier (xs ++ ys)
-    ≡ posted_after fares earlier xs ++ posted_after fares (earlier ++ posted_after fares earlier xs) ys
+    ≡ posted_after fares earlier xs ++ posted_after fares (earlier ++ posted_after fares earlier xs)
+    ys
 unfolding posted_after
 posted_append fares earlier [] ys =
     ap (λ (es : List Entry). posted_after fares es ys) (sym (append-nil earlier))
@@ -77,159 +63,3 @@ posted_apart fares xs ys others =
     (sym (append-nil (posted fares xs)))
     ∙ ap (λ (es : List Entry). posted fares xs ++ es)
     (after_others fares (posted fares xs) [] ys others)
-
--- ---- sums by token
-all_recursion : {X : Type 0} (P : X → Type 0) (xs : List X) → All P xs → AllByRecursion P xs
-all_recursion P [] all = tt
-all_recursion P (x ∷ xs) all =
-    (All-head P x xs all, all_recursion P xs (All-tail P x xs all))
-
-recursion_append : {X : Type 0} (P : X → Type 0) (xs ys : List X) → AllByRecursion P xs
-    → AllByRecursion P ys → AllByRecursion P (xs ++ ys)
-recursion_append P [] ys front back = back
-recursion_append P (x ∷ xs) ys front back = (front.0, recursion_append P xs ys front.1 back)
-
-sorted_append : (xs ys : List Token) → IsStrictlySortedBy token_cmp xs
-    → IsStrictlySortedBy token_cmp ys → AreBelow xs ys → IsStrictlySortedBy token_cmp (xs ++ ys)
-unfolding IsStrictlySortedBy
-sorted_append [] ys front back below = back
-sorted_append (x ∷ xs) ys front back below = (
-  recursion_append (λ z. token_cmp x z ≡ Less) xs ys front.0
-      (all_recursion (λ z. token_cmp x z ≡ Less) ys
-      (All-head (λ t. All (λ o. token_cmp t o ≡ Less) ys) x xs below)),
-  sorted_append xs ys front.1 back
-      (All-tail (λ t. All (λ o. token_cmp t o ≡ Less) ys) x xs below),
-)
-
--- what holds of all keys holds of them in their order
-all_keys : (P : Token → Type 0) (keys : List Token) → All P keys → All P (rising token_cmp keys)
-unfolding rising
-all_keys P [] all = All-nil P
-all_keys P (key ∷ keys) all =
-    All-insert_key token_cmp key P (rising token_cmp keys)
-    (all_keys P keys (All-tail P key keys all)) (All-head P key keys all)
-
-below_keys : (xs ys : List Token) → AreBelow xs ys
-    → AreBelow (rising token_cmp xs) (rising token_cmp ys)
-below_keys xs ys below =
-    all_map (λ t. All (λ o. token_cmp t o ≡ Less) ys)
-    (λ t. All (λ o. token_cmp t o ≡ Less) (rising token_cmp ys)) (rising token_cmp xs)
-    (λ t all. all_keys (λ o. token_cmp t o ≡ Less) ys all)
-    (all_keys (λ t. All (λ o. token_cmp t o ≡ Less) ys) xs below)
-
-abbrev among : List Token → Token → Bool
-among list token = is_member (eq_by_cmp token_cmp) list token
-
-or_assoc : (a b c : Bool) → ((a || b) || c) ≡ (a || (b || c))
-or_assoc true b c = refl
-or_assoc false b c = refl
-
-among_append : (xs ys : List Token) (token : Token)
-    → among (xs ++ ys) token ≡ (among xs token || among ys token)
-among_append [] ys token = refl
-among_append (x ∷ xs) ys token =
-    ap (λ b. eq_by_cmp token_cmp token x || b) (among_append xs ys token)
-    ∙ sym (or_assoc (eq_by_cmp token_cmp token x) (among xs token) (among ys token))
-
-keys_joined : (xs ys : List Token) → AreBelow xs ys
-    → rising token_cmp xs ++ rising token_cmp ys ≡ rising token_cmp (xs ++ ys)
-keys_joined xs ys below =
-    let front = rising-is token_cmp-total token_cmp-ties xs in
-    let back = rising-is token_cmp-total token_cmp-ties ys in
-    rising-only token_cmp-total token_cmp-ties (xs ++ ys)
-    (rising token_cmp xs ++ rising token_cmp ys) (record {
-      rises = sorted_append (rising token_cmp xs) (rising token_cmp ys) front.rises back.rises
-          (below_keys xs ys below);
-      same = λ key.
-          among_append (rising token_cmp xs) (rising token_cmp ys) key
-          ∙ ap (λ b. b || among (rising token_cmp ys) key) (front.same key)
-          ∙ ap (λ b. among xs key || b) (back.same key)
-          ∙ sym (among_append xs ys key);
-    })
-
-pub less_apart : (a b : Token) → token_cmp a b ≡ Less → token_eq b a ≡ false
-less_apart a b less = ⊎_elim
-    (λ (same : token_eq b a ≡ true).
-    let is : b ≡ a = same_token b a same in
-    let tied : token_cmp a a ≡ Equal = tied_itself token_cmp-total a in
-    let here : token_cmp a a ≡ Less = ap (token_cmp a) (sym is) ∙ less in
-    absurd (let t : Equal ≡ Less = sym tied ∙ here in cc))
-    (λ (apart : token_eq b a ≡ false). apart)
-    (cases_Bool (token_eq b a))
-
-pub none_of : (token : Token) (entries : List Entry)
-    → All (λ t. token_eq t token ≡ false) (map token_of entries) → own token entries ≡ []
-unfolding own
-none_of token [] all = refl
-none_of token (entry ∷ entries) all =
-    let here = All-head (λ t. token_eq t token ≡ false) entry.token (map token_of entries) all in
-    ap (λ b. cond b (entry ∷ filter (is_of token) entries) (filter (is_of token) entries)) here
-    ∙ none_of token entries
-    (All-tail (λ t. token_eq t token ≡ false) entry.token (map token_of entries) all)
-
-abbrev paired : (Token → Sums) → List Token → List (Token × Sums)
-paired f keys = map (λ t. (t, f t)) keys
-
-pairs_same : (f g : Token → Sums) (keys : List Token) → All (λ t. f t ≡ g t) keys
-    → paired f keys ≡ paired g keys
-pairs_same f g [] all = refl
-pairs_same f g (key ∷ keys) all =
-    ap (λ (s : Sums). (key, s) ∷ paired f keys)
-    (All-head (λ t. f t ≡ g t) key keys all)
-    ∙ ap (λ (ps : List (Token × Sums)). (key, g key) ∷ ps)
-    (pairs_same f g keys (All-tail (λ t. f t ≡ g t) key keys all))
-
-paired_append : (f : Token → Sums) (xs ys : List Token)
-    → paired f (xs ++ ys) ≡ paired f xs ++ paired f ys
-paired_append f [] ys = refl
-paired_append f (x ∷ xs) ys =
-    ap (λ (ps : List (Token × Sums)). (x, f x) ∷ ps) (paired_append f xs ys)
-
-flipped : (xs ys : List Token) → AreBelow xs ys
-    → All (λ y. All (λ x. token_eq x y ≡ false) xs) ys
-flipped [] ys below = all_by (λ y. All (λ x. token_eq x y ≡ false) []) ys (λ j d h. All-nil (λ x. token_eq x _ ≡ false))
-flipped (x ∷ xs) ys below =
-    both ys (All-head (λ t. All (λ o. token_cmp t o ≡ Less) ys) x xs below)
-    (flipped xs ys (All-tail (λ t. All (λ o. token_cmp t o ≡ Less) ys) x xs below))
-  where
-    both : (zs : List Token) → All (λ z. token_cmp x z ≡ Less) zs
-        → All (λ z. All (λ w. token_eq w z ≡ false) xs) zs
-        → All (λ z. All (λ w. token_eq w z ≡ false) (x ∷ xs)) zs
-    both [] less rest = All-nil (λ z. All (λ w. token_eq w z ≡ false) (x ∷ xs))
-    both (z ∷ zs) less rest =
-        All-cons (λ y. All (λ w. token_eq w y ≡ false) (x ∷ xs)) z zs
-        (All-cons (λ w. token_eq w z ≡ false) x xs
-        (token_eq-sym x z ∙ less_apart x z (All-head (λ y. token_cmp x y ≡ Less) z zs less))
-        (All-head (λ y. All (λ w. token_eq w y ≡ false) xs) z zs rest))
-        (both zs (All-tail (λ y. token_cmp x y ≡ Less) z zs less)
-        (All-tail (λ y. All (λ w. token_eq w y ≡ false) xs) z zs rest))
-
-pub by_token_joined : (xs ys : List Entry) → AreBelow (map token_of xs) (map token_of ys)
-    → sums_by_token (xs ++ ys) ≡ sums_by_token xs ++ sums_by_token ys
-unfolding sums_by_token tokens own
-by_token_joined xs ys below =
-    let kx = map token_of xs in
-    let ky = map token_of ys in
-    let f : Token → Sums = λ t. sums (own t (xs ++ ys)) in
-    let front : All (λ t. f t ≡ sums (own t xs)) (rising token_cmp kx) =
-    all_map (λ t. All (λ o. token_cmp t o ≡ Less) ky) (λ t. f t ≡ sums (own t xs))
-    (rising token_cmp kx)
-    (λ t all. ap sums (filter-append (is_of t) xs ys
-    ∙ ap (λ (es : List Entry). filter (is_of t) xs ++ es)
-    (none_of t ys (all_map (λ o. token_cmp t o ≡ Less) (λ o. token_eq o t ≡ false) ky
-    (λ o less. less_apart t o less) all))
-    ∙ append-nil (filter (is_of t) xs)))
-    (all_keys (λ t. All (λ o. token_cmp t o ≡ Less) ky) kx below) in
-    let back : All (λ t. f t ≡ sums (own t ys)) (rising token_cmp ky) =
-    all_map (λ t. All (λ o. token_eq o t ≡ false) kx) (λ t. f t ≡ sums (own t ys))
-    (rising token_cmp ky)
-    (λ t all. ap sums (filter-append (is_of t) xs ys
-    ∙ ap (λ (es : List Entry). es ++ filter (is_of t) ys) (none_of t xs all)))
-    (all_keys (λ t. All (λ o. token_eq o t ≡ false) kx) ky (flipped kx ky below)) in
-    ap (λ (ks : List Token). paired f (rising token_cmp ks)) (map-append token_of xs ys)
-    ∙ ap (paired f) (sym (keys_joined kx ky below))
-    ∙ paired_append f (rising token_cmp kx) (rising token_cmp ky)
-    ∙ ap (λ (ps : List (Token × Sums)). ps ++ paired f (rising token_cmp ky))
-    (pairs_same f (λ t. sums (own t xs)) (rising token_cmp kx) front)
-    ∙ ap (λ (ps : List (Token × Sums)). paired (λ t. sums (own t xs)) (rising token_cmp kx) ++ ps)
-    (pairs_same f (λ t. sums (own t ys)) (rising token_cmp ky) back)

@@ -6,12 +6,15 @@ use Rattle.std.specs.List.{list_all}
 use Rattle.std.proofs.lemmas.List.Elements.{All-contains, All-contains_itself, All-filter}
 use Rattle.std.proofs.lemmas.List.Folds.{list_all_at}
 
+-- the first element is in the list
 pub first_there : {X : Type 0} (x : X) (xs : List X) → Contains (x ∷ xs) x
 first_there x xs = (zero, omega arith, refl)
 
+-- what is among the other elements is in the list
 pub later_there : {X : Type 0} (x z : X) (xs : List X) → Contains xs z → Contains (x ∷ xs) z
 later_there x z xs there = (suc there.0, omega (arith, there.1), there.2)
 
+-- what is in a list is the first element or among the others
 pub there_cases : {X : Type 0} (x z : X) (xs : List X) → Contains (x ∷ xs) z
     → (x ≡ z) ⊎ Contains xs z
 there_cases x z xs there = at there.0 there.1 there.2

@@ -6,7 +6,9 @@ use Rattle.tap_parts.specs.Parts.{taps_of_uploads}
 use Rattle.tap_parts.proofs.Early.{Early, file_early}
 use Rattle.tap_views.specs.Files.{AreGoodTapsOfEach}
 
-pub uploads_early : (uploads : List (List ℕ)) (taps : List (List Tap)) → AreGoodTapsOfEach uploads taps
+-- the taps of uploads have moments that fit
+pub uploads_early : (uploads : List (List ℕ)) (taps : List (List Tap))
+    → AreGoodTapsOfEach uploads taps
     → All Early (taps_of_uploads taps)
 uploads_early [] [] each = All-nil Early
 uploads_early [] (t ∷ ts) each = absurd each

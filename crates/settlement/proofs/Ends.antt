@@ -1,17 +1,17 @@
 -- How uploads end whose taps were added to parts.
-use Rattle.std.proofs.Common.{◌≡◌, ℕ, List, refl, ap}
-use Rattle.std.proofs.Common.{◌∙◌}
+use Rattle.std.proofs.Common.{◌≡◌, ℕ, List, refl, ap, ◌∙◌}
 use Rattle.tap_views.specs.declared.encoder.TapFields.{TapFields}
 use Rattle.tap_views.specs.Files.{AreGoodTaps, taps_of_batches}
 use Rattle.tap_parts.specs.Uploads.{IsUploadAddedBy}
 use Rattle.tap_parts.specs.declared.upload.UploadTaps.{UploadTaps}
-use Rattle.report_texts.specs.UploadEnds.{end_by}
-use Rattle.report_texts.specs.UploadEnds.{IsPlainEnd}
+use Rattle.report_texts.specs.UploadEnds.{end_by, IsPlainEnd}
 use Rattle.report_texts.specs.declared.upload_end.UploadEnd.{UploadEnd}
 
 -- the taps that were added are those of the upload
-pub taps_added : (part_of : List ℕ → ℕ) (upload : List ℕ) (old new : List (List TapFields)) (added : UploadTaps)
-    → (is : IsUploadAddedBy part_of upload old new added) → AreGoodTaps upload (taps_of_batches is.batches)
+pub taps_added : (part_of : List ℕ → ℕ) (upload : List ℕ) (old new : List (List TapFields))
+    (added : UploadTaps)
+    → (is : IsUploadAddedBy part_of upload old new added)
+    → AreGoodTaps upload (taps_of_batches is.batches)
 taps_added part_of upload old new added is = record {
   batches = is.batches;
   rest = is.read.rest;
@@ -20,7 +20,8 @@ taps_added part_of upload old new added is = record {
 }
 
 -- an upload whose taps are all posted ends so
-pub plain_end : (part_of : List ℕ → ℕ) (upload : List ℕ) (old new : List (List TapFields)) (added : UploadTaps)
+pub plain_end : (part_of : List ℕ → ℕ) (upload : List ℕ) (old new : List (List TapFields))
+    (added : UploadTaps)
     (end : UploadEnd) → IsUploadAddedBy part_of upload old new added
     → end ≡ end_by added.taps added.fault → IsPlainEnd upload end
 plain_end part_of upload old new added end is e = record {

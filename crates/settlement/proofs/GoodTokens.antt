@@ -1,5 +1,6 @@
 -- The good taps of uploads have tokens of 16 bytes.
 use Rattle.std.proofs.Common.{ℕ, List, All, None, map, ap, subst, ◌∙◌, []}
+use Rattle.std.proofs.lemmas.List.Elements.{All-weaker}
 use Rattle.fare_table.specs.Fares.{Fares}
 use Rattle.shard_book.specs.Visits.{AreEntriesOf}
 use Rattle.shard_book.specs.declared.entry.Entry.{Entry}
@@ -11,7 +12,6 @@ use Rattle.tap_parts.specs.Parts.{taps_of_uploads}
 use Rattle.fare_service.specs.Plain.{IsPlain}
 use Rattle.shard_book.proofs.PlainReplies.{bare, plain_bare}
 use Rattle.settlement.proofs.Own.{IsNamedBy}
-use Rattle.settlement.proofs.Placed.{all_map}
 use Rattle.settlement.proofs.Ranges.{has_token_bytes}
 use Rattle.tap_views.proofs.ReadingLemmas.{one_list}
 use Rattle.settlement.proofs.OwnEntries.{fields_named}
@@ -44,5 +44,5 @@ good_tokens uploads taps one_reading each some fields =
     (ap (map bare) plain.entries ∙ plain_bare some_fares [] (taps_of_uploads plain.taps)) in
     subst (λ ts. All HasTokenBytes (map fields_of (taps_of_uploads ts)))
     (one_list uploads plain.taps taps one_reading plain.each each)
-    (all_map IsNamedBy HasTokenBytes (map fields_of (taps_of_uploads plain.taps)) has_token_bytes
+    (All-weaker IsNamedBy HasTokenBytes has_token_bytes (map fields_of (taps_of_uploads plain.taps))
     names)

@@ -5,14 +5,13 @@ use Rattle.std.proofs.lemmas.List.Elements.{All-append}
 use Rattle.tap_views.specs.Encoding.{fields_of}
 use Rattle.tap_views.specs.Layout.{Tap}
 use Rattle.tap_views.specs.declared.encoder.TapFields.{TapFields}
-use Rattle.tap_parts.specs.Parts.{taps_at}
+use Rattle.tap_parts.specs.Parts.{taps_at, taps_of_uploads}
 use Rattle.tap_parts.proofs.Adding.{fields-append}
 use Rattle.tap_views.specs.Files.{AreGoodTaps}
+use Rattle.tap_views.proofs.Lists.{AllZip-append}
 use Rattle.report_texts.specs.UploadEnds.{IsPlainEnd}
 use Rattle.report_texts.specs.declared.upload_end.UploadEnd.{UploadEnd}
-use Rattle.fare_service.proofs.PlainRuns.{AllZip-append}
 use Rattle.settlement.specs.inside.SplitTaps.{AreInParts, in_part}
-use Rattle.tap_parts.specs.Parts.{taps_of_uploads}
 
 -- the taps of a part in two runs of uploads
 parts_joined : (part_of : List ℕ → ℕ) (part : ℕ) (one other : List (List Tap))
@@ -25,7 +24,8 @@ parts_joined part_of part one other =
     ∙ fields-append part_of part (taps_of_uploads one) (taps_of_uploads other)
 
 -- a run of uploads, and then the next run
-pub both_split : (part_of : List ℕ → ℕ) (parts : ℕ) (one other : List (List ℕ)) (lists more : List (List (List TapFields)))
+pub both_split : (part_of : List ℕ → ℕ) (parts : ℕ) (one other : List (List ℕ))
+    (lists more : List (List (List TapFields)))
     (ends later : List UploadEnd)
     → AreInParts part_of parts one lists ends → AreInParts part_of parts other more later
     → AreInParts part_of parts (one ++ other) (lists ++ more) (ends ++ later)

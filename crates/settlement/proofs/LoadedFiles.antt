@@ -5,6 +5,7 @@ use Rattle.std.proofs.lemmas.List.{ext_get_or}
 use Rattle.std.proofs.lemmas.Option.{get_or_from_slice_get}
 use Rattle.settlement.specs.Reading.{AreRead}
 
+-- files that were read one after another are all files
 pub loaded_files : (all files : List (List ℕ))
     → AreRead (λ upload bytes. slice_get all upload ≡ Some bytes) 0 (length all) files → files ≡ all
 loaded_files all files read =

@@ -1,5 +1,5 @@
 -- The taps of one token among taps: collected from uploads, and posted alone.
-use Rattle.std.proofs.Common.{◌≡◌, ℕ, Bool, true, false, cond, List, ◌∷◌, ◌++◌, map, filter, refl}
+use Rattle.std.proofs.Common.{◌≡◌, ℕ, Bool, true, false, cond, List, ◌∷◌, ◌++◌, map, refl}
 use Rattle.std.proofs.Common.{sym, ap, ◌∙◌, append-nil, append_assoc, []}
 use Rattle.std.proofs.lemmas.List.{map-append}
 use Rattle.std.proofs.lemmas.List.Concat.{flat_map-append}
@@ -16,11 +16,12 @@ use Rattle.account_rule.specs.TokenRules.{rules_of}
 use Rattle.shard_book.specs.Entry.{is_of, own, tap_of, taps_of}
 use Rattle.shard_book.specs.declared.entry.Entry.{Entry}
 use Rattle.tap_views.proofs.TokenLemmas.{same_token}
+use Rattle.tap_views.proofs.Lists.{AllZip-append}
 use Rattle.tap_parts.specs.Parts.{taps_of_uploads}
 use Rattle.report_texts.specs.UploadEnds.{IsPlainEnd}
 use Rattle.shard_book.specs.Plain.{answered, with_reply}
+use Rattle.shard_book.proofs.OwnEntries.{own-append, own_other, own_same}
 use Rattle.report_texts.specs.declared.upload_end.UploadEnd.{UploadEnd}
-use Rattle.fare_service.proofs.PlainRuns.{AllZip-append}
 use Rattle.settlement.specs.Posted.{only, posted, posted_after, token_of_tap, unposted}
 use Rattle.settlement.specs.inside.OwnTaps.{AreOwnAdded, AreOwnTaps}
 
@@ -102,22 +103,6 @@ upload_own token uploads upload old new ends end are is = record {
 }
 
 -- ---- posted alone
-own_here : (token : Token) (entry : Entry) (entries : List Entry) → is_of token entry ≡ true
-    → own token (entry ∷ entries) ≡ entry ∷ own token entries
-unfolding own
-own_here token entry entries is =
-    ap (λ b. cond b (entry ∷ filter (is_of token) entries) (filter (is_of token) entries)) is
-
-own_not : (token : Token) (entry : Entry) (entries : List Entry) → is_of token entry ≡ false
-    → own token (entry ∷ entries) ≡ own token entries
-unfolding own
-own_not token entry entries is =
-    ap (λ b. cond b (entry ∷ filter (is_of token) entries) (filter (is_of token) entries)) is
-
-own_both : (token : Token) (xs ys : List Entry)
-    → own token (xs ++ ys) ≡ own token xs ++ own token ys
-unfolding own
-own_both token xs ys = filter-append (is_of token) xs ys
 
 -- a reply is told by the token's own entries alone
 answered_own : (fares : Fares) (token : Token) (earlier alone : List Entry) (entry : Entry)
@@ -139,17 +124,17 @@ more_here : (token : Token) (earlier alone : List Entry) (entry : Entry)
     → own token earlier ≡ own token alone
     → own token (earlier ++ entry ∷ []) ≡ own token (alone ++ entry ∷ [])
 more_here token earlier alone entry same =
-    own_both token earlier (entry ∷ [])
+    own-append token earlier (entry ∷ [])
     ∙ ap (λ (es : List Entry). es ++ own token (entry ∷ [])) same
-    ∙ sym (own_both token alone (entry ∷ []))
+    ∙ sym (own-append token alone (entry ∷ []))
 
 more_not : (token : Token) (earlier alone : List Entry) (entry : Entry)
     → is_of token entry ≡ false → own token earlier ≡ own token alone
     → own token (earlier ++ entry ∷ []) ≡ own token alone
 unfolding own
 more_not token earlier alone entry is same =
-    own_both token earlier (entry ∷ [])
-    ∙ ap (λ (es : List Entry). own token earlier ++ es) (own_not token entry [] is)
+    own-append token earlier (entry ∷ [])
+    ∙ ap (λ (es : List Entry). own token earlier ++ es) (own_other token entry [] is)
     ∙ append-nil (own token earlier) ∙ same
 
 own_after : (fares : Fares) (token : Token) (earlier alone : List Entry) (taps : List TapFields)
@@ -171,19 +156,21 @@ own_after fares token earlier alone (tap ∷ taps) same =
         let rest = posted_after fares (earlier ++ entry ∷ []) taps in
         let e = answered_own fares token earlier alone (unposted tap)
         (same_token (token_of_tap tap) token is) same in
-        own_here token entry rest (answered_of fares token earlier tap true is)
+        own_same token entry rest (answered_of fares token earlier tap true is)
         ∙ ap (λ (es : List Entry). entry ∷ es)
         (more (earlier ++ entry ∷ []) (alone ++ entry ∷ [])
         (more_here token earlier alone entry same))
         ∙ ap (λ (n : Entry). n ∷ posted_after fares (alone ++ n ∷ []) (only token taps)) e
-        ∙ sym (ap (λ (ts : List TapFields). posted_after fares alone ts) (only_here token tap taps is))
+        ∙ sym (ap (λ (ts : List TapFields). posted_after fares alone ts)
+        (only_here token tap taps is))
     by_test false is more =
         let entry = answered fares earlier (unposted tap) in
         let rest = posted_after fares (earlier ++ entry ∷ []) taps in
         let not = answered_of fares token earlier tap false is in
-        own_not token entry rest not
+        own_other token entry rest not
         ∙ more (earlier ++ entry ∷ []) alone (more_not token earlier alone entry not same)
-        ∙ sym (ap (λ (ts : List TapFields). posted_after fares alone ts) (only_not token tap taps is))
+        ∙ sym (ap (λ (ts : List TapFields). posted_after fares alone ts)
+        (only_not token tap taps is))
 
 -- the entries of a token are those of its taps, posted alone
 pub own_posted : (fares : Fares) (token : Token) (taps : List TapFields)

@@ -1,7 +1,7 @@
 -- Bills of parts, and of chunks of parts, one behind the other.
 use Rattle.std.proofs.Common.{◌≡◌, ℕ, suc, ◌+◌, ◌*◌, ◌/◌, ◌%◌, min, ◌<◌, ◌≤◌, ◌^◌, List, ◌∷◌, ◌++◌}
-use Rattle.std.proofs.Common.{length, map, flat_map, take, drop, refl, sym, ap, subst, ◌∙◌, arith, All}
-use Rattle.std.proofs.Common.{append-nil, append_assoc, length-append, drop-drop, []}
+use Rattle.std.proofs.Common.{length, map, flat_map, take, drop, refl, sym, ap, subst, ◌∙◌, arith}
+use Rattle.std.proofs.Common.{All, append-nil, append_assoc, length-append, drop-drop, []}
 use Rattle.std.specs.Prelude.{Result, Ok, IfOk, slice_index_or}
 use Rattle.std.specs.declared.cmp.Ordering.TheVariants.{Less}
 use Rattle.std.proofs.lemmas.Grind.{div_ceil_times}
@@ -13,17 +13,16 @@ use Rattle.tap_views.specs.Token.{token_cmp}
 use Rattle.tap_views.specs.declared.memory.NoMemory.{NoMemory}
 use Rattle.tap_views.specs.declared.token.Token.{Token}
 use Rattle.tap_views.specs.declared.encoder.TapFields.{TapFields}
+use Rattle.tap_views.proofs.Lists.{All-split, AllZip-append}
 use Rattle.tap_parts.specs.Canonical.{IsCanonical}
 use Rattle.shard_book.specs.SumsByKey.{token_of}
 use Rattle.shard_book.specs.declared.entry.Entry.{Entry}
-use Rattle.fare_service.proofs.PlainLists.{All-split}
-use Rattle.fare_service.proofs.PlainRuns.{AllZip-append}
 use Rattle.settlement.specs.inside.Apart.{AreBelow}
 use Rattle.settlement.specs.Bills.{IsBillOf}
 use Rattle.settlement.specs.Posted.{posted, token_of_tap}
 use Rattle.settlement.specs.declared.bill.Bill.{Bill}
-use Rattle.settlement.specs.inside.Billing.{ArePartsInOrder, HasBillRoom, HaveBillRoom, IsBillOfParts}
-use Rattle.settlement.specs.inside.Billing.{IsPartBilled}
+use Rattle.settlement.specs.inside.Billing.{ArePartsInOrder, HasBillRoom, HaveBillRoom}
+use Rattle.settlement.specs.inside.Billing.{IsBillOfParts, IsPartBilled}
 use Rattle.settlement.proofs.Ranges.{AreTokensBelow, below_all, lists_in_order}
 use Rattle.settlement.proofs.TokenRuns.{posted_length, tokens_posted}
 
@@ -108,10 +107,12 @@ part_added fares front part bill new order one is =
     let lists = lists_in_order (front ++ part ∷ []) (one.lists ++ is.list ∷ []) zip order in
     let apart = (split_order one.lists (is.list ∷ []) lists).2 in
     let below : AreBelow (map token_of before) (map token_of_tap is.list) =
-    subst (λ (ts : List Token). AreBelow ts (map token_of_tap is.list)) (sym (each_tokens fares one.lists))
+    subst (λ (ts : List Token). AreBelow ts (map token_of_tap is.list))
+    (sym (each_tokens fares one.lists))
     (subst (λ (ts : List TapFields). AreTokensBelow (flat_map (λ l. l) one.lists) ts)
     (append-nil is.list) (cross one.lists (is.list ∷ []) apart)) in
-    let whole : flat_map (posted fares) (one.lists ++ is.list ∷ []) ≡ before ++ posted fares is.list =
+    let whole : flat_map (posted fares) (one.lists ++ is.list ∷ [])
+    ≡ before ++ posted fares is.list =
     flat_map-append (posted fares) one.lists (is.list ∷ [])
     ∙ ap (λ (es : List Entry). before ++ es) (append-nil (posted fares is.list)) in
     let few = one.few in
@@ -208,7 +209,8 @@ module _ (fares : Fares) where
   chunks_billed size parts n (result ∷ results) all each =
       let here : n + 0 ≡ n = omega arith in
       let next : (n + 1) * size ≡ n * size + size = grind arith in (
-        subst (λ (m : ℕ). IfOk result (IsBillOfParts fares (take size (drop (m * size) parts)))) here
+        subst (λ (m : ℕ). IfOk result (IsBillOfParts fares (take size (drop (m * size) parts))))
+            here
             (each 0 result (omega arith)),
         subst (λ (ps : List (List TapFields)). AreBilled size ps results)
             (ap (λ (m : ℕ). drop m parts) next ∙ sym (drop-drop size (n * size) parts))

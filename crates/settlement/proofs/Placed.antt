@@ -1,7 +1,6 @@
 -- Settled files: whose taps are where, and in which order.
-use Rattle.std.proofs.Common.{◌≡◌, ℕ, suc, ◌<◌, ◌≤◌, ◌==◌, List, ◌∷◌, ◌++◌, length, []}
-use Rattle.std.proofs.Common.{get_or, true, false, cond, sym, ap, ◌∙◌}
-use Rattle.std.proofs.Common.{arith, All, inl, inr}
+use Rattle.std.proofs.Common.{◌≡◌, suc, ◌<◌, ◌≤◌, ◌==◌, List, ◌∷◌, [], true, false, cond, sym, ap}
+use Rattle.std.proofs.Common.{◌∙◌, arith, All, inl, inr}
 use Rattle.std.specs.Prelude.{◌⊎◌}
 use Rattle.std.specs.Cmp.Lexicographic.{slice_cmp}
 use Rattle.std.specs.List.Sorted.{IsSorted}
@@ -10,7 +9,7 @@ use Rattle.std.specs.declared.cmp.Ordering.TheVariants.{Less, Equal, Greater}
 use Rattle.std.specs.Cmp.{tied_itself}
 use Rattle.std.proofs.lemmas.Bool.{cases_lt, lt-ltb}
 use Rattle.std.proofs.lemmas.Cmp.{nat_list_cmp_total}
-use Rattle.std.proofs.lemmas.List.Elements.{All-head, All-tail, All-nil, All-cons, All-append}
+use Rattle.std.proofs.lemmas.List.Elements.{All-weaker}
 use Rattle.std.proofs.lemmas.List.Sorted.{ranks_by, sorted_far}
 use Rattle.tap_views.specs.declared.encoder.TapFields.{TapFields}
 use Rattle.tap_parts.specs.Canonical.{tap_cmp}
@@ -30,26 +29,7 @@ NotLess a b = is_lt (tap_cmp b a) ≡ false
 abbrev pub Rises : TapFields → TapFields → Type 0
 Rises a b = a.token ≡ b.token → NotLess a b
 
-pub pairs_append : {X : Type 0} (R : X → X → Type 0) (xs ys : List X) → Pairs R xs → Pairs R ys
-    → All (λ x. All (R x) ys) xs → Pairs R (xs ++ ys)
-pairs_append R [] ys one other cross = other
-pairs_append R (x ∷ xs) ys one other cross = (
-  All-append (R x) xs ys one.0 (All-head (λ z. All (R z) ys) x xs cross),
-  pairs_append R xs ys one.1 other (All-tail (λ z. All (R z) ys) x xs cross),
-)
-
-pub all_by : {X : Type 0} (P : X → Type 0) (xs : List X)
-    → ((j : ℕ) (d : X) → j < length xs → P (get_or xs j d)) → All P xs
-all_by P [] each = All-nil P
-all_by P (x ∷ xs) each = All-cons P x xs (each 0 x (omega arith))
-    (all_by P xs (λ j d h. each (suc j) d (omega (arith, h))))
-
-pub all_map : {X : Type 0} (P Q : X → Type 0) (xs : List X) → ((x : X) → P x → Q x) → All P xs
-    → All Q xs
-all_map P Q [] f all = All-nil Q
-all_map P Q (x ∷ xs) f all =
-    All-cons Q x xs (f x (All-head P x xs all)) (all_map P Q xs f (All-tail P x xs all))
-
+-- of one token, a tap that is not less is not earlier
 pub no_earlier : (a b : TapFields) → NotLess a b → a.token ≡ b.token → a.moment ≤ b.moment
 no_earlier a b not same = by_order (cases_lt b.moment a.moment)
   where
@@ -67,10 +47,11 @@ no_earlier a b not same = by_order (cases_lt b.moment a.moment)
         ∙ ap (λ r. ordering_then r validators) less in
         absurd (let t : true ≡ false = sym (ap is_lt whole) ∙ not in cc)
 
+-- no tap of a sorted list is less than one before it
 pub sorted_pairs : (xs : List TapFields) → IsSorted tap_cmp xs → Pairs NotLess xs
 sorted_pairs [] up = tt
 sorted_pairs (x ∷ xs) up = (
-  all_by (NotLess x) xs (λ j d h.
+  (λ j d h.
       sorted_far (λ a b. is_lt (tap_cmp a b)) (ranks_by tap_cmp_total (λ (t : TapFields). t)) (x
       ∷ xs) up 0 (suc j) d (omega arith) (omega (arith, h))),
   sorted_pairs xs (tail tap_cmp tap_cmp_total tap_cmp_exact x xs up),
@@ -79,7 +60,8 @@ sorted_pairs (x ∷ xs) up = (
 pub pairs_map : {X : Type 0} (R S : X → X → Type 0) (xs : List X) → ((x y : X) → R x y → S x y)
     → Pairs R xs → Pairs S xs
 pairs_map R S [] f pairs = tt
-pairs_map R S (x ∷ xs) f pairs = (all_map (R x) (S x) xs (f x) pairs.0, pairs_map R S xs f pairs.1)
+pairs_map R S (x ∷ xs) f pairs =
+    (All-weaker (R x) (S x) (f x) xs pairs.0, pairs_map R S xs f pairs.1)
 
 -- in order, and so in order within each token
 pub all_rising : (xs : List TapFields) → IsSorted tap_cmp xs → Pairs Rises xs

@@ -1,19 +1,21 @@
 -- Parts that are ranges of tokens: their histories, one behind the other, are that of all taps.
-use Rattle.std.proofs.Common.{◌≡◌, ℕ, zero, suc, ◌<◌, ◌≤◌, false, List, ◌∷◌, ◌++◌, []}
+use Rattle.std.proofs.Common.{◌≡◌, ℕ, suc, ◌<◌, ◌≤◌, false, List, ◌∷◌, ◌++◌, []}
 use Rattle.std.proofs.Common.{length, get_or, map, flat_map, refl, sym, ap, subst, ◌∙◌, arith, All}
-use Rattle.std.proofs.Common.{inl, inr, w64, take, drop, ◌^◌}
+use Rattle.std.proofs.Common.{inl, inr, w64, take, drop}
 use Rattle.std.specs.Prelude.{◌⊎◌}
 use Rattle.std.specs.Cmp.Lexicographic.{slice_cmp}
-use Rattle.std.specs.Int.{byte_at, bytes_high_first, from_be_bytes, to_be_bytes}
+use Rattle.std.specs.Int.{from_be_bytes}
 use Rattle.std.specs.List.{AllZip}
 use Rattle.std.specs.Ordering.{nat_cmp, ordering_reverse}
 use Rattle.std.specs.declared.cmp.Ordering.TheVariants.{Less, Greater}
 use Rattle.std.proofs.lemmas.Bool.{cases_lt}
 use Rattle.std.proofs.lemmas.Cmp.{nat_list_cmp_total}
 use Rattle.std.proofs.lemmas.List.{map-append}
-use Rattle.std.proofs.lemmas.List.Elements.{All-append, All-cons, All-head, All-map, All-nil, All-tail}
+use Rattle.std.proofs.lemmas.List.Elements.{All-append, All-cons, All-head, All-map, All-nil}
+use Rattle.std.proofs.lemmas.List.Elements.{All-tail, All-weaker}
 use Rattle.std.proofs.lemmas.List.Sorted.{All-permutation}
 use Rattle.tap_views.proofs.TokenBytes.{back_byte, front_byte, token-order, two_numbers}
+use Rattle.tap_views.proofs.TokenBytes.{eight_bytes, token_bytes, token_length}
 use Rattle.fare_table.specs.Fares.{Fares}
 use Rattle.tap_views.specs.Token.{bytes_of, token_cmp, token_eq}
 use Rattle.tap_views.specs.declared.token.Token.{Token}
@@ -25,21 +27,18 @@ use Rattle.tap_parts.proofs.RangeLemmas.{counts_rise}
 use Rattle.tap_parts.proofs.TokenOrder.{number_order}
 use Rattle.shard_book.specs.SumsByKey.{token_of}
 use Rattle.shard_book.specs.declared.entry.Entry.{Entry}
-use Rattle.tap_views.proofs.TokenLemmas.{token_eq-sym}
+use Rattle.tap_views.proofs.TokenLemmas.{token_eq-sym, less_apart}
+use Rattle.tap_views.proofs.Lists.{All-unmap}
 use Rattle.shard_book.specs.Plain.{token_of_bytes}
+use Rattle.shard_book.proofs.SumsByToken.{none_of}
 use Rattle.settlement.specs.inside.Apart.{AreBelow, AreOthers}
 use Rattle.settlement.specs.Posted.{HasName, posted, posted_after, token_of_tap}
 use Rattle.settlement.specs.inside.Billing.{ArePartsInOrder}
 use Rattle.settlement.proofs.TokenRuns.{tokens_posted}
-use Rattle.settlement.proofs.Concats.{less_apart, none_of, posted_apart}
+use Rattle.settlement.proofs.Concats.{posted_apart}
 use Rattle.settlement.proofs.Own.{IsNamedBy}
-use Rattle.settlement.proofs.Placed.{all_map}
 
 -- ---- tokens of 16 bytes
-eight_bytes : (bytes : List ℕ) → ((i : ℕ) → get_or bytes i 0 < 256)
-    → from_be_bytes w64 bytes < 2 ^ 64
-eight_bytes bytes small =
-    omega (arith, small 0, small 1, small 2, small 3, small 4, small 5, small 6, small 7)
 
 pub has_name : (tap : TapFields) → HasTokenBytes tap → HasName tap
 unfolding bytes_of
@@ -52,38 +51,6 @@ has_name tap is = record {
     low = eight_bytes (drop 8 tap.token) (back_byte tap.token 8 is.bytes);
   };
 }
-
-abbrev AreBytes : List ℕ → Type 0
-AreBytes [] = Unit {0}
-AreBytes (b ∷ bytes) = (b < 256) × AreBytes bytes
-
-bytes_read : (bytes : List ℕ) → AreBytes bytes → (i : ℕ) → get_or bytes i 0 < 256
-bytes_read [] are i = omega arith
-bytes_read (b ∷ bytes) are zero = are.0
-bytes_read (b ∷ bytes) are (suc i) = bytes_read bytes are.1 i
-
-byte_small : (k n : ℕ) → byte_at k n < 256
-byte_small zero n = omega arith
-byte_small (suc k) n = omega arith
-
-high_first_bytes : (k n : ℕ) (more : List ℕ) → AreBytes more
-    → AreBytes (bytes_high_first k n ++ more)
-high_first_bytes zero n more are = are
-high_first_bytes (suc k) n more are = (byte_small k n, high_first_bytes k n more are)
-
-token_bytes : (token : Token) → (i : ℕ) → get_or (bytes_of token) i 0 < 256
-unfolding bytes_of
-token_bytes token =
-    bytes_read (bytes_of token)
-    (high_first_bytes 8 token.high (to_be_bytes w64 token.low)
-    (subst AreBytes (append_nil_8 token.low) (high_first_bytes 8 token.low [] tt)))
-  where
-    append_nil_8 : (n : ℕ) → bytes_high_first 8 n ++ [] ≡ to_be_bytes w64 n
-    append_nil_8 n = refl
-
-token_length : (token : Token) → length (bytes_of token) ≡ 16
-unfolding bytes_of
-token_length token = refl
 
 -- a token that its bytes name has 16 bytes
 pub has_token_bytes : (tap : TapFields) → IsNamedBy tap → HasTokenBytes tap
@@ -126,47 +93,41 @@ AreTapsBelow taps others =
     All (λ (tap : TapFields). All (λ (other : TapFields).
     token_cmp (token_of_tap tap) (token_of_tap other) ≡ Less) others) taps
 
-pub unmapped : (P : Token → Type 0) (taps : List TapFields) → All P (map token_of_tap taps)
-    → All (λ (tap : TapFields). P (token_of_tap tap)) taps
-unmapped P [] all = All-nil (λ (tap : TapFields). P (token_of_tap tap))
-unmapped P (tap ∷ taps) all =
-    All-cons (λ (t : TapFields). P (token_of_tap t)) tap taps
-    (All-head P (token_of_tap tap) (map token_of_tap taps) all)
-    (unmapped P taps (All-tail P (token_of_tap tap) (map token_of_tap taps) all))
-
 pub to_tokens : (taps others : List TapFields) → AreTapsBelow taps others
     → AreBelow (map token_of_tap taps) (map token_of_tap others)
 to_tokens taps others below =
     All-map (λ token. All (λ other. token_cmp token other ≡ Less) (map token_of_tap others))
     token_of_tap taps
-    (all_map (λ (tap : TapFields). All (λ (other : TapFields).
+    (All-weaker (λ (tap : TapFields). All (λ (other : TapFields).
     token_cmp (token_of_tap tap) (token_of_tap other) ≡ Less) others)
     (λ (tap : TapFields). All (λ other. token_cmp (token_of_tap tap) other ≡ Less)
-    (map token_of_tap others)) taps
-    (λ tap all. All-map (λ other. token_cmp (token_of_tap tap) other ≡ Less) token_of_tap others all)
+    (map token_of_tap others))
+    (λ tap all. All-map (λ other. token_cmp (token_of_tap tap) other ≡ Less) token_of_tap others
+    all) taps
     below)
 
 pub to_taps : (taps others : List TapFields)
     → AreBelow (map token_of_tap taps) (map token_of_tap others) → AreTapsBelow taps others
 to_taps taps others below =
-    all_map (λ (tap : TapFields). All (λ other. token_cmp (token_of_tap tap) other ≡ Less)
-    (map token_of_tap others))
-    (λ (tap : TapFields). All (λ (other : TapFields).
-    token_cmp (token_of_tap tap) (token_of_tap other) ≡ Less) others) taps
-    (λ tap all. unmapped (λ other. token_cmp (token_of_tap tap) other ≡ Less) others all)
-    (unmapped (λ token. All (λ other. token_cmp token other ≡ Less) (map token_of_tap others)) taps
+    All-weaker (λ (tap : TapFields). All (λ other. token_cmp (token_of_tap tap) other ≡ Less)
+    (map token_of_tap others)) (λ (tap : TapFields). All (λ (other : TapFields).
+    token_cmp (token_of_tap tap) (token_of_tap other) ≡ Less) others)
+    (λ tap all. All-unmap (λ other. token_cmp (token_of_tap tap) other ≡ Less) token_of_tap others
+    all) taps
+    (All-unmap (λ token. All (λ other. token_cmp token other ≡ Less) (map token_of_tap others))
+    token_of_tap taps
     below)
 
 -- the order of the taps is of no account
 moved_below : (taps others list more : List TapFields) → IsCanonical taps list
     → IsCanonical others more → AreTapsBelow taps others → AreTapsBelow list more
 moved_below taps others list more one other below =
-    all_map (λ (tap : TapFields). All (λ (o : TapFields).
+    All-weaker (λ (tap : TapFields). All (λ (o : TapFields).
     token_cmp (token_of_tap tap) (token_of_tap o) ≡ Less) others)
     (λ (tap : TapFields). All (λ (o : TapFields).
-    token_cmp (token_of_tap tap) (token_of_tap o) ≡ Less) more) list
+    token_cmp (token_of_tap tap) (token_of_tap o) ≡ Less) more)
     (λ tap all. All-permutation (λ (o : TapFields).
-    token_cmp (token_of_tap tap) (token_of_tap o) ≡ Less) others more other.moved all)
+    token_cmp (token_of_tap tap) (token_of_tap o) ≡ Less) others more other.moved all) list
     (All-permutation (λ (tap : TapFields). All (λ (o : TapFields).
     token_cmp (token_of_tap tap) (token_of_tap o) ≡ Less) others) taps list one.moved below)
 
@@ -181,13 +142,15 @@ moved_tokens taps others list more one other below =
 -- canonical lists of parts in order are in order
 zip_below : (part list : List TapFields) (parts lists : List (List TapFields))
     → IsCanonical part list → AllZip IsCanonical parts lists
-    → All (λ later. AreTokensBelow part later) parts → All (λ later. AreTokensBelow list later) lists
+    → All (λ later. AreTokensBelow part later) parts
+    → All (λ later. AreTokensBelow list later) lists
 zip_below part list [] [] is zip below = All-nil (λ later. AreTokensBelow list later)
 zip_below part list [] (l ∷ lists) is zip below = absurd zip
 zip_below part list (p ∷ parts) [] is zip below = absurd zip
 zip_below part list (p ∷ parts) (l ∷ lists) is zip below =
     All-cons (λ later. AreTokensBelow list later) l lists
-    (moved_tokens part p list l is zip.0 (All-head (λ later. AreTokensBelow part later) p parts below))
+    (moved_tokens part p list l is zip.0
+    (All-head (λ later. AreTokensBelow part later) p parts below))
     (zip_below part list parts lists is zip.1
     (All-tail (λ later. AreTokensBelow part later) p parts below))
 
@@ -217,9 +180,11 @@ others_of entries (tap ∷ taps) below = (
         (token_eq-sym t (token_of_tap tap)
         ∙ less_apart t (token_of_tap tap)
         (All-head (λ o. token_cmp t o ≡ Less) (token_of_tap tap) (map token_of_tap taps)
-        (All-head (λ s. All (λ o. token_cmp s o ≡ Less) (map token_of_tap (tap ∷ taps))) t tokens all)))
+        (All-head (λ s. All (λ o. token_cmp s o ≡ Less) (map token_of_tap (tap ∷ taps))) t tokens
+        all)))
         (heads tokens
-        (All-tail (λ s. All (λ o. token_cmp s o ≡ Less) (map token_of_tap (tap ∷ taps))) t tokens all))
+        (All-tail (λ s. All (λ o. token_cmp s o ≡ Less) (map token_of_tap (tap ∷ taps))) t tokens
+        all))
 
     tails : (tokens : List Token) → AreBelow tokens (map token_of_tap (tap ∷ taps))
         → AreBelow tokens (map token_of_tap taps)
@@ -227,9 +192,11 @@ others_of entries (tap ∷ taps) below = (
     tails (t ∷ tokens) all =
         All-cons (λ s. All (λ o. token_cmp s o ≡ Less) (map token_of_tap taps)) t tokens
         (All-tail (λ o. token_cmp t o ≡ Less) (token_of_tap tap) (map token_of_tap taps)
-        (All-head (λ s. All (λ o. token_cmp s o ≡ Less) (map token_of_tap (tap ∷ taps))) t tokens all))
+        (All-head (λ s. All (λ o. token_cmp s o ≡ Less) (map token_of_tap (tap ∷ taps))) t tokens
+        all))
         (tails tokens
-        (All-tail (λ s. All (λ o. token_cmp s o ≡ Less) (map token_of_tap (tap ∷ taps))) t tokens all))
+        (All-tail (λ s. All (λ o. token_cmp s o ≡ Less) (map token_of_tap (tap ∷ taps))) t tokens
+        all))
 
 -- the history of taps below others, and of these, is both histories
 pub posted_below : (fares : Fares) (taps others : List TapFields) → AreTokensBelow taps others
@@ -294,7 +261,8 @@ pub in_order_at : (parts : List (List TapFields))
 in_order_at [] at = tt
 in_order_at (part ∷ parts) at = (
   firsts parts (λ q below. at 0 (suc q) (omega arith) (omega (arith, below))),
-  in_order_at parts (λ p q less below. at (suc p) (suc q) (omega (arith, less)) (omega (arith, below))),
+  in_order_at parts
+      (λ p q less below. at (suc p) (suc q) (omega (arith, less)) (omega (arith, below))),
 )
   where
     firsts : (later : List (List TapFields))

@@ -1,6 +1,6 @@
 -- Uploads that were read one after another.
-use Rattle.std.proofs.Common.{◌≡◌, ℕ, ◌+◌, ◌-◌, ◌<◌, ◌≤◌, List, ◌∷◌, ◌++◌, All, length, map, get_or, []}
-use Rattle.std.proofs.Common.{ap, ◌∙◌, sym, subst, arith, inl, inr, length-append}
+use Rattle.std.proofs.Common.{◌≡◌, ℕ, ◌+◌, ◌-◌, ◌<◌, ◌≤◌, List, ◌∷◌, ◌++◌, All, length, map, get_or}
+use Rattle.std.proofs.Common.{[], ap, ◌∙◌, sym, subst, arith, inl, inr, length-append}
 use Rattle.std.specs.Prelude.{◌⊎◌}
 use Rattle.std.proofs.lemmas.Bool.{cases_lt}
 use Rattle.std.proofs.lemmas.List.{get_or_append_left, get_or-append-add, map-append}
@@ -17,8 +17,8 @@ use Rattle.tap_parts.specs.declared.upload.UploadTaps.{UploadTaps}
 use Rattle.tap_parts.proofs.Adding.{none_added, batch_added}
 use Rattle.report_texts.specs.UploadEnds.{IsPlainEnd, end_by}
 use Rattle.report_texts.specs.declared.upload_end.UploadEnd.{UploadEnd}
-use Rattle.fare_service.proofs.PlainRuns.{AllZip-append}
 use Rattle.tap_views.specs.declared.token.Token.{Token}
+use Rattle.tap_views.proofs.Lists.{AllZip-append}
 use Rattle.settlement.specs.Reading.{AreRead}
 use Rattle.settlement.specs.inside.OwnTaps.{AreOwnAdded, IsRunOwn}
 use Rattle.settlement.specs.inside.SplitTaps.{HasGoodTokens, IsRunAdded, IsRunInParts}
@@ -91,7 +91,8 @@ no_run may_be start part_of parts = record {
 }
 
 pub run_more : (may_be : ℕ → List ℕ → Type 0) (start upload : ℕ) (part_of : List ℕ → ℕ)
-    (old now new : List (List TapFields)) (ends : List UploadEnd) (file : List ℕ) (added : UploadTaps)
+    (old now new : List (List TapFields)) (ends : List UploadEnd) (file : List ℕ)
+    (added : UploadTaps)
     (end : UploadEnd) → IsRunAdded may_be start upload part_of old now ends → may_be upload file
     → HasGoodTokens file → IsUploadAddedBy part_of file now new added
     → end ≡ end_by added.taps added.fault

@@ -3,23 +3,22 @@ use Rattle.std.proofs.Common.{◌≡◌, ◌≢◌, ℕ, ◌+◌, ◌-◌, ◌<�
 use Rattle.std.proofs.Common.{map, take, drop, ap, sym, subst, ◌∙◌, arith, All, length-append}
 use Rattle.std.specs.List.Sorted.{IsSorted}
 use Rattle.std.specs.declared.cmp.Ordering.TheVariants.{Less}
-use Rattle.std.proofs.lemmas.List.{get_or-drop, get_or-take, get_or_default, length-drop, length-take}
-use Rattle.std.proofs.lemmas.List.{length-take-le}
-use Rattle.std.proofs.lemmas.List.{map-append, take_all}
-use Rattle.std.proofs.lemmas.List.Elements.{All-append, All-drop, All-map, All-take}
+use Rattle.std.proofs.lemmas.List.{get_or-drop, get_or-take, get_or_default, length-drop}
+use Rattle.std.proofs.lemmas.List.{length-take, length-take-le, map-append, take_all}
+use Rattle.std.proofs.lemmas.List.Elements.{All-append, All-drop, All-map, All-take, All-weaker}
 use Rattle.std.proofs.Math.Seq.{take-add}
 use Rattle.fare_table.specs.Fares.{Fares}
 use Rattle.tap_views.specs.Token.{token_cmp}
 use Rattle.tap_views.specs.declared.token.Token.{Token}
 use Rattle.tap_views.specs.declared.encoder.TapFields.{TapFields}
+use Rattle.tap_views.proofs.Lists.{All-unmap}
 use Rattle.tap_parts.specs.Canonical.{tap_cmp}
 use Rattle.shard_book.specs.SumsByKey.{token_of}
 use Rattle.shard_book.specs.declared.entry.Entry.{Entry}
 use Rattle.settlement.specs.inside.Apart.{AreBelow}
 use Rattle.settlement.specs.Posted.{HasName, posted, token_of_tap}
 use Rattle.settlement.specs.inside.Billing.{IsRun}
-use Rattle.settlement.proofs.Placed.{all_map}
-use Rattle.settlement.proofs.Ranges.{AreTapsBelow, posted_below, to_tokens, unmapped}
+use Rattle.settlement.proofs.Ranges.{AreTapsBelow, posted_below, to_tokens}
 use Rattle.settlement.proofs.TokenRuns.{IsEdge, next_edge, no_tap, posted_length, tokens_posted}
 
 -- the taps from a place on
@@ -122,7 +121,7 @@ narrow token taps place run all =
     All-map (λ o. token_cmp token o ≡ Less) token_of_tap (take run (drop place taps))
     (All-take (λ (t : TapFields). token_cmp token (token_of_tap t) ≡ Less) run (drop place taps)
     (All-drop (λ (t : TapFields). token_cmp token (token_of_tap t) ≡ Less) place taps
-    (unmapped (λ o. token_cmp token o ≡ Less) taps all)))
+    (All-unmap (λ o. token_cmp token o ≡ Less) token_of_tap taps all)))
 
 -- what was posted before is below the next run
 pub run_below : (fares : Fares) (taps : List TapFields) (place run : ℕ) (before : List Entry)
@@ -137,8 +136,8 @@ run_below fares taps place run before edge within is below =
     let P : Token → Type 0 =
     λ token. All (λ o. token_cmp token o ≡ Less) (map token_of_tap (take run (drop place taps))) in
     let old : AreBelow (map token_of before) (map token_of_tap (take run (drop place taps))) =
-    all_map (λ token. All (λ o. token_cmp token o ≡ Less) (map token_of_tap taps)) P
-    (map token_of before) (λ token all. narrow token taps place run all) below in
+    All-weaker (λ token. All (λ o. token_cmp token o ≡ Less) (map token_of_tap taps)) P
+    (λ token all. narrow token taps place run all) (map token_of before) below in
     let new : AreBelow (map token_of (posted fares (take place taps)))
     (map token_of_tap (take run (drop place taps))) =
     subst (λ tokens. AreBelow tokens (map token_of_tap (take run (drop place taps))))

@@ -6,6 +6,7 @@ use Rattle.std.proofs.lemmas.Bool.{eqb-true}
 use Rattle.std.proofs.lemmas.List.{get_or_default}
 use Rattle.std.proofs.lemmas.List.Elements.{All-filter, filter_passes}
 use Rattle.std.proofs.lemmas.List.Sorted.{sum_by-IsPermutation}
+use Rattle.std.proofs.lemmas.Slice.Zip.{AllZip-long}
 use Rattle.fare_table.specs.Fares.{Fares}
 use Rattle.tap_views.specs.Encoding.{AreEarly, fields_of}
 use Rattle.tap_views.specs.Layout.{Tap}
@@ -28,8 +29,6 @@ use Rattle.settlement.specs.inside.SplitUploads.{AreSplit}
 use Rattle.settlement.specs.declared.bill.Bill.{Bill}
 use Rattle.settlement.specs.inside.Billing.{ArePartsInOrder, IsBillOfParts, IsSoundPart}
 use Rattle.settlement.proofs.Early.{uploads_early}
-use Rattle.settlement.proofs.Files.{zip_length}
-use Rattle.settlement.proofs.Placed.{all_by}
 use Rattle.settlement.proofs.Ranges.{AreTokensBelow, in_order_at, later_range, lists_in_order}
 use Rattle.settlement.proofs.Ranges.{posted_each, to_tokens}
 use Rattle.settlement.proofs.Same.{part_fields}
@@ -66,14 +65,16 @@ module _ (uploads : List (List ℕ)) (ends : List UploadEnd) (parts : List (List
       split.each place inside ∙ part_fields (range_of_token split.bounds) place good
 
   pub sound_parts : All IsSoundPart parts
-  sound_parts = all_by IsSoundPart parts (λ part d there.
+  sound_parts = (λ part d there.
       let here = get_or_default parts part d [] there in
       subst IsSoundPart (sym here) (record {
-        early = subst (λ ts. AreEarly (λ (tap : TapFields). tap.moment) ts) (sym (split.each part there))
+        early = subst (λ ts. AreEarly (λ (tap : TapFields). tap.moment) ts)
+            (sym (split.each part there))
             (part_early (range_of_token split.bounds) part good
             (uploads_early uploads split.taps split.of_uploads));
         tokens = subst (All HasTokenBytes) (sym (part_at part there))
-            (All-filter (λ (tap : TapFields). place_of tap == part) HasTokenBytes (map fields_of good)
+            (All-filter (λ (tap : TapFields). place_of tap == part) HasTokenBytes
+            (map fields_of good)
             split.tokens);
       }))
 
@@ -94,7 +95,8 @@ module _ (uploads : List (List ℕ)) (ends : List UploadEnd) (parts : List (List
       let at_p = eqb-true (place_of a) p (filter_passes is_p all i d there) in
       let at_q = eqb-true (place_of b) q (filter_passes is_q all j e other) in
       later_range split.bounds a b (All-filter is_p HasTokenBytes all split.tokens i d there)
-      (All-filter is_q HasTokenBytes all split.tokens j e other) (omega (arith, at_p, at_q, less)))))
+      (All-filter is_q HasTokenBytes all split.tokens j e other)
+      (omega (arith, at_p, at_q, less)))))
 
   pub parts_in_order : ArePartsInOrder parts
   parts_in_order = in_order_at parts below_at
@@ -107,8 +109,9 @@ module _ (uploads : List (List ℕ)) (ends : List UploadEnd) (parts : List (List
   pub whole_order : (lists : List (List TapFields)) → AllZip IsCanonical parts lists
       → IsCanonical (map fields_of good) (flat_map (λ list. list) lists)
   whole_order lists zip =
-      let as_many = zip_length IsCanonical parts lists zip in
-      places_are_canonical place_of (ranges_in_order split.bounds) (map fields_of good) split.tokens lists
+      let as_many = sym (AllZip-long IsCanonical parts lists zip) in
+      places_are_canonical place_of (ranges_in_order split.bounds) (map fields_of good) split.tokens
+      lists
       (subst (λ n. All (λ tap. place_of tap < n) (map fields_of good)) as_many all_within)
       (λ place inside.
       let there : place < length parts = omega (arith, as_many, inside) in

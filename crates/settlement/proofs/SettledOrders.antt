@@ -1,9 +1,9 @@
 -- The good taps of uploads in canonical order: their history, and the taps of one token among them.
-use Rattle.std.proofs.Common.{◌≡◌, ℕ, ◌<◌, List, ◌∷◌, ◌++◌, All, cond, map, flat_map, refl, sym, ap, true}
-use Rattle.std.proofs.Common.{◌∙◌, subst, Vec, Global, []}
+use Rattle.std.proofs.Common.{◌≡◌, ℕ, ◌<◌, List, ◌∷◌, ◌++◌, All, cond, map, flat_map, refl, sym, ap}
+use Rattle.std.proofs.Common.{true, ◌∙◌, subst, Vec, Global, []}
 use Rattle.std.specs.List.{AllZip, sum_by}
 use Rattle.std.specs.Ordering.{is_lt}
-use Rattle.std.proofs.lemmas.List.Elements.{All-filter, All-map, filter_passes}
+use Rattle.std.proofs.lemmas.List.Elements.{All-filter, All-map, filter_passes, All-weaker}
 use Rattle.std.proofs.lemmas.List.Kept.{IsSortedBy-filter}
 use Rattle.std.proofs.lemmas.List.Sorted.{All-permutation, ranks_by, sum_by-IsPermutation}
 use Rattle.fare_table.specs.Fares.{Fares}
@@ -25,13 +25,13 @@ use Rattle.settlement.specs.inside.SplitUploads.{AreSplit}
 use Rattle.settlement.proofs.Early.{uploads_early}
 use Rattle.settlement.proofs.Files.{taps_in}
 use Rattle.settlement.proofs.OnlyTaps.{is_its}
-use Rattle.settlement.proofs.Placed.{all_map}
 use Rattle.settlement.proofs.Ranges.{has_name}
 use Rattle.settlement.proofs.Same.{sum_filter}
 use Rattle.settlement.proofs.SettledBills.{posted_of, whole_order}
 use Rattle.settlement.proofs.Sorting.{canonical_order}
 use Rattle.settlement.proofs.Unique.{same_sorted}
 
+-- taps in canonical order, with their tokens' names, are a settled order
 pub settled_order : (uploads : List (List ℕ)) (taps : List (List Tap)) (order : List TapFields)
     → AreGoodTapsOfEach uploads taps → All HasTokenBytes (map fields_of (taps_of_uploads taps))
     → IsCanonical (map fields_of (taps_of_uploads taps)) order → AreSettledTaps uploads order
@@ -41,11 +41,12 @@ settled_order uploads taps order each tokens canonical =
       taps = taps;
       of_uploads = each;
       canonical = canonical;
-      early = All-permutation (λ (tap : TapFields). tap.moment < moment_limit) (map fields_of good) order
+      early = All-permutation (λ (tap : TapFields). tap.moment < moment_limit) (map fields_of good)
+          order
           canonical.moved
           (All-map (λ (tap : TapFields). tap.moment < moment_limit) fields_of good
           (uploads_early uploads taps each));
-      named = all_map HasTokenBytes HasName order has_name
+      named = All-weaker HasTokenBytes HasName has_name order
           (All-permutation HasTokenBytes (map fields_of good) order canonical.moved tokens);
     }
 
@@ -96,8 +97,10 @@ own_settled uploads token own list ends is tokens canonical =
     record {
       order = ordered;
       settled = settled_order uploads is.taps ordered is.of_uploads tokens order.1;
-      own = same_sorted tap_cmp tap_cmp_total tap_cmp_exact list (only token ordered) canonical.sorted
-          (IsSortedBy-filter (λ a b. is_lt (tap_cmp a b)) (ranks_by tap_cmp_total (λ (t : TapFields). t))
+      own = same_sorted tap_cmp tap_cmp_total tap_cmp_exact list (only token ordered)
+          canonical.sorted
+          (IsSortedBy-filter (λ a b. is_lt (tap_cmp a b))
+          (ranks_by tap_cmp_total (λ (t : TapFields). t))
           p ordered order.1.sorted)
           (λ f. sum_by-IsPermutation f own list canonical.moved
           ∙ ap (sum_by f) is.are
@@ -116,6 +119,6 @@ module _ (uploads : List (List ℕ)) (token : Token) (taps : List TapFields)
 
   pub own_its : All (λ tap. token_of_tap tap ≡ token) taps
   own_its = subst (All (λ tap. token_of_tap tap ≡ token)) (sym is.own)
-      (all_map (λ tap. is_its token tap ≡ true) (λ tap. token_of_tap tap ≡ token) (only token is.order)
-      (λ tap same. same_token (token_of_tap tap) token same)
+      (All-weaker (λ tap. is_its token tap ≡ true) (λ tap. token_of_tap tap ≡ token)
+      (λ tap same. same_token (token_of_tap tap) token same) (only token is.order)
       (filter_passes (is_its token) is.order))

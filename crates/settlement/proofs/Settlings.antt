@@ -17,8 +17,7 @@ use Rattle.shard_book.specs.declared.entry.Entry.{Entry}
 use Rattle.tap_views.specs.Files.{AreGoodTapsOfEach, HasOneReading}
 use Rattle.fare_service.specs.Plain.{IsPlain}
 use Rattle.report_texts.specs.OverHistory.{IsReportOver}
-use Rattle.shard_book.specs.Plain.{plain}
-use Rattle.shard_book.specs.Plain.{plain_after, answered, unanswered}
+use Rattle.shard_book.specs.Plain.{plain, plain_after, answered, unanswered}
 use Rattle.report_texts.specs.Report.{report, validators_section, tokens_section}
 use Rattle.fare_texts.specs.Counts.{totals_line}
 use Rattle.shard_book.proofs.PlainReplies.{bare, plain_bare, plain_legal}
@@ -45,18 +44,22 @@ same_history fares uploads others history again cuts other_cuts same one other =
     let there = one_list others same.other_taps other.taps other_cuts same.of_others
     other.of_uploads in
     let P : List (List Tap) → Type 0 =
-    λ ts. IsPermutation (map fields_of (taps_of_uploads ts)) (map fields_of (taps_of_uploads same.other_taps)) in
+    λ ts. IsPermutation (map fields_of (taps_of_uploads ts))
+    (map fields_of (taps_of_uploads same.other_taps)) in
     let Q : List (List Tap) → Type 0 =
-    λ ts. IsPermutation (map fields_of (taps_of_uploads one.taps)) (map fields_of (taps_of_uploads ts)) in
+    λ ts. IsPermutation (map fields_of (taps_of_uploads one.taps))
+    (map fields_of (taps_of_uploads ts)) in
     let moved : IsPermutation (map fields_of (taps_of_uploads one.taps))
     (map fields_of (taps_of_uploads other.taps)) = subst Q there (subst P here same.moved) in
     let list = same_sorted tap_cmp tap_cmp_total tap_cmp_exact (map fields_of one.order)
     (map fields_of other.order) one.canonical.sorted other.canonical.sorted
-    (λ f. sum_by-IsPermutation f (map fields_of (taps_of_uploads one.taps)) (map fields_of one.order)
+    (λ f. sum_by-IsPermutation f (map fields_of (taps_of_uploads one.taps))
+    (map fields_of one.order)
     one.canonical.moved
     ∙ sym (sum_by-IsPermutation f (map fields_of (taps_of_uploads one.taps))
     (map fields_of (taps_of_uploads other.taps)) moved)
-    ∙ sym (sum_by-IsPermutation f (map fields_of (taps_of_uploads other.taps)) (map fields_of other.order)
+    ∙ sym (sum_by-IsPermutation f (map fields_of (taps_of_uploads other.taps))
+    (map fields_of other.order)
     other.canonical.moved)) in
     one.entries ∙ same_after fares [] one.order other.order list ∙ sym other.entries
 
@@ -81,7 +84,8 @@ same_reports uploads others history again text other same one two = record {
 }
 
 pub some_history : (fares : Fares) (uploads : List (List ℕ)) (taps : List (List Tap))
-    → AreGoodTapsOfEach uploads taps → (history : List Entry) × IsSettledHistory fares uploads history
+    → AreGoodTapsOfEach uploads taps
+    → (history : List Entry) × IsSettledHistory fares uploads history
 some_history fares uploads taps each =
     let (order, canonical) = canonical_order (taps_of_uploads taps) in (
       plain fares order,
@@ -94,6 +98,7 @@ some_history fares uploads taps each =
       },
     )
 
+-- a settled history is legal
 pub legal_history : (fares : Fares) (uploads : List (List ℕ)) (history : List Entry)
     → IsSettledHistory fares uploads history → IsLegal fares history
 legal_history fares uploads history is =
@@ -124,7 +129,8 @@ module _ (fares : Fares) (uploads : List (List ℕ)) (cuts : All HasOneReading u
   named_order history is =
       let same = one_list uploads p.taps is.taps cuts p.each is.of_uploads in
       let N : List (List Tap) → Type 0 = λ ts. All IsNamedBy (map fields_of (taps_of_uploads ts)) in
-      let names = subst N same (fields_named (taps_of_uploads p.taps) later zip (ap (map bare) p.entries
+      let names = subst N same
+      (fields_named (taps_of_uploads p.taps) later zip (ap (map bare) p.entries
       ∙ plain_bare fares [] (taps_of_uploads p.taps))) in
       All-permutation IsNamedBy (map fields_of (taps_of_uploads is.taps)) (map fields_of is.order)
       is.canonical.moved names

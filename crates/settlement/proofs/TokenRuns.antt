@@ -1,37 +1,33 @@
 -- The histories and the sums of taps that are posted token by token.
-use Rattle.std.proofs.Common.{◌≡◌, ◌≢◌, ℕ, suc, ◌+◌, ◌<◌, ◌≤◌, Bool, true, false, ◌||◌, List, ◌∷◌, ◌++◌}
-use Rattle.std.proofs.Common.{length, get_or, take, map, filter, cond, refl, sym, ap, ◌∙◌, []}
-use Rattle.std.proofs.Common.{arith, All, inl, inr}
+use Rattle.std.proofs.Common.{◌≡◌, ◌≢◌, ℕ, suc, ◌+◌, ◌<◌, ◌≤◌, false, List, ◌∷◌, ◌++◌, length}
+use Rattle.std.proofs.Common.{get_or, take, map, refl, sym, ap, ◌∙◌, [], arith, All, inl, inr}
 use Rattle.std.specs.Prelude.{◌⊎◌}
 use Rattle.std.specs.Cmp.Lexicographic.{slice_cmp}
-use Rattle.std.specs.List.Sorted.{IsSorted, IsStrictlySortedBy}
-use Rattle.std.specs.Ordering.{eq_by_cmp, is_lt, nat_cmp, ordering_reverse, ordering_then}
-use Rattle.std.specs.Set.{is_member}
+use Rattle.std.specs.List.Sorted.{IsSorted}
+use Rattle.std.specs.Ordering.{is_lt, nat_cmp}
 use Rattle.std.specs.declared.cmp.Ordering.{Ordering}
 use Rattle.std.specs.declared.cmp.Ordering.TheVariants.{Less, Equal, Greater}
-use Rattle.std.proofs.lemmas.Bool.{cases_lt, false≢true}
+use Rattle.std.proofs.lemmas.Bool.{cases_lt}
 use Rattle.std.proofs.lemmas.List.{length-take, take_more}
 use Rattle.std.proofs.lemmas.List.Elements.{All-head, All-tail, All-nil, All-cons}
 use Rattle.std.proofs.lemmas.List.Sorted.{ranks_by, sorted_far}
 use Rattle.tap_views.proofs.TokenBytes.{token-order}
 use Rattle.fare_table.specs.Fares.{Fares}
-use Rattle.tap_views.specs.Token.{Fits, bytes_of, token_cmp, token_eq}
+use Rattle.tap_views.specs.Token.{Fits, bytes_of, token_cmp}
 use Rattle.tap_views.specs.declared.token.Token.{Token}
 use Rattle.tap_views.specs.declared.encoder.TapFields.{TapFields}
 use Rattle.tap_parts.specs.Canonical.{tap_cmp}
-use Rattle.shard_book.specs.Entry.{is_of, own}
-use Rattle.shard_book.specs.Rising.{rising}
-use Rattle.shard_book.specs.Sums.{Sums, sums}
-use Rattle.shard_book.specs.SumsByKey.{sums_by_token, token_of, tokens}
+use Rattle.shard_book.specs.SumsByKey.{token_of, tokens}
 use Rattle.shard_book.specs.declared.entry.Entry.{Entry}
-use Rattle.tap_views.proofs.TokenLemmas.{token_eq-refl, high_back, low_back, token_cmp-total, token_cmp-ties}
-use Rattle.shard_book.proofs.RisingLemmas.{rising-only}
+use Rattle.tap_views.proofs.TokenLemmas.{high_back, low_back, token_cmp-total, token_cmp-ties}
+use Rattle.tap_views.proofs.Orderings.{first_not_less}
 use Rattle.shard_book.specs.Plain.{answered, token_of_bytes}
 use Rattle.settlement.specs.inside.Apart.{AreBelow}
 use Rattle.settlement.specs.Posted.{HasName, posted, posted_after, token_of_tap, unposted}
-use Rattle.settlement.proofs.Placed.{all_map}
 use Rattle.settlement.proofs.Concats.{posted_append}
 use Rattle.tap_parts.proofs.Total.{tap_cmp_total}
+use Rattle.fare_texts.proofs.Rising.{not_greater}
+use Rattle.fare_texts.specs.Lines.{IsUpTo}
 
 -- ---- what is posted
 -- the tokens of the entries are those of the taps
@@ -43,6 +39,7 @@ tokens_posted fares earlier (tap ∷ taps) =
     ap (λ (ts : List Token). token_of_tap tap ∷ ts)
     (tokens_posted fares (earlier ++ answered fares earlier (unposted tap) ∷ []) taps)
 
+-- each tap has one entry
 pub posted_length : (fares : Fares) (earlier : List Entry) (taps : List TapFields)
     → length (posted_after fares earlier taps) ≡ length taps
 unfolding posted_after
@@ -56,13 +53,15 @@ unfolding posted_after
 one_posted fares earlier tap = refl
 
 -- one tap more
-pub posted_more : (fares : Fares) (taps : List TapFields) (i : ℕ) (tap : TapFields) → i < length taps
+pub posted_more : (fares : Fares) (taps : List TapFields) (i : ℕ) (tap : TapFields)
+    → i < length taps
     → get_or taps i tap ≡ tap
     → posted fares (take (i + 1) taps)
     ≡ posted fares (take i taps) ++ answered fares (posted fares (take i taps)) (unposted tap) ∷ []
 posted_more fares taps i tap inside is =
     let done = posted fares (take i taps) in
-    ap (posted fares) (take_more taps i tap inside ∙ ap (λ (t : TapFields). take i taps ++ t ∷ []) is)
+    ap (posted fares)
+    (take_more taps i tap inside ∙ ap (λ (t : TapFields). take i taps ++ t ∷ []) is)
     ∙ posted_append fares [] (take i taps) (tap ∷ [])
     ∙ ap (λ (es : List Entry). done ++ es) (one_posted fares done tap)
 
@@ -78,65 +77,7 @@ tokens_are token fares earlier (tap ∷ taps) its =
     (tokens_are token fares (earlier ++ answered fares earlier (unposted tap) ∷ []) taps
     (All-tail (λ (t : TapFields). token_of_tap t ≡ token) tap taps its))
 
-own_all : (token : Token) (entries : List Entry) → All (λ entry. entry.token ≡ token) entries
-    → own token entries ≡ entries
-unfolding own
-own_all token [] all = refl
-own_all token (entry ∷ entries) all =
-    let here : token_eq entry.token token ≡ true =
-    ap (λ (t : Token). token_eq t token) (All-head (λ (e : Entry). e.token ≡ token) entry entries all)
-    ∙ token_eq-refl token in
-    ap (λ b. cond b (entry ∷ filter (is_of token) entries) (filter (is_of token) entries)) here
-    ∙ ap (λ (es : List Entry). entry ∷ es)
-    (own_all token entries (All-tail (λ (e : Entry). e.token ≡ token) entry entries all))
-
-or_twice : (b : Bool) → (b || (b || false)) ≡ (b || false)
-or_twice true = refl
-or_twice false = refl
-
-among_one : (token key : Token) (entry : Entry) (entries : List Entry)
-    → All (λ entry. entry.token ≡ token) (entry ∷ entries)
-    → is_member (eq_by_cmp token_cmp) (map token_of (entry ∷ entries)) key
-    ≡ is_member (eq_by_cmp token_cmp) (token ∷ []) key
-among_one token key entry [] all =
-    ap (λ (t : Token). is_member (eq_by_cmp token_cmp) (t ∷ []) key)
-    (All-head (λ (e : Entry). e.token ≡ token) entry [] all)
-among_one token key entry (next ∷ entries) all =
-    let rest = among_one token key next entries
-    (All-tail (λ (e : Entry). e.token ≡ token) entry (next ∷ entries) all) in
-    ap (λ b. eq_by_cmp token_cmp key entry.token || b) rest
-    ∙ ap (λ (t : Token). eq_by_cmp token_cmp key t
-    || (eq_by_cmp token_cmp key token || false))
-    (All-head (λ (e : Entry). e.token ≡ token) entry (next ∷ entries) all)
-    ∙ or_twice (eq_by_cmp token_cmp key token)
-
-one_rises : (token : Token) → IsStrictlySortedBy token_cmp (token ∷ [])
-unfolding IsStrictlySortedBy
-one_rises token = (tt, tt)
-
-pub one_token : (token : Token) (entry : Entry) (entries : List Entry)
-    → All (λ entry. entry.token ≡ token) (entry ∷ entries)
-    → sums_by_token (entry ∷ entries) ≡ (token, sums (entry ∷ entries)) ∷ []
-unfolding sums_by_token tokens
-one_token token entry entries all =
-    let keys : token ∷ [] ≡ rising token_cmp (map token_of (entry ∷ entries)) =
-    rising-only token_cmp-total token_cmp-ties (map token_of (entry ∷ entries)) (token ∷ []) (record {
-      rises = one_rises token;
-      same = λ key. sym (among_one token key entry entries all);
-    }) in
-    let row : Token → Token × Sums = λ t. (t, sums (own t (entry ∷ entries))) in
-    ap (map row) (sym keys)
-    ∙ ap (λ (es : List Entry). (token, sums es) ∷ []) (own_all token (entry ∷ entries) all)
-
 -- ---- the order of tokens
--- the first token is not above the second
-abbrev pub IsUpTo : Token → Token → Type 0
-IsUpTo token other = is_lt (token_cmp other token) ≡ false
-
-not_greater : (a b : Token) → IsUpTo a b → token_cmp a b ≡ Greater → ⊥
-not_greater a b up greater =
-    let less : token_cmp b a ≡ Less = token_cmp-total.antisymm b a ∙ ap ordering_reverse greater in
-    false≢true (sym up ∙ ap is_lt less)
 
 -- a token that another is not above, and that is not the same, is below it
 pub up_apart : (a b : Token) → IsUpTo a b → a ≢ b → token_cmp a b ≡ Less
@@ -147,6 +88,7 @@ up_apart a b up apart = by (token_cmp a b) refl
     by Equal tied = absurd (apart (token_cmp-ties a b tied))
     by Greater greater = absurd (not_greater a b up greater)
 
+-- a token that is not above one that is less is less
 pub up_less : (a b c : Token) → IsUpTo a b → token_cmp b c ≡ Less → token_cmp a c ≡ Less
 up_less a b c up less = by (token_cmp a b) refl
   where
@@ -155,6 +97,7 @@ up_less a b c up less = by (token_cmp a b) refl
     by Equal tied = ap (λ (t : Token). token_cmp t c) (token_cmp-ties a b tied) ∙ less
     by Greater greater = absurd (not_greater a b up greater)
 
+-- a token that is less than one that is not above another is less than that
 pub less_up : (a b c : Token) → token_cmp a b ≡ Less → IsUpTo b c → token_cmp a c ≡ Less
 less_up a b c less up = by (token_cmp b c) refl
   where
@@ -163,18 +106,13 @@ less_up a b c less up = by (token_cmp b c) refl
     by Equal tied = ap (λ (t : Token). token_cmp a t) (sym (token_cmp-ties b c tied)) ∙ less
     by Greater greater = absurd (not_greater b c up greater)
 
-first_decides : (one other : Ordering) → is_lt (ordering_then one other) ≡ false → is_lt one ≡ false
-first_decides Less other not = not
-first_decides Equal other not = refl
-first_decides Greater other not = refl
-
 up_to : (a b : TapFields) → HasName a → HasName b → is_lt (tap_cmp b a) ≡ false
     → IsUpTo (token_of_tap a) (token_of_tap b)
 up_to a b of_a of_b not =
     let bytes : token_cmp (token_of_tap b) (token_of_tap a) ≡ slice_cmp nat_cmp b.token a.token =
     token-order (token_of_tap b) (token_of_tap a) of_b.fits of_a.fits
     ∙ (λ i. slice_cmp nat_cmp (of_b.named i) (of_a.named i)) in
-    ap is_lt bytes ∙ first_decides (slice_cmp nat_cmp b.token a.token) _ not
+    ap is_lt bytes ∙ first_not_less (slice_cmp nat_cmp b.token a.token) _ not
 
 -- the tokens of taps in canonical order do not fall
 pub rise_far : (taps : List TapFields) → IsSorted tap_cmp taps → All HasName taps
@@ -219,72 +157,15 @@ next_edge taps place run token sorted names edge within same next some =
         let apart : a ≢ b = λ e. next d fits (sym e ∙ same i d here low) in
         less_up a b c (up_apart a b up apart) (rise_far taps sorted names after j d high inside)
 
-pub nothing_billed : (list : List (Token × Sums)) → list ≡ [] → list ≡ sums_by_token []
-unfolding sums_by_token tokens rising
-nothing_billed list none = none
-
 -- a token that 16 bytes name
 token_back : (token : Token) → Fits token → token_of_bytes (bytes_of token) ≡ token
 token_back token fits = λ i. record { high = high_back token fits i; low = low_back token fits i }
 
+-- a tap's token by its bytes
 pub named_token : (tap : TapFields) (bytes : List ℕ) (token : Token) → tap.token ≡ bytes
     → bytes_of token ≡ bytes → Fits token → token_of_tap tap ≡ token
 named_token tap bytes token same is fits =
     ap token_of_bytes (same ∙ sym is) ∙ token_back token fits
-
-pub one_token_list : (token : Token) (entries : List Entry) → 0 < length entries
-    → All (λ entry. entry.token ≡ token) entries
-    → sums_by_token entries ≡ (token, sums entries) ∷ []
-one_token_list token [] some all = absurd (omega (arith, some))
-one_token_list token (entry ∷ entries) some all = one_token token entry entries all
-
-below_each : (tokens : List Token) (token other : Token) → other ≡ token
-    → AreBelow tokens (token ∷ []) → All (λ t. token_cmp t other ≡ Less) tokens
-below_each [] token other same below = All-nil (λ t. token_cmp t other ≡ Less)
-below_each (t ∷ tokens) token other same below =
-    All-cons (λ s. token_cmp s other ≡ Less) t tokens
-    (ap (token_cmp t) same ∙ All-head (λ o. token_cmp t o ≡ Less) token []
-    (All-head (λ s. All (λ o. token_cmp s o ≡ Less) (token ∷ [])) t tokens below))
-    (below_each tokens token other same
-    (All-tail (λ s. All (λ o. token_cmp s o ≡ Less) (token ∷ [])) t tokens below))
-
-flip_below : (tokens : List Token) (entries : List Entry)
-    → All (λ entry. All (λ t. token_cmp t entry.token ≡ Less) tokens) entries
-    → AreBelow tokens (map token_of entries)
-flip_below [] entries all = All-nil (λ s. All (λ o. token_cmp s o ≡ Less) (map token_of entries))
-flip_below (t ∷ tokens) entries all =
-    All-cons (λ s. All (λ o. token_cmp s o ≡ Less) (map token_of entries)) t tokens
-    (heads entries all) (flip_below tokens entries (tails entries all))
-  where
-    heads : (es : List Entry)
-        → All (λ entry. All (λ t. token_cmp t entry.token ≡ Less) (t ∷ tokens)) es
-        → All (λ o. token_cmp t o ≡ Less) (map token_of es)
-    heads [] each = All-nil (λ o. token_cmp t o ≡ Less)
-    heads (e ∷ es) each =
-        All-cons (λ o. token_cmp t o ≡ Less) e.token (map token_of es)
-        (All-head (λ s. token_cmp s e.token ≡ Less) t tokens
-        (All-head (λ (x : Entry). All (λ s. token_cmp s x.token ≡ Less) (t ∷ tokens)) e es each))
-        (heads es (All-tail (λ (x : Entry). All (λ s. token_cmp s x.token ≡ Less) (t ∷ tokens)) e es each))
-
-    tails : (es : List Entry)
-        → All (λ entry. All (λ t. token_cmp t entry.token ≡ Less) (t ∷ tokens)) es
-        → All (λ entry. All (λ t. token_cmp t entry.token ≡ Less) tokens) es
-    tails [] each = All-nil (λ (x : Entry). All (λ s. token_cmp s x.token ≡ Less) tokens)
-    tails (e ∷ es) each =
-        All-cons (λ (x : Entry). All (λ s. token_cmp s x.token ≡ Less) tokens) e es
-        (All-tail (λ s. token_cmp s e.token ≡ Less) t tokens
-        (All-head (λ (x : Entry). All (λ s. token_cmp s x.token ≡ Less) (t ∷ tokens)) e es each))
-        (tails es (All-tail (λ (x : Entry). All (λ s. token_cmp s x.token ≡ Less) (t ∷ tokens)) e es each))
-
--- tokens below one are below those of entries that have it
-pub below_same : (tokens : List Token) (token : Token) (entries : List Entry)
-    → AreBelow tokens (token ∷ []) → All (λ entry. entry.token ≡ token) entries
-    → AreBelow tokens (map token_of entries)
-below_same tokens token entries below all =
-    flip_below tokens entries
-    (all_map (λ (e : Entry). e.token ≡ token)
-    (λ (e : Entry). All (λ t. token_cmp t e.token ≡ Less) tokens) entries
-    (λ e same. below_each tokens token e.token same below) all)
 
 -- tokens below those of taps are below that of the first one
 pub below_first : (tokens : List Token) (token : Token) (taps : List TapFields) → 0 < length taps
@@ -298,10 +179,12 @@ below_first (t ∷ tokens) token (tap ∷ taps) some first below =
     (All-cons (λ o. token_cmp t o ≡ Less) token []
     (ap (token_cmp t) (sym (first tap)) ∙ All-head (λ o. token_cmp t o ≡ Less) (token_of_tap tap)
     (map token_of_tap taps)
-    (All-head (λ s. All (λ o. token_cmp s o ≡ Less) (map token_of_tap (tap ∷ taps))) t tokens below))
+    (All-head (λ s. All (λ o. token_cmp s o ≡ Less) (map token_of_tap (tap ∷ taps))) t tokens
+    below))
     (All-nil (λ o. token_cmp t o ≡ Less)))
     (below_first tokens token (tap ∷ taps) some first
-    (All-tail (λ s. All (λ o. token_cmp s o ≡ Less) (map token_of_tap (tap ∷ taps))) t tokens below))
+    (All-tail (λ s. All (λ o. token_cmp s o ≡ Less) (map token_of_tap (tap ∷ taps))) t tokens
+    below))
 
 -- what a place past the end would be read as
 abbrev pub no_tap : TapFields
@@ -309,7 +192,8 @@ no_tap = record { token = []; validator = 0; moment = 0 }
 
 -- the first so many taps are posted to as many entries, at most
 pub few_posted : (fares : Fares) (taps : List TapFields) (i : ℕ)
-    → (length (posted fares (take i taps)) ≤ i) × (length (posted fares (take i taps)) ≤ length taps)
+    → (length (posted fares (take i taps)) ≤ i)
+    × (length (posted fares (take i taps)) ≤ length taps)
 few_posted fares taps i =
     let same = posted_length fares [] (take i taps) in
     let short = length-take i taps in

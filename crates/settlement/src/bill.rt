@@ -23,15 +23,12 @@ use tap_views::{NoMemory, TapFields, Token};
 /// What settled taps come to.
 #[derive(Drop)]
 pub struct Bill {
-    /// The tokens, rising, each with its sums.
+    /// The tokens rise.
     pub tokens: TokenSums,
-    /// The sums by validator.
     pub validators: ValidatorTallies,
-    /// The sums of all taps.
     pub totals: Tally,
 }
 
-/// The token of a tap.
 #[inline(always)]
 fn token_of(tap: &TapFields) -> Token
     ensures { result ≡ token_of_tap tap.now }
@@ -39,7 +36,7 @@ fn token_of(tap: &TapFields) -> Token
     Token::of(&tap.token)
 }
 
-/// How many of the first taps have the token, which the first one has.
+/// How many of the first taps have `token`, which the first one has.
 fn run_length(token: Token, taps: &[TapFields]) -> usize
     requires some { 0 < length taps.now }
     requires first { (tap : TapFields) → token_of_tap (slice_index_or taps.now 0 tap) ≡ token }
@@ -59,7 +56,7 @@ fn run_length(token: Token, taps: &[TapFields]) -> usize
 }
 
 impl Bill {
-    /// The bill of no taps. The seed serves to hash the validators' numbers.
+    /// The seed serves to hash the validators' numbers.
     pub(crate) fn new(alloc: Global, seed: HashSeed) -> Self
         ensures { IsBillOf [] result }
     {

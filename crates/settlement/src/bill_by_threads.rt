@@ -79,9 +79,9 @@ fn bill_of<U: Uploads>(
     Ok(bill)
 }
 
-/// The bill of the parts, in their order. So many workers make the bill of a run of parts each;
-/// where a thread is refused, another does its work. The parts are noted for whoever watches the
-/// uploads.
+/// The bill of the parts, in their order. Each of `workers` threads makes the bill of a run of
+/// parts. If a thread is refused, another does its work. The parts are noted for whoever watches
+/// the uploads.
 pub(crate) fn bill_by_threads<R: Threads + Sync, U: Uploads + Sync>(
     rt: &R,
     alloc: Global,

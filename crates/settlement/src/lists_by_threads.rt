@@ -13,7 +13,6 @@ use std::thread;
 use std::thread::Threads;
 use tap_views::TapFields;
 
-/// The first half of the parts, and the others.
 fn halves(parts: Vec<Pieces>) -> Result<(Vec<Pieces>, Vec<Pieces>), AllocError>
     ensures { IfOk result (λ halves. parts.items ≡ halves.0.items ++ halves.1.items) }
 {
@@ -23,8 +22,8 @@ fn halves(parts: Vec<Pieces>) -> Result<(Vec<Pieces>, Vec<Pieces>), AllocError>
     Ok((front, back))
 }
 
-/// The lists of the parts, in their order. The parts are halved so many times, and each piece is
-/// arranged by a thread of its own. Where one is refused, both halves are arranged one after the
+/// The lists of the parts, in their order. The parts are halved `halvings` times, and each piece is
+/// arranged by a thread of its own. If one is refused, both halves are arranged one after the
 /// other.
 #[cycle(lists)]
 pub(crate) fn lists_by_threads<R: Threads + Sync>(

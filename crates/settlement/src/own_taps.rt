@@ -16,12 +16,10 @@ use std::thread;
 use std::thread::Threads;
 use tap_views::{Batch, TapFields, Token, good_batches};
 
-/// The taps of one token, and how each upload ends.
 #[derive(Drop)]
 pub(crate) struct OwnTaps {
-    /// The token's taps, in the order of the uploads.
+    /// They are in the order of the uploads.
     pub(crate) taps: Vec<TapFields>,
-    /// How each upload ends.
     pub(crate) ends: Vec<UploadEnd>,
 }
 
@@ -86,7 +84,7 @@ fn own_taps<U: Uploads>(
 }
 
 /// Collects the token's taps from the uploads from one number on and below another: no other tap is
-/// kept. The uploads are halved so many times, and a thread of its own reads each piece. Where one
+/// kept. The uploads are halved `halvings` times, and a thread of its own reads each piece. If one
 /// is refused, both halves are read one after the other.
 #[cycle(owns)]
 pub(crate) fn own_by_threads<R: Threads + Sync, U: Uploads + Sync>(

@@ -26,7 +26,6 @@ impl Model for Pieces {
 }
 
 impl Pieces {
-    /// No taps.
     fn new(alloc: Global) -> Self
         ensures { result ≡ [] }
     {
@@ -35,7 +34,6 @@ impl Pieces {
         }
     }
 
-    /// Adds a piece behind the others.
     fn push(&mut self, piece: Vec<TapFields>) -> Result<(), AllocError>
         ensures { OnOk result (self.new ≡ self.old ++ piece.items) }
     {
@@ -52,7 +50,6 @@ impl Pieces {
         taps
     }
 
-    /// The pieces, in their order.
     pub(crate) fn as_slice(&self) -> &[Vec<TapFields>]
         ensures { flat_map (λ piece. piece.items) result.now ≡ self.now }
     {
@@ -60,7 +57,6 @@ impl Pieces {
     }
 }
 
-/// So many parts with no taps.
 fn no_pieces(alloc: Global, parts: u32) -> Result<Vec<Pieces>, AllocError>
     ensures number { IfOk result (λ made. length made.items ≡ parts) }
     ensures empty { IfOk result (λ made. (part : ℕ) → part < parts
@@ -87,7 +83,7 @@ fn join(parts: &mut [Pieces], lists: Vec<Vec<TapFields>>) -> Result<(), AllocErr
     Ok(())
 }
 
-/// The pieces of each part, in the order of the threads' lists.
+/// The pieces of a part are in the order of the threads' lists.
 pub(crate) fn pieces_of(
     alloc: Global,
     lists: Vec<Parts>,

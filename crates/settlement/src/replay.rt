@@ -17,7 +17,6 @@ use fare_table::{Clock, FareTable};
 use shard_book::Entry;
 use tap_views::{TapFields, Token};
 
-/// The tap, as the account rule sees it.
 #[inline(always)]
 fn seen(table: &FareTable, tap: &TapFields) -> TapIn
     ensures tap { result ≡ tap_of table.now (unposted tap.now) }
@@ -45,9 +44,7 @@ fn named_bytes<'a>(token: Token, tap: &'a TapFields) -> &'a [u8]
 /// A token whose taps are posted, with its account after those posted.
 #[derive(Clone, Copy)]
 pub struct Replay {
-    /// The token.
     pub token: Token,
-    /// Its account.
     account: Account,
 }
 

@@ -32,7 +32,6 @@ use tap_views::{NoMemory, TapFields, Token};
 /// larger ones the order.
 const BYTES_OF_PART: usize = 1_120_000;
 
-/// The most parts.
 const MAX_PARTS: usize = 65_535;
 
 /// Of how many uploads tokens are sampled, at most.
@@ -52,17 +51,15 @@ fn parts_for<U: Uploads>(uploads: &U) -> u32
     (bytes_of(uploads, 0, uploads.len()) / BYTES_OF_PART).clamp(1, MAX_PARTS) as u32
 }
 
-/// Uploads whose taps are split into parts.
 #[derive(Drop)]
 struct SplitUploads {
-    /// How each upload ends.
     ends: Vec<UploadEnd>,
     /// The taps of each part. A part has the tokens of a range, so that the parts lie one behind
     /// the other in the order of tokens.
     parts: Vec<Pieces>,
 }
 
-/// Some tokens of the uploads, or of some at equal distances where there are many.
+/// Some tokens of the uploads: if there are many, of uploads at equal distances.
 fn sample_of<U: Uploads>(alloc: Global, uploads: &U) -> Result<Vec<u128>, AllocError> {
     let mut sample = Vec::new(alloc);
     let step = uploads.len() / MAX_SAMPLED + 1;
@@ -84,9 +81,9 @@ fn ranges_for<U: Uploads>(alloc: Global, uploads: &U) -> Result<TokenRanges, All
     TokenRanges::of_sample(alloc, sample, parts_for(uploads))
 }
 
-/// Splits uploads into parts by their tokens, while they are read. Four threads read and split;
-/// where one is refused, another does its work. An error is want of memory, or that an upload
-/// cannot be read.
+/// Splits uploads into parts by their tokens, while they are read. Four threads read and split; if
+/// one is refused, another does its work. An error is want of memory, or that an upload cannot be
+/// read.
 fn split<R: Threads + Sync, U: Uploads + Sync>(
     rt: &R,
     alloc: Global,
@@ -113,15 +110,14 @@ fn split<R: Threads + Sync, U: Uploads + Sync>(
 /// Uploads and their bill.
 #[derive(Drop)]
 pub struct Billed {
-    /// How each upload ends.
     pub ends: Vec<UploadEnd>,
     /// The bill of the uploads' good taps, in canonical order.
     pub bill: Bill,
 }
 
-/// The bill of the settled history of uploads, by so many workers: account by account, with no book
-/// and no entry kept. It does not depend on the number of workers. An error is want of memory, or
-/// that an upload cannot be read.
+/// The bill of the settled history of uploads, by `workers` threads: account by account, with no
+/// book and no entry kept. It does not depend on the number of workers. An error is want of memory,
+/// or that an upload cannot be read.
 pub fn settled_bill<R: Threads + Sync, U: Uploads + Sync>(
     rt: &R,
     alloc: Global,
@@ -144,22 +140,20 @@ pub fn settled_bill<R: Threads + Sync, U: Uploads + Sync>(
 /// Uploads whose good taps lie in canonical order.
 #[derive(Drop)]
 pub struct SettledTaps {
-    /// How each upload ends.
     pub ends: Vec<UploadEnd>,
     /// The lists, one behind the other, have the good taps in canonical order.
     pub lists: Vec<Vec<TapFields>>,
 }
 
-/// How many times the parts are halved, so that each of so many workers has some of them: at most
-/// 64 have.
+/// How many times the parts are halved, so that each worker has some of them, and at most 64 have.
 fn halvings_for(workers: u32) -> u32 {
     (workers.clamp(1, MAX_WORKERS) * 2 - 1).ilog2()
 }
 
 /// The good taps of uploads in canonical order. Four threads read the uploads and split the taps by
-/// part, and so many workers, 64 at most, put the parts' taps into order; where one is refused,
-/// another does its work. An error is want of memory, or that an upload cannot be read. The bytes of
-/// a part are given back as soon as its list is made.
+/// part, and `workers` threads, 64 at most, put the parts' taps into order. If one is refused,
+/// another does its work. An error is want of memory, or that an upload cannot be read. The bytes
+/// of a part are given back as soon as its list is made.
 pub fn settled_taps<R: Threads + Sync, U: Uploads + Sync>(
     rt: &R,
     alloc: Global,
@@ -179,13 +173,12 @@ pub fn settled_taps<R: Threads + Sync, U: Uploads + Sync>(
 /// Uploads, and the taps of one token.
 #[derive(Drop)]
 pub struct TokenTaps {
-    /// How each upload ends.
     pub ends: Vec<UploadEnd>,
-    /// The token's good taps, in canonical order.
+    /// They are in canonical order.
     pub taps: Vec<TapFields>,
 }
 
-/// The taps in canonical order, in the same memory.
+/// Sorts in the same memory.
 fn sorted(taps: Vec<TapFields>) -> Vec<TapFields>
     ensures { IsCanonical taps.items result.items }
 {
@@ -195,8 +188,8 @@ fn sorted(taps: Vec<TapFields>) -> Vec<TapFields>
 }
 
 /// The good taps of one token in canonical order: no other tap is kept. Four threads read the
-/// uploads; where one is refused, another does its work. An error is want of memory, or that an
-/// upload cannot be read.
+/// uploads; if one is refused, another does its work. An error is want of memory, or that an upload
+/// cannot be read.
 pub fn settled_taps_of<R: Threads + Sync, U: Uploads + Sync>(
     rt: &R,
     alloc: Global,

@@ -17,18 +17,16 @@ use tap_parts::{Parts, TokenRanges};
 use tap_views::TAP2_TAP_BYTES;
 use tap_views::laws::one_reading_each;
 
-/// The taps of uploads in parts, and how each upload ends.
 #[derive(Drop)]
 pub(crate) struct SplitTaps {
     /// The taps of each part, a list of parts for each thread: those of earlier uploads come
     /// first.
     pub(crate) lists: Vec<Parts>,
-    /// How each upload ends.
     pub(crate) ends: Vec<UploadEnd>,
 }
 
-/// The number of bytes of the uploads from one number on and below another, about, or 2^64 - 1
-/// where there are more.
+/// About how many bytes the uploads from one number on and below another have. If they have more
+/// than 2^64 - 1, it is that.
 pub(crate) fn bytes_of<U: Uploads>(uploads: &U, start: usize, end: usize) -> usize {
     let mut bytes = 0usize;
     for upload in start..end {
@@ -116,7 +114,7 @@ pub(crate) fn middle_of<U: Uploads>(uploads: &U, start: usize, end: usize) -> us
 }
 
 /// Splits the taps of the uploads from one number on and below another into ranges of tokens. The
-/// uploads are halved so many times, and a thread of its own reads and splits each piece. Where one
+/// uploads are halved `halvings` times, and a thread of its own reads and splits each piece. If one
 /// is refused, both halves are split one after the other.
 #[cycle(splits)]
 pub(crate) fn split_by_threads<R: Threads + Sync, U: Uploads + Sync>(

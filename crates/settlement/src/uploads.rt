@@ -35,14 +35,13 @@ pub trait Uploads {
     /// watches the run: nothing else depends on it.
     fn note_all(&self, _taps: u64) {}
 
-    /// Notes that so many more of them are charged.
+    /// Notes that `_taps` more of them are charged.
     fn note_charged(&self, _taps: u64) {}
 }
 
 /// Uploads that are loaded already.
 #[derive(Clone, Copy)]
 pub struct LoadedUploads<'a> {
-    /// The bytes of each.
     pub all: &'a [Vec<u8>],
 }
 

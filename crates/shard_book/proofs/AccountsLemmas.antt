@@ -1,15 +1,19 @@
 -- What is kept of one token changes, the rest stays.
-use Rattle.std.proofs.Common.{◌≡◌, ℕ, suc, ◌+◌, ◌<◌, arith, List, [], ◌∷◌, ◌++◌, length, refl, Option, Some, None, slice_get, sym, ap, subst, ◌∙◌, Bool, true, false, cond, is_some, ⊎_elim}
+use Rattle.std.proofs.Common.{◌≡◌, ℕ, suc, ◌+◌, ◌<◌, arith, List, [], ◌∷◌, ◌++◌, length, refl}
+use Rattle.std.proofs.Common.{Option, Some, None, slice_get, sym, ap, subst, ◌∙◌, Bool, true, false}
+use Rattle.std.proofs.Common.{cond, is_some, ⊎_elim}
 use Rattle.std.specs.Map.{keys_of, lookup}
 use Rattle.std.specs.List.{position_or_len}
-use Rattle.indexmap.specs.IndexMap.{IsUnique, Updates, get, insert_entry, insert_index, with_value_at}
+use Rattle.indexmap.specs.IndexMap.{IsUnique, Updates, get, insert_entry, insert_index}
+use Rattle.indexmap.specs.IndexMap.{with_value_at}
 use Rattle.indexmap.proofs.CallerLemmas.{insert_entry-new, updates-with_value_at}
 use Rattle.account_rule.specs.declared.tap.TapIn.{TapIn}
 use Rattle.account_rule.specs.TokenRules.{TokenRules}
 use Rattle.account_rule.specs.Stands.{Stands}
 use Rattle.shard_book.specs.declared.accounts.Accounts.{Accounts}
 use Rattle.shard_book.specs.declared.accounts.KeptAccount.{KeptAccount}
-use Rattle.shard_book.specs.inside.Accounts.{IsKept, IsKeptOrFresh, HasPlaceFor, IsPlace, StandsOn, counted, kept_at}
+use Rattle.shard_book.specs.inside.Accounts.{IsKept, IsKeptOrFresh, HasPlaceFor, IsPlace, StandsOn}
+use Rattle.shard_book.specs.inside.Accounts.{counted, kept_at}
 use Rattle.shard_book.specs.Counts.{sums_of_counts}
 use Rattle.shard_book.specs.inside.Packed.{KeepPlaces, tokens_of}
 use Rattle.shard_book.specs.Sums.{sums_of_replies}
@@ -21,18 +25,27 @@ use Rattle.std.proofs.lemmas.Bool.{cases_Bool, false≢true}
 use Rattle.std.proofs.lemmas.Option.{slice_get_within}
 
 -- the kept account, or else a fresh one, stands for the taps
-pub stands_or : (rules : TokenRules) (kept : Option KeptAccount) (here : KeptAccount) (taps : List TapIn) → IsKeptOrFresh kept here → IsKept rules kept taps → Stands rules here.account taps
-stands_or rules None here taps is empty = subst (λ (ts : List TapIn). Stands rules here.account ts) (sym empty) (is.0 rules)
-stands_or rules (Some kept) here taps is stands = subst (λ (k : KeptAccount). Stands rules k.account taps) (sym is) stands
+pub stands_or : (rules : TokenRules) (kept : Option KeptAccount) (here : KeptAccount)
+    (taps : List TapIn) → IsKeptOrFresh kept here → IsKept rules kept taps
+    → Stands rules here.account taps
+stands_or rules None here taps is empty =
+    subst (λ (ts : List TapIn). Stands rules here.account ts) (sym empty) (is.0 rules)
+stands_or rules (Some kept) here taps is stands =
+    subst (λ (k : KeptAccount). Stands rules k.account taps) (sym is) stands
 
 -- the kept counts, or else those of nothing, are what is counted
-pub counted_or : (kept : Option KeptAccount) (here : KeptAccount) → IsKeptOrFresh kept here → sums_of_counts here.counts ≡ counted kept
+pub counted_or : (kept : Option KeptAccount) (here : KeptAccount) → IsKeptOrFresh kept here
+    → sums_of_counts here.counts ≡ counted kept
 counted_or None here is = is.1
 counted_or (Some kept) here is = ap (λ (k : KeptAccount). sums_of_counts k.counts) is
 
--- what is written at the place is kept of the token from then on, and what is kept of the others stays
-pub written : (accounts : Accounts) (place : ℕ) (token : Token) (kept next : KeptAccount) → IsUnique token_eq accounts.map → slice_get accounts.map.entries place ≡ Some (token, kept) → Updates token_eq accounts.map (with_value_at accounts.map place next) token (Some next)
-written accounts place token kept next unique at = updates-with_value_at accounts.map place next token_eq-laws unique token kept at
+-- what is written at the place is kept of the token from then on, and what is kept of the others
+-- stays
+pub written : (accounts : Accounts) (place : ℕ) (token : Token) (kept next : KeptAccount)
+    → IsUnique token_eq accounts.map → slice_get accounts.map.entries place ≡ Some (token, kept)
+    → Updates token_eq accounts.map (with_value_at accounts.map place next) token (Some next)
+written accounts place token kept next unique at =
+    updates-with_value_at accounts.map place next token_eq-laws unique token kept at
 
 -- the second of a pair, if there is one
 kept_in : Option (Token × KeptAccount) → KeptAccount → KeptAccount
@@ -40,20 +53,35 @@ kept_in None other = other
 kept_in (Some pair) other = pair.1
 
 -- what stands at a token's place is what was kept of it, or fresh
-pub found : {old new : Accounts} {token there : Token} {place : ℕ} {here : KeptAccount} → HasPlaceFor old new token place → slice_get new.map.entries place ≡ Some (there, here) → IsKeptOrFresh (kept_at old token) here
+pub found : {old new : Accounts} {token there : Token} {place : ℕ} {here : KeptAccount}
+    → HasPlaceFor old new token place → slice_get new.map.entries place ≡ Some (there, here)
+    → IsKeptOrFresh (kept_at old token) here
 unfolding kept_in
 found {old} {new} {token} {there} {place} {here} made at =
-    let same : made.kept ≡ here = ap (λ (o : Option (Token × KeptAccount)). kept_in o here) (sym made.at ∙ at) in
+    let same : made.kept ≡ here =
+    ap (λ (o : Option (Token × KeptAccount)). kept_in o here) (sym made.at ∙ at) in
     subst (λ (k : KeptAccount). IsKeptOrFresh (kept_at old token) k) same made.is
 
 -- a token is at its place
-pub at_place : (accounts : Accounts) (token there : Token) (place : ℕ) (kept : KeptAccount) → there ≡ token → slice_get accounts.map.entries place ≡ Some (there, kept) → get token_eq accounts.map token ≡ Some kept → IsPlace accounts token place
+pub at_place : (accounts : Accounts) (token there : Token) (place : ℕ) (kept : KeptAccount)
+    → there ≡ token → slice_get accounts.map.entries place ≡ Some (there, kept)
+    → get token_eq accounts.map token ≡ Some kept → IsPlace accounts token place
 unfolding kept_at
-at_place accounts token there place kept same at is = record { kept = kept; at = at ∙ ap (λ (t : Token). Some (t, kept)) same; is = is }
+at_place accounts token there place kept same at is =
+    record { kept = kept; at = at ∙ ap (λ (t : Token). Some (t, kept)) same; is = is }
 
 -- what is at its place need not be made
-pub made_before : (accounts : Accounts) (token : Token) (place : ℕ) → IsPlace accounts token place → HasPlaceFor accounts accounts token place
-made_before accounts token place there = record { kept = there.kept; at = there.at; is = subst (λ (o : Option KeptAccount). IsKeptOrFresh o there.kept) (sym there.is) refl; now = there.is }
+pub made_before : (accounts : Accounts) (token : Token) (place : ℕ) → IsPlace accounts token place
+    → HasPlaceFor accounts accounts token place
+made_before accounts token place there =
+    record {
+      kept = there.kept;
+      at = there.at;
+      is =
+          subst (λ (o : Option KeptAccount). IsKeptOrFresh o there.kept) (sym there.is) refl;
+      now =
+          there.is;
+    }
 
 -- the last one stands behind all others
 slice_get-last : {X : Type 0} (xs : List X) (x : X) → slice_get (xs ++ x ∷ []) (length xs) ≡ Some x
@@ -61,10 +89,15 @@ slice_get-last [] x = refl
 slice_get-last (y ∷ ys) x = slice_get-last ys x
 
 -- an account that is opened stands last
-pub made_last : (old new : Accounts) (token : Token) (place : ℕ) (fresh : KeptAccount) → place ≡ length old.map.entries → kept_at old token ≡ None → kept_at new token ≡ Some fresh → new.map.entries ≡ insert_entry token_eq old.map.entries token fresh → ((rules : TokenRules) → Stands rules fresh.account []) → sums_of_counts fresh.counts ≡ sums_of_replies [] → HasPlaceFor old new token place
+pub made_last : (old new : Accounts) (token : Token) (place : ℕ) (fresh : KeptAccount)
+    → place ≡ length old.map.entries → kept_at old token ≡ None → kept_at new token ≡ Some fresh
+    → new.map.entries ≡ insert_entry token_eq old.map.entries token fresh
+    → ((rules : TokenRules) → Stands rules fresh.account [])
+    → sums_of_counts fresh.counts ≡ sums_of_replies [] → HasPlaceFor old new token place
 unfolding kept_at
 made_last old new token place fresh at none now entries stands counts =
-    let last : new.map.entries ≡ old.map.entries ++ (token, fresh) ∷ [] = entries ∙ insert_entry-new token_eq old.map token fresh none in
+    let last : new.map.entries ≡ old.map.entries ++ (token, fresh) ∷ [] =
+    entries ∙ insert_entry-new token_eq old.map token fresh none in
     record {
       kept = fresh;
       at = rw last (rw at (slice_get-last old.map.entries (token, fresh)));
@@ -78,24 +111,46 @@ record IsAt (token : Token) (es : List (Token × KeptAccount)) (place : ℕ) : T
   at : slice_get es place ≡ Some (token, kept)
   is : lookup (token_eq token) es ≡ Some kept
 
-slice_get-next : {X : Type 0} (x : X) (xs : List X) (n : ℕ) → slice_get (x ∷ xs) (1 + n) ≡ slice_get xs n
-slice_get-next x xs n = let same : 1 + n ≡ suc n = omega arith in ap (λ (i : ℕ). slice_get (x ∷ xs) i) same
+slice_get-next : {X : Type 0} (x : X) (xs : List X) (n : ℕ)
+    → slice_get (x ∷ xs) (1 + n) ≡ slice_get xs n
+slice_get-next x xs n = let same : 1 + n ≡ suc n = omega arith in
+    ap (λ (i : ℕ). slice_get (x ∷ xs) i) same
 
-at_index : (token : Token) (es : List (Token × KeptAccount)) → is_some (lookup (token_eq token) es) ≡ true → IsAt token es (position_or_len (token_eq token) (keys_of es))
+at_index : (token : Token) (es : List (Token × KeptAccount))
+    → is_some (lookup (token_eq token) es) ≡ true
+    → IsAt token es (position_or_len (token_eq token) (keys_of es))
 at_index token [] some = absurd (false≢true some)
 at_index token (e ∷ es) some =
     ⊎_elim
-    (λ (here : token_eq token e.0 ≡ true). rw here (record { kept = e.1; at = ap (λ (t : Token). Some (t, e.1)) (sym (same_token token e.0 here)); is = ap (λ (b : Bool). cond b (Some e.1) (lookup (token_eq token) es)) here }))
+    (λ (here : token_eq token e.0 ≡ true). rw here
+    (record {
+      kept = e.1;
+      at =
+          ap (λ (t : Token). Some (t, e.1)) (sym (same_token token e.0 here));
+      is =
+          ap (λ (b : Bool). cond b (Some e.1) (lookup (token_eq token) es)) here;
+    }))
     (λ (apart : token_eq token e.0 ≡ false).
-    let rest : IsAt token es (position_or_len (token_eq token) (keys_of es)) = at_index token es (ap (λ (b : Bool). is_some (cond b (Some e.1) (lookup (token_eq token) es))) (sym apart) ∙ some) in
-    rw apart (record { kept = rest.kept; at = slice_get-next e es _ ∙ rest.at; is = ap (λ (b : Bool). cond b (Some e.1) (lookup (token_eq token) es)) apart ∙ rest.is }))
+    let rest : IsAt token es (position_or_len (token_eq token) (keys_of es)) =
+    at_index token es
+    (ap (λ (b : Bool). is_some (cond b (Some e.1) (lookup (token_eq token) es))) (sym apart)
+    ∙ some) in
+    rw apart (record {
+      kept = rest.kept;
+      at = slice_get-next e es _ ∙ rest.at;
+      is =
+          ap (λ (b : Bool). cond b (Some e.1) (lookup (token_eq token) es)) apart ∙ rest.is;
+    }))
     (cases_Bool (token_eq token e.0))
 
 -- an account that was found stands at the index of its token
-pub made_found : (old new : Accounts) (token : Token) (place : ℕ) → new.map.entries ≡ old.map.entries → is_some (kept_at old token) ≡ true → place ≡ insert_index token_eq old.map token → HasPlaceFor old new token place
+pub made_found : (old new : Accounts) (token : Token) (place : ℕ)
+    → new.map.entries ≡ old.map.entries → is_some (kept_at old token) ≡ true
+    → place ≡ insert_index token_eq old.map token → HasPlaceFor old new token place
 unfolding kept_at
 made_found old new token place same some index =
-    let there : IsAt token old.map.entries (insert_index token_eq old.map token) = at_index token old.map.entries some in
+    let there : IsAt token old.map.entries (insert_index token_eq old.map token) =
+    at_index token old.map.entries some in
     record {
       kept = there.kept;
       at = rw same (rw index there.at);
@@ -104,11 +159,14 @@ made_found old new token place same some index =
     }
 
 -- so its index is below the number of accounts
-pub index-within : (accounts : Accounts) (token : Token) → is_some (kept_at accounts token) ≡ true → insert_index token_eq accounts.map token < length accounts.map.entries
+pub index-within : (accounts : Accounts) (token : Token) → is_some (kept_at accounts token) ≡ true
+    → insert_index token_eq accounts.map token < length accounts.map.entries
 unfolding kept_at
 index-within accounts token some =
-    let there : IsAt token accounts.map.entries (insert_index token_eq accounts.map token) = at_index token accounts.map.entries some in
-    slice_get_within accounts.map.entries (insert_index token_eq accounts.map token) (token, there.kept) there.at
+    let there : IsAt token accounts.map.entries (insert_index token_eq accounts.map token) =
+    at_index token accounts.map.entries some in
+    slice_get_within accounts.map.entries (insert_index token_eq accounts.map token)
+    (token, there.kept) there.at
 
 -- what is kept stands on where it stayed
 pub on-same : {old new : Option KeptAccount} → new ≡ old → StandsOn old new
@@ -117,26 +175,17 @@ on-same {old} {new} same = record {
   sums = ap counted same;
 }
 
--- and where it is kept now or is fresh
-pub on-made : {old new : Accounts} {token : Token} {place : ℕ} → HasPlaceFor old new token place → StandsOn (kept_at old token) (kept_at new token)
-on-made {old} {new} {token} made = record {
-  kept = λ rules taps kept. subst (λ (o : Option KeptAccount). IsKept rules o taps) (sym made.now) (stands_or rules (kept_at old token) made.kept taps made.is kept);
-  sums = ap counted made.now ∙ counted_or (kept_at old token) made.kept made.is;
-}
-
--- so all stand on where one was made
-pub on-all : {old new : Accounts} {token : Token} {place : ℕ} → HasPlaceFor old new token place → ((other : Token) → token_eq token other ≡ false → kept_at new other ≡ kept_at old other) → (other : Token) → StandsOn (kept_at old other) (kept_at new other)
-on-all {old} {new} {token} made others other =
-    ⊎_elim
-    (λ (here : token_eq token other ≡ true). subst (λ (t : Token). StandsOn (kept_at old t) (kept_at new t)) (same_token token other here) (on-made made))
-    (λ (apart : token_eq token other ≡ false). on-same (others other apart))
-    (cases_Bool (token_eq token other))
-
 -- no account moves where the entries stayed
-pub keep_found : (old new : List (Token × KeptAccount)) → new ≡ old → KeepPlaces (keys_of old) (keys_of new)
+pub keep_found : (old new : List (Token × KeptAccount)) → new ≡ old
+    → KeepPlaces (keys_of old) (keys_of new)
 keep_found old new same = keep_same (ap (λ (es : List (Token × KeptAccount)). keys_of es) same)
 
 -- nor where an account is opened
-pub keep_opened : (old : Accounts) (new : List (Token × KeptAccount)) (token : Token) (fresh : KeptAccount) → kept_at old token ≡ None → new ≡ insert_entry token_eq old.map.entries token fresh → KeepPlaces (tokens_of old) (keys_of new)
+pub keep_opened : (old : Accounts) (new : List (Token × KeptAccount)) (token : Token)
+    (fresh : KeptAccount) → kept_at old token ≡ None
+    → new ≡ insert_entry token_eq old.map.entries token fresh
+    → KeepPlaces (tokens_of old) (keys_of new)
 unfolding kept_at
-keep_opened old new token fresh none entries = keep_entries old.map.entries new (token, fresh) (entries ∙ insert_entry-new token_eq old.map token fresh none)
+keep_opened old new token fresh none entries =
+    keep_entries old.map.entries new (token, fresh)
+    (entries ∙ insert_entry-new token_eq old.map token fresh none)

@@ -1,71 +1,88 @@
 -- A history that is read entry by entry.
-use Rattle.std.proofs.Common.{◌≡◌, ℕ, ◌+◌, ◌<◌, ◌≤◌, List, [], ◌∷◌, ◌++◌, Some, None, length, take, slice_get, get_or, min, refl, sym, ap, ◌∙◌, ⊎_elim, arith}
-use Rattle.std.proofs.lemmas.List.{append_assoc, take_more}
+use Rattle.std.proofs.Common.{◌≡◌, ℕ, ◌+◌, ◌<◌, ◌≤◌, List, [], ◌∷◌, ◌++◌, Some, None, length, take}
+use Rattle.std.proofs.Common.{slice_get, get_or, min, refl, sym, ap, ◌∙◌, ⊎_elim, arith}
+use Rattle.std.proofs.lemmas.List.{append_assoc}
 use Rattle.std.proofs.lemmas.List.Elements.{filter-append}
 use Rattle.std.proofs.lemmas.Bool.{cases_lt}
-use Rattle.std.proofs.lemmas.Option.{slice_get-get_or, slice_get_past, slice_get_within, get_or_from_slice_get}
+use Rattle.std.proofs.lemmas.Option.{slice_get-get_or, slice_get_past, slice_get_within}
+use Rattle.std.proofs.lemmas.Option.{get_or_from_slice_get}
 use Rattle.account_rule.specs.declared.reply.Reply.{Reply}
 use Rattle.shard_book.specs.declared.entry.Entry.{Entry}
 use Rattle.tap_views.specs.declared.token.Token.{Token}
+use Rattle.tap_views.proofs.Lists.{take_next}
 use Rattle.shard_book.specs.Entry.{is_of, own, reply_of}
 use Rattle.shard_book.specs.Sums.{Sums, sums, sums_of_replies, add_sums}
 use Rattle.shard_book.proofs.SumsLemmas.{sums-more}
 
--- the entries before a place, and the one there
-pub taken_at : (entries : List Entry) (i : ℕ) (entry : Entry) → slice_get entries i ≡ Some entry → take i entries ++ entry ∷ [] ≡ take (i + 1) entries
-taken_at entries i entry at =
-    ap (λ (e : Entry). take i entries ++ e ∷ []) (sym (get_or_from_slice_get entries i entry entry at)) ∙ sym (take_more entries i entry (slice_get_within entries i entry at))
-
 -- the sums of one entry more
-pub sums-read : (entries : List Entry) (i : ℕ) (entry : Entry) (answered : Reply) (old new : Sums) → slice_get entries i ≡ Some entry → answered ≡ reply_of entry → old ≡ sums (take i entries) → new ≡ add_sums old (sums_of_replies (answered ∷ [])) → new ≡ sums (take (i + 1) entries)
+pub sums-read : (entries : List Entry) (i : ℕ) (entry : Entry) (answered : Reply) (old new : Sums)
+    → slice_get entries i ≡ Some entry → answered ≡ reply_of entry → old ≡ sums (take i entries)
+    → new ≡ add_sums old (sums_of_replies (answered ∷ [])) → new ≡ sums (take (i + 1) entries)
 sums-read entries i entry answered old new at is before added =
     sums-more entries i entry answered old new (slice_get_within entries i entry at)
     (is ∙ ap reply_of (sym (get_or_from_slice_get entries i entry entry at))) before added
 
 -- the token's own of one entry more, behind others
-pub own-read : (first entries old new : List Entry) (token : Token) (i : ℕ) (entry : Entry) → slice_get entries i ≡ Some entry → old ≡ first ++ own token (take i entries) → new ≡ old ++ own token (entry ∷ []) → new ≡ first ++ own token (take (i + 1) entries)
+pub own-read : (first entries old new : List Entry) (token : Token) (i : ℕ) (entry : Entry)
+    → slice_get entries i ≡ Some entry → old ≡ first ++ own token (take i entries)
+    → new ≡ old ++ own token (entry ∷ []) → new ≡ first ++ own token (take (i + 1) entries)
 unfolding own
 own-read first entries old new token i entry at before pushed =
     pushed
     ∙ ap (λ (es : List Entry). es ++ own token (entry ∷ [])) before
     ∙ append_assoc first (own token (take i entries)) (own token (entry ∷ []))
-    ∙ ap (λ (es : List Entry). first ++ es) (sym (filter-append (is_of token) (take i entries) (entry ∷ []))
-    ∙ ap (own token) (taken_at entries i entry at))
+    ∙ ap (λ (es : List Entry). first ++ es)
+    (sym (filter-append (is_of token) (take i entries) (entry ∷ []))
+    ∙ ap (own token) (take_next entries i entry at))
 
 -- one entry more behind others
-pub grown-read : (before entries : List Entry) (i : ℕ) (entry : Entry) → slice_get entries i ≡ Some entry → (before ++ take i entries) ++ entry ∷ [] ≡ before ++ take (i + 1) entries
+pub grown-read : (before entries : List Entry) (i : ℕ) (entry : Entry)
+    → slice_get entries i ≡ Some entry
+    → (before ++ take i entries) ++ entry ∷ [] ≡ before ++ take (i + 1) entries
 grown-read before entries i entry at =
-    append_assoc before (take i entries) (entry ∷ []) ∙ ap (λ (es : List Entry). before ++ es) (taken_at entries i entry at)
+    append_assoc before (take i entries) (entry ∷ [])
+    ∙ ap (λ (es : List Entry). before ++ es) (take_next entries i entry at)
 
 -- two histories that agree before a place, and at the place
-pub same-read : (left right : List Entry) (i : ℕ) (here there : Entry) → slice_get left i ≡ Some here → slice_get right i ≡ Some there → here ≡ there → take i left ≡ take i right → take (i + 1) left ≡ take (i + 1) right
+pub same-read : (left right : List Entry) (i : ℕ) (here there : Entry)
+    → slice_get left i ≡ Some here → slice_get right i ≡ Some there → here ≡ there
+    → take i left ≡ take i right → take (i + 1) left ≡ take (i + 1) right
 same-read left right i here there at other same before =
-    sym (taken_at left i here at)
+    sym (take_next left i here at)
     ∙ ap (λ (e : Entry). take i left ++ e ∷ []) same
     ∙ ap (λ (es : List Entry). es ++ there ∷ []) before
-    ∙ taken_at right i there other
+    ∙ take_next right i there other
 
-pub agree-more : (left right : List Entry) (i : ℕ) → i < length left → slice_get left i ≡ slice_get right i → take i left ≡ take i right → take (i + 1) left ≡ take (i + 1) right
+pub agree-more : (left right : List Entry) (i : ℕ) → i < length left
+    → slice_get left i ≡ slice_get right i → take i left ≡ take i right
+    → take (i + 1) left ≡ take (i + 1) right
 agree-more [] right i within same before = absurd (omega arith)
 agree-more (first ∷ left) right i within same before =
-    let at : slice_get (first ∷ left) i ≡ Some (get_or (first ∷ left) i first) = slice_get-get_or (first ∷ left) i first within in
-    same-read (first ∷ left) right i (get_or (first ∷ left) i first) (get_or (first ∷ left) i first) at (sym same ∙ at) refl before
+    let at : slice_get (first ∷ left) i ≡ Some (get_or (first ∷ left) i first) =
+    slice_get-get_or (first ∷ left) i first within in
+    same-read (first ∷ left) right i (get_or (first ∷ left) i first) (get_or (first ∷ left) i first)
+    at (sym same ∙ at) refl before
 
 -- where one list has ended and the other has not, they differ
-ended : (left right : List Entry) (place : ℕ) → length left ≤ place → place < length right → slice_get left place ≡ slice_get right place → ⊥
+ended : (left right : List Entry) (place : ℕ) → length left ≤ place → place < length right
+    → slice_get left place ≡ slice_get right place → ⊥
 ended left [] place past within same = omega arith
 ended left (first ∷ right) place past within same =
-    let some : slice_get (first ∷ right) place ≡ Some (get_or (first ∷ right) place first) = slice_get-get_or (first ∷ right) place first within in
+    let some : slice_get (first ∷ right) place ≡ Some (get_or (first ∷ right) place first) =
+    slice_get-get_or (first ∷ right) place first within in
     let none : slice_get left place ≡ None = slice_get_past left place past in
     cc
 
 -- so lists of two lengths differ at the end of the shorter
-pub ends-apart : (left right : List Entry) (place : ℕ) → (length left ≡ length right → ⊥) → place ≡ min (length left) (length right) → slice_get left place ≡ slice_get right place → ⊥
+pub ends-apart : (left right : List Entry) (place : ℕ) → (length left ≡ length right → ⊥)
+    → place ≡ min (length left) (length right) → slice_get left place ≡ slice_get right place → ⊥
 ends-apart left right place apart is same =
     ⊎_elim
-    (λ (shorter : length left < length right). ended left right place (omega arith) (omega arith) same)
+    (λ (shorter : length left < length right). ended left right place (omega arith) (omega arith)
+    same)
     (λ (other : length right ≤ length left). ⊎_elim
-    (λ (longer : length right < length left). ended right left place (omega arith) (omega arith) (sym same))
+    (λ (longer : length right < length left). ended right left place (omega arith) (omega arith)
+    (sym same))
     (λ (back : length left ≤ length right). apart (omega arith))
     (cases_lt (length right) (length left)))
     (cases_lt (length left) (length right))

@@ -5,12 +5,16 @@ pub mod ByKeyLemmas
 pub mod Histories
 pub mod HistoryLemmas
 pub mod MergeLemmas
+pub mod OwnEntries
 pub mod PackedLemmas
 pub mod PlainReplies
 pub mod RisingLemmas
 pub mod RunLemmas
+pub mod SameEntries
+pub mod SameUnderKeys
 pub mod SoundLemmas
 pub mod SummedLemmas
 pub mod TallyLemmas
+pub mod SumsByToken
 pub mod SumsLemmas
 pub mod WindowsLemmas

@@ -1,5 +1,7 @@
 -- Tallies that are added key by key to those of other entries.
-use Rattle.std.proofs.Common.{◌≡◌, ℕ, ◌+◌, ◌*◌, ◌≤◌, ◌^◌, Bool, true, false, cond, ◌||◌, List, [], ◌∷◌, ◌++◌, length, map, Option, Some, None, refl, sym, ap, subst, ◌∙◌, ⊎_elim, arith}
+use Rattle.std.proofs.Common.{◌≡◌, ℕ, ◌+◌, ◌*◌, ◌≤◌, ◌^◌, Bool, true, false, cond, ◌||◌, List, []}
+use Rattle.std.proofs.Common.{◌∷◌, ◌++◌, length, map, Option, Some, None, refl, sym, ap, subst, ◌∙◌}
+use Rattle.std.proofs.Common.{⊎_elim, arith}
 use Rattle.std.specs.Cmp.{IsEquivalence}
 use Rattle.std.specs.List.{list_any, IsDistinct}
 use Rattle.std.specs.HashMap.{HashMap, get, Updates}
@@ -11,6 +13,7 @@ use Rattle.std.proofs.lemmas.List.Elements.{filter-append}
 use Rattle.std.proofs.lemmas.List.Sums.{length-filter, count_by-le-length}
 use Rattle.std.proofs.lemmas.List.Folds.{list_any-append}
 use Rattle.std.proofs.lemmas.Grind.{flat_map-append}
+use Rattle.std.proofs.Math.Bool.{or-false, or-true}
 use Rattle.shard_book.specs.declared.entry.Entry.{Entry}
 use Rattle.shard_book.specs.declared.sums.tally.Tally.{Tally}
 use Rattle.shard_book.specs.Book.{Book}
@@ -22,25 +25,36 @@ use Rattle.shard_book.specs.Tally.{sums_of_tally}
 use Rattle.shard_book.proofs.ByKeyLemmas.{kept-or}
 use Rattle.shard_book.proofs.SumsLemmas.{sums-append, sums-taps}
 
--- what is kept of each key now and what is left to add make up what was kept at first and all that is to be added
-pub record IsAdding {K : Type 0} (eq : K → K → Bool) (first all now left : List (K × Tally)) : Type 0 where
-  pub sums : (key : K) → add_sums (kept_sums (lookup (eq key) now)) (kept_sums (lookup (eq key) left)) ≡ add_sums (kept_sums (lookup (eq key) first)) (kept_sums (lookup (eq key) all))
-  pub keys : (key : K) → (is_some (lookup (eq key) now) || is_some (lookup (eq key) left)) ≡ (is_some (lookup (eq key) first) || is_some (lookup (eq key) all))
+-- what is kept of each key now and what is left to add make up what was kept at first and all that
+-- is to be added
+pub record IsAdding {K : Type 0} (eq : K → K → Bool) (first all now left : List (K × Tally)) : Type
+    0 where
+  pub sums : (key : K)
+      → add_sums (kept_sums (lookup (eq key) now)) (kept_sums (lookup (eq key) left))
+      ≡ add_sums (kept_sums (lookup (eq key) first)) (kept_sums (lookup (eq key) all))
+  pub keys : (key : K)
+      → (is_some (lookup (eq key) now) || is_some (lookup (eq key) left))
+      ≡ (is_some (lookup (eq key) first) || is_some (lookup (eq key) all))
   pub distinct : IsDistinct eq (keys_of left)
 
 -- a map's entry, once a tally was added to its value
-pub tally-written : {K S : Type 0} (eq : K → K → Bool) (key : K) (old next : HashMap K Tally S) (pairs : List (K × Tally)) (kept fresh total more : Tally)
+pub tally-written : {K S : Type 0} (eq : K → K → Bool) (key : K) (old next : HashMap K Tally S)
+    (pairs : List (K × Tally)) (kept fresh total more : Tally)
     → pairs ≡ next.entries
     → Updates eq old next key (Some total)
     → kept ≡ unwrap_or (get eq old key) fresh
     → sums_of_tally fresh ≡ sums_of_replies []
     → sums_of_tally total ≡ add_sums (sums_of_tally kept) (sums_of_tally more)
-    → (sum : Tally) × (sums_of_tally sum ≡ add_sums (kept_sums (get eq old key)) (sums_of_tally more)) × ((other : K) → lookup (eq other) pairs ≡ cond (eq key other) (Some sum) (get eq old other))
-tally-written {K = K} eq key old next pairs kept fresh total more same_pairs updates is_kept none added = (
-  total,
-  added ∙ ap (λ (s : Sums). add_sums s (sums_of_tally more)) (kept-or (get eq old key) fresh kept is_kept none),
-  λ other. ap (λ (es : List (K × Tally)). lookup (eq other) es) same_pairs ∙ updates.0 other,
-)
+    → (sum : Tally)
+    × (sums_of_tally sum ≡ add_sums (kept_sums (get eq old key)) (sums_of_tally more))
+    × ((other : K) → lookup (eq other) pairs ≡ cond (eq key other) (Some sum) (get eq old other))
+tally-written {K = K} eq key old next pairs kept fresh total more same_pairs updates is_kept none
+    added = (
+      total,
+      added ∙ ap (λ (s : Sums). add_sums s (sums_of_tally more))
+          (kept-or (get eq old key) fresh kept is_kept none),
+      λ other. ap (λ (es : List (K × Tally)). lookup (eq other) es) same_pairs ∙ updates.0 other,
+    )
 
 -- nothing added changes no sums
 add-none : (s : Sums) → add_sums s (sums_of_replies []) ≡ s
@@ -58,25 +72,22 @@ add-none s = λ i. record {
     plus-none : (n : ℕ) → n + 0 ≡ n
     plus-none n = omega arith
 
-or-none : (a : Bool) → (a || false) ≡ a
-or-none true = refl
-or-none false = refl
-
-or-some : (a : Bool) → (a || true) ≡ true
-or-some true = refl
-or-some false = refl
-
-module _ {K : Type 0} {eq : K → K → Bool} (laws : IsEquivalence eq) (same : (a b : K) → eq a b ≡ true → a ≡ b) where
+module _ {K : Type 0} {eq : K → K → Bool} (laws : IsEquivalence eq)
+    (same : (a b : K) → eq a b ≡ true → a ≡ b) where
   -- a key that is apart from all others is not found among them
-  not-found : (key : K) (rest : List (K × Tally)) → IsDistinct eq (key ∷ keys_of rest) → lookup (eq key) rest ≡ None
+  not-found : (key : K) (rest : List (K × Tally)) → IsDistinct eq (key ∷ keys_of rest)
+      → lookup (eq key) rest ≡ None
   unfolding IsDistinct
   not-found key [] apart = refl
-  not-found key (pair ∷ rest) apart = ap (λ (b : Bool). cond b (Some pair.1) (lookup (eq key) rest)) (apart.0.0) ∙ not-found key rest (apart.0.1, apart.1.1)
+  not-found key (pair ∷ rest) apart =
+      ap (λ (b : Bool). cond b (Some pair.1) (lookup (eq key) rest)) (apart.0.0)
+      ∙ not-found key rest (apart.0.1, apart.1.1)
 
   -- one tally more is added
   pub adding-more : (first all now new rest : List (K × Tally)) (key : K) (tally sum : Tally)
       → sums_of_tally sum ≡ add_sums (kept_sums (lookup (eq key) now)) (sums_of_tally tally)
-      → ((other : K) → lookup (eq other) new ≡ cond (eq key other) (Some sum) (lookup (eq other) now))
+      → ((other : K) → lookup (eq other) new
+      ≡ cond (eq key other) (Some sum) (lookup (eq other) now))
       → IsAdding eq first all now ((key, tally) ∷ rest) → IsAdding eq first all new rest
   unfolding IsDistinct
   adding-more first all now new rest key tally sum added updates before = record {
@@ -84,56 +95,89 @@ module _ {K : Type 0} {eq : K → K → Bool} (laws : IsEquivalence eq) (same : 
         ⊎_elim
         (λ (here : eq key q ≡ true).
         let is : key ≡ q = same key q here in
-        let none : lookup (eq q) rest ≡ None = ap (λ (k : K). lookup (eq k) rest) (sym is) ∙ not-found key rest before.distinct in
-        ap (λ (o : Option Tally). add_sums (kept_sums o) (kept_sums (lookup (eq q) rest))) (updates q)
-        ∙ ap (λ (b : Bool). add_sums (kept_sums (cond b (Some sum) (lookup (eq q) now))) (kept_sums (lookup (eq q) rest))) here
+        let none : lookup (eq q) rest ≡ None =
+        ap (λ (k : K). lookup (eq k) rest) (sym is) ∙ not-found key rest before.distinct in
+        ap (λ (o : Option Tally). add_sums (kept_sums o) (kept_sums (lookup (eq q) rest)))
+        (updates q)
+        ∙ ap (λ (b : Bool). add_sums (kept_sums (cond b (Some sum) (lookup (eq q) now)))
+        (kept_sums (lookup (eq q) rest))) here
         ∙ ap (λ (o : Option Tally). add_sums (sums_of_tally sum) (kept_sums o)) none
         ∙ add-none (sums_of_tally sum)
         ∙ added
         ∙ ap (λ (k : K). add_sums (kept_sums (lookup (eq k) now)) (sums_of_tally tally)) is
-        ∙ ap (λ (b : Bool). add_sums (kept_sums (lookup (eq q) now)) (kept_sums (cond b (Some tally) (lookup (eq q) rest)))) (sym (laws.symm q key ∙ here))
+        ∙ ap (λ (b : Bool). add_sums (kept_sums (lookup (eq q) now))
+        (kept_sums (cond b (Some tally) (lookup (eq q) rest)))) (sym (laws.symm q key ∙ here))
         ∙ before.sums q)
         (λ (apart : eq key q ≡ false).
-        ap (λ (o : Option Tally). add_sums (kept_sums o) (kept_sums (lookup (eq q) rest))) (updates q)
-        ∙ ap (λ (b : Bool). add_sums (kept_sums (cond b (Some sum) (lookup (eq q) now))) (kept_sums (lookup (eq q) rest))) apart
-        ∙ ap (λ (b : Bool). add_sums (kept_sums (lookup (eq q) now)) (kept_sums (cond b (Some tally) (lookup (eq q) rest)))) (sym (laws.symm q key ∙ apart))
+        ap (λ (o : Option Tally). add_sums (kept_sums o) (kept_sums (lookup (eq q) rest)))
+        (updates q)
+        ∙ ap (λ (b : Bool). add_sums (kept_sums (cond b (Some sum) (lookup (eq q) now)))
+        (kept_sums (lookup (eq q) rest))) apart
+        ∙ ap (λ (b : Bool). add_sums (kept_sums (lookup (eq q) now))
+        (kept_sums (cond b (Some tally) (lookup (eq q) rest)))) (sym (laws.symm q key ∙ apart))
         ∙ before.sums q)
         (cases_Bool (eq key q));
     keys = λ q.
         ⊎_elim
         (λ (here : eq key q ≡ true).
         ap (λ (o : Option Tally). is_some o || is_some (lookup (eq q) rest)) (updates q)
-        ∙ ap (λ (b : Bool). is_some (cond b (Some sum) (lookup (eq q) now)) || is_some (lookup (eq q) rest)) here
-        ∙ sym (or-some (is_some (lookup (eq q) now)))
-        ∙ ap (λ (b : Bool). is_some (lookup (eq q) now) || is_some (cond b (Some tally) (lookup (eq q) rest))) (sym (laws.symm q key ∙ here))
+        ∙ ap (λ (b : Bool). is_some (cond b (Some sum) (lookup (eq q) now)) || is_some
+        (lookup (eq q) rest)) here
+        ∙ sym (or-true (is_some (lookup (eq q) now)))
+        ∙ ap (λ (b : Bool). is_some (lookup (eq q) now) || is_some
+        (cond b (Some tally) (lookup (eq q) rest))) (sym (laws.symm q key ∙ here))
         ∙ before.keys q)
         (λ (apart : eq key q ≡ false).
         ap (λ (o : Option Tally). is_some o || is_some (lookup (eq q) rest)) (updates q)
-        ∙ ap (λ (b : Bool). is_some (cond b (Some sum) (lookup (eq q) now)) || is_some (lookup (eq q) rest)) apart
-        ∙ ap (λ (b : Bool). is_some (lookup (eq q) now) || is_some (cond b (Some tally) (lookup (eq q) rest))) (sym (laws.symm q key ∙ apart))
+        ∙ ap (λ (b : Bool). is_some (cond b (Some sum) (lookup (eq q) now)) || is_some
+        (lookup (eq q) rest)) apart
+        ∙ ap (λ (b : Bool). is_some (lookup (eq q) now) || is_some
+        (cond b (Some tally) (lookup (eq q) rest))) (sym (laws.symm q key ∙ apart))
         ∙ before.keys q)
         (cases_Bool (eq key q));
     distinct = before.distinct.1;
   }
 
   -- there is room for each tally
-  pub room-adding : (key_of : Entry → K) (first all now rest : List (K × Tally)) (key : K) (tally : Tally) → HaveRoom eq key_of first all
-      → IsAdding eq first all now ((key, tally) ∷ rest) → (kept_sums (lookup (eq key) now)).taps + (sums_of_tally tally).taps ≤ 2 ^ 95
+  pub room-adding : (key_of : Entry → K) (first all now rest : List (K × Tally)) (key : K)
+      (tally : Tally) → HaveRoom eq key_of first all
+      → IsAdding eq first all now ((key, tally) ∷ rest)
+      → (kept_sums (lookup (eq key) now)).taps + (sums_of_tally tally).taps ≤ 2 ^ 95
   unfolding HaveRoom with_key
   room-adding key_of first all now rest key tally room adding =
-      let here : add_sums (kept_sums (lookup (eq key) now)) (sums_of_tally tally) ≡ add_sums (kept_sums (lookup (eq key) first)) (kept_sums (lookup (eq key) all)) =
-      ap (λ (b : Bool). add_sums (kept_sums (lookup (eq key) now)) (kept_sums (cond b (Some tally) (lookup (eq key) rest)))) (sym (laws.refl key)) ∙ adding.sums key in
-      let taps : (kept_sums (lookup (eq key) now)).taps + (sums_of_tally tally).taps ≡ (kept_sums (lookup (eq key) first)).taps + (kept_sums (lookup (eq key) all)).taps = ap (λ (s : Sums). s.taps) here in
-      let front : (kept_sums (lookup (eq key) first)).taps ≡ length (with_key eq key_of key room.0) = ap (λ (s : Sums). s.taps) (room.2.sums key) ∙ sums-taps (with_key eq key_of key room.0) in
-      let back : (kept_sums (lookup (eq key) all)).taps ≡ length (with_key eq key_of key room.1) = ap (λ (s : Sums). s.taps) (room.3.sums key) ∙ sums-taps (with_key eq key_of key room.1) in
-      let few : length (with_key eq key_of key room.0) ≤ length room.0 = omega (arith, length-filter (λ (entry : Entry). eq (key_of entry) key) room.0, count_by-le-length (λ (entry : Entry). eq (key_of entry) key) room.0) in
-      let few_more : length (with_key eq key_of key room.1) ≤ length room.1 = omega (arith, length-filter (λ (entry : Entry). eq (key_of entry) key) room.1, count_by-le-length (λ (entry : Entry). eq (key_of entry) key) room.1) in
+      let here : add_sums (kept_sums (lookup (eq key) now)) (sums_of_tally tally)
+      ≡ add_sums (kept_sums (lookup (eq key) first)) (kept_sums (lookup (eq key) all)) =
+      ap (λ (b : Bool). add_sums (kept_sums (lookup (eq key) now))
+      (kept_sums (cond b (Some tally) (lookup (eq key) rest)))) (sym (laws.refl key))
+      ∙ adding.sums key in
+      let taps : (kept_sums (lookup (eq key) now)).taps + (sums_of_tally tally).taps
+      ≡ (kept_sums (lookup (eq key) first)).taps + (kept_sums (lookup (eq key) all)).taps =
+      ap (λ (s : Sums). s.taps) here in
+      let front : (kept_sums (lookup (eq key) first)).taps
+      ≡ length (with_key eq key_of key room.0) =
+      ap (λ (s : Sums). s.taps) (room.2.sums key) ∙ sums-taps (with_key eq key_of key room.0) in
+      let back : (kept_sums (lookup (eq key) all)).taps ≡ length (with_key eq key_of key room.1) =
+      ap (λ (s : Sums). s.taps) (room.3.sums key) ∙ sums-taps (with_key eq key_of key room.1) in
+      let few : length (with_key eq key_of key room.0) ≤ length room.0 =
+      omega (
+        arith,
+        length-filter (λ (entry : Entry). eq (key_of entry) key) room.0,
+        count_by-le-length (λ (entry : Entry). eq (key_of entry) key) room.0,
+      ) in
+      let few_more : length (with_key eq key_of key room.1) ≤ length room.1 =
+      omega (
+        arith,
+        length-filter (λ (entry : Entry). eq (key_of entry) key) room.1,
+        count_by-le-length (λ (entry : Entry). eq (key_of entry) key) room.1,
+      ) in
       let bound : length room.0 + length room.1 ≤ 2 ^ 95 = room.4 in
       omega (arith, taps, front, back, few, few_more, bound)
 
   -- once nothing is left, the tallies are those of all entries
-  pub adding-done : (key_of : Entry → K) (first all now : List (K × Tally)) (before after : List Entry) → IsAdding eq first all now []
-      → AreByKey eq key_of before first → AreByKey eq key_of after all → AreByKey eq key_of (before ++ after) now
+  pub adding-done : (key_of : Entry → K) (first all now : List (K × Tally))
+      (before after : List Entry) → IsAdding eq first all now []
+      → AreByKey eq key_of before first → AreByKey eq key_of after all
+      → AreByKey eq key_of (before ++ after) now
   unfolding with_key
   adding-done key_of first all now before after adding front back = record {
     sums = λ q.
@@ -143,7 +187,7 @@ module _ {K : Type 0} {eq : K → K → Bool} (laws : IsEquivalence eq) (same : 
         ∙ sym (sums-append (with_key eq key_of q before) (with_key eq key_of q after))
         ∙ ap sums (sym (filter-append (λ e. eq (key_of e) q) before after));
     keys = λ q.
-        sym (or-none (is_some (lookup (eq q) now)))
+        sym (or-false (is_some (lookup (eq q) now)))
         ∙ adding.keys q
         ∙ (λ i. front.keys q i || back.keys q i)
         ∙ sym (list_any-append (eq q) (map key_of before) (map key_of after))
@@ -151,26 +195,42 @@ module _ {K : Type 0} {eq : K → K → Bool} (laws : IsEquivalence eq) (same : 
   }
 
 -- there is room for the tallies of two parts of the books
-pub parts-room : {K : Type 0} (eq : K → K → Bool) (key_of : Entry → K) (books front back : List Book) (first more : List (K × Tally))
+pub parts-room : {K : Type 0} (eq : K → K → Bool) (key_of : Entry → K)
+    (books front back : List Book) (first more : List (K × Tally))
     → length books ≤ 64 → books ≡ front ++ back
-    → length (all_entries front) ≤ length front * 2 ^ 64 → length (all_entries back) ≤ length back * 2 ^ 64
-    → AreByKey eq key_of (all_entries front) first → AreByKey eq key_of (all_entries back) more → HaveRoom eq key_of first more
+    → length (all_entries front) ≤ length front * 2 ^ 64
+    → length (all_entries back) ≤ length back * 2 ^ 64
+    → AreByKey eq key_of (all_entries front) first → AreByKey eq key_of (all_entries back) more
+    → HaveRoom eq key_of first more
 unfolding HaveRoom
 parts-room eq key_of books front back first more few parts few_front few_back by_key by_key_more =
-    let all : length books ≡ length front + length back = ap length parts ∙ length-append front back in
-    (all_entries front, all_entries back, by_key, by_key_more, omega (arith, few, all, few_front, few_back))
+    let all : length books ≡ length front + length back =
+    ap length parts ∙ length-append front back in (
+      all_entries front,
+      all_entries back,
+      by_key,
+      by_key_more,
+      omega (arith, few, all, few_front, few_back),
+    )
 
 -- the tallies of both parts are those of the books
-pub parts-by_key : {K : Type 0} (eq : K → K → Bool) (key_of : Entry → K) (books front back : List Book) (now : List (K × Tally))
-    → books ≡ front ++ back → AreByKey eq key_of (all_entries front ++ all_entries back) now → AreByKey eq key_of (all_entries books) now
+pub parts-by_key : {K : Type 0} (eq : K → K → Bool) (key_of : Entry → K)
+    (books front back : List Book) (now : List (K × Tally))
+    → books ≡ front ++ back → AreByKey eq key_of (all_entries front ++ all_entries back) now
+    → AreByKey eq key_of (all_entries books) now
 parts-by_key eq key_of books front back now parts by_key =
-    subst (λ (entries : List Entry). AreByKey eq key_of entries now) (sym (ap all_entries parts ∙ flat_map-append (λ (book : Book). book.entries) front back)) by_key
+    subst (λ (entries : List Entry). AreByKey eq key_of entries now)
+    (sym (ap all_entries parts ∙ flat_map-append (λ (book : Book). book.entries) front back)) by_key
 
 -- so few entries have the books as their parts have
 pub parts-few : (books front back : List Book) → books ≡ front ++ back
-    → length (all_entries front) ≤ length front * 2 ^ 64 → length (all_entries back) ≤ length back * 2 ^ 64 → length (all_entries books) ≤ length books * 2 ^ 64
+    → length (all_entries front) ≤ length front * 2 ^ 64
+    → length (all_entries back) ≤ length back * 2 ^ 64
+    → length (all_entries books) ≤ length books * 2 ^ 64
 parts-few books front back parts few_front few_back =
-    let all : length books ≡ length front + length back = ap length parts ∙ length-append front back in
+    let all : length books ≡ length front + length back =
+    ap length parts ∙ length-append front back in
     let both : length (all_entries books) ≡ length (all_entries front) + length (all_entries back) =
-    ap length (ap all_entries parts ∙ flat_map-append (λ (book : Book). book.entries) front back) ∙ length-append (all_entries front) (all_entries back) in
+    ap length (ap all_entries parts ∙ flat_map-append (λ (book : Book). book.entries) front back)
+    ∙ length-append (all_entries front) (all_entries back) in
     omega (arith, all, both, few_front, few_back)

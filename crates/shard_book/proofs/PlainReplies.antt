@@ -1,6 +1,9 @@
--- Two legal histories in which the taps of a token are the same have the same entries of that token.
-use Rattle.std.specs.Prelude.{◌≡◌, ◌⊎◌, Bool, true, false, cond, List, [], ◌∷◌, ◌++◌, length, map, filter}
-use Rattle.std.proofs.Common.{refl, sym, ◌∙◌, ap, inl, inr, subst, arith, append-nil, append_assoc, length-append}
+-- Two legal histories in which the taps of a token are the same have the same entries of that
+-- token.
+use Rattle.std.specs.Prelude.{◌≡◌, Bool, true, false, cond, List, [], ◌∷◌, ◌++◌, length, map}
+use Rattle.std.specs.Prelude.{filter}
+use Rattle.std.proofs.Common.{refl, sym, ◌∙◌, ap, subst, arith, append-nil, append_assoc}
+use Rattle.std.proofs.Common.{length-append}
 use Rattle.std.proofs.lemmas.List.{map-append}
 use Rattle.std.proofs.lemmas.List.Elements.{filter-append}
 use Rattle.fare_table.specs.Fares.{Fares}
@@ -16,80 +19,118 @@ use Rattle.shard_book.specs.History.{IsReplied, IsLegal}
 use Rattle.shard_book.specs.Keys.{same_token}
 use Rattle.tap_views.specs.Token.{bytes_of}
 use Rattle.shard_book.specs.Plain.{with_reply, answered, unanswered, plain_after, plain}
+use Rattle.shard_book.proofs.Histories.{legal-push}
+use Rattle.shard_book.proofs.OwnEntries.{own_other, own_same}
 
 -- an entry without its reply
 abbrev pub bare : Entry → Entry
-bare entry = record { token = entry.token; validator = entry.validator; moment = entry.moment; answer = Unknown; cents = 0 }
+bare entry = record {
+  token = entry.token;
+  validator = entry.validator;
+  moment = entry.moment;
+  answer =
+      Unknown;
+  cents = 0;
+}
 
 -- entries of one token, answered again after its earlier taps
 again : Fares → TokenRules → List TapIn → List Entry → List Entry
 again fares rules earlier [] = []
 again fares rules earlier (entry ∷ entries) =
-    with_reply entry (reply rules earlier (tap_of fares entry)) ∷ again fares rules (earlier ++ tap_of fares entry ∷ []) entries
+    with_reply entry (reply rules earlier (tap_of fares entry)) ∷ again fares rules
+    (earlier ++ tap_of fares entry ∷ []) entries
 
 tap_bare : (fares : Fares) (entry : Entry) → tap_of fares (bare entry) ≡ tap_of fares entry
 unfolding tap_of
 tap_bare fares entry = refl
 
 -- the taps of a token after one entry more
-taps_same : (fares : Fares) (token : Token) (entries : List Entry) (entry : Entry) → is_of token entry ≡ true
-    → taps_of fares token (entries ++ entry ∷ []) ≡ taps_of fares token entries ++ tap_of fares entry ∷ []
+taps_same : (fares : Fares) (token : Token) (entries : List Entry) (entry : Entry)
+    → is_of token entry ≡ true
+    → taps_of fares token (entries ++ entry ∷ [])
+    ≡ taps_of fares token entries ++ tap_of fares entry ∷ []
 unfolding taps_of own
 taps_same fares token entries entry is =
-    ap (map (tap_of fares)) (filter-append (is_of token) entries (entry ∷ []) ∙ ap (λ b. filter (is_of token) entries ++ cond b (entry ∷ []) []) is)
+    ap (map (tap_of fares))
+    (filter-append (is_of token) entries (entry ∷ [])
+    ∙ ap (λ b. filter (is_of token) entries ++ cond b (entry ∷ []) []) is)
     ∙ map-append (tap_of fares) (filter (is_of token) entries) (entry ∷ [])
 
-taps_other : (fares : Fares) (token : Token) (entries : List Entry) (entry : Entry) → is_of token entry ≡ false
+taps_other : (fares : Fares) (token : Token) (entries : List Entry) (entry : Entry)
+    → is_of token entry ≡ false
     → taps_of fares token (entries ++ entry ∷ []) ≡ taps_of fares token entries
 unfolding taps_of own
 taps_other fares token entries entry is =
-    ap (map (tap_of fares)) (filter-append (is_of token) entries (entry ∷ []) ∙ ap (λ b. filter (is_of token) entries ++ cond b (entry ∷ []) []) is ∙ append-nil (filter (is_of token) entries))
-
-own_same : (token : Token) (entry : Entry) (entries : List Entry) → is_of token entry ≡ true → own token (entry ∷ entries) ≡ entry ∷ own token entries
-unfolding own
-own_same token entry entries is = ap (λ b. cond b (entry ∷ filter (is_of token) entries) (filter (is_of token) entries)) is
-
-own_other : (token : Token) (entry : Entry) (entries : List Entry) → is_of token entry ≡ false → own token (entry ∷ entries) ≡ own token entries
-unfolding own
-own_other token entry entries is = ap (λ b. cond b (entry ∷ filter (is_of token) entries) (filter (is_of token) entries)) is
+    ap (map (tap_of fares))
+    (filter-append (is_of token) entries (entry ∷ [])
+    ∙ ap (λ b. filter (is_of token) entries ++ cond b (entry ∷ []) []) is
+    ∙ append-nil (filter (is_of token) entries))
 
 -- the entry of a legal history is its taps' fields with the rule's reply
-replied_again : (fares : Fares) (token : Token) (front : List Entry) (entry : Entry) → entry.token ≡ token → IsReplied fares front entry
-    → entry ≡ with_reply (bare entry) (reply (rules_of fares (bytes_of token)) (taps_of fares token front) (tap_of fares (bare entry)))
+replied_again : (fares : Fares) (token : Token) (front : List Entry) (entry : Entry)
+    → entry.token ≡ token → IsReplied fares front entry
+    → entry ≡ with_reply (bare entry)
+    (reply (rules_of fares (bytes_of token)) (taps_of fares token front)
+    (tap_of fares (bare entry)))
 unfolding IsReplied
 replied_again fares token front entry is replied =
-    ap (with_reply entry) (replied ∙ ap (λ t. reply (rules_of fares (bytes_of t)) (taps_of fares t front) (tap_of fares entry)) is)
-    ∙ ap (λ t. with_reply entry (reply (rules_of fares (bytes_of token)) (taps_of fares token front) t)) (sym (tap_bare fares entry))
+    ap (with_reply entry)
+    (replied ∙ ap
+    (λ t. reply (rules_of fares (bytes_of t)) (taps_of fares t front) (tap_of fares entry)) is)
+    ∙ ap (λ t. with_reply entry
+    (reply (rules_of fares (bytes_of token)) (taps_of fares token front) t))
+    (sym (tap_bare fares entry))
 
-legal_again : (fares : Fares) (token : Token) (front rest : List Entry) → IsLegal fares (front ++ rest)
-    → own token rest ≡ again fares (rules_of fares (bytes_of token)) (taps_of fares token front) (map bare (own token rest))
+legal_again : (fares : Fares) (token : Token) (front rest : List Entry)
+    → IsLegal fares (front ++ rest)
+    → own token rest ≡ again fares (rules_of fares (bytes_of token)) (taps_of fares token front)
+    (map bare (own token rest))
 unfolding own again
 legal_again fares token front [] legal = refl
 legal_again fares token front (entry ∷ rest) legal =
-    by_test (is_of token entry) refl (legal_again fares token (front ++ entry ∷ []) rest (subst (λ es. IsLegal fares es) (sym (append_assoc front (entry ∷ []) rest)) legal))
+    by_test (is_of token entry) refl
+    (legal_again fares token (front ++ entry ∷ []) rest
+    (subst (λ es. IsLegal fares es) (sym (append_assoc front (entry ∷ []) rest)) legal))
   where
     rules : TokenRules
     rules = rules_of fares (bytes_of token)
 
     by_test : (b : Bool) → is_of token entry ≡ b
-        → own token rest ≡ again fares (rules_of fares (bytes_of token)) (taps_of fares token (front ++ entry ∷ [])) (map bare (own token rest))
-        → own token (entry ∷ rest) ≡ again fares (rules_of fares (bytes_of token)) (taps_of fares token front) (map bare (own token (entry ∷ rest)))
+        → own token rest ≡ again fares (rules_of fares (bytes_of token))
+        (taps_of fares token (front ++ entry ∷ [])) (map bare (own token rest))
+        → own token (entry ∷ rest)
+        ≡ again fares (rules_of fares (bytes_of token)) (taps_of fares token front)
+        (map bare (own token (entry ∷ rest)))
     by_test true is more =
-        let A : List Entry → List Entry = λ es. again fares (rules_of fares (bytes_of token)) (taps_of fares token front) (map bare es) in
-        let T : List TapIn → List Entry = λ ts. again fares (rules_of fares (bytes_of token)) ts (map bare (own token rest)) in
-        let first = replied_again fares token front entry (same_token entry.token token is) (legal.each front entry rest refl) in
-        let then : own token rest ≡ T (taps_of fares token front ++ tap_of fares (bare entry) ∷ []) =
-        more ∙ ap T (taps_same fares token front entry is ∙ ap (λ t. taps_of fares token front ++ t ∷ []) (sym (tap_bare fares entry))) in
+        let A : List Entry → List Entry =
+        λ es. again fares (rules_of fares (bytes_of token)) (taps_of fares token front)
+        (map bare es) in
+        let T : List TapIn → List Entry =
+        λ ts. again fares (rules_of fares (bytes_of token)) ts (map bare (own token rest)) in
+        let first = replied_again fares token front entry (same_token entry.token token is)
+        (legal.each front entry rest refl) in
+        let then : own token rest
+        ≡ T (taps_of fares token front ++ tap_of fares (bare entry) ∷ []) =
+        more ∙ ap T
+        (taps_same fares token front entry is
+        ∙ ap (λ t. taps_of fares token front ++ t ∷ []) (sym (tap_bare fares entry))) in
         own_same token entry rest is ∙ ap (λ e. e ∷ own token rest) first
-        ∙ ap (λ es. with_reply (bare entry) (reply (rules_of fares (bytes_of token)) (taps_of fares token front) (tap_of fares (bare entry))) ∷ es) then
+        ∙ ap (λ es. with_reply (bare entry)
+        (reply (rules_of fares (bytes_of token)) (taps_of fares token front)
+        (tap_of fares (bare entry))) ∷ es) then
         ∙ sym (ap A (own_same token entry rest is))
     by_test false is more =
-        let A : List Entry → List Entry = λ es. again fares (rules_of fares (bytes_of token)) (taps_of fares token front) (map bare es) in
-        let T : List TapIn → List Entry = λ ts. again fares (rules_of fares (bytes_of token)) ts (map bare (own token rest)) in
-        own_other token entry rest is ∙ more ∙ ap T (taps_other fares token front entry is) ∙ sym (ap A (own_other token entry rest is))
+        let A : List Entry → List Entry =
+        λ es. again fares (rules_of fares (bytes_of token)) (taps_of fares token front)
+        (map bare es) in
+        let T : List TapIn → List Entry =
+        λ ts. again fares (rules_of fares (bytes_of token)) ts (map bare (own token rest)) in
+        own_other token entry rest is ∙ more ∙ ap T (taps_other fares token front entry is)
+        ∙ sym (ap A (own_other token entry rest is))
 
 -- the same taps of a token have the same replies
-pub same_replies : (fares : Fares) (token : Token) (one other : List Entry) → IsLegal fares one → IsLegal fares other
+pub same_replies : (fares : Fares) (token : Token) (one other : List Entry) → IsLegal fares one
+    → IsLegal fares other
     → map bare (own token one) ≡ map bare (own token other) → own token one ≡ own token other
 same_replies fares token one other legal legal' same =
     legal_again fares token [] one legal
@@ -97,65 +138,62 @@ same_replies fares token one other legal legal' same =
     ∙ sym (legal_again fares token [] other legal')
 
 -- ---- the plain history is legal, and has the fields of the taps
-abbrev Snoc : {X : Type 0} → List X → X → List X → X → List X → Type 0
-Snoc {X = X} xs x before y after = ((xs ≡ before) × (x ≡ y)) ⊎ ((rest : List X) × (xs ≡ before ++ y ∷ rest))
 
-snoc_cases : {X : Type 0} (xs : List X) (x : X) (before : List X) (y : X) (after : List X) → xs ++ x ∷ [] ≡ before ++ y ∷ after → Snoc xs x before y after
-snoc_cases [] x [] y after e = inl (refl, cc)
-snoc_cases [] x (b ∷ before) y after e = absurd (omega (arith, ap length e, length-append before (y ∷ after)))
-snoc_cases (z ∷ xs) x [] y after e = let same : z ≡ y = cc in inr (xs, ap (λ w. w ∷ xs) same)
-snoc_cases {X = X} (z ∷ xs) x (b ∷ before) y after e =
-    let same : z ≡ b = cc in
-    let rest : xs ++ x ∷ [] ≡ before ++ y ∷ after = cc in
-    more same (snoc_cases xs x before y after rest)
-  where
-    more : z ≡ b → Snoc xs x before y after → Snoc (z ∷ xs) x (b ∷ before) y after
-    more same (inl (is, last)) = inl (ap (λ w. w ∷ xs) same ∙ ap (λ ws. b ∷ ws) is, last)
-    more same (inr (rest, is)) = inr (rest, ap (λ w. w ∷ xs) same ∙ ap (λ ws. b ∷ ws) is)
-
-legal_push : (fares : Fares) (entries : List Entry) (entry : Entry) → IsLegal fares entries → IsReplied fares entries entry → IsLegal fares (entries ++ entry ∷ [])
-legal_push fares entries entry legal replied = record { each = λ before other after e. by_place before other after (snoc_cases entries entry before other after e) }
-  where
-    by_place : (before : List Entry) (other : Entry) (after : List Entry) → Snoc entries entry before other after → IsReplied fares before other
-    by_place before other after (inl (is, last)) = subst (λ es. IsReplied fares es other) is (subst (λ x. IsReplied fares entries x) last replied)
-    by_place before other after (inr (rest, is)) = legal.each before other rest is
-
-is_replied : (fares : Fares) (earlier : List Entry) (tap : Tap) → IsReplied fares earlier (answered fares earlier (unanswered tap))
+is_replied : (fares : Fares) (earlier : List Entry) (tap : Tap)
+    → IsReplied fares earlier (answered fares earlier (unanswered tap))
 unfolding IsReplied answered tap_of
 is_replied fares earlier tap = refl
 
-plain_legal_after : (fares : Fares) (earlier : List Entry) (taps : List Tap) → IsLegal fares earlier → IsLegal fares (earlier ++ plain_after fares earlier taps)
+plain_legal_after : (fares : Fares) (earlier : List Entry) (taps : List Tap) → IsLegal fares earlier
+    → IsLegal fares (earlier ++ plain_after fares earlier taps)
 unfolding plain_after
-plain_legal_after fares earlier [] legal = subst (λ es. IsLegal fares es) (sym (append-nil earlier)) legal
+plain_legal_after fares earlier [] legal =
+    subst (λ es. IsLegal fares es) (sym (append-nil earlier)) legal
 plain_legal_after fares earlier (tap ∷ taps) legal =
     let entry = answered fares earlier (unanswered tap) in
-    subst (λ es. IsLegal fares es) (append_assoc earlier (entry ∷ []) (plain_after fares (earlier ++ entry ∷ []) taps))
-    (plain_legal_after fares (earlier ++ entry ∷ []) taps (legal_push fares earlier entry legal (is_replied fares earlier tap)))
+    subst (λ es. IsLegal fares es)
+    (append_assoc earlier (entry ∷ []) (plain_after fares (earlier ++ entry ∷ []) taps))
+    (plain_legal_after fares (earlier ++ entry ∷ []) taps
+    (legal-push fares earlier entry legal (is_replied fares earlier tap)))
 
+-- a plain history is legal
 pub plain_legal : (fares : Fares) (taps : List Tap) → IsLegal fares (plain fares taps)
 plain_legal fares taps =
-    plain_legal_after fares [] taps (record { each = λ before entry after e. absurd (omega (arith, ap length e, length-append before (entry ∷ after))) })
+    plain_legal_after fares [] taps
+    (record {
+      each = λ before entry after e. absurd
+          (omega (arith, ap length e, length-append before (entry ∷ after)));
+    })
 
-bare_answered : (fares : Fares) (earlier : List Entry) (tap : Tap) → bare (answered fares earlier (unanswered tap)) ≡ unanswered tap
+bare_answered : (fares : Fares) (earlier : List Entry) (tap : Tap)
+    → bare (answered fares earlier (unanswered tap)) ≡ unanswered tap
 unfolding answered
 bare_answered fares earlier tap = refl
 
-pub plain_bare : (fares : Fares) (earlier : List Entry) (taps : List Tap) → map bare (plain_after fares earlier taps) ≡ map unanswered taps
+-- without its replies a plain history is its taps
+pub plain_bare : (fares : Fares) (earlier : List Entry) (taps : List Tap)
+    → map bare (plain_after fares earlier taps) ≡ map unanswered taps
 unfolding plain_after
 plain_bare fares earlier [] = refl
 plain_bare fares earlier (tap ∷ taps) =
     let entry = answered fares earlier (unanswered tap) in
-    ap (λ e. e ∷ map bare (plain_after fares (earlier ++ entry ∷ []) taps)) (bare_answered fares earlier tap)
+    ap (λ e. e ∷ map bare (plain_after fares (earlier ++ entry ∷ []) taps))
+    (bare_answered fares earlier tap)
     ∙ ap (λ es. unanswered tap ∷ es) (plain_bare fares (earlier ++ entry ∷ []) taps)
 
 -- the own entries of a token, without their replies
-pub own_bare : (token : Token) (entries : List Entry) → map bare (own token entries) ≡ own token (map bare entries)
+pub own_bare : (token : Token) (entries : List Entry)
+    → map bare (own token entries) ≡ own token (map bare entries)
 unfolding own
 own_bare token [] = refl
 own_bare token (entry ∷ entries) = by_test (is_of token entry) refl (own_bare token entries)
   where
-    by_test : (b : Bool) → is_of token entry ≡ b → map bare (filter (is_of token) entries) ≡ filter (is_of token) (map bare entries)
-        → map bare (cond (is_of token entry) (entry ∷ filter (is_of token) entries) (filter (is_of token) entries))
-        ≡ cond (is_of token entry) (bare entry ∷ filter (is_of token) (map bare entries)) (filter (is_of token) (map bare entries))
+    by_test : (b : Bool) → is_of token entry ≡ b
+        → map bare (filter (is_of token) entries) ≡ filter (is_of token) (map bare entries)
+        → map bare
+        (cond (is_of token entry) (entry ∷ filter (is_of token) entries)
+        (filter (is_of token) entries))
+        ≡ cond (is_of token entry) (bare entry ∷ filter (is_of token) (map bare entries))
+        (filter (is_of token) (map bare entries))
     by_test true is more = rw is (ap (λ es. bare entry ∷ es) more)
     by_test false is more = rw is more

@@ -27,7 +27,11 @@ use Rattle.shard_book.proofs.Histories.{legal-none, legal-push, kept-push, tap_o
 use Rattle.shard_book.proofs.PackedLemmas.{history-same, placed-kept, placed-none}
 
 -- nothing was posted: the entries are the same, and what is kept of the tokens stands on
-pub sound-on : {table : Fares} {shard shards : ℕ} {accounts after : Accounts} {entries items : List Entry} → items ≡ entries → ((other : Token) → StandsOn (kept_at accounts other) (kept_at after other)) → (IsCounting after → IsCounting accounts) → IsSound table shard shards accounts entries → IsSound table shard shards after items
+pub sound-on : {table : Fares} {shard shards : ℕ} {accounts after : Accounts}
+    {entries items : List Entry} → items ≡ entries
+    → ((other : Token) → StandsOn (kept_at accounts other) (kept_at after other))
+    → (IsCounting after → IsCounting accounts) → IsSound table shard shards accounts entries
+    → IsSound table shard shards after items
 unfolding AreKept
 sound-on {table} {shard} {shards} {accounts} {after} {entries} {items} same others counting sound =
     subst (λ (es : List Entry). IsSound table shard shards after es) (sym same) (record {
@@ -36,86 +40,128 @@ sound-on {table} {shard} {shards} {accounts} {after} {entries} {items} same othe
       legal = sound.legal;
       here = sound.here;
       fits = sound.fits;
-      kept = λ token. (others token).kept (rules_of table (bytes_of token)) (taps_of table token entries) (sound.kept token);
-      counted = λ counts. counted-same accounts after entries (sound.counted (counting counts)) (λ other. (others other).sums);
+      kept = λ token. (others token).kept (rules_of table (bytes_of token))
+          (taps_of table token entries) (sound.kept token);
+      counted = λ counts. counted-same accounts after entries (sound.counted (counting counts))
+          (λ other. (others other).sums);
     })
 
--- nothing was posted: the entries are the same, and all accounts stayed
-pub sound-same : {table : Fares} {shard shards : ℕ} {accounts after : Accounts} {entries items : List Entry} → items ≡ entries → ((other : Token) → kept_at after other ≡ kept_at accounts other) → (IsCounting after → IsCounting accounts) → IsSound table shard shards accounts entries → IsSound table shard shards after items
-sound-same same others counting sound = sound-on same (λ other. on-same (others other)) counting sound
-
 -- one entry was posted
-pub sound-push : {table : Fares} {shard shards : ℕ} {accounts after : Accounts} {entries items : List Entry} (entry : Entry) → items ≡ entries ++ entry ∷ []
+pub sound-push : {table : Fares} {shard shards : ℕ} {accounts after : Accounts}
+    {entries items : List Entry} (entry : Entry) → items ≡ entries ++ entry ∷ []
     → IsSound table shard shards accounts entries
     → shard_of_token (bytes_of entry.token) shards ≡ shard
     → Fits entry.token
     → IsReplied table entries entry
-    → IsKept (rules_of table (bytes_of entry.token)) (kept_at after entry.token) (taps_of table entry.token entries ++ tap_of table entry ∷ [])
-    → (IsCounting after → counted (kept_at after entry.token) ≡ add_sums (counted (kept_at accounts entry.token)) (sums_of_replies (reply_of entry ∷ [])))
+    → IsKept (rules_of table (bytes_of entry.token)) (kept_at after entry.token)
+    (taps_of table entry.token entries ++ tap_of table entry ∷ [])
+    → (IsCounting after → counted (kept_at after entry.token)
+    ≡ add_sums (counted (kept_at accounts entry.token)) (sums_of_replies (reply_of entry ∷ [])))
     → (IsCounting after → IsCounting accounts)
-    → ((other : Token) → token_eq entry.token other ≡ false → kept_at after other ≡ kept_at accounts other)
+    → ((other : Token) → token_eq entry.token other ≡ false
+    → kept_at after other ≡ kept_at accounts other)
     → IsSound table shard shards after items
-sound-push {table} {shard} {shards} {accounts} {after} {entries} {items} entry pushed sound here fits replied own_kept added counting others =
+sound-push {table} {shard} {shards} {accounts} {after} {entries} {items} entry pushed sound here
+    fits replied own_kept added counting others =
     subst (λ (es : List Entry). IsSound table shard shards after es) (sym pushed) (record {
       within = sound.within;
       few = sound.few;
       legal = legal-push table entries entry sound.legal replied;
-      here = record { each = All-push (λ (e : Entry). shard_of_token (bytes_of e.token) shards ≡ shard) entries entry sound.here.each here };
+      here = record {
+        each = All-push (λ (e : Entry). shard_of_token (bytes_of e.token) shards ≡ shard)
+            entries entry sound.here.each here;
+      };
       fits = All-push (λ (e : Entry). Fits e.token) entries entry sound.fits fits;
       kept = kept-push table accounts after entries entry sound.kept own_kept others;
-      counted = λ counts. counted-push accounts after entries entry (sound.counted (counting counts)) (added counts) others;
+      counted = λ counts. counted-push accounts after entries entry
+          (sound.counted (counting counts)) (added counts) others;
     })
 
 -- one tap was posted: what the account's step tells makes the book sound again
-pub sound-post : {table : Fares} {shard shards : ℕ} {accounts after : Accounts} {entries items : List Entry} (entry : Entry) (mode : Option Mode)
+pub sound-post : {table : Fares} {shard shards : ℕ} {accounts after : Accounts}
+    {entries items : List Entry} (entry : Entry) (mode : Option Mode)
     → items ≡ entries ++ entry ∷ []
     → IsSound table shard shards accounts entries
     → shard_of_token (bytes_of entry.token) shards ≡ shard
     → Fits entry.token
     → option_map (λ m. m.place) mode ≡ mode_at table entry.validator
-    → ((taps : List TapIn) → IsKept (rules_of table (bytes_of entry.token)) (kept_at accounts entry.token) taps
-    → reply_of entry ≡ reply (rules_of table (bytes_of entry.token)) taps (record { moment = entry.moment; mode = mode }))
-    → ((taps : List TapIn) → IsKept (rules_of table (bytes_of entry.token)) (kept_at accounts entry.token) taps
-    → IsKept (rules_of table (bytes_of entry.token)) (kept_at after entry.token) (taps ++ record { moment = entry.moment; mode = mode } ∷ []))
-    → (IsCounting after → counted (kept_at after entry.token) ≡ add_sums (counted (kept_at accounts entry.token)) (sums_of_replies (reply_of entry ∷ [])))
+    → ((taps : List TapIn)
+    → IsKept (rules_of table (bytes_of entry.token)) (kept_at accounts entry.token) taps
+    → reply_of entry ≡ reply (rules_of table (bytes_of entry.token)) taps
+    (record { moment = entry.moment; mode = mode }))
+    → ((taps : List TapIn)
+    → IsKept (rules_of table (bytes_of entry.token)) (kept_at accounts entry.token) taps
+    → IsKept (rules_of table (bytes_of entry.token)) (kept_at after entry.token)
+    (taps ++ record { moment = entry.moment; mode = mode } ∷ []))
+    → (IsCounting after → counted (kept_at after entry.token)
+    ≡ add_sums (counted (kept_at accounts entry.token)) (sums_of_replies (reply_of entry ∷ [])))
     → (IsCounting after → IsCounting accounts)
-    → ((other : Token) → token_eq entry.token other ≡ false → kept_at after other ≡ kept_at accounts other)
+    → ((other : Token) → token_eq entry.token other ≡ false
+    → kept_at after other ≡ kept_at accounts other)
     → IsSound table shard shards after items
 unfolding AreKept IsReplied
-sound-post {table} {shard} {shards} {accounts} {after} {entries} {items} entry mode pushed sound here fits is_mode by_rule stands added counting others =
-    let tap_is : tap_of table entry ≡ record { moment = entry.moment; mode = mode } = tap_of-post table entry mode is_mode in
+sound-post {table} {shard} {shards} {accounts} {after} {entries} {items} entry mode pushed sound
+    here fits is_mode by_rule stands added counting others =
+    let tap_is : tap_of table entry ≡ record { moment = entry.moment; mode = mode } =
+    tap_of-post table entry mode is_mode in
     sound-push entry pushed sound here fits
-    (by_rule _ (sound.kept entry.token) ∙ ap (λ (tap : TapIn). reply (rules_of table (bytes_of entry.token)) (taps_of table entry.token entries) tap) (sym tap_is))
-    (subst (λ (tap : TapIn). IsKept (rules_of table (bytes_of entry.token)) (kept_at after entry.token) (taps_of table entry.token entries ++ tap ∷ [])) (sym tap_is) (stands _ (sound.kept entry.token)))
+    (by_rule _ (sound.kept entry.token)
+    ∙ ap (λ (tap : TapIn). reply (rules_of table (bytes_of entry.token))
+    (taps_of table entry.token entries) tap) (sym tap_is))
+    (subst (λ (tap : TapIn). IsKept (rules_of table (bytes_of entry.token))
+    (kept_at after entry.token) (taps_of table entry.token entries ++ tap ∷ [])) (sym tap_is)
+    (stands _ (sound.kept entry.token)))
     added counting others
 
 -- a book without entries and without accounts is sound
-pub sound-none : {table : Fares} {shard shards : ℕ} {accounts : Accounts} {items : List Entry} → items ≡ [] → shard < shards → shards ≤ 64 → ((token : Token) → kept_at accounts token ≡ None) → IsSound table shard shards accounts items
+pub sound-none : {table : Fares} {shard shards : ℕ} {accounts : Accounts} {items : List Entry}
+    → items ≡ [] → shard < shards → shards ≤ 64 → ((token : Token) → kept_at accounts token ≡ None)
+    → IsSound table shard shards accounts items
 unfolding AreKept taps_of own
 sound-none {table} {shard} {shards} {accounts} {items} empty within few none =
     subst (λ (es : List Entry). IsSound table shard shards accounts es) (sym empty) (record {
       within = within;
       few = few;
       legal = legal-none table;
-      here = record { each = All-nil (λ (e : Entry). shard_of_token (bytes_of e.token) shards ≡ shard) };
+      here = record
+          { each = All-nil (λ (e : Entry). shard_of_token (bytes_of e.token) shards ≡ shard) };
       fits = All-nil (λ (e : Entry). Fits e.token);
-      kept = λ token. subst (λ (a : Option KeptAccount). IsKept (rules_of table (bytes_of token)) a []) (sym (none token)) refl;
+      kept = λ token. subst
+          (λ (a : Option KeptAccount). IsKept (rules_of table (bytes_of token)) a [])
+          (sym (none token)) refl;
       counted = λ _. counted-none accounts none;
     })
 
 -- nothing was posted, and no account moved: the parts are still those of a book
-pub book-on : {table : Fares} {shard shards : ℕ} {accounts after : Accounts} {packed next : List PackedEntry} → next ≡ packed → KeepPlaces (tokens_of accounts) (tokens_of after) → ((other : Token) → StandsOn (kept_at accounts other) (kept_at after other)) → (IsCounting after → IsCounting accounts) → IsBook table shard shards accounts packed → IsBook table shard shards after next
-book-on {table} {shard} {shards} {accounts} {after} {packed} {next} same keep others counting book = record {
-  sound = sound-on (history-same (tokens_of accounts) (tokens_of after) packed next same book.placed keep) others counting book.sound;
-  placed = placed-kept (tokens_of accounts) (tokens_of after) packed next same book.placed keep;
-}
+pub book-on : {table : Fares} {shard shards : ℕ} {accounts after : Accounts}
+    {packed next : List PackedEntry} → next ≡ packed
+    → KeepPlaces (tokens_of accounts) (tokens_of after)
+    → ((other : Token) → StandsOn (kept_at accounts other) (kept_at after other))
+    → (IsCounting after → IsCounting accounts) → IsBook table shard shards accounts packed
+    → IsBook table shard shards after next
+book-on {table} {shard} {shards} {accounts} {after} {packed} {next} same keep others counting book =
+    record {
+      sound = sound-on
+          (history-same (tokens_of accounts) (tokens_of after) packed next same book.placed keep)
+          others
+          counting book.sound;
+      placed = placed-kept (tokens_of accounts) (tokens_of after) packed next same book.placed keep;
+    }
 
 -- likewise where all that is kept stayed
-pub book-same : {table : Fares} {shard shards : ℕ} {accounts after : Accounts} {packed next : List PackedEntry} → next ≡ packed → KeepPlaces (tokens_of accounts) (tokens_of after) → ((other : Token) → kept_at after other ≡ kept_at accounts other) → (IsCounting after → IsCounting accounts) → IsBook table shard shards accounts packed → IsBook table shard shards after next
-book-same same keep others counting book = book-on same keep (λ other. on-same (others other)) counting book
+pub book-same : {table : Fares} {shard shards : ℕ} {accounts after : Accounts}
+    {packed next : List PackedEntry} → next ≡ packed
+    → KeepPlaces (tokens_of accounts) (tokens_of after)
+    → ((other : Token) → kept_at after other ≡ kept_at accounts other)
+    → (IsCounting after → IsCounting accounts) → IsBook table shard shards accounts packed
+    → IsBook table shard shards after next
+book-same same keep others counting book =
+    book-on same keep (λ other. on-same (others other)) counting book
 
 -- what a new book is made of are the parts of a book
-pub book-none : {table : Fares} {shard shards : ℕ} {accounts : Accounts} {packed : List PackedEntry} → packed ≡ [] → shard < shards → shards ≤ 64 → ((token : Token) → kept_at accounts token ≡ None) → IsBook table shard shards accounts packed
+pub book-none : {table : Fares} {shard shards : ℕ} {accounts : Accounts} {packed : List PackedEntry}
+    → packed ≡ [] → shard < shards → shards ≤ 64 → ((token : Token) → kept_at accounts token ≡ None)
+    → IsBook table shard shards accounts packed
 book-none {table} {shard} {shards} {accounts} {packed} empty within few none = record {
   sound = sound-none (ap (history_of (tokens_of accounts)) empty) within few none;
   placed = placed-none (tokens_of accounts) packed empty;

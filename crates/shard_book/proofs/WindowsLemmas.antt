@@ -1,11 +1,13 @@
 -- A token's entries carry the account rule's replies to its taps.
-use Rattle.std.proofs.Common.{◌≡◌, true, false, cond, List, [], ◌∷◌, ◌++◌, map, count_by, sum_by, refl, sym, ap, subst, ◌∙◌}
+use Rattle.std.proofs.Common.{◌≡◌, true, false, cond, List, [], ◌∷◌, ◌++◌, map, count_by, sum_by}
+use Rattle.std.proofs.Common.{refl, sym, ap, subst, ◌∙◌}
 use Rattle.std.proofs.lemmas.List.{append_assoc}
 use Rattle.fare_table.specs.Fares.{Fares}
 use Rattle.account_rule.specs.declared.reply.Reply.{Reply}
 use Rattle.account_rule.specs.declared.tap.TapIn.{TapIn}
 use Rattle.account_rule.specs.Laws.{is_paid_reply}
-use Rattle.account_rule.specs.declared.reply.Answer.TheVariants.{Paid, Transfer, Capped, Stale, Unknown}
+use Rattle.account_rule.specs.declared.reply.Answer.TheVariants.{Paid, Transfer, Capped, Stale}
+use Rattle.account_rule.specs.declared.reply.Answer.TheVariants.{Unknown}
 use Rattle.shard_book.specs.Sums.{sums_of_replies, is_paid}
 use Rattle.account_rule.specs.Replies.{reply, replies, replies_after}
 use Rattle.account_rule.specs.TokenRules.{rules_of}
@@ -18,40 +20,71 @@ use Rattle.tap_views.specs.Token.{bytes_of}
 use Rattle.shard_book.proofs.Histories.{taps-push}
 
 -- the replies of the token's entries after some others
-replies-after : (table : Fares) (token : Token) (before rest : List Entry) → IsLegal table (before ++ rest) → map reply_of (own token rest) ≡ replies_after (rules_of table (bytes_of token)) (taps_of table token before) (taps_of table token rest)
+replies-after : (table : Fares) (token : Token) (before rest : List Entry)
+    → IsLegal table (before ++ rest)
+    → map reply_of (own token rest)
+    ≡ replies_after (rules_of table (bytes_of token)) (taps_of table token before)
+    (taps_of table token rest)
 unfolding own taps_of IsReplied replies_after
 replies-after table token before [] legal = refl
 replies-after table token before (entry ∷ rest) legal =
-    let later : IsLegal table ((before ++ entry ∷ []) ++ rest) = subst (λ (es : List Entry). IsLegal table es) (sym (append_assoc before (entry ∷ []) rest)) legal in
+    let later : IsLegal table ((before ++ entry ∷ []) ++ rest) =
+    subst (λ (es : List Entry). IsLegal table es) (sym (append_assoc before (entry ∷ []) rest))
+    legal in
     let after = replies-after table token (before ++ entry ∷ []) rest later in
-    let moved = after ∙ ap (λ (taps : List TapIn). replies_after (rules_of table (bytes_of token)) taps (taps_of table token rest)) (taps-push table token before entry) in
+    let moved = after ∙ ap
+    (λ (taps : List TapIn). replies_after (rules_of table (bytes_of token)) taps
+    (taps_of table token rest)) (taps-push table token before entry) in
     elim (is_of token entry) as (λ b. is_of token entry ≡ b
-    → map reply_of (own token rest) ≡ replies_after (rules_of table (bytes_of token)) (cond b (taps_of table token before ++ tap_of table entry ∷ []) (taps_of table token before)) (taps_of table token rest)
-    → map reply_of (cond b (entry ∷ own token rest) (own token rest)) ≡ replies_after (rules_of table (bytes_of token)) (taps_of table token before) (map (tap_of table) (cond b (entry ∷ own token rest) (own token rest)))) [
+    → map reply_of (own token rest)
+    ≡ replies_after (rules_of table (bytes_of token))
+    (cond b (taps_of table token before ++ tap_of table entry ∷ []) (taps_of table token before))
+    (taps_of table token rest)
+    → map reply_of (cond b (entry ∷ own token rest) (own token rest))
+    ≡ replies_after (rules_of table (bytes_of token)) (taps_of table token before)
+    (map (tap_of table) (cond b (entry ∷ own token rest) (own token rest)))) [
       | true ↦ λ same rest_is.
           let is : entry.token ≡ token = same_token entry.token token same in
           ap (λ (r : Reply). r ∷ map reply_of (own token rest))
-          (subst (λ (t : Token). reply_of entry ≡ reply (rules_of table (bytes_of t)) (taps_of table t before) (tap_of table entry)) is (legal.each before entry rest refl))
-          ∙ ap (λ (rs : List Reply). reply (rules_of table (bytes_of token)) (taps_of table token before) (tap_of table entry) ∷ rs) rest_is
+          (subst (λ (t : Token). reply_of entry
+          ≡ reply (rules_of table (bytes_of t)) (taps_of table t before) (tap_of table entry)) is
+          (legal.each before entry rest refl))
+          ∙ ap (λ (rs : List Reply). reply (rules_of table (bytes_of token))
+          (taps_of table token before) (tap_of table entry) ∷ rs) rest_is
       | false ↦ λ _ rest_is. rest_is
     ] refl moved
 
 -- the replies of the token's entries are the replies to its taps
-pub replies-own : (table : Fares) (token : Token) (entries : List Entry) → IsLegal table entries → map reply_of (own token entries) ≡ replies (rules_of table (bytes_of token)) (taps_of table token entries)
+pub replies-own : (table : Fares) (token : Token) (entries : List Entry) → IsLegal table entries
+    → map reply_of (own token entries)
+    ≡ replies (rules_of table (bytes_of token)) (taps_of table token entries)
 unfolding replies own taps_of
 replies-own table token entries legal = replies-after table token [] entries legal
 
 -- the two ways to say that a reply is paid
 paid-alike : (reply : Reply) → is_paid reply.answer ≡ is_paid_reply reply
-paid-alike reply = elim reply.answer as (λ a. is_paid a ≡ is_paid_reply (record { answer = a; cents = reply.cents })) [ Paid ↦ refl | Transfer ↦ refl | Capped ↦ refl | Stale ↦ refl | Unknown ↦ refl ]
+paid-alike
+    reply = elim reply.answer as (λ a. is_paid a
+    ≡ is_paid_reply (record { answer = a; cents = reply.cents }))
+    [ Paid ↦ refl | Transfer ↦ refl | Capped ↦ refl | Stale ↦ refl | Unknown ↦ refl ]
 
 -- what the token's entries were charged is what the rule's replies to its taps were
-pub paid-own : (table : Fares) (token : Token) (entries : List Entry) → IsLegal table entries → (sums_of_replies (map reply_of (own token entries))).paid ≡ count_by is_paid_reply (replies (rules_of table (bytes_of token)) (taps_of table token entries))
+pub paid-own : (table : Fares) (token : Token) (entries : List Entry) → IsLegal table entries
+    → (sums_of_replies (map reply_of (own token entries))).paid
+    ≡ count_by is_paid_reply
+    (replies (rules_of table (bytes_of token)) (taps_of table token entries))
 unfolding sums_of_replies
 paid-own table token entries legal =
-    ap (λ (rs : List Reply). count_by (λ (reply : Reply). is_paid reply.answer) rs) (replies-own table token entries legal)
-    ∙ (λ i. count_by (λ (reply : Reply). paid-alike reply i) (replies (rules_of table (bytes_of token)) (taps_of table token entries)))
+    ap (λ (rs : List Reply). count_by (λ (reply : Reply). is_paid reply.answer) rs)
+    (replies-own table token entries legal)
+    ∙ (λ i. count_by (λ (reply : Reply). paid-alike reply i)
+    (replies (rules_of table (bytes_of token)) (taps_of table token entries)))
 
-pub cents-own : (table : Fares) (token : Token) (entries : List Entry) → IsLegal table entries → (sums_of_replies (map reply_of (own token entries))).cents ≡ sum_by (λ (reply : Reply). reply.cents) (replies (rules_of table (bytes_of token)) (taps_of table token entries))
+pub cents-own : (table : Fares) (token : Token) (entries : List Entry) → IsLegal table entries
+    → (sums_of_replies (map reply_of (own token entries))).cents
+    ≡ sum_by (λ (reply : Reply). reply.cents)
+    (replies (rules_of table (bytes_of token)) (taps_of table token entries))
 unfolding sums_of_replies
-cents-own table token entries legal = ap (λ (rs : List Reply). sum_by (λ (reply : Reply). reply.cents) rs) (replies-own table token entries legal)
+cents-own table token entries legal =
+    ap (λ (rs : List Reply). sum_by (λ (reply : Reply). reply.cents) rs)
+    (replies-own table token entries legal)

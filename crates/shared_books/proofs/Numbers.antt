@@ -1,5 +1,7 @@
 -- Lists of numbers of which none stands twice.
-use Rattle.std.proofs.Common.{◌≡◌, ℕ, ◌+◌, ◌<◌, ◌≤◌, ◌≢◌, ◌⊎◌, zero, suc, eqb, cond, List, [], ◌∷◌, ◌++◌, length, refl, sym, ap, ◌∙◌, subst, arith, inl, inr, ⊎_elim, eq-eqb, ne_eqb}
+use Rattle.std.proofs.Common.{◌≡◌, ℕ, ◌+◌, ◌<◌, ◌≤◌, ◌≢◌, ◌⊎◌, zero, suc, eqb, cond, List, [], ◌∷◌}
+use Rattle.std.proofs.Common.{◌++◌, length, refl, sym, ap, ◌∙◌, subst, arith, inl, inr, ⊎_elim}
+use Rattle.std.proofs.Common.{eq-eqb, ne_eqb}
 use Rattle.std.proofs.lemmas.List.Sums.{sum_by-append}
 use mathlib.Core.Logic.{dite}
 use native.Mathlib.Decide.{ℕ_discrete}
@@ -35,7 +37,8 @@ below-one : (k y : ℕ) → ((y < k) × (below k (y ∷ []) ≡ 1)) ⊎ ((k ≤ 
 below-one zero y = inr (omega arith, refl)
 below-one (suc k) y =
     ⊎_elim
-    (λ t. let h = times-other k y (λ e. omega arith) in let p = t.1 in inl (omega arith, omega arith))
+    (λ t. let h = times-other k y (λ e. omega arith) in let p = t.1 in
+    inl (omega arith, omega arith))
     (λ t. let p = t.1 in dite (ℕ_discrete y k)
     (λ e. let h = times-same k y e in inl (omega arith, omega arith))
     (λ n. let h = times-other k y n in inr (omega arith, omega arith)))
@@ -45,11 +48,13 @@ below-one (suc k) y =
 pub below_all : (k : ℕ) (xs : List ℕ) → AllBelow k xs → below k xs ≡ length xs
 below_all k [] h = below-none k
 below_all k (x ∷ xs) h =
-    let rest = below_all k xs (λ y le. let e = h y le in let s = times-append y (x ∷ []) xs in omega arith) in
+    let rest = below_all k xs
+    (λ y le. let e = h y le in let s = times-append y (x ∷ []) xs in omega arith) in
     let both : below k (x ∷ xs) ≡ below k (x ∷ []) + below k xs = below-append k (x ∷ []) xs in
     ⊎_elim
     (λ t. let p = t.1 in omega arith)
-    (λ t. let s = times-same x x refl in let a : times x (x ∷ xs) ≡ times x (x ∷ []) + times x xs = times-append x (x ∷ []) xs in let e = h x t.0 in absurd (omega arith))
+    (λ t. let s = times-same x x refl in let a : times x (x ∷ xs) ≡ times x (x ∷ []) + times x xs =
+    times-append x (x ∷ []) xs in let e = h x t.0 in absurd (omega arith))
     (below-one k x)
 
 below_few : (k : ℕ) (xs : List ℕ) → NoneTwice xs → below k xs ≤ k
@@ -75,7 +80,8 @@ full k xs all none many = below_full k xs none (let e = below_all k xs all in om
 
 below_has : (k : ℕ) (xs : List ℕ) → HasAll k xs → below k xs ≡ k
 below_has zero xs all = refl
-below_has (suc k) xs all = let rest = below_has k xs (λ x lt. all x (omega arith)) in let one = all k (omega arith) in omega arith
+below_has (suc k) xs all = let rest = below_has k xs (λ x lt. all x (omega arith)) in let one =
+    all k (omega arith) in omega arith
 
 -- where each number below k is there, they are k at least
 pub as_many : (k : ℕ) (xs : List ℕ) → AllBelow k xs → HasAll k xs → k ≤ length xs

@@ -1,5 +1,6 @@
 -- A state that the rule allows is one that a schedule reaches.
-use Rattle.std.proofs.Common.{◌≡◌, ℕ, ◌+◌, ◌*◌, Option, Some, [], ◌∷◌, ◌++◌, refl, false, sym, ◌∙◌, arith, ⊎_elim, get_or, set, true, ap, subst}
+use Rattle.std.proofs.Common.{◌≡◌, ℕ, ◌+◌, ◌*◌, Option, Some, [], ◌∷◌, ◌++◌, refl, false, sym, ◌∙◌}
+use Rattle.std.proofs.Common.{arith, ⊎_elim, get_or, set, true, ap, subst}
 use mathlib.Core.Option.{some, none, some-ne-none, some-injective}
 use Rattle.atomic_table.specs.Table.{State}
 use Rattle.shared_books.specs.declared.turns.rule.Opening.{Opening}
@@ -9,15 +10,18 @@ use Rattle.shared_books.specs.Marks.{mark, others, visits_of, history_of_visits}
 use Rattle.shard_book.specs.History.{IsLegal}
 use Rattle.shared_books.specs.Turns.{Boxed, book_after, HoldsTurn, ShowsMachine}
 use Rattle.shared_books.specs.PassStates.{pass_state}
-use Rattle.shared_books.specs.Events.{IsShown, StepsAreEvents, TakesAreEvents, GivesAreEvents, taken_by}
+use Rattle.shared_books.specs.Events.{IsShown, StepsAreEvents, TakesAreEvents, GivesAreEvents}
+use Rattle.shared_books.specs.Events.{taken_by}
 use Rattle.shared_books.proofs.MarkLists.{made_at-caught}
 use Rattle.shared_books.proofs.TurnSteps.{schedule_snoc, after-snoc, word_of, caught_up, took, gave}
 
 -- who has the turn is the holder
-holder_is : (k : Opening) (m : Machine) (s : State (Option Boxed) PassState) (seat : ℕ) → ShowsMachine k m s → HoldsTurn s seat → m.holder ≡ some seat
+holder_is : (k : Opening) (m : Machine) (s : State (Option Boxed) PassState) (seat : ℕ)
+    → ShowsMachine k m s → HoldsTurn s seat → m.holder ≡ some seat
 holder_is k m s seat r t = ((r.each seat t.0 t.1 t.2).turn t.3).0
 
-shown : (k : Opening) (m : Machine) (s : State (Option Boxed) PassState) → ShowsMachine k m s → IsShown k m s
+shown : (k : Opening) (m : Machine) (s : State (Option Boxed) PassState) → ShowsMachine k m s
+    → IsShown k m s
 shown k m s r = record {
   even = λ n e. ⊎_elim
       (λ (t : (m.holder ≡ none) × (get_or s.words 0 0 ≡ 2 * m.count)). let w = t.1 in record {
@@ -26,11 +30,14 @@ shown k m s r = record {
         no_turn = λ seat h. some-ne-none seat (sym (holder_is k m s seat r h) ∙ t.0);
         book = (r.free t.0).1;
       })
-      (λ (t : (seat : ℕ) × (m.holder ≡ some seat) × (get_or s.words 0 0 ≡ 2 * m.count + 1)). let w = t.2 in absurd (omega arith))
+      (λ (t : (seat : ℕ) × (m.holder ≡ some seat) × (get_or s.words 0 0 ≡ 2 * m.count + 1)). let w =
+      t.2 in absurd (omega arith))
       (word_of k m s r);
   odd = λ n e. ⊎_elim
-      (λ (t : (m.holder ≡ none) × (get_or s.words 0 0 ≡ 2 * m.count)). let w = t.1 in absurd (omega arith))
-      (λ (t : (seat : ℕ) × (m.holder ≡ some seat) × (get_or s.words 0 0 ≡ 2 * m.count + 1)). let w = t.2 in let p = r.held t.0 t.1 in record {
+      (λ (t : (m.holder ≡ none) × (get_or s.words 0 0 ≡ 2 * m.count)). let w = t.1 in
+      absurd (omega arith))
+      (λ (t : (seat : ℕ) × (m.holder ≡ some seat) × (get_or s.words 0 0 ≡ 2 * m.count + 1)). let w =
+      t.2 in let p = r.held t.0 t.1 in record {
         seat = t.0;
         count_is = omega arith;
         holder = t.1;
@@ -45,7 +52,12 @@ shown k m s r = record {
 }
 
 pub reached : StepsAreEvents
-reached k s t = record { events = t.events; schedule = t.schedule; shown = shown k (after (start k.first) t.events) s t.shows }
+reached k s t = record {
+  events = t.events;
+  schedule = t.schedule;
+  shown =
+      shown k (after (start k.first) t.events) s t.shows;
+}
 
 pub takes_are : TakesAreEvents
 takes_are k s seat v t at unjoined n even few =
@@ -53,13 +65,18 @@ takes_are k s seat v t at unjoined n even few =
     let sh = t.shows in
     let f = sh.each seat v at unjoined in
     let c = caught_up k m s seat v sh f in
-    let free : m.holder ≡ none = ⊎_elim (λ p. p.0) (λ (p : (j : ℕ) × (m.holder ≡ some j) × (get_or s.words 0 0 ≡ 2 * m.count + 1)). let w = p.2 in absurd (omega arith)) (word_of k m s sh) in (
+    let free : m.holder ≡ none =
+    ⊎_elim (λ p. p.0)
+    (λ (p : (j : ℕ) × (m.holder ≡ some j) × (get_or s.words 0 0 ≡ 2 * m.count + 1)). let w = p.2 in
+    absurd (omega arith)) (word_of k m s sh) in (
       c.more,
       record {
         events = t.events ++ taken seat ∷ [];
         schedule = schedule_snoc (start k.first) t.events (taken seat) t.schedule free;
-        shows = subst (λ (x : Machine). ShowsMachine k x (taken_by s seat v c.more)) (sym (after-snoc (start k.first) t.events (taken seat)))
-            (took k m s seat v (v.marks ++ others c.more) sh at unjoined free c.all (omega arith) (λ i. made_at-caught i v.marks c.more));
+        shows = subst (λ (x : Machine). ShowsMachine k x (taken_by s seat v c.more))
+            (sym (after-snoc (start k.first) t.events (taken seat)))
+            (took k m s seat v (v.marks ++ others c.more) sh at unjoined free c.all (omega arith)
+            (λ i. made_at-caught i v.marks c.more));
       },
       refl,
     )
@@ -77,9 +94,27 @@ gives_are k s seat v t at unjoined on visit book is legal =
       record {
         events = t.events ++ given seat visit ∷ [];
         schedule = schedule_snoc (start k.first) t.events (given seat visit) t.schedule holds;
-        shows = subst (λ w. ShowsMachine k (after (start k.first) (t.events ++ given seat visit ∷ [])) record { words = set s.words 0 w; homes = set s.homes 0 (some (Some book)); views = set s.views seat (pass_state v.opened v.claims false (v.marks ++ mark true visit ∷ []) v.met) }) more
-            (subst (λ (x : Machine). ShowsMachine k x record { words = set s.words 0 (2 * m.count + 2); homes = set s.homes 0 (some (Some book)); views = set s.views seat (pass_state v.opened v.claims false (v.marks ++ mark true visit ∷ []) v.met) }) (sym (after-snoc (start k.first) t.events (given seat visit)))
-            (gave k m s seat v visit book sh at unjoined holds all (omega arith) (is ∙ ap (λ vs. book_after k (vs ++ visit ∷ [])) all) (subst (λ vs. IsLegal k.book.value.table (history_of_visits (vs ++ visit ∷ []))) all legal)));
+        shows = subst
+            (λ w. ShowsMachine k (after (start k.first) (t.events ++ given seat visit ∷ [])) record {
+              words = set s.words 0 w;
+              homes = set s.homes 0 (some (Some book));
+              views =
+                  set s.views seat
+                  (pass_state v.opened v.claims false (v.marks ++ mark true visit ∷ []) v.met);
+            }) more
+            (subst (λ (x : Machine). ShowsMachine k x record {
+              words = set s.words 0 (2 * m.count + 2);
+              homes =
+                  set s.homes 0 (some (Some book));
+              views =
+                  set s.views seat
+                  (pass_state v.opened v.claims false (v.marks ++ mark true visit ∷ []) v.met);
+            })
+            (sym (after-snoc (start k.first) t.events (given seat visit)))
+            (gave k m s seat v visit book sh at unjoined holds all (omega arith)
+            (is ∙ ap (λ vs. book_after k (vs ++ visit ∷ [])) all)
+            (subst (λ vs. IsLegal k.book.value.table (history_of_visits (vs ++ visit ∷ []))) all
+            legal)));
       },
       refl,
     )

@@ -41,7 +41,7 @@ pub record IsJoinedDrawer (old other new : DrawerView) : Type 0 where
   pub later : old.seen ≤ new.seen
   pub later_too : other.seen ≤ new.seen
 
--- what the closing tells of the count of drawn numbers: it is above each number that the drawer
+-- what the closing says of the count of drawn numbers: it is above each number that the drawer
 -- holds, and not less than any count that it has seen
 pub record IsCount (count : ℕ) (drawer : DrawerView) : Type 0 where
   pub later : drawer.seen ≤ count

@@ -13,7 +13,7 @@ use Rattle.shared_books.specs.Marks.{mark, others, visits_of, history_of_visits,
 use Rattle.shared_books.specs.Turns.{Boxed, book_after, HasBook, HoldsTurn, IsTurn}
 use Rattle.shared_books.specs.PassStates.{pass_state}
 
--- the turn word is even: so many visits are counted, nobody has the turn, and the book of all
+-- the turn word is even: `count` visits are counted, nobody has the turn, and the book of all
 -- visits is in the slot
 pub record ShowsFree (k : Opening) (m : Machine) (s : State (Option Boxed) PassState) (count : ℕ)
     : Type 0 where

@@ -22,7 +22,7 @@ abbrev pub history_of_visits : List (List Entry) → List Entry
 history_of_visits [] = []
 history_of_visits (visit ∷ visits) = visit ++ history_of_visits visits
 
--- the visits that the pass made, each with its number, where the first mark has the number n
+-- the visits that the pass made, each with its number; the first mark has the number n
 abbrev pub made_from : ℕ → List Mark → List (ℕ × List Entry)
 made_from n [] = []
 made_from n (m ∷ ms) = cond m.mine ((n, m.visit) ∷ made_from (n + 1) ms) (made_from (n + 1) ms)

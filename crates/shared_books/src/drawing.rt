@@ -63,9 +63,7 @@ impl Model for Drawer {
 #[derive(Clone, Copy, Debug, Error)]
 #[error("holds {held} of {drawn} drawn numbers")]
 pub struct DrawMissing {
-    /// How many numbers the drawer holds.
     pub held: u32,
-    /// How many were drawn.
     pub drawn: u32,
 }
 
@@ -97,8 +95,7 @@ impl Draw {
         ))
     }
 
-    /// Draws a number that no other drawing gives, or `None` where all are drawn. It waits for
-    /// nobody.
+    /// Draws a number that no other drawing gives, or `None` if all are drawn. It waits for nobody.
     pub fn draw(&self, drawer: &mut Drawer) -> Option<u32>
         requires belongs { drawer.old.drawn_from ≡ self.now }
         ensures some { IfSome result (λ number. (drawer.old.seen ≤ number)
@@ -160,8 +157,7 @@ impl Draw {
         *held += more;
     }
 
-    /// How many numbers were drawn, where the drawer holds them all. So it is where it has all
-    /// claims.
+    /// How many numbers were drawn, if the drawer holds them all. It does if it has all claims.
     pub fn finish(self, drawer: Drawer) -> Result<u32, DrawMissing>
         requires belongs { drawer.drawn_from ≡ self }
         ensures ok { IfOk result (λ drawn. HasAll drawn drawer.drawn × (drawn ≡ length drawer.drawn)
@@ -186,7 +182,7 @@ impl Draw {
         }
     }
 
-    /// The same for an owner who holds no drawer: `Ok` where no number was drawn.
+    /// The same for an owner who holds no drawer: `Ok` if no number was drawn.
     pub fn finish_unseen(self) -> Result<(), DrawMissing>
         ensures err { IfErr result (λ missing. (missing.held ≡ 0) × (0 < missing.drawn)
             × (missing.drawn ≤ self.numbers)) }

@@ -15,8 +15,8 @@ mod turn_word;
 mod visits;
 mod waiting;
 
-/// A shard's book that passes take turns at. The turn word is `2k` where `k` visits are counted and
-/// nobody has the turn, and `2k + 1` where a pass has it. The book lies in one slot, which is empty
+/// A shard's book that passes take turns at. The turn word is `2k` if `k` visits are counted and
+/// nobody has the turn, and `2k + 1` if a pass has it. The book lies in one slot, which is empty
 /// while a pass has the turn.
 #[derive(Drop)]
 pub struct SharedBook {
@@ -51,7 +51,7 @@ pub struct Pass {
     seat: Seat<Slot, PassState>,
     /// How many visits the pass made.
     held: u64,
-    /// The number of the pass's next visit, where nobody visits in between. Only time rests on it.
+    /// The number of the pass's next visit, if nobody visits in between. Only time rests on it.
     next: u64,
 }
 

@@ -1,12 +1,11 @@
 -- Sorted files whose taps were counted: how they end.
-use Rattle.std.proofs.Common.{◌≡◌, ℕ, zero, suc, ◌+◌, ◌^◌, ◌<◌, ◌≤◌, List, [], ◌∷◌, length, get_or, map, take, true}
-use Rattle.std.proofs.Common.{None}
-use Rattle.std.proofs.Common.{refl, sym, ap, subst, ◌∙◌, arith}
+use Rattle.std.proofs.Common.{◌≡◌, ℕ, zero, suc, ◌+◌, ◌^◌, ◌<◌, List, [], ◌∷◌, length, get_or, map}
+use Rattle.std.proofs.Common.{take, true, None, refl, sym, ap, subst, ◌∙◌, arith}
 use Rattle.std.specs.Prelude.{flat_map, sum}
 use Rattle.std.specs.List.{sum_by}
 use Rattle.std.proofs.lemmas.List.{length-map}
 use Rattle.std.proofs.lemmas.List.Concat.{length-flat_map}
-use Rattle.std.proofs.lemmas.List.Sums.{sum-map, sum_by_more, sum_by_more_le}
+use Rattle.std.proofs.lemmas.List.Sums.{sum-map, sum_by_more}
 use Rattle.tap_views.specs.Encoding.{fields_of}
 use Rattle.tap_views.specs.Files.{taps_of_batches}
 use Rattle.tap_views.specs.declared.encoder.TapFields.{TapFields}
@@ -42,7 +41,8 @@ plain_ends (file ∷ files) (list ∷ lists) sorted =
         fault = None;
         is_file = first.is_file;
         is_fault = refl;
-        ended = ap (λ n. Posted n) (ap length (sym first.read) ∙ length-map (taps_of_batches first.batches) fields_of);
+        ended = ap (λ n. Posted n)
+            (ap length (sym first.read) ∙ length-map (taps_of_batches first.batches) fields_of);
       },
       plain_ends files lists (record {
         number = omega (arith, number);
@@ -72,14 +72,6 @@ pub sum_next : (xs : List ℕ) (i d : ℕ) → i < length xs
 sum_next xs i d inside =
     sum_same (take (i + 1) xs) ∙ sum_by_more (λ n. n) xs i d inside
     ∙ ap (λ n. n + get_or xs i d) (sym (sum_same (take i xs)))
-
-pub sum_within : (xs : List ℕ) (i d : ℕ) → i < length xs
-    → sum (take i xs) + get_or xs i d ≤ sum xs
-sum_within xs i d inside =
-    let first = sum_same (take i xs) in
-    let whole = sum_same xs in
-    let most = sum_by_more_le (λ n. n) xs i d inside in
-    omega (arith, first, whole, most)
 
 -- a fault of a reader says nothing of the files
 pub late_says_nothing : (files : List (List ℕ)) (fault : SortedFault)

@@ -1,10 +1,11 @@
 -- Bills to which taps are added one by one.
-use Rattle.std.proofs.Common.{◌≡◌, ◌≢◌, ◌==◌, ℕ, ◌+◌, ◌<◌, true, false, List, [], ◌∷◌, ◌++◌}
-use Rattle.std.proofs.Common.{length, map, refl, sym, ap, subst, ◌∙◌, arith, All, append-nil, append_assoc}
+use Rattle.std.proofs.Common.{◌≡◌, ◌≢◌, ◌==◌, ℕ, ◌+◌, ◌<◌, true, false, List, [], ◌∷◌, ◌++◌, length}
+use Rattle.std.proofs.Common.{map, refl, sym, ap, subst, ◌∙◌, arith, All, append-nil, append_assoc}
 use Rattle.std.proofs.Common.{length-append}
 use Rattle.std.specs.declared.cmp.Ordering.TheVariants.{Less}
 use Rattle.std.proofs.lemmas.List.{map-append}
 use Rattle.std.proofs.lemmas.List.Elements.{All-append, All-cons, All-head, All-map, All-nil}
+use Rattle.std.proofs.lemmas.List.Elements.{All-weaker}
 use Rattle.fare_table.specs.Fares.{Fares}
 use Rattle.tap_views.specs.Token.{token_cmp}
 use Rattle.tap_views.specs.declared.token.Token.{Token}
@@ -18,17 +19,16 @@ use Rattle.shard_book.specs.Tally.{sums_of_tally}
 use Rattle.shard_book.specs.declared.sums.tally.Tally.{Tally}
 use Rattle.shard_book.proofs.SumsLemmas.{sums-append, sums-taps}
 use Rattle.shard_book.specs.declared.entry.Entry.{Entry}
+use Rattle.shard_book.proofs.SumsByToken.{by_token_joined, one_token_list, below_same}
 use Rattle.fare_texts.specs.Lines.{IsUpTo}
 use Rattle.settlement.specs.Posted.{posted, posted_after, token_of_tap, unposted}
 use Rattle.settlement.specs.Bills.{IsBillOf}
 use Rattle.settlement.specs.Replays.{HasPosted}
 use Rattle.settlement.specs.declared.bill.Bill.{Bill}
 use Rattle.settlement.specs.inside.Apart.{AreBelow}
-use Rattle.settlement.proofs.Concats.{by_token_joined, posted_append}
-use Rattle.settlement.proofs.Placed.{all_map}
+use Rattle.settlement.proofs.Concats.{posted_append}
 use Rattle.settlement.proofs.Ranges.{posted_below}
-use Rattle.settlement.proofs.TokenRuns.{below_same, one_token_list, posted_length, tokens_are}
-use Rattle.settlement.proofs.TokenRuns.{tokens_posted, up_apart}
+use Rattle.settlement.proofs.TokenRuns.{posted_length, tokens_are, tokens_posted, up_apart}
 use Rattle.tap_views.proofs.TokenLemmas.{token_cmp-total}
 use Rattle.sorted_bills.specs.declared.open_bill.OpenBill.{OpenBill}
 use Rattle.sorted_bills.specs.inside.OpenBills.{IsOpenBill}
@@ -60,7 +60,8 @@ module _ (fares : Fares) (token : Token) (lower last : List TapFields)
       ≡ sums_by_token (posted fares lower) ++ (token, sums (posted fares last)) ∷ []
   sums_both some =
       let long = posted_length fares [] last in
-      let entries_below : AreBelow (map token_of (posted fares lower)) (map token_of (posted fares last)) =
+      let entries_below : AreBelow (map token_of (posted fares lower))
+      (map token_of (posted fares last)) =
       subst (λ (ts : List Token). AreBelow ts (map token_of (posted fares last)))
       (sym (tokens_posted fares [] lower))
       (below_same (map token_of_tap lower) token (posted fares last) below entries_are) in
@@ -76,15 +77,18 @@ module _ (fares : Fares) (token : Token) (lower last : List TapFields)
       let less : token_cmp token next ≡ Less = up_apart token next up apart in
       let P : Token → Type 0 = λ t. All (λ o. token_cmp t o ≡ Less) (next ∷ []) in
       let one : (t : Token) → token_cmp t next ≡ Less → P t =
-      λ t is. All-cons (λ o. token_cmp t o ≡ Less) next [] is (All-nil (λ o. token_cmp t o ≡ Less)) in
-      subst (λ (ts : List Token). AreBelow ts (next ∷ [])) (sym (map-append token_of_tap lower last))
+      λ t is. All-cons (λ o. token_cmp t o ≡ Less) next [] is
+      (All-nil (λ o. token_cmp t o ≡ Less)) in
+      subst (λ (ts : List Token). AreBelow ts (next ∷ []))
+      (sym (map-append token_of_tap lower last))
       (All-append P (map token_of_tap lower) (map token_of_tap last)
-      (all_map (λ t. All (λ o. token_cmp t o ≡ Less) (token ∷ [])) P (map token_of_tap lower)
+      (All-weaker (λ t. All (λ o. token_cmp t o ≡ Less) (token ∷ [])) P
       (λ t all. one t (token_cmp-total.trans t token next
-      (All-head (λ o. token_cmp t o ≡ Less) token [] all) less)) below)
+      (All-head (λ o. token_cmp t o ≡ Less) token [] all) less)) (map token_of_tap lower) below)
       (All-map P token_of_tap last
-      (all_map (λ (tap : TapFields). token_of_tap tap ≡ token) (λ (tap : TapFields). P (token_of_tap tap))
-      last (λ tap same. subst P (sym same) (one token less)) its)))
+      (All-weaker (λ (tap : TapFields). token_of_tap tap ≡ token)
+      (λ (tap : TapFields). P (token_of_tap tap)) (λ tap same. subst P (sym same) (one token less))
+      last its)))
 
 -- the entries of all taps are those of the lower tokens, and then those of the last
 entries_both : (fares : Fares) (taps : List TapFields) (bill : OpenBill)
@@ -118,7 +122,8 @@ pub closed_none : (fares : Fares) (taps : List TapFields) (bill : OpenBill)
     → IsOpenBill fares taps bill → bill.has_taps ≡ false → IsBillOf (posted fares taps) bill.bill
 closed_none fares taps bill is none =
     let all : is.lower ≡ taps =
-    sym (is.both ∙ ap (λ (ts : List TapFields). is.lower ++ ts) (is.none none) ∙ append-nil is.lower) in
+    sym (is.both ∙ ap (λ (ts : List TapFields). is.lower ++ ts) (is.none none)
+    ∙ append-nil is.lower) in
     record {
       tokens = is.tokens ∙ ap (λ (ts : List TapFields). sums_by_token (posted fares ts)) all;
       counts = record {
@@ -138,12 +143,14 @@ closed_some fares taps bill new is some tokens totals validators =
     let token = bill.replay.token in
     record {
       tokens = tokens
-          ∙ ap (λ (ts : List (Token × Sums)). ts ++ (token, sums_of_tally bill.tally) ∷ []) is.tokens
+          ∙ ap (λ (ts : List (Token × Sums)). ts ++ (token, sums_of_tally bill.tally) ∷ [])
+          is.tokens
           ∙ ap (λ (s : Sums). sums_by_token (posted fares is.lower) ++ (token, s) ∷ []) is.tally
           ∙ sym (sums_both fares token is.lower is.last is.below is.its (is.some some))
           ∙ ap (λ (ts : List TapFields). sums_by_token (posted fares ts)) (sym is.both);
       counts = record {
-        validators = subst (λ (list : List (ℕ × Tally)). AreByKey ◌==◌ validator_of (posted fares taps) list)
+        validators = subst
+            (λ (list : List (ℕ × Tally)). AreByKey ◌==◌ validator_of (posted fares taps) list)
             (sym validators) (all_validators fares taps bill is);
         totals = totals
             ∙ ap (λ (s : Sums). add_sums s (sums_of_tally bill.tally)) is.totals
@@ -190,7 +197,8 @@ pub one_more : (fares : Fares) (taps : List TapFields) (old new : OpenBill) (tap
     → AreByKey ◌==◌ validator_of ((posted fares is.lower ++ posted fares is.last) ++ entry ∷ [])
     new.bill.validators
     → IsOpenBill fares (taps ++ tap ∷ []) new
-one_more fares taps old new tap entry is its same answer stands tally some tokens totals validators =
+one_more fares taps old new tap entry is its same answer stands tally some tokens totals
+    validators =
     let P : TapFields → Type 0 = λ (t : TapFields). token_of_tap t ≡ new.replay.token in
     let done = posted fares is.last in
     let next : posted fares (is.last ++ tap ∷ []) ≡ done ++ entry ∷ [] =
@@ -201,9 +209,11 @@ one_more fares taps old new tap entry is its same answer stands tally some token
       last = is.last ++ tap ∷ [];
       both = ap (λ (ts : List TapFields). ts ++ tap ∷ []) is.both
           ∙ append_assoc is.lower is.last (tap ∷ []);
-      below = subst (λ (t : Token). AreBelow (map token_of_tap is.lower) (t ∷ [])) (sym same) is.below;
+      below = subst (λ (t : Token). AreBelow (map token_of_tap is.lower) (t ∷ [])) (sym same)
+          is.below;
       its = All-append P is.last (tap ∷ [])
-          (subst (λ (t : Token). All (λ (x : TapFields). token_of_tap x ≡ t) is.last) (sym same) is.its)
+          (subst (λ (t : Token). All (λ (x : TapFields). token_of_tap x ≡ t) is.last) (sym same)
+          is.its)
           (All-cons P tap [] (its ∙ sym same) (All-nil P));
       stands = subst (λ (es : List Entry). HasPosted fares new.replay es) (sym next) stands;
       tally = tally

@@ -1,11 +1,11 @@
 -- The taps of one token, collected from sorted files.
 use Rattle.std.proofs.Common.{◌≡◌, ℕ, ◌+◌, Bool, true, false, List, [], ◌∷◌, ◌++◌, All, length, map}
 use Rattle.std.proofs.Common.{◌<◌, get_or, flat_map, cond, refl, sym, ap, subst, ◌∙◌, append-nil}
-use Rattle.std.proofs.Common.{option_map, Option, Some}
+use Rattle.std.proofs.Common.{option_map, Option, Some, append_assoc, arith}
 use Rattle.std.specs.Prelude.{slice_get}
-use Rattle.std.proofs.Common.{append_assoc, arith}
 use Rattle.std.proofs.lemmas.List.Concat.{flat_map-append}
 use Rattle.std.proofs.lemmas.List.Elements.{All-append, All-cons, All-nil, filter-append}
+use Rattle.std.proofs.lemmas.List.Elements.{All-weaker}
 use Rattle.std.proofs.lemmas.List.Sorted.{All-permutation}
 use Rattle.std.proofs.lemmas.Option.{same_Some, slice_get-get_or, slice_get-map}
 use Rattle.tap_views.specs.Token.{token_eq}
@@ -17,7 +17,6 @@ use Rattle.report_texts.specs.declared.upload_end.UploadEnd.TheVariants.{Posted}
 use Rattle.tap_views.proofs.TokenLemmas.{same_token}
 use Rattle.settlement.specs.Posted.{HasName, only, token_of_tap}
 use Rattle.settlement.specs.SettledTaps.{AreSettledTapsOf}
-use Rattle.settlement.proofs.Placed.{all_map}
 use Rattle.settlement.proofs.Ranges.{has_token_bytes}
 use Rattle.settlement.proofs.SettledOrders.{own_settled}
 use Rattle.sorted_taps.specs.Readers.{ahead, IsAdvanced, StandsIn}
@@ -57,7 +56,8 @@ is_own token tap old new same named early more =
       pushed = more ∙ ap (λ (ts : List TapFields). old ++ ts) (sym (only_one token tap true same));
       sound = λ sound. record {
         early = subst (λ (ts : List TapFields). All Early ts) (sym more)
-            (All-append Early old (tap ∷ []) sound.early (All-cons Early tap [] early (All-nil Early)));
+            (All-append Early old (tap ∷ []) sound.early
+            (All-cons Early tap [] early (All-nil Early)));
         its = subst (λ (ts : List TapFields). All its ts) (sym more)
             (All-append its old (tap ∷ []) sound.its
             (All-cons its tap [] (same_token (token_of_tap tap) token same) (All-nil its)));
@@ -95,7 +95,8 @@ one_read token all old now more was is read pushed step =
       added = one.pushed
           ∙ ap (λ (ts : List TapFields). ts ++ only token (step.tap ∷ [])) read.added
           ∙ append_assoc old (only token read.passed) (only token (step.tap ∷ []))
-          ∙ ap (λ (ts : List TapFields). old ++ ts) (sym (only_both token read.passed (step.tap ∷ [])));
+          ∙ ap (λ (ts : List TapFields). old ++ ts)
+          (sym (only_both token read.passed (step.tap ∷ [])));
     }
 
 pub whole_read : (token : Token) (all : List ℕ) (old now : List TapFields) (reader : TapReader)
@@ -185,15 +186,16 @@ own_in_order token files own list numbers are canonical =
       ended = own_ends token files own numbers are;
     })
     (subst (λ (ts : List TapFields). All HasTokenBytes ts) (sym of.fields)
-    (all_map HasName HasTokenBytes (flat_map (λ list. list) are.lists)
-    (λ tap name. has_token_bytes tap name.named) are.named)) canonical
+    (All-weaker HasName HasTokenBytes (λ tap name. has_token_bytes tap name.named)
+    (flat_map (λ list. list) are.lists) are.named)) canonical
 
 -- they stay the token's, with moments before 2100
 pub sound_list : (token : Token) (taps list : List TapFields) → AreSound token taps
     → IsCanonical taps list → AreSound token list
 sound_list token taps list sound canonical = record {
   early = All-permutation Early taps list canonical.moved sound.early;
-  its = All-permutation (λ (t : TapFields). token_of_tap t ≡ token) taps list canonical.moved sound.its;
+  its = All-permutation (λ (t : TapFields). token_of_tap t ≡ token) taps list canonical.moved
+      sound.its;
 }
 
 -- the bytes of one of the files, as a slice gives them
@@ -215,7 +217,8 @@ known_there known files k file bytes within is there =
     ∙ ap (option_map known) (slice_get-get_or files k file within ∙ ap Some (sym is))) ∙ there)
 
 -- the token's taps of one file, behind those of others
-pub own_behind : (token : Token) (all : List ℕ) (taps own : List TapFields) (numbers counts : List ℕ)
+pub own_behind : (token : Token) (all : List ℕ) (taps own : List TapFields)
+    (numbers counts : List ℕ)
     → AreOwnAdded token all [] own [] counts
     → AreOwnAdded token all taps (taps ++ own) numbers (numbers ++ counts)
 own_behind token all taps own numbers counts added = record {

@@ -3,7 +3,7 @@ use Rattle.std.proofs.Common.{◌≡◌, ℕ, ◌+◌, ◌^◌, ◌≤◌, List,
 use Rattle.std.proofs.Common.{sym, ap, subst, ◌∙◌, arith}
 use Rattle.std.specs.Ordering.{is_lt, ordering_reverse}
 use Rattle.std.specs.declared.cmp.Ordering.TheVariants.{Less}
-use Rattle.std.proofs.lemmas.List.Elements.{All-append, All-cons, All-map, All-nil}
+use Rattle.std.proofs.lemmas.List.Elements.{All-append, All-cons, All-map, All-nil, All-weaker}
 use Rattle.fare_table.specs.Fares.{Fares}
 use Rattle.tap_views.specs.Token.{token_cmp}
 use Rattle.tap_views.specs.declared.encoder.TapFields.{TapFields}
@@ -18,7 +18,6 @@ use Rattle.settlement.specs.Posted.{posted, token_of_tap}
 use Rattle.settlement.specs.declared.bill.Bill.{Bill}
 use Rattle.settlement.specs.inside.Apart.{AreBelow}
 use Rattle.settlement.specs.inside.Billing.{HaveBillRoom}
-use Rattle.settlement.proofs.Placed.{all_map}
 use Rattle.settlement.proofs.Ranges.{posted_below}
 use Rattle.settlement.proofs.TokenRuns.{less_up, posted_length, tokens_posted, up_less}
 use Rattle.settled_texts.specs.Telling.{NoTapFallsFrom, last_token}
@@ -41,8 +40,8 @@ fall_between from (tap ∷ taps) (up, no_fall) =
     let last = last_token token taps in
     let (least, most, end) = fall_between token taps no_fall in (
       All-cons (From from) tap taps up
-          (all_map (From token) (From from) taps
-          (λ (t : TapFields) above. up_chain from token (token_of_tap t) up above) least),
+          (All-weaker (From token) (From from)
+          (λ (t : TapFields) above. up_chain from token (token_of_tap t) up above) taps least),
       All-cons (UpTo last) tap taps end most,
       up_chain from token last up end,
     )
@@ -57,13 +56,12 @@ pub below_bound : (taps others : List TapFields) (last first : Token) → All (U
 below_bound taps others last first up less from =
     let P : Token → Type 0 = λ t. All (λ o. token_cmp t o ≡ Less) (map token_of_tap others) in
     All-map P token_of_tap taps
-    (all_map (UpTo last) (λ (tap : TapFields). P (token_of_tap tap)) taps
-    (λ (tap : TapFields) below.
+    (All-weaker (UpTo last) (λ (tap : TapFields). P (token_of_tap tap)) (λ (tap : TapFields) below.
     All-map (λ o. token_cmp (token_of_tap tap) o ≡ Less) token_of_tap others
-    (all_map (From first) (λ (other : TapFields). token_cmp (token_of_tap tap) (token_of_tap other) ≡ Less)
-    others
+    (All-weaker (From first)
+    (λ (other : TapFields). token_cmp (token_of_tap tap) (token_of_tap other) ≡ Less)
     (λ (other : TapFields) above. less_up (token_of_tap tap) first (token_of_tap other)
-    (up_less (token_of_tap tap) last first below less) above) from)) up)
+    (up_less (token_of_tap tap) last first below less) above) others from)) taps up)
 
 -- no tap of both is above the last token
 pub up_to_next : (taps others : List TapFields) (last first next : Token) → All (UpTo last) taps
@@ -71,17 +69,17 @@ pub up_to_next : (taps others : List TapFields) (last first next : Token) → Al
     → All (UpTo next) (taps ++ others)
 up_to_next taps others last first next before above up most =
     All-append (UpTo next) taps others
-    (all_map (UpTo last) (UpTo next) taps
+    (All-weaker (UpTo last) (UpTo next)
     (λ (tap : TapFields) below. up_chain (token_of_tap tap) last next below
-    (up_chain last first next (less_is_up last first above) up)) before) most
+    (up_chain last first next (less_is_up last first above) up)) taps before) most
 
 -- taps from a token on that is above another are from that on
 pub from_lower : (others : List TapFields) (lower last first : Token) → IsUpTo lower last
     → token_cmp last first ≡ Less → All (From first) others → All (From lower) others
 from_lower others lower last first up above from =
-    all_map (From first) (From lower) others
+    All-weaker (From first) (From lower)
     (λ (tap : TapFields) is. up_chain lower first (token_of_tap tap)
-    (up_chain lower last first up (less_is_up last first above)) is) from
+    (up_chain lower last first up (less_is_up last first above)) is) others from
 
 -- the bill of the taps of two parts
 pub billed_both : (fares : Fares) (taps others : List TapFields) (old more new : Bill)
@@ -113,7 +111,8 @@ part_within fares known few most part is up = record {
 }
 
 -- there is room for the taps of two parts
-pub parts_room : (fares : Fares) (known : List (Option (List ℕ))) (few others : ℕ) (part more : Part)
+pub parts_room : (fares : Fares) (known : List (Option (List ℕ))) (few others : ℕ)
+    (part more : Part)
     → IsPart fares known few part → IsPart fares known others more → few + others ≤ 2 ^ 95
     → HaveBillRoom part.bill more.bill
 parts_room fares known few others part more one other room =

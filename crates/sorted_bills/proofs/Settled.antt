@@ -60,7 +60,8 @@ settled_list files lists taps sorted canonical named =
       taps = of.taps;
       of_uploads = of.each;
       canonical = ordered;
-      early = All-permutation (λ (tap : TapFields). tap.moment < moment_limit) (map fields_of good) taps
+      early = All-permutation (λ (tap : TapFields). tap.moment < moment_limit) (map fields_of good)
+          taps
           ordered.moved
           (All-map (λ (tap : TapFields). tap.moment < moment_limit) fields_of good
           (uploads_early files of.taps of.each));

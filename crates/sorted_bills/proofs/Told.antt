@@ -1,13 +1,13 @@
 -- Taps that were told, and more behind them.
-use Rattle.std.proofs.Common.{◌≡◌, ◌≤◌, ℕ, Bool, true, false, List, [], ◌∷◌, ◌++◌, All, Option, Some, None, map}
+use Rattle.std.proofs.Common.{◌≡◌, ◌≤◌, ℕ, Bool, true, false, List, [], ◌∷◌, ◌++◌, All, Option}
+use Rattle.std.proofs.Common.{Some, None, map, refl, sym, ap, subst, ◌∙◌, append-nil}
 use Rattle.std.specs.Prelude.{IfSome}
-use Rattle.std.proofs.Common.{refl, sym, ap, subst, ◌∙◌, append-nil}
 use Rattle.std.specs.Ordering.{is_lt}
 use Rattle.std.specs.declared.cmp.Ordering.TheVariants.{Less}
 use Rattle.std.specs.Io.KnownBytes.{Appends, Keeps, append_known}
 use Rattle.std.proofs.KnownBytes.{Appends-nil, Appends-trans, append_known-passed}
 use Rattle.std.proofs.lemmas.Bool.{false≢true}
-use Rattle.std.proofs.lemmas.List.Elements.{All-append, All-nil}
+use Rattle.std.proofs.lemmas.List.Elements.{All-append, All-nil, All-weaker}
 use Rattle.fare_table.specs.Fares.{Fares}
 use Rattle.tap_views.specs.Token.{token_cmp, token_eq}
 use Rattle.tap_views.specs.declared.encoder.TapFields.{TapFields}
@@ -18,7 +18,6 @@ use Rattle.fare_texts.specs.declared.teller.Teller.{Teller}
 use Rattle.fare_texts.specs.Lines.{HasCome, IsUpTo}
 use Rattle.fare_texts.proofs.Rising.{none_below, up_chain, up_itself, up_weaker}
 use Rattle.settlement.specs.Posted.{HasName, posted_after, token_of_tap}
-use Rattle.settlement.proofs.Placed.{all_map}
 use Rattle.settled_texts.specs.Telling.{NoTapFallsFrom, last_token}
 use Rattle.settled_texts.proofs.Tellings.{last_append, none_told, told_append}
 use Rattle.sorted_taps.specs.Spans.{HaveCome}
@@ -52,7 +51,8 @@ below_apart a b above = by (token_eq a b) refl
   where
     by : (t : Bool) → token_eq a b ≡ t → token_eq a b ≡ false
     by false is = is
-    by true is = absurd (above (subst (λ (t : Token). IsUpTo t a) (same_token a b is) (up_itself a)))
+    by true is = absurd
+        (above (subst (λ (t : Token). IsUpTo t a) (same_token a b is) (up_itself a)))
 
 -- no tap is told
 pub told_begun : (fares : Fares) (known : List (Option (List ℕ))) (earlier : List Entry)
@@ -80,7 +80,8 @@ all_out old first new lines none empty is =
 module _ (fares : Fares) (known : List (Option (List ℕ))) (earlier : List Entry)
     (begun : List TapReader) (from : Token) (before : Option (List ℕ)) where
   -- more taps, from a token on that the teller's is not above
-  pub told_more : (readers next : List TapReader) (teller then : Teller) (bytes more : Option (List ℕ))
+  pub told_more : (readers next : List TapReader) (teller then : Teller)
+      (bytes more : Option (List ℕ))
       (so_far : AreToldSoFar fares known earlier begun from before readers teller bytes)
       (first : Token) (taps : List TapFields) (lines : List ℕ)
       → ((files : List (List ℕ)) → known ≡ map Some files
@@ -103,7 +104,8 @@ module _ (fares : Fares) (known : List (Option (List ℕ))) (earlier : List Entr
             are.told;
         appended = Appends-trans before bytes more so_far.lines lines so_far.appended appended;
         up = subst (λ (t : Token). IsUpTo t then.token) (sym (last_append from so_far.taps taps))
-            (up_chain (last_token (last_token from so_far.taps) taps) (last_token first taps) then.token
+            (up_chain (last_token (last_token from so_far.taps) taps) (last_token first taps)
+            then.token
             (last_up (last_token from so_far.taps) first taps here) are.up);
       }
 
@@ -143,7 +145,8 @@ module _ (fares : Fares) (known : List (Option (List ℕ))) (earlier : List Entr
       (none_below entries teller.token range.first come up
       (below_apart teller.token range.first (λ up. false≢true (sym up ∙ ap is_lt follows.above))))
       (up_weaker entries teller.token range.first come up) in
-      told_more readers next.readers.items teller range.teller bytes more so_far range.first made.taps
+      told_more readers next.readers.items teller range.teller bytes more so_far range.first
+      made.taps
       range.lines.items
       (λ files are. follows.behind files begun so_far.taps made.taps (so_far.come files are)
       (made.spanned files are)) up made.lines_are appended
@@ -177,8 +180,8 @@ lines_out a b c left lines kept none more =
 pub none_made : (fares : Fares) (known : List (Option (List ℕ))) (ranges : List Range)
     → All (λ range. range.span ≡ None) ranges → All (IsRange fares known) ranges
 none_made fares known ranges none =
-    all_map (λ (range : Range). range.span ≡ None) (IsRange fares known) ranges
-    (λ (range : Range) is. not_made fares known range is) none
+    All-weaker (λ (range : Range). range.span ≡ None) (IsRange fares known)
+    (λ (range : Range) is. not_made fares known range is) ranges none
   where
     not_made : (fares : Fares) (known : List (Option (List ℕ))) (range : Range) → range.span ≡ None
         → IsRange fares known range

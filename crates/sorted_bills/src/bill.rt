@@ -106,12 +106,12 @@ fn bill_by_workers<R: Threads + Sync, F: Placed + Sync>(
 /// posted by its token's account, and the sums are kept. Of each file some batches are in memory,
 /// and of each token its sums: 32 bytes while each count fits 16 bits and the cents 32.
 ///
-/// So many workers, 64 at most, charge a range of the tokens each, with readers of their own and
+/// `workers` threads, 64 at most, charge a range of the tokens each, with readers of their own and
 /// copies of these as they began: at most some 32 KiB a worker for each file of `sort`. Where the
-/// ranges begin is a guess that suits long files in batches of 512 taps. Each range must end
-/// where the next one begins, to the tap: if not, or if a worker is refused, all is charged anew by
-/// one. If a file is refused then, all are checked in their order, and the fault is the first one.
-/// So neither the bill nor the fault depends on the workers.
+/// ranges begin is a guess that suits long files in batches of 512 taps. Each range must end where
+/// the next one begins, to the tap: if not, or if a worker is refused, all is charged anew by one.
+/// If a file is refused then, all are checked in their order, and the fault is the first one. So
+/// neither the bill nor the fault depends on the workers.
 ///
 /// A file that was written meanwhile, or has another length at the end, is reported as changed: one
 /// that was shortened may have looked like its end.

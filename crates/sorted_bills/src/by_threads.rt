@@ -24,7 +24,7 @@ use std::thread;
 use std::thread::Threads;
 use tap_views::Token;
 
-/// More workers do not serve.
+/// More workers are of no use.
 pub(crate) const MAX_WORKERS: u32 = 64;
 
 /// The part at a place among the ranges between the tokens of the list; none if it is not made.
@@ -81,7 +81,7 @@ fn parts_of<R: Threads + Sync, F: Placed + Sync>(
     Ok(parts)
 }
 
-/// Takes the last part from the list. None if it was not made, or if there is no part.
+/// None if it was not made, or if there is no part.
 fn next_part(parts: &mut Vec<Option<Part>>) -> Option<Part>
     ensures { (fares : Fares) (known : List (Option (List ℕ)))
         → AreParts fares known parts.old.items
@@ -163,7 +163,7 @@ fn billed<F: Placed>(
     Ok(made)
 }
 
-/// The bill of the files, in one pass by so many workers, of whom each charges a range of the
+/// The bill of the files, in one pass by `workers` threads, of which each charges a range of the
 /// tokens. A fault says nothing of the files: the ranges may be ill chosen.
 pub(crate) fn bill_by_threads<R: Threads + Sync, F: Placed + Sync>(
     rt: &R,

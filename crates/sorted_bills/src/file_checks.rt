@@ -32,7 +32,7 @@ fn number_at<F: Placed>(alloc: Global, files: &[F], place: usize) -> Option<u64>
     }
 }
 
-/// Puts the number of each file's taps at its place, by so many threads.
+/// Puts the number of each file's taps at its place, by `workers` threads.
 fn number_each<R: Threads + Sync, F: Placed + Sync>(
     rt: &R,
     alloc: Global,
@@ -58,7 +58,7 @@ fn number_each<R: Threads + Sync, F: Placed + Sync>(
     );
 }
 
-/// The numbers of all files. None if one is missing.
+/// None if one is missing.
 fn all_of<F: Placed>(
     alloc: Global,
     files: &[F],
@@ -98,8 +98,8 @@ fn numbers_by_threads<R: Threads + Sync, F: Placed + Sync>(
     Ok(found)
 }
 
-/// Reads each file whole, as `check_files` does. So many threads check a share of the files each; if
-/// one of them is refused, this thread checks all anew.
+/// Reads each file whole, as `check_files` does. `workers` threads check a share of the files each.
+/// If one of them is refused, this thread checks all anew.
 pub(crate) fn check_all<R: Threads + Sync, F: Placed + Sync>(
     rt: &R,
     alloc: Global,

@@ -20,8 +20,8 @@ use std::io::Write;
 use tap_views::Token;
 
 /// Takes the taps of the files that have tokens below the bound, or all if there is none, posts
-/// them, and appends their lines to the text, of which what is there may go out first. More taps
-/// than are left are refused.
+/// them, and appends their lines to `text`. The lines in `text` may go out first. More taps than
+/// are left are refused.
 pub(crate) fn tell_below<F: Placed, W: Write>(
     text: &mut String,
     table: &FareTable,

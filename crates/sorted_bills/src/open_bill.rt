@@ -27,9 +27,8 @@ pub(crate) struct OpenBill {
     bill: Bill,
     /// The last token, with its account.
     replay: Replay,
-    /// What its taps come to.
+    /// What the last token's taps come to.
     tally: Tally,
-    /// Whether it has any taps.
     has_taps: bool,
 }
 
@@ -52,7 +51,6 @@ impl OpenBill {
         }
     }
 
-    /// The last token.
     pub(crate) fn token(&self) -> Token
         ensures { result ≡ self.now.replay.token }
     {
@@ -94,7 +92,6 @@ impl OpenBill {
         Ok(())
     }
 
-    /// Posts a tap of the last token.
     fn post(&mut self, table: &FareTable, clock: &Clock, tap: &TapFields) -> Result<(), NoMemory>
         requires clock { clock.now ≡ table.now.zone }
         requires early { tap.now.moment < 4_102_444_800_000 }
@@ -161,7 +158,6 @@ impl OpenBill {
         Ok(())
     }
 
-    /// The bill of the taps that were added.
     pub(crate) fn into_bill(self, alloc: Global) -> Result<Bill, NoMemory>
         requires { HasRoomFor self 0 }
         ensures { IfOk result (λ bill. (fares : Fares) (taps : List TapFields)

@@ -14,12 +14,11 @@ use std::thread;
 use std::thread::Threads;
 use tap_views::{TapFields, Token};
 
-/// The taps of one token of some files, and the number of all taps of each file.
 #[derive(Drop)]
 pub(crate) struct OwnTaps {
-    /// The token's taps, one file after the other.
+    /// The taps lie one file after the other.
     pub(crate) taps: Vec<TapFields>,
-    /// The numbers of the files' taps.
+    /// How many taps each file has, of all tokens.
     pub(crate) numbers: Vec<u64>,
 }
 
@@ -43,7 +42,7 @@ fn own_at<F: Placed>(alloc: Global, token: Token, files: &[F], place: usize) -> 
     }
 }
 
-/// Puts the token's taps of each file at its place, by so many threads.
+/// Puts the token's taps of each file at its place, by `workers` threads.
 fn collect_each<R: Threads + Sync, F: Placed + Sync>(
     rt: &R,
     alloc: Global,
@@ -96,7 +95,6 @@ fn join_all<F: Placed>(
     Ok(Some(OwnTaps { taps, numbers }))
 }
 
-/// As many places as there are files, all empty.
 fn places(alloc: Global, number: usize) -> Result<Vec<Option<OwnTaps>>, AllocError>
     ensures { IfOk result (λ owns. length owns.items ≡ number) }
 {
@@ -107,8 +105,8 @@ fn places(alloc: Global, number: usize) -> Result<Vec<Option<OwnTaps>>, AllocErr
     Ok(owns)
 }
 
-/// The token's taps of all files, if these are sorted, by so many threads of which each takes a
-/// share of the files. None says nothing of the files.
+/// The token's taps of all files, if these are sorted. Each of `workers` threads takes a share of
+/// the files. None says nothing of the files.
 pub(crate) fn own_by_threads<R: Threads + Sync, F: Placed + Sync>(
     rt: &R,
     alloc: Global,

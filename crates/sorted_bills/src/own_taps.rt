@@ -28,7 +28,6 @@ use std::thread::Threads;
 use tap_parts::sort;
 use tap_views::{TapFields, Token};
 
-/// Adds the tap to the list if it is of the token.
 fn push_own(token: Token, tap: &TapFields, taps: &mut Vec<TapFields>) -> Result<(), SortedFault>
     ensures pushed { OnOk result (IsOwnPushed token tap.now taps.old.items taps.new.items) }
     ensures fault { IfErr result (λ fault. (all : List ℕ) → IsSortedFault all fault) }
@@ -120,7 +119,7 @@ fn own_taps<F: Placed>(
     Ok(taps)
 }
 
-/// The taps in canonical order, in the same memory.
+/// Sorts in the same memory.
 fn in_order(taps: Vec<TapFields>) -> Vec<TapFields>
     ensures { IsCanonical taps.items result.items }
 {
@@ -129,8 +128,8 @@ fn in_order(taps: Vec<TapFields>) -> Vec<TapFields>
     list
 }
 
-/// The token's taps of all files, by so many threads if there are several: if one of them is refused,
-/// by this one.
+/// The token's taps of all files. Several workers share the files: if one of them is refused, this
+/// thread reads all.
 fn own_of_files<R: Threads + Sync, F: Placed + Sync>(
     rt: &R,
     alloc: Global,
@@ -157,10 +156,10 @@ fn own_of_files<R: Threads + Sync, F: Placed + Sync>(
 }
 
 /// The taps of one token of sorted files, in canonical order: no other tap is kept. One pass checks
-/// each file whole. So many workers take a share of the files each; if one of them is refused, this
-/// thread checks all anew, in their order, and its fault is the first one. So neither the taps nor
-/// the fault depend on the workers. A file that was written meanwhile, or has another length at the
-/// end, is reported as changed.
+/// each file whole. `workers` threads take a share of the files each. If one of them is refused,
+/// this thread checks all anew, in their order, and its fault is the first one. So neither the taps
+/// nor the fault depend on the workers. A file that was written meanwhile, or has another length at
+/// the end, is reported as changed.
 pub fn sorted_taps_of<R: Threads + Sync, F: Placed + Sync>(
     rt: &R,
     alloc: Global,

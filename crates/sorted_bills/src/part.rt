@@ -25,12 +25,10 @@ use sorted_taps::{Span, WINDOW_BYTES, copies_of, joined};
 use std::alloc::Global;
 use tap_views::{NoMemory, Token};
 
-/// What a range of the taps comes to.
 #[derive(Drop)]
 pub(crate) struct Part {
     /// Where the readers of the files stood before the taps, and where they stood behind them.
     pub(crate) span: Span,
-    /// The bill of the taps.
     pub(crate) bill: Bill,
     /// A token below which the taps have none.
     first: Token,
@@ -38,9 +36,9 @@ pub(crate) struct Part {
     last: Token,
 }
 
-/// The bill of the taps from one token on and below another, or without a bound where there is
-/// none. Where the files are not in order, or have other batches than those of 512 taps, it may be
-/// that of other taps: the part's span tells of which.
+/// The bill of the taps from one token on and below another. `None` is no bound. If the files are
+/// not in order, or have other batches than those of 512 taps, it may be that of other taps: the
+/// part's span says which.
 pub(crate) fn part_of<F: Placed>(
     alloc: Global,
     table: &FareTable,
@@ -87,7 +85,6 @@ fn add_bill(alloc: Global, bill: &mut Bill, more: Bill) -> Result<(), NoMemory>
     Ok(())
 }
 
-/// Whether the token is below the other one.
 pub(crate) fn is_below(token: Token, other: Token) -> bool
     ensures { IsTrue result → token_cmp token other ≡ Less }
 {

@@ -39,13 +39,12 @@ pub(crate) struct Range {
     /// Where the readers of the files stood before the taps and behind them. None if the range was
     /// not made whole.
     pub(crate) span: Option<Span>,
-    /// A teller that has come past the taps.
+    /// It has come past the taps.
     pub(crate) teller: Teller,
     /// The number of the taps, at least that of those of the last token.
     pub(crate) number: u64,
     /// Lines that wait.
     text: String,
-    /// The lines of the taps.
     pub(crate) lines: Vec<u8>,
 }
 

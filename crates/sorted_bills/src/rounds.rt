@@ -31,7 +31,7 @@ use std::marker::Sync;
 use std::thread::Threads;
 use tap_views::Token;
 
-/// The taps of a range, about.
+/// About how many taps a range has.
 const RANGE_TAPS: u64 = 24_576;
 
 /// More ranges are not made.
@@ -43,13 +43,12 @@ const MAX_FILES: usize = 256;
 /// The ranges of the tokens, of which some are made at once.
 #[derive(Drop)]
 pub(crate) struct Rounds {
-    /// The tokens between the ranges.
     pub(crate) bounds: Vec<Token>,
     /// The ranges that are made at once, a worker each. None if this thread makes all lines.
     pub(crate) ranges: Vec<Range>,
 }
 
-/// The ranges of so many taps, and as many at once as there are workers.
+/// The ranges of about `RANGE_TAPS` taps, and as many at once as there are workers.
 fn rounds_of<F: Placed>(
     alloc: Global,
     files: &[F],
@@ -70,8 +69,8 @@ fn rounds_of<F: Placed>(
 }
 
 impl Rounds {
-    /// The ranges of so many taps for so many workers: one range if there is one worker, if there
-    /// are many files, or if something is refused.
+    /// The ranges of `counted` taps: one range if there is one worker, if there are many files, or
+    /// if something is refused.
     pub(crate) fn of<F: Placed>(alloc: Global, files: &[F], counted: u64, workers: u32) -> Self
         ensures { (fares : Fares) (known : List (Option (List ℕ)))
             → All (IsRange fares known) result.ranges.items }
@@ -88,8 +87,8 @@ impl Rounds {
     }
 }
 
-/// The merge behind a span, or none if this does not begin where the merge stands, or memory is
-/// refused. There are so many files.
+/// The merge behind a span of all `files` files. None if the span does not begin where the merge
+/// stands, or if memory is refused.
 fn merge_behind(alloc: Global, merge: &Merge, span: Span, files: usize) -> Option<Merge>
     ensures ranked { IfSome result (λ next. IsRanked next.readers.items next.heads.items) }
     ensures number { IfSome result (λ next. length next.readers.items ≡ files) }
@@ -259,9 +258,9 @@ fn write_place<R: Threads + Sync, F: Placed + Sync, W: Write>(
     )
 }
 
-/// Takes all taps of the files, so many as were counted, posts them, and appends their lines to the
-/// text, of which what is there may go out first. The tokens rise, and lie between the ranges, of
-/// which some are made at once.
+/// Takes all `counted` taps of the files, posts them, and appends their lines to `text`. The lines
+/// in `text` may go out first. The tokens rise, and lie between the ranges, of which some are made
+/// at once.
 pub(crate) fn write_ranges<R: Threads + Sync, F: Placed + Sync, W: Write>(
     rt: &R,
     alloc: Global,

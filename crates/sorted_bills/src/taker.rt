@@ -15,21 +15,17 @@ use sorted_taps::{Merge, SortedFault, TapReader};
 use std::alloc::{AllocError, Global};
 use tap_views::{MOMENT_LIMIT_MS, TapFields, Token};
 
-/// How many taps are taken at once.
 const TAKEN_TAPS: usize = 512;
 
 /// Merged files, and the taps that were taken of them last.
 #[derive(Drop)]
 pub(crate) struct Taker {
-    /// The readers of the files.
     pub(crate) merge: Merge,
     /// Room to read in.
     window: Vec<u8>,
-    /// The taps that were taken last.
     pub(crate) taps: Vec<TapFields>,
 }
 
-/// The token of a tap.
 #[inline(always)]
 pub(crate) fn name_of(tap: &TapFields) -> Token
     ensures token { result ≡ token_of_tap tap.now }
@@ -168,7 +164,7 @@ impl Taker {
         Ok(Taker::of(alloc, merge, window)?)
     }
 
-    /// Where the merge stands.
+    /// Goes on from where the merge stands.
     pub(crate) fn of(alloc: Global, merge: Merge, window: Vec<u8>) -> Result<Self, AllocError>
         ensures merge { IfOk result (λ taker. taker.merge ≡ merge) }
         ensures window { IfOk result (λ taker. taker.window ≡ window) }
@@ -181,7 +177,6 @@ impl Taker {
         })
     }
 
-    /// The readers of the files, as they stand.
     pub(crate) fn into_readers(self) -> Vec<TapReader>
         ensures { result ≡ self.merge.readers }
     {

@@ -27,7 +27,6 @@ pub(crate) fn count(numbers: &[u64]) -> Result<u64, BillFault>
     Ok(count)
 }
 
-/// The ends of files that were posted whole, of so many taps each.
 pub(crate) fn ends_of(alloc: Global, numbers: &[u64]) -> Result<Vec<UploadEnd>, AllocError>
     ensures ends { IfOk result (λ ends. ends.items ≡ map Posted numbers.now) }
     ensures posted { IfOk result (λ ends. are_posted ends.items ≡ true) }

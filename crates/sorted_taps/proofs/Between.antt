@@ -9,11 +9,7 @@ use Rattle.tap_views.specs.Layout.{Tap}
 use Rattle.tap_views.specs.declared.encoder.TapFields.{TapFields}
 use Rattle.sorted_taps.specs.Fronts.{AreBatches}
 use Rattle.sorted_taps.specs.Reading.{AreTapsBetween}
-use Rattle.sorted_taps.specs.Readers.{IsBehindFault}
-use Rattle.sorted_taps.specs.declared.fault.SortedFault.{SortedFault}
-use Rattle.sorted_taps.specs.declared.fault.SortedFault.TheVariants.{Layout, OutOfOrder, Unread}
-use Rattle.sorted_taps.specs.declared.fault.SortedFault.TheVariants.{NoMemory}
-use Rattle.sorted_taps.specs.inside.Decoding.{IsReadOn, IsReadFault}
+use Rattle.sorted_taps.specs.inside.Decoding.{IsReadOn}
 
 batches_append : (front back : List ℕ) (batches more : List (List Tap)) → AreBatches front batches
     → AreBatches back more → AreBatches (front ++ back) (batches ++ more)
@@ -28,7 +24,8 @@ batches_append front back (batch ∷ batches) more (one, others, is, spelt, firs
 )
 
 -- the taps of batches, and of others behind them
-pub taps_append : (batches more : List (List Tap)) → map fields_of (taps_of_batches (batches ++ more))
+pub taps_append : (batches more : List (List Tap))
+    → map fields_of (taps_of_batches (batches ++ more))
     ≡ map fields_of (taps_of_batches batches) ++ map fields_of (taps_of_batches more)
 taps_append batches more =
     ap (map fields_of) (flat_map-append (λ (batch : List Tap). batch) batches more)
@@ -59,16 +56,6 @@ pub read_behind : (all : List ℕ) (from at used : ℕ) (taps : List TapFields)
     → AreTapsBetween all from (at + used) taps
 read_behind all from at used taps none on =
     between_more all from at (at + used) [] taps none on.between
-
--- a fault behind batches of no taps
-pub fault_behind : (all : List ℕ) (from at : ℕ) (fault : SortedFault)
-    → AreTapsBetween all from at [] → IsReadFault all at fault → IsBehindFault all from fault
-fault_behind all from at (OutOfOrder tap) none is = is
-fault_behind all from at (Layout offset fault) none (here, some, is) =
-    subst (λ o. IsBehindFault all from (Layout o fault)) (sym here)
-    (record { between = none; some = some; is_fault = is })
-fault_behind all from at Unread none is = tt
-fault_behind all from at NoMemory none is = tt
 
 -- a reader whose taps are read on has none only at the file's end
 pub end_behind : (all : List ℕ) (at used : ℕ) (taps : List TapFields) → IsReadOn all at taps used

@@ -17,6 +17,7 @@ pub record AreCounted (files : List (List ℕ)) (count : ℕ) (numbers : List �
   pub each : (k : ℕ) → k < count → IsSortedFile (get_or files k []) (get_or lists k [])
   pub counted : numbers ≡ map length lists
 
+-- before the first file no taps are counted
 unfoldable pub counted_none : (files : List (List ℕ)) → AreCounted files 0 []
 counted_none files = record {
   lists = [];
@@ -25,6 +26,7 @@ counted_none files = record {
   counted = refl;
 }
 
+-- one file more is counted
 unfoldable pub counted_more : (files : List (List ℕ)) (count : ℕ) (numbers more : List ℕ)
     (taps : List TapFields) → AreCounted files count numbers
     → IsSortedFile (get_or files count []) taps → more ≡ numbers ++ length taps ∷ []
@@ -45,16 +47,19 @@ counted_more files count numbers more taps are sorted is =
     by_case k inside (inl less) =
         let many = are.number in
         subst (IsSortedFile (get_or files k []))
-        (sym (get_or-append are.lists (taps ∷ []) [] k (omega (arith, less, many)))) (are.each k less)
+        (sym (get_or-append are.lists (taps ∷ []) [] k (omega (arith, less, many))))
+        (are.each k less)
     by_case k inside (inr last) =
         let many = are.number in
         let same : length are.lists ≡ k = omega (arith, many, inside, last) in
         let here : count ≡ k = omega (arith, inside, last) in
         subst (λ n. IsSortedFile (get_or files n []) (get_or (are.lists ++ taps ∷ []) k [])) here
-        (subst (λ n. IsSortedFile (get_or files count []) (get_or (are.lists ++ taps ∷ []) n [])) same
+        (subst (λ n. IsSortedFile (get_or files count []) (get_or (are.lists ++ taps ∷ []) n []))
+        same
         (subst (IsSortedFile (get_or files count []))
         (sym (get_or-append_seam are.lists taps [] [])) sorted))
 
+-- when each file is counted, all are
 pub counted_all : (files : List (List ℕ)) (count : ℕ) (numbers : List ℕ)
     → AreCounted files count numbers → count ≡ length files → AreCountedFiles files numbers
 counted_all files count numbers are whole =
@@ -68,6 +73,7 @@ counted_all files count numbers are whole =
       counted = are.counted;
     }
 
+-- the fault of a file behind good ones is the first
 pub first_fault : (files : List (List ℕ)) (fault : FileFault) (numbers : List ℕ)
     → AreCounted files fault.index numbers → fault.index < length files
     → IsSortedFault (get_or files fault.index []) fault.fault → IsFirstFault files fault

@@ -1,9 +1,8 @@
 -- Batches that are decoded from the front of some bytes.
-use Rattle.std.proofs.Common.{◌≡◌, ℕ, ◌<◌, ◌≤◌, List, [], ◌∷◌, ◌++◌, length, map}
+use Rattle.std.proofs.Common.{◌≡◌, ℕ, ◌≤◌, List, [], ◌∷◌, ◌++◌, length, map}
 use Rattle.std.proofs.Common.{refl, sym, ap, subst, ◌∙◌, arith, length-append}
 use Rattle.std.proofs.Common.{append-nil, append_assoc, ◌-◌, ◌⊎◌, inl, inr}
-use Rattle.std.proofs.lemmas.List.{map-append}
-use Rattle.std.proofs.lemmas.List.{nil_from_length}
+use Rattle.std.proofs.lemmas.List.{map-append, nil_from_length}
 use Rattle.std.proofs.lemmas.List.Concat.{flat_map-append}
 use Rattle.tap_views.specs.Encoding.{fields_of}
 use Rattle.tap_views.specs.Layout.{Tap, IsBatch}
@@ -39,14 +38,6 @@ front_more bytes left one rest taps new front batch is =
       are = batches_more front.front one front.batches new front.are batch;
       read = taps_more front.batches new ∙ ap (λ l. l ++ map fields_of new) front.read;
     }
-
--- a batch less is left
-pub shorter : (left one rest : List ℕ) (new : List Tap) → IsBatch one new → left ≡ one ++ rest
-    → length rest < length left
-shorter left one rest new batch is =
-    let some = batch_some one new batch in
-    let long = ap length is ∙ length-append one rest in
-    omega (arith, some, long)
 
 -- batches without a byte are none
 none_of_nothing : (batches : List (List Tap)) → AreBatches [] batches → batches ≡ []

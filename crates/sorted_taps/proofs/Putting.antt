@@ -1,7 +1,7 @@
 -- Taps that are written in batches of 512.
-use Rattle.std.proofs.Common.{◌≡◌, ℕ, zero, suc, ◌+◌, ◌<◌, ◌≤◌, List, [], ◌∷◌, ◌++◌, flat_map, length}
-use Rattle.std.proofs.Common.{refl, sym, ap, subst, ◌∙◌, arith, append-nil, append_assoc, take, get_or}
-use Rattle.std.proofs.Common.{length-append, Ok, Err}
+use Rattle.std.proofs.Common.{◌≡◌, ℕ, zero, suc, ◌+◌, ◌<◌, ◌≤◌, List, [], ◌∷◌, ◌++◌, flat_map}
+use Rattle.std.proofs.Common.{length, refl, sym, ap, subst, ◌∙◌, arith, append-nil, append_assoc}
+use Rattle.std.proofs.Common.{take, get_or, length-append, Ok, Err}
 use Rattle.std.specs.Prelude.{IfErr, Option, Result}
 use Rattle.std.proofs.Math.ListN.{get_or-append}
 use Rattle.std.proofs.lemmas.List.{flat_map_more, get_or-append-add, take_more}
@@ -94,7 +94,8 @@ early_at items (x ∷ lists) (suc i) d early inside =
 -- the taps of one list more
 pub list_more : {X : Type 0} (items : X → List TapFields) (lists : List X) (i : ℕ) (d : X)
     → i < length lists
-    → flat_map items (take i lists) ++ items (get_or lists i d) ≡ flat_map items (take (i + 1) lists)
+    → flat_map items (take i lists) ++ items (get_or lists i d)
+    ≡ flat_map items (take (i + 1) lists)
 list_more items lists i d inside =
     flat_map_more items [] (take i lists) (get_or lists i d)
     ∙ ap (λ front. flat_map items front) (sym (take_more lists i d inside))

@@ -1,11 +1,12 @@
 -- Trees of heads: their root, and a place that is chosen anew.
-use Rattle.std.proofs.Common.{◌≡◌, ◌≢◌, ◌⊎◌, ℕ, zero, suc, ◌+◌, ◌-◌, ◌*◌, ◌/◌, ◌<◌, ◌≤◌, List, [], ◌∷◌, length}
-use Rattle.std.proofs.Common.{true, false, Bool, refl, sym, ap, subst, ◌∙◌, arith, inl, inr, None, Some}
-use Rattle.std.proofs.Common.{get_or, set}
+use Rattle.std.proofs.Common.{◌≡◌, ◌≢◌, ◌⊎◌, ℕ, zero, suc, ◌+◌, ◌-◌, ◌*◌, ◌/◌, ◌<◌, ◌≤◌, List, []}
+use Rattle.std.proofs.Common.{◌∷◌, length, true, false, Bool, refl, sym, ap, subst, ◌∙◌, arith, inl}
+use Rattle.std.proofs.Common.{inr, None, Some, get_or, set}
 use Rattle.std.specs.Prelude.{Option}
 use Rattle.std.specs.Ordering.{is_lt}
 use Rattle.std.proofs.lemmas.Bool.{cases_eq, cases_lt}
-use Rattle.std.proofs.lemmas.List.{get_or_default, get_or-set_other, get_or-set_same, length-set, same_lists}
+use Rattle.std.proofs.lemmas.List.{get_or_default, get_or-set_other, get_or-set_same, length-set}
+use Rattle.std.proofs.lemmas.List.{same_lists}
 use Rattle.tap_views.specs.declared.encoder.TapFields.{TapFields}
 use Rattle.tap_parts.specs.Canonical.{tap_cmp}
 use Rattle.sorted_taps.specs.Heads.{HasLeaves, IsChosen, IsChosenAt, IsNotAfter, IsRanked}
@@ -162,41 +163,6 @@ pub record HasLeavesBelow (readers : List TapReader) (tree : List Head) (below :
       → (get_or tree (length readers + k) d).tap ≡ head_of (get_or readers k e)
   pub at : (k : ℕ) (d : Head) → k < below → (get_or tree (length readers + k) d).at ≡ k
 
--- one head more
-pub one_leaf_more : (readers : List TapReader) (tree : List Head) (below : ℕ) (reader : TapReader)
-    (head : Head) → HasLeavesBelow readers tree below → below < length readers
-    → reader ≡ get_or readers below reader → head.tap ≡ head_of reader → head.at ≡ below
-    → HasLeavesBelow readers (set tree (length readers + below) head) (below + 1)
-one_leaf_more readers tree below reader head has low there tap number = record {
-  size = length-set tree (length readers + below) head ∙ has.size;
-  tap = λ k d e within. by_tap k d e (cases_lt k below) within;
-  at = λ k d within. by_at k d (cases_lt k below) within;
-}
-  where
-    room : length readers + below < length tree
-    room = let size = has.size in omega (arith, size, low)
-
-    by_tap : (k : ℕ) (d : Head) (e : TapReader) → (k < below) ⊎ (below ≤ k) → k < below + 1
-        → (get_or (set tree (length readers + below) head) (length readers + k) d).tap ≡ head_of (get_or readers k e)
-    by_tap k d e (inl less) within =
-        ap (λ (h : Head). h.tap) (get_or-set_other tree (length readers + below) (length readers + k)
-        head d (λ e. absurd (omega (arith, e, less)))) ∙ has.tap k d e less
-    by_tap k d e (inr last) within =
-        let same : below ≡ k = omega (arith, last, within) in
-        subst (λ j. (get_or (set tree (length readers + below) head) (length readers + j) d).tap ≡ head_of (get_or readers j e)) same
-        (ap (λ (h : Head). h.tap) (get_or-set_same tree (length readers + below) head d room) ∙ tap
-        ∙ ap head_of (there ∙ get_or_default readers below reader e low))
-
-    by_at : (k : ℕ) (d : Head) → (k < below) ⊎ (below ≤ k) → k < below + 1
-        → (get_or (set tree (length readers + below) head) (length readers + k) d).at ≡ k
-    by_at k d (inl less) within =
-        ap (λ (h : Head). h.at) (get_or-set_other tree (length readers + below) (length readers + k)
-        head d (λ e. absurd (omega (arith, e, less)))) ∙ has.at k d less
-    by_at k d (inr last) within =
-        let same : below ≡ k = omega (arith, last, within) in
-        subst (λ j. (get_or (set tree (length readers + below) head) (length readers + j) d).at ≡ j) same
-        (ap (λ (h : Head). h.at) (get_or-set_same tree (length readers + below) head d room) ∙ number)
-
 -- each place of the first half, from 1 on, has the one chosen of two, but for the place above this
 abbrev pub AreChosenBut : ℕ → List Head → ℕ → Type 0
 AreChosenBut n tree last =
@@ -236,10 +202,12 @@ pub leaves_kept : (readers : List TapReader) (tree : List Head) (at : ℕ) (head
 leaves_kept readers tree at head low has = record {
   size = length-set tree at head ∙ has.size;
   tap = λ k d e within.
-      rw (get_or-set_other tree at (length readers + k) head d (λ e. absurd (omega (arith, e, low))))
+      rw (get_or-set_other tree at (length readers + k) head d
+      (λ e. absurd (omega (arith, e, low))))
       (has.tap k d e within);
   at = λ k d within.
-      rw (get_or-set_other tree at (length readers + k) head d (λ e. absurd (omega (arith, e, low))))
+      rw (get_or-set_other tree at (length readers + k) head d
+      (λ e. absurd (omega (arith, e, low))))
       (has.at k d within);
 }
 
@@ -280,7 +248,8 @@ chosen_before n tree last at head before first within from chosen place some hig
         by_less (inl less) = absurd (other (omega (arith, less, before, high)))
 
 -- the head of one reader is put anew
-module _ (readers : List TapReader) (tree : List Head) (at : ℕ) (was reader : TapReader) (head : Head)
+module _ (readers : List TapReader) (tree : List Head) (at : ℕ) (was reader : TapReader)
+    (head : Head)
     (low : at < length readers) (is : IsRanked (set readers at was) tree)
     (there : reader ≡ get_or readers at reader) (tap : head.tap ≡ head_of reader)
     (number : head.at ≡ at) where
@@ -298,24 +267,29 @@ module _ (readers : List TapReader) (tree : List Head) (at : ℕ) (was reader : 
       room = let size = is.leaves.size in let l = long in omega (arith, size, l, low)
 
       by_tap : (k : ℕ) (d : Head) (e : TapReader) → k < length readers → (k ≡ at) ⊎ (k ≢ at)
-          → (get_or (set tree (length readers + at) head) (length readers + k) d).tap ≡ head_of (get_or readers k e)
+          → (get_or (set tree (length readers + at) head) (length readers + k) d).tap
+          ≡ head_of (get_or readers k e)
       by_tap k d e within (inl same) =
-          subst (λ j. (get_or (set tree (length readers + at) head) (length readers + j) d).tap ≡ head_of (get_or readers j e))
+          subst (λ j. (get_or (set tree (length readers + at) head) (length readers + j) d).tap
+          ≡ head_of (get_or readers j e))
           (sym same)
           (ap (λ (h : Head). h.tap) (get_or-set_same tree (length readers + at) head d room) ∙ tap
           ∙ ap head_of (there ∙ get_or_default readers at reader e low))
       by_tap k d e within (inr other) =
           ap (λ (h : Head). h.tap) (get_or-set_other tree (length readers + at) (length readers + k)
           head d (λ e. other (omega (arith, e))))
-          ∙ subst (λ n. (get_or tree (n + k) d).tap ≡ head_of (get_or (set readers at was) k e)) long
+          ∙ subst (λ n. (get_or tree (n + k) d).tap ≡ head_of (get_or (set readers at was) k e))
+          long
           (is.leaves.tap k d e (let l = long in omega (arith, l, within)))
           ∙ ap head_of (get_or-set_other readers at k was e other)
 
       by_at : (k : ℕ) (d : Head) → k < length readers → (k ≡ at) ⊎ (k ≢ at)
           → (get_or (set tree (length readers + at) head) (length readers + k) d).at ≡ k
       by_at k d within (inl same) =
-          subst (λ j. (get_or (set tree (length readers + at) head) (length readers + j) d).at ≡ j) (sym same)
-          (ap (λ (h : Head). h.at) (get_or-set_same tree (length readers + at) head d room) ∙ number)
+          subst (λ j. (get_or (set tree (length readers + at) head) (length readers + j) d).at ≡ j)
+          (sym same)
+          (ap (λ (h : Head). h.at) (get_or-set_same tree (length readers + at) head d room)
+          ∙ number)
       by_at k d within (inr other) =
           ap (λ (h : Head). h.at) (get_or-set_other tree (length readers + at) (length readers + k)
           head d (λ e. other (omega (arith, e))))
@@ -325,7 +299,8 @@ module _ (readers : List TapReader) (tree : List Head) (at : ℕ) (was reader : 
   pub put_chosen : AreChosenBut (length readers) (set tree (length readers + at) head)
       (length readers + at)
   put_chosen place some within left right =
-      kept_at tree (length readers + at) head place (λ e. absurd (omega (arith, e, within))) left right
+      kept_at tree (length readers + at) head place (λ e. absurd (omega (arith, e, within))) left
+      right
       (is.inner place some (let l = long in omega (arith, l, within)))
 
 -- a reader that is set and then set back

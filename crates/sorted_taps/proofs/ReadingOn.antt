@@ -1,11 +1,10 @@
 -- Batches that are decoded at an offset of a file.
-use Rattle.std.proofs.Common.{◌≡◌, ◌⊎◌, ℕ, ◌+◌, ◌*◌, ◌<◌, ◌≤◌, List, [], ◌∷◌, ◌++◌, length, take, drop}
-use Rattle.std.proofs.Common.{refl, sym, ap, subst, ◌∙◌, arith, inl, inr, None, Some, length-append}
-use Rattle.std.proofs.Common.{append_assoc, IfSome}
+use Rattle.std.proofs.Common.{◌≡◌, ◌⊎◌, ℕ, ◌+◌, ◌*◌, ◌<◌, ◌≤◌, List, [], ◌∷◌, ◌++◌, length, take}
+use Rattle.std.proofs.Common.{drop, refl, sym, ap, subst, ◌∙◌, arith, inl, inr, None, Some}
+use Rattle.std.proofs.Common.{length-append, append_assoc, IfSome}
 use Rattle.std.specs.Prelude.{Option}
 use Rattle.std.proofs.lemmas.Bool.{cases_lt}
-use Rattle.std.proofs.lemmas.List.{take-append-drop, length-take-le, drop-drop}
-use Rattle.std.proofs.lemmas.List.{nil_from_length}
+use Rattle.std.proofs.lemmas.List.{take-append-drop, length-take-le, drop-drop, nil_from_length}
 use Rattle.tap_views.specs.Faults.{IsFault, header, width, layout_in, count_in}
 use Rattle.tap_views.specs.Layout.{Layout, Tap1, Tap2}
 use Rattle.tap_views.specs.declared.encoder.TapFields.{TapFields}
@@ -107,34 +106,41 @@ module _ (all : List ℕ) (offset room : ℕ) (taps : List TapFields) (decoded :
   read_fault fault much none is = by_count (cases_lt at.count room)
     where
       nothing : at.is_decoded.front_taps.front ≡ []
-      nothing = let u = used_front in nil_from_length at.is_decoded.front_taps.front (omega (arith, u, none))
+      nothing = let u = used_front in
+          nil_from_length at.is_decoded.front_taps.front (omega (arith, u, none))
 
       rest : take at.count left ≡ at.is_decoded.rest
       rest = at.is_decoded.front_taps.cut ∙ ap (λ f. f ++ at.is_decoded.rest) nothing
 
       found : IsFault (take at.count left) fault × (0 < length (take at.count left))
-      found = subst (λ r. IsFault r fault × (0 < length r)) (sym rest) (of_fault decoded.fault is at.is_decoded.fault)
+      found = subst (λ r. IsFault r fault × (0 < length r)) (sym rest)
+          (of_fault decoded.fault is at.is_decoded.fault)
         where
           of_fault : (told : Option LayoutFault) → told ≡ Some fault
-              → IfSome told (λ fault. IsFault at.is_decoded.rest fault × (0 < length at.is_decoded.rest))
+              → IfSome told
+              (λ fault. IsFault at.is_decoded.rest fault × (0 < length at.is_decoded.rest))
               → IsFault at.is_decoded.rest fault × (0 < length at.is_decoded.rest)
           of_fault told e is = subst
-              (λ t. IfSome t (λ fault. IsFault at.is_decoded.rest fault × (0 < length at.is_decoded.rest))) e is
+              (λ t. IfSome t
+              (λ fault. IsFault at.is_decoded.rest fault × (0 < length at.is_decoded.rest))) e is
 
       some : 0 < length left
       some = let few = found.1 in let r = read in let w = at.within in omega (arith, few, r, w)
 
       by_count : (at.count < room) ⊎ (room ≤ at.count) → IsFault left fault × (0 < length left)
       by_count (inl less) =
-          let all_read = at.short less in
-          (subst (λ r. IsFault r fault) (ap (λ n. take n left) all_read ∙ take_all left) found.0, some)
+          let all_read = at.short less in (
+            subst (λ r. IsFault r fault) (ap (λ n. take n left) all_read ∙ take_all left) found.0,
+            some,
+          )
         where
           take_all : (xs : List ℕ) → take (length xs) xs ≡ xs
           take_all [] = refl
           take_all (x ∷ xs) = ap (λ l. x ∷ l) (take_all xs)
       by_count (inr full) =
           let r = read in
-          let final = long_decides (take at.count left) fault found.0 (omega (arith, r, full, much)) in (
+          let final = long_decides (take at.count left) fault found.0
+          (omega (arith, r, full, much)) in (
             subst (λ l. IsFault l fault) (take-append-drop at.count left)
                 (fault_of_front (take at.count left) (drop at.count left) fault final found.0),
             some,

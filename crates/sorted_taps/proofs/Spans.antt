@@ -1,7 +1,7 @@
 -- Readers that stand for others take the same taps.
-use Rattle.std.proofs.Common.{◌≡◌, ◌≢◌, ◌⊎◌, ℕ, suc, ◌+◌, ◌<◌, ◌≤◌, List, [], ◌∷◌, ◌++◌, length, map}
-use Rattle.std.proofs.Common.{refl, sym, ap, subst, ◌∙◌, arith, inl, inr, get_or, set}
-use Rattle.std.proofs.lemmas.Bool.{cases_eq, cases_lt}
+use Rattle.std.proofs.Common.{◌≡◌, ◌≢◌, ◌⊎◌, ℕ, suc, ◌+◌, ◌<◌, ◌≤◌, List, [], ◌∷◌, ◌++◌, length}
+use Rattle.std.proofs.Common.{map, refl, sym, ap, subst, ◌∙◌, arith, inl, inr, get_or, set}
+use Rattle.std.proofs.lemmas.Bool.{cases_eq}
 use Rattle.std.proofs.lemmas.List.{get_or_default, get_or-map, get_or-set_other, get_or-set_same}
 use Rattle.std.proofs.lemmas.List.{length-set}
 use Rattle.tap_views.specs.declared.encoder.TapFields.{TapFields}
@@ -25,8 +25,10 @@ taken_append files old mid new (x ∷ xs) ys (next, one, first) rest =
 pub stands_alone : (reader : TapReader) → StandsAs 0 reader reader
 stands_alone reader = record { offset = refl; ahead = refl; number = omega arith }
 
+-- readers stand as themselves
 pub stand_alone : (readers : List TapReader) → StandAs readers readers
-stand_alone readers = record { number = refl; each = λ k d within. stands_alone (get_or readers k d) }
+stand_alone readers =
+    record { number = refl; each = λ k d within. stands_alone (get_or readers k d) }
 
 -- pair by pair, the first have passed so many taps more
 record AreShifted (more : ℕ → ℕ) (ones others : List TapReader) : Type 0 where
@@ -95,7 +97,8 @@ module _ (files : List (List ℕ)) (more : ℕ → ℕ) where
         },
         record {
           number = long ∙ number ∙ sym wide ∙ ap length (sym step.moved);
-          each = λ k d inside. subst (λ l. StandsAs (more k) (get_or (set ones at is) k d) (get_or l k d))
+          each = λ k d inside. subst
+              (λ l. StandsAs (more k) (get_or (set ones at is) k d) (get_or l k d))
               (sym step.moved)
               (by_case k d (omega (arith, inside, long)) (cases_eq k at));
         },
@@ -242,45 +245,3 @@ joined_none readers begin ends = record {
   counted = λ k d none. absurd (omega (arith, none));
   rest = λ k d from. refl;
 }
-
--- one reader more
-pub joined_more : (readers begin ends now : List TapReader) (at : ℕ) (reader one was is : TapReader)
-    → AreJoinedTo readers begin ends now at → at < length readers → at < length begin
-    → at < length now → reader ≡ get_or readers at reader → one ≡ get_or begin at one
-    → was ≡ get_or now at was → StandsAs reader.passed reader one
-    → StandsAs reader.passed is was → AreJoinedTo readers begin ends (set now at is) (at + 1)
-joined_more readers begin ends now at reader one was is joined low first within there here then
-    stands counts = record {
-      number = length-set now at is ∙ joined.number;
-      begins = λ k d inside. begins_at k d inside (cases_lt k at);
-      counted = λ k d inside. counted_at k d inside (cases_lt k at);
-      rest = λ k d from.
-          get_or-set_other now at k is d (λ e. absurd (omega (arith, e, from)))
-          ∙ joined.rest k d (omega (arith, from));
-    }
-  where
-    the_reader : (d : TapReader) → get_or readers at d ≡ reader
-    the_reader d = get_or_default readers at d reader low ∙ sym there
-
-    begins_at : (k : ℕ) (d : TapReader) → k < at + 1 → (k < at) ⊎ (at ≤ k)
-        → StandsAs (get_or readers k d).passed (get_or readers k d) (get_or begin k d)
-    begins_at k d inside (inl less) = joined.begins k d less
-    begins_at k d inside (inr last) =
-        let same : at ≡ k = omega (arith, last, inside) in
-        subst (λ j. StandsAs (get_or readers j d).passed (get_or readers j d) (get_or begin j d)) same
-        (rw (the_reader d, get_or_default begin at d one first ∙ sym here) stands)
-
-    counted_at : (k : ℕ) (d : TapReader) → k < at + 1 → (k < at) ⊎ (at ≤ k)
-        → StandsAs (get_or readers k d).passed (get_or (set now at is) k d) (get_or ends k d)
-    counted_at k d inside (inl less) =
-        rw (get_or-set_other now at k is d (λ e. absurd (omega (arith, e, less))))
-        (joined.counted k d less)
-    counted_at k d inside (inr last) =
-        let same : at ≡ k = omega (arith, last, inside) in
-        subst (λ j. StandsAs (get_or readers j d).passed (get_or (set now at is) j d) (get_or ends j d))
-        same
-        (rw (
-          the_reader d,
-          get_or-set_same now at is d within,
-          sym (joined.rest at d (omega arith)) ∙ get_or_default now at d was within ∙ sym then,
-        ) counts)

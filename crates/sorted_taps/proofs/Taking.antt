@@ -1,7 +1,7 @@
 -- Taps that are taken from the begin of some files to their ends.
-use Rattle.std.proofs.Common.{◌≡◌, ◌≢◌, ◌⊎◌, ℕ, suc, zero, ◌+◌, ◌<◌, List, [], ◌∷◌, ◌++◌, length, map}
-use Rattle.std.proofs.Common.{take, drop}
-use Rattle.std.proofs.Common.{refl, sym, ap, subst, ◌∙◌, arith, append_assoc, get_or, set, All, inl, inr}
+use Rattle.std.proofs.Common.{◌≡◌, ◌≢◌, ◌⊎◌, ℕ, suc, zero, ◌+◌, ◌<◌, List, [], ◌∷◌, ◌++◌, length}
+use Rattle.std.proofs.Common.{map, take, drop, refl, sym, ap, subst, ◌∙◌, arith, append_assoc}
+use Rattle.std.proofs.Common.{get_or, set, All, inl, inr}
 use Rattle.std.specs.Prelude.{flat_map}
 use Rattle.std.specs.List.Sorted.{IsSorted}
 use Rattle.std.proofs.lemmas.Bool.{cases_eq}
@@ -17,7 +17,7 @@ use Rattle.sorted_taps.specs.Readers.{ahead, StandsIn, IsAdvanced}
 use Rattle.sorted_taps.specs.Sorted.{IsSortedFile}
 use Rattle.sorted_taps.specs.declared.reader.TapReader.{TapReader}
 use Rattle.sorted_taps.proofs.Between.{between_more, between_none}
-use Rattle.sorted_taps.proofs.Merging.{all_by, merged_canonical, none_before, sorted_cons}
+use Rattle.sorted_taps.proofs.Merging.{merged_canonical, none_before, sorted_cons}
 use Rattle.sorted_taps.proofs.Standing.{whole_file}
 
 -- the taps from the one on at which the reader stands, up to the file's end
@@ -117,6 +117,7 @@ record AreLeft (files : List (List ℕ)) (readers end : List TapReader) (taps : 
   passed : (k : ℕ) (d : TapReader) → k < length readers
       → (get_or end k d).passed ≡ (get_or readers k d).passed + length (get_or lists k [])
 
+-- a list has one first tap
 pub same_head : (was : List TapFields) (one other : TapFields) (rest more : List TapFields)
     → was ≡ one ∷ rest → was ≡ other ∷ more → one ≡ other
 same_head was one other rest more e f = let h : one ∷ rest ≡ other ∷ more = sym e ∙ f in cc
@@ -176,7 +177,9 @@ module _ (files : List (List ℕ)) (old mid : List TapReader) (tap : TapFields)
   passed_before lists end number passed k d inside = by_place (cases_eq k taken.at)
     where
       by_place : (k ≡ taken.at) ⊎ (k ≢ taken.at)
-          → (get_or end k d).passed ≡ (get_or old k d).passed + length (get_or (set lists taken.at (tap ∷ get_or lists taken.at [])) k [])
+          → (get_or end k d).passed
+          ≡ (get_or old k d).passed + length
+          (get_or (set lists taken.at (tap ∷ get_or lists taken.at [])) k [])
       by_place (inl same) =
           let m = as_many in
           let w = within in
@@ -186,18 +189,22 @@ module _ (files : List (List ℕ)) (old mid : List TapReader) (tap : TapFields)
           let stands : (get_or mid taken.at d).passed ≡ taken.is.passed =
           ap (λ (r : TapReader). r.passed) (now d) in
           let one = taken.step.number in
-          let more : length (get_or (set lists taken.at (tap ∷ get_or lists taken.at [])) taken.at []) ≡ length (get_or lists taken.at []) + 1 =
+          let more : length
+          (get_or (set lists taken.at (tap ∷ get_or lists taken.at [])) taken.at [])
+          ≡ length (get_or lists taken.at []) + 1 =
           ap length (get_or-set_same lists taken.at (tap ∷ get_or lists taken.at []) []
           (omega (arith, m, w, number))) ∙ omega arith in
           subst (λ n. (get_or end n d).passed
-          ≡ (get_or old n d).passed + length (get_or (set lists taken.at (tap ∷ get_or lists taken.at [])) n [])) (sym same)
+          ≡ (get_or old n d).passed + length
+          (get_or (set lists taken.at (tap ∷ get_or lists taken.at [])) n [])) (sym same)
           (omega (arith, after, stood, stands, one, more))
       by_place (inr apart) =
           let m = as_many in
           let after = passed k d (omega (arith, m, inside)) in
           let stood : (get_or mid k d).passed ≡ (get_or old k d).passed =
           ap (λ (r : TapReader). r.passed) (other k d apart) in
-          let more : length (get_or (set lists taken.at (tap ∷ get_or lists taken.at [])) k []) ≡ length (get_or lists k []) =
+          let more : length (get_or (set lists taken.at (tap ∷ get_or lists taken.at [])) k [])
+          ≡ length (get_or lists k []) =
           ap length (get_or-set_other lists taken.at k (tap ∷ get_or lists taken.at []) [] apart) in
           omega (arith, after, stood, more)
 
@@ -244,7 +251,7 @@ module _ (files : List (List ℕ)) (old mid : List TapReader) (tap : TapFields)
     least_taken : IsLeastTaken before tap lists
     least_taken =
         record {
-          least = all_by (BeginsNotBefore tap) before (λ j d inside.
+          least = (λ j d inside.
               let m = as_many in
               let long = length-set lists taken.at (tap ∷ rest) in
               let within_old : j < length old = omega (arith, inside, m, long, number) in
@@ -334,7 +341,8 @@ pub taken_merged : (files : List (List ℕ)) (begun end : List TapReader) (taps 
     → AreBegun files begun → AreTaken files begun taps end → AreAtEnd end
     → AreMerged files end taps
 taken_merged files begun end taps is taken at_end =
-    let left = taken_left files taps begun end (λ k d inside. (is.each k d inside).end) taken at_end in
+    let left = taken_left files taps begun end (λ k d inside. (is.each k d inside).end) taken
+    at_end in
     let number = is.number in
     let lists = left.lists in
     let many = left.number in
@@ -353,7 +361,7 @@ taken_merged files begun end taps is taken at_end =
           let all = left.passed k d in_begun in
           let none : (get_or begun k d).passed ≡ 0 = (is.each k d in_begun).number in
           omega (arith, all, none));
-      canonical = merged_canonical lists taps (all_by (IsSorted tap_cmp) lists (λ j d inside.
+      canonical = merged_canonical lists taps ((λ j d inside.
           subst (λ l. IsSorted tap_cmp l) (get_or_default lists j [] d inside)
           (each j (omega (arith, inside, many))).sorted)) left.merged;
     }

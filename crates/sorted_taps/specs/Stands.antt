@@ -3,7 +3,7 @@ use Rattle.std.specs.Prelude.{◌≡◌, ℕ, ◌+◌, ◌<◌, List, length, ge
 use Rattle.sorted_taps.specs.Readers.{ahead}
 use Rattle.sorted_taps.specs.declared.reader.TapReader.{TapReader}
 
--- both readers go on alike; the first has passed so many taps more
+-- both readers go on alike; the first has passed this many taps more
 pub record StandsAs (more : ℕ) (one other : TapReader) : Type 0 where
   pub offset : one.offset ≡ other.offset
   pub ahead : ahead one ≡ ahead other

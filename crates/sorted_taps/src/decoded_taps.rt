@@ -7,10 +7,9 @@ ghost use Rattle.sorted_taps.specs.inside.Decoding.{IsDecoded};
 use std::alloc::AllocError;
 use tap_views::{Batch, LayoutFault, TapFields};
 
-/// No batch is decoded behind so many taps: a batch of a sorted file has as many.
+/// A batch of a sorted file has 512 taps. Once as many are decoded, no further batch is.
 const ENOUGH_TAPS: usize = 512;
 
-/// How far some bytes were decoded.
 #[derive(Drop)]
 pub(crate) struct Decoded {
     /// The bytes of the batches that were decoded.
@@ -19,7 +18,6 @@ pub(crate) struct Decoded {
     pub(crate) fault: Option<LayoutFault>,
 }
 
-/// Adds the taps of the batch to the list.
 fn push_taps(batch: &Batch<'_>, taps: &mut Vec<TapFields>) -> Result<(), AllocError>
     ensures { OnOk result (taps.new.items ≡ taps.old.items ++ map fields_of batch.now) }
 {

@@ -19,13 +19,10 @@ pub enum SortedFault {
     Layout {
         /// The offset of these bytes in the file.
         offset: u64,
-        /// The layout fault.
         fault: LayoutFault,
     },
-    /// A read failed.
     #[error("the file cannot be read")]
     Unread,
-    /// Memory was refused.
     #[error("out of memory")]
     NoMemory,
 }
@@ -69,17 +66,14 @@ impl From<Unread> for SortedFault {
 pub struct FileFault {
     /// The index of the file, from 0.
     pub index: usize,
-    /// Why it is refused.
     pub fault: SortedFault,
 }
 
 /// Why taps are not written.
 #[derive(Clone, Copy, Debug, PartialEq, Eq, Error)]
 pub enum WriteFault {
-    /// A write failed.
     #[error("the taps cannot be written")]
     Write,
-    /// Memory was refused.
     #[error("out of memory")]
     NoMemory,
 }
@@ -115,10 +109,8 @@ pub enum MergeFault {
     /// A file was refused, and none is when all are checked behind it: one has changed.
     #[error("a file changed while it was read")]
     Changed,
-    /// A write failed.
     #[error("the taps cannot be written")]
     Write,
-    /// Memory was refused.
     #[error("out of memory")]
     NoMemory,
 }

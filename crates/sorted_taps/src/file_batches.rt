@@ -29,7 +29,7 @@ pub(crate) fn fill_at<F: Placed>(file: &F, buffer: &mut [u8], offset: u64) -> Re
     fill_from(file, buffer, offset)
 }
 
-/// Decodes the batches that begin at this offset into the list, of so many bytes as are told.
+/// Decodes the batches that begin at this offset into the list, from at most `room` bytes.
 fn decode_at<F: Placed>(
     file: &F,
     window: &mut [u8],

@@ -16,14 +16,13 @@ use tap_views::TapFields;
 /// Where a reader stands.
 #[derive(Clone, Copy)]
 pub(crate) struct Head {
-    /// The tap, or none at the file's end.
+    /// None at the file's end.
     tap: Option<TapFields>,
     /// The index of the reader.
     at: usize,
 }
 
 impl Head {
-    /// The head of the reader at the index.
     #[inline(always)]
     fn of(reader: &TapReader, at: usize) -> Head
         ensures at { result.at ≡ at }
@@ -61,7 +60,6 @@ fn lesser(tree: &[Head], left: usize, right: usize) -> Head
     if is_before(other, one) { *other } else { *one }
 }
 
-/// The head at a place of the tree.
 #[inline(always)]
 fn head_at(tree: &[Head], place: usize) -> Head
     requires { place < length tree.now }
@@ -94,7 +92,6 @@ fn choose_all(tree: &mut [Head], readers: &[TapReader])
     }
 }
 
-/// The tree of the readers' heads.
 pub(crate) fn tree_of(alloc: Global, readers: &[TapReader]) -> Result<Vec<Head>, AllocError>
     ensures { IfOk result (λ tree. IsRanked readers.now tree.items) }
 {

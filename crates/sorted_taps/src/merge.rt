@@ -20,14 +20,13 @@ use tap_views::{TapFields, Token};
 /// gets the files, always the same ones in the same order.
 #[derive(Drop)]
 pub struct Merge {
-    /// The reader of each file.
     readers: Vec<TapReader>,
     /// The tree of their heads.
     heads: Vec<Head>,
 }
 
 impl Merge {
-    /// Where the readers of the files stand.
+    /// The merge goes on from where the readers stand.
     pub fn of(alloc: Global, readers: Vec<TapReader>) -> Result<Merge, AllocError>
         ensures readers { IfOk result (λ merge. merge.readers ≡ readers) }
         ensures ranked { IfOk result (λ merge. IsRanked merge.readers.items merge.heads.items) }
@@ -82,14 +81,14 @@ impl Merge {
         Some(tap)
     }
 
-    /// The readers of the files.
+    /// The readers, in the order of the files.
     pub fn readers(&self) -> &[TapReader]
         ensures { result.now ≡ self.now.readers.items }
     {
         &self.readers
     }
 
-    /// The readers of the files, as they stand.
+    /// The readers as they stand, in the order of the files.
     pub fn into_readers(self) -> Vec<TapReader>
         ensures { result ≡ self.readers }
     {

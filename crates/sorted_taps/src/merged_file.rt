@@ -16,14 +16,11 @@ use std::alloc::{AllocError, Global};
 use std::io::Write;
 use tap_views::MOMENT_LIMIT_MS;
 
-/// Why a merge was given up.
 #[derive(Clone, Copy, Debug, PartialEq, Eq)]
 enum MergeStop {
     /// A reader was refused. Which fault is to be returned is for `check_files`.
     Refused,
-    /// A write failed.
     Write,
-    /// Memory was refused.
     NoMemory,
 }
 

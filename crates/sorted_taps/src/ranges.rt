@@ -13,13 +13,11 @@ use placed_files::Placed;
 use std::alloc::Global;
 use tap_views::{TAP1_HEADER_BYTES, TAP1_TAP_BYTES, Token};
 
-/// The taps of a batch.
 const BATCH_TAPS: u64 = 512;
 
-/// The bytes of a batch of 512 taps.
 const BATCH_BYTES: u64 = FIRST_READ_BYTES as u64;
 
-/// The bytes of a token, with which a tap begins.
+/// A tap begins with its token.
 const TOKEN_BYTES: usize = 16;
 
 /// Files of fewer batches together are not worth ranges.
@@ -112,8 +110,8 @@ fn all_batches<F: Placed>(files: &[F]) -> Result<u64, SortedFault> {
     Ok(batches)
 }
 
-/// So many tokens, between which the taps of the files lie in ranges of about the same number:
-/// rising. They are fewer if a token has the taps of several ranges, and none if the files are
+/// At most `most` tokens, rising, between which the taps of the files lie in ranges of about the
+/// same number. They are fewer if a token has the taps of several ranges, and none if the files are
 /// short.
 pub fn bounds_of<F: Placed>(
     alloc: Global,

@@ -32,7 +32,6 @@ pub struct TapReader {
     passed: u64,
 }
 
-/// Whether both lists have the same taps.
 fn are_same(one: &[TapFields], other: &[TapFields]) -> bool
     ensures { IsTrue result → one.now ≡ other.now }
 {

@@ -16,10 +16,8 @@ use tap_views::{TAP1_HEADER_BYTES, TAP1_TAP_BYTES, TapFields, put_batch};
 /// The taps of a batch. A reader of a file keeps one: 16 KiB.
 pub(crate) const BATCH_TAPS: usize = 512;
 
-/// The bytes of a full batch.
 const BATCH_BYTES: usize = TAP1_HEADER_BYTES + BATCH_TAPS * TAP1_TAP_BYTES;
 
-/// Writes the taps as one batch.
 fn write_batch<W: Write>(alloc: Global, taps: &[TapFields], out: &mut W) -> Result<(), WriteFault>
     requires { MayWait taps.now }
     ensures written { OnOk result
@@ -60,7 +58,6 @@ pub(crate) fn put<W: Write>(
     Ok(())
 }
 
-/// Writes the taps that wait.
 pub(crate) fn put_rest<W: Write>(
     alloc: Global,
     waiting: &[TapFields],

@@ -5,8 +5,7 @@ use Rattle.std.proofs.Common.{Vec, Global}
 use Rattle.std.specs.List.{AllZip}
 use Rattle.std.proofs.Math.Nat.{mul-le-mul_right}
 use Rattle.std.proofs.lemmas.List.{drop-map, get_or-drop, get_or-take, length-drop, length-map}
-use Rattle.std.proofs.lemmas.List.{length-take, take-map}
-use Rattle.std.proofs.lemmas.List.{map-append}
+use Rattle.std.proofs.lemmas.List.{length-take, take-map, map-append}
 use Rattle.std.proofs.lemmas.List.Elements.{All-append, All-filter, All-nil, AllZip-get_or}
 use Rattle.std.proofs.lemmas.List.Elements.{length_all_zip}
 use Rattle.std.proofs.lemmas.List.Folds.{flat_map-map}
@@ -59,9 +58,11 @@ more_in_places places upload old new end is tokens parts uploads split =
       taps = split.taps ++ taps ∷ [];
       of_uploads = each_more uploads split.taps upload taps split.of_uploads good;
       number = split.number;
-      tokens = subst (λ all. All HasTokenBytes (map fields_of all)) (sym (taps_more split.taps taps))
+      tokens = subst (λ all. All HasTokenBytes (map fields_of all))
+          (sym (taps_more split.taps taps))
           (subst (All HasTokenBytes) (sym (map-append fields_of (taps_of_uploads split.taps) taps))
-          (All-append HasTokenBytes (map fields_of (taps_of_uploads split.taps)) (map fields_of taps)
+          (All-append HasTokenBytes (map fields_of (taps_of_uploads split.taps))
+          (map fields_of taps)
           split.tokens (tokens taps good)));
       each = λ place within.
           let there : place < length old = subst (λ n. place < n) is.added.number within in
@@ -69,7 +70,8 @@ more_in_places places upload old new end is tokens parts uploads split =
           ∙ ap (λ fields. fields ++ map fields_of (taps_at place_of place taps))
           (split.each place there)
           ∙ sym (fields-append place_of place (taps_of_uploads split.taps) taps)
-          ∙ ap (λ all. map fields_of (taps_at place_of place all)) (sym (taps_more split.taps taps));
+          ∙ ap (λ all. map fields_of (taps_at place_of place all))
+          (sym (taps_more split.taps taps));
     }
 
 -- a split of no uploads, and of one more

@@ -31,8 +31,8 @@ pub record SplitView : Type 0 where
   pub places : PlacesView
   pub lists : List (List TapFields)
 
--- The split is into so many parts. Each place has exactly the uploads' taps whose tokens have it, in
--- their order. A token has 16 bytes.
+-- The split has this number of parts. Each place has exactly the uploads' taps whose tokens have
+-- it, in their order. A token has 16 bytes.
 pub record AreInPlaces (parts : ℕ) (uploads : List (List ℕ)) (split : SplitView) : Type 0 where
   pub taps : List (List Tap)
   pub of_uploads : AreGoodTapsOfEach uploads taps

@@ -21,8 +21,8 @@ use std::thread::Threads;
 use tap_views::NoMemory;
 
 /// Writes the good taps of the uploads as one file: in canonical order, in `TAP1` batches of 512,
-/// the last of fewer if need be. Returns how each upload ends. All taps are in memory. So many
-/// workers order them, 64 at most: what is written does not depend on their number.
+/// the last of fewer if need be. Returns how each upload ends. All taps are in memory. `workers`
+/// threads, 64 at most, order them: what is written does not depend on their number.
 ///
 /// After refused memory whole batches may stand in the output, and after a write that failed
 /// anything.
@@ -52,7 +52,6 @@ pub fn sort_uploads<R: Threads + Sync, W: Write>(
     }
 }
 
-/// The good taps of the uploads, which are loaded, in canonical order.
 fn settled_loaded<R: Threads + Sync>(
     rt: &R,
     alloc: Global,

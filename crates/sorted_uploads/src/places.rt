@@ -11,7 +11,7 @@ use tap_parts::{EqualParts, PartRule, TokenRanges};
 /// of uploads, which are arranged within the near caches. More places make the split slower.
 const PLACES: u32 = 128;
 
-/// How many ranges each of so many parts has, at most.
+/// How many ranges each of the parts has, at most.
 fn ranges_for(parts: u32) -> u32
     requires least { 1 ≤ parts }
     requires most { parts ≤ 65536 }
@@ -23,13 +23,12 @@ fn ranges_for(parts: u32) -> u32
     if share == 0 { 1 } else { share }
 }
 
-/// So many equal parts, each with the same ranges of tokens. The places of a part lie one behind
-/// the other in the order of tokens.
+/// Equal parts, each with the same ranges of tokens. The places of a part lie one behind the other
+/// in the order of tokens.
 #[derive(Drop)]
 pub(crate) struct Places {
-    /// How many parts there are.
     parts: u32,
-    /// The ranges of each.
+    /// Each part has these ranges.
     ranges: TokenRanges,
 }
 
@@ -46,7 +45,7 @@ impl Model for Places {
 }
 
 impl Places {
-    /// The places of so many parts, 1 to 65,536. The sample has the numbers of some tokens, and
+    /// The places of `parts` parts, 1 to 65,536. The sample has the numbers of some tokens, and
     /// each range has about equally many of them. Any sample serves, and none: only speed depends
     /// on it.
     pub(crate) fn new(alloc: Global, parts: u32, sample: Vec<u128>) -> Result<Self, AllocError>
@@ -58,7 +57,6 @@ impl Places {
         Ok(Places { parts, ranges })
     }
 
-    /// How many parts there are.
     pub(crate) fn parts(&self) -> u32
         ensures { result ≡ self.now.parts }
     {

@@ -22,14 +22,13 @@ use tap_views::laws::one_reading_each;
 /// For how many taps room is asked for before they come, at most.
 const MAX_ROOM_TAPS: usize = 1 << 23;
 
-/// The taps of uploads, split by token into parts, and those of each part into ranges of tokens: so
-/// few fall to one range of a part that they are arranged within the near caches. Contracts see
-/// where the ranges begin, and the taps at each place, in the order of the uploads.
+/// The taps of uploads, split by token into parts, and those of each part into ranges of tokens.
+/// The taps of one range of a part are few enough to be arranged within the near caches. Contracts
+/// see where the ranges begin, and the taps at each place, in the order of the uploads.
 #[derive(Drop)]
 pub struct Split {
-    /// The parts and the ranges.
     places: Places,
-    /// The taps of each range of each part.
+    /// There is a list for each range of each part.
     lists: Parts,
 }
 
@@ -52,7 +51,7 @@ fn good_tokens(upload: &Vec<u8>)
 }
 
 impl Split {
-    /// No uploads, in so many parts, 1 to 65,536. The sample has the numbers of some of the tokens
+    /// No uploads, in `parts` parts, 1 to 65,536. The sample has the numbers of some of the tokens
     /// that will come, and `taps` is about how many taps will. Any sample and any number serve, and
     /// none: only speed and memory depend on them.
     pub fn new(
@@ -101,9 +100,7 @@ impl Split {
 /// The taps of uploads, split as a `Split` has them, and the sorted file of each part.
 #[derive(Drop)]
 pub struct PartFiles {
-    /// The parts and the ranges.
     places: Places,
-    /// The taps of each range of each part.
     lists: Vec<Vec<TapFields>>,
 }
 
@@ -124,7 +121,6 @@ impl Model for PartFiles {
     }) };
 }
 
-/// Each list in canonical order.
 fn all_arranged(alloc: Global, lists: &[Vec<TapFields>]) -> Result<Vec<Vec<TapFields>>, AllocError>
     ensures { IfOk result (λ made. AllZip IsCanonical (map (λ list. list.items) lists.now)
         (map (λ list. list.items) made.items)) }

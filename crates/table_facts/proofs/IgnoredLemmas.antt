@@ -11,8 +11,8 @@ use Rattle.std.specs.Option.{unwrap_or}
 use Rattle.std.specs.Ordering.{is_eq, nat_cmp}
 use Rattle.toml.specs.Data.{Data, Items, no_items, item, Members, no_members, member, as_table}
 use Rattle.toml.specs.Data.{get_item, get_member}
-use Rattle.fare_table.proofs.PayLemmas.{member-here, member-later, same_bytes}
 use Rattle.fare_table.specs.Faults.{items_of, member_at, members_at, members_of}
+use Rattle.fare_table.proofs.KeyLemmas.{member-here, member-later, same_bytes}
 use Rattle.table_facts.specs.Ignored.{IsIgnored, ignored_from, ignored_in, ignored_of}
 use Rattle.table_facts.specs.Ignored.{ignored_of_classes, ignored_of_ranges, has_meaning, where_of}
 use Rattle.table_facts.specs.declared.holder.KeyHolder.{KeyHolder}
@@ -107,7 +107,8 @@ pub told_to : (h : KeyHolder) (ms : Members) (found : List Told) (x : Told) → 
 told_to h no_members found x (inl has) = has
 told_to h no_members found x (inr new) = absurd (false≢true new.stands)
 told_to h (member k v more) found x is =
-    by_known (has_meaning h k) refl (told_to h more found x) (told_to h more (found ++ (h, k) ∷ []) x)
+    by_known (has_meaning h k) refl (told_to h more found x)
+    (told_to h more (found ++ (h, k) ∷ []) x)
     is
   where
     back : (b : Bool) → has_meaning h k ≡ b
@@ -119,7 +120,8 @@ told_to h (member k v more) found x is =
     if_known : has_meaning h k ≡ true → IsNew h (member k v more) x → (b : Bool)
         → is_eq (slice_cmp nat_cmp x.1 k) ≡ b → IsNew h more x
     if_known is_b new true same =
-        absurd (false≢true (sym new.no_meaning ∙ ap (λ key. has_meaning h key) (same_bytes x.1 k same)
+        absurd (false≢true
+        (sym new.no_meaning ∙ ap (λ key. has_meaning h key) (same_bytes x.1 k same)
         ∙ is_b))
     if_known is_b new false other = others h k v more x other new
 

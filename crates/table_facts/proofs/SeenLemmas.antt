@@ -3,6 +3,7 @@ use Rattle.std.proofs.Common.{◌≡◌, ℕ, ◌<◌, ◌||◌, Bool, true, fal
 use Rattle.std.proofs.Common.{refl, sym, ap, ◌∙◌, arith, nat_eq}
 use Rattle.std.proofs.lemmas.Bool.Decides.{nat_tests}
 use Rattle.std.proofs.lemmas.List.Folds.{list_any-append}
+use Rattle.std.proofs.Math.Bool.{or_assoc}
 use Rattle.std.specs.BTreeMap.{is_at}
 use Rattle.std.specs.BTreeMap.Range.{range_contains}
 use Rattle.std.specs.Cmp.{nat_eq_equiv, unsigned_tied}
@@ -43,10 +44,6 @@ one_more old keys new taps tap n is update same v =
     sym (among new v) ∙ update v ∙ ap (λ b. cond b true (list_any (is_at (nat_cmp v)) keys)) flip
     ∙ ap (λ b. cond (nat_eq v (num tap.validator)) true b) (among keys v ∙ same v)
     ∙ one_of_three had taken (nat_eq v (num tap.validator)) ∙ ap (λ b. had || b) (sym all)
-
-or_assoc : (a b c : Bool) → ((a || b) || c) ≡ (a || (b || c))
-or_assoc true b c = refl
-or_assoc false b c = refl
 
 -- one more batch
 pub one_batch : (old keys new : List ℕ) (taps more all : List Tap) → all ≡ taps ++ more
@@ -137,8 +134,3 @@ none_backward first last [] before = refl
 none_backward first last (x ∷ keys) before =
     let not_here : is_from_to first last x ≡ false = grind (arith, nat_tests, before) in
     rw not_here (none_backward first last keys before)
-
--- no tap yet
-pub no_tap : (b : Bool) → b ≡ (b || false)
-no_tap true = refl
-no_tap false = refl

@@ -9,6 +9,7 @@ use Rattle.tap_views.specs.Layout.{Tap}
 use Rattle.tap_views.specs.declared.encoder.TapFields.{TapFields}
 use Rattle.tap_parts.specs.Parts.{taps_at, AreAddedBy}
 
+-- no taps change no part
 pub none_added : (place_of : List ℕ → ℕ) (lists : List (List TapFields))
     → AreAddedBy place_of [] lists lists
 none_added place_of lists = record {
@@ -37,6 +38,7 @@ both_added place_of xs ys old now new one other = record {
       ∙ ap (λ fields. get_or old place [] ++ fields) (sym (fields-append place_of place xs ys));
 }
 
+-- the taps of one batch more are added
 pub batch_added : (place_of : List ℕ → ℕ) (done : List (List Tap)) (batch : List Tap)
     (old now new : List (List TapFields)) → AreAddedBy place_of (flat_map (λ b. b) done) old now
     → AreAddedBy place_of batch now new

@@ -8,6 +8,7 @@ use Rattle.tap_views.specs.Layout.{Tap, Layout, Tap1, Tap2, IsTapOf, num, moment
 use Rattle.tap_views.specs.declared.encoder.TapFields.{TapFields}
 use Rattle.tap_parts.specs.Parts.{taps_at}
 
+-- the tap's moment fits
 abbrev pub Early : Tap → Type 0
 Early tap = num tap.moment < moment_limit
 
@@ -21,7 +22,9 @@ batch_early layout [] all = All-nil Early
 batch_early layout (tap ∷ taps) all =
     All-cons Early tap taps (tap_early layout tap all.0) (batch_early layout taps all.1)
 
-pub file_early : (file : List ℕ) (batches : List (List Tap)) (rest : List ℕ) → IsFile file batches rest
+-- the taps of a file have moments that fit
+pub file_early : (file : List ℕ) (batches : List (List Tap)) (rest : List ℕ)
+    → IsFile file batches rest
     → All Early (flat_map (λ batch. batch) batches)
 file_early file [] rest is = All-nil Early
 file_early file (batch ∷ batches) rest is =
@@ -29,6 +32,7 @@ file_early file (batch ∷ batches) rest is =
     All-append Early batch (flat_map (λ (b : List Tap). b) batches)
     (batch_early one.0 batch one.1.each) (file_early back batches rest more)
 
+-- the taps of a part have moments that fit
 pub part_early : (part_of : List ℕ → ℕ) (part : ℕ) (taps : List Tap) → All Early taps
     → AreEarly (λ (f : TapFields). f.moment) (map fields_of (taps_at part_of part taps))
 part_early part_of part taps early =

@@ -1,25 +1,20 @@
--- Bounds that do not fall: how many are not above a number, and that a later range has later tokens.
-use Rattle.std.proofs.Common.{◌≡◌, ℕ, zero, suc, ◌-◌, ◌<◌, ◌≤◌, List, [], ◌∷◌, length, get_or, filter}
-use Rattle.std.proofs.Common.{Bool, false, true, ap, arith, inl, inr}
+-- Bounds that do not fall: how many are not above a number, and that a later range has later
+-- tokens.
+use Rattle.std.proofs.Common.{◌≡◌, ℕ, zero, suc, ◌-◌, ◌<◌, ◌≤◌, List, [], ◌∷◌, length, get_or}
+use Rattle.std.proofs.Common.{filter, Bool, false, ap, arith, inl, inr}
 use Rattle.std.specs.Prelude.{◌⊎◌, nat_le}
 use Rattle.std.specs.List.Sorted.{IsSorted}
 use Rattle.std.specs.Ordering.{is_lt, nat_cmp}
-use Rattle.std.proofs.lemmas.Bool.{cases_lt}
-use Rattle.std.proofs.lemmas.Bool.Decides.{nat_tests}
+use Rattle.std.proofs.lemmas.Bool.{cases_lt, le-leb, lt-leb}
 use Rattle.std.proofs.lemmas.Cmp.{nat_cmp_total}
 use Rattle.std.proofs.lemmas.List.Sorted.{ranks_by, sorted_far}
 use Rattle.std.proofs.lemmas.List.Sums.{count_by-le-length, length-filter}
+use Rattle.std.proofs.lemmas.Map.Keys.{ge_from_not_lt}
 use Rattle.tap_views.specs.Layout.{num}
 use Rattle.tap_parts.specs.Canonical.{tap_cmp}
 use Rattle.tap_parts.specs.Ranges.{range_of_token}
 use Rattle.tap_parts.specs.inside.Places.{ArePlacesInOrder}
 use Rattle.tap_parts.proofs.TokenOrder.{lower_number}
-
-not_above : (x n : ℕ) → x ≤ n → nat_le x n ≡ true
-not_above x n h = grind (arith, nat_tests)
-
-above : (x n : ℕ) → n < x → nat_le x n ≡ false
-above x n h = grind (arith, nat_tests)
 
 -- the first so many are not above the number, and all others are
 pub counted : (xs : List ℕ) (k n : ℕ) → k ≤ length xs
@@ -28,22 +23,19 @@ pub counted : (xs : List ℕ) (k n : ℕ) → k ≤ length xs
     → length (filter (λ x. nat_le x n) xs) ≡ k
 counted [] k n within low high = omega (arith, within)
 counted (x ∷ xs) zero n within low high =
-    rw (above x n (high 0 (omega arith) (omega arith)))
+    rw (lt-leb x n (high 0 (omega arith) (omega arith)))
     (counted xs zero n (omega arith) (λ i below. absurd (omega (arith, below)))
     (λ i least below. high (suc i) (omega arith) (omega (arith, below))))
 counted (x ∷ xs) (suc k) n within low high =
-    rw (not_above x n (low 0 (omega arith)))
+    rw (le-leb x n (low 0 (omega arith)))
     (ap suc (counted xs k n (omega (arith, within)) (λ i below. low (suc i) (omega (arith, below)))
     (λ i least below. high (suc i) (omega (arith, least)) (omega (arith, below)))))
-
-not_less : (x y : ℕ) → is_lt (nat_cmp y x) ≡ false → x ≤ y
-not_less x y h = grind (arith, nat_tests)
 
 -- of two bounds the later is not below the earlier
 pub rising_far : (xs : List ℕ) → IsSorted nat_cmp xs → (i j : ℕ) → i ≤ j → j < length xs
     → get_or xs i 0 ≤ get_or xs j 0
 rising_far xs sorted i j order inside =
-    not_less (get_or xs i 0) (get_or xs j 0)
+    ge_from_not_lt (get_or xs j 0) (get_or xs i 0)
     (sorted_far (λ a b. is_lt (nat_cmp a b)) (ranks_by nat_cmp_total (λ (x : ℕ). x)) xs sorted i j 0
     order inside)
 
@@ -54,7 +46,8 @@ pub counted_at : (xs : List ℕ) → IsSorted nat_cmp xs → (k n : ℕ) → k �
 counted_at xs sorted k n within low high =
     counted xs k n within
     (λ i below.
-    let rise = rising_far xs sorted i (k - 1) (omega (arith, below)) (omega (arith, below, within)) in
+    let rise = rising_far xs sorted i (k - 1) (omega (arith, below))
+    (omega (arith, below, within)) in
     let last = low (omega (arith, below)) in omega (arith, rise, last))
     (λ i least inside.
     let rise = rising_far xs sorted k i least inside in
@@ -69,15 +62,15 @@ counts_rise (x ∷ xs) n m least = by_bound (cases_lt n x) (counts_rise xs n m l
     by_bound : (n < x) ⊎ (x ≤ n)
         → length (filter (λ x. nat_le x n) xs) ≤ length (filter (λ x. nat_le x m) xs)
         → length (filter (λ x. nat_le x n) (x ∷ xs)) ≤ length (filter (λ x. nat_le x m) (x ∷ xs))
-    by_bound (inl over) rest = rw (above x n over) (by_other (cases_lt m x) rest)
+    by_bound (inl over) rest = rw (lt-leb x n over) (by_other (cases_lt m x) rest)
       where
         by_other : (m < x) ⊎ (x ≤ m)
             → length (filter (λ x. nat_le x n) xs) ≤ length (filter (λ x. nat_le x m) xs)
             → length (filter (λ x. nat_le x n) xs) ≤ length (filter (λ x. nat_le x m) (x ∷ xs))
-        by_other (inl far) more = rw (above x m far) more
-        by_other (inr near) more = rw (not_above x m near) (omega (arith, more))
+        by_other (inl far) more = rw (lt-leb x m far) more
+        by_other (inr near) more = rw (le-leb x m near) (omega (arith, more))
     by_bound (inr under) rest =
-        rw (not_above x n under, not_above x m (omega (arith, under, least))) (omega (arith, rest))
+        rw (le-leb x n under, le-leb x m (omega (arith, under, least))) (omega (arith, rest))
 
 -- there is a range more than there are bounds
 pub range_below : (bounds token : List ℕ) → range_of_token bounds token ≤ length bounds

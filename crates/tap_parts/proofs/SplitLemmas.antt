@@ -6,14 +6,12 @@ use Rattle.std.proofs.lemmas.List.Elements.{All-append}
 use Rattle.tap_views.specs.Encoding.{fields_of, AreEarly}
 use Rattle.tap_views.specs.Layout.{Tap, moment_limit}
 use Rattle.tap_views.specs.declared.encoder.TapFields.{TapFields}
-use Rattle.tap_parts.specs.Parts.{of_part, part_of_token}
+use Rattle.tap_parts.specs.Parts.{of_part, part_of_token, taps_of_uploads, part_by, parts_of}
 use Rattle.tap_parts.proofs.Adding.{fields-append}
 use Rattle.tap_parts.proofs.Early.{Early, file_early, part_early}
 use Rattle.tap_views.proofs.ReadingLemmas.{each_more, taps_more}
 use Rattle.tap_views.specs.Files.{AreGoodTaps, taps_of_batches}
 use Rattle.tap_parts.specs.Split.{AreSplit, AreAllEarly}
-use Rattle.tap_parts.specs.Parts.{taps_of_uploads}
-use Rattle.tap_parts.specs.Parts.{part_by, parts_of}
 use Rattle.tap_parts.specs.Uploads.{IsUploadAddedBy}
 use Rattle.tap_parts.specs.declared.part.EqualParts.{EqualParts}
 use Rattle.tap_parts.specs.declared.upload.UploadTaps.{UploadTaps}
@@ -63,7 +61,8 @@ added_early upload old new end is all = λ k d within.
 
 -- one upload more
 pub more_split : (upload : List ℕ) (old new : List (List TapFields)) (end : UploadTaps)
-    → IsUploadAdded upload old new end → (parts : ℕ) (uploads : List (List ℕ)) → AreSplit parts uploads old
+    → IsUploadAdded upload old new end → (parts : ℕ) (uploads : List (List ℕ))
+    → AreSplit parts uploads old
     → AreSplit parts (uploads ++ upload ∷ []) new
 more_split upload old new end is parts uploads split =
     let taps = taps_of_batches is.batches in
@@ -75,7 +74,9 @@ more_split upload old new end is parts uploads split =
       each = λ part within.
           is.added.each part (subst (λ n. part < n) (sym split.number) within)
           ∙ ap (λ n. get_or old part [] ++ map fields_of (of_part part n taps)) split.number
-          ∙ ap (λ fields. fields ++ map fields_of (of_part part parts taps)) (split.each part within)
-          ∙ sym (fields-append (λ token. part_of_token token parts) part (taps_of_uploads split.taps) taps)
+          ∙ ap (λ fields. fields ++ map fields_of (of_part part parts taps))
+          (split.each part within)
+          ∙ sym (fields-append (λ token. part_of_token token parts) part
+          (taps_of_uploads split.taps) taps)
           ∙ ap (λ all. map fields_of (of_part part parts all)) (sym (taps_more split.taps taps));
     }

@@ -15,7 +15,7 @@ pub record IsSplitEnd (upload : List ℕ) (end : UploadTaps) : Type 0 where
   pub read : IsReadAs upload batches end.fault
   pub number : end.taps ≡ length (taps_of_batches batches)
 
--- each of so many parts has exactly the uploads' taps that fall to it, in their order
+-- each of the parts has exactly the uploads' taps that fall to it, in their order
 pub record AreSplit (parts : ℕ) (uploads : List (List ℕ)) (lists : List (List TapFields))
     : Type 0 where
   pub taps : List (List Tap)

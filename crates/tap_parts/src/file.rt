@@ -8,7 +8,6 @@ ghost use Rattle.tap_views.specs.Files.{IsFileOf};
 use std::alloc::{AllocError, Global};
 use tap_views::{MAX_TAPS, TAP1_HEADER_BYTES, TAP1_TAP_BYTES, TapFields, put_batch};
 
-/// The bytes of a file of so many taps.
 fn room_for(taps: usize) -> usize {
     let headers = taps / MAX_TAPS + 1;
     taps.saturating_mul(TAP1_TAP_BYTES)

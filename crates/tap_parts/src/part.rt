@@ -16,8 +16,8 @@ pub trait PartRule {
         ensures { result ≡ part_of self.now token.now };
 }
 
-/// So many parts that are about equal, whatever the tokens are: the part of a token is the number
-/// in its last four bytes, divided by 64, modulo the number of parts.
+/// Parts that are about equal, whatever the tokens are: the part of a token is the number in its
+/// last four bytes, divided by 64, modulo the number of parts.
 ///
 /// 64 numbers in a row fall to one part, so a part has tokens of all shards, 1 to 64 of them.
 #[derive(Clone, Copy)]
@@ -27,7 +27,7 @@ pub struct EqualParts {
 }
 
 impl EqualParts {
-    /// So many parts, 1 to 65,536.
+    /// `parts` parts, 1 to 65,536.
     pub fn new(parts: u32) -> Self
         requires least { 1 ≤ parts }
         requires most { parts ≤ 65536 }
@@ -47,7 +47,6 @@ impl PartRule for EqualParts {
     }
 }
 
-/// The part of a token of 16 bytes.
 fn part_of(token: &[u8], parts: u32) -> u32
     requires token { length token.now ≡ 16 }
     requires least { 1 ≤ parts }

@@ -17,7 +17,6 @@ use std::marker::Model;
 /// order of the uploads.
 #[derive(Drop)]
 pub struct Split {
-    /// The taps of each part.
     parts: Parts,
 }
 
@@ -34,7 +33,7 @@ impl Model for Split {
 }
 
 impl Split {
-    /// No uploads, in so many parts, 1 to 65,536.
+    /// No uploads, in `parts` parts, 1 to 65,536.
     pub fn new(alloc: Global, parts: u32) -> Result<Split, AllocError>
         requires least { 1 ≤ parts }
         requires most { parts ≤ 65536 }

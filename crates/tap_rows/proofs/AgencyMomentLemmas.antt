@@ -28,28 +28,21 @@ one_agency_time text a b (inr is) (inr also) = one_instant_told text a b is also
 
 -- what the grammar says of a text with a clock's marks and an offset
 pub with_offset : (text : List ℕ) (found : Option ℕ) → HasClock text → HasOffset text
-    → MatchOption found ((number : ℕ) → number < 2 ^ 64 → ¬ (parse_timestamp text ≡ Ok (pos (number * 1_000_000))))
+    → MatchOption found
+    ((number : ℕ) → number < 2 ^ 64 → ¬ (parse_timestamp text ≡ Ok (pos (number * 1_000_000))))
     (λ number. parse_timestamp text ≡ Ok (pos (number * 1_000_000)))
-    → MatchOption found ((number : ℕ) → number < 2 ^ 64 → ¬ (IsAgencyTime text number)) (λ number. IsAgencyTime text number)
+    → MatchOption found ((number : ℕ) → number < 2 ^ 64 → ¬ (IsAgencyTime text number))
+    (λ number. IsAgencyTime text number)
 with_offset text None clock offset none = no_time
   where
     no_time : (number : ℕ) → number < 2 ^ 64 → ¬ (IsAgencyTime text number)
     no_time number small (inl is) = no_decimal text number clock is
     no_time number small (inr is) = none number small is.instant
-with_offset text (Some number) clock offset is = inr (record { clock = clock; offset = offset; instant = is })
+with_offset text (Some number) clock offset is =
+    inr (record { clock = clock; offset = offset; instant = is })
 
 -- a local time tells no moment
-pub no_local_time : (text : List ℕ) (number : ℕ) → HasClock text → ¬ (HasOffset text) → ¬ (IsAgencyTime text number)
+pub no_local_time : (text : List ℕ) (number : ℕ) → HasClock text → ¬ (HasOffset text)
+    → ¬ (IsAgencyTime text number)
 no_local_time text number clock none (inl is) = no_decimal text number clock is
 no_local_time text number clock none (inr is) = none is.offset
-
--- and of one without a clock's marks
-pub without_clock : (text : List ℕ) (found : Option ℕ) → ¬ (HasClock text)
-    → MatchOption found ((number : ℕ) → number < 2 ^ 64 → ¬ (IsDecimal text number)) (λ number. IsDecimal text number)
-    → MatchOption found ((number : ℕ) → number < 2 ^ 64 → ¬ (IsAgencyTime text number)) (λ number. IsAgencyTime text number)
-without_clock text None no_clock none = no_time
-  where
-    no_time : (number : ℕ) → number < 2 ^ 64 → ¬ (IsAgencyTime text number)
-    no_time number small (inl is) = none number small is
-    no_time number small (inr is) = no_clock is.clock
-without_clock text (Some number) no_clock is = inl is

@@ -1,6 +1,8 @@
 -- The columns of a head, and the values of a row in them.
-use Rattle.std.proofs.Common.{◌≡◌, ℕ, zero, suc, ◌+◌, ◌<◌, ◌≤◌, List, [], ◌∷◌, ◌++◌, length, None, Some, refl, sym, subst, arith, Bor, ◌⊎◌, inl, inr}
-use Rattle.std.specs.Prelude.{All, Result, Ok, Err, IfOk, IfErr, option_map, slice_index_or, take, Option, slice_get, IsSomeAnd, MatchOption}
+use Rattle.std.proofs.Common.{◌≡◌, ℕ, zero, suc, ◌+◌, ◌<◌, ◌≤◌, List, [], ◌∷◌, ◌++◌, length, None}
+use Rattle.std.proofs.Common.{Some, refl, sym, subst, arith, Bor, ◌⊎◌, inl, inr}
+use Rattle.std.specs.Prelude.{All, Result, Ok, Err, IfOk, IfErr, option_map, slice_index_or, take}
+use Rattle.std.specs.Prelude.{Option, slice_get, IsSomeAnd, MatchOption}
 use Rattle.std.proofs.lemmas.List.{take_more}
 use Rattle.std.proofs.lemmas.Option.{slice_get-get_or}
 use Rattle.std.specs.List.{AllZip}
@@ -9,7 +11,8 @@ use Rattle.tap_rows.specs.Agencies.{HasNoColumn, IsWanting}
 use Rattle.tap_rows.specs.declared.agency.choice.Choice.{Choice}
 use Rattle.tap_rows.specs.declared.agency.fault.Wanted.TheVariants as wanted
 use Rattle.tap_rows.specs.AgencyMoments.{IsLocalTime}
-use Rattle.tap_rows.specs.AgencyRows.{HasSome, HasValue, IsColumn, IsMet, IsNoDevice, IsNoMoment, IsNoNumber, IsNoTap, IsTokenText, StandsForValidator}
+use Rattle.tap_rows.specs.AgencyRows.{HasSome, HasValue, IsColumn, IsMet, IsNoDevice, IsNoMoment}
+use Rattle.tap_rows.specs.AgencyRows.{IsNoNumber, IsNoTap, IsTokenText, StandsForValidator}
 use Rattle.tap_rows.specs.Devices.{devices_of, validator_of}
 use Rattle.tap_rows.specs.Rows.{IsNoValidator, IsValidator}
 use Rattle.tap_rows.specs.declared.devices.table.DeviceTable.{DeviceTable}
@@ -22,14 +25,17 @@ use Rattle.tap_rows.specs.declared.agency.places.Places.{Places}
 use Rattle.tap_rows.specs.declared.agency.choice.Condition.{Condition}
 
 -- a field that is there stands within the fields
-pub field_within : (fields : List (List ℕ)) (place : ℕ) (value : List ℕ) → field_at fields place ≡ Some value → place < length fields
+pub field_within : (fields : List (List ℕ)) (place : ℕ) (value : List ℕ)
+    → field_at fields place ≡ Some value → place < length fields
 unfolding field_at
 field_within [] place value is = absurd (cc)
 field_within (f ∷ fields) zero value is = omega arith
-field_within (f ∷ fields) (suc place) value is = let rest = field_within fields place value is in omega (arith, rest)
+field_within (f ∷ fields) (suc place) value is = let rest = field_within fields place value is in
+    omega (arith, rest)
 
 -- a place within the fields has one
-pub field_there : (fields : List (List ℕ)) (place : ℕ) → place < length fields → (value : List ℕ) × (field_at fields place ≡ Some value)
+pub field_there : (fields : List (List ℕ)) (place : ℕ) → place < length fields
+    → (value : List ℕ) × (field_at fields place ≡ Some value)
 unfolding field_at
 field_there [] place within = absurd (omega (arith, within))
 field_there (f ∷ fields) zero within = (f, refl)
@@ -39,104 +45,162 @@ some_same : (a b : List ℕ) (o : Option (List ℕ)) → o ≡ Some a → o ≡ 
 some_same a b o is also = cc
 
 -- in a column a row has one value
-pub value_there : (head row : List (List ℕ)) (name value : List ℕ) (place : ℕ) → IsColumn head name place → HasValue head row name value → field_at row place ≡ Some value
+pub value_there : (head row : List (List ℕ)) (name value : List ℕ) (place : ℕ)
+    → IsColumn head name place → HasValue head row name value → field_at row place ≡ Some value
 value_there head row name value place column has =
-    subst (λ (p : ℕ). field_at row p ≡ Some value) (column.once has.place has.column.named) has.field
+    subst (λ (p : ℕ). field_at row p ≡ Some value) (column.once has.place has.column.named)
+    has.field
 
-pub one_value_there : (head row : List (List ℕ)) (name a b : List ℕ) → HasValue head row name a → HasValue head row name b → a ≡ b
-one_value_there head row name a b is also = some_same a b (field_at row is.place) is.field (value_there head row name b is.place is.column also)
+pub one_value_there : (head row : List (List ℕ)) (name a b : List ℕ) → HasValue head row name a
+    → HasValue head row name b → a ≡ b
+one_value_there head row name a b is also =
+    some_same a b (field_at row is.place) is.field
+    (value_there head row name b is.place is.column also)
 
 -- a value of the column that is found there
-pub has_some : (head row : List (List ℕ)) (name value : List ℕ) (place : ℕ) (IsOne : List ℕ → Type 0) → IsColumn head name place → field_at row place ≡ Some value → IsOne value → HasSome head row name IsOne
-has_some head row name value place IsOne column field is = (value, record { place = place; column = column; field = field }, is)
+pub has_some : (head row : List (List ℕ)) (name value : List ℕ) (place : ℕ)
+    (IsOne : List ℕ → Type 0) → IsColumn head name place → field_at row place ≡ Some value
+    → IsOne value → HasSome head row name IsOne
+has_some head row name value place IsOne column field is =
+    (value, record { place = place; column = column; field = field }, is)
 
 -- the place of a column of a row that is as long as the head
-pub column_within : (head row : List (List ℕ)) (name : List ℕ) (place : ℕ) → IsColumn head name place → length row ≡ length head → place < length row
-column_within head row name place column same = let within = field_within head place name column.named in omega (arith, within, same)
+pub column_within : (head row : List (List ℕ)) (name : List ℕ) (place : ℕ)
+    → IsColumn head name place → length row ≡ length head → place < length row
+column_within head row name place column same = let within =
+    field_within head place name column.named in omega (arith, within, same)
 
 -- ---- the conditions
-pub place_there : (head : List (List ℕ)) (only : List Condition) (places : List ℕ) (k : ℕ) (d : Condition) (e : ℕ) → AllZip (IsPlaceOf head) only places → k < length only
+pub place_there : (head : List (List ℕ)) (only : List Condition) (places : List ℕ) (k : ℕ)
+    (d : Condition) (e : ℕ) → AllZip (IsPlaceOf head) only places → k < length only
     → IsPlaceOf head (slice_index_or only k d) (slice_index_or places k e)
 place_there head [] [] k d e all within = absurd (omega (arith, within))
 place_there head [] (p ∷ places) k d e all within = absurd all
 place_there head (c ∷ only) [] k d e all within = absurd all
 place_there head (c ∷ only) (p ∷ places) zero d e all within = all.0
-place_there head (c ∷ only) (p ∷ places) (suc k) d e all within = place_there head only places k d e all.1 (omega (arith, within))
+place_there head (c ∷ only) (p ∷ places) (suc k) d e all within =
+    place_there head only places k d e all.1 (omega (arith, within))
 
-pub zip_more : {A B : Type 0} (R : A → B → Type 0) (xs : List A) (ys : List B) (x : A) (y : B) → AllZip R xs ys → R x y → AllZip R (xs ++ x ∷ []) (ys ++ y ∷ [])
+pub zip_more : {A B : Type 0} (R : A → B → Type 0) (xs : List A) (ys : List B) (x : A) (y : B)
+    → AllZip R xs ys → R x y → AllZip R (xs ++ x ∷ []) (ys ++ y ∷ [])
 zip_more R [] [] x y all is = (is, tt)
 zip_more R [] (b ∷ ys) x y all is = absurd all
 zip_more R (a ∷ xs) [] x y all is = absurd all
 zip_more R (a ∷ xs) (b ∷ ys) x y all is = (all.0, zip_more R xs ys x y all.1 is)
 
-pub places_more : (head : List (List ℕ)) (only : List Condition) (places more : List ℕ) (k : ℕ) (d : Condition) (place : ℕ) → AllZip (IsPlaceOf head) (take k only) places → k < length only
-    → more ≡ places ++ place ∷ [] → IsPlaceOf head (slice_index_or only k d) place → AllZip (IsPlaceOf head) (take (k + 1) only) more
+pub places_more : (head : List (List ℕ)) (only : List Condition) (places more : List ℕ) (k : ℕ)
+    (d : Condition) (place : ℕ) → AllZip (IsPlaceOf head) (take k only) places → k < length only
+    → more ≡ places ++ place ∷ [] → IsPlaceOf head (slice_index_or only k d) place
+    → AllZip (IsPlaceOf head) (take (k + 1) only) more
 places_more head only places more k d place all within pushed is =
     subst (λ ps. AllZip (IsPlaceOf head) (take (k + 1) only) ps) (sym pushed)
-    (subst (λ cs. AllZip (IsPlaceOf head) cs (places ++ place ∷ [])) (sym (take_more only k d within))
+    (subst (λ cs. AllZip (IsPlaceOf head) cs (places ++ place ∷ []))
+    (sym (take_more only k d within))
     (zip_more (IsPlaceOf head) (take k only) places (slice_index_or only k d) place all is))
 
--- the condition whose column the head has not
-pub wanting_there : (choice : Choice) (head : List (List ℕ)) (k : ℕ) (d : Condition) → k < length choice.only.now → HasNoColumn head (slice_index_or choice.only.now k d).column.now
-    → IsWanting choice head (wanted.Only k)
-wanting_there choice head k d within none =
-    subst (λ o. IsSomeAnd o (λ condition. HasNoColumn head condition.column.now)) (sym (slice_get-get_or choice.only.now k d within)) none
-
 -- what a search of the whole head has found
-pub column_found : (head : List (List ℕ)) (name : List ℕ) (end : ℕ) (found : Option ℕ) → length head ≤ end
+pub column_found : (head : List (List ℕ)) (name : List ℕ) (end : ℕ) (found : Option ℕ)
+    → length head ≤ end
     → MatchOption found ((k : ℕ) → k < end → ¬ (field_at head k ≡ Some name))
-    (λ at. (at < end) × (field_at head at ≡ Some name) × ((k : ℕ) → k < end → field_at head k ≡ Some name → k ≡ at))
-    → MatchOption found ((place : ℕ) → ¬ (IsColumn head name place)) (λ place. IsColumn head name place)
+    (λ at. (at < end) × (field_at head at ≡ Some name)
+    × ((k : ℕ) → k < end → field_at head k ≡ Some name → k ≡ at))
+    → MatchOption found ((place : ℕ) → ¬ (IsColumn head name place))
+    (λ place. IsColumn head name place)
 column_found head name end None whole none = λ place is.
     let within = field_within head place name is.named in
     none place (omega (arith, within, whole)) is.named
 column_found head name end (Some at) whole is = record {
   named = is.1;
-  once = λ other named. let within = field_within head other name named in is.2 other (omega (arith, within, whole)) named;
+  once = λ other named. let within = field_within head other name named in
+      is.2 other (omega (arith, within, whole)) named;
 }
 
 -- ---- what a row's fields tell
 -- a condition that is met, or not, at the place of its column
-pub met_there : (head row : List (List ℕ)) (condition : Condition) (place : ℕ) → IsPlaceOf head condition place → field_at row place ≡ Some condition.value.now → IsMet head row condition
-met_there head row condition place column field = record { place = place; column = column; field = field }
+pub met_there : (head row : List (List ℕ)) (condition : Condition) (place : ℕ)
+    → IsPlaceOf head condition place → field_at row place ≡ Some condition.value.now
+    → IsMet head row condition
+met_there head row condition place column field =
+    record { place = place; column = column; field = field }
 
-pub not_met_there : (head row : List (List ℕ)) (condition : Condition) (place : ℕ) → IsPlaceOf head condition place → ¬ (field_at row place ≡ Some condition.value.now) → ¬ (IsMet head row condition)
-not_met_there head row condition place column none is = none (value_there head row condition.column.now condition.value.now place column is)
+pub not_met_there : (head row : List (List ℕ)) (condition : Condition) (place : ℕ)
+    → IsPlaceOf head condition place → ¬ (field_at row place ≡ Some condition.value.now)
+    → ¬ (IsMet head row condition)
+not_met_there head row condition place column none is =
+    none (value_there head row condition.column.now condition.value.now place column is)
 
 -- a moment's field that tells none
-pub wrong_moment : (choice : Choice) (head row : List (List ℕ)) (bytes : List ℕ) (number : ℕ) (text : List ℕ) (reason : Reason) → HasSome head row choice.token.now (λ text. IsTokenText text bytes)
-    → HasSome head row choice.validator.now (λ text. StandsForValidator choice.devices text number) → HasValue head row choice.moment.now text → IsNoMoment text → (reason ≡ why.LocalTime → IsLocalTime text)
-    → (¬ (reason ≡ why.LocalTime) → (reason ≡ why.Moment) × ¬ (IsLocalTime text)) → IsNoTap choice head row reason
-wrong_moment choice head row bytes number text why.Fields token validator has none local other = absurd (cc ((other (λ e. cc e)).0))
-wrong_moment choice head row bytes number text why.Token token validator has none local other = absurd (cc ((other (λ e. cc e)).0))
-wrong_moment choice head row bytes number text why.Validator token validator has none local other = absurd (cc ((other (λ e. cc e)).0))
-wrong_moment choice head row bytes number text why.Device token validator has none local other = absurd (cc ((other (λ e. cc e)).0))
+pub wrong_moment : (choice : Choice) (head row : List (List ℕ)) (bytes : List ℕ) (number : ℕ)
+    (text : List ℕ) (reason : Reason)
+    → HasSome head row choice.token.now (λ text. IsTokenText text bytes)
+    → HasSome head row choice.validator.now (λ text. StandsForValidator choice.devices text number)
+    → HasValue head row choice.moment.now text → IsNoMoment text
+    → (reason ≡ why.LocalTime → IsLocalTime text)
+    → (¬ (reason ≡ why.LocalTime) → (reason ≡ why.Moment) × ¬ (IsLocalTime text))
+    → IsNoTap choice head row reason
+wrong_moment choice head row bytes number text why.Fields token validator has none local other =
+    absurd (cc ((other (λ e. cc e)).0))
+wrong_moment choice head row bytes number text why.Token token validator has none local other =
+    absurd (cc ((other (λ e. cc e)).0))
+wrong_moment choice head row bytes number text why.Validator token validator has none local other =
+    absurd (cc ((other (λ e. cc e)).0))
+wrong_moment choice head row bytes number text why.Device token validator has none local other =
+    absurd (cc ((other (λ e. cc e)).0))
 wrong_moment choice head row bytes number text why.LocalTime token validator has none local other =
-    record { bytes = bytes; number = number; token = token; validator = validator; wrong = (text, has, (none, local refl)) }
+    record {
+      bytes = bytes;
+      number = number;
+      token = token;
+      validator = validator;
+      wrong =
+          (text, has, (none, local refl));
+    }
 wrong_moment choice head row bytes number text why.Moment token validator has none local other =
-    record { bytes = bytes; number = number; token = token; validator = validator; wrong = (text, has, (none, (other (λ e. cc e)).1)) }
+    record {
+      bytes = bytes;
+      number = number;
+      token = token;
+      validator = validator;
+      wrong =
+          (text, has, (none, (other (λ e. cc e)).1));
+    }
 
 -- what a validator's field stands for, by the number or by the device
-pub number_stands : (devices : Option (Bor DeviceTable)) (text : List ℕ) (made : Result ℕ Reason) → devices ≡ None → IfOk made (IsValidator text) → IfOk made (StandsForValidator devices text)
-number_stands devices text made none is = subst (λ d. IfOk made (StandsForValidator d text)) (sym none) is
+pub number_stands : (devices : Option (Bor DeviceTable)) (text : List ℕ) (made : Result ℕ Reason)
+    → devices ≡ None → IfOk made (IsValidator text) → IfOk made (StandsForValidator devices text)
+number_stands devices text made none is =
+    subst (λ d. IfOk made (StandsForValidator d text)) (sym none) is
 
-pub no_number_stands : (devices : Option (Bor DeviceTable)) (text : List ℕ) (made : Result ℕ Reason) → devices ≡ None → IfErr made (λ reason. (reason ≡ why.Validator) × IsNoValidator text)
+pub no_number_stands : (devices : Option (Bor DeviceTable)) (text : List ℕ) (made : Result ℕ Reason)
+    → devices ≡ None → IfErr made (λ reason. (reason ≡ why.Validator) × IsNoValidator text)
     → IfErr made (IsWrongValidator devices text)
 no_number_stands devices text (Ok number) none is = tt
-no_number_stands devices text (Err reason) none is = subst (IsWrongValidator devices text) (sym is.0) (subst (λ d. IsNoNumber d text) (sym none) is.1)
+no_number_stands devices text (Err reason) none is =
+    subst (IsWrongValidator devices text) (sym is.0)
+    (subst (λ d. IsNoNumber d text) (sym none) is.1)
 
-pub device_stands : (devices : Option (Bor DeviceTable)) (table : Bor DeviceTable) (text : List ℕ) (made : Result ℕ Reason) → devices ≡ Some table
-    → IfOk made (λ number. validator_of (devices_of table.now) text ≡ Some number) → IfOk made (StandsForValidator devices text)
-device_stands devices table text made some is = subst (λ d. IfOk made (StandsForValidator d text)) (sym some) is
+pub device_stands : (devices : Option (Bor DeviceTable)) (table : Bor DeviceTable) (text : List ℕ)
+    (made : Result ℕ Reason) → devices ≡ Some table
+    → IfOk made (λ number. validator_of (devices_of table.now) text ≡ Some number)
+    → IfOk made (StandsForValidator devices text)
+device_stands devices table text made some is =
+    subst (λ d. IfOk made (StandsForValidator d text)) (sym some) is
 
-pub no_device_stands : (devices : Option (Bor DeviceTable)) (table : Bor DeviceTable) (text : List ℕ) (made : Result ℕ Reason) → devices ≡ Some table
-    → IfErr made (λ reason. (reason ≡ why.Device) × (validator_of (devices_of table.now) text ≡ None)) → IfErr made (IsWrongValidator devices text)
+pub no_device_stands : (devices : Option (Bor DeviceTable)) (table : Bor DeviceTable)
+    (text : List ℕ) (made : Result ℕ Reason) → devices ≡ Some table
+    → IfErr made
+    (λ reason. (reason ≡ why.Device) × (validator_of (devices_of table.now) text ≡ None))
+    → IfErr made (IsWrongValidator devices text)
 no_device_stands devices table text (Ok number) some is = tt
-no_device_stands devices table text (Err reason) some is = subst (IsWrongValidator devices text) (sym is.0) (subst (λ d. IsNoDevice d text) (sym some) is.1)
+no_device_stands devices table text (Err reason) some is =
+    subst (IsWrongValidator devices text) (sym is.0)
+    (subst (λ d. IsNoDevice d text) (sym some) is.1)
 
 -- a validator's field that stands for none
-pub wrong_validator : (choice : Choice) (head row : List (List ℕ)) (bytes text : List ℕ) (reason : Reason) → HasSome head row choice.token.now (λ text. IsTokenText text bytes)
-    → HasValue head row choice.validator.now text → IsWrongValidator choice.devices text reason → IsNoTap choice head row reason
+pub wrong_validator : (choice : Choice) (head row : List (List ℕ)) (bytes text : List ℕ)
+    (reason : Reason) → HasSome head row choice.token.now (λ text. IsTokenText text bytes)
+    → HasValue head row choice.validator.now text → IsWrongValidator choice.devices text reason
+    → IsNoTap choice head row reason
 wrong_validator choice head row bytes text why.Fields token has is = absurd is
 wrong_validator choice head row bytes text why.Token token has is = absurd is
 wrong_validator choice head row bytes text why.Validator token has is =
@@ -147,7 +211,8 @@ wrong_validator choice head row bytes text why.LocalTime token has is = absurd i
 wrong_validator choice head row bytes text why.Moment token has is = absurd is
 
 -- ---- no column is wanting where all were found
-only_there : (head : List (List ℕ)) (only : List Condition) (places : List ℕ) (k : ℕ) → AllZip (IsPlaceOf head) only places
+only_there : (head : List (List ℕ)) (only : List Condition) (places : List ℕ) (k : ℕ)
+    → AllZip (IsPlaceOf head) only places
     → ¬ (IsSomeAnd (slice_get only k) (λ condition. HasNoColumn head condition.column.now))
 only_there head [] [] k all none = none
 only_there head [] (p ∷ places) k all none = absurd all
@@ -155,31 +220,43 @@ only_there head (c ∷ only) [] k all none = absurd all
 only_there head (c ∷ only) (p ∷ places) zero all none = none p all.0
 only_there head (c ∷ only) (p ∷ places) (suc k) all none = only_there head only places k all.1 none
 
-pub no_wanting : (choice : Choice) (head : List (List ℕ)) (places : Places) → ArePlaces choice head places → (column : Wanted) → ¬ (IsWanting choice head column)
+pub no_wanting : (choice : Choice) (head : List (List ℕ)) (places : Places)
+    → ArePlaces choice head places → (column : Wanted) → ¬ (IsWanting choice head column)
 no_wanting choice head places are wanted.Token none = none places.token are.token
 no_wanting choice head places are wanted.Validator none = none places.validator are.validator
 no_wanting choice head places are wanted.Moment none = none places.moment are.moment
-no_wanting choice head places are (wanted.Only k) none = only_there head choice.only.now places.only.items k are.only none
+no_wanting choice head places are (wanted.Only k) none =
+    only_there head choice.only.now places.only.items k are.only none
 
 -- a field that was not got is not there
-pub none_there : (fields : List (List ℕ)) (place : ℕ) (got : Option (Bor (List ℕ))) → option_map (λ s. s.now) got ≡ field_at fields place → got ≡ None → ¬ (place < length fields)
-none_there fields place None is none within = let there = (field_there fields place within).1 in absurd (cc (is, there))
+pub none_there : (fields : List (List ℕ)) (place : ℕ) (got : Option (Bor (List ℕ)))
+    → option_map (λ s. s.now) got ≡ field_at fields place → got ≡ None → ¬ (place < length fields)
+none_there fields place None is none within = let there = (field_there fields place within).1 in
+    absurd (cc (is, there))
 none_there fields place (Some x) is none within = absurd (cc none)
 
 -- ---- the conditions, one after the other
-same_condition : (only : List Condition) (k : ℕ) (d f : Condition) → k < length only → slice_index_or only k d ≡ slice_index_or only k f
-same_condition only k d f within = some_alike (slice_index_or only k d) (slice_index_or only k f) (slice_get only k) (slice_get-get_or only k d within) (slice_get-get_or only k f within)
+same_condition : (only : List Condition) (k : ℕ) (d f : Condition) → k < length only
+    → slice_index_or only k d ≡ slice_index_or only k f
+same_condition only k d f within =
+    some_alike (slice_index_or only k d) (slice_index_or only k f) (slice_get only k)
+    (slice_get-get_or only k d within) (slice_get-get_or only k f within)
   where
     some_alike : (a b : Condition) (o : Option Condition) → o ≡ Some a → o ≡ Some b → a ≡ b
     some_alike a b o is also = cc
 
-pub unmet_there : (head row : List (List ℕ)) (only : List Condition) (places : List ℕ) (k : ℕ) (d : Condition) (e : ℕ) → AllZip (IsPlaceOf head) only places → k < length only
-    → ¬ (field_at row (slice_index_or places k e) ≡ Some (slice_index_or only k d).value.now) → ¬ (All (IsMet head row) only)
+pub unmet_there : (head row : List (List ℕ)) (only : List Condition) (places : List ℕ) (k : ℕ)
+    (d : Condition) (e : ℕ) → AllZip (IsPlaceOf head) only places → k < length only
+    → ¬ (field_at row (slice_index_or places k e) ≡ Some (slice_index_or only k d).value.now)
+    → ¬ (All (IsMet head row) only)
 unmet_there head row only places k d e all within none kept =
-    not_met_there head row (slice_index_or only k d) (slice_index_or places k e) (place_there head only places k d e all within) none (kept k d within)
+    not_met_there head row (slice_index_or only k d) (slice_index_or places k e)
+    (place_there head only places k d e all within) none (kept k d within)
 
-pub met_more : (head row : List (List ℕ)) (only : List Condition) (places : List ℕ) (k : ℕ) (d : Condition) (e : ℕ) → AllZip (IsPlaceOf head) only places → k < length only
-    → field_at row (slice_index_or places k e) ≡ Some (slice_index_or only k d).value.now → ((j : ℕ) (f : Condition) → j < k → IsMet head row (slice_index_or only j f))
+pub met_more : (head row : List (List ℕ)) (only : List Condition) (places : List ℕ) (k : ℕ)
+    (d : Condition) (e : ℕ) → AllZip (IsPlaceOf head) only places → k < length only
+    → field_at row (slice_index_or places k e) ≡ Some (slice_index_or only k d).value.now
+    → ((j : ℕ) (f : Condition) → j < k → IsMet head row (slice_index_or only j f))
     → (j : ℕ) (f : Condition) → j < k + 1 → IsMet head row (slice_index_or only j f)
 met_more head row only places k d e all within field before j f inside = by_place (place j inside)
   where
@@ -191,4 +268,5 @@ met_more head row only places k d e all within field before j f inside = by_plac
     by_place (inr same) =
         subst (λ n. IsMet head row (slice_index_or only n f)) (sym same)
         (subst (IsMet head row) (same_condition only k d f within)
-        (met_there head row (slice_index_or only k d) (slice_index_or places k e) (place_there head only places k d e all within) field))
+        (met_there head row (slice_index_or only k d) (slice_index_or places k e)
+        (place_there head only places k d e all within) field))

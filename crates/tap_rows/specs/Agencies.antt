@@ -1,5 +1,5 @@
--- An agency's CSV as a whole: what its rows are read as, the upload of their taps, the rows that are
--- refused, and what is told of all.
+-- An agency's CSV as a whole: what its rows are read as, the upload of their taps, the rows that
+-- are refused, and their summary.
 use Rattle.std.specs.Prelude.{◌≡◌, ℕ, ◌+◌, List, [], ◌∷◌, ◌++◌, Option, Some, None, length, map, codes, slice_get, IsSomeAnd, flat_map}
 use Rattle.std.specs.Fmt.{decimal}
 use Rattle.std.specs.Io.KnownBytes.{Appends}
@@ -73,7 +73,7 @@ refusal_of number row read.LeftOut = []
 refusal_of number row (read.Refused reason) =
     record { number = number; reason = reason; row = row } ∷ []
 
--- the refused rows, in their order, where the first row has this number
+-- the refused rows, in their order; the first row has this number
 abbrev pub refusals_from : ℕ → List (List (List ℕ)) → List Reading → List Refusal
 refusals_from number [] readings = []
 refusals_from number (row ∷ rows) [] = []

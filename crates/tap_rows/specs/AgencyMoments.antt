@@ -1,5 +1,5 @@
--- The moment of a tap, as the field of an agency's row tells it: in milliseconds, or by RFC 3339 with
--- `Z` or an offset, also with a blank for the `T`.
+-- The moment of a tap, as the field of an agency's row gives it: in milliseconds, or by RFC 3339
+-- with `Z` or an offset, also with a blank for the `T`.
 use Rattle.std.specs.Prelude.{◌≡◌, ◌⊎◌, ℕ, ◌-◌, ◌*◌, ◌<◌, ◌≤◌, pos, List, length, slice_index, Ok}
 use Rattle.jiff_fmt.specs.Temporal.{parse_timestamp}
 use Rattle.tap_rows.specs.Moments.{IsDecimal}
@@ -33,17 +33,17 @@ HasOffset text = EndsWithZulu text ⊎ EndsWithShift text
 abbrev pub IsLocalTime : List ℕ → Type 0
 IsLocalTime text = HasClock text × ¬ (HasOffset text)
 
--- the text has a clock's marks and an offset, and tells an instant by the grammar of RFC 3339: so
--- many milliseconds after 1970-01-01T00:00Z, and no fraction of one
+-- the text has a clock's marks and an offset, and gives an instant by the grammar of RFC 3339:
+-- `number` milliseconds after 1970-01-01T00:00Z, and no fraction of one
 pub record IsInstant (text : List ℕ) (number : ℕ) : Type 0 where
   pub clock : HasClock text
   pub offset : HasOffset text
   pub instant : parse_timestamp text ≡ Ok (pos (number * 1_000_000))
 
--- the text tells a time in one of the two ways
+-- the text gives a time in one of the two ways
 abbrev pub IsAgencyTime : List ℕ → ℕ → Type 0
 IsAgencyTime text number = IsDecimal text number ⊎ IsInstant text number
 
--- the text tells a moment that a tap can have: one below the limit
+-- the text gives a moment that a tap can have: one below the limit
 abbrev pub IsAgencyMoment : List ℕ → ℕ → Type 0
 IsAgencyMoment text number = IsAgencyTime text number × (number < moment_limit)

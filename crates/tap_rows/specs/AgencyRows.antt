@@ -49,7 +49,7 @@ abbrev pub StandsForValidator : Option (Bor DeviceTable) → List ℕ → ℕ �
 StandsForValidator None text number = IsValidator text number
 StandsForValidator (Some devices) text number = validator_of (devices_of devices.now) text ≡ Some number
 
--- the row's fields in the columns of the choice tell this tap
+-- the row's fields in the columns of the choice give this tap
 pub record IsTapOf (choice : Choice) (head row : List (List ℕ)) (tap : TapFields) : Type 0 where
   pub token : HasSome head row choice.token.now (λ text. IsTokenText text tap.token)
   pub validator : HasSome head row choice.validator.now (λ text. StandsForValidator choice.devices text tap.validator)
@@ -73,7 +73,7 @@ IsNoDevice (Some devices) text = validator_of (devices_of devices.now) text ≡ 
 abbrev pub IsNoMoment : List ℕ → Type 0
 IsNoMoment text = (number : ℕ) → ¬ (IsAgencyMoment text number)
 
--- the row's first field that tells nothing is the token's
+-- the row's first field that is wrong is the token's
 abbrev pub HasNoToken : Choice → List (List ℕ) → List (List ℕ) → Type 0
 HasNoToken choice head row = HasSome head row choice.token.now IsNoToken
 

@@ -24,12 +24,12 @@ abbrev pub HasRecords : Separator → List ℕ → List (List (List ℕ)) → Ty
 HasRecords separator text rows =
     AreRecords (config_of separator) StartRecord (strip_bom text) rows
 
--- the fields of a record that was read, and none where there was no record
+-- the fields of a record that was read, and none if there was no record
 abbrev pub fields_read : Option Read → List (List ℕ)
 fields_read None = []
 fields_read (Some read) = read.0
 
--- the first record of a text; one without fields where it has none
+-- the first record of a text; one without fields if it has none
 abbrev pub first_record : Separator → List ℕ → List (List ℕ)
 first_record separator text =
     fields_read (next_record (config_of separator) StartRecord [] [] (strip_bom text))

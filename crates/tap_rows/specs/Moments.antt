@@ -1,4 +1,4 @@
--- The moment of a tap, as the field of a row tells it: in milliseconds, or by RFC 3339 in UTC.
+-- The moment of a tap, as the field of a row gives it: in milliseconds, or by RFC 3339 in UTC.
 use Rattle.std.specs.Prelude.{◌≡◌, ℕ, ◌-◌, ◌*◌, ◌/◌, ◌%◌, ◌<◌, ◌≤◌, ◌⊎◌, pos, List, ◌++◌}
 use Rattle.std.specs.Prelude.{codes, length, slice_index, Ok}
 use Rattle.std.specs.Str.Parse.{IsNumeral, digits_value}
@@ -20,22 +20,21 @@ HasUtcPunctuation text =
     (20 ≤ length text) × (slice_index text 10 ≡ 84) × (slice_index text 13 ≡ 58)
     × (slice_index text 16 ≡ 58) × (slice_index text (length text - 1) ≡ 90)
 
--- the text has this punctuation, and tells an instant by the grammar of RFC 3339: so many
+-- the text has this punctuation, and gives an instant by the grammar of RFC 3339: `number`
 -- milliseconds after 1970-01-01T00:00Z, and no fraction of one
 pub record IsUtc (text : List ℕ) (number : ℕ) : Type 0 where
   pub punctuation : HasUtcPunctuation text
   pub instant : parse_timestamp text ≡ Ok (pos (number * 1_000_000))
 
--- the text tells a moment in one of the two ways
+-- the text gives a moment in one of the two ways
 abbrev pub IsTime : List ℕ → ℕ → Type 0
 IsTime text number = IsDecimal text number ⊎ IsUtc text number
 
--- the text tells a moment that a tap can have: one below the limit
+-- the text gives a moment that a tap can have: one below the limit
 abbrev pub IsMoment : List ℕ → ℕ → Type 0
 IsMoment text number = IsTime text number × (number < moment_limit)
 
--- the time of day that is so many milliseconds after midnight, as `17:30:05` between a `T` and a
--- `Z`
+-- the time of day that is `ms` milliseconds after midnight, as `17:30:05` between a `T` and a `Z`
 abbrev pub seconds_text : ℕ → List ℕ
 seconds_text ms =
     codes "T" ++ (pad2 (ms / 3_600_000) ++ (codes ":" ++ (pad2 (ms / 60_000 % 60) ++ (codes ":"

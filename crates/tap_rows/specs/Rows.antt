@@ -43,7 +43,7 @@ pub record IsTapRow (line : List ℕ) (tap : TapFields) : Type 0 where
   pub validator : TellsValidator validator_text tap.validator
   pub moment : TellsMoment moment_text tap.moment
 
--- the line has three fields, and the token's tells no token
+-- the line has three fields, and the token's gives no token
 pub record HasNoToken (line : List ℕ) : Type 0 where
   pub token_text : List ℕ
   pub validator_text : List ℕ
@@ -51,7 +51,7 @@ pub record HasNoToken (line : List ℕ) : Type 0 where
   pub fields : AreFields line token_text validator_text moment_text
   pub wrong : (token : List ℕ) → ¬ (TellsToken token_text token)
 
--- the line has three fields, the first tells a token, and the second no validator
+-- the line has three fields, the first gives a token, and the second no validator
 pub record HasNoValidator (line : List ℕ) : Type 0 where
   pub token_text : List ℕ
   pub validator_text : List ℕ
@@ -60,7 +60,7 @@ pub record HasNoValidator (line : List ℕ) : Type 0 where
   pub token : (token : List ℕ) × TellsToken token_text token
   pub wrong : (number : ℕ) → ¬ (TellsValidator validator_text number)
 
--- the line has three fields, the first two tell a token and a validator, and the third no moment
+-- the line has three fields, the first two give a token and a validator, and the third no moment
 pub record HasNoMoment (line : List ℕ) : Type 0 where
   pub token_text : List ℕ
   pub validator_text : List ℕ

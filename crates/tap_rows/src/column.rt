@@ -1,6 +1,6 @@
 //! The columns of a tap table.
 
-/// What is wrong with a row: the number of its fields, or its first field that tells nothing.
+/// What is wrong with a row: the number of its fields, or its first field that is wrong.
 #[derive(Clone, Copy, Debug, PartialEq, Eq)]
 pub enum Column {
     /// The row has not three fields.
@@ -9,6 +9,6 @@ pub enum Column {
     Token,
     /// The validator's field is no decimal number below 2^32.
     Validator,
-    /// The moment's field tells no moment below 2100-01-01T00:00Z.
+    /// The moment's field gives no moment below 2100-01-01T00:00Z.
     Moment,
 }

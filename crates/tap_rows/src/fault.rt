@@ -12,16 +12,12 @@ pub enum RowsFault {
     Row {
         /// The number of the line; the head is line 1.
         number: u64,
-        /// The first column that is wrong.
         column: Column,
     },
-    /// A read failed.
     Unread,
     /// The table was another one when it was read again.
     Changed,
-    /// A write failed.
     Write,
-    /// A growth of memory was refused.
     NoMemory,
 }
 

@@ -4,7 +4,7 @@ ghost use Rattle.std.specs.Prelude.{◌≡◌, ◌++◌, ◌∷◌, ◌↔◌, �
 ghost use Rattle.std.specs.Prelude.{IsTrue, MatchOption};
 ghost use Rattle.tap_rows.specs.Fields.{AreFields, HasNoComma, FieldStandsFor};
 
-/// What stands before the first comma and behind it, or nothing where there is no comma.
+/// What stands before the first comma and behind it, or nothing if there is no comma.
 fn split_at_comma(line: &[u8]) -> Option<(&[u8], &[u8])>
     ensures { MatchOption result (HasNoComma line.now)
         (λ (field, rest). HasNoComma field.now × (line.now ≡ field.now ++ 44 ∷ rest.now)) }
@@ -13,7 +13,7 @@ fn split_at_comma(line: &[u8]) -> Option<(&[u8], &[u8])>
     Some((&line[..at], &line[at + 1..]))
 }
 
-/// The texts of a line's three fields, where it has three.
+/// The texts of a line's three fields, if it has three.
 pub(crate) fn three_fields(line: &[u8]) -> Option<(&[u8], &[u8], &[u8])>
     ensures { MatchOption result ((first second third : List ℕ)
         → ¬ (AreFields line.now first second third))
@@ -47,7 +47,6 @@ pub(crate) fn value_of(field: &[u8]) -> Option<&[u8]>
     }
 }
 
-/// Whether a field's text stands for this value.
 pub(crate) fn stands_for(field: &[u8], value: &[u8]) -> bool
     ensures { IsTrue result ↔ FieldStandsFor field.now value.now }
 {

@@ -14,7 +14,6 @@ use std::alloc::Global;
 use std::io::Write;
 use tap_views::{Batch, LayoutFault, TapView, good_batches};
 
-/// Writes bytes whole.
 fn put<W: Write>(out: &mut W, bytes: &[u8]) -> Result<(), RowsFault>
     ensures bytes { OnOk result (Appends (W.contents out.old) (W.contents out.new) bytes.now) }
     ensures fault { IfErr result (λ fault. fault ≡ RowsFault.Write) }

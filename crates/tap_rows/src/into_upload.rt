@@ -26,7 +26,7 @@ fn why(fault: EncodeFault) -> RowsFault
     }
 }
 
-/// Writes these taps as one batch; nothing where there are none.
+/// Writes these taps as one batch; nothing if there are none.
 pub(crate) fn write_batch<W: Write>(
     alloc: Global,
     taps: &[TapFields],
@@ -94,7 +94,7 @@ fn when_read_again(fault: RowsFault) -> RowsFault
 }
 
 /// Writes the upload of a table: `TAP1` batches of 4,096 taps, the last of fewer. The table is read
-/// twice, from two readers of it, so that nothing is written where a row is bad.
+/// twice, from two readers of it, so that nothing is written if a row is bad.
 pub fn encode<R: BufRead, S: BufRead, W: Write>(
     alloc: Global,
     table: &mut R,

@@ -43,7 +43,7 @@ pub fn reads_back()
 {}
 
 /// The moment's text in UTC is read as this moment: with three places of a second, as ledgers have
-/// it, and without them, where it is a whole number of seconds.
+/// it, and without them, if it is a whole number of seconds.
 pub fn reads_utc()
     ensures civil { (moment : ℕ) (text : List ℕ) → moment < moment_limit → IsCivilText moment text
         → IsMoment text moment }

@@ -1,4 +1,4 @@
-//! The moment that a field tells: in milliseconds, or by RFC 3339 in UTC.
+//! The moment that a field gives: in milliseconds, or by RFC 3339 in UTC.
 
 ghost use Rattle.std.specs.Prelude.{◌≡◌, ◌<◌, ◌^◌, ◌*◌, ◌↔◌, ℕ, Ok, pos};
 ghost use Rattle.std.specs.Prelude.{IsTrue, MatchOption};
@@ -11,7 +11,7 @@ use tap_views::MOMENT_LIMIT_MS;
 /// A millisecond in nanoseconds.
 const MILLISECOND_NANOS: u128 = 1_000_000;
 
-/// The number that decimal digits write, where it has 64 bits at most.
+/// The number that decimal digits write, if it has 64 bits at most.
 pub(crate) fn number_of(field: &[u8]) -> Option<u64>
     ensures { MatchOption result ((number : ℕ) → number < 2 ^ 64
         → ¬ (IsDecimal field.now number)) (λ number. IsDecimal field.now number) }
@@ -36,7 +36,7 @@ fn has_utc_marks(text: &[u8]) -> bool
         && text[text.len() - 1] == b'Z'
 }
 
-/// Nanoseconds as milliseconds, where they are a whole number of them.
+/// Nanoseconds as milliseconds, if they are a whole number of them.
 fn whole_milliseconds(nanoseconds: i128) -> Option<u64>
     ensures { MatchOption result ((number : ℕ) → number < 2 ^ 64
         → ¬ (nanoseconds ≡ pos (number * 1_000_000)))
@@ -50,7 +50,7 @@ fn whole_milliseconds(nanoseconds: i128) -> Option<u64>
     }
 }
 
-/// The milliseconds of the instant that a text tells, where they are a whole number.
+/// The milliseconds of the instant that a text gives, if they are a whole number.
 pub(crate) fn instant_of(text: &[u8]) -> Option<u64>
     ensures { MatchOption result ((number : ℕ) → number < 2 ^ 64
         → ¬ (parse_timestamp text.now ≡ Ok (pos (number * 1_000_000))))
@@ -62,7 +62,7 @@ pub(crate) fn instant_of(text: &[u8]) -> Option<u64>
     }
 }
 
-/// The milliseconds that a field tells in one of the two ways.
+/// The milliseconds that a field gives in one of the two ways.
 fn time_of(field: &[u8]) -> Option<u64>
     ensures { MatchOption result ((number : ℕ) → number < 2 ^ 64
         → ¬ (IsTime field.now number)) (λ number. IsTime field.now number) }
@@ -74,7 +74,7 @@ fn time_of(field: &[u8]) -> Option<u64>
     }
 }
 
-/// The moment that a field tells, in milliseconds since 1970-01-01T00:00Z.
+/// The moment that a field gives, in milliseconds since 1970-01-01T00:00Z.
 pub(crate) fn moment_in(field: &[u8]) -> Option<u64>
     ensures { MatchOption result ((number : ℕ)
         → ¬ (IsMoment field.now number)) (λ number. IsMoment field.now number) }

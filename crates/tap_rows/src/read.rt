@@ -16,7 +16,7 @@ use std::alloc::Global;
 use std::io::{BufRead, ErrorKind};
 use tap_views::TapFields;
 
-/// The bytes without the last one, where that is this byte.
+/// The bytes without the last one, if that is this byte.
 fn without_last(line: &[u8], byte: u8) -> &[u8]
     ensures { result.now ≡ strip_last byte line.now }
 {
@@ -39,8 +39,7 @@ fn without_end(line: &[u8]) -> &[u8]
     }
 }
 
-/// Reads the next line, with its line feed, in place of what `line` holds. False where there is
-/// none.
+/// Reads the next line, with its line feed, in place of what `line` holds. False if there is none.
 fn read_line<R: BufRead>(text: &mut R, line: &mut Vec<u8>) -> Result<bool, RowsFault>
     ensures line { OnOk result
         (IfSome (R.remaining text.old) (λ left. (line.new.items ≡ take_through 10 left)
@@ -73,7 +72,6 @@ fn is_head(line: &[u8]) -> bool
     }
 }
 
-/// Reads the head line.
 pub(crate) fn read_head<R: BufRead>(text: &mut R, line: &mut Vec<u8>) -> Result<(), RowsFault>
     ensures head { OnOk result
         (IfSome (R.remaining text.old) (λ left. IsHead (first_line left)
@@ -89,7 +87,7 @@ pub(crate) fn read_head<R: BufRead>(text: &mut R, line: &mut Vec<u8>) -> Result<
     }
 }
 
-/// Reads the next row, which has this number, as its tap. Nothing where the table ends.
+/// Reads the next row, which has this number, as its tap. Nothing if the table ends.
 pub(crate) fn next_row<R: BufRead>(
     text: &mut R,
     line: &mut Vec<u8>,

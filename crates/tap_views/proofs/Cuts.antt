@@ -8,8 +8,8 @@ use Rattle.std.proofs.lemmas.List.{take-take, drop-drop, drop-take, take_all}
 use Rattle.std.specs.List.{AllByRecursion}
 use Rattle.tap_views.specs.Layout.{Tap, IsTap, Layout}
 use Rattle.tap_views.specs.Faults.{width}
-use Rattle.tap_views.specs.inside.Records.{first_records}
-use Rattle.tap_views.specs.inside.Records.{taps_in, tap_at, AreRecords}
+use Rattle.tap_views.specs.inside.Records.{first_records, taps_in, tap_at, AreRecords}
+use Rattle.tap_views.proofs.Lists.{each-back, each-front}
 
 module _ (w : ℕ) (tap_of : List ℕ → Tap) where
   pub length-cut : (n : ℕ) (bytes : List ℕ) → length (first_records w tap_of n bytes) ≡ n
@@ -77,23 +77,6 @@ module _ (w : ℕ) (tap_of : List ℕ → Tap) where
       drop-drop (w * n) w bytes ∙ ap (λ (at : ℕ). drop at bytes) place in
       rw (cut-last n (drop w bytes) left, behind, last, first) refl
 
--- a fact on each of two joined lists
-pub all-append : {X : Type 0} (P : X → Type 0) (xs ys : List X) → AllByRecursion P xs
-    → AllByRecursion P ys → AllByRecursion P (xs ++ ys)
-all-append P [] ys some more = more
-all-append P (x ∷ xs) ys some more = (some.0, all-append P xs ys some.1 more)
-
--- a fact on the first part of a list
-pub all-front : {X : Type 0} (P : X → Type 0) (xs ys : List X) → AllByRecursion P (xs ++ ys)
-    → AllByRecursion P xs
-all-front P [] ys all = tt
-all-front P (x ∷ xs) ys all = (all.0, all-front P xs ys all.1)
-
-pub all-back : {X : Type 0} (P : X → Type 0) (xs ys : List X) → AllByRecursion P (xs ++ ys)
-    → AllByRecursion P ys
-all-back P [] ys all = all
-all-back P (x ∷ xs) ys all = all-back P xs ys all.1
-
 -- ---- records in a layout
 pub first_tap : (layout : Layout) (n : ℕ) (bytes : List ℕ) → 0 < n → AreRecords layout n bytes
     → IsTap (tap_at layout (take (width layout) bytes))
@@ -132,7 +115,7 @@ pub last_tap : (layout : Layout) (n : ℕ) (bytes : List ℕ) → 0 < n → AreR
 last_tap layout n bytes some are =
     let P : List Tap → Type 0 = AllByRecursion IsTap in
     let m : ℕ = width layout * (n - 1) in
-    (all-back IsTap (taps_in layout (n - 1) (take m bytes)) (tap_at layout (drop m bytes) ∷ [])
+    (each-back IsTap (taps_in layout (n - 1) (take m bytes)) (tap_at layout (drop m bytes) ∷ [])
     (subst P (last_cut layout n bytes some are.whole) are.each)).0
 
 pub last_rest : (layout : Layout) (n : ℕ) (bytes : List ℕ) → 0 < n → AreRecords layout n bytes
@@ -145,7 +128,7 @@ last_rest layout n bytes some are =
       fits = are.fits;
       whole = length-take-le (width layout * (n - 1)) bytes (omega (arith, are.whole, step));
       most = omega (arith, are.most);
-      each = all-front IsTap _ _ (subst P (last_cut layout n bytes some are.whole) are.each);
+      each = each-front IsTap _ _ (subst P (last_cut layout n bytes some are.whole) are.each);
     }
 
 -- a record at a place ends within the bytes

@@ -16,7 +16,8 @@ use Rattle.tap_views.specs.inside.Records.{taps_in}
 use Rattle.tap_views.proofs.Grammar.{found}
 
 -- ---- one fault
-same_place : (bytes : List ℕ) (f g : LayoutFault) → fault_order f ≡ fault_order g → Row f bytes → Row g bytes
+same_place : (bytes : List ℕ) (f g : LayoutFault) → fault_order f ≡ fault_order g → Row f bytes
+    → Row g bytes
     → f ≡ g
 same_place bytes (Short a) (Short b) same r s = ap Short (r.0 ∙ sym s.0)
 same_place bytes Magic Magic same r s = refl
@@ -32,6 +33,7 @@ same_place bytes (Moment i) (Moment j) same r s =
     ap Moment (omega (arith, no_less, no_more))
 same_place bytes f g same r s = absurd (omega (arith, same))
 
+-- bytes have one first fault
 pub same_fault : (bytes : List ℕ) (f g : LayoutFault) → IsFault bytes f → IsFault bytes g → f ≡ g
 same_fault bytes f g one other =
     let no_less : ¬ (fault_order f < fault_order g) = λ less. other.first f less one.holds in
@@ -117,7 +119,8 @@ module _ (bytes : List ℕ) where
   )
   from_moments whole known no_flags few long (inr early) =
       measured (record {
-        sound = record { whole = whole; known = known; no_flags = no_flags; count = refl; most = few };
+        sound = record
+            { whole = whole; known = known; no_flags = no_flags; count = refl; most = few };
         whole = long;
         early = early;
       })

@@ -1,10 +1,11 @@
 -- What is written is a batch of the grammar, and reads as the fields that it was written from.
-use Rattle.std.proofs.Common.{◌≡◌, ℕ, suc, ◌+◌, ◌^◌, ◌<◌, ◌≤◌, List, [], ◌∷◌, ◌++◌, length, get_or}
+use Rattle.std.proofs.Common.{◌≡◌, ℕ, ◌+◌, ◌^◌, ◌<◌, ◌≤◌, List, [], ◌∷◌, ◌++◌, length, get_or}
 use Rattle.std.proofs.Common.{take, map, flat_map, Result, Ok, Err, MatchResult, refl, sym, ap}
 use Rattle.std.proofs.Common.{subst, ◌∙◌, arith}
 use Rattle.std.specs.Prelude.{All}
 use Rattle.std.specs.List.{AllByRecursion}
 use Rattle.std.proofs.lemmas.List.{flat_map_more, length-map, take_more}
+use Rattle.std.proofs.lemmas.List.Elements.{All-head, All-tail}
 use Rattle.byteorder.specs.Endian.{big_bytes, big_number}
 use Rattle.byteorder.specs.Numbers.{big_number-reads_back}
 use Rattle.std.specs.Borrow.{Bor}
@@ -59,13 +60,6 @@ fields-written fields is early =
     let moment = num-bytes_8 fields.moment early in
     rw (validator, moment) refl
 
--- what holds of each element holds of the rest
-all-rest : {X : Type 0} (P : X → Type 0) (x : X) (xs : List X) → All P (x ∷ xs) → All P xs
-all-rest P x xs all = λ k d within. all (suc k) d (omega arith)
-
-all-first : {X : Type 0} (P : X → Type 0) (x : X) (xs : List X) → All P (x ∷ xs) → P x
-all-first P x xs all = all 0 x (omega arith)
-
 record AreWritten (fields : List TapFields) : Type 0 where
   pub each : AllByRecursion IsTap (map written fields)
   pub read : map fields_of (map written fields) ≡ fields
@@ -76,10 +70,10 @@ are_written : (fields : List TapFields) → All IsFields fields → AreEarly (λ
     → AreWritten fields
 are_written [] are early = record { each = tt; read = refl; spelt = refl }
 are_written (tap ∷ taps) are early =
-    let is = all-first IsFields tap taps are in
-    let below = all-first (λ t. t.moment < moment_limit) tap taps early in
-    let more = are_written taps (all-rest IsFields tap taps are)
-    (all-rest (λ t. t.moment < moment_limit) tap taps early) in
+    let is = All-head IsFields tap taps are in
+    let below = All-head (λ t. t.moment < moment_limit) tap taps early in
+    let more = are_written taps (All-tail IsFields tap taps are)
+    (All-tail (λ t. t.moment < moment_limit) tap taps early) in
     record {
       each = (is_written tap is below, more.each);
       read = rw (fields-written tap is below, more.read) refl;
@@ -140,10 +134,10 @@ are_written_2 : (validator : ℕ) (fields : List Tap2Fields) → All IsFields2 f
     → AreEarly (λ tap. tap.moment) fields → AreWritten2 validator fields
 are_written_2 validator [] are early = record { each = tt; read = refl; spelt = refl }
 are_written_2 validator (tap ∷ taps) are early =
-    let is = all-first IsFields2 tap taps are in
-    let below = all-first (λ t. t.moment < moment_limit) tap taps early in
-    let more = are_written_2 validator taps (all-rest IsFields2 tap taps are)
-    (all-rest (λ t. t.moment < moment_limit) tap taps early) in
+    let is = All-head IsFields2 tap taps are in
+    let below = All-head (λ t. t.moment < moment_limit) tap taps early in
+    let more = are_written_2 validator taps (All-tail IsFields2 tap taps are)
+    (All-tail (λ t. t.moment < moment_limit) tap taps early) in
     record {
       each = (is_written_2 validator tap is below, more.each);
       read = rw (fields_2-written validator tap below, more.read) refl;

@@ -6,6 +6,7 @@ use Rattle.std.specs.Prelude.{find}
 use Rattle.std.specs.List.{range_with_len}
 use Rattle.std.specs.Str.{bytes_eq}
 use Rattle.std.proofs.lemmas.Bool.{eqb-true, eqb-false, ltb-true, lt-ltb, le-ltb, cases_lt}
+use Rattle.std.proofs.lemmas.Bool.{not-true, or_parts}
 use Rattle.std.proofs.lemmas.Slice.Eq.{bytes_eq-Decides}
 use Rattle.tap_views.specs.Layout.{moment_limit}
 use Rattle.tap_views.specs.Faults.{header, layout_in, count_in, flags_in, size_in, moment_in, Row}
@@ -21,21 +22,13 @@ tests_false : {P : Type 0} (b : Bool) → (b ≡ true → P) → ¬ P → b ≡ 
 tests_false true tells never = absurd (never (tells refl))
 tests_false false tells never = refl
 
-not-true : (b : Bool) → not b ≡ true → b ≡ false
-not-true true is = absurd (let never : false ≡ true = is in cc)
-not-true false is = refl
-
-or-false : (b c : Bool) → (b || c) ≡ false → (b ≡ false) × (c ≡ false)
-or-false true c is = absurd (let never : true ≡ false = is in cc)
-or-false false c is = (refl, is)
-
 module _ (bytes : List ℕ) where
   same_true : (xs ys : List ℕ) → xs ≡ ys → bytes_eq xs ys ≡ true
   same_true xs ys = (bytes_eq-Decides xs ys).1
 
   unknown : is_row bytes Magic ≡ true → Row Magic bytes
   unknown is =
-      let never = or-false (bytes_eq (take 4 bytes) (codes "TAP1"))
+      let never = or_parts (bytes_eq (take 4 bytes) (codes "TAP1"))
       (bytes_eq (take 4 bytes) (codes "TAP2")) (not-true _ is) in (
         λ one. let yes = same_true (take 4 bytes) (codes "TAP1") one in
             let same : true ≡ false = sym yes ∙ never.0 in cc,

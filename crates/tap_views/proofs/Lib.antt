@@ -1,10 +1,13 @@
+pub mod Choices
 mod Cuts
-mod Deciding
+pub mod Deciding
 mod Encodings
 mod Finding
 mod Fronts
 mod Grammar
+pub mod Lists
 mod Numbers
+pub mod Orderings
 pub mod Reading
 pub mod ReadingLemmas
 mod RunLemmas

@@ -1,8 +1,8 @@
 -- What a reader of bytes is given: there is one list of items for all bytes, and it is the file's
 -- batches and its end.
 use Rattle.std.proofs.Common.{◌≡◌, ℕ, zero, suc, ◌+◌, ◌-◌, ◌*◌, ◌<◌, ◌≤◌, List, [], ◌∷◌, ◌++◌}
-use Rattle.std.proofs.Common.{length, map, drop, Ok, Err, None, Some, refl, sym, ap, subst, ◌∙◌, inl, inr}
-use Rattle.std.proofs.Common.{append-nil, arith}
+use Rattle.std.proofs.Common.{length, map, drop, Ok, Err, None, Some, refl, sym, ap, subst, ◌∙◌}
+use Rattle.std.proofs.Common.{inl, inr, append-nil, arith}
 use Rattle.std.proofs.lemmas.List.{length-append, length-drop, drop-drop, append_cancel_right}
 use Rattle.std.proofs.lemmas.List.{nil_from_length}
 use Rattle.tap_views.specs.Layout.{Tap, Layout, Tap1, Tap2, magic, IsBatch}
@@ -14,8 +14,7 @@ use Rattle.tap_views.specs.Files.{IsEndAfterBatches}
 use Rattle.tap_views.proofs.ReadingLemmas.{no_bytes, rest_short}
 use Rattle.tap_views.proofs.Grammar.{begins, no_row}
 use Rattle.tap_views.specs.inside.Readings.{found_fault, first_taps, items_within, items_from}
-use Rattle.tap_views.specs.inside.Readings.{batches_among, fault_among, good_among}
-use Rattle.tap_views.specs.inside.Readings.{good_from}
+use Rattle.tap_views.specs.inside.Readings.{batches_among, fault_among, good_among, good_from}
 use Rattle.tap_views.proofs.Finding.{first_fault-none, first_fault-some}
 use Rattle.tap_views.proofs.Deciding.{same_fault, decided, Found}
 
@@ -256,10 +255,12 @@ is_reading file =
     }
 
 -- ---- a file has one cut
-pub one_list_of_batches : (file : List ℕ) (xs ys : List (List Tap)) (r s : List ℕ) → IsFile file xs r
+pub one_list_of_batches : (file : List ℕ) (xs ys : List (List Tap)) (r s : List ℕ)
+    → IsFile file xs r
     → IsFile file ys s → (xs ≡ ys) × (r ≡ s)
 one_list_of_batches file [] [] r s is is' = (refl, sym is.0 ∙ is'.0)
-one_list_of_batches file [] (y ∷ ys) r s is is' = absurd (is.1 is'.0 is'.1 y is'.2 (sym is.0 ∙ is'.3))
+one_list_of_batches file [] (y ∷ ys) r s is is' =
+    absurd (is.1 is'.0 is'.1 y is'.2 (sym is.0 ∙ is'.3))
 one_list_of_batches file (x ∷ xs) [] r s is is' = absurd (is'.1 is.0 is.1 x is.2 (sym is'.0 ∙ is.3))
 one_list_of_batches file (x ∷ xs) (y ∷ ys) r s is is' =
     let same = one_batch file is.0 is'.0 is.1 is'.1 x y is.2 is.3 is'.2 is'.3 in

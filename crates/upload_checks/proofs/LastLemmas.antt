@@ -1,8 +1,8 @@
 -- The last taps of a token at its validators.
 use Rattle.std.proofs.Common.{◌≡◌, ℕ, ◌&&◌, Bool, true, false, cond, List, [], ◌∷◌, ◌++◌, All}
 use Rattle.std.proofs.Common.{Option, None, Some, refl, sym, ap, subst, ◌∙◌, append_assoc}
-use Rattle.std.proofs.Common.{append-nil, nat_eq, nat_le, not, get_or, length, take, drop, suc, ◌<◌, ◌≤◌}
-use Rattle.std.proofs.Common.{◌+◌, ◌-◌, arith, drop-cons}
+use Rattle.std.proofs.Common.{append-nil, nat_eq, nat_le, not, get_or, length, take, drop, suc, ◌<◌}
+use Rattle.std.proofs.Common.{◌≤◌, ◌+◌, ◌-◌, arith, drop-cons}
 use Rattle.std.specs.BTreeMap as tree
 use Rattle.std.specs.BTreeMap.{BTreeMap}
 use Rattle.std.specs.Cmp.{nat_eq_equiv, unsigned_tied}

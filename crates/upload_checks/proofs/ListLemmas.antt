@@ -1,6 +1,6 @@
 -- Taps in lists that lie one behind the other, and the rise of their tokens.
-use Rattle.std.proofs.Common.{◌≡◌, ℕ, ◌+◌, ◌<◌, Bool, true, false, List, [], ◌∷◌, ◌++◌, All}
-use Rattle.std.proofs.Common.{Global, Vec, length, get_or, take, drop, flat_map, sym, ap, subst, ◌∙◌}
+use Rattle.std.proofs.Common.{◌≡◌, ℕ, ◌+◌, ◌<◌, Bool, true, false, List, [], ◌∷◌, ◌++◌, All, Global}
+use Rattle.std.proofs.Common.{Vec, length, get_or, take, drop, flat_map, sym, ap, subst, ◌∙◌}
 use Rattle.std.proofs.Common.{append_assoc, refl}
 use Rattle.std.specs.Cmp.Lexicographic.{slice_cmp}
 use Rattle.std.specs.List.{filter}

@@ -1,15 +1,15 @@
 -- The last tap before another, of its token at its validator, is the nearest one.
 use Rattle.std.proofs.Common.{◌≡◌, ℕ, ◌-◌, ◌≤◌, ◌&&◌, Bool, true, false, cond, List, [], ◌∷◌, ◌++◌}
-use Rattle.std.proofs.Common.{All, Contains, Option, None, Some, refl, sym, ap, ◌∙◌, arith, inl, inr}
+use Rattle.std.proofs.Common.{All, Contains, Option, None, Some, refl, sym, ap, ◌∙◌, arith, inl}
+use Rattle.std.proofs.Common.{inr, nat_eq, nat_le, length, suc, ◌<◌, get_or}
 use Prim.Native.Nat.{zero}
-use Rattle.std.proofs.Common.{nat_eq, nat_le, length, suc, ◌<◌, get_or}
 use Rattle.std.specs.Prelude.{◌⊎◌}
 use Rattle.std.specs.Cmp.Lexicographic.{bytes_decides, pointwise}
 use Rattle.std.proofs.lemmas.Bool.Decides.{nat_tests}
 use Rattle.std.proofs.lemmas.List.Elements.{All-head, All-tail}
 use Rattle.tap_views.specs.declared.encoder.TapFields.{TapFields}
+use Rattle.tap_views.proofs.Lists.{All-front}
 use Rattle.settlement.proofs.Placed.{NotLess, Pairs, no_earlier}
-use Rattle.settlement.proofs.Taken.{all_front}
 use Rattle.upload_checks.specs.declared.near_doubles.NearDouble.{NearDouble}
 use Rattle.upload_checks.specs.NearDoubles.{HasNearTap, double_of, is_at, last_from, last_moment}
 
@@ -55,7 +55,13 @@ later : (token : List ℕ) (validator moment : ℕ) (t : TapFields) (ts : List T
     → HasMoment token validator moment ts → HasMoment token validator moment (t ∷ ts)
 later token validator moment t ts has =
     let (k, inside, at) = has.there in
-    record { tap = has.tap; there = (suc k, omega (arith, inside), at); is = has.is; same = has.same }
+    record {
+      tap = has.tap;
+      there = (suc k, omega (arith, inside), at);
+      is = has.is;
+      same =
+          has.same;
+    }
 
 found : (before : Option ℕ) (token : List ℕ) (validator moment : ℕ) (taps : List TapFields)
     → last_from before token validator taps ≡ Some moment
@@ -140,7 +146,8 @@ reached before token validator (t ∷ ts) tap zero pairs inside at test =
       above = omega (arith, same, far);
     }
 reached before token validator (t ∷ ts) tap (suc k) pairs inside at test =
-    let more = reached (cond (is_at token validator t) (Some t.moment) before) token validator ts tap
+    let more = reached (cond (is_at token validator t) (Some t.moment) before) token validator ts
+    tap
     k pairs.1 (omega (arith, inside)) at test in
     record { moment = more.moment; is = more.is; above = more.above }
 
@@ -150,7 +157,8 @@ pub told_has : (within : ℕ) (before : List TapFields) (tap : TapFields) (last 
     → HasNearTap within before tap
 told_has within before tap None is told = absurd (told refl)
 told_has within before tap (Some moment) is told =
-    by_found (found None tap.token tap.validator moment before is) (nat_le (tap.moment - moment) within)
+    by_found (found None tap.token tap.validator moment before is)
+    (nat_le (tap.moment - moment) within)
     refl
   where
     by_found : (None ≡ Some moment) ⊎ HasMoment tap.token tap.validator moment before → (b : Bool)
@@ -190,4 +198,4 @@ near_is_told within before tap pairs has none =
 pub pairs_front : (xs ys : List TapFields) → Pairs NotLess (xs ++ ys) → Pairs NotLess xs
 pairs_front [] ys pairs = tt
 pairs_front (x ∷ xs) ys pairs =
-    (all_front (NotLess x) xs ys pairs.0, pairs_front xs ys pairs.1)
+    (All-front (NotLess x) xs ys pairs.0, pairs_front xs ys pairs.1)

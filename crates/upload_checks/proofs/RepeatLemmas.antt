@@ -37,7 +37,8 @@ position_append {X} test i (y ∷ ys) x =
         (cond (test x) (Some (i + length (y ∷ ys))) None)
     by_test true rest = refl
     by_test false rest =
-        rest ∙ ap (λ n. option_or (position_from test (i + 1) ys) (cond (test x) (Some n) None)) number
+        rest ∙ ap (λ n. option_or (position_from test (i + 1) ys) (cond (test x) (Some n) None))
+        number
 
 or_none : (place : Option ℕ) → option_or place None ≡ place
 or_none None = refl
@@ -71,7 +72,8 @@ place_kept bytes first before has other = by_test (pointwise nat_eq other bytes)
         more ∙ ap (λ p. option_or p
         (cond (pointwise nat_eq other bytes) (Some (0 + length before)) None)) same ∙ sym same
     by_test false is =
-        more ∙ ap (λ b. option_or (place_of other before) (cond b (Some (0 + length before)) None)) is
+        more ∙ ap (λ b. option_or (place_of other before) (cond b (Some (0 + length before)) None))
+        is
         ∙ or_none (place_of other before)
 
 -- an upload more whose bytes no earlier one has, and that was put into the map
@@ -101,7 +103,8 @@ place_put bytes number before old new is_number none update places other =
         ∙ ap (λ p. cond (is_eq (slice_cmp nat_cmp bytes other)) (Some number) p) (places other)
 
     by_test : (b : Bool) → pointwise nat_eq other bytes ≡ b
-        → tree.get_by (λ k. slice_cmp nat_cmp other k.now) new ≡ place_of other (before ++ bytes ∷ [])
+        → tree.get_by (λ k. slice_cmp nat_cmp other k.now) new
+        ≡ place_of other (before ++ bytes ∷ [])
     by_test true is =
         let same : other ≡ bytes = (bytes_decides other bytes).0 is in
         let tied : is_eq (slice_cmp nat_cmp bytes other) ≡ true =

@@ -20,14 +20,15 @@ abbrev pub last_moment : List ℕ → ℕ → List TapFields → Option ℕ
 last_moment token validator taps = last_from None token validator taps
 
 -- The tap, if it is a near double: if the tap before it, of its token at its validator, is at most
--- so many milliseconds earlier. Equal taps are near doubles, too: each but the first.
+-- this many milliseconds earlier. Equal taps are near doubles, too: each but the first.
 abbrev pub double_of : ℕ → TapFields → Option ℕ → List NearDouble
 double_of within tap None = []
 double_of within tap (Some earlier) =
     if nat_le (tap.moment - earlier) within then record { tap = tap; earlier = earlier } ∷ []
     else []
 
--- one of the taps before it, of its token at its validator, is at most so many milliseconds earlier
+-- one of the taps before it, of its token at its validator, is at most `within` milliseconds
+-- earlier
 pub record HasNearTap (within : ℕ) (before : List TapFields) (tap : TapFields) : Type 0 where
   pub other : TapFields
   pub there : Contains before other

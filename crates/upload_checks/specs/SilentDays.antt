@@ -34,7 +34,7 @@ is_by validator tap = nat_eq validator tap.validator
 abbrev pub has_tap_on : List TapFields → ℕ → ℕ → Bool
 has_tap_on taps day validator = list_any (λ tap. is_on day tap && is_by validator tap) taps
 
--- those of the validators that have no tap on the day, where a test says which have
+-- those of the validators that have no tap on the day; a test says which have
 abbrev pub silent_by : (ℕ → Bool) → ℕ → List ℕ → List SilentDay
 silent_by has day validators =
     map (λ validator. record { day = day; validator = validator })

@@ -19,17 +19,16 @@ use tap_views::{MomentSpan, NoMemory, TapFields};
 /// What is found in uploads.
 #[derive(Drop)]
 pub struct Findings {
-    /// How each upload ends.
     pub ends: Vec<UploadEnd>,
     /// The lists, one behind the other, have the good taps in canonical order.
     pub lists: Vec<Vec<TapFields>>,
     /// The near doubles among them.
     pub doubles: Vec<NearDouble>,
-    /// Those of them before the span.
+    /// Good taps before the span.
     pub before: Vec<TapFields>,
-    /// Those of them after it.
+    /// Good taps after it.
     pub after: Vec<TapFields>,
-    /// The uploads that have the bytes of an earlier one.
+    /// Uploads that have the bytes of an earlier one.
     pub repeated: Vec<Repeat>,
 }
 
@@ -67,9 +66,9 @@ fn outside_of(
     Ok(outside)
 }
 
-/// What is found in the uploads: near doubles at most so many milliseconds apart, taps outside the
-/// span, and uploads that have the bytes of an earlier one. All taps are in memory. So many workers
-/// order them, 64 at most: what is found does not depend on their number.
+/// What is found in the uploads: near doubles at most `within` milliseconds apart, taps outside the
+/// span, and uploads that have the bytes of an earlier one. All taps are in memory. `workers`
+/// threads, 64 at most, order them: what is found does not depend on their number.
 pub fn look<R: Threads + Sync>(
     rt: &R,
     alloc: Global,

@@ -6,8 +6,9 @@ ghost use Rattle.tap_views.specs.TapOrder.{tap_cmp};
 ghost use Rattle.tap_views.specs.declared.encoder.TapFields.{TapFields};
 ghost use Rattle.upload_checks.specs.NearDoubles.{HasNearTap, double_of, last_moment};
 
-/// Of taps in canonical order, a tap is told as a near double exactly if one before it, of its token
-/// at its validator, is at most so many milliseconds earlier. So it is enough to look at the last.
+/// Of taps in canonical order, a tap is reported as a near double exactly if one before it, of its
+/// token at its validator, is at most `within` milliseconds earlier. So it is enough to look at the
+/// last.
 pub fn near_doubles_have_a_near_tap()
     ensures { (within : ℕ) (before : List TapFields) (tap : TapFields)
         → IsSorted tap_cmp (before ++ tap ∷ [])

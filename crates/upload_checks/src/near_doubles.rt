@@ -13,7 +13,6 @@ use tap_views::TapFields;
 /// A tap that follows another one of its token at its validator closely.
 #[derive(Clone, Copy, Debug, PartialEq, Eq)]
 pub struct NearDouble {
-    /// The tap.
     pub tap: TapFields,
     /// The moment of the tap before it, of its token at its validator, in milliseconds since
     /// 1970-01-01T00:00Z.
@@ -23,14 +22,12 @@ pub struct NearDouble {
 /// The last taps of one token at each of its validators.
 #[derive(Drop)]
 pub(crate) struct LastTaps {
-    /// The token.
     token: [u8; 16],
-    /// Their moments, by validator.
+    /// The moments are by validator, in milliseconds since 1970-01-01T00:00Z.
     moments: BTreeMap<u32, u64>,
 }
 
 impl LastTaps {
-    /// No tap yet.
     fn new(alloc: Global) -> LastTaps
         ensures { AreLastOf result [] }
     {
@@ -70,14 +67,11 @@ impl LastTaps {
 pub(crate) struct NearDoubles {
     /// How many milliseconds at most a near double is later than the tap before it.
     within: u64,
-    /// The last taps.
     last: LastTaps,
-    /// The near doubles so far.
     found: Vec<NearDouble>,
 }
 
 impl NearDoubles {
-    /// No tap yet.
     pub(crate) fn new(alloc: Global, within: u64) -> NearDoubles
         ensures within { result.within ≡ within }
         ensures walked { HaveWalked result [] }
@@ -89,7 +83,6 @@ impl NearDoubles {
         }
     }
 
-    /// Adds the next tap.
     fn add_tap(&mut self, tap: &TapFields) -> Result<(), AllocError>
         ensures within { OnOk result (self.new.within ≡ self.old.within) }
         ensures walked { OnOk result ((taps : List TapFields) → AreUpTo tap.now.token taps
@@ -103,7 +96,6 @@ impl NearDoubles {
         Ok(())
     }
 
-    /// Adds the next taps.
     pub(crate) fn add(&mut self, list: &[TapFields]) -> Result<(), AllocError>
         ensures within { OnOk result (self.new.within ≡ self.old.within) }
         ensures walked { OnOk result ((taps : List TapFields) → TokensRise (taps ++ list.now)
@@ -115,7 +107,6 @@ impl NearDoubles {
         Ok(())
     }
 
-    /// The near doubles.
     pub(crate) fn into_found(self) -> Vec<NearDouble>
         ensures { result.items ≡ self.found.items }
     {

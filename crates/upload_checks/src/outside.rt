@@ -9,7 +9,6 @@ use tap_views::{MomentSpan, TapFields};
 /// Taps before a span of moments, and after it, of taps that are added list by list.
 #[derive(Drop)]
 pub(crate) struct Outside {
-    /// The span.
     pub(crate) span: MomentSpan,
     /// The taps before its first moment.
     pub(crate) before: Vec<TapFields>,
@@ -17,7 +16,6 @@ pub(crate) struct Outside {
     pub(crate) after: Vec<TapFields>,
 }
 
-/// Appends the tap, if it is one that is looked for.
 fn push_if(taps: &mut Vec<TapFields>, tap: &TapFields, is_one: bool) -> Result<(), AllocError>
     ensures { OnOk result (taps.new.items
         ≡ taps.old.items ++ (if is_one then tap.now ∷ [] else [])) }
@@ -29,7 +27,6 @@ fn push_if(taps: &mut Vec<TapFields>, tap: &TapFields, is_one: bool) -> Result<(
 }
 
 impl Outside {
-    /// No tap yet.
     pub(crate) fn new(alloc: Global, span: MomentSpan) -> Outside
         ensures span { result.span ≡ span }
         ensures before { result.before.items ≡ [] }
@@ -42,7 +39,6 @@ impl Outside {
         }
     }
 
-    /// Adds the next taps.
     pub(crate) fn add(&mut self, list: &[TapFields]) -> Result<(), AllocError>
         ensures span { OnOk result (self.new.span ≡ self.old.span) }
         ensures before { OnOk result (self.new.before.items

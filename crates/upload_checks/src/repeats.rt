@@ -17,7 +17,7 @@ pub struct Repeat {
 }
 
 /// The uploads that have the bytes of an earlier one, in their order. The uploads are compared by
-/// their bytes, so that none is told that has others.
+/// their bytes, so that none is reported that has others.
 pub(crate) fn repeated_uploads(alloc: Global, uploads: &[Vec<u8>]) -> Result<Vec<Repeat>, NoMemory>
     ensures { IfOk result (λ found. found.items
         ≡ spec.repeats (map (λ upload. upload.items) uploads.now)) }

@@ -12,7 +12,6 @@ use std::alloc::{AllocError, Global};
 use std::collections::BTreeSet;
 use tap_views::{MomentSpan, NoMemory, TapFields};
 
-/// How many milliseconds a day has.
 const DAY_MS: u64 = 86_400_000;
 
 /// A day on which a validator has no tap.
@@ -20,7 +19,6 @@ const DAY_MS: u64 = 86_400_000;
 pub struct SilentDay {
     /// The day of UTC, by its number since 1970-01-01.
     pub day: u64,
-    /// The validator's number.
     pub validator: u32,
 }
 
@@ -34,16 +32,13 @@ fn is_looked_at(table: &FareTable, span: MomentSpan, tap: &TapFields) -> bool
 /// The days and the validators of taps that are added list by list.
 #[derive(Drop)]
 struct TappedDays {
-    /// The days that have a tap.
     days: BTreeSet<u64>,
-    /// The validators that have one.
     validators: BTreeSet<u32>,
     /// Which validators have a tap on which day.
     visits: BTreeSet<(u64, u32)>,
 }
 
 impl TappedDays {
-    /// No tap yet.
     fn new(alloc: Global) -> TappedDays
         ensures { AreDaysOf result [] }
     {
@@ -54,7 +49,6 @@ impl TappedDays {
         }
     }
 
-    /// Adds the next tap.
     fn add_tap(&mut self, tap: &TapFields) -> Result<(), AllocError>
         ensures { OnOk result ((taps : List TapFields) → AreDaysOf self.old taps
             → AreDaysOf self.new (taps ++ tap.now ∷ [])) }

@@ -20,12 +20,12 @@ abbrev pub with_done : List UploadEnd → List Done → List UploadEnd
 with_done ends [] = ends
 with_done ends (d ∷ done) = with_done (slice_set ends d.upload d.end) done
 
--- the ends, with those that all shares tell
+-- the ends, with those of all shares
 abbrev pub with_all_done : List UploadEnd → List ShareView → List UploadEnd
 with_all_done ends [] = ends
 with_all_done ends (share ∷ shares) = with_all_done (with_done ends share.done) shares
 
--- the sign of a mark, where the first i workers are joined
+-- the sign of a mark, after the first i workers were joined
 pub record IsSign (i nobody : ℕ) (s : Signed) (m : Mark) : Type 0 where
   pub visit : s.entries ≡ m.visit
   pub mine : m.mine ≡ nat_lt s.worker i

@@ -9,12 +9,11 @@ use Rattle.fare_service.specs.declared.service.working.Stop.{Stop}
 use Rattle.fare_service.specs.declared.service.working.Stop.TheVariants.{Memory, Full}
 use Rattle.fare_service.specs.Stopping.{SomeFull, StoppedWell}
 
--- What was known of a full shard is still known. Where a full shard stopped the work, it is known
--- now.
+-- What was known of a full shard is still known. If a full shard stopped the work, it is known now.
 abbrev pub TellsFull : {A : Type 0} → Result A Stop → List PassView → List PassView → Type 0
 TellsFull answer old new = SomeFull old ⊎ IsErrOf answer Full → SomeFull new
 
--- where want of memory stopped a run, no full shard did: the passes are as they were, or a visit to
+-- if want of memory stopped a run, no full shard did: the passes are as they were, or a visit to
 -- the shard was made
 abbrev pub TellsMemory : ℕ → Result (Unit {0}) Stop → List PassView → List PassView → Type 0
 TellsMemory shard answer old new =

@@ -69,9 +69,9 @@ pub fn plain_history(uploads: &[Vec<u8>])
     one_reading_each(uploads);
 }
 
-/// Where no upload was cut or left undrawn and no token has taps in two uploads, the entries of
-/// each token are those of the plain history of the uploads, and so is the text of its statement:
-/// for every schedule, number of workers and number of shards.
+/// If no upload was cut or left undrawn and no token has taps in two uploads, the entries of each
+/// token are those of the plain history of the uploads, and so is the text of its statement: for
+/// every schedule, number of workers and number of shards.
 pub fn statements_are_plain(uploads: &[Vec<u8>], outcome: &Outcome)
     ensures entries { (fares : Fares) (shards : ℕ) (history : List Entry)
         → IsUncutGathering fares shards
@@ -90,7 +90,7 @@ pub fn statements_are_plain(uploads: &[Vec<u8>], outcome: &Outcome)
     one_reading_each(uploads);
 }
 
-/// Where no upload was cut or left undrawn, each ends as its bytes call for.
+/// If no upload was cut or left undrawn, each ends as its bytes call for.
 pub fn uncut_ends_are_plain(outcome: &Outcome)
     ensures { (fares : Fares) (shards : ℕ) (uploads : List (List ℕ)) (works : List (List Worked))
         → Headline fares shards uploads works outcome.now → All WasNotCut outcome.now.ends
@@ -99,9 +99,9 @@ pub fn uncut_ends_are_plain(outcome: &Outcome)
     let _ = outcome.shards();
 }
 
-/// Where no upload was cut or left undrawn and no token has taps in two uploads, the report is that
-/// of the plain history of the uploads, each upload posted or refused as its bytes call for: for
-/// every schedule, number of workers and number of shards.
+/// If no upload was cut or left undrawn and no token has taps in two uploads, the report is that of
+/// the plain history of the uploads, each upload posted or refused as its bytes call for: for every
+/// schedule, number of workers and number of shards.
 pub fn report_is_plain(uploads: &[Vec<u8>], outcome: &Outcome)
     ensures { (fares : Fares) (shards : ℕ) (history : List Entry)
         → IsUncutGathering fares shards
@@ -115,7 +115,7 @@ pub fn report_is_plain(uploads: &[Vec<u8>], outcome: &Outcome)
 }
 
 /// Two outcomes over the same uploads and under one table have the same report and the same text of
-/// each statement, where no upload was cut or left undrawn and no token has taps in two uploads:
+/// each statement, if no upload was cut or left undrawn and no token has taps in two uploads:
 /// whatever their schedules, workers and shards were.
 pub fn same_texts(uploads: &[Vec<u8>], one: &Outcome, other: &Outcome)
     ensures report { (fares : Fares) (shards others : ℕ) (history again : List Entry)

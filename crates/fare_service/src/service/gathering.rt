@@ -27,7 +27,6 @@ use shared_books::{Draw, Drawer, Missing, Pass, SharedBook};
 use std::alloc::Global;
 use tap_views::NoMemory;
 
-/// Writes down how the uploads ended.
 fn set_ends(ends: &mut Vec<UploadEnd>, done: &[Done])
     requires { All (λ d. d.upload < length ends.old.items) done.now }
     ensures ends { ends.new.items ≡ with_done ends.old.items done.now }
@@ -38,7 +37,7 @@ fn set_ends(ends: &mut Vec<UploadEnd>, done: &[Done])
     }
 }
 
-/// How each upload ended, as the shares tell.
+/// How each upload ended, by the shares.
 fn ends_of(alloc: Global, uploads: usize, shares: &[Share]) -> Result<Vec<UploadEnd>, NoMemory>
     requires { All (λ share. All (λ d. d.upload < uploads) share.done) shares.now }
     ensures ends { IfOk result
@@ -142,7 +141,7 @@ fn close_all(
     Ok(())
 }
 
-/// Closes each shard's book where there is no share, by rising shard.
+/// Closes each shard's book if there is no share, by rising shard.
 fn close_unseen(books: Vec<SharedBook>, closed: &mut Vec<ShardBook>) -> Result<(), GatherFault>
     requires few { length books.items ≤ 64 }
     requires empty { closed.old.items ≡ [] }
@@ -162,7 +161,7 @@ fn close_unseen(books: Vec<SharedBook>, closed: &mut Vec<ShardBook>) -> Result<(
     Ok(())
 }
 
-/// Appends the book of a shard that was closed; else tells how many visits to it are missing.
+/// Appends the book of a shard that was closed; else reports how many visits to it are missing.
 fn push_closed(
     shard: u32,
     end: Result<ShardBook, Missing>,
@@ -240,9 +239,9 @@ impl<'a> Service<'a> {
 
     /// Gathers shares: joins what their workers did, closes the shards' books, and gives these with
     /// the end of each upload and the totals of each share, in the order of the shares. All memory
-    /// is taken first; then missing visits are told, of the first shard that misses some, and then
-    /// missing uploads. Shares that have all claims together miss nothing. On a fault service and
-    /// shares are dropped.
+    /// is taken first; then missing visits are reported, of the first shard that misses some, and
+    /// then missing uploads. Shares that have all claims together miss nothing. On a fault service
+    /// and shares are dropped.
     pub fn gather(self, alloc: Global, shares: Vec<Share>) -> Result<Outcome, GatherFault>
         requires { All (IsShareOf self) shares.items }
         ensures headline { IfOk result (HasOutcome self.entry shares.items) }

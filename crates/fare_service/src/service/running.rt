@@ -24,13 +24,11 @@ use std::thread;
 use std::thread::{Promise, Scope, Threads};
 use tap_views::NoMemory;
 
-/// The most workers of a run.
 const MAX_WORKERS: u32 = 16;
 
 /// The service that a thread gives a share of, and the share that it began with.
 #[derive(Drop)]
 struct OfShare<'s, 'a> {
-    /// The service.
     service: &'s Service<'a>,
     /// The share, as it was when the thread began.
     began: Snapshot<Share>,
@@ -63,8 +61,8 @@ impl<'a> Service<'a> {
         Ok(shares)
     }
 
-    /// Starts a thread for each share, and joins them. Where one is refused, those that were
-    /// started end with the scope.
+    /// Starts a thread for each share, and joins them. If one is refused, those that were started
+    /// end with the scope.
     fn work_in<'s, E, R: Threads + Wait + Sync, G: Gate + Sync>(
         &'s self,
         scope: &Scope<'s, E>,
@@ -130,7 +128,7 @@ impl<'a> Service<'a> {
         Ok(worked)
     }
 
-    /// Runs the service with so many workers, 1 to 16, each in a thread of its own, and gathers
+    /// Runs the service with `workers` workers, 1 to 16, each in a thread of its own, and gathers
     /// their shares. The given share is the first worker's. If it has all claims, nothing is
     /// missing.
     pub fn run<R: Threads + Wait + Sync, G: Gate + Sync>(

@@ -10,18 +10,14 @@ use std::marker::Model;
 /// An upload that a share drew, and how it ended.
 #[derive(Clone, Copy, Debug)]
 pub struct Done {
-    /// The number of the upload.
     pub upload: u32,
-    /// How it ended.
     pub end: UploadEnd,
 }
 
 /// What a worker posts by: a pass to each shard's book, and the totals of the replies that it got.
 #[derive(Drop)]
 pub(crate) struct Posting {
-    /// The pass to each shard's book.
     pub(crate) passes: Vec<Pass>,
-    /// The totals of the replies.
     pub(crate) totals: Totals,
 }
 
@@ -31,7 +27,6 @@ pub(crate) struct Posting {
 pub struct Share {
     /// The numbers of the uploads that it drew.
     pub(crate) drawer: Drawer,
-    /// What it posts by.
     pub(crate) posting: Posting,
     /// Each upload that it drew, in the order of drawing.
     pub(crate) done: Vec<Done>,

@@ -7,7 +7,6 @@ ghost use Rattle.shard_book.specs.Sums.{add_all};
 
 use shard_book::{ShardBook, Totals};
 
-/// How many entries the books have.
 pub(crate) fn entries_in(books: &[ShardBook]) -> u128
     requires { length books.now ≤ 64 }
     ensures number { result ≡ length (all_entries books.now) }

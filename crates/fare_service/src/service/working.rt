@@ -55,7 +55,6 @@ impl Gate for OpenGate {
 pub(crate) struct RunBuffers {
     /// The clock of the table's zone.
     pub(crate) clock: Clock,
-    /// The replies to a run.
     pub(crate) replies: Replies,
 }
 
@@ -63,7 +62,6 @@ pub(crate) struct RunBuffers {
 /// run.
 #[derive(Drop)]
 pub(crate) struct Buffers {
-    /// The runs of a batch.
     pub(crate) runs: Runs,
     /// What is kept from run to run.
     pub(crate) run: RunBuffers,
@@ -72,7 +70,6 @@ pub(crate) struct Buffers {
 /// Why an upload ends before its last run.
 #[derive(Clone, Copy, Debug, PartialEq, Eq)]
 pub(crate) enum Stop {
-    /// Memory was refused.
     Memory,
     /// A shard takes no more visits.
     Full,
@@ -80,6 +77,7 @@ pub(crate) enum Stop {
 
 impl From<NoMemory> for Stop {
     ghost use Rattle.std.specs.Prelude.{◌≡◌};
+    ghost use Rattle.tap_views.specs.Shards.{run_of};
     ghost use Rattle.fare_service.specs.declared.service.working.Stop.TheVariants as why;
 
     ghost from_gives = { λ _ stop. stop ≡ why.Memory };
@@ -100,7 +98,6 @@ impl From<Full> for Stop {
     }
 }
 
-/// Counts the replies.
 fn count(totals: &mut Totals, replies: &Replies)
     requires { totals.old.taps + length replies.now.items ≤ 2 ^ 95 }
     ensures { sums_of totals.new
@@ -113,7 +110,6 @@ fn count(totals: &mut Totals, replies: &Replies)
     totals.add_all(&tally.totals());
 }
 
-/// How many bytes the file has.
 fn bytes_in(file: &[u8]) -> usize
     ensures { result ≡ length file.now }
 {
@@ -124,8 +120,9 @@ impl<'a> Service<'a> {
     ghost use Rattle.fare_service.specs.ServiceView.{shards_of};
     ghost use Rattle.tap_views.specs.Runs.{AreRuns};
     ghost use Rattle.tap_views.specs.Layout.{Tap};
+    ghost use Rattle.tap_views.specs.Shards.{run_of};
     ghost use Rattle.tap_views.specs.Files.{IsFile, IsEndAfterBatches};
-    ghost use Rattle.fare_service.specs.Runs.{RunVisit, if_any, of_shard, placed_from, runs_below};
+    ghost use Rattle.fare_service.specs.Runs.{RunVisit, if_any, runs_below};
     ghost use Rattle.fare_service.specs.Runs.{runs_of};
     ghost use Rattle.fare_service.specs.inside.Runs.{ArePostedOrCut};
     ghost use Rattle.fare_service.specs.Shares.{HasVisited, books_of, IsShareOf, IsWorked};
@@ -151,11 +148,10 @@ impl<'a> Service<'a> {
         requires passes { books_of posting.old.passes.items ≡ self.now.books }
         requires clock { buffers.old.clock ≡ self.now.table.zone }
         requires room { posting.old.totals.taps + 4096 ≤ 2 ^ 95 }
-        ensures made { (place : ℕ) → (more : List RunVisit)
+        ensures made { (more : List RunVisit)
             × HasVisited (shards_of self.now) posting.old.passes.items posting.new.passes.items
             (sums_of posting.old.totals) (sums_of posting.new.totals) more
-            × ArePostedOrCut (if_any shard
-            (of_shard shard (shards_of self.now) (placed_from place batch.now)))
+            × ArePostedOrCut (if_any shard (run_of shard (shards_of self.now) batch.now))
             (is_ok result) more }
         ensures clock { buffers.new.clock ≡ buffers.old.clock }
         ensures few { posting.new.totals.taps ≤ posting.old.totals.taps + 4096 }
@@ -196,11 +192,11 @@ impl<'a> Service<'a> {
         requires clock { buffers.old.run.clock ≡ self.now.table.zone }
         requires runs { length buffers.old.runs ≡ shards_of self.now }
         requires room { posting.old.totals.taps + 2 ^ 18 ≤ 2 ^ 95 }
-        ensures made { (place : ℕ) → (more : List RunVisit)
+        ensures made { (more : List RunVisit)
             × HasVisited (shards_of self.now) posting.old.passes.items posting.new.passes.items
             (sums_of posting.old.totals) (sums_of posting.new.totals) more
-            × ArePostedOrCut (runs_below (shards_of self.now) (shards_of self.now)
-            (placed_from place batch.now)) (is_ok result) more }
+            × ArePostedOrCut (runs_below (shards_of self.now) (shards_of self.now) batch.now)
+            (is_ok result) more }
         ensures clock { buffers.new.run.clock ≡ buffers.old.run.clock }
         ensures runs { length buffers.new.runs ≡ length buffers.old.runs }
         ensures full { TellsFull result posting.old.passes.items posting.new.passes.items }
@@ -229,7 +225,7 @@ impl<'a> Service<'a> {
             × ((more : List RunVisit) × HasVisited
             (shards_of self.now) posting.old.passes.items posting.new.passes.items
             (sums_of posting.old.totals) (sums_of posting.new.totals) more
-            × ArePostedOrCut (runs_of (shards_of self.now) 0 batches) (is_ok result) more)
+            × ArePostedOrCut (runs_of (shards_of self.now) batches) (is_ok result) more)
             × IfOk result (IsEndAfterBatches file.now rest) }
         ensures clock { buffers.new.run.clock ≡ buffers.old.run.clock }
         ensures runs { length buffers.new.runs ≡ length buffers.old.runs }
@@ -245,7 +241,7 @@ impl<'a> Service<'a> {
         Ok(good.fault())
     }
 
-    /// Posts an upload that was begun at the gate. Tells how it ended, and whether the worker may
+    /// Posts an upload that was begun at the gate. Returns how it ended, and whether the worker may
     /// go on.
     fn post_upload<R: Wait, G: Gate>(
         &self,
@@ -282,7 +278,7 @@ impl<'a> Service<'a> {
         }
     }
 
-    /// Draws an upload and posts it, where one is left. Tells how it ended, and whether the worker
+    /// Draws an upload and posts it, if one is left. Returns how it ended, and whether the worker
     /// may go on.
     fn next_upload<R: Wait, G: Gate>(
         &self,
@@ -328,9 +324,9 @@ impl<'a> Service<'a> {
     }
 
     /// Draws uploads and posts their batches, until all are drawn or memory is refused. A refusal
-    /// after the draw ends that upload as cut. Where a shard takes no more visits the upload ends
-    /// as cut, and the work goes on. Memory for the results of all uploads is taken first: where it
-    /// is refused, the share is given back as it was.
+    /// after the draw ends that upload as cut. If a shard takes no more visits, the upload ends as
+    /// cut, and the work goes on. Memory for the results of all uploads is taken first: if it is
+    /// refused, the share is given back as it was.
     ///
     /// Gives the share back with the uploads that it drew, the visits that it made and the totals
     /// of their replies. It waits for turns at the shards' books.

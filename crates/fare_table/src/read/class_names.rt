@@ -3,7 +3,8 @@ ghost use Rattle.std.specs.Prelude.{◌≡◌, ◌<◌, true, IfErr, IfOk, map};
 ghost use Rattle.toml.specs.View.{table_view};
 ghost use Rattle.fare_table.specs.ByteOrder.{in_byte_order};
 ghost use Rattle.fare_table.specs.Classes as spec;
-ghost use Rattle.fare_table.specs.Classes.{count_of, names_in};
+ghost use Rattle.fare_table.specs.Classes.{count_of};
+ghost use Rattle.fare_table.specs.inside.Classes.{names_in};
 ghost use Rattle.fare_table.specs.inside.OrFault.{Answers};
 ghost use Rattle.fare_table.specs.declared.fault.TableFault.{TableFault};
 

@@ -44,12 +44,12 @@ add_sums a b = record {
 abbrev pub no_sums : List ℕ → TokenSum
 no_sums token = record { token = token; sums = sums_of [] }
 
--- the open sums, where they are the token's; else they begin anew
+-- the open sums, if they are the token's; else they begin anew
 abbrev pub sums_for : Option TokenSum → List ℕ → TokenSum
 sums_for None token = no_sums token
 sums_for (Some last) token = if is_same_text last.token token then last else no_sums token
 
--- the line of the open sums, where they are not the token's
+-- the line of the open sums, if they are not the token's
 abbrev pub ended_line : Option TokenSum → List ℕ → List ℕ
 ended_line None token = []
 ended_line (Some last) token =
@@ -78,15 +78,15 @@ ended_lines last (change ∷ changes) =
     ended_line last change.key.token
     ++ ended_lines (Some (add_changes (sums_for last change.key.token) (change ∷ []))) changes
 
--- the lines of the tokens that have ended were written, these sums are open, and so many of the old
--- bill's lines are removed
+-- the lines of the tokens that have ended were written, these sums are open, and `removed` of the
+-- old bill's lines are removed
 pub record AreSummed (before after : Option (List ℕ)) (last : Option TokenSum) (removed : ℕ)
     (changes : List Pair) : Type 0 where
   pub written : Appends before after (ended_lines None changes)
   pub is_last : last ≡ sums_after None changes
   pub counted : removed ≡ removed_in changes
 
--- the lines of all tokens were written, and so many of the old bill's lines are removed
+-- the lines of all tokens were written, and `removed` of the old bill's lines are removed
 pub record AreSumsWritten (before after : Option (List ℕ)) (removed : ℕ) (changes : List Pair)
     : Type 0 where
   pub written : Appends before after

@@ -12,8 +12,7 @@ use Rattle.ledger_changes.specs.inside.LedgerRows.{row_of}
 use Rattle.ledger_changes.specs.inside.Standings.{HasRows, Standing}
 use Rattle.ledger_changes.specs.declared.row.LedgerRow.{LedgerRow}
 
--- which of two ledgers have the next row, at these rows of theirs: both do where the keys are the
--- same
+-- which of two ledgers have the next row, at these rows of theirs: both do if the keys are the same
 abbrev pub sides_by : Ordering → Bool × Bool
 sides_by Less = (true, false)
 sides_by Equal = (true, true)
@@ -39,15 +38,15 @@ pairs_of None (Some after) =
 pairs_of (Some before) (Some after) =
     record { key = before.key; before = Some before.charge; after = Some after.charge } ∷ []
 
--- the row, where it is taken
+-- the row, if it is taken
 abbrev pub taken_if : Bool → Option Row → Option Row
 taken_if is_taken row = if is_taken then row else None
 
--- the pair, where it does not agree
+-- the pair, if it does not agree
 abbrev pub changes_of : Option Row → Option Row → List Pair
 changes_of before after = filter is_changed (pairs_of before after)
 
--- where these rows are those of the ledgers, this is so of their corrections
+-- if these rows are those of the ledgers, this is so of their corrections
 pub record AreTold (old new : Standing) (Told : List Pair → Type 0) : Type 0 where
   pub old_rows : List Row
   pub are_old : HasRows old old_rows
@@ -57,7 +56,7 @@ pub record AreTold (old new : Standing) (Told : List Pair → Type 0) : Type 0 w
   pub are : AreCorrections old_rows new_rows changes
   pub told : Told changes
 
--- the line of each correction was written, and so many of the old bill's lines are removed
+-- the line of each correction was written, and `removed` of the old bill's lines are removed
 pub record AreWritten (before after : Option (List ℕ)) (removed : ℕ) (changes : List Pair)
     : Type 0 where
   pub written : Appends before after (corrections_lines changes)

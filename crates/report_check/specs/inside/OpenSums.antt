@@ -6,7 +6,7 @@ use Rattle.tap_views.specs.declared.token.Token.{Token}
 use Rattle.report_check.specs.OpenSums.{AreOpenSums}
 use Rattle.report_check.specs.declared.open_sums.OpenSums.{OpenSums}
 
--- some entries were added, and there is room for so many more
+-- some entries were added, and there is room for `more` others
 abbrev pub HasRoom : OpenSums → ℕ → Type 0
 HasRoom held more = (entries : List Entry) × AreOpenSums entries held
     × (length entries + more ≤ 2 ^ 62)

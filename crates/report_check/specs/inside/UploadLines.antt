@@ -1,4 +1,4 @@
--- What the lines of uploads tell, with which a text begins.
+-- What the lines of uploads say, with which a text begins.
 use Rattle.std.specs.Prelude.{◌≡◌, ℕ, List, sum_by, ◌^◌, ◌<◌}
 use Rattle.report_texts.specs.UploadEnds.{taps_told}
 use Rattle.report_texts.specs.declared.upload_end.UploadEnd.{UploadEnd}

@@ -25,6 +25,6 @@ pub record IsWhole (fares : Fares) (taps : List TapFields) (seat : Seat) : Type 
   pub token : (from : Token) → seat.teller.token ≡ last_token from taps
   pub few : seat.teller.number ≤ length taps
 
--- the seat's text has all lines of the taps, where the seat says so
+-- the seat's text has all lines of the taps, if the seat says so
 abbrev pub HasSat : Fares → List TapFields → Seat → Type 0
 HasSat fares taps seat = seat.is_whole ≡ true → IsWhole fares taps seat

@@ -13,7 +13,7 @@ use Rattle.shard_book.specs.declared.entry.Entry.{Entry}
 use Rattle.settlement.specs.Bills.{IsBillOf, IsCountOf}
 use Rattle.settlement.specs.declared.bill.Bill.{Bill}
 
--- the bill counts some entries, and there is room for so many more
+-- the bill counts some entries, and there is room for `more` entries more
 abbrev pub HasBillRoom : Bill → ℕ → Type 0
 HasBillRoom bill more =
     (entries : List Entry) × IsCountOf entries bill × (length entries + more ≤ 2 ^ 95)
@@ -24,7 +24,7 @@ HaveBillRoom bill more =
     (entries : List Entry) × (others : List Entry) × IsCountOf entries bill
     × IsCountOf others more × (length entries + length others ≤ 2 ^ 95)
 
--- so many of the first taps, one at least, are all that have the token of the first one
+-- the first `run` taps, one at least, are all that have the token of the first one
 pub record IsRun (taps : List TapFields) (run : ℕ) : Type 0 where
   pub some : 0 < run
   pub most : run ≤ length taps

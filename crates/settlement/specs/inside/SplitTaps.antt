@@ -30,8 +30,8 @@ pub record AreAllAdded (part_of : List ℕ → ℕ) (uploads : List (List ℕ))
   pub added : AreAddedBy part_of (taps_of_uploads taps) old new
   pub ended : ArePlainEnds uploads ends
 
--- each of so many parts has, over all lists, exactly the uploads' good taps that fall to it, in
--- their order, and these are the uploads' ends
+-- each of the parts has, over all lists, exactly the uploads' good taps that fall to it, in their
+-- order, and these are the uploads' ends
 pub record AreInParts (part_of : List ℕ → ℕ) (parts : ℕ) (uploads : List (List ℕ))
     (lists : List (List (List TapFields))) (ends : List UploadEnd) : Type 0 where
   pub taps : List (List Tap)

@@ -45,7 +45,7 @@ left_pass_state v = pass_state v.opened (claims_left v.claims) v.turn v.marks v.
 abbrev pub both_pass_states : PassState → PassState → PassState
 both_pass_states v w = pass_state v.opened (v.claims + w.claims) v.turn v.marks w.marks
 
--- the turn word found is twice the count of visits seen, and one more where a pass holds the turn
+-- the turn word found is twice the count of visits seen, and one more if a pass holds the turn
 abbrev pub IsTurnWord : ℕ → Opening → List Mark → Type 0
 IsTurnWord found o marks =
     (found ≡ 2 * (o.first + length marks)) ⊎ (found ≡ 2 * (o.first + length marks) + 1)

@@ -1,4 +1,4 @@
-//! The rule under which numbers are drawn, and what each step of it tells.
+//! The rule under which numbers are drawn, and what each step of it shows.
 use atomic_table::{Join, Play, Split, TableRule};
 use std::collections::LinkedList;
 
@@ -6,13 +6,11 @@ use std::collections::LinkedList;
 pub struct DrawerState {
     /// Whether the drawer was not joined into another.
     pub unjoined: bool,
-    /// The claims that the drawer has.
     pub claims: u64,
     /// How many numbers there are.
     pub numbers: u64,
     /// Up to which number the drawer has seen the numbers drawn.
     pub seen: u64,
-    /// The numbers that the drawer drew.
     pub drawn: LinkedList<u64>,
 }
 

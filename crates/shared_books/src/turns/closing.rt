@@ -17,8 +17,8 @@ impl SharedBook {
     ghost use Rattle.shared_books.specs.Claims.{all_claims};
     ghost use Rattle.shared_books.specs.Passes.{book_of, HasMadeAll, LacksVisits};
 
-    /// The book, where the pass made all visits; otherwise both are dropped. So it is where the
-    /// pass has all claims. A turn that was taken and not given back counts as a visit.
+    /// The book, if the pass made all visits; otherwise both are dropped. The pass made all if it
+    /// has all claims. A turn that was taken and not given back counts as a visit.
     pub fn close(self, pass: Pass) -> Result<ShardBook, Missing>
         requires belongs { pass.book ≡ self }
         ensures ok { IfOk result (HasMadeAll pass) }
@@ -38,7 +38,7 @@ impl SharedBook {
         }
     }
 
-    /// The same for an owner who holds no pass: `Ok` where no visit was made.
+    /// The same for an owner who holds no pass: `Ok` if no visit was made.
     pub fn close_unseen(self) -> Result<ShardBook, Missing>
         ensures ok { IfOk result (λ book. book ≡ book_of self []) }
         ensures err { IfErr result (λ missing. (missing.held ≡ 0) × (0 < missing.kept)) }

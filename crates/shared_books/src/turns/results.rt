@@ -6,7 +6,6 @@ use thiserror::Error;
 /// A visit that was made: its number, and how its run was posted.
 #[derive(Clone, Copy, Debug)]
 pub struct Visit {
-    /// The visit's number.
     pub number: u64,
     /// Whether the run was posted whole.
     pub how: RunEnd,
@@ -16,9 +15,7 @@ pub struct Visit {
 /// before it.
 #[derive(Drop)]
 pub struct Readout {
-    /// The number of the empty visit.
     pub number: u64,
-    /// The token's statement.
     pub statement: Statement,
 }
 
@@ -33,7 +30,6 @@ pub enum ReadFault {
     /// The book takes no more visits.
     #[error("the book takes no more visits")]
     Full,
-    /// A growth of memory was refused.
     #[error("out of memory")]
     NoMemory,
 }
@@ -42,7 +38,6 @@ pub enum ReadFault {
 #[derive(Clone, Copy, Debug, Error)]
 #[error("made {held} of {kept} visits")]
 pub struct Missing {
-    /// How many visits the pass made.
     pub held: u64,
     /// How many were taken.
     pub kept: u64,

@@ -1,4 +1,4 @@
-//! The rule under which passes take turns at a book, and what each step of it tells.
+//! The rule under which passes take turns at a book, and what each step of it shows.
 use atomic_table::{Join, Play, Split, TableRule};
 use shard_book::{Entry, ShardBook};
 use std::collections::LinkedList;
@@ -28,9 +28,7 @@ pub struct Mark {
 pub struct PassState {
     /// Whether the pass was not joined into another.
     pub unjoined: bool,
-    /// What the book was opened with.
     pub opened: Opening,
-    /// The claims that the pass has.
     pub claims: u64,
     /// Whether the pass has the turn.
     pub turn: bool,

@@ -29,7 +29,7 @@ impl SharedBook {
         self.table.shared.load::<Looks>(seat, 0)
     }
 
-    /// Tries to take the turn, where the turn word was even.
+    /// Tries to take the turn, if the turn word was even.
     pub(super) fn try_take(&self, seat: &mut Seat<Slot, PassState>, found: u64) -> Slot
         requires belongs { seat.old.table_id ≡ self.now.home }
         requires free { IsFree seat.old.me }

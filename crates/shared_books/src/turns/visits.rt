@@ -60,7 +60,7 @@ impl SharedBook {
     }
 
     /// Waits for the turn, posts the run, and gives the turn back. The clock is the table's. `Full`
-    /// where `2^62` visits are counted: nothing changes then.
+    /// if `2^62` visits are counted: nothing changes then.
     pub fn visit<R: Wait>(
         &self,
         rt: &R,

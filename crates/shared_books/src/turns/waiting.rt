@@ -11,7 +11,7 @@ use std::hint;
 use std::sync::Wait;
 use std::sync::atomic::Ordering;
 
-/// How often a waiting visit looks at the turn word before it sleeps. It looks no more where others
+/// How often a waiting visit looks at the turn word before it sleeps. It looks no more if others
 /// sleep already.
 const LOOKS_BEFORE_SLEEP: u32 = 100;
 
@@ -19,7 +19,7 @@ impl SharedBook {
     ghost use Rattle.std.specs.Prelude.{◌≡◌, IfOk, IfErr};
     ghost use Rattle.shared_books.specs.inside.SeatStates.{IsFree, HasBookOut, FindsFull};
 
-    /// Takes the turn with the number of the visit and the book. Where nobody has visited since the
+    /// Takes the turn with the number of the visit and the book. If nobody has visited since the
     /// pass did, the number is the expected one, and the turn word need not be looked at before.
     pub(super) fn take<R: Wait>(
         &self,
@@ -75,8 +75,8 @@ impl SharedBook {
         unreachable!()
     }
 
-    /// Waits until the turn word is no longer the one that was found, and tells whether it slept.
-    /// It may return sooner.
+    /// Waits until the turn word is no longer the one that was found, and says whether it slept. It
+    /// may return sooner.
     fn rest<R: Wait>(&self, rt: &R, found: u64) -> bool {
         for _ in 0..LOOKS_BEFORE_SLEEP {
             if self.table.shared.peek(0) != found {

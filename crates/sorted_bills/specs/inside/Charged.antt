@@ -24,7 +24,7 @@ pub record IsCharged (fares : Fares) (known : List (Option (List ℕ))) (old : L
   pub last : bill.replay.token ≡ last_token from taps
   pub few : length taps ≤ 2 ^ 73
 
--- the part has the taps of its span, so many at most, and the bill is theirs; no token is below its
+-- the part has the taps of its span, at most `most`, and the bill is theirs; no token is below its
 -- first one or above its last one
 pub record IsPart (fares : Fares) (known : List (Option (List ℕ))) (most : ℕ) (part : Part)
     : Type 0 where

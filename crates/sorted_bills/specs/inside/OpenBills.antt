@@ -29,7 +29,7 @@ pub record IsOpenBill (fares : Fares) (taps : List TapFields) (bill : OpenBill) 
   pub validators : AreByKey ◌==◌ validator_of (posted fares lower ++ posted fares last)
       bill.bill.validators
 
--- the bill has some taps, and there is room for so many more
+-- the bill has some taps, and there is room for `more` others
 abbrev pub HasRoomFor : OpenBill → ℕ → Type 0
 HasRoomFor bill more =
     (fares : Fares) × (taps : List TapFields) × IsOpenBill fares taps bill

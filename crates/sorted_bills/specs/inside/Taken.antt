@@ -9,7 +9,7 @@ use Rattle.sorted_taps.specs.Reading.{window_bytes}
 use Rattle.sorted_taps.specs.declared.reader.TapReader.{TapReader}
 use Rattle.sorted_bills.specs.declared.taker.Taker.{Taker}
 
--- these taps were taken, one after the other, of files whose bytes are these where they are known;
+-- these taps were taken, one after the other, of files whose bytes are these if they are known;
 -- their moments are before 2100, and the 16 bytes of each token name it
 pub record AreTapsTaken (known : List (Option (List ℕ))) (old : List TapReader)
     (taps : List TapFields) (new : List TapReader) : Type 0 where
@@ -17,7 +17,7 @@ pub record AreTapsTaken (known : List (Option (List ℕ))) (old : List TapReader
   pub early : AreEarly (λ (tap : TapFields). tap.moment) taps
   pub named : All HasName taps
 
--- there is a reader of each of so many files, their heads are ranked, and there is room to read
+-- there is a reader of each of the files, their heads are ranked, and there is room to read
 pub record IsReady (files : ℕ) (taker : Taker) : Type 0 where
   pub readers : length taker.merge.readers.items ≡ files
   pub ranked : IsRanked taker.merge.readers.items taker.merge.heads.items

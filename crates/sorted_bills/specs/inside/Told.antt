@@ -1,4 +1,4 @@
--- What is told of taps of merged files: what private functions alone cite.
+-- Lines of taps of merged files: what private functions alone cite.
 use Rattle.std.specs.Prelude.{◌≡◌, ℕ, All, List, Option, Some, map}
 use Rattle.std.specs.Io.KnownBytes.{Appends}
 use Rattle.fare_table.specs.Fares.{Fares}
@@ -12,9 +12,9 @@ use Rattle.shard_book.specs.declared.entry.Entry.{Entry}
 use Rattle.sorted_taps.specs.Spans.{HaveCome}
 use Rattle.sorted_taps.specs.declared.reader.TapReader.{TapReader}
 
--- Since the readers stood at some places, taps were taken, whose tokens do not fall from this one
--- on. They follow some entries: the teller has come past all of these and them, and the lines of the
--- taps were appended.
+-- Since the readers stood at some places, taps were taken whose tokens do not fall from this one
+-- on. They follow some entries: the teller has come past all of these and them, and the lines of
+-- the taps were appended.
 pub record AreToldSoFar (fares : Fares) (known : List (Option (List ℕ))) (earlier : List Entry)
     (begun : List TapReader) (from : Token) (before : Option (List ℕ)) (readers : List TapReader)
     (teller : Teller) (after : Option (List ℕ)) : Type 0 where

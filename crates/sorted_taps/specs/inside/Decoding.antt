@@ -37,8 +37,8 @@ pub record IsDecodedAt (all : List ℕ) (offset room : ℕ) (taps : List TapFiel
   pub short : count < room → count ≡ length (drop offset all)
   pub is_decoded : IsDecoded (take count (drop offset all)) taps decoded
 
--- the file has batches of these taps in so many bytes from this offset on; it has none only at its
--- end
+-- the file has batches of these taps in this many bytes from this offset on; it has none only at
+-- its end
 pub record IsReadOn (all : List ℕ) (offset : ℕ) (taps : List TapFields) (used : ℕ) : Type 0 where
   pub between : AreTapsBetween all offset (offset + used) taps
   pub end : used ≡ 0 → drop offset all ≡ []

@@ -33,7 +33,7 @@ IsFaultBy separator text fault.Head = ¬ (HasDeviceHead separator text)
 IsFaultBy separator text (fault.Row number why) = IsFirstWrong separator text number why
 IsFaultBy separator text fault.NoMemory = Unit {0}
 
--- so many rows are read from a device table, and give these devices their validators
+-- `count` rows are read from a device table, and give these devices their validators
 pub record HasDevices {R : Type 0} (remaining : R → Option (List ℕ)) (separator : Separator) (text : List ℕ) (count : ℕ) (reader : Reader R) (devices : List Device) : Type 0 where
   pub rows : List (List (List ℕ))
   pub come : HasCome remaining separator text (device_head ∷ rows) reader

@@ -27,7 +27,7 @@ IsOfSystem fault.Write = Unit {0}
 IsOfSystem fault.RefusedWrite = Unit {0}
 IsOfSystem fault.NoMemory = Unit {0}
 
--- so many rows are read from a text whose bytes may be known. Their taps are written but those that
+-- `count` rows are read from a text whose bytes may be known. Their taps are written but those that
 -- wait, the refused rows are written, and the summary is theirs
 pub record IsGoing {R : Type 0} (remaining : R → Option (List ℕ)) (choice : Choice) (places : Places) (text : Option (List ℕ)) (count : ℕ) (reader : Reader R) (waiting : List TapFields) (summary : Summary) (old new old_refused new_refused : Option (List ℕ)) : Type 0 where
   pub head : List (List ℕ)

@@ -10,8 +10,7 @@ use Rattle.tap_rows.specs.declared.fault.RowsFault.TheVariants.{Head, Row, Unrea
 use Rattle.tap_rows.specs.declared.fault.RowsFault.TheVariants.{NoMemory}
 use Rattle.tap_rows.specs.TapTables.{IsHead, IsTapTable}
 
--- ---- what the private functions tell each other
--- the text is a tap table, and so many taps stand in it
+-- the text is a tap table of `count` taps
 pub record IsTapTableOf (text : List ℕ) (count : ℕ) : Type 0 where
   pub taps : List TapFields
   pub tap_table : IsTapTable text taps

@@ -8,16 +8,12 @@ use crate::devices::DeviceTable;
 /// What stands between two fields.
 #[derive(Clone, Copy, Debug, PartialEq, Eq)]
 pub enum Separator {
-    /// A comma.
     Comma,
-    /// A semicolon.
     Semicolon,
-    /// A tab.
     Tab,
 }
 
 impl Separator {
-    /// Its byte.
     pub(crate) fn byte(self) -> u8
         ensures { result ≡ separator_byte self }
     {
@@ -32,16 +28,13 @@ impl Separator {
 /// What a row's field must be, so that the row is kept.
 #[derive(Clone, Copy, Debug)]
 pub struct Condition<'a> {
-    /// The name of the column.
     pub column: &'a [u8],
-    /// The value that the field must have.
     pub value: &'a [u8],
 }
 
 /// How an agency's CSV is read.
 #[derive(Clone, Copy, Debug)]
 pub struct Choice<'a> {
-    /// What stands between two fields.
     pub separator: Separator,
     /// The name of the column of tokens.
     pub token: &'a [u8],

@@ -6,11 +6,8 @@ use std::alloc::{AllocError, AllocFailed};
 /// A column that a choice names.
 #[derive(Clone, Copy, Debug, PartialEq, Eq)]
 pub enum Wanted {
-    /// That of the tokens.
     Token,
-    /// That of the validators.
     Validator,
-    /// That of the moments.
     Moment,
     /// That of the condition at this place.
     Only(usize),
@@ -25,10 +22,8 @@ pub enum AgencyFault {
     Row {
         /// The number of the row; the head is row 1.
         number: u64,
-        /// Why it is no tap.
         reason: Reason,
     },
-    /// A read failed.
     Unread,
     /// The text was another one when it was read again.
     Changed,
@@ -36,7 +31,6 @@ pub enum AgencyFault {
     Write,
     /// A write of the refused rows failed.
     RefusedWrite,
-    /// A growth of memory was refused.
     NoMemory,
 }
 

@@ -1,4 +1,4 @@
-//! The moment that a field of an agency's row tells: in milliseconds, or by RFC 3339 with `Z` or an
+//! The moment that a field of an agency's row gives: in milliseconds, or by RFC 3339 with `Z` or an
 //! offset.
 
 ghost use Rattle.std.specs.Prelude.{◌≡◌, ◌<◌, ◌^◌, ◌↔◌, ◌*◌, ℕ, Ok, pos, IsTrue, MatchOption};
@@ -39,7 +39,7 @@ pub(crate) fn is_local_time(text: &[u8]) -> bool
     has_clock(text) && !has_offset(text)
 }
 
-/// The milliseconds that a field tells in one of the two ways.
+/// The milliseconds that a field gives in one of the two ways.
 fn time_of(field: &[u8]) -> Option<u64>
     ensures { MatchOption result ((number : ℕ) → number < 2 ^ 64
         → ¬ (IsAgencyTime field.now number)) (λ number. IsAgencyTime field.now number) }
@@ -55,7 +55,7 @@ fn time_of(field: &[u8]) -> Option<u64>
     }
 }
 
-/// The moment that a field tells, in milliseconds since 1970-01-01T00:00Z.
+/// The moment that a field gives, in milliseconds since 1970-01-01T00:00Z.
 pub(crate) fn agency_moment_in(field: &[u8]) -> Option<u64>
     ensures { MatchOption result ((number : ℕ) → ¬ (IsAgencyMoment field.now number))
         (λ number. IsAgencyMoment field.now number) }

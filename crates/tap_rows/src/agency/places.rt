@@ -16,17 +16,13 @@ use std::alloc::Global;
 pub(crate) struct Places {
     /// How many fields the head has.
     pub(crate) width: usize,
-    /// The column of tokens.
     pub(crate) token: usize,
-    /// The column of validators.
     pub(crate) validator: usize,
-    /// The column of moments.
     pub(crate) moment: usize,
     /// The column of each condition.
     pub(crate) only: Vec<usize>,
 }
 
-/// Whether the field at a place is this text.
 pub(crate) fn has_at(row: &ByteRecord, place: usize, text: &[u8]) -> bool
     ensures { IsTrue result ↔ field_at (fields_of row.now) place ≡ Some text.now }
 {
@@ -53,7 +49,6 @@ fn place_of(head: &ByteRecord, name: &[u8]) -> Option<usize>
     found
 }
 
-/// The place of a column that is wanted.
 fn wanted_place(head: &ByteRecord, name: &[u8], wanted: Wanted) -> Result<usize, AgencyFault>
     ensures place { IfOk result (λ place. IsColumn (fields_of head.now) name.now place) }
     ensures fault { IfErr result (λ fault. (fault ≡ AgencyFault.Column wanted)
@@ -65,7 +60,6 @@ fn wanted_place(head: &ByteRecord, name: &[u8], wanted: Wanted) -> Result<usize,
     }
 }
 
-/// The places of the conditions' columns.
 fn places_of_conditions(
     alloc: Global,
     choice: &Choice<'_>,
@@ -85,7 +79,6 @@ fn places_of_conditions(
     Ok(places)
 }
 
-/// The places of a choice's columns in a head.
 pub(crate) fn places_of(
     alloc: Global,
     choice: &Choice<'_>,

@@ -23,7 +23,7 @@ use csv::ByteRecord;
 use tap_views::TapFields;
 use uuid::Uuid;
 
-/// Why a row that is kept is no tap: its first field that tells nothing.
+/// Why a row that is kept is no tap: its first field that is wrong.
 #[derive(Clone, Copy, Debug, PartialEq, Eq)]
 pub enum Reason {
     /// The row has not as many fields as the head.
@@ -36,7 +36,7 @@ pub enum Reason {
     Device,
     /// The moment's field is a time without an offset.
     LocalTime,
-    /// The moment's field tells no moment below 2100-01-01T00:00Z.
+    /// The moment's field gives no moment below 2100-01-01T00:00Z.
     Moment,
 }
 
@@ -62,7 +62,6 @@ fn token_text_in(value: &[u8]) -> Option<[u8; 16]>
     }
 }
 
-/// Whether a row meets each condition of a choice.
 fn is_kept(only: &[Condition<'_>], places: &[usize], row: &ByteRecord) -> bool
     ensures { (head : List (List ℕ)) → AllZip (IsPlaceOf head) only.now places.now
         → (IsTrue result ↔ All (IsMet head (fields_of row.now)) only.now) }
@@ -76,7 +75,7 @@ fn is_kept(only: &[Condition<'_>], places: &[usize], row: &ByteRecord) -> bool
     true
 }
 
-/// The field at a place; empty where there is none.
+/// The field at a place; empty if there is none.
 pub(crate) fn field_in(row: &ByteRecord, place: usize) -> &[u8]
     ensures { place < length (fields_of row.now)
         → field_at (fields_of row.now) place ≡ Some result.now }
@@ -124,7 +123,7 @@ fn validator_for(choice: &Choice<'_>, field: &[u8]) -> Result<u32, Reason>
     }
 }
 
-/// What the moment's field of a row is, where it tells none.
+/// What the moment's field of a row is, if it gives no moment.
 fn moment_reason(field: &[u8]) -> Reason
     ensures local { result ≡ Reason.LocalTime → IsLocalTime field.now }
     ensures other { ¬ (result ≡ Reason.LocalTime) → (result ≡ Reason.Moment)

@@ -24,7 +24,7 @@ pub(crate) fn records_of<R: Read>(alloc: Global, separator: Separator, text: R) 
         .from_reader(alloc, text)
 }
 
-/// Reads the next record in place of what `row` holds. False where there is none.
+/// Reads the next record in place of what `row` holds. False if there is none.
 pub(crate) fn next_record<R: Read>(
     reader: &mut Reader<R>,
     row: &mut ByteRecord,

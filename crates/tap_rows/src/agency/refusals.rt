@@ -15,7 +15,6 @@ use itoa::Buffer;
 use std::alloc::Global;
 use std::io::Write;
 
-/// The word for a reason.
 fn word_of(reason: Reason) -> &'static str
     ensures { result.now ≡ reason_word reason }
 {
@@ -29,7 +28,6 @@ fn word_of(reason: Reason) -> &'static str
     }
 }
 
-/// The text of a record.
 fn text_of(alloc: Global, separator: Separator, row: &ByteRecord) -> Result<Vec<u8>, AgencyFault>
     ensures text { IfOk result (λ text. text.items ≡ record_text separator (fields_of row.now)) }
     ensures fault { IfErr result IsOfSystem }
@@ -73,7 +71,6 @@ fn put<X: Write>(
     }
 }
 
-/// Writes the head of the refused rows.
 pub(crate) fn write_refusals_head<X: Write>(
     alloc: Global,
     separator: Separator,
@@ -87,7 +84,6 @@ pub(crate) fn write_refusals_head<X: Write>(
     put(alloc, separator, "row", "reason", head, out)
 }
 
-/// Writes a refused row, with its number and its reason.
 pub(crate) fn write_refusal<X: Write>(
     alloc: Global,
     separator: Separator,

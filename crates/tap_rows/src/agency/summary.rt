@@ -1,4 +1,4 @@
-//! What is told of all rows.
+//! How many rows there are of each kind, and the span of the taps.
 
 ghost use Rattle.std.specs.Prelude.{◌≡◌, ◌<◌, ◌+◌, ◌∷◌, ◌++◌, ◌^◌, ◌-◌, [], ℕ, List, None, Some};
 ghost use Rattle.std.specs.Prelude.{length};
@@ -11,20 +11,18 @@ use tap_views::MomentSpan;
 /// How many rows there are of each kind, and what is the first of some.
 #[derive(Clone, Copy, Debug, PartialEq, Eq)]
 pub struct Summary {
-    /// How many taps.
     pub taps: u64,
-    /// How many rows that are not kept.
+    /// How many rows are not kept.
     pub left_out: u64,
-    /// How many rows that are no taps.
+    /// How many rows are no taps.
     pub refused: u64,
     /// The number of the first row that is no tap, and why it is none. The head is row 1.
     pub first_refused: Option<(u64, Reason)>,
-    /// The first and the last moment; none where there is no tap.
+    /// The first and the last moment; none if there is no tap.
     pub span: Option<MomentSpan>,
 }
 
 impl Summary {
-    /// That of no rows.
     pub(crate) fn new() -> Summary
         ensures { IsSummary [] [] result }
     {

@@ -121,7 +121,7 @@ fn when_read_again(fault: AgencyFault) -> AgencyFault
 }
 
 /// Writes the upload of the rows that a choice keeps, if each of them is a tap. The text is read
-/// twice, from two readers of it, so that nothing is written where a row is refused.
+/// twice, from two readers of it, so that nothing is written if a row is refused.
 pub fn encode_rows<R: Read + Drop, S: Read + Drop, W: Write>(
     alloc: Global,
     choice: &Choice<'_>,

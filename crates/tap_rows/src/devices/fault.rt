@@ -24,10 +24,8 @@ pub enum DevicesFault {
     Row {
         /// The number of the row; the head is row 1.
         number: u64,
-        /// What is wrong with it.
         wrong: WrongDevice,
     },
-    /// A growth of memory was refused.
     NoMemory,
 }
 

@@ -12,7 +12,6 @@ use csv::ByteRecord;
 use std::alloc::Global;
 use std::hash::RandomState;
 
-/// Whether a record is the head of a device table.
 fn is_head(row: &ByteRecord) -> bool
     ensures { IsTrue result ↔ IsHeadRow (fields_of row.now) }
 {

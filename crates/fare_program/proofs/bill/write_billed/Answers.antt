@@ -39,7 +39,8 @@ returns-clause-ok g c =
       λ files history is ended. record {
         ends = made.ends.items;
         of_uploads = ended;
-        shown = λ i. report (c.deref.ensures.value i) (one history is i) (two history is i) (is.tokens i);
+        shown = λ i. report (c.deref.ensures.value i) (one history is i) (two history is i)
+            (is.tokens i);
       },
       c.are_posted.ensures ∙ ap are_posted c.deref-3.ensures.value,
       Appends-kept _ _ _ text c.in_ok-write_report.ensures.ok c.flush.ensures.kept,

@@ -18,16 +18,19 @@ built_file = with_index 1 (filled file_argument)
 
 takes : TakesFiles (built program).top.rules built_file
 unfolding program clap_on_literals
-takes = record { first = refl; by_id = refl; action = refl; alone = refl; many = refl; open_end = refl }
+takes = record
+    { first = refl; by_id = refl; action = refl; alone = refl; many = refl; open_end = refl }
 
 without : list_all (is_without (codes "FILE")) (built program).top.rules ≡ true
 unfolding program clap_on_literals
 without = refl
 
 more : (name : Text) (words names : List Text)
-    → HasMore (codes "FILE") names (matches_of program (name ∷ words)) (matches_of program (with_files (name ∷ words) names))
+    → HasMore (codes "FILE") names (matches_of program (name ∷ words))
+    (matches_of program (with_files (name ∷ words) names))
 unfolding program clap_on_literals
-more name words names = listed_matches (built program).top.rules built_file takes without words names
+more name words names =
+    listed_matches (built program).top.rules built_file takes without words names
 
 -- what is read of a row
 abbrev first_text : Option Row → Option Text

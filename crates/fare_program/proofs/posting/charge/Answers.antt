@@ -23,7 +23,8 @@ returns-clause-ok g c =
     let written = c.in_ok-print_asked.ensures.ok in
     let well = c.are_posted.ensures ∙ ap are_posted c.ends.ensures in (
       written.0,
-      live_asked asked c.args.table (map (λ f. f.items) c.args.files.items) c.args.token written.0 _ outcome
+      live_asked asked c.args.table (map (λ f. f.items) c.args.files.items) c.args.token written.0 _
+          outcome
           c.if-options.false written.1 well c.in_ok-outcome.ensures.live,
       Appends-kept _ _ _ written.0 written.2 c.flush.ensures.kept,
     )
@@ -34,17 +35,23 @@ returns-then-options-clause-ok g c =
     let fares = c.args.table in
     let all = map bytes_in c.deref.result.now in
     let Written : List ℕ → Type 0 =
-    λ text. Appends (g.W.Write.contents c.args.out.now) (g.W.Write.contents c.charge_settled.new.out) text in
+    λ text. Appends (g.W.Write.contents c.args.out.now)
+    (g.W.Write.contents c.charge_settled.new.out) text in
     IfOk-weaker c.charge_settled.result
     (λ well. (files : List (List ℕ)) × (text : List ℕ)
-    × AreRead (λ upload bytes. slice_get all upload ≡ Some bytes) 0 (length c.deref.result.now) files
+    × AreRead (λ upload bytes. slice_get all upload ≡ Some bytes) 0 (length c.deref.result.now)
+    files
     × ShowsSettled asked fares files c.args.token text well × Written text)
-    (λ well. (text : List ℕ) × ShowsAsked asked fares (map bytes_in c.args.files.items) c.args.token text well × Written text)
+    (λ well. (text : List ℕ)
+    × ShowsAsked asked fares (map bytes_in c.args.files.items) c.args.token text well
+    × Written text)
     (λ well is. (
       is.1,
-      settled_asked asked fares (map bytes_in c.args.files.items) c.args.token is.1 well c.if-options.true
+      settled_asked asked fares (map bytes_in c.args.files.items) c.args.token is.1 well
+          c.if-options.true
           (subst (λ fs. ShowsSettled asked fares fs c.args.token is.1 well)
-          (loaded_files all is.0 (subst (λ n. AreRead (λ upload bytes. slice_get all upload ≡ Some bytes) 0 n is.0)
+          (loaded_files all is.0
+          (subst (λ n. AreRead (λ upload bytes. slice_get all upload ≡ Some bytes) 0 n is.0)
           (sym (length-map c.deref.result.now bytes_in)) is.2)
           ∙ ap (map bytes_in) c.deref.ensures.value) is.3),
       is.4,

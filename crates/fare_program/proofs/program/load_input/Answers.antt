@@ -7,5 +7,6 @@ use Rattle.fare_program.proofs.program.load_input.Goals as goal
 pub returns-in-Err-clause-right : goal.returns-in-Err-clause-right
 returns-in-Err-clause-right g c = λ asked under told after none.
     c.of_load.ensures.right asked under told after (g.S.Source.refused c.input.new.self)
-    (inr (subst (λ (names : List (List ℕ)). IsOneOf (codes "standard input") (names_told names)) (sym none) (inl refl)))
+    (inr (subst (λ (names : List (List ℕ)). IsOneOf (codes "standard input") (names_told names))
+    (sym none) (inl refl)))
     (refusal_told (g.S.Source.refused c.input.new.self) None c.in-Err.fault c.in-Err.ensures.fault)

@@ -16,8 +16,10 @@ returns-in-Err-clause-faults g c = λ one.
     inr (
       fault,
       status,
-      (λ parses. output_is_right (asked_by (map string_bytes c.args.words.now)) (g.D.Disk.bytes_under c.args.disk.now)
-          (g.S.Source.loaded c.args.source.now) (g.S.Source.loaded c.args.source.now) (g.S.Source.refused c.args.source.now) fault output),
+      (λ parses. output_is_right (asked_by (map string_bytes c.args.words.now))
+          (g.D.Disk.bytes_under c.args.disk.now)
+          (g.S.Source.loaded c.args.source.now) (g.S.Source.loaded c.args.source.now)
+          (g.S.Source.refused c.args.source.now) fault output),
       record { line_told = gave.line_told; kept = λ write late. gave.kept write },
     )
 
@@ -30,7 +32,8 @@ returns-clause-faults g c = λ one.
       fault,
       status,
       (λ parses. subst (λ (asked : Asked). IsRightFault asked (g.D.Disk.bytes_under c.args.disk.now)
-          (g.S.Source.loaded c.args.source.now) (g.S.Source.loaded c.work.new.source) (g.S.Source.refused c.work.new.source) fault) same
+          (g.S.Source.loaded c.args.source.now) (g.S.Source.loaded c.work.new.source)
+          (g.S.Source.refused c.work.new.source) fault) same
           (c.in-Err-work.ensures.right_fault status)),
       record {
         line_told = c.tell.ensures.line;

@@ -1,9 +1,9 @@
 use Rattle.std.proofs.Common.{ℕ, List, Vec, Global, Bor, None, ap, map, inl, inr, refl, subst, sym}
+use Rattle.std.proofs.Common.{Option}
 use Rattle.std.proofs.lemmas.Result.{IfOk-weaker}
 use Rattle.fare_program.specs.Program.{LoadsFiles, LoadsTable, names_to_load}
 use Rattle.fare_program.specs.inside.Options.{asked_of}
 use Rattle.fare_program.proofs.Works.{does_charge, does_list}
-use Rattle.std.proofs.Common.{Option}
 use Rattle.program_manners.specs.Loads.{Loaded}
 use Rattle.fare_program.proofs.Causes.{handed_on}
 use Rattle.fare_program.specs.Causes.{IsRightFault}
@@ -21,7 +21,8 @@ returns-then-options-clause-ok g c =
     (g.S.Source.loaded c.args.source.now) (g.S.Source.loaded c.load_files.new.source)
     (map bytes_in c.in_ok-files.files.items)) c.deref.ensures.value c.in_ok-files.ensures.ok in
     IfOk-weaker c.list.result _ _
-    (λ well done told before loads is_token kept live. does_list (asked_of c.args.options.now) (g.D.Disk.bytes_under c.args.disk.now) told _ _ before _ _ well
+    (λ well done told before loads is_token kept live. does_list (asked_of c.args.options.now)
+    (g.D.Disk.bytes_under c.args.disk.now) told _ _ before _ _ well
     c.args.table loads kept (map bytes_in c.deref-then-options.result.now)
     (subst (λ (fs : List (List ℕ)). LoadsFiles (names_to_load (asked_of c.args.options.now).files)
     (g.S.Source.loaded c.args.source.now) (g.S.Source.loaded c.load_files.new.source) fs)
@@ -35,8 +36,10 @@ returns-in-Some-clause-ok g c =
     (g.S.Source.loaded c.args.source.now) (g.S.Source.loaded c.load_files.new.source)
     (map bytes_in c.in_ok-files.files.items)) c.deref.ensures.value c.in_ok-files.ensures.ok in
     IfOk-weaker c.charge.result _ _
-    (λ well done told before loads is_token kept live. does_charge (asked_of c.args.options.now) (g.D.Disk.bytes_under c.args.disk.now) told _ _ before _ _ well
-    c.args.table loads kept c.in-Some.table (map bytes_in c.in_ok-files.files.items) c.args.token c.in-Some.is
+    (λ well done told before loads is_token kept live. does_charge (asked_of c.args.options.now)
+    (g.D.Disk.bytes_under c.args.disk.now) told _ _ before _ _ well
+    c.args.table loads kept c.in-Some.table (map bytes_in c.in_ok-files.files.items) c.args.token
+    c.in-Some.is
     loaded is_token c.if-options.false live done)
     c.charge.ensures.ok
 
@@ -46,8 +49,11 @@ returns-clause-ok g c =
     (g.S.Source.loaded c.args.source.now) (g.S.Source.loaded c.load_files.new.source)
     (map bytes_in c.in_ok-files.files.items)) c.deref.ensures.value c.in_ok-files.ensures.ok in
     IfOk-weaker c.list-in-None.result _ _
-    (λ well done told before loads is_token kept live. does_list (asked_of c.args.options.now) (g.D.Disk.bytes_under c.args.disk.now) told _ _ before _ _ well
-    None (subst (LoadsTable (asked_of c.args.options.now).table told (g.S.Source.loaded c.args.source.now)) c.in-None.is loads)
+    (λ well done told before loads is_token kept live. does_list (asked_of c.args.options.now)
+    (g.D.Disk.bytes_under c.args.disk.now) told _ _ before _ _ well
+    None (subst
+    (LoadsTable (asked_of c.args.options.now).table told (g.S.Source.loaded c.args.source.now))
+    c.in-None.is loads)
     kept (map bytes_in c.deref-in-None.result.now)
     (subst (λ (fs : List (List ℕ)). LoadsFiles (names_to_load (asked_of c.args.options.now).files)
     (g.S.Source.loaded c.args.source.now) (g.S.Source.loaded c.load_files.new.source) fs)
@@ -59,6 +65,8 @@ pub returns-in_err-files-clause-right : goal.returns-in_err-files-clause-right
 returns-in_err-files-clause-right g c =
     let asked = asked_of c.args.options.now in
     handed_on c.from_residual.result c.in_err-files.field-0.0
-    (λ f. (told : Option (List Loaded)) → IsRightFault asked (g.D.Disk.bytes_under c.args.disk.now) told _ _ f)
+    (λ f. (told : Option (List Loaded))
+    → IsRightFault asked (g.D.Disk.bytes_under c.args.disk.now) told _ _ f)
     c.from_residual.ensures.1
-    (λ told. c.in_err-files.ensures.right asked (g.D.Disk.bytes_under c.args.disk.now) told _ (ap (map name_in) (sym c.deref.ensures.value)))
+    (λ told. c.in_err-files.ensures.right asked (g.D.Disk.bytes_under c.args.disk.now) told _
+    (ap (map name_in) (sym c.deref.ensures.value)))

@@ -1,4 +1,4 @@
-use Rattle.std.proofs.Common.{◌∙◌, ℕ, List, Vec, Global, Bor, ap, map, subst, sym}
+use Rattle.std.proofs.Common.{◌∙◌, ℕ, List, Vec, Global, Bor, ap, map, subst, sym, ◌≡◌, inl, true}
 use Rattle.std.specs.Prelude.{option_map}
 use Rattle.toml.specs.Parse.{parse_document}
 use Rattle.fare_table.specs.Meaning.{Means}
@@ -7,7 +7,6 @@ use Rattle.fare_program.specs.Program.{LoadsFiles, names_to_load}
 use Rattle.fare_program.specs.inside.Options.{asked_of}
 use Rattle.settled_texts.specs.Ledgers.{IsTracedLedger}
 use Rattle.settled_texts.specs.Names.{class_by}
-use Rattle.std.proofs.Common.{◌≡◌, inl, true}
 use Rattle.fare_program.proofs.Causes.{handed_on}
 use Rattle.fare_program.specs.Causes.{IsRightFault}
 use Rattle.fare_program.proofs.program.work_traced.Goals as goal
@@ -42,7 +41,8 @@ returns-clause-ok g c =
       files = map bytes_in c.in_ok-files.files.items;
       loads_files = loaded;
       text = done.0;
-      shows = subst (λ (fs : List (Vec ℕ Global)). IsTracedLedger (class_by c.in_ok-riders.riders.names)
+      shows = subst
+          (λ (fs : List (Vec ℕ Global)). IsTracedLedger (class_by c.in_ok-riders.riders.names)
           c.in_ok-riders.riders.table (map bytes_in fs) done.0 well) c.deref-3.ensures.value done.1;
       written = done.2;
     })
@@ -54,7 +54,8 @@ returns-in_err-text-clause-right g c =
     handed_on c.from_residual.result c.in_err-text.field-0.0
     (λ f. asked.traced ≡ true → IsRightFault asked (g.D.Disk.bytes_under c.args.disk.now) _ _ _ f)
     c.from_residual.ensures.1
-    (λ traced. c.in_err-text.ensures.right asked (g.D.Disk.bytes_under c.args.disk.now) _ _ (inl (ap (option_map name_in) c.in-Some.is)))
+    (λ traced. c.in_err-text.ensures.right asked (g.D.Disk.bytes_under c.args.disk.now) _ _
+    (inl (ap (option_map name_in) c.in-Some.is)))
 
 pub returns-in_err-files-clause-right : goal.returns-in_err-files-clause-right
 returns-in_err-files-clause-right g c =
@@ -62,4 +63,5 @@ returns-in_err-files-clause-right g c =
     handed_on c.from_residual-in_err-files.result c.in_err-files.field-0.0
     (λ f. asked.traced ≡ true → IsRightFault asked (g.D.Disk.bytes_under c.args.disk.now) _ _ _ f)
     c.from_residual-in_err-files.ensures.1
-    (λ traced. c.in_err-files.ensures.right asked (g.D.Disk.bytes_under c.args.disk.now) _ _ (ap (map name_in) (sym c.deref-2.ensures.value)))
+    (λ traced. c.in_err-files.ensures.right asked (g.D.Disk.bytes_under c.args.disk.now) _ _
+    (ap (map name_in) (sym c.deref-2.ensures.value)))

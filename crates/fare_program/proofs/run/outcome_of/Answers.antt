@@ -7,8 +7,11 @@ use Rattle.std.specs.Prelude.{◌≡◌}
 use Rattle.fare_program.proofs.run.outcome_of.Goals as goal
 
 -- the service is the one that was opened
-run_of : (service : ServiceView) (fares : Fares) (shards workers : ℕ) (files : List (List ℕ)) (outcome : OutcomeView) → service.table ≡ fares → shards_of service ≡ shards → service.uploads ≡ files
-    → HasRun service.table (shards_of service) service.uploads workers outcome → HasRun fares shards files workers outcome
+run_of : (service : ServiceView) (fares : Fares) (shards workers : ℕ) (files : List (List ℕ))
+    (outcome : OutcomeView) → service.table ≡ fares → shards_of service ≡ shards
+    → service.uploads ≡ files
+    → HasRun service.table (shards_of service) service.uploads workers outcome
+    → HasRun fares shards files workers outcome
 run_of service fares shards workers files outcome table number uploads run =
     let T : Fares → Type 0 = λ t. HasRun t (shards_of service) service.uploads workers outcome in
     let N : ℕ → Type 0 = λ n. HasRun fares n service.uploads workers outcome in
@@ -17,4 +20,5 @@ run_of service fares shards workers files outcome table number uploads run =
 
 pub returns-in-Ok-run-clause-run : goal.returns-in-Ok-run-clause-run
 returns-in-Ok-run-clause-run g c =
-    run_of c.in-Ok.opened.0 _ _ _ _ _ c.in-Ok.ensures.table c.in-Ok.ensures.shards c.in-Ok.ensures.uploads c.in-Ok-run.ensures.headline
+    run_of c.in-Ok.opened.0 _ _ _ _ _ c.in-Ok.ensures.table c.in-Ok.ensures.shards
+    c.in-Ok.ensures.uploads c.in-Ok-run.ensures.headline

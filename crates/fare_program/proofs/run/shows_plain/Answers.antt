@@ -1,4 +1,5 @@
-use Rattle.std.proofs.Common.{◌≡◌, ◌<◌, ℕ, length, arith, List, [], ◌∷◌, Bool, true, false, Option, None, Some, All, Vec, Global, map, sym, subst}
+use Rattle.std.proofs.Common.{◌≡◌, ◌<◌, ℕ, length, arith, List, [], ◌∷◌, Bool, true, false, Option}
+use Rattle.std.proofs.Common.{None, Some, All, Vec, Global, map, sym, subst}
 use Rattle.std.proofs.lemmas.List.Elements.{All-nil, All-cons}
 use Rattle.fare_table.specs.Fares.{Fares}
 use Rattle.shard_book.specs.declared.entry.Entry.{Entry}
@@ -8,7 +9,8 @@ use Rattle.report_texts.specs.OverHistory.{IsReportOver, IsStatementOver}
 use Rattle.fare_service.specs.Plain.{IsUncutGathering, WasNotCut}
 use Rattle.fare_service.specs.Printed.{IsStatementOf, report_of}
 use Rattle.report_texts.specs.declared.upload_end.UploadEnd.{UploadEnd}
-use Rattle.report_texts.specs.declared.upload_end.UploadEnd.TheVariants.{Posted, Refused, Cut, Undrawn}
+use Rattle.report_texts.specs.declared.upload_end.UploadEnd.TheVariants.{Posted, Refused, Cut}
+use Rattle.report_texts.specs.declared.upload_end.UploadEnd.TheVariants.{Undrawn}
 use Rattle.std.specs.Prelude.{MatchBool, slice_get}
 use Rattle.shard_book.specs.Book.{Book}
 use Rattle.fare_service.proofs.PlainSums.{own_all}
@@ -24,36 +26,46 @@ use Rattle.fare_program.proofs.run.shows_plain.Goals as goal
 -- what was posted was whole
 all_whole : (ends : List UploadEnd) → are_posted ends ≡ true → All WasNotCut ends
 all_whole [] posted = All-nil WasNotCut
-all_whole (Posted taps ∷ ends) posted = All-cons WasNotCut (Posted taps) ends tt (all_whole ends posted)
+all_whole (Posted taps ∷ ends) posted =
+    All-cons WasNotCut (Posted taps) ends tt (all_whole ends posted)
 all_whole (Refused taps offset fault ∷ ends) posted = absurd (cc)
 all_whole (Cut taps ∷ ends) posted = absurd (cc)
 all_whole (Undrawn ∷ ends) posted = absurd (cc)
 
 -- a statement, explained or not
-stated : (explain : Bool) (outcome : OutcomeView) (fares : Fares) (history : List Entry) (token : Token) (text : List ℕ)
+stated : (explain : Bool) (outcome : OutcomeView) (fares : Fares) (history : List Entry)
+    (token : Token) (text : List ℕ)
     → (IsExplainedOf outcome.books token text → IsExplainedOver fares history token text)
     → (IsStatementOf outcome token text → IsStatementOver fares history token text)
     → MatchBool explain (IsExplainedOf outcome.books token text) (IsStatementOf outcome token text)
-    → MatchBool explain (IsExplainedOver fares history token text) (IsStatementOver fares history token text)
+    → MatchBool explain (IsExplainedOver fares history token text)
+    (IsStatementOver fares history token text)
 stated true outcome fares history token text explained statement shows = explained shows
 stated false outcome fares history token text explained statement shows = statement shows
 
 -- what is shown, as report or as statement
-shown : (explain : Bool) (files : List (List ℕ)) (outcome : OutcomeView) (fares : Fares) (history : List Entry) (token : Option Token) (text : List ℕ)
+shown : (explain : Bool) (files : List (List ℕ)) (outcome : OutcomeView) (fares : Fares)
+    (history : List Entry) (token : Option Token) (text : List ℕ)
     → IsReportOver files history (report_of outcome)
     → ((t : Token) → IsExplainedOf outcome.books t text → IsExplainedOver fares history t text)
     → ((t : Token) → IsStatementOf outcome t text → IsStatementOver fares history t text)
-    → ShowsWith explain token outcome.ends outcome text → IsTextOver explain token fares files history text
-shown explain files outcome fares history None text report explained statement shows = let R : List ℕ → Type 0 = λ t. IsReportOver files history t in subst R (sym shows) report
+    → ShowsWith explain token outcome.ends outcome text
+    → IsTextOver explain token fares files history text
+shown explain files outcome fares history None text report explained statement shows =
+    let R : List ℕ → Type 0 = λ t. IsReportOver files history t in subst R (sym shows) report
 shown explain files outcome fares history (Some token) text report explained statement shows =
     stated explain outcome fares history token text (explained token) (statement token) shows
 
 -- the ledger, or what is shown without it
-asked_for : (ledger : Bool) (explain : Bool) (files : List (List ℕ)) (outcome : OutcomeView) (fares : Fares) (history : List Entry) (token : Option Token) (text : List ℕ)
+asked_for : (ledger : Bool) (explain : Bool) (files : List (List ℕ)) (outcome : OutcomeView)
+    (fares : Fares) (history : List Entry) (token : Option Token) (text : List ℕ)
     → (IsLedgerOfBooks outcome.books token text → IsLedgerOver fares history token text)
-    → (ShowsWith explain token outcome.ends outcome text → IsTextOver explain token fares files history text)
-    → MatchBool ledger (IsLedgerOfBooks outcome.books token text) (ShowsWith explain token outcome.ends outcome text)
-    → MatchBool ledger (IsLedgerOver fares history token text) (IsTextOver explain token fares files history text)
+    → (ShowsWith explain token outcome.ends outcome text
+    → IsTextOver explain token fares files history text)
+    → MatchBool ledger (IsLedgerOfBooks outcome.books token text)
+    (ShowsWith explain token outcome.ends outcome text)
+    → MatchBool ledger (IsLedgerOver fares history token text)
+    (IsTextOver explain token fares files history text)
 asked_for true explain files outcome fares history token text ledger other shows = ledger shows
 asked_for false explain files outcome fares history token text ledger other shows = other shows
 
@@ -68,11 +80,16 @@ returns c = λ fares shards workers asked token text run posted shows history is
       plain_is = is;
       apart = apart;
     } in
-    let some : 0 < length outcome.books = omega (arith, c.shards.ensures.some, c.shards.ensures.number) in
-    let same = own_all (record { table = fares; shards = shards; uploads = files }) outcome history some c.tokens_are_named.ensures.named c.tokens_are_named.ensures.here c.one_reading_each.ensures whole in
-    let table = λ (book : Book) (there : slice_get outcome.books 0 ≡ Some book). (whole.headline.books 0 book there).0 in
+    let some : 0 < length outcome.books =
+    omega (arith, c.shards.ensures.some, c.shards.ensures.number) in
+    let same = own_all (record { table = fares; shards = shards; uploads = files }) outcome history
+    some c.tokens_are_named.ensures.named c.tokens_are_named.ensures.here c.one_reading_each.ensures
+    whole in
+    let table = λ (book : Book) (there : slice_get outcome.books 0 ≡ Some book).
+    (whole.headline.books 0 book there).0 in
     asked_for asked.ledger asked.explain files outcome fares history token text
     (ledger_same fares outcome history token text same table)
-    (shown asked.explain files outcome fares history token text (c.report_is_plain.ensures fares shards history whole)
+    (shown asked.explain files outcome fares history token text
+    (c.report_is_plain.ensures fares shards history whole)
     (λ t. explained_same fares outcome history t text (same t) table)
     (λ t. (c.statements_are_plain.ensures.texts fares shards history whole t text).0)) shows

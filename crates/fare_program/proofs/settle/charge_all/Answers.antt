@@ -14,11 +14,14 @@ returns-then-options-clause-ok g c =
     let asked = asked_of c.args.options.now in
     let fares = c.args.table.now in
     let Read : List (List ℕ) → Type 0 =
-    λ files. AreRead (g.U.Uploads.may_be c.args.uploads.now) 0 (g.U.Uploads.number c.args.uploads.now) files in
+    λ files. AreRead (g.U.Uploads.may_be c.args.uploads.now) 0
+    (g.U.Uploads.number c.args.uploads.now) files in
     let Written : List ℕ → Type 0 =
-    λ text. Appends (g.W.Write.contents c.args.out.now) (g.W.Write.contents c.write_ledger.new.out) text in
+    λ text. Appends (g.W.Write.contents c.args.out.now) (g.W.Write.contents c.write_ledger.new.out)
+    text in
     IfOk-weaker c.write_ledger.result
-    (λ well. (files : List (List ℕ)) × (text : List ℕ) × Read files × ((any : Asked) → any.ledger ≡ true
+    (λ well. (files : List (List ℕ)) × (text : List ℕ) × Read files
+    × ((any : Asked) → any.ledger ≡ true
     → ShowsSettled any fares files None text well) × Written text)
     (λ well. (files : List (List ℕ)) × (text : List ℕ) × Read files
     × ShowsSettled asked fares files None text well × Written text)
@@ -29,11 +32,14 @@ returns-clause-ok g c =
     let asked = asked_of c.args.options.now in
     let fares = c.args.table.now in
     let Read : List (List ℕ) → Type 0 =
-    λ files. AreRead (g.U.Uploads.may_be c.args.uploads.now) 0 (g.U.Uploads.number c.args.uploads.now) files in
+    λ files. AreRead (g.U.Uploads.may_be c.args.uploads.now) 0
+    (g.U.Uploads.number c.args.uploads.now) files in
     let Written : List ℕ → Type 0 =
-    λ text. Appends (g.W.Write.contents c.args.out.now) (g.W.Write.contents c.write_bill.new.out) text in
+    λ text. Appends (g.W.Write.contents c.args.out.now) (g.W.Write.contents c.write_bill.new.out)
+    text in
     IfOk-weaker c.write_bill.result
-    (λ well. (files : List (List ℕ)) × (text : List ℕ) × Read files × ShowsBill fares files text well × Written text)
+    (λ well. (files : List (List ℕ)) × (text : List ℕ) × Read files
+    × ShowsBill fares files text well × Written text)
     (λ well. (files : List (List ℕ)) × (text : List ℕ) × Read files
     × ShowsSettled asked fares files None text well × Written text)
     (λ well is. (

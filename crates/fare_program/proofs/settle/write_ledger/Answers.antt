@@ -20,19 +20,22 @@ joined lists = flat_map taps_in lists
 pub write_settled_ledger-requires-clause-sorted : goal.write_settled_ledger-requires-clause-sorted
 write_settled_ledger-requires-clause-sorted g c κs within =
     let made = c.in_ok-ends.ensures.3 in
-    subst (λ (ls : List (Vec TapFields Global)). IsSorted tap_cmp (joined ls)) (sym c.deref.ensures.value)
+    subst (λ (ls : List (Vec TapFields Global)). IsSorted tap_cmp (joined ls))
+    (sym c.deref.ensures.value)
     made.canonical.sorted
 
 pub write_settled_ledger-requires-clause-early : goal.write_settled_ledger-requires-clause-early
 write_settled_ledger-requires-clause-early g c κs within =
     let made = c.in_ok-ends.ensures.3 in
-    subst (λ (ls : List (Vec TapFields Global)). AreEarly (λ (tap : TapFields). tap.moment) (joined ls))
+    subst (λ (ls : List (Vec TapFields Global)). AreEarly (λ (tap : TapFields). tap.moment)
+    (joined ls))
     (sym c.deref.ensures.value) made.early
 
 pub write_settled_ledger-requires-clause-named : goal.write_settled_ledger-requires-clause-named
 write_settled_ledger-requires-clause-named g c κs within =
     let made = c.in_ok-ends.ensures.3 in
-    subst (λ (ls : List (Vec TapFields Global)). All HasName (joined ls)) (sym c.deref.ensures.value)
+    subst (λ (ls : List (Vec TapFields Global)). All HasName (joined ls))
+    (sym c.deref.ensures.value)
     made.named
 
 pub returns-clause-ok : goal.returns-clause-ok
@@ -44,7 +47,8 @@ returns-clause-ok g c =
     let written = c.in_ok-write_settled_ledger.ensures.ok in
     let text = written.0 in
     let is : IsLedgerOver fares history None text =
-    subst (λ (ls : List (Vec TapFields Global)). IsLedgerOver fares (posted fares (joined ls)) None text)
+    subst (λ (ls : List (Vec TapFields Global)). IsLedgerOver fares (posted fares (joined ls)) None
+    text)
     c.deref.ensures.value written.1 in (
       files,
       text,

@@ -3,8 +3,10 @@ use Rattle.fare_program.proofs.sorted.charge_all.Goals as goal
 
 pub returns-then-options-clause-ok : goal.returns-then-options-clause-ok
 returns-then-options-clause-ok g c =
-    IfOk-weaker c.write_ledger.result _ _ (λ done charged. charged c.if-options.true) c.write_ledger.ensures.ok
+    IfOk-weaker c.write_ledger.result _ _ (λ done charged. charged c.if-options.true)
+    c.write_ledger.ensures.ok
 
 pub returns-clause-ok : goal.returns-clause-ok
 returns-clause-ok g c =
-    IfOk-weaker c.write_report.result _ _ (λ done charged. charged c.if-options.false) c.write_report.ensures.ok
+    IfOk-weaker c.write_report.result _ _ (λ done charged. charged c.if-options.false)
+    c.write_report.ensures.ok

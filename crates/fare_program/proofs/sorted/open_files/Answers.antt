@@ -1,6 +1,6 @@
-use Rattle.std.proofs.Common.{◌≡◌, ◌<◌, ◌++◌, ◌∷◌, [], ◌∙◌, List, ℕ, length, map, take, ap, ap₂, get_or, Bor, ◌+◌}
+use Rattle.std.proofs.Common.{◌≡◌, ◌<◌, ◌++◌, ◌∷◌, [], ◌∙◌, List, ℕ, length, map, take, ap, ap₂}
+use Rattle.std.proofs.Common.{get_or, Bor, ◌+◌, refl}
 use Rattle.std.proofs.lemmas.List.{map-append, take_all, take_more}
-use Rattle.std.proofs.Common.{refl}
 use Rattle.program_manners.proofs.Refusals.{is_one_at}
 use Rattle.fare_program.proofs.sorted.open_files.Goals as goal
 

@@ -21,10 +21,12 @@ returns-clause-ok g c =
           let one : c.in-Some.table ≡ fares = same c.in-Some.table fares (sym c.in-Some.is ∙ is) in
           record {
             text = done.text;
-            shows = λ files are. subst (λ (f : Fares). ShowsSettled asked f files c.args.token done.text true) one
+            shows = λ files are. subst
+                (λ (f : Fares). ShowsSettled asked f files c.args.token done.text true) one
                 (done.shows files (ap (map g.D.File.Placed.bytes) c.deref-2.ensures.value
                 ∙ c.in_ok-files.ensures.opened
-                ∙ ap (λ (ns : List (Bor (List ℕ))). map (g.D.Disk.bytes_under c.args.disk.now) (map name_in ns)) c.deref.ensures.value
+                ∙ ap (λ (ns : List (Bor (List ℕ))). map (g.D.Disk.bytes_under c.args.disk.now)
+                (map name_in ns)) c.deref.ensures.value
                 ∙ are));
             written = done.written;
           },
@@ -34,5 +36,7 @@ pub returns-in_err-files-clause-right : goal.returns-in_err-files-clause-right
 returns-in_err-files-clause-right g c =
     let known = map (g.D.Disk.bytes_under c.args.disk.now) (asked_of c.args.options.now).files in
     let fault = c.in_err-files.field-0.0 in
-    handed_on c.from_residual.result fault (IsRightOfSorted (asked_of c.args.options.now).files known) c.from_residual.ensures.1
-    (subst (λ (ns : List (Bor (List ℕ))). IsRightOfSorted (map name_in ns) known fault) c.deref.ensures.value (c.in_err-files.ensures.right known))
+    handed_on c.from_residual.result fault
+    (IsRightOfSorted (asked_of c.args.options.now).files known) c.from_residual.ensures.1
+    (subst (λ (ns : List (Bor (List ℕ))). IsRightOfSorted (map name_in ns) known fault)
+    c.deref.ensures.value (c.in_err-files.ensures.right known))

@@ -14,7 +14,8 @@ returns-in_ok-write_billed-in-Ok-clause-ok g c = λ report.
     let (text, shows, posted, written) = c.in_ok-write_billed-in-Ok.ensures.ok in
     record {
       text = text;
-      shows = λ all are. shows_bill (asked_of c.args.options.now) c.args.table.now all None text true report refl
+      shows = λ all are. shows_bill (asked_of c.args.options.now) c.args.table.now all None text
+          true report refl
           (record {
             history = history;
             is_settled = settled all are;

@@ -8,7 +8,8 @@ use Rattle.fare_program.proofs.traced.riders_of.Goals as goal
 pub returns-in_err-table-clause-right : goal.returns-in_err-table-clause-right
 returns-in_err-table-clause-right c =
     let fault = c.in_err-table.field-0.0 in
-    handed_on c.from_residual.result (Table fault) (IsRightOfText c.args.text.now) c.from_residual.ensures.1
+    handed_on c.from_residual.result (Table fault) (IsRightOfText c.args.text.now)
+    c.from_residual.ensures.1
     (first_table_fault _ _ fault refl c.in_err-table.ensures.fault c.in_err-table.ensures.not_text)
 
 pub returns-in-Err-clause-right : goal.returns-in-Err-clause-right

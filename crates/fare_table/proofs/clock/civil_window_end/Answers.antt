@@ -31,7 +31,8 @@ overflow_cast-result c =
     c.date.result c.week_later.result c.requires c.instant-start.ensures
     c.to_datetime-shown.ensures c.date.ensures c.week_later.ensures c.from-midnight.ensures in
     let at = rw c.unwrap-window_end.ensures at c.to_timestamp.ensures.value in
-    let millis = in_millis c.args.moment _ c.as_millisecond.result window_end (c.as_millisecond.ensures
+    let millis = in_millis c.args.moment _ c.as_millisecond.result window_end
+    (c.as_millisecond.ensures
     ∙ ap (λ n. int_div n (pos 1_000_000)) at) in
     rw (cast_back c.as_millisecond.result window_end.millis millis window_end.small)
     (tt, omega (arith, window_end.small))
@@ -43,7 +44,8 @@ returns-clause-window_end c =
     c.date.result c.week_later.result c.requires c.instant-start.ensures
     c.to_datetime-shown.ensures c.date.ensures c.week_later.ensures c.from-midnight.ensures in
     let at = rw c.unwrap-window_end.ensures at c.to_timestamp.ensures.value in
-    let millis = in_millis c.args.moment _ c.as_millisecond.result window_end (c.as_millisecond.ensures
+    let millis = in_millis c.args.moment _ c.as_millisecond.result window_end
+    (c.as_millisecond.ensures
     ∙ ap (λ n. int_div n (pos 1_000_000)) at) in
     rw (cast_back c.as_millisecond.result window_end.millis millis window_end.small)
     (record {
@@ -68,6 +70,8 @@ returns-clause-after c =
     c.date.result c.week_later.result c.requires c.instant-start.ensures
     c.to_datetime-shown.ensures c.date.ensures c.week_later.ensures c.from-midnight.ensures in
     let at = rw c.unwrap-window_end.ensures at c.to_timestamp.ensures.value in
-    let millis = in_millis c.args.moment _ c.as_millisecond.result window_end (c.as_millisecond.ensures
+    let millis = in_millis c.args.moment _ c.as_millisecond.result window_end
+    (c.as_millisecond.ensures
     ∙ ap (λ n. int_div n (pos 1_000_000)) at) in
-    rw (cast_back c.as_millisecond.result window_end.millis millis window_end.small) window_end.later
+    rw (cast_back c.as_millisecond.result window_end.millis millis window_end.small)
+    window_end.later

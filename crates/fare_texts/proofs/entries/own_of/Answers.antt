@@ -1,7 +1,7 @@
 use Rattle.std.proofs.Common.{sym, ◌∙◌}
 use Rattle.fare_texts.proofs.Collecting.{own_books}
-use Rattle.fare_texts.proofs.Rising.{own_none}
 use Rattle.fare_texts.proofs.entries.own_of.Goals as goal
+use Rattle.shard_book.proofs.OwnEntries.{own_none}
 
 pub loop-book-init : goal.loop-book-init
 loop-book-init c = c.new-list.ensures.items ∙ sym (own_none c.args.token)

@@ -9,9 +9,13 @@ pub returns-clause-ok : goal.returns-clause-ok
 returns-clause-ok g c =
     let first = c.table_of-table.ensures in
     let done = c.in_ok-write_lines.ensures.ok in
-    let along = subst (λ (spots : List Spot). AreLinesAlong c.table_of-table.result.now [] (entries_at_spots c.args.books.now spots) done.0) c.as_slice.ensures.value done.1 in (
+    let along = subst
+    (λ (spots : List Spot). AreLinesAlong c.table_of-table.result.now []
+    (entries_at_spots c.args.books.now spots) done.0) c.as_slice.ensures.value done.1 in (
       string_bytes c.in_ok-text.text ++ done.0,
-      ledger_of_all c.args.books.now first.0 c.table_of-table.result.now (entries_at_spots c.args.books.now c.in_ok-text.spots.items) (string_bytes c.in_ok-text.text) done.0 first.1 first.2
+      ledger_of_all c.args.books.now first.0 c.table_of-table.result.now
+          (entries_at_spots c.args.books.now c.in_ok-text.spots.items) (string_bytes c.in_ok-text.text)
+          done.0 first.1 first.2
           c.in_ok-text.ensures.entries along c.in_ok-text.ensures.head,
       done.2,
     )

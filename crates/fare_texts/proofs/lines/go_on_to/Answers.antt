@@ -1,21 +1,17 @@
-use Rattle.std.proofs.Common.{◌≡◌, Bool, true, false, not, refl, sym, subst, ◌∙◌}
-use Rattle.std.proofs.lemmas.Bool.{false≢true}
+use Rattle.std.proofs.Common.{◌≡◌, true, false, sym, subst, ◌∙◌}
+use Rattle.std.proofs.lemmas.Bool.{not-true}
 use Rattle.tap_views.specs.Token.{token_eq}
 use Rattle.tap_views.specs.declared.token.Token.{Token}
 use Rattle.fare_texts.specs.Lines.{IsUpTo}
 use Rattle.fare_texts.proofs.PieceWriting.{come_on}
 use Rattle.fare_texts.proofs.lines.go_on_to.Goals as goal
 
-not_false : (b : Bool) → not b ≡ true → b ≡ false
-not_false true is = absurd (false≢true is)
-not_false false is = refl
-
 -- another token is gone_on to
 pub returns-then-ne-clause-come : goal.returns-then-ne-clause-come
 returns-then-ne-clause-come c = λ fares earlier come to.
     let old = c.args.teller.now in
     let apart : token_eq old.token c.args.token ≡ false =
-    not_false (token_eq old.token c.args.token) (sym c.ne.ensures ∙ c.if-ne.true) in
+    not-true (token_eq old.token c.args.token) (sym c.ne.ensures ∙ c.if-ne.true) in
     let same = sym c.of.ensures.token in
     come_on fares old c.of.result earlier come
     (subst (λ (t : Token). IsUpTo old.token t) same to)

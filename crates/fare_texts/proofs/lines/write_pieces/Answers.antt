@@ -15,11 +15,13 @@ use Rattle.fare_texts.proofs.lines.write_pieces.Goals as goal
 pub loop-spot-init : goal.loop-spot-init
 loop-spot-init g c = record {
   come = come_first c.args.table.now _ (c.of-teller.ensures.told c.args.table.now);
-  no_fall = subst (λ (t : Token). NoFallFrom t (entries_at_spots c.args.books.now c.args.spots.now)) (sym c.of-teller.ensures.token) c.requires.no_fall;
+  no_fall = subst (λ (t : Token). NoFallFrom t (entries_at_spots c.args.books.now c.args.spots.now))
+      (sym c.of-teller.ensures.token) c.requires.no_fall;
   few = omega (arith, c.of-teller.ensures.none);
   written = [];
   along = refl;
-  whole = Appends-nil (append_known (g.W.Write.contents c.args.out.now) (string_bytes c.args.text.now));
+  whole = Appends-nil
+      (append_known (g.W.Write.contents c.args.out.now) (string_bytes c.args.text.now));
 }
 
 -- the teller gone_on to the entry's token
@@ -49,7 +51,8 @@ loop-spot-preserved g c =
     (rise_here books list i _ c.loop-spot.teller.token c.loop-spot-test.true inv.no_fall)) in
     let own_done = own c.go_on_to.new.teller.token done in
     let line = c.in-Ok.ensures.line own_done gone_on.told in
-    let after = subst (λ (t : Token). IsLedgerLineAfter fares t (own t done) c.entry-entry.result line.0)
+    let after = subst
+    (λ (t : Token). IsLedgerLineAfter fares t (own t done) c.entry-entry.result line.0)
     c.go_on_to.ensures.token line.1 in
     let next = come_next fares c.go_on_to.new.teller c.write_next.new.self done c.entry-entry.result
     c.go_on_to.ensures.token c.in-Ok.ensures.token gone_on
@@ -62,10 +65,12 @@ loop-spot-preserved g c =
           (rise_on books list i _ c.loop-spot.teller.token c.loop-spot-test.true inv.no_fall);
       few = omega (arith, c.in-Ok.ensures.number, c.go_on_to.ensures.few, inv.few);
       written = inv.written ++ line.0;
-      along = subst (λ (es : List Entry). AreLinesAlong fares [] es (inv.written ++ line.0)) (sym taken)
+      along = subst (λ (es : List Entry). AreLinesAlong fares [] es (inv.written ++ line.0))
+          (sym taken)
           (along_push fares [] done _ inv.written line.0 inv.along
           (subst (λ (e : Entry). IsLineAfter fares done e line.0) is after));
       whole = Appends-kept _ _ _ (inv.written ++ line.0)
-          (grown _ (g.W.Write.contents c.loop-spot.out) (string_bytes c.loop-spot.text) _ inv.written
+          (grown _ (g.W.Write.contents c.loop-spot.out) (string_bytes c.loop-spot.text) _
+          inv.written
           line.0 inv.whole line.2) c.in_ok-pass_piece.ensures.kept;
     }

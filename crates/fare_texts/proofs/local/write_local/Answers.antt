@@ -8,7 +8,8 @@ returns-in_ok-push_str-in-Some-2 c =
     let clock = c.clock_text.ensures in (
       c.args.words.now ++ c.clock_text.result.bytes,
       local_of c.args.clock.now c.in-Some.offset c.args.words.now c.clock_text.result.bytes
-          c.args.moment clock.0 c.in-Some.ensures c.if-moment-ge-CALENDAR_END_MS.false clock.1 clock.2,
+          c.args.moment clock.0 c.in-Some.ensures c.if-moment-ge-CALENDAR_END_MS.false clock.1
+          clock.2,
       in_parts (string_bytes c.args.text.now) (string_bytes c.push_str.new.self)
           (string_bytes c.push_str-in-Some.new.self) c.args.words.now c.clock_text.result.bytes
           c.in_ok-push_str-in-Some.ensures.bytes

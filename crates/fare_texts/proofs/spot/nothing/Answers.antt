@@ -14,4 +14,6 @@ with_token token = record { token = token; validator = 0; moment = 0; answer = U
 pub returns : goal.returns
 unfolding bytes_of
 returns c =
-    ap with_token (c.same_bytes_same_token.ensures c.of-token.result zero c.of-token.ensures.fits (record { high = omega arith; low = omega arith }) c.of-token.ensures.bytes)
+    ap with_token
+    (c.same_bytes_same_token.ensures c.of-token.result zero c.of-token.ensures.fits
+    (record { high = omega arith; low = omega arith }) c.of-token.ensures.bytes)

@@ -8,6 +8,9 @@ returns-clause-ledger c = λ fares shards books only text each postable names fe
     books_are_read fares shards books only text each postable names few short written
 
 pub returns-clause-legal : goal.returns-clause-legal
-returns-clause-legal c = λ fares shards books only text verdict each postable names few short written is.
-    (c.verdicts_decide.ensures fares text verdict is).1
-    (told_entries only (all_entries books), books_are_read fares shards books only text each postable names few short written)
+returns-clause-legal c =
+    λ fares shards books only text verdict each postable names few short written is.
+    (c.verdicts_decide.ensures fares text verdict is).1 (
+      told_entries only (all_entries books),
+      books_are_read fares shards books only text each postable names few short written,
+    )

@@ -2,4 +2,5 @@ use Rattle.laws.proofs.Telling.{written_is_read}
 use Rattle.laws.proofs.written_is_a_ledger.Goals as goal
 
 pub returns : goal.returns
-returns c = λ fares only history text can short over. written_is_read fares only history text can short over
+returns c = λ fares only history text can short over. written_is_read fares only history text can
+    short over

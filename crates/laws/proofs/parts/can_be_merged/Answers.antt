@@ -7,6 +7,7 @@ returns c = λ fares uploads history parts split lists plain sizes cuts bounds f
     told_parts.
     let can = writable fares uploads history parts split bounds few in
     let merged = is_merged fares uploads history parts split c.one_rising_list.ensures.numbers
-    c.one_rising_list.ensures.tokens c.sums_add_up.ensures lists plain sizes cuts can none report_files told_parts
+    c.one_rising_list.ensures.tokens c.sums_add_up.ensures lists plain sizes cuts can none
+    report_files told_parts
     in
     (_, merged)

@@ -8,5 +8,6 @@ returns-clause-totals c =
 
 pub returns-clause-validators : goal.returns-clause-validators
 returns-clause-validators c = λ fares uploads history parts split merged are.
-    merged_validators fares uploads history parts split c.sums_add_up.ensures c.one_rising_list.ensures.numbers
+    merged_validators fares uploads history parts split c.sums_add_up.ensures
+    c.one_rising_list.ensures.numbers
     merged are.rise are.same are.sums

@@ -11,6 +11,7 @@ returns c = λ fares groups number parts taps history whole zip each is.
     let files = map bytes_in c.args.files.now in
     record {
       settled = is;
-      its_taps = own_taps number parts groups files zip uploads whole c.one_reading_each.ensures c.one_reading_each-2.ensures
+      its_taps = own_taps number parts groups files zip uploads whole c.one_reading_each.ensures
+          c.one_reading_each-2.ensures
           taps is.taps each is.of_uploads;
     }

@@ -1,5 +1,6 @@
-use Rattle.std.proofs.Common.{◌≡◌, ◌∷◌, ◌<◌, ◌≤◌, ◌-◌, ◌+◌, ℕ, Bool, List, true, false, cond, ltb, length, Some, None}
-use Rattle.std.proofs.Common.{refl, sym, ap, subst, ◌∙◌, ◌==◌, arith, rules, tests, take, drop, length-drop}
+use Rattle.std.proofs.Common.{◌≡◌, ◌∷◌, ◌<◌, ◌≤◌, ◌-◌, ◌+◌, ℕ, Bool, List, true, false, cond, ltb}
+use Rattle.std.proofs.Common.{length, Some, None, refl, sym, ap, subst, ◌∙◌, ◌==◌, arith, rules}
+use Rattle.std.proofs.Common.{tests, take, drop, length-drop}
 use Rattle.std.specs.List.{position_or_len}
 use Rattle.std.proofs.lemmas.Bool.Decides.{nat_tests}
 use Rattle.std.proofs.lemmas.Iterator.{YieldsList-from_slice}
@@ -28,7 +29,8 @@ past n size false is e = grind (arith, nat_tests)
 pub returns-in-Some : goal.returns-in-Some
 returns-in-Some c =
     let text = c.args.text.now in
-    let is : c.position.result ≡ cond (ltb (comma_in text) (length text)) (Some (comma_in text)) None =
+    let is : c.position.result
+    ≡ cond (ltb (comma_in text) (length text)) (Some (comma_in text)) None =
     position_from_yields_List is_comma _ _ _ c.position.ensures.ran
     (YieldsList-from_slice text cc) (λ x b q k. search (rules, tests)) in
     let at = c.in-Some.at in
@@ -44,7 +46,8 @@ returns-in-Some c =
 pub returns-in-None : goal.returns-in-None
 returns-in-None c =
     let text = c.args.text.now in
-    let is : c.position.result ≡ cond (ltb (comma_in text) (length text)) (Some (comma_in text)) None =
+    let is : c.position.result
+    ≡ cond (ltb (comma_in text) (length text)) (Some (comma_in text)) None =
     position_from_yields_List is_comma _ _ _ c.position.ensures.ran
     (YieldsList-from_slice text cc) (λ x b q k. search (rules, tests)) in
     let end = past (comma_in text) (length text) (ltb (comma_in text) (length text)) refl (sym is

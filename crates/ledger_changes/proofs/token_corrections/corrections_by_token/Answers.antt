@@ -47,6 +47,7 @@ returns-clause-written g c =
     IfOk-weaker c.write_token_sums.result _ _ (λ removed written old_text new_text is_old is_new.
     finished_by_token old_text new_text (standing remaining c.in_ok-old.old)
     (standing remaining c.in_ok-new.new) (g.W.Write.contents c.args.out.now)
-    (g.W.Write.contents c.write_text.new.out) (g.W.Write.contents c.write_token_sums.new.out) removed
+    (g.W.Write.contents c.write_text.new.out) (g.W.Write.contents c.write_token_sums.new.out)
+    removed
     (c.in_ok-old.ensures.begun old_text is_old) (c.in_ok-new.ensures.begun new_text is_new)
     c.in_ok-write_text.ensures.written written) c.write_token_sums.ensures.written

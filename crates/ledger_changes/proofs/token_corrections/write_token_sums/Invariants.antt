@@ -11,5 +11,6 @@ invariant-loop g l = record {
   new_bill : l.new.bill ≡ New;
   going : IsGoing (standing g.R.Read.remaining l.fn.old) (standing g.R.Read.remaining l.fn.new)
       (standing g.R.Read.remaining l.old) (standing g.R.Read.remaining l.new)
-      (AreSummed (g.W.Write.contents l.fn.out) (g.W.Write.contents l.out) (sum_in l.last) l.removed);
+      (AreSummed (g.W.Write.contents l.fn.out) (g.W.Write.contents l.out) (sum_in l.last)
+      l.removed);
 }

@@ -1,7 +1,7 @@
 use Rattle.std.proofs.Common.{Some, sym, ap, subst, ◌∙◌}
+use Rattle.std.proofs.KnownBytes.{Appends-nil}
 use Rattle.std.specs.Io.KnownBytes.{Appends}
 use Rattle.ledger_changes.specs.inside.Sums.{TokenSum, add_changes, ended_lines, sum_in, sums_after}
-use Rattle.ledger_changes.proofs.Merging.{appends_none}
 use Rattle.ledger_changes.proofs.Summing.{IsOne, Pairs, ended_one, first_is_one, no_change}
 use Rattle.ledger_changes.proofs.Summing.{nones_change, one_change, second_is_one, sums_one}
 use Rattle.ledger_changes.proofs.token_sums.sum_change.Goals.{in-Some-default, in-None-Some}
@@ -9,10 +9,11 @@ use Rattle.ledger_changes.proofs.token_sums.sum_change.Goals as goal
 
 pub returns-in-None-None-clause-written : goal.returns-in-None-None-clause-written
 returns-in-None-None-clause-written g c =
-    subst (λ changes. Appends (g.W.Write.contents c.args.out.now) (g.W.Write.contents c.args.out.now)
+    subst (λ changes. Appends (g.W.Write.contents c.args.out.now)
+    (g.W.Write.contents c.args.out.now)
     (ended_lines (sum_in c.args.last) changes))
     (sym (nones_change c.args.before.now c.args.after.now c.in-None-None.is-0 c.in-None-None.is-1))
-    (appends_none (g.W.Write.contents c.args.out.now))
+    (Appends-nil (g.W.Write.contents c.args.out.now))
 
 pub returns-in-None-None-clause-sums : goal.returns-in-None-None-clause-sums
 returns-in-None-None-clause-sums g c =
@@ -21,10 +22,11 @@ returns-in-None-None-clause-sums g c =
 
 pub returns-then-agree-clause-written : goal.returns-then-agree-clause-written
 returns-then-agree-clause-written g c =
-    subst (λ changes. Appends (g.W.Write.contents c.args.out.now) (g.W.Write.contents c.args.out.now)
+    subst (λ changes. Appends (g.W.Write.contents c.args.out.now)
+    (g.W.Write.contents c.args.out.now)
     (ended_lines (sum_in c.args.last) changes))
     (sym (no_change c.args.before.now c.args.after.now (sym c.agree.ensures ∙ c.if-agree.true)))
-    (appends_none (g.W.Write.contents c.args.out.now))
+    (Appends-nil (g.W.Write.contents c.args.out.now))
 
 pub returns-then-agree-clause-sums : goal.returns-then-agree-clause-sums
 returns-then-agree-clause-sums g c =
@@ -36,7 +38,8 @@ returns-in-Some-clause-written g c =
     let row = c.match-before.row.now in
     let last = sum_in c.args.last in
     let one : IsOne row c.args.before.now c.args.after.now = elim c.match-before.branch [
-      | in-Some-default w ↦ first_is_one row w.in-Some-default.row c.args.before.now c.args.after.now
+      | in-Some-default w ↦ first_is_one row w.in-Some-default.row c.args.before.now
+          c.args.after.now
           w.in-Some-default.is-0 (ap (λ r. r.now) w.row-is)
       | in-None-Some w ↦ second_is_one row w.in-None-Some.row c.args.before.now c.args.after.now
           w.in-None-Some.is-0 w.in-None-Some.is-1 (ap (λ r. r.now) w.row-is)
@@ -54,7 +57,8 @@ returns-in-Some-clause-sums g c =
     let before = c.args.before.now in
     let after = c.args.after.now in
     let one : IsOne row before after = elim c.match-before.branch [
-      | in-Some-default w ↦ first_is_one row w.in-Some-default.row c.args.before.now c.args.after.now
+      | in-Some-default w ↦ first_is_one row w.in-Some-default.row c.args.before.now
+          c.args.after.now
           w.in-Some-default.is-0 (ap (λ r. r.now) w.row-is)
       | in-None-Some w ↦ second_is_one row w.in-None-Some.row c.args.before.now c.args.after.now
           w.in-None-Some.is-0 w.in-None-Some.is-1 (ap (λ r. r.now) w.row-is)

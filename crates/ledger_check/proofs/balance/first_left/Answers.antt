@@ -55,6 +55,7 @@ pub returns-clause-none : goal.returns-clause-none
 returns-clause-none c = λ tap.
     let zero = c.loop-tap.invariant.zero in
     let all : All Zero c.args.left.now.entries = subst (All Zero)
-    (sym (append-nil zero.0) ∙ sym (zero.1 ∙ ap (λ (left : List (TapFields × ℕ)). zero.0 ++ left) c.in-None.ensures.steps.0))
+    (sym (append-nil zero.0)
+    ∙ sym (zero.1 ∙ ap (λ (left : List (TapFields × ℕ)). zero.0 ++ left) c.in-None.ensures.steps.0))
     zero.2 in
     zero_or_none _ (All-lookup (λ (n : ℕ). n ≡ 0) (is_at (tap_cmp tap)) c.args.left.now.entries all)

@@ -1,5 +1,6 @@
 -- A line tells a tap exactly if each of its fields is read.
-use Rattle.std.proofs.Common.{◌≡◌, ◌∷◌, ◌++◌, ◌∙◌, ℕ, List, Some, None, true, false, sym, ap, subst, rules, tests}
+use Rattle.std.proofs.Common.{◌≡◌, ◌∷◌, ◌++◌, ◌∙◌, ℕ, List, Some, None, true, false, sym, ap, subst}
+use Rattle.std.proofs.Common.{rules, tests}
 use Rattle.std.proofs.lemmas.Bool.{false≢true}
 use Rattle.hex.specs.Hex.{encode_lower}
 use Rattle.fare_texts.specs.Moments.{IsMomentText}
@@ -10,31 +11,41 @@ use Rattle.ledger_check.proofs.exact.exact_tap.Goals as goal
 
 pub returns-in_default : goal.returns-in_default
 returns-in_default c = λ token validator moment rest is.
-    (rw c.in_default.is at c.front_of.ensures.none) _ _ _ _ _ (tap_front c.args.line.now token validator moment rest is)
+    (rw c.in_default.is at c.front_of.ensures.none) _ _ _ _ _
+    (tap_front c.args.line.now token validator moment rest is)
 
 pub returns-in_default-exact_token : goal.returns-in_default-exact_token
 returns-in_default-exact_token c = λ token validator moment rest is.
-    let same = front_same c.args.line.now _ _ _ _ _ _ _ _ _ _ c.in-Some.ensures.some.1 (tap_front c.args.line.now token validator moment rest is) in
+    let same = front_same c.args.line.now _ _ _ _ _ _ _ _ _ _ c.in-Some.ensures.some.1
+    (tap_front c.args.line.now token validator moment rest is) in
     (rw c.in_default-exact_token.is at c.exact_token.ensures) token is.fits same.token_is
 
 pub returns-in_default-read_moment : goal.returns-in_default-read_moment
 returns-in_default-read_moment c = λ token validator moment rest is.
-    let same = front_same c.args.line.now _ _ _ _ _ _ _ _ _ _ c.in-Some.ensures.some.1 (tap_front c.args.line.now token validator moment rest is) in
-    let none : None ≡ Some moment = (rw c.in_default-read_moment.is at c.read_moment.ensures.found) moment is.early (subst (IsMomentText moment) (sym same.moment_is) is.is) in
+    let same = front_same c.args.line.now _ _ _ _ _ _ _ _ _ _ c.in-Some.ensures.some.1
+    (tap_front c.args.line.now token validator moment rest is) in
+    let none : None ≡ Some moment =
+    (rw c.in_default-read_moment.is at c.read_moment.ensures.found) moment is.early
+    (subst (IsMomentText moment) (sym same.moment_is) is.is) in
     absurd (cc)
 
 pub returns-in_default-exact_number : goal.returns-in_default-exact_number
 returns-in_default-exact_number c = λ token validator moment rest is.
-    let same = front_same c.args.line.now _ _ _ _ _ _ _ _ _ _ c.in-Some.ensures.some.1 (tap_front c.args.line.now token validator moment rest is) in
+    let same = front_same c.args.line.now _ _ _ _ _ _ _ _ _ _ c.in-Some.ensures.some.1
+    (tap_front c.args.line.now token validator moment rest is) in
     (rw c.in_default-exact_number.is at c.exact_number.ensures) validator is.small same.validator_is
 
 pub returns-then-not-is_exact : goal.returns-then-not-is_exact
 returns-then-not-is_exact c = λ token validator moment rest is.
-    let same = front_same c.args.line.now _ _ _ _ _ _ _ _ _ _ c.in-Some.ensures.some.1 (tap_front c.args.line.now token validator moment rest is) in
+    let same = front_same c.args.line.now _ _ _ _ _ _ _ _ _ _ c.in-Some.ensures.some.1
+    (tap_front c.args.line.now token validator moment rest is) in
     let text = subst (IsMomentText moment) (sym same.moment_is) is.is in
-    let read : Some c.in-Some-read_moment.moment ≡ Some moment = c.in-Some-read_moment.ensures.found moment is.early text in
+    let read : Some c.in-Some-read_moment.moment ≡ Some moment =
+    c.in-Some-read_moment.ensures.found moment is.early text in
     let number = same_Some c.in-Some-read_moment.moment moment read in
-    let yes : c.in_ok-is_exact.is_exact ≡ true = c.in_ok-is_exact.ensures.1 (subst (λ (m : ℕ). IsMomentText m c.in-Some.front.moment.now) (sym number) text) in
+    let yes : c.in_ok-is_exact.is_exact ≡ true =
+    c.in_ok-is_exact.ensures.1
+    (subst (λ (m : ℕ). IsMomentText m c.in-Some.front.moment.now) (sym number) text) in
     let no : c.in_ok-is_exact.is_exact ≡ false = first_of (cc, search (rules, tests)) in
     absurd (false≢true (sym no ∙ yes))
 

@@ -22,7 +22,8 @@ loop-tap-preserved c =
         before.1 ∙ ap (λ (left : List (TapFields × ℕ)). before.0 ++ left) c.in-Some.ensures.steps
             ∙ sym (append_assoc before.0 (entry ∷ []) c.next.new.self),
         c.in_ok-push_times.ensures
-            ∙ ap (λ (ts : List TapFields). ts ++ replicate c.in-Some.count.now c.in-Some.tap.now) before.2
+            ∙ ap (λ (ts : List TapFields). ts ++ replicate c.in-Some.count.now c.in-Some.tap.now)
+            before.2
             ∙ flat_map_more times [] before.0 entry,
       );
     }

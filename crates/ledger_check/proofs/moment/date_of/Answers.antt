@@ -10,9 +10,12 @@ use Rattle.ledger_check.proofs.moment.date_of.Goals as goal
 pub returns-in-Ok : goal.returns-in-Ok
 returns-in-Ok c = λ date year month day.
     let made = c.in-Ok.ensures.value in
-    let month_is : pos c.in-Ok.date.month ≡ pos date.month = made.1 ∙ narrow c.args.month c.requires.month ∙ ap pos (sym month) in
-    let day_is : pos c.in-Ok.date.day ≡ pos date.day = made.2 ∙ narrow c.args.day c.requires.day ∙ ap pos (sym day) in
-    epoch_day_same c.in-Ok.date date (made.0 ∙ wide c.args.year c.requires.year ∙ sym year) (cc) (cc)
+    let month_is : pos c.in-Ok.date.month ≡ pos date.month =
+    made.1 ∙ narrow c.args.month c.requires.month ∙ ap pos (sym month) in
+    let day_is : pos c.in-Ok.date.day ≡ pos date.day =
+    made.2 ∙ narrow c.args.day c.requires.day ∙ ap pos (sym day) in
+    epoch_day_same c.in-Ok.date date (made.0 ∙ wide c.args.year c.requires.year ∙ sym year) (cc)
+    (cc)
 
 pub returns-in-Err : goal.returns-in-Err
 returns-in-Err c = λ date year month day.

@@ -12,7 +12,8 @@ use Rattle.ledger_check.proofs.walk.teller_after.Goals as goal
 pub returns-in_default-clause-told : goal.returns-in_default-clause-told
 returns-in_default-clause-told c = λ fares run is.
     let none = subst (λ (t : Option Teller). HasRunTeller fares t run) c.in_default.is is in
-    subst (λ (es : List Entry). HasTold fares c.of.result es) (sym (run_none c.args.token run none)) (c.of.ensures.told fares)
+    subst (λ (es : List Entry). HasTold fares c.of.result es) (sym (run_none c.args.token run none))
+    (c.of.ensures.told fares)
 
 pub returns-in_default-clause-falls : goal.returns-in_default-clause-falls
 returns-in_default-clause-falls c = λ fares run is.
@@ -22,35 +23,46 @@ returns-in_default-clause-falls c = λ fares run is.
 pub returns-in-Less-clause-told : goal.returns-in-Less-clause-told
 returns-in-Less-clause-told c = λ fares run is.
     let stands = subst (λ (t : Option Teller). HasRunTeller fares t run) c.in-Some.is is in
-    let less = less_number c.in-Some.teller.token c.args.token stands.fits c.requires (sym c.cmp.ensures ∙ c.in-Less.is) in
-    subst (λ (es : List Entry). HasTold fares c.of-in-Less.result es) (sym (run_less fares c.in-Some.teller run c.args.token stands less).0) (c.of-in-Less.ensures.told fares)
+    let less = less_number c.in-Some.teller.token c.args.token stands.fits c.requires
+    (sym c.cmp.ensures ∙ c.in-Less.is) in
+    subst (λ (es : List Entry). HasTold fares c.of-in-Less.result es)
+    (sym (run_less fares c.in-Some.teller run c.args.token stands less).0)
+    (c.of-in-Less.ensures.told fares)
 
 pub returns-in-Less-clause-falls : goal.returns-in-Less-clause-falls
 returns-in-Less-clause-falls c = λ fares run is.
     let stands = subst (λ (t : Option Teller). HasRunTeller fares t run) c.in-Some.is is in
-    let less = less_number c.in-Some.teller.token c.args.token stands.fits c.requires (sym c.cmp.ensures ∙ c.in-Less.is) in
+    let less = less_number c.in-Some.teller.token c.args.token stands.fits c.requires
+    (sym c.cmp.ensures ∙ c.in-Less.is) in
     sym (run_less fares c.in-Some.teller run c.args.token stands less).1
 
 pub returns-in-Equal-clause-told : goal.returns-in-Equal-clause-told
 returns-in-Equal-clause-told c = λ fares run is.
     let stands = subst (λ (t : Option Teller). HasRunTeller fares t run) c.in-Some.is is in
-    let same = token_cmp-ties c.in-Some.teller.token c.args.token (sym c.cmp.ensures ∙ c.in-Equal.is) in
-    subst (λ (es : List Entry). HasTold fares c.in-Some.teller es) (sym (run_equal fares c.in-Some.teller run c.args.token stands same).0) stands.told
+    let same = token_cmp-ties c.in-Some.teller.token c.args.token
+    (sym c.cmp.ensures ∙ c.in-Equal.is) in
+    subst (λ (es : List Entry). HasTold fares c.in-Some.teller es)
+    (sym (run_equal fares c.in-Some.teller run c.args.token stands same).0) stands.told
 
 pub returns-in-Equal-clause-falls : goal.returns-in-Equal-clause-falls
 returns-in-Equal-clause-falls c = λ fares run is.
     let stands = subst (λ (t : Option Teller). HasRunTeller fares t run) c.in-Some.is is in
-    let same = token_cmp-ties c.in-Some.teller.token c.args.token (sym c.cmp.ensures ∙ c.in-Equal.is) in
+    let same = token_cmp-ties c.in-Some.teller.token c.args.token
+    (sym c.cmp.ensures ∙ c.in-Equal.is) in
     sym (run_equal fares c.in-Some.teller run c.args.token stands same).1
 
 pub returns-in-Greater-clause-told : goal.returns-in-Greater-clause-told
 returns-in-Greater-clause-told c = λ fares run is.
     let stands = subst (λ (t : Option Teller). HasRunTeller fares t run) c.in-Some.is is in
-    let greater = greater_number c.in-Some.teller.token c.args.token stands.fits c.requires (sym c.cmp.ensures ∙ c.in-Greater.is) in
-    subst (λ (es : List Entry). HasTold fares c.of-in-Greater.result es) (sym (run_greater fares c.in-Some.teller run c.args.token stands greater).0) (c.of-in-Greater.ensures.told fares)
+    let greater = greater_number c.in-Some.teller.token c.args.token stands.fits c.requires
+    (sym c.cmp.ensures ∙ c.in-Greater.is) in
+    subst (λ (es : List Entry). HasTold fares c.of-in-Greater.result es)
+    (sym (run_greater fares c.in-Some.teller run c.args.token stands greater).0)
+    (c.of-in-Greater.ensures.told fares)
 
 pub returns-in-Greater-clause-falls : goal.returns-in-Greater-clause-falls
 returns-in-Greater-clause-falls c = λ fares run is.
     let stands = subst (λ (t : Option Teller). HasRunTeller fares t run) c.in-Some.is is in
-    let greater = greater_number c.in-Some.teller.token c.args.token stands.fits c.requires (sym c.cmp.ensures ∙ c.in-Greater.is) in
+    let greater = greater_number c.in-Some.teller.token c.args.token stands.fits c.requires
+    (sym c.cmp.ensures ∙ c.in-Greater.is) in
     sym (run_greater fares c.in-Some.teller run c.args.token stands greater).1

@@ -17,13 +17,28 @@ returns c = λ entries stands.
     let teller = c.args.teller.now in
     let after = c.explain_next.new.self in
     let replied = c.reply-reply.result in
-    let tap : Entry = record { token = teller.token; validator = c.args.validator; moment = c.args.moment; answer = Unknown; cents = 0 } in
-    let entry : Entry = record { token = teller.token; validator = c.args.validator; moment = c.args.moment; answer = replied.answer; cents = replied.cents } in
+    let tap : Entry = record {
+      token = teller.token;
+      validator = c.args.validator;
+      moment = c.args.moment;
+      answer =
+          Unknown;
+      cents = 0;
+    } in
+    let entry : Entry = record {
+      token = teller.token;
+      validator = c.args.validator;
+      moment = c.args.moment;
+      answer =
+          replied.answer;
+      cents = replied.cents;
+    } in
     let next = c.in_ok-reason.ensures in
     let done = own teller.token entries in
     let line = c.in_ok-write_line.ensures in
     let written = line.2 ∙ ap (λ (t : List ℕ). t ++ line.0) c.clear.ensures.bytes in
-    goes_on fares teller after entries tap entry c.in_ok-reason.reason (string_bytes c.write_line.new.text)
+    goes_on fares teller after entries tap entry c.in_ok-reason.reason
+    (string_bytes c.write_line.new.text)
     (record {
       token = refl;
       is_tap = refl;
@@ -32,5 +47,7 @@ returns c = λ entries stands.
       told = next.told done stands.told;
       same_token = next.token;
       counted = next.number;
-      shown = subst (λ (t : List ℕ). IsLedgerLine fares after.token after.number entry c.in_ok-reason.reason t) (sym written) line.1;
+      shown = subst
+          (λ (t : List ℕ). IsLedgerLine fares after.token after.number entry c.in_ok-reason.reason
+          t) (sym written) line.1;
     }) stands

@@ -19,7 +19,7 @@ loop-piece-init g c = record {
   classes = refl;
   fed = c.new-checker.ensures.fed c.args.table.now;
   struck = λ good is. c.new-checker.ensures.struck c.args.table.now c.args.balance.now good is;
-  read = consumes-none _;
+  read = Consumes-nil _;
   sums = c.requires.sums;
   report = refl;
 }

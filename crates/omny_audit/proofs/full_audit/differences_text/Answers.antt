@@ -1,4 +1,5 @@
-use Rattle.std.proofs.Common.{◌≡◌, ◌++◌, ◌∙◌, ℕ, Bool, List, true, false, sym, ap, subst, rules, tests, string_bytes}
+use Rattle.std.proofs.Common.{◌≡◌, ◌++◌, ◌∙◌, ℕ, Bool, List, true, false, sym, ap, subst, rules}
+use Rattle.std.proofs.Common.{tests, string_bytes}
 use Rattle.std.specs.Prelude.{◌&&◌}
 use Rattle.tap_views.specs.declared.encoder.TapFields.{TapFields}
 use Rattle.ledger_check.specs.FullBalances.{AreLacking}
@@ -22,9 +23,12 @@ returns-then-not-legal c = λ good taps struck.
     let surplus = c.as_slice-surplus_taps.result.now in
     let written = c.in_ok-write_differences.ensures in
     let text = written.2 ∙ ap (λ (t : List ℕ). t ++ written.0) c.new-text.ensures.bytes in
-    end_beside good taps missing surplus c.args.has_uploads c.args.legal false (string_bytes c.write_differences.new.text) some
-    (subst (λ (ts : List TapFields). AreLacking good taps ts) (sym left) (c.in_ok-missing.ensures good taps is))
-    (subst (λ (ts : List TapFields). AreLacking taps good ts) (sym right) (c.in_ok-surplus.ensures good taps is))
+    end_beside good taps missing surplus c.args.has_uploads c.args.legal false
+    (string_bytes c.write_differences.new.text) some
+    (subst (λ (ts : List TapFields). AreLacking good taps ts) (sym left)
+    (c.in_ok-missing.ensures good taps is))
+    (subst (λ (ts : List TapFields). AreLacking taps good ts) (sym right)
+    (c.in_ok-surplus.ensures good taps is))
     (subst (λ (t : List ℕ). IsDifferencesText missing surplus t) (sym text) written.1)
     (sym (ap (λ (b : Bool). b && are_none missing surplus) no))
 
@@ -39,8 +43,11 @@ returns c = λ good taps struck.
     let surplus = c.as_slice-surplus_taps.result.now in
     let written = c.in_ok-write_differences.ensures in
     let text = written.2 ∙ ap (λ (t : List ℕ). t ++ written.0) c.new-text.ensures.bytes in
-    end_beside good taps missing surplus c.args.has_uploads c.args.legal c.are_none-is_even.result (string_bytes c.write_differences.new.text) some
-    (subst (λ (ts : List TapFields). AreLacking good taps ts) (sym left) (c.in_ok-missing.ensures good taps is))
-    (subst (λ (ts : List TapFields). AreLacking taps good ts) (sym right) (c.in_ok-surplus.ensures good taps is))
+    end_beside good taps missing surplus c.args.has_uploads c.args.legal c.are_none-is_even.result
+    (string_bytes c.write_differences.new.text) some
+    (subst (λ (ts : List TapFields). AreLacking good taps ts) (sym left)
+    (c.in_ok-missing.ensures good taps is))
+    (subst (λ (ts : List TapFields). AreLacking taps good ts) (sym right)
+    (c.in_ok-surplus.ensures good taps is))
     (subst (λ (t : List ℕ). IsDifferencesText missing surplus t) (sym text) written.1)
     (c.are_none-is_even.ensures ∙ sym (ap (λ (b : Bool). b && are_none missing surplus) yes))

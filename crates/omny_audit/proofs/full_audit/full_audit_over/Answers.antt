@@ -8,7 +8,6 @@ use Rattle.omny_audit.specs.Reports.{IsAudit, IsReportLine}
 use Rattle.omny_audit.specs.inside.Traced.{classes_of}
 use Rattle.ledger_check.specs.Columns.{read_as}
 use Rattle.omny_audit.proofs.FullFindingLemmas.{recount_legal}
-use Rattle.omny_audit.proofs.Written.{appends_more}
 use Rattle.omny_audit.proofs.full_audit.full_audit_over.Goals as goal
 
 pub recount_all-requires-clause-good : goal.recount_all-requires-clause-good

@@ -62,9 +62,13 @@ returns-then-count-eq0-clause-told g c =
             recount = ended.1;
             is_legal = ended.2;
             struck = ended.3;
-            written = subst (λ (t : List ℕ). Appends (g.W.Write.contents c.args.out.now) (g.W.Write.contents c.write_piece.new.out) t) ended.6
-                (appends_more _ _ _ now.0 ended.4 now.2
-                (subst (λ (t : List ℕ). Appends (g.W.Write.contents c.loop-piece.out) (g.W.Write.contents c.write_piece.new.out) t) (c.as_str.ensures.value ∙ more) c.in_ok-write_piece.ensures.text));
+            written = subst
+                (λ (t : List ℕ). Appends (g.W.Write.contents c.args.out.now)
+                (g.W.Write.contents c.write_piece.new.out) t) ended.6
+                (Appends-trans _ _ _ now.0 ended.4 now.2
+                (subst (λ (t : List ℕ). Appends (g.W.Write.contents c.loop-piece.out)
+                (g.W.Write.contents c.write_piece.new.out) t) (c.as_str.ensures.value ∙ more)
+                c.in_ok-write_piece.ensures.text));
           },
       c.in_ok-legal.ensures.sums before.file before.text before.as_text before.sums,
       c.in_ok-legal.ensures.all before.file before.text before.as_text,

@@ -4,5 +4,6 @@ use Rattle.omny_audit.proofs.laws.findings_decide.Goals as goal
 
 pub returns : goal.returns
 returns c = λ fares text good told well finding.
-    decides c.differences_are_real.ensures.apart fares text good (is_legal finding.verdict) finding.rest well
+    decides c.differences_are_real.ensures.apart fares text good (is_legal finding.verdict)
+    finding.rest well
     (c.verdicts_decide.ensures fares text finding.verdict finding.is_verdict) finding.second

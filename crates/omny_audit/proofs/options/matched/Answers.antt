@@ -1,6 +1,7 @@
 use Rattle.std.proofs.Common.{◌≡◌, ◌∙◌, true, refl, ap, subst, map, string_bytes}
 use Rattle.std.proofs.lemmas.Result.{IfOk-weaker}
-use Rattle.clap.specs.Words.{App, FailsBy, app_of, fault_of, is_simple, is_simple_and_free, found_of, matches_of, rows_of}
+use Rattle.clap.specs.Words.{App, FailsBy, app_of, fault_of, is_simple, is_simple_and_free}
+use Rattle.clap.specs.Words.{found_of, matches_of, rows_of}
 use Rattle.clap.proofs.OnLiterals.{clap_on_literals}
 use Rattle.omny_audit.specs.Options.{audit_program}
 use Rattle.omny_audit.proofs.options.matched.Goals as goal
@@ -17,11 +18,14 @@ pub returns-clause-rows : goal.returns-clause-rows
 returns-clause-rows c =
     let words = map string_bytes c.args.words.now in
     let same : app_of c.in_ok-command.field-0 ≡ audit_program = c.in_ok-command.ensures in
-    IfOk-weaker c.try_get_matches_from.result _ _ (λ m h. subst (λ (a : App). rows_of (found_of m) ≡ matches_of a words) same (h (ap is_simple same ∙ program_is_simple)).0)
+    IfOk-weaker c.try_get_matches_from.result _ _
+    (λ m h. subst (λ (a : App). rows_of (found_of m) ≡ matches_of a words) same
+    (h (ap is_simple same ∙ program_is_simple)).0)
     c.try_get_matches_from.ensures.matches
 
 pub returns-clause-kinds : goal.returns-clause-kinds
 returns-clause-kinds c =
     let words = map string_bytes c.args.words.now in
     let same : app_of c.in_ok-command.field-0 ≡ audit_program = c.in_ok-command.ensures in
-    subst (λ (a : App). FailsBy (fault_of a words) c.try_get_matches_from.result) same (c.try_get_matches_from.ensures.kinds (ap is_simple_and_free same ∙ is_free))
+    subst (λ (a : App). FailsBy (fault_of a words) c.try_get_matches_from.result) same
+    (c.try_get_matches_from.ensures.kinds (ap is_simple_and_free same ∙ is_free))

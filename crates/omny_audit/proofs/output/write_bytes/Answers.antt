@@ -1,5 +1,6 @@
 use Rattle.std.proofs.Common.{◌∙◌, ◌++◌, ℕ, Bor, List, ap, sym, take}
-use Rattle.omny_audit.proofs.Written.{appends_kept, appends_more, begun_more}
+use Rattle.std.proofs.KnownBytes.{Appends-trans, Appends-kept}
+use Rattle.omny_audit.proofs.Written.{begun_more}
 use Rattle.omny_audit.proofs.output.write_bytes.Goals as goal
 use Rattle.omny_audit.proofs.output.write_bytes.Goals.{in-Ok, in-Err+else-ne}
 
@@ -11,12 +12,14 @@ loop-write-preserved g c =
     elim c.match-write.branch [
       | in-Ok w ↦ record {
         front = before.front ++ take w.in-Ok.count rest;
-        whole = begun_more c.args.text.now before.front rest c.match-write.rest.now w.in-Ok.count before.whole (ap (λ (b : Bor (List ℕ)). b.now) w.rest-is);
-        written = appends_more _ _ _ before.front (take w.in-Ok.count rest) before.written w.in-Ok.ensures.bytes;
+        whole = begun_more c.args.text.now before.front rest c.match-write.rest.now w.in-Ok.count
+            before.whole (ap (λ (b : Bor (List ℕ)). b.now) w.rest-is);
+        written = Appends-trans _ _ _ before.front (take w.in-Ok.count rest) before.written
+            w.in-Ok.ensures.bytes;
       }
       | in-Err+else-ne w ↦ record {
         front = before.front;
         whole = before.whole ∙ ap (λ (b : Bor (List ℕ)). before.front ++ b.now) (sym w.rest-is);
-        written = appends_kept _ _ _ before.front before.written w.in-Err.ensures.bytes;
+        written = Appends-kept _ _ _ before.front before.written w.in-Err.ensures.bytes;
       }
     ]

@@ -14,25 +14,29 @@ use Rattle.omny_audit.proofs.ProgramLemmas.{handed_on}
 use Rattle.omny_audit.proofs.program.audit.Goals as goal
 
 pub full_audit_over-requires-clause-good : goal.full_audit_over-requires-clause-good
-full_audit_over-requires-clause-good g c = let loaded = c.in_ok-balance.ensures.ok in (loaded.1, loaded.4)
+full_audit_over-requires-clause-good g c = let loaded = c.in_ok-balance.ensures.ok in
+    (loaded.1, loaded.4)
 
 pub full_audit_over-requires-clause-sums : goal.full_audit_over-requires-clause-sums
 full_audit_over-requires-clause-sums g c = c.in_ok-report.ensures.sums c.in_ok-table.table
 
 pub audit_over-requires-clause-good : goal.audit_over-requires-clause-good
-audit_over-requires-clause-good g c = let loaded = c.in_ok-balance.ensures.ok in (loaded.1, loaded.4)
+audit_over-requires-clause-good g c = let loaded = c.in_ok-balance.ensures.ok in
+    (loaded.1, loaded.4)
 
 pub audit_over-requires-clause-sums : goal.audit_over-requires-clause-sums
 audit_over-requires-clause-sums g c = c.in_ok-report.ensures.sums c.in_ok-table.table
 
--- the table, the uploads and the report were loaded, and the ledger was read, which the answer is on
+-- the table, the uploads and the report were loaded, and the ledger was read, which the answer is
+-- on
 pub returns-clause-ok : goal.returns-clause-ok
 returns-clause-ok g c =
     let loaded = c.in_ok-balance.ensures.ok in
     IfOk-weaker c.audit_over.result _ _ (λ well told.
     let finding = told.2 loaded.1 loaded.4 in
     let names = c.as_slice-names.ensures.value in
-    let same = compared_is c.as_slice-names.result.now loaded.1 _ (ap not c.is_empty-has_uploads.ensures)
+    let same = compared_is c.as_slice-names.result.now loaded.1 _
+    (ap not c.is_empty-has_uploads.ensures)
     ∙ ap (λ (ns : List (Bor (List ℕ))). compared (map (λ n. n.now) ns) loaded.1) names in
     let reported = text_of c.in_ok-report.report in
     let found = subst (λ (good : Option (List TapFields)). IsAudit false c.in_ok-table.table (classes_of c.in_ok-trace.trace) told.0 finding.1 good reported finding.0 well) same finding.2 in
@@ -47,7 +51,8 @@ returns-clause-ok g c =
         fares = c.in_ok-table.table;
         loads_table = record { bytes = c.in_ok-table.table_text.items; told_is = c.in_ok-table.ensures.ok.0; means = c.in_ok-table.ensures.ok.1 };
         uploads = loaded.0;
-        loads_uploads = loads_same c.as_slice-names.result.now c.args.options.now.uploads.items _ _ loaded.0 names loaded.2;
+        loads_uploads = loads_same c.as_slice-names.result.now c.args.options.now.uploads.items _ _
+            loaded.0 names loaded.2;
         good = loaded.1;
         are_good = loaded.3;
         report = reported;
@@ -72,7 +77,8 @@ returns-then-options-clause-ok g c =
     IfOk-weaker c.full_audit_over.result _ _ (λ well told.
     let finding = told.2 loaded.1 loaded.4 in
     let names = c.as_slice-names.ensures.value in
-    let same = compared_is c.as_slice-names.result.now loaded.1 _ (ap not c.is_empty-has_uploads.ensures)
+    let same = compared_is c.as_slice-names.result.now loaded.1 _
+    (ap not c.is_empty-has_uploads.ensures)
     ∙ ap (λ (ns : List (Bor (List ℕ))). compared (map (λ n. n.now) ns) loaded.1) names in
     let reported = text_of c.in_ok-report.report in
     let found = subst (λ (good : Option (List TapFields)). IsAudit true c.in_ok-table.table (classes_of c.in_ok-trace.trace) told.0 finding.1 good reported finding.0 well) same finding.2 in
@@ -87,7 +93,8 @@ returns-then-options-clause-ok g c =
         fares = c.in_ok-table.table;
         loads_table = record { bytes = c.in_ok-table.table_text.items; told_is = c.in_ok-table.ensures.ok.0; means = c.in_ok-table.ensures.ok.1 };
         uploads = loaded.0;
-        loads_uploads = loads_same c.as_slice-names.result.now c.args.options.now.uploads.items _ _ loaded.0 names loaded.2;
+        loads_uploads = loads_same c.as_slice-names.result.now c.args.options.now.uploads.items _ _
+            loaded.0 names loaded.2;
         good = loaded.1;
         are_good = loaded.3;
         report = reported;
@@ -110,44 +117,54 @@ pub returns-in_err-balance-clause-named : goal.returns-in_err-balance-clause-nam
 returns-in_err-balance-clause-named g c =
     let fault = c.in_err-balance.field-0.0 in
     let asked = audit_asked_of c.args.options.now in
-    handed_on c.from_residual-in_err-balance.result fault (λ f. NamesOneOf (files_of asked) f) c.from_residual-in_err-balance.ensures.1
+    handed_on c.from_residual-in_err-balance.result fault (λ f. NamesOneOf (files_of asked) f)
+    c.from_residual-in_err-balance.ensures.1
     (at_uploads asked fault
-    (names_same c.as_slice-names.result.now c.args.options.now.uploads.items fault c.as_slice-names.ensures.value c.in_err-balance.ensures.named))
+    (names_same c.as_slice-names.result.now c.args.options.now.uploads.items fault
+    c.as_slice-names.ensures.value c.in_err-balance.ensures.named))
 
 pub returns-in_err-report-clause-named : goal.returns-in_err-report-clause-named
 returns-in_err-report-clause-named g c =
     let fault = c.in_err-report.field-0.0 in
     let asked = audit_asked_of c.args.options.now in
-    handed_on c.from_residual-in_err-report.result fault (λ f. NamesOneOf (files_of asked) f) c.from_residual-in_err-report.ensures.1
+    handed_on c.from_residual-in_err-report.result fault (λ f. NamesOneOf (files_of asked) f)
+    c.from_residual-in_err-report.ensures.1
     (at_report asked fault c.in_err-report.ensures.named)
 
 pub returns-in_err-ledger-clause-named : goal.returns-in_err-ledger-clause-named
 returns-in_err-ledger-clause-named g c =
     let fault = c.in_err-ledger.field-0.0 in
     let asked = audit_asked_of c.args.options.now in
-    handed_on c.from_residual-in_err-ledger.result fault (λ f. NamesOneOf (files_of asked) f) c.from_residual-in_err-ledger.ensures.1
+    handed_on c.from_residual-in_err-ledger.result fault (λ f. NamesOneOf (files_of asked) f)
+    c.from_residual-in_err-ledger.ensures.1
     (at_ledger asked fault c.in_err-ledger.ensures.named)
 
 pub returns-in_err-balance-clause-right : goal.returns-in_err-balance-clause-right
 returns-in_err-balance-clause-right g c =
     let fault = c.in_err-balance.field-0.0 in
     let asked = audit_asked_of c.args.options.now in
-    handed_on c.from_residual-in_err-balance.result fault (λ f. IsRightAuditFault asked _ _ _ f _ _) c.from_residual-in_err-balance.ensures.1
-    (written_first asked _ _ _ fault _ _ c.in_err-balance.ensures.fault (c.in_err-balance.ensures.right asked.table _ _))
+    handed_on c.from_residual-in_err-balance.result fault (λ f. IsRightAuditFault asked _ _ _ f _ _)
+    c.from_residual-in_err-balance.ensures.1
+    (written_first asked _ _ _ fault _ _ c.in_err-balance.ensures.fault
+    (c.in_err-balance.ensures.right asked.table _ _))
 
 pub returns-in_err-report-clause-right : goal.returns-in_err-report-clause-right
 returns-in_err-report-clause-right g c =
     let fault = c.in_err-report.field-0.0 in
     let asked = audit_asked_of c.args.options.now in
-    handed_on c.from_residual-in_err-report.result fault (λ f. IsRightAuditFault asked _ _ _ f _ _) c.from_residual-in_err-report.ensures.1
-    (written_first asked _ _ _ fault _ _ c.in_err-report.ensures.fault (c.in_err-report.ensures.right asked.table _ _))
+    handed_on c.from_residual-in_err-report.result fault (λ f. IsRightAuditFault asked _ _ _ f _ _)
+    c.from_residual-in_err-report.ensures.1
+    (written_first asked _ _ _ fault _ _ c.in_err-report.ensures.fault
+    (c.in_err-report.ensures.right asked.table _ _))
 
 pub returns-in_err-ledger-clause-right : goal.returns-in_err-ledger-clause-right
 returns-in_err-ledger-clause-right g c =
     let fault = c.in_err-ledger.field-0.0 in
     let asked = audit_asked_of c.args.options.now in
-    handed_on c.from_residual-in_err-ledger.result fault (λ f. IsRightAuditFault asked _ _ _ f _ _) c.from_residual-in_err-ledger.ensures.1
-    (written_first asked _ _ _ fault _ _ c.in_err-ledger.ensures.fault (c.in_err-ledger.ensures.right asked.table _ _))
+    handed_on c.from_residual-in_err-ledger.result fault (λ f. IsRightAuditFault asked _ _ _ f _ _)
+    c.from_residual-in_err-ledger.ensures.1
+    (written_first asked _ _ _ fault _ _ c.in_err-ledger.ensures.fault
+    (c.in_err-ledger.ensures.right asked.table _ _))
 
 -- the ledger was read, and what a write that failed left is a beginning of the right text
 pub returns-clause-right : goal.returns-clause-right
@@ -160,7 +177,8 @@ returns-clause-right g c =
           let told = begun un in
           let finding = told.2 loaded.1 loaded.4 in
           let names = c.as_slice-names.ensures.value in
-          let same = compared_is c.as_slice-names.result.now loaded.1 _ (ap not c.is_empty-has_uploads.ensures)
+          let same = compared_is c.as_slice-names.result.now loaded.1 _
+          (ap not c.is_empty-has_uploads.ensures)
           ∙ ap (λ (ns : List (Bor (List ℕ))). compared (map (λ n. n.now) ns) loaded.1) names in
           let reported = text_of c.in_ok-report.report in
           let found = subst (λ (good : Option (List TapFields)). IsAudit false c.in_ok-table.table (classes_of c.in_ok-trace.trace) told.0 finding.2 good reported finding.0 finding.1) same finding.3 in
@@ -176,7 +194,8 @@ returns-clause-right g c =
               fares = c.in_ok-table.table;
               loads_table = record { bytes = c.in_ok-table.table_text.items; told_is = c.in_ok-table.ensures.ok.0; means = c.in_ok-table.ensures.ok.1 };
               uploads = loaded.0;
-              loads_uploads = loads_same c.as_slice-names.result.now c.args.options.now.uploads.items _ _ loaded.0 names loaded.2;
+              loads_uploads = loads_same c.as_slice-names.result.now
+                  c.args.options.now.uploads.items _ _ loaded.0 names loaded.2;
               good = loaded.1;
               are_good = loaded.3;
               report = reported;

@@ -1,4 +1,5 @@
-use Rattle.std.proofs.Common.{◌≡◌, ◌∙◌, ◌<◌, ◌++◌, ◌∷◌, [], List, ℕ, length, map, refl, subst, take, ap, get_or, Bor, ◌+◌}
+use Rattle.std.proofs.Common.{◌≡◌, ◌∙◌, ◌<◌, ◌++◌, ◌∷◌, [], List, ℕ, length, map, refl, subst, take}
+use Rattle.std.proofs.Common.{ap, get_or, Bor, ◌+◌}
 use Rattle.std.proofs.lemmas.List.{map-append, take_all, take_more}
 use Rattle.ledger_check.specs.Balances.{AreGoodFields}
 use Rattle.omny_audit.specs.Fault.{NamesOneOf}
@@ -7,8 +8,19 @@ use Rattle.omny_audit.proofs.ProgramLemmas.{loads_push, names_at, posted_push, t
 use Rattle.omny_audit.proofs.program.load_balance.Goals as goal
 
 pub loop-name-init : goal.loop-name-init
-loop-name-init g c =
-    ([], [], record { loads = []; named = refl; bytes = refl; told_is = tells_none (g.S.Source.loaded c.args.source.now) }, refl, c.new-balance.ensures)
+loop-name-init g c = (
+  [],
+  [],
+  record {
+    loads = [];
+    named = refl;
+    bytes = refl;
+    told_is =
+        tells_none (g.S.Source.loaded c.args.source.now);
+  },
+  refl,
+  c.new-balance.ensures,
+)
 
 pub loop-name-preserved : goal.loop-name-preserved
 loop-name-preserved g c =
@@ -17,24 +29,30 @@ loop-name-preserved g c =
     let no_name : Bor (List ℕ) = record { ref_ptr = (0, 0); now = [] } in
     let within : c.loop-name.name-index < length names = c.loop-name-test.true in
     let more : map (λ n. n.now) (take (c.loop-name.name-index + 1) names)
-    ≡ map (λ n. n.now) (take c.loop-name.name-index names) ++ (get_or names c.loop-name.name-index no_name).now ∷ [] =
-    ap (map (λ n. n.now)) (take_more names c.loop-name.name-index no_name within) ∙ map-append (λ n. n.now) (take c.loop-name.name-index names) _ in
+    ≡ map (λ n. n.now) (take c.loop-name.name-index names)
+    ++ (get_or names c.loop-name.name-index no_name).now ∷ [] =
+    ap (map (λ n. n.now)) (take_more names c.loop-name.name-index no_name within)
+    ∙ map-append (λ n. n.now) (take c.loop-name.name-index names) _ in
     let added = c.in_ok-add_upload.ensures in (
       before.0 ++ c.in_ok-upload.upload.items ∷ [],
       before.1 ++ added.0,
       rw more (loads_push _ _ _ _ _ _ _ before.2 c.in_ok-upload.ensures.ok),
-      posted_push _ _ _ _ before.3 (subst (λ (u : List ℕ). AreGoodFields u added.0) c.deref.ensures.value added.1),
+      posted_push _ _ _ _ before.3
+          (subst (λ (u : List ℕ). AreGoodFields u added.0) c.deref.ensures.value added.1),
       added.2 before.1 before.4,
     )
 
 pub returns-clause-ok : goal.returns-clause-ok
 returns-clause-ok g c =
-    let all : take c.loop-name.name-index c.args.names.now ≡ c.args.names.now = take_all _ c.args.names.now c.loop-name-test.false in
+    let all : take c.loop-name.name-index c.args.names.now ≡ c.args.names.now =
+    take_all _ c.args.names.now c.loop-name-test.false in
     rw all at c.loop-name.invariant
 
 pub returns-in_err-upload-clause-named : goal.returns-in_err-upload-clause-named
 returns-in_err-upload-clause-named g c =
     let no_name : Bor (List ℕ) = record { ref_ptr = (0, 0); now = [] } in
     let fault = c.in_err-upload.field-0.0 in
-    handed_on c.from_residual.result fault (λ f. NamesOneOf (map (λ n. n.now) c.args.names.now) f) c.from_residual.ensures.1
-    (names_at c.args.names.now c.loop-name.name-index no_name fault c.loop-name-test.true c.in_err-upload.ensures.named)
+    handed_on c.from_residual.result fault (λ f. NamesOneOf (map (λ n. n.now) c.args.names.now) f)
+    c.from_residual.ensures.1
+    (names_at c.args.names.now c.loop-name.name-index no_name fault c.loop-name-test.true
+    c.in_err-upload.ensures.named)

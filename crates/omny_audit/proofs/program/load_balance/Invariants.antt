@@ -8,5 +8,6 @@ use Rattle.omny_audit.proofs.program.load_balance.Given as goal
 abbrev pub invariant-loop-name : goal.invariant-loop-name
 invariant-loop-name g l =
     (files : List (List ℕ)) × (good : List TapFields)
-    × LoadsNamedFiles (map (λ n. n.now) (take l.name-index l.names)) (g.S.Source.loaded l.fn.source) (g.S.Source.loaded l.source) files
+    × LoadsNamedFiles (map (λ n. n.now) (take l.name-index l.names)) (g.S.Source.loaded l.fn.source)
+    (g.S.Source.loaded l.source) files
     × AreGoodFieldsOfAll files good × IsBalance l.balance good []

@@ -5,4 +5,5 @@ use Rattle.omny_audit.proofs.program.load_named.Goals as goal
 pub returns-in-Err-clause-right : goal.returns-in-Err-clause-right
 returns-in-Err-clause-right g c = λ table told after.
     c.of_load.ensures.right table told after (g.S.Source.refused c.load.new.self)
-    (refusal_told (g.S.Source.refused c.load.new.self) (Some c.args.name.now) c.in-Err.fault c.in-Err.ensures.fault)
+    (refusal_told (g.S.Source.refused c.load.new.self) (Some c.args.name.now) c.in-Err.fault
+    c.in-Err.ensures.fault)

@@ -11,5 +11,6 @@ pub returns-in_err-text-clause-named : goal.returns-in_err-text-clause-named
 returns-in_err-text-clause-named g c =
     let fault = c.in_err-text.field-0.0 in
     rw c.in-Some.is
-    (handed_on c.from_residual.result fault (λ f. NamesOneOf (c.in-Some.name.now ∷ []) f) c.from_residual.ensures.1
+    (handed_on c.from_residual.result fault (λ f. NamesOneOf (c.in-Some.name.now ∷ []) f)
+    c.from_residual.ensures.1
     (names_single c.in-Some.name.now fault c.in_err-text.ensures.named))

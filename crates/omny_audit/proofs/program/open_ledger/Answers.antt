@@ -12,4 +12,5 @@ returns-in-Err-clause-right g c = λ table told after.
     let same : c.unwrap_or.result.now ≡ unwrap_or name (codes "standard input") =
     ap (λ (n : Bor (List ℕ)). n.now) c.unwrap_or.ensures ∙ lent_name c.args.name _ in
     c.of_load.ensures.right table told after refused
-    (subst (λ (n : List ℕ). TellsRefusal refused n c.in-Err.fault) (sym same) (refusal_told refused name c.in-Err.fault c.in-Err.ensures.fault))
+    (subst (λ (n : List ℕ). TellsRefusal refused n c.in-Err.fault) (sym same)
+    (refusal_told refused name c.in-Err.fault c.in-Err.ensures.fault))

@@ -14,7 +14,8 @@ returns c = (
     told = c.is_of_ledger.ensures;
     true_of = λ entries of.
         let sums = rw c.in-Some.is at (c.in_ok-sums.ensures fares ledger summed) in
-        subst (λ (t : List ℕ). IsReportVerdict entries t c.in_ok-verdict.verdict) c.deref.ensures.value
+        subst (λ (t : List ℕ). IsReportVerdict entries t c.in_ok-verdict.verdict)
+        c.deref.ensures.value
         (c.in_ok-verdict.ensures entries (sums entries of));
   },
 )

@@ -1,18 +1,18 @@
 use Rattle.std.proofs.Common.{◌∙◌, ap, refl}
 use Rattle.ledger_changes.specs.RowFields.{row_of_fields}
 use Rattle.ledger_changes.specs.Rows.{Row}
-use Rattle.ledger_changes.proofs.Nones.{is_none}
 use Rattle.ledger_changes.proofs.Readings.{one_row}
 use Rattle.part_reports.proofs.charge.charge_of.Goals as goal
+use Rattle.tap_views.proofs.Choices.{MatchOption_none}
 
 pub returns-in_err-fields : goal.returns-in_err-fields
 returns-in_err-fields c =
-    is_none _ _ c.from_residual.result c.from_residual.ensures
+    MatchOption_none _ _ c.from_residual.result c.from_residual.ensures
     (λ token charge is. c.in_err-fields.ensures is.row is.is_row)
 
 pub returns-in_err-answer : goal.returns-in_err-answer
 returns-in_err-answer c =
-    is_none _ _ c.from_residual-in_err-answer.result c.from_residual-in_err-answer.ensures
+    MatchOption_none _ _ c.from_residual-in_err-answer.result c.from_residual-in_err-answer.ensures
     (λ token charge is.
     let fields = c.in_ok-fields.fields in
     let row = one_row (row_of_fields fields) is.row c.args.line.now c.in_ok-fields.ensures is.is_row

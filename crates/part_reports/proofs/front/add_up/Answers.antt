@@ -4,7 +4,8 @@ use Rattle.part_reports.proofs.Adding.{left_all, left_first, left_more, left_non
 use Rattle.part_reports.proofs.front.add_up.Goals as goal
 
 pub loop-sum-init : goal.loop-sum-init
-loop-sum-init c = left_first (sums_of c.args.totals.now) c.of-left.result c.args.validators.now c.of-left.ensures
+loop-sum-init c = left_first (sums_of c.args.totals.now) c.of-left.result c.args.validators.now
+    c.of-left.ensures
 
 pub loop-sum-preserved : goal.loop-sum-preserved
 loop-sum-preserved c =

@@ -20,7 +20,8 @@ returns-then-not-add_up-clause-read g c =
     let now = g.R.Read.remaining c.read_sections.new.reader.from in
     let front = c.in_ok-front.front in
     no_adding old now now front c.fault.result c.in_ok-front.ensures.read (λ add.
-    let yes = c.add_up.ensures.1 (subst (λ sums. sums_of front.totals ≡ added (map validator_sum sums))
+    let yes = c.add_up.ensures.1
+    (subst (λ sums. sums_of front.totals ≡ added (map validator_sum sums))
     (sym c.deref.ensures.value) add) in
     absurd (cc (yes, c.if-not-add_up.true)))
 

@@ -49,7 +49,8 @@ loop-preserved g c =
     let now = g.R.Read.remaining c.loop.reader.from in
     let new = g.R.Read.remaining c.next_validator.new.reader.from in
     record {
-      rising = rising_more c.loop.counter c.loop.sums.items c.push.new.self.items c.in_ok-sum.sum old
+      rising = rising_more c.loop.counter c.loop.sums.items c.push.new.self.items c.in_ok-sum.sum
+          old
           now new c.in_ok-push.ensures.items c.loop.invariant.rising c.in_ok-sum.ensures.read
           (subst (λ sums. MayFollowValidators (map validator_sum sums) c.in_ok-sum.sum.validator)
           c.deref.ensures.value (c.may_follow.ensures.0 c.if-not-may_follow.false));

@@ -20,7 +20,8 @@ returns-in_err-uploads-clause-read g c =
     let now = g.R.Read.remaining c.next_head.new.reader.from in
     let p = err_from_is_err_and c.from_residual.result c.from_residual.ensures.1 in
     rw (p.1, p.2) (counted_no_head {T = Unit {0}} (λ _ _. Unit {0}) AreSoManyPosted AreEnds
-    (λ (ends : List UploadEnd). length ends) (codes "uploads ") (upload_lines 0) counting old now now
+    (λ (ends : List UploadEnd). length ends) (codes "uploads ") (upload_lines 0) counting old now
+    now
     c.in_err-uploads.field-0.0 c.in_err-uploads.ensures.read)
 
 pub returns-clause-read : goal.returns-clause-read
@@ -28,6 +29,7 @@ returns-clause-read g c =
     let old = g.R.Read.remaining c.args.reader.now.from in
     let now = g.R.Read.remaining c.next_head.new.reader.from in
     let after = g.R.Read.remaining c.read_posted.new.reader.from in
-    counted {T = Unit {0}} (λ _ _. Unit {0}) AreSoManyPosted AreEnds (λ (ends : List UploadEnd). length ends)
+    counted {T = Unit {0}} (λ _ _. Unit {0}) AreSoManyPosted AreEnds
+    (λ (ends : List UploadEnd). length ends)
     (codes "uploads ") (upload_lines 0) counting old now after c.in_ok-uploads.uploads
     c.read_posted.result c.in_ok-uploads.ensures.read c.read_posted.ensures.read

@@ -3,14 +3,14 @@ use Rattle.std.proofs.lemmas.List.{append_cancel_left}
 use Rattle.std.proofs.lemmas.List.Elements.{All-from_recursion}
 use Rattle.hex.specs.Hex.{encode_lower}
 use Rattle.tap_views.specs.Token.{bytes_of}
-use Rattle.report_texts.proofs.Nones.{is_none}
+use Rattle.tap_views.proofs.Choices.{MatchOption_none}
 use Rattle.part_reports.proofs.OneLine.{no_feed_before, none_behind}
 use Rattle.report_texts.proofs.Tokens.{token_text_unique}
 use Rattle.part_reports.proofs.ledger_line.ledger_token_of.Goals as goal
 
 pub returns-in_err-text : goal.returns-in_err-text
 returns-in_err-text c =
-    is_none _ _ c.from_residual-in_err-text.result c.from_residual-in_err-text.ensures
+    MatchOption_none _ _ c.from_residual-in_err-text.result c.from_residual-in_err-text.ensures
     (λ entry fits is.
     let (same, rest) = token_text_unique c.in_ok-token.token entry.token c.in_ok-token.rest.now
     (codes "," ++ (fits.fields ++ codes "\n")) c.in_ok-token.ensures.0 fits.fits
@@ -19,7 +19,8 @@ returns-in_err-text c =
 
 pub returns-in_err-_fields : goal.returns-in_err-_fields
 returns-in_err-_fields c =
-    is_none _ _ c.from_residual-in_err-_fields.result c.from_residual-in_err-_fields.ensures
+    MatchOption_none _ _ c.from_residual-in_err-_fields.result
+    c.from_residual-in_err-_fields.ensures
     (λ entry fits is.
     let (same, rest) = token_text_unique c.in_ok-token.token entry.token c.in_ok-token.rest.now
     (codes "," ++ (fits.fields ++ codes "\n")) c.in_ok-token.ensures.0 fits.fits

@@ -1,11 +1,11 @@
 use Rattle.std.proofs.Common.{rules, ◌≡◌, ◌∙◌, sym, subst, ap}
 use Rattle.std.specs.Prelude.{IfSome}
 use Rattle.std.proofs.lemmas.Result.{IfErr-weaker, IfOk-weaker, err_from_is_err_and}
+use Rattle.std.proofs.lemmas.Option.{IfSome_then}
 use Rattle.fare_texts.specs.LedgerLines.{head_text}
 use Rattle.part_reports.specs.Ledgers.{IsNoLedger}
 use Rattle.part_reports.specs.inside.BegunLedgers.{IsBegunLedger}
 use Rattle.part_reports.specs.inside.Standings.{standing}
-use Rattle.part_reports.proofs.Firsts.{weaker}
 use Rattle.part_reports.proofs.LedgerTexts.{behind_head, no_head, no_lines}
 use Rattle.part_reports.specs.inside.Told.{IsOfText}
 use Rattle.part_reports.proofs.ToldOf.{of_text}
@@ -41,9 +41,9 @@ returns-then-eq-clause-begun g c =
     IfOk-weaker c.begin.result _ _ (λ source begun.
     subst (λ known. IfSome known (λ file. IsBegunLedger file (standing remaining source)))
     (ap remaining c.new-reader.ensures.from)
-    (weaker (remaining c.new-reader.result.from) _ _ (λ file read.
+    (IfSome_then (remaining c.new-reader.result.from) c.in_ok-next.ensures.line (λ file read.
     behind_head file c.next.new.self.line.items (remaining c.next.new.self.from)
-    (standing remaining source) read.0 read.1 head begun) c.in_ok-next.ensures.line))
+    (standing remaining source) read.0 read.1 head begun)))
     c.begin.ensures.begun
 
 pub returns-then-eq-clause-refused : goal.returns-then-eq-clause-refused
@@ -51,16 +51,15 @@ returns-then-eq-clause-refused g c =
     let remaining = g.R.Read.remaining in
     IfErr-weaker c.begin.result _ _ (λ fault refused of_texts.
     subst (λ known. IfSome known IsNoLedger) (ap remaining c.new-reader.ensures.from)
-    (weaker (remaining c.new-reader.result.from) _ _ (λ file read.
-    no_lines file (remaining c.next.new.self.from) read.1 (refused of_texts))
-    c.in_ok-next.ensures.line)) c.begin.ensures.refused
+    (IfSome_then (remaining c.new-reader.result.from) c.in_ok-next.ensures.line (λ file read.
+    no_lines file (remaining c.next.new.self.from) read.1 (refused of_texts))))
+    c.begin.ensures.refused
 
 pub returns-else-eq-clause-refused : goal.returns-else-eq-clause-refused
 returns-else-eq-clause-refused g c =
     let remaining = g.R.Read.remaining in
     let other : ¬ (c.line.result.now ≡ c.as_bytes.result.now) = search rules in
     λ of_texts. subst (λ known. IfSome known IsNoLedger) (ap remaining c.new-reader.ensures.from)
-    (weaker (remaining c.new-reader.result.from) _ _ (λ file read.
+    (IfSome_then (remaining c.new-reader.result.from) c.in_ok-next.ensures.line (λ file read.
     no_head file c.next.new.self.line.items read.0 (λ e.
-    other (c.line.ensures ∙ e ∙ sym c.head_line.ensures ∙ sym c.as_bytes.ensures.value)))
-    c.in_ok-next.ensures.line)
+    other (c.line.ensures ∙ e ∙ sym c.head_line.ensures ∙ sym c.as_bytes.ensures.value))))

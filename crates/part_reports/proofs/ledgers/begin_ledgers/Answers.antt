@@ -1,6 +1,5 @@
 use Rattle.std.proofs.Common.{◌≡◌, ◌∙◌, [], ◌∷◌, ◌++◌, map, sym, subst, ap, append_assoc}
-use Rattle.std.proofs.Common.{append-nil}
-use Rattle.std.proofs.Common.{arith, length, length-append, ◌+◌}
+use Rattle.std.proofs.Common.{append-nil, arith, length, length-append, ◌+◌}
 use Rattle.std.proofs.lemmas.List.{length_push, map-append, nil_from_length}
 use Rattle.std.proofs.lemmas.Result.{err_from_is_err_and}
 use Rattle.part_reports.specs.inside.BegunLedgers.{AreBegunLedgers}
@@ -59,7 +58,8 @@ loop-from-preserved g c =
       all = append_assoc c.loop-from.yielded (c.in-Some.from ∷ []) c.next.new.self.rest.items
           ∙ ap (λ left. c.loop-from.yielded ++ left) (sym c.in-Some.ensures.steps.0)
           ∙ c.loop-from.invariant.all;
-      begun = subst (λ files. AreBegunLedgers files (map (standing remaining) c.push.new.self.items))
+      begun = subst
+          (λ files. AreBegunLedgers files (map (standing remaining) c.push.new.self.items))
           (sym (map-append remaining c.loop-from.yielded (c.in-Some.from ∷ [])))
           (subst (λ ats. AreBegunLedgers (files ++ file ∷ []) ats) (sym items)
           (begun_push files ats file at c.loop-from.invariant.begun

@@ -8,9 +8,10 @@ use Rattle.part_reports.specs.inside.ReportsLeft.{report_at}
 use Rattle.part_reports.specs.inside.Standings.{standing}
 use Rattle.part_reports.proofs.MergedBefore.{begins_nothing, begun_least, begun_so_far}
 use Rattle.part_reports.proofs.Merges.{least_of, merging_stuck, merging_twin, twin_of}
-use Rattle.part_reports.proofs.ReportsMerged.{at_end, beginning, going_on, not_taken, something_left}
-use Rattle.part_reports.proofs.ToldOf.{on_err_any}
+use Rattle.part_reports.proofs.ReportsMerged.{at_end, beginning, going_on, not_taken}
+use Rattle.part_reports.proofs.ReportsMerged.{something_left}
 use Rattle.part_reports.proofs.ledgers_with_reports.write_all_taken.Goals as goal
+use Rattle.tap_views.proofs.Choices.{OnErr_any}
 
 pub loop-init : goal.loop-init
 loop-init g c =
@@ -168,7 +169,7 @@ returns-in_err-write_at-in-Ok-Some-clause-begun g c =
     c.in_err-write_at-in-Ok-Some.ensures.begun lists joined told is)
 
 pub returns-in-Ok-None-clause-begun : goal.returns-in-Ok-None-clause-begun
-returns-in-Ok-None-clause-begun g c = on_err_any _ c.finish_all.result
+returns-in-Ok-None-clause-begun g c = OnErr_any c.finish_all.result _
     (λ texts files are unused lists joined told is.
     begun_so_far texts (map (standing g.R.Read.remaining) c.loop.sources)
     (g.W.Write.contents c.args.out.now) (g.W.Write.contents c.loop.out)

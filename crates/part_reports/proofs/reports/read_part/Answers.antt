@@ -55,7 +55,8 @@ returns-clause-refused g c =
     (subst (λ from. IsRead IsFront MayBePart told_text (g.R.Read.remaining from) now (Ok front))
     c.new-reader.ensures.from c.in_ok-front.ensures.read)
     (subst (λ rest. IfSome now (λ left. (lines : List TokenLine)
-    → ¬ (IsTextOf (Tokens front.tokens rest, left) lines))) c.of-rest.ensures (none_there of_texts)))
+    → ¬ (IsTextOf (Tokens front.tokens rest, left) lines))) c.of-rest.ensures
+    (none_there of_texts)))
     c.begin.ensures.refused
 
 -- ---- of which text a fault is

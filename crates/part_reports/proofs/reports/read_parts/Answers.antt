@@ -10,8 +10,7 @@ use Rattle.part_reports.specs.inside.Told.{AreNumbered, text_number}
 use Rattle.part_reports.proofs.PartsBegun.{BegunSo, begun_more, begun_none}
 use Rattle.part_reports.proofs.FewParts.{map_length, parts_refused}
 use Rattle.part_reports.proofs.ReportsWrong.{report_wrong}
-use Rattle.part_reports.proofs.ToldOf.{among_of, first_from, numbered_none}
-use Rattle.part_reports.proofs.ToldOf.{numbered_push}
+use Rattle.part_reports.proofs.ToldOf.{among_of, first_from, numbered_none, numbered_push}
 use Rattle.part_reports.proofs.TextsRead.{front_more}
 use Rattle.part_reports.proofs.reports.read_parts.Goals as goal
 
@@ -107,7 +106,8 @@ returns-in_err-source-clause-wrong g c =
     let p = err_from_is_err_and c.from_residual.result c.from_residual.ensures.1 in
     rw (p.1, p.2) (report_wrong g.R.Read.remaining items c.loop-from.yielded c.in-Some.from
     c.loop-from.sums (map (standing g.R.Read.remaining) c.loop-from.sources.items) c.args.first
-    c.loop-from.number c.in_err-source.field-0.0 c.loop-from.invariant.front turn.0 turn.1 c.loop-from.invariant.read
+    c.loop-from.number c.in_err-source.field-0.0 c.loop-from.invariant.front turn.0 turn.1
+    c.loop-from.invariant.read
     c.in_err-source.ensures.refused c.loop-from.invariant.number c.in_err-source.ensures.told)
 
 pub returns-clause-count : goal.returns-clause-count

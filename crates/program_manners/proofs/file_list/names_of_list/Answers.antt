@@ -1,4 +1,5 @@
-use Rattle.std.proofs.Common.{Bor, ◌≡◌, ◌⊎◌, ◌++◌, ◌∷◌, [], ◌∙◌, ◌+◌, ℕ, List, ap, sym, subst, arith, length, map}
+use Rattle.std.proofs.Common.{Bor, ◌≡◌, ◌⊎◌, ◌++◌, ◌∷◌, [], ◌∙◌, ◌+◌, ℕ, List, ap, sym, subst}
+use Rattle.std.proofs.Common.{arith, length, map}
 use Rattle.std.proofs.lemmas.List.{length-map, map-append}
 use Rattle.program_manners.specs.FileLists.{IsListedName, Lacks, end_byte}
 use Rattle.program_manners.specs.inside.FileLists.{AreReadFrom}
@@ -15,11 +16,18 @@ returns-in-Err-clause-refused c =
     let rest = c.loop-rest.rest.now in
     let piece = c.split_name.result.0.now in
     let behind = c.split_name.result.1.now in
-    let split = subst (Split rest piece behind) c.byte.ensures (c.split_name.ensures.first, c.split_name.ensures.whole) in
-    let counted : c.len.result + 1 ≡ length (map (λ (n : Bor (List ℕ)). n.now) c.loop-rest.names.items) + 1 =
-    omega (arith, c.len.ensures, length-map c.loop-rest.names.items (λ (n : Bor (List ℕ)). n.now)) in
+    let split = subst (Split rest piece behind) c.byte.ensures
+    (c.split_name.ensures.first, c.split_name.ensures.whole) in
+    let counted : c.len.result + 1
+    ≡ length (map (λ (n : Bor (List ℕ)). n.now) c.loop-rest.names.items) + 1 =
+    omega (
+      arith,
+      c.len.ensures,
+      length-map c.loop-rest.names.items (λ (n : Bor (List ℕ)). n.now),
+    ) in
     wrong_read _ c.args.text.now _ rest piece behind _ c.in-Err.wrong c.loop-rest.invariant
-    (some_left rest (sym c.is_empty-in-loop-rest.ensures ∙ c.loop-rest-test.true)) counted split.0 c.in-Err.ensures.wrong split.1
+    (some_left rest (sym c.is_empty-in-loop-rest.ensures ∙ c.loop-rest-test.true)) counted split.0
+    c.in-Err.ensures.wrong split.1
 
 pub loop-rest-preserved : goal.loop-rest-preserved
 loop-rest-preserved c =
@@ -27,7 +35,8 @@ loop-rest-preserved c =
     let piece = c.split_name.result.0.now in
     let behind = c.split_name.result.1.now in
     let now : Bor (List ℕ) → List ℕ = λ n. n.now in
-    let split = subst (Split rest piece behind) c.byte.ensures (c.split_name.ensures.first, c.split_name.ensures.whole) in
+    let split = subst (Split rest piece behind) c.byte.ensures
+    (c.split_name.ensures.first, c.split_name.ensures.whole) in
     let is_name : IsListedName (end_byte c.args.end) piece = record {
       some = c.in-Ok.ensures.right.0;
       no_nul = c.in-Ok.ensures.right.1;
@@ -38,6 +47,7 @@ loop-rest-preserved c =
     ap (map now) c.in_ok-push-in-Ok.ensures.items
     ∙ map-append now c.loop-rest.names.items (c.in-Ok.name ∷ [])
     ∙ ap (λ (n : List ℕ). map now c.loop-rest.names.items ++ n ∷ []) c.in-Ok.ensures.name in
-    subst (λ (names : List (List ℕ)). AreReadFrom (end_byte c.args.end) c.args.text.now names behind) (sym more)
+    subst (λ (names : List (List ℕ)). AreReadFrom (end_byte c.args.end) c.args.text.now names
+    behind) (sym more)
     (name_read _ c.args.text.now _ rest piece behind c.loop-rest.invariant
     (some_left rest (sym c.is_empty-in-loop-rest.ensures ∙ c.loop-rest-test.true)) is_name split.1)

@@ -1,4 +1,5 @@
-use Rattle.std.proofs.Common.{◌∙◌, ◌+◌, ℕ, List, ◌∷◌, ◌++◌, ap, sym, inl, arith, eq-eqb, eqb-true, take, drop, take_all, length-drop}
+use Rattle.std.proofs.Common.{◌∙◌, ◌+◌, ℕ, List, ◌∷◌, ◌++◌, ap, sym, inl, arith, eq-eqb, eqb-true}
+use Rattle.std.proofs.Common.{take, drop, take_all, length-drop}
 use Rattle.program_manners.proofs.NameLists.{lacks_before, parted}
 use Rattle.program_manners.proofs.file_list.split_name.Goals as goal
 
@@ -12,7 +13,8 @@ returns-in-Some-clause-whole c =
     let text = c.args.text.now in
     let at = c.in-Some.at in
     inl (parted text at c.in-Some.ensures.0.high
-    ∙ ap (λ (byte : ℕ). take at text ++ byte ∷ drop (at + 1) text) (eqb-true _ _ c.in-Some.ensures.1)
+    ∙ ap (λ (byte : ℕ). take at text ++ byte ∷ drop (at + 1) text)
+    (eqb-true _ _ c.in-Some.ensures.1)
     ∙ ap (λ (rest : List ℕ). take at text ++ c.args.end ∷ rest)
     (sym (take_all _ (drop (at + 1) text) (omega (arith, length-drop (at + 1) text)))))
 

@@ -1,4 +1,5 @@
-use Rattle.std.proofs.Common.{◌<◌, ◌∙◌, ◌++◌, List, ap, sym, arith, append-nil, length, map, string_bytes}
+use Rattle.std.proofs.Common.{◌<◌, ◌∙◌, ◌++◌, List, ap, sym, arith, append-nil, length, map}
+use Rattle.std.proofs.Common.{string_bytes}
 use Rattle.std.proofs.lemmas.List.{length-map}
 use Rattle.clap.specs.Words.{Text}
 use Rattle.program_manners.specs.ListedWords.{missing_dashes}
@@ -10,7 +11,9 @@ pub returns-then-dashes_at-words : goal.returns-then-dashes_at-words
 returns-then-dashes_at-words c =
     let words = map string_bytes c.args.words.now in
     let all = map string_bytes c.args.all.now.items in
-    let within : c.dashes_at.result < length words = omega (arith, c.if-dashes_at-words.true, length-map c.args.words.now string_bytes) in
+    let within : c.dashes_at.result < length words =
+    omega (arith, c.if-dashes_at-words.true, length-map c.args.words.now string_bytes) in
     sym (append-nil all)
     ∙ ap (λ (more : List Text). all ++ more)
-    (sym (none_missing words c.dashes_at.result within) ∙ ap missing_dashes c.dashes_at.ensures.from)
+    (sym (none_missing words c.dashes_at.result within)
+    ∙ ap missing_dashes c.dashes_at.ensures.from)

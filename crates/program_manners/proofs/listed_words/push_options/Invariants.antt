@@ -6,4 +6,5 @@ use Rattle.program_manners.proofs.listed_words.push_options.Given as goal
 abbrev pub invariant-loop-name : goal.invariant-loop-name
 invariant-loop-name l =
     map string_bytes l.all.items
-    ≡ map string_bytes l.fn.all.items ++ map (λ n. option_word l.option n.now) (take l.name-index l.names)
+    ≡ map string_bytes l.fn.all.items ++ map (λ n. option_word l.option n.now)
+    (take l.name-index l.names)

@@ -1,11 +1,13 @@
-use Rattle.std.proofs.Common.{◌≡◌, ◌∙◌, ◌<◌, ◌≤◌, ℕ, List, [], ◌++◌, Option, Some, None, IfSome, length, take, min, ap, arith}
+use Rattle.std.proofs.Common.{◌≡◌, ◌∙◌, ◌<◌, ◌≤◌, ℕ, List, [], ◌++◌, Option, Some, None, IfSome}
+use Rattle.std.proofs.Common.{length, take, min, ap, arith}
 use Rattle.std.specs.Prelude.{option_map}
 use Rattle.std.specs.Vec.{vec_len}
 use Rattle.std.proofs.lemmas.List.{length-take, take_all}
 use Rattle.program_manners.proofs.loading.load_from.Goals as goal
 
 -- bytes that end before the limit are all that there were
-all_left : (known : Option (List ℕ)) (limit : ℕ) (old bytes : List ℕ) → old ≡ [] → IfSome (option_map (take limit) known) (λ xs. bytes ≡ old ++ xs)
+all_left : (known : Option (List ℕ)) (limit : ℕ) (old bytes : List ℕ) → old ≡ []
+    → IfSome (option_map (take limit) known) (λ xs. bytes ≡ old ++ xs)
     → length bytes < limit → IfSome known (λ left. bytes ≡ left)
 all_left None limit old bytes empty is below = tt
 all_left (Some left) limit old bytes empty is below =
@@ -17,7 +19,10 @@ all_left (Some left) limit old bytes empty is below =
 pub returns-in-Ok-2-clause-whole : goal.returns-in-Ok-2-clause-whole
 returns-in-Ok-2-clause-whole g c =
     let now : c.take.result.inner.now ≡ c.args.r.now = ap (λ r. r.now) c.take.ensures.inner in
-    let short : vec_len c.read_to_end.new.buf < c.take.result.limit = omega (arith, c.take.ensures.limit, c.len.ensures, c.if-len-gt-LOAD_LIMIT_BYTES.false) in
+    let short : vec_len c.read_to_end.new.buf < c.take.result.limit =
+    omega (arith, c.take.ensures.limit, c.len.ensures, c.if-len-gt-LOAD_LIMIT_BYTES.false) in
     rw (← now)
-    (all_left (g.R.Read.remaining c.take.result.inner.now) c.take.result.limit c.new-bytes.result.items c.read_to_end.new.buf.items
-    c.new-bytes.ensures.items c.in-Ok.ensures.bytes (omega (arith, short, c.read_to_end.new.buf.ok)))
+    (all_left (g.R.Read.remaining c.take.result.inner.now) c.take.result.limit
+    c.new-bytes.result.items c.read_to_end.new.buf.items
+    c.new-bytes.ensures.items c.in-Ok.ensures.bytes
+    (omega (arith, short, c.read_to_end.new.buf.ok)))

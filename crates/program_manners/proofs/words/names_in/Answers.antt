@@ -11,7 +11,8 @@ or_none o = unwrap_or o []
 pub returns-in-Some : goal.returns-in-Some
 returns-in-Some c =
     IfOk-weaker c.from_slice.result _ _ (λ files copied. ap (map (λ f. f.now)) copied
-    ∙ ap or_none (c.in-Some.ensures ∙ raw_values-rows (found_of c.args.matches.now) c.args.name.now))
+    ∙ ap or_none
+    (c.in-Some.ensures ∙ raw_values-rows (found_of c.args.matches.now) c.args.name.now))
     c.from_slice.ensures.items
 
 pub returns-in-None : goal.returns-in-None

@@ -30,11 +30,13 @@ returns-in_err-answer-clause-found c = λ earlier entry is.
     let one = c.in_ok-token.ensures.found entry.token _ is.postable.token line.shown in
     let two = c.in_ok-validator.ensures _ line.moment _ entry.validator
     (decimal_lacks _ (few _ _ (own-few entry.token earlier) is.few))
-    (moment_lacks entry.moment line.moment is.postable.moment line.is) is.postable.validator one.1 in
+    (moment_lacks entry.moment line.moment is.postable.moment line.is) is.postable.validator
+    one.1 in
     let mode = c.mode_field.ensures ∙ ap (mode_field fares) two.0 in
     let terms : HasRideTerms fares entry.token entry.validator =
     subst (λ (n : ℕ). HasRideTerms fares entry.token n) two.0
-    (subst (λ (t : Token). HasRideTerms fares t c.in_ok-validator.validator) one.0 c.ride_terms_at-terms.ensures) in
+    (subst (λ (t : Token). HasRideTerms fares t c.in_ok-validator.validator) one.0
+    c.ride_terms_at-terms.ensures) in
     let most = cents_most fares earlier entry terms is.replied in
     absurd (c.in_err-answer.ensures entry.answer entry.cents line.behind
     (omega (arith, most))
@@ -47,11 +49,13 @@ returns-clause-found c = λ earlier entry is.
     let one = c.in_ok-token.ensures.found entry.token _ is.postable.token line.shown in
     let two = c.in_ok-validator.ensures _ line.moment _ entry.validator
     (decimal_lacks _ (few _ _ (own-few entry.token earlier) is.few))
-    (moment_lacks entry.moment line.moment is.postable.moment line.is) is.postable.validator one.1 in
+    (moment_lacks entry.moment line.moment is.postable.moment line.is) is.postable.validator
+    one.1 in
     let mode = c.mode_field.ensures ∙ ap (mode_field fares) two.0 in
     let terms : HasRideTerms fares entry.token entry.validator =
     subst (λ (n : ℕ). HasRideTerms fares entry.token n) two.0
-    (subst (λ (t : Token). HasRideTerms fares t c.in_ok-validator.validator) one.0 c.ride_terms_at-terms.ensures) in
+    (subst (λ (t : Token). HasRideTerms fares t c.in_ok-validator.validator) one.0
+    c.ride_terms_at-terms.ensures) in
     let most = cents_most fares earlier entry terms is.replied in
     let three = c.in_ok-answer.ensures entry.answer entry.cents line.behind
     (omega (arith, most))

@@ -37,7 +37,8 @@ returns-in_err-cents c = λ answer cents behind small is.
     let one = append_cancel_left c.args.mode.now _ _ (sym c.in_ok-rest.ensures ∙ is) in
     let two = behind_comma _ _ (sym c.in_ok-rest-2.ensures ∙ one) in
     let three = c.in_ok-name.ensures.found _ _ (answer_lacks answer) two in
-    let four = c.in_ok-digits.ensures.found _ _ (decimal_lacks cents (omega (arith, small))) three.1 in
+    let four = c.in_ok-digits.ensures.found _ _ (decimal_lacks cents (omega (arith, small)))
+    three.1 in
     let got = c.in_err-cents.ensures.found cents small four.0 in absurd (cc)
 
 pub returns : goal.returns
@@ -45,7 +46,8 @@ returns c = λ answer cents behind small is.
     let one = append_cancel_left c.args.mode.now _ _ (sym c.in_ok-rest.ensures ∙ is) in
     let two = behind_comma _ _ (sym c.in_ok-rest-2.ensures ∙ one) in
     let three = c.in_ok-name.ensures.found _ _ (answer_lacks answer) two in
-    let four = c.in_ok-digits.ensures.found _ _ (decimal_lacks cents (omega (arith, small))) three.1 in
+    let four = c.in_ok-digits.ensures.found _ _ (decimal_lacks cents (omega (arith, small)))
+    three.1 in
     let told = c.in_ok-answer.ensures answer three.0 in
     let got = c.in_ok-cents.ensures.found cents small four.0 in
     ((cc), (cc))

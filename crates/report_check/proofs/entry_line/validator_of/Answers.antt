@@ -15,19 +15,22 @@ pub returns-in_err-digits : goal.returns-in_err-digits
 returns-in_err-digits c = λ number moment behind validator one two small is.
     let first = c.in_ok-_number.ensures.found _ _ one is in
     let second = c.in_ok-_moment.ensures.found _ _ two first.1 in
-    absurd (c.in_err-digits.ensures.found _ _ (decimal_lacks validator (omega (arith, small))) second.1)
+    absurd (c.in_err-digits.ensures.found _ _ (decimal_lacks validator (omega (arith, small)))
+    second.1)
 
 pub returns-in_err-validator : goal.returns-in_err-validator
 returns-in_err-validator c = λ number moment behind validator one two small is.
     let first = c.in_ok-_number.ensures.found _ _ one is in
     let second = c.in_ok-_moment.ensures.found _ _ two first.1 in
-    let third = c.in_ok-digits.ensures.found _ _ (decimal_lacks validator (omega (arith, small))) second.1 in
+    let third = c.in_ok-digits.ensures.found _ _ (decimal_lacks validator (omega (arith, small)))
+    second.1 in
     let got = c.in_err-validator.ensures.found validator small third.0 in absurd (cc)
 
 pub returns : goal.returns
 returns c = λ number moment behind validator one two small is.
     let first = c.in_ok-_number.ensures.found _ _ one is in
     let second = c.in_ok-_moment.ensures.found _ _ two first.1 in
-    let third = c.in_ok-digits.ensures.found _ _ (decimal_lacks validator (omega (arith, small))) second.1 in
+    let third = c.in_ok-digits.ensures.found _ _ (decimal_lacks validator (omega (arith, small)))
+    second.1 in
     let got = c.in_ok-validator.ensures.found validator small third.0 in
     ((cc), third.1)

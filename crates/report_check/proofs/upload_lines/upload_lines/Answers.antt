@@ -1,4 +1,5 @@
-use Rattle.std.proofs.Common.{◌≡◌, ◌++◌, ◌∙◌, ℕ, List, All, codes, length, sym, ap, subst, arith, inr, length-append, ◌∷◌, []}
+use Rattle.std.proofs.Common.{◌≡◌, ◌++◌, ◌∙◌, ℕ, List, All, codes, length, sym, ap, subst, arith}
+use Rattle.std.proofs.Common.{inr, length-append, ◌∷◌, []}
 use Rattle.std.specs.Prelude.{sum_by}
 use Rattle.std.proofs.lemmas.List.Elements.{All-nil, All-push}
 use Rattle.std.proofs.lemmas.List.Sums.{sum_by_push}
@@ -17,7 +18,8 @@ loop-upload-init c =
     let first = head_then text c.first_line.result.0.now c.first_line.result.1.now c.in-Some.uploads
     c.first_line.ensures.line c.first_line.ensures.behind c.in-Some.ensures.1 in
     record {
-      begun = subst (λ (es : List UploadEnd). text ≡ number_line (codes "uploads ") c.in-Some.uploads
+      begun = subst
+          (λ (es : List UploadEnd). text ≡ number_line (codes "uploads ") c.in-Some.uploads
           ++ (upload_lines 0 es ++ c.first_line.result.1.now)) none first;
       each = subst (λ (es : List UploadEnd). All IsReportEnd es) none (All-nil IsReportEnd);
       counted = ap (λ (es : List UploadEnd). length es) c.new-ends.ensures.items;
@@ -49,7 +51,8 @@ loop-upload-preserved c =
     let small = small_taps end told.0 in
     let size = ap (λ (es : List UploadEnd). length es) items in
     record {
-      begun = subst (λ (es : List UploadEnd). text ≡ number_line (codes "uploads ") c.in-Some.uploads
+      begun = subst
+          (λ (es : List UploadEnd). text ≡ number_line (codes "uploads ") c.in-Some.uploads
           ++ (upload_lines 0 es ++ more)) (sym items) next;
       each = subst (λ (es : List UploadEnd). All IsReportEnd es) (sym items)
           (All-push IsReportEnd ends end inv.each told.0);
@@ -68,8 +71,10 @@ loop-upload-preserved c =
 pub returns : goal.returns
 returns c =
     let inv = c.loop-upload.invariant in (
-      all_lines c.args.text.now c.loop-upload.rest.now c.in-Some.uploads c.loop-upload.ends.items inv.begun
-          inv.each (omega (arith, inv.counted, c.loop-upload-test.false, c.loop-upload.auto.upload-end))
+      all_lines c.args.text.now c.loop-upload.rest.now c.in-Some.uploads c.loop-upload.ends.items
+          inv.begun
+          inv.each (omega
+          (arith, inv.counted, c.loop-upload-test.false, c.loop-upload.auto.upload-end))
           c.in-Some.ensures.0,
       inv.taps,
     )

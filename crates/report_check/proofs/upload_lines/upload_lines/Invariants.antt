@@ -9,7 +9,8 @@ use Rattle.report_check.proofs.upload_lines.upload_lines.Given as goal
 -- the lines of the first uploads were read
 abbrev pub invariant-loop-upload : goal.invariant-loop-upload
 invariant-loop-upload l = record {
-  begun : l.text ≡ number_line (codes "uploads ") l.uploads ++ (upload_lines 0 l.ends.items ++ l.rest);
+  begun : l.text ≡ number_line (codes "uploads ")
+      l.uploads ++ (upload_lines 0 l.ends.items ++ l.rest);
   each : All IsReportEnd l.ends.items;
   counted : length l.ends.items ≡ l.upload;
   taps : l.taps ≡ sum_by taps_told l.ends.items;

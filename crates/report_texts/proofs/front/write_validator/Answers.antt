@@ -9,6 +9,8 @@ use Rattle.report_texts.proofs.front.write_validator.Goals as goal
 pub returns : goal.returns
 returns c =
     on_ok_weaker c.write_counts.result
-    (in_line (string_bytes c.args.text.now) (string_bytes c.write_validator_name.new.text) (string_bytes c.write_counts.new.text) (codes "validator ")
-    (decimal c.args.sum.now.validator) (counts_text (sums_of c.args.sum.now.totals)) c.in_ok-write_validator_name.ensures)
+    (in_line (string_bytes c.args.text.now) (string_bytes c.write_validator_name.new.text)
+    (string_bytes c.write_counts.new.text) (codes "validator ")
+    (decimal c.args.sum.now.validator) (counts_text (sums_of c.args.sum.now.totals))
+    c.in_ok-write_validator_name.ensures)
     c.write_counts.ensures

@@ -7,21 +7,21 @@ use Rattle.report_texts.specs.inside.Counted.{sums_with}
 use Rattle.report_texts.proofs.Counts.{counts_read, from_taps, from_paid, from_transfers}
 use Rattle.report_texts.proofs.Counts.{from_capped, from_stale, from_unknown, from_cents, same_sums}
 use Rattle.report_texts.proofs.Counts.{behind_taps, behind_paid, behind_transfers, behind_capped}
-use Rattle.report_texts.proofs.Counts.{behind_stale, behind_unknown, behind_cents}
-use Rattle.report_texts.proofs.Counts.{no_taps, no_paid, no_transfers, no_capped, no_stale}
-use Rattle.report_texts.proofs.Counts.{no_unknown, no_cents}
-use Rattle.report_texts.proofs.Nones.{is_none}
+use Rattle.report_texts.proofs.Counts.{behind_stale, behind_unknown, behind_cents, no_taps, no_paid}
+use Rattle.report_texts.proofs.Counts.{no_transfers, no_capped, no_stale, no_unknown, no_cents}
 use Rattle.report_texts.proofs.report_lines.counts_of.Goals as goal
+use Rattle.tap_views.proofs.Choices.{MatchOption_none}
 
 pub returns-in_err-taps : goal.returns-in_err-taps
 returns-in_err-taps c =
-    is_none _ _ c.from_residual.result c.from_residual.ensures (λ t fits is.
+    MatchOption_none _ _ c.from_residual.result c.from_residual.ensures (λ t fits is.
     let e0 = is ∙ counts_read t in
     no_taps t fits c.args.text.now e0 c.in_err-taps.ensures)
 
 pub returns-in_err-paid : goal.returns-in_err-paid
 returns-in_err-paid c =
-    is_none _ _ c.from_residual-in_err-paid.result c.from_residual-in_err-paid.ensures (λ t fits is.
+    MatchOption_none _ _ c.from_residual-in_err-paid.result c.from_residual-in_err-paid.ensures
+    (λ t fits is.
     let e0 = is ∙ counts_read t in
     let (n1, e1) = behind_taps t fits c.args.text.now e0 c.in_ok-taps.taps c.in_ok-taps.text.now
     c.in_ok-taps.ensures in
@@ -29,7 +29,8 @@ returns-in_err-paid c =
 
 pub returns-in_err-transfers : goal.returns-in_err-transfers
 returns-in_err-transfers c =
-    is_none _ _ c.from_residual-in_err-transfers.result c.from_residual-in_err-transfers.ensures
+    MatchOption_none _ _ c.from_residual-in_err-transfers.result
+    c.from_residual-in_err-transfers.ensures
     (λ t fits is.
     let e0 = is ∙ counts_read t in
     let (n1, e1) = behind_taps t fits c.args.text.now e0 c.in_ok-taps.taps c.in_ok-taps.text.now
@@ -40,7 +41,7 @@ returns-in_err-transfers c =
 
 pub returns-in_err-capped : goal.returns-in_err-capped
 returns-in_err-capped c =
-    is_none _ _ c.from_residual-in_err-capped.result c.from_residual-in_err-capped.ensures
+    MatchOption_none _ _ c.from_residual-in_err-capped.result c.from_residual-in_err-capped.ensures
     (λ t fits is.
     let e0 = is ∙ counts_read t in
     let (n1, e1) = behind_taps t fits c.args.text.now e0 c.in_ok-taps.taps c.in_ok-taps.text.now
@@ -53,7 +54,7 @@ returns-in_err-capped c =
 
 pub returns-in_err-stale : goal.returns-in_err-stale
 returns-in_err-stale c =
-    is_none _ _ c.from_residual-in_err-stale.result c.from_residual-in_err-stale.ensures
+    MatchOption_none _ _ c.from_residual-in_err-stale.result c.from_residual-in_err-stale.ensures
     (λ t fits is.
     let e0 = is ∙ counts_read t in
     let (n1, e1) = behind_taps t fits c.args.text.now e0 c.in_ok-taps.taps c.in_ok-taps.text.now
@@ -68,7 +69,8 @@ returns-in_err-stale c =
 
 pub returns-in_err-unknown : goal.returns-in_err-unknown
 returns-in_err-unknown c =
-    is_none _ _ c.from_residual-in_err-unknown.result c.from_residual-in_err-unknown.ensures
+    MatchOption_none _ _ c.from_residual-in_err-unknown.result
+    c.from_residual-in_err-unknown.ensures
     (λ t fits is.
     let e0 = is ∙ counts_read t in
     let (n1, e1) = behind_taps t fits c.args.text.now e0 c.in_ok-taps.taps c.in_ok-taps.text.now
@@ -85,7 +87,7 @@ returns-in_err-unknown c =
 
 pub returns-in_err-cents : goal.returns-in_err-cents
 returns-in_err-cents c =
-    is_none _ _ c.from_residual-in_err-cents.result c.from_residual-in_err-cents.ensures
+    MatchOption_none _ _ c.from_residual-in_err-cents.result c.from_residual-in_err-cents.ensures
     (λ t fits is.
     let e0 = is ∙ counts_read t in
     let (n1, e1) = behind_taps t fits c.args.text.now e0 c.in_ok-taps.taps c.in_ok-taps.text.now
@@ -124,7 +126,7 @@ returns-then-not-is_end c = λ t fits is.
 
 pub returns-in_err-totals : goal.returns-in_err-totals
 returns-in_err-totals c =
-    is_none _ _ c.from_residual-in_err-totals.result c.from_residual-in_err-totals.ensures
+    MatchOption_none _ _ c.from_residual-in_err-totals.result c.from_residual-in_err-totals.ensures
     (λ t fits is.
     let e0 = is ∙ counts_read t in
     let (n1, e1) = behind_taps t fits c.args.text.now e0 c.in_ok-taps.taps c.in_ok-taps.text.now
@@ -169,5 +171,8 @@ returns c =
     let e2 : c.in_ok-taps.text.now ≡ from_paid s [] =
     c.in_ok-paid.ensures.shown ∙ ap (λ (x : List ℕ). codes " paid " ++ (decimal s.paid ++ x)) e3 in
     let e1 : c.args.text.now ≡ from_taps s [] =
-    c.in_ok-taps.ensures.shown ∙ ap (λ (x : List ℕ). codes "taps " ++ (decimal s.taps ++ x)) e2 in
-    (c.in_ok-totals.ensures.0, e1 ∙ sym (counts_read s) ∙ ap counts_text (sym c.in_ok-totals.ensures.1))
+    c.in_ok-taps.ensures.shown ∙ ap (λ (x : List ℕ). codes "taps " ++ (decimal s.taps ++ x)) e2 in (
+      c.in_ok-totals.ensures.0,
+      e1 ∙ sym (counts_read s)
+          ∙ ap counts_text (sym c.in_ok-totals.ensures.1),
+    )

@@ -4,12 +4,13 @@ use Rattle.report_texts.specs.inside.EndWords.{end_words}
 use Rattle.report_texts.specs.declared.upload_end.UploadEnd.TheVariants.{Posted}
 use Rattle.report_texts.proofs.Digits.{counted_unique}
 use Rattle.report_texts.proofs.EndTexts.{end_begins, line_words, no_end}
-use Rattle.report_texts.proofs.Nones.{is_none, turned}
+use Rattle.report_texts.proofs.Nones.{turned}
 use Rattle.report_texts.proofs.report_lines.end_of.Goals as goal
+use Rattle.tap_views.proofs.Choices.{MatchOption_none}
 
 pub returns-in_err-number : goal.returns-in_err-number
 returns-in_err-number c =
-    is_none _ _ c.from_residual.result c.from_residual.ensures (λ end fits is.
+    MatchOption_none _ _ c.from_residual.result c.from_residual.ensures (λ end fits is.
     c.in_err-number.ensures c.args.upload (end_words end) (record {
       small = omega (arith, c.ranges.upload);
       ends = end_begins end;

@@ -3,12 +3,12 @@ use Rattle.fare_texts.specs.ReportLines.{number_line}
 use Rattle.report_texts.specs.inside.EndWords.{fault_number}
 use Rattle.report_texts.proofs.Digits.{counted_unique}
 use Rattle.report_texts.proofs.EndTexts.{small_number}
-use Rattle.report_texts.proofs.Nones.{is_none}
 use Rattle.report_texts.proofs.report_lines.fault_of.Goals as goal
+use Rattle.tap_views.proofs.Choices.{MatchOption_none}
 
 pub returns-in_err-number : goal.returns-in_err-number
 returns-in_err-number c =
-    is_none _ _ c.from_residual-in_err-number.result c.from_residual-in_err-number.ensures
+    MatchOption_none _ _ c.from_residual-in_err-number.result c.from_residual-in_err-number.ensures
     (λ offset fault small is.
     let (same, rest) = counted_unique c.args.text.now (codes " at ") c.in_ok-offset.offset offset
     c.in_ok-offset.rest.now (number_line (codes " L") (fault_number fault)) c.in_ok-offset.ensures
@@ -17,7 +17,7 @@ returns-in_err-number c =
 
 pub returns-in_err-fault : goal.returns-in_err-fault
 returns-in_err-fault c =
-    is_none _ _ c.from_residual-in_err-fault.result c.from_residual-in_err-fault.ensures
+    MatchOption_none _ _ c.from_residual-in_err-fault.result c.from_residual-in_err-fault.ensures
     (λ offset fault small is.
     let (same, rest) = counted_unique c.args.text.now (codes " at ") c.in_ok-offset.offset offset
     c.in_ok-offset.rest.now (number_line (codes " L") (fault_number fault)) c.in_ok-offset.ensures

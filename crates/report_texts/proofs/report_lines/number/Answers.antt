@@ -2,18 +2,18 @@ use Rattle.std.proofs.Common.{◌≡◌, ◌∙◌, ℕ, List, [], take, drop, a
 use Rattle.std.specs.Fmt.{decimal}
 use Rattle.report_texts.specs.inside.Counted.{IsCounted}
 use Rattle.report_texts.proofs.Digits.{counted_digits, counted_front, digits_in, front_digits}
-use Rattle.report_texts.proofs.Nones.{is_none}
 use Rattle.report_texts.proofs.report_lines.number.Goals as goal
+use Rattle.tap_views.proofs.Choices.{MatchOption_none}
 
 pub returns-in_err-digits : goal.returns-in_err-digits
 returns-in_err-digits c =
-    is_none _ _ c.from_residual.result c.from_residual.ensures (λ number rest is.
+    MatchOption_none _ _ c.from_residual.result c.from_residual.ensures (λ number rest is.
     let within = (front_digits c.args.text.now).2 in
     absurd (omega (arith, within, c.digits_before.ensures, c.in_err-digits.ensures)))
 
 pub returns-in_err-number : goal.returns-in_err-number
 returns-in_err-number c =
-    is_none _ _ c.from_residual-in_err-number.result c.from_residual-in_err-number.ensures
+    MatchOption_none _ _ c.from_residual-in_err-number.result c.from_residual-in_err-number.ensures
     (λ number rest is.
     let text = c.args.text.now in
     let front : c.in_ok-digits.digits.now ≡ take c.digits_before.result text =

@@ -7,12 +7,12 @@ use Rattle.std.proofs.lemmas.Bool.Decides.{Decides-eqb}
 use Rattle.std.proofs.lemmas.Fmt.{IsAscii-decimal, parse-decimal}
 use Rattle.std.proofs.lemmas.Slice.Eq.{slice_eq-Decides}
 use Rattle.std.proofs.lemmas.Str.{IsUtf8-from_ascii}
-use Rattle.report_texts.proofs.Nones.{is_none}
 use Rattle.report_texts.proofs.report_lines.number_of.Goals as goal
+use Rattle.tap_views.proofs.Choices.{MatchOption_none}
 
 pub returns-in_err-number-in-Ok : goal.returns-in_err-number-in-Ok
 returns-in_err-number-in-Ok c =
-    is_none _ _ c.from_residual.result c.from_residual.ensures (λ number small is.
+    MatchOption_none _ _ c.from_residual.result c.from_residual.ensures (λ number small is.
     let e : c.in-Ok.text.now ≡ decimal number = c.in-Ok.ensures.cases.0 ∙ is in
     let r : c.parse.result ≡ Ok number =
     parse-decimal 64 number c.in-Ok.text.now c.parse.result small small e c.parse.ensures.value.0 in

@@ -3,19 +3,19 @@ use Rattle.std.specs.Fmt.{decimal}
 use Rattle.report_texts.specs.inside.EndWords.{fault_words}
 use Rattle.report_texts.proofs.Digits.{counted_unique}
 use Rattle.report_texts.proofs.EndTexts.{refused_spelt}
-use Rattle.report_texts.proofs.Nones.{is_none}
 use Rattle.report_texts.proofs.report_lines.refused_of.Goals as goal
+use Rattle.tap_views.proofs.Choices.{MatchOption_none}
 
 pub returns-in_err-taps : goal.returns-in_err-taps
 returns-in_err-taps c =
-    is_none _ _ c.from_residual.result c.from_residual.ensures
+    MatchOption_none _ _ c.from_residual.result c.from_residual.ensures
     (λ taps offset fault small fits is.
     c.in_err-taps.ensures taps (fault_words offset fault)
     (record { small = small; ends = refl; shown = is ∙ refused_spelt taps offset fault }))
 
 pub returns-in_err-offset : goal.returns-in_err-offset
 returns-in_err-offset c =
-    is_none _ _ c.from_residual-in_err-offset.result c.from_residual-in_err-offset.ensures
+    MatchOption_none _ _ c.from_residual-in_err-offset.result c.from_residual-in_err-offset.ensures
     (λ taps offset fault small fits is.
     let (same, rest) = counted_unique c.args.text.now (codes " refused ") c.in_ok-taps.taps taps
     c.in_ok-taps.rest.now (fault_words offset fault) c.in_ok-taps.ensures

@@ -2,13 +2,13 @@ use Rattle.std.proofs.Common.{◌≡◌, ◌++◌, ◌∙◌, ℕ, List, length,
 use Rattle.std.proofs.lemmas.List.{length-append, take-append-drop, take_at}
 use Rattle.hex.specs.Hex.{encode_lower}
 use Rattle.tap_views.specs.Token.{bytes_of}
-use Rattle.report_texts.proofs.Nones.{is_none}
+use Rattle.tap_views.proofs.Choices.{MatchOption_none}
 use Rattle.report_texts.proofs.Tokens.{token_digits}
 use Rattle.report_texts.proofs.report_lines.token_before.Goals as goal
 
 pub returns-in_err-digits : goal.returns-in_err-digits
 returns-in_err-digits c =
-    is_none _ _ c.from_residual.result c.from_residual.ensures (λ token rest fits is.
+    MatchOption_none _ _ c.from_residual.result c.from_residual.ensures (λ token rest fits is.
     let digits = encode_lower (bytes_of token) in
     absurd (omega (
       arith,
@@ -20,7 +20,7 @@ returns-in_err-digits c =
 
 pub returns-in_err-token : goal.returns-in_err-token
 returns-in_err-token c =
-    is_none _ _ c.from_residual-in_err-token.result c.from_residual-in_err-token.ensures
+    MatchOption_none _ _ c.from_residual-in_err-token.result c.from_residual-in_err-token.ensures
     (λ token rest fits is.
     let digits = encode_lower (bytes_of token) in
     let front : c.in_ok-digits.digits.now ≡ take 32 c.args.text.now = c.in_ok-digits.ensures.1 in

@@ -9,5 +9,6 @@ returns-clause-kept g c =
     let after = g.W.Write.contents c.write_out.new.out in
     let waits = c.args.text.now.items in
     append_known-moved before after waits c.clear.new.self.items waits
-    (subst (λ (text : List ℕ). Appends before after text) c.as_slice.ensures.value c.in_ok-write_out.ensures.ok)
+    (subst (λ (text : List ℕ). Appends before after text) c.as_slice.ensures.value
+    c.in_ok-write_out.ensures.ok)
     (sym (ap (λ (rest : List ℕ). waits ++ rest) c.clear.ensures.items ∙ append-nil waits))

@@ -17,12 +17,17 @@ loop-place-preserved g c = record {
   lines = next_token (append_known (g.W.Write.contents c.args.out.now) c.args.text.now.items)
       (append_known (g.W.Write.contents c.loop-place.out) c.loop-place.text.items)
       (append_known (g.W.Write.contents c.push_line.new.out) c.push_line.new.text.items)
-      c.make_line.new.line c.args.sums.now c.loop-place.place (token_sum c.get-sum.result) c.get-sum.ensures
+      c.make_line.new.line c.args.sums.now c.loop-place.place (token_sum c.get-sum.result)
+      c.get-sum.ensures
       c.loop-place.invariant.lines c.make_line.ensures c.in_ok-push_line.ensures.ok;
 }
 
 pub returns-clause-ok : goal.returns-clause-ok
 returns-clause-ok g c =
-    last_out (g.W.Write.contents c.args.out.now) (g.W.Write.contents c.loop-place.out) (g.W.Write.contents c.write_out.new.out) c.args.text.now.items
-    c.loop-place.text.items c.args.sums.now c.loop-place.place (omega (arith, c.len-place-end.ensures, c.loop-place-test.false)) c.loop-place.invariant.lines
-    (subst (λ (text : List ℕ). Appends (g.W.Write.contents c.loop-place.out) (g.W.Write.contents c.write_out.new.out) text) c.as_slice.ensures.value c.in_ok-write_out.ensures.ok)
+    last_out (g.W.Write.contents c.args.out.now) (g.W.Write.contents c.loop-place.out)
+    (g.W.Write.contents c.write_out.new.out) c.args.text.now.items
+    c.loop-place.text.items c.args.sums.now c.loop-place.place
+    (omega (arith, c.len-place-end.ensures, c.loop-place-test.false)) c.loop-place.invariant.lines
+    (subst (λ (text : List ℕ). Appends (g.W.Write.contents c.loop-place.out)
+    (g.W.Write.contents c.write_out.new.out) text) c.as_slice.ensures.value
+    c.in_ok-write_out.ensures.ok)

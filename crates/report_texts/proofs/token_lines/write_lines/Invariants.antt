@@ -7,5 +7,7 @@ use Rattle.report_texts.proofs.token_lines.write_lines.Given as goal
 abbrev pub invariant-loop-place : goal.invariant-loop-place
 invariant-loop-place g l = record {
   room : 384 ≤ vec_capacity l.text;
-  lines : Appends (append_known (g.W.Write.contents l.fn.out) l.fn.text.items) (append_known (g.W.Write.contents l.out) l.text.items) (flat_map token_line (take l.place l.sums));
+  lines : Appends (append_known (g.W.Write.contents l.fn.out) l.fn.text.items)
+      (append_known (g.W.Write.contents l.out) l.text.items)
+      (flat_map token_line (take l.place l.sums));
 }

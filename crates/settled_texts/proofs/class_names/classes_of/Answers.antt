@@ -40,4 +40,5 @@ returns-clause-classes c = λ token.
 pub returns-clause-plain : goal.returns-clause-plain
 returns-clause-plain c =
     c.loop-key.invariant.plain
-    ∙ ap (λ (es : List (String Global × Value)). are_plain (members_view es)) c.in-None.ensures.steps.0
+    ∙ ap (λ (es : List (String Global × Value)). are_plain (members_view es))
+    c.in-None.ensures.steps.0

@@ -7,7 +7,8 @@ use Rattle.settled_texts.proofs.class_names.classes_of.Given as goal
 -- the classes of the whole are those that are kept and those of what is left
 abbrev pub invariant-loop-key : goal.invariant-loop-key
 invariant-loop-key l = record {
-  kept : (token : List ℕ) → first_class (rider_by l.riders token) (class_among (members_view l.key-iterator) token)
+  kept : (token : List ℕ)
+      → first_class (rider_by l.riders token) (class_among (members_view l.key-iterator) token)
       ≡ class_among (members_view l.keys.entries) token;
   plain : are_plain (members_view l.keys.entries) ≡ are_plain (members_view l.key-iterator);
 }

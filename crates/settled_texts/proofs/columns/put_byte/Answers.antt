@@ -1,4 +1,5 @@
-use Rattle.std.proofs.Common.{◌≡◌, ◌∙◌, ◌==◌, ℕ, List, [], ◌∷◌, ◌++◌, ap, sym, append_assoc, true, false, refl}
+use Rattle.std.proofs.Common.{◌≡◌, ◌∙◌, ◌==◌, ℕ, List, [], ◌∷◌, ◌++◌, ap, sym, append_assoc, true}
+use Rattle.std.proofs.Common.{false, refl}
 use Rattle.std.proofs.lemmas.Bool.{eqb-true}
 use Rattle.settled_texts.specs.Columns.{columns_by, with_columns}
 use Rattle.settled_texts.specs.Names.{class_by}
@@ -9,7 +10,8 @@ pub returns-then-is_feed-clause-put : goal.returns-then-is_feed-clause-put
 returns-then-is_feed-clause-put c = λ rest.
     let columns = columns_by (class_by c.args.names.now) c.args.taps.now in
     let left = columns_by (class_by c.args.names.now) c.in_ok-left.left.now in
-    let is : c.args.byte ≡ 10 = eqb-true c.args.byte 10 (sym c.is_feed.ensures ∙ c.if-is_feed.true) in
+    let is : c.args.byte ≡ 10 =
+    eqb-true c.args.byte 10 (sym c.is_feed.ensures ∙ c.if-is_feed.true) in
     let mid = c.put_next.new.text.items in
     ap (λ (b : ℕ). c.args.text.now.items ++ with_columns (b ∷ rest) columns) is
     ∙ c.in_ok-left.ensures.put rest

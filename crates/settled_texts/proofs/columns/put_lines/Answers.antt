@@ -1,4 +1,5 @@
-use Rattle.std.proofs.Common.{◌≡◌, ◌∙◌, ◌==◌, ℕ, List, ◌∷◌, ◌++◌, ap, sym, append-nil, drop, drop-drop}
+use Rattle.std.proofs.Common.{◌≡◌, ◌∙◌, ◌==◌, ℕ, List, ◌∷◌, ◌++◌, ap, sym, append-nil, drop}
+use Rattle.std.proofs.Common.{drop-drop}
 use Rattle.std.specs.Prelude.{if◌then◌else◌}
 use Rattle.std.proofs.lemmas.List.{nil_from_length}
 use Rattle.settled_texts.specs.Columns.{columns_by, with_columns}
@@ -36,5 +37,6 @@ pub returns-clause-text : goal.returns-clause-text
 returns-clause-text c =
     let none = nil_from_length c.loop-byte.rest.now c.in_default.ensures.cases in
     sym (c.loop-byte.invariant.put
-    ∙ ap (λ (t : List ℕ). c.loop-byte.text.items ++ with_columns t (columns_by (class_by c.args.names.now) c.loop-byte.left.now)) none
+    ∙ ap (λ (t : List ℕ). c.loop-byte.text.items ++ with_columns t
+    (columns_by (class_by c.args.names.now) c.loop-byte.left.now)) none
     ∙ append-nil c.loop-byte.text.items)

@@ -27,7 +27,8 @@ returns-clause-ok g c =
     let no_fall = canonical_falls c.of-teller.result.token taps
     (c.of-teller.ensures.token ∙ c.least_token.ensures) c.requires.named c.requires.sorted in (
       head_text ++ told.0,
-      ledger_along fares (posted fares taps) told.0 (posted_falls fares c.of-teller.result.token taps
+      ledger_along fares (posted fares taps) told.0
+          (posted_falls fares c.of-teller.result.token taps
           no_fall) told.1.are,
       subst (λ (head : List ℕ). Appends (g.W.Write.contents c.args.out.now)
           (g.W.Write.contents c.pass_on.new.out) (head ++ told.0)) c.in_ok-text.ensures

@@ -1,10 +1,11 @@
 -- Each round tells one tap more.
 use Rattle.std.proofs.Common.{List, [], ◌∷◌, ◌++◌, take, string_bytes}
 use Rattle.std.proofs.Common.{refl, sym, ap, subst, ◌∙◌, append_assoc, append-nil, arith}
+use Rattle.std.proofs.lemmas.List.{take_more}
 use Rattle.tap_views.specs.declared.encoder.TapFields.{TapFields}
 use Rattle.settlement.specs.Posted.{posted_after}
 use Rattle.settled_texts.specs.Telling.{AreTold, last_token}
-use Rattle.settled_texts.proofs.Tellings.{fall_here, last_append, none_told, taken, told_append}
+use Rattle.settled_texts.proofs.Tellings.{fall_here, last_append, none_told, told_append}
 use Rattle.settled_texts.proofs.lines.tell_taps.Goals as goal
 
 pub loop-tap-init : goal.loop-tap-init
@@ -38,14 +39,15 @@ loop-tap-preserved c =
     let i = c.loop-tap.tap-index in
     let done = take i taps in
     let inv = c.loop-tap.invariant in
-    let more = taken taps i _ c.loop-tap-test.true in
+    let more = take_more taps i _ c.loop-tap-test.true in
     record {
       told = λ earlier come.
           let so_far = inv.told earlier come in
           let line = c.in_ok-tell_tap.ensures.told (earlier ++ posted_after fares earlier done)
           so_far.1.come in (
             so_far.0 ++ line.0,
-            subst (λ (ts : List TapFields). AreTold fares earlier ts c.tell_tap.new.teller (so_far.0 ++ line.0))
+            subst (λ (ts : List TapFields). AreTold fares earlier ts c.tell_tap.new.teller
+                (so_far.0 ++ line.0))
                 (sym more) (told_append fares earlier done (_ ∷ []) c.loop-tap.teller
                 c.tell_tap.new.teller so_far.0 line.0 so_far.1 line.1),
             line.2 ∙ ap (λ t. t ++ line.0) so_far.2

@@ -1,16 +1,14 @@
 -- Each round tells a stride more.
-use Rattle.std.proofs.Common.{◌≡◌, ◌<◌, ◌++◌, ◌==◌, false, true, List, [], length}
-use Rattle.std.proofs.Common.{string_bytes, refl, sym, ap, subst, ◌∙◌, append_assoc, append-nil}
-use Rattle.std.proofs.Common.{arith, length-append}
+use Rattle.std.proofs.Common.{◌≡◌, ◌<◌, ◌++◌, ◌==◌, false, true, List, [], length, string_bytes}
+use Rattle.std.proofs.Common.{refl, sym, ap, subst, ◌∙◌, append_assoc, arith, length-append}
 use Rattle.std.specs.Io.KnownBytes.{append_known}
 use Rattle.std.proofs.KnownBytes.{Appends-kept, Appends-nil}
-use Rattle.std.proofs.lemmas.Bool.{eqb-true}
 use Rattle.std.proofs.lemmas.Bool.Decides.{nat_tests}
-use Rattle.std.proofs.lemmas.List.{nil_from_length}
 use Rattle.std.proofs.lemmas.List.Elements.{All-drop, All-same, All-take}
 use Rattle.tap_views.specs.declared.token.Token.{Token}
 use Rattle.tap_views.specs.Layout.{moment_limit}
 use Rattle.tap_views.specs.declared.encoder.TapFields.{TapFields}
+use Rattle.tap_views.proofs.Lists.{all_done}
 use Rattle.fare_texts.proofs.PieceWriting.{grown}
 use Rattle.settlement.specs.Posted.{posted_after}
 use Rattle.settled_texts.specs.Telling.{AreTold, last_token}
@@ -96,7 +94,8 @@ loop-rest-preserved g c =
           let so_far = inv.told earlier come in
           let more = next.told (earlier ++ posted_after fares earlier inv.done) so_far.1.come in (
             so_far.0 ++ more.0,
-            told_append fares earlier inv.done stride c.loop-rest.teller c.tell_taps.new.teller so_far.0
+            told_append fares earlier inv.done stride c.loop-rest.teller c.tell_taps.new.teller
+                so_far.0
                 more.0 so_far.1 more.1,
             Appends-kept _ _ _ (so_far.0 ++ more.0) (grown _ (g.W.Write.contents c.loop-rest.out)
                 (string_bytes c.loop-rest.text) _ so_far.0 more.0 so_far.2 more.2)
@@ -107,13 +106,6 @@ loop-rest-preserved g c =
       few = omega (arith, next.few, inv.few, parts);
     }
 
--- all is done where nothing is left
-all_done : (done left taps : List TapFields) → done ++ left ≡ taps → (length left == 0) ≡ true
-    → done ≡ taps
-all_done done left taps all test =
-    sym (append-nil done) ∙ ap (λ more. done ++ more) (sym (nil_from_length left (eqb-true (length left) 0 test)))
-    ∙ all
-
 pub returns-clause-told : goal.returns-clause-told
 returns-clause-told g c = λ earlier come.
     let inv = c.loop-rest.invariant in
@@ -121,7 +113,8 @@ returns-clause-told g c = λ earlier come.
     let same = all_done inv.done c.loop-rest.rest.now _ inv.whole
     (sym c.is_empty.ensures ∙ c.loop-rest-test.false) in (
       so_far.0,
-      subst (λ (ts : List TapFields). AreTold c.args.table.now earlier ts c.loop-rest.teller so_far.0) same
+      subst (λ (ts : List TapFields). AreTold c.args.table.now earlier ts c.loop-rest.teller
+          so_far.0) same
           so_far.1,
       so_far.2,
     )
@@ -129,7 +122,8 @@ returns-clause-told g c = λ earlier come.
 pub returns-clause-token : goal.returns-clause-token
 returns-clause-token g c =
     let inv = c.loop-rest.invariant in
-    inv.token ∙ ap (last_token c.args.teller.now.token) (all_done inv.done c.loop-rest.rest.now _ inv.whole
+    inv.token ∙ ap (last_token c.args.teller.now.token)
+    (all_done inv.done c.loop-rest.rest.now _ inv.whole
     (sym c.is_empty.ensures ∙ c.loop-rest-test.false))
 
 pub returns-clause-few : goal.returns-clause-few

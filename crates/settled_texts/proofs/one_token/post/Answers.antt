@@ -1,4 +1,5 @@
-use Rattle.std.proofs.Common.{◌≡◌, ◌+◌, List, [], ◌∷◌, ◌++◌, get_or, length, take, refl, ap, sym, subst, ◌∙◌, arith}
+use Rattle.std.proofs.Common.{◌≡◌, ◌+◌, List, [], ◌∷◌, ◌++◌, get_or, length, take, refl, ap, sym}
+use Rattle.std.proofs.Common.{subst, ◌∙◌, arith}
 use Rattle.std.proofs.lemmas.List.{get_or_default, take_all}
 use Rattle.tap_views.specs.declared.encoder.TapFields.{TapFields}
 use Rattle.shard_book.specs.Entry.{own}

@@ -31,9 +31,11 @@ returns c = λ history is.
         totals = c.totals_of_entries-totals.ensures.sums
             ∙ ap sums (c.deref.ensures.value ∙ same);
         window = c.window.ensures fares entries c.in_ok-entries.ensures.replay
-            ∙ ap (λ (t : Token). last_window (rules_of fares (bytes_of t)) (map (tap_of fares) (own t entries)))
+            ∙ ap (λ (t : Token). last_window (rules_of fares (bytes_of t))
+            (map (tap_of fares) (own t entries)))
             c.in_ok-entries.ensures.token
-            ∙ ap (λ (es : List Entry). last_window (rules_of fares (bytes_of token)) (map (tap_of fares) es))
+            ∙ ap (λ (es : List Entry). last_window (rules_of fares (bytes_of token))
+            (map (tap_of fares) es))
             again;
       };
       shown = c.in_ok-text.ensures;

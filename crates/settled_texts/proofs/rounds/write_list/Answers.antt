@@ -1,14 +1,10 @@
 -- The seat's lines are those of the list, since no earlier tap has its first token.
-use Rattle.std.proofs.Common.{◌≡◌, ℕ, Bool, true, false, not, List, string_bytes, refl, sym, subst, ◌∙◌}
+use Rattle.std.proofs.Common.{◌≡◌, ℕ, false, List, string_bytes, sym, subst, ◌∙◌}
 use Rattle.std.specs.Io.KnownBytes.{Appends}
 use Rattle.tap_views.specs.Token.{token_eq}
 use Rattle.fare_texts.proofs.Rising.{none_below, up_weaker}
 use Rattle.settled_texts.proofs.Joined.{passed_on}
 use Rattle.settled_texts.proofs.rounds.write_list.Goals as goal
-
-not_false : (b : Bool) → not b ≡ false → b ≡ true
-not_false true is = refl
-not_false false is = cc
 
 pub returns-clause-told : goal.returns-clause-told
 returns-clause-told g c = λ earlier come.

@@ -1,15 +1,17 @@
 -- Each turn writes a round more.
-use Rattle.std.proofs.Common.{◌≡◌, ◌==◌, true, All, List, [], ◌++◌, length, string_bytes, refl, sym, ap}
-use Rattle.std.proofs.Common.{subst, ◌∙◌, append_assoc, append-nil, arith, length-append, Vec, Global}
+use Rattle.std.proofs.Common.{◌≡◌, ◌==◌, true, All, List, [], ◌++◌, length, string_bytes, refl, sym}
+use Rattle.std.proofs.Common.{ap, subst, ◌∙◌, append_assoc, append-nil, arith, length-append, Vec}
+use Rattle.std.proofs.Common.{Global}
 use Rattle.std.specs.Io.KnownBytes.{append_known}
 use Rattle.std.proofs.KnownBytes.{Appends-nil, Appends-trans}
 use Rattle.std.proofs.lemmas.Bool.{eqb-true}
 use Rattle.std.proofs.lemmas.List.{nil_from_length}
 use Rattle.tap_views.specs.declared.token.Token.{Token}
 use Rattle.tap_views.specs.declared.encoder.TapFields.{TapFields}
+use Rattle.tap_views.proofs.Lists.{All-split}
 use Rattle.settlement.specs.Posted.{posted_after}
 use Rattle.settled_texts.specs.Telling.{AreTold, last_token}
-use Rattle.settled_texts.proofs.Joined.{Early, both, joined, joined_append}
+use Rattle.settled_texts.proofs.Joined.{Early, joined, joined_append}
 use Rattle.settled_texts.proofs.Tellings.{fall_within, halves_of, last_append, none_told}
 use Rattle.settled_texts.proofs.Tellings.{told_append}
 use Rattle.settled_texts.proofs.rounds.write_lists.Goals as goal
@@ -46,7 +48,7 @@ write_round-requires-clause-early g c κs within =
     let behind = c.split_at.result.1.now in
     let halves = halves_of c.min.result c.loop-rest.rest.now round behind c.split_at.ensures.front
     c.split_at.ensures.back in
-    (both Early (joined round) (joined behind)
+    (All-split Early (joined round) (joined behind)
     (subst (λ (taps : List TapFields). All Early taps)
     (sym (joined_halves c.loop-rest.rest.now round behind halves)) c.loop-rest.invariant.early)).0
 
@@ -96,8 +98,9 @@ loop-rest-preserved g c =
     let parts = length-append (joined inv.done) (joined round) in
     record {
       done = inv.done ++ round;
-      whole = append_assoc inv.done round behind ∙ ap (λ lists. inv.done ++ lists) halves ∙ inv.whole;
-      early = (both Early (joined round) (joined behind)
+      whole = append_assoc inv.done round behind ∙ ap (λ lists. inv.done ++ lists) halves
+          ∙ inv.whole;
+      early = (All-split Early (joined round) (joined behind)
           (subst (λ (taps : List TapFields). All Early taps)
           (sym (joined_halves c.loop-rest.rest.now round behind halves)) inv.early)).1;
       told = λ earlier come.
@@ -131,7 +134,8 @@ returns-clause-told g c = λ earlier come.
     let same = all_done inv.done c.loop-rest.rest.now _ inv.whole
     (sym c.is_empty.ensures ∙ c.loop-rest-test.false) in (
       so_far.0,
-      subst (λ (lists : List (Vec TapFields Global)). AreTold c.args.table.now earlier (joined lists)
+      subst (λ (lists : List (Vec TapFields Global)). AreTold c.args.table.now earlier
+          (joined lists)
           c.loop-rest.teller so_far.0) same so_far.1,
       so_far.2,
     )

@@ -45,10 +45,12 @@ write_list-requires-clause-no_fall g c =
     let place = c.loop-place.place in
     let list = get_or round place c.index-round-place.result in
     subst (λ (ts : List TapFields). NoTapFallsFrom c.loop-place.teller.token ts)
-    (sym (c.deref.ensures.value ∙ ap (λ (v : Vec TapFields Global). v.items) c.index-round-place.is))
+    (sym (c.deref.ensures.value
+    ∙ ap (λ (v : Vec TapFields Global). v.items) c.index-round-place.is))
     (fall_within c.args.teller.now.token c.loop-place.teller.token (joined (take place round))
     list.items (joined (drop (place + 1) round)) (joined round)
-    (joined_at round place _ c.loop-place-test.true) c.requires.no_fall c.loop-place.invariant.token)
+    (joined_at round place _ c.loop-place-test.true) c.requires.no_fall
+    c.loop-place.invariant.token)
 
 pub write_list-requires-clause-come : goal.write_list-requires-clause-come
 write_list-requires-clause-come g c =
@@ -67,7 +69,8 @@ write_list-requires-clause-room g c =
     let behind = joined (drop (place + 1) round) in
     let long = ap length (c.deref.ensures.value
     ∙ ap (λ (v : Vec TapFields Global). v.items) c.index-round-place.is) in
-    let whole = ap length (joined_at round place c.index-round-place.result c.loop-place-test.true) in
+    let whole = ap length
+    (joined_at round place c.index-round-place.result c.loop-place-test.true) in
     let parts = length-append before (list.items ++ behind) in
     let rest = length-append list.items behind in
     omega (arith, long, whole, parts, rest, c.loop-place.invariant.few, c.requires.room)
@@ -83,7 +86,8 @@ write_list-requires-clause-sat g c =
     (slice_get-get_or round place c.index-round-place.result c.loop-place-test.true)
     ∙ ap Some (sym here) in
     at_lent (HasSat c.args.table.now c.deref.result.now) c.sit.new.seats place c.get-seat.result
-    c.get-seat.ensures.lookup (λ seat there. c.sit.ensures.sat place seat c.deref.result.now there its)
+    c.get-seat.ensures.lookup
+    (λ seat there. c.sit.ensures.sat place seat c.deref.result.now there its)
 
 pub loop-place-preserved : goal.loop-place-preserved
 loop-place-preserved g c =
@@ -123,7 +127,8 @@ returns-clause-told g c = λ earlier come.
     let so_far = c.loop-place.invariant.told earlier come in
     let all = take_all c.loop-place.place round (omega (arith, c.loop-place-test.false)) in (
       so_far.0,
-      subst (λ (lists : List (Vec TapFields Global)). AreTold c.args.table.now earlier (joined lists)
+      subst (λ (lists : List (Vec TapFields Global)). AreTold c.args.table.now earlier
+          (joined lists)
           c.loop-place.teller so_far.0) all so_far.1,
       so_far.2,
     )

@@ -1,4 +1,5 @@
-use Rattle.std.proofs.Common.{◌≡◌, ◌+◌, ◌∙◌, ◌∷◌, ◌++◌, [], ℕ, List, Vec, Global, map, take, ap, sym, subst, arith, length-append, refl, Bool}
+use Rattle.std.proofs.Common.{◌≡◌, ◌+◌, ◌∙◌, ◌∷◌, ◌++◌, [], ℕ, List, Vec, Global, map, take, ap}
+use Rattle.std.proofs.Common.{sym, subst, arith, length-append, refl, Bool}
 use Rattle.std.specs.Prelude.{◌&&◌}
 use Rattle.std.specs.List.{list_all}
 use Rattle.std.proofs.lemmas.List.{map-append, take_more}
@@ -29,15 +30,20 @@ loop-upload-preserved c =
     let more : take (at + 1) uploads ≡ take at uploads ++ upload ∷ [] =
     take_more uploads at upload c.loop-upload-test.true
     ∙ ap (λ (u : Vec ℕ Global). take at uploads ++ u ∷ []) (sym c.upload-item.is) in
-    let files : map bytes_in (take (at + 1) uploads) ≡ map bytes_in (take at uploads) ++ c.deref.result.now ∷ [] =
+    let files : map bytes_in (take (at + 1) uploads)
+    ≡ map bytes_in (take at uploads) ++ c.deref.result.now ∷ [] =
     ap (map bytes_in) more ∙ map-append bytes_in (take at uploads) (upload ∷ [])
     ∙ ap (λ (b : List ℕ). map bytes_in (take at uploads) ++ b ∷ []) (sym c.deref.ensures.value) in
     record {
       readings = inv.readings ++ reading ∷ [];
       read = subst (λ (fs : List (List ℕ)). AreReadAs fs (inv.readings ++ reading ∷ [])) (sym files)
-          (read_push (map bytes_in (take at uploads)) inv.readings c.deref.result.now reading inv.read read);
-      added = added ∙ ap (λ (ts : List TracedTap). ts ++ numbered c.loop-upload.number 1 (good_fields reading)) inv.added
-          ∙ sym (traced_push 0 c.loop-upload.number inv.readings reading (omega (arith, inv.count)));
+          (read_push (map bytes_in (take at uploads)) inv.readings c.deref.result.now reading
+          inv.read read);
+      added = added ∙ ap
+          (λ (ts : List TracedTap). ts ++ numbered c.loop-upload.number 1 (good_fields reading))
+          inv.added
+          ∙ sym (traced_push 0 c.loop-upload.number inv.readings reading
+          (omega (arith, inv.count)));
       are = c.both-whole.ensures ∙ ap (λ (b : Bool). b && c.in_ok-posted.posted) inv.are
           ∙ ap (λ (b : Bool). list_all is_whole inv.readings && b) posted
           ∙ sym (whole_push inv.readings reading);

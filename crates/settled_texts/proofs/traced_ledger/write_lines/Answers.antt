@@ -11,7 +11,8 @@ use Rattle.tap_views.specs.declared.encoder.TapFields.{TapFields}
 use Rattle.tap_views.specs.declared.token.Token.{Token}
 use Rattle.settlement.specs.Posted.{posted_after}
 use Rattle.settled_texts.specs.Telling.{AreTold, last_token}
-use Rattle.settled_texts.proofs.Tellings.{fall_within, halves_of, last_append, none_told, told_append}
+use Rattle.settled_texts.proofs.Tellings.{fall_within, halves_of, last_append, none_told}
+use Rattle.settled_texts.proofs.Tellings.{told_append}
 use Rattle.settled_texts.specs.Names.{class_by}
 use Rattle.settled_texts.specs.Traces.{taps_of_trace}
 use Rattle.settled_texts.specs.declared.trace.TracedTap.{TracedTap}
@@ -102,7 +103,8 @@ loop-rest-preserved g c =
       whole = append_assoc inv.done stride behind ∙ ap (λ ts. inv.done ++ ts) halves ∙ inv.whole;
       early = (early_parts stride behind c.loop-rest.rest.now halves inv.early).1;
       lines = inv.lines ++ made;
-      told = subst (λ (ts : List TapFields). AreTold fares [] ts c.tell.new.teller (inv.lines ++ made))
+      told = subst
+          (λ (ts : List TapFields). AreTold fares [] ts c.tell.new.teller (inv.lines ++ made))
           (sym (taps_append inv.done stride))
           (told_append fares [] (taps_of_trace inv.done) (taps_of_trace stride) c.loop-rest.teller
           c.tell.new.teller inv.lines made inv.told told);
@@ -132,7 +134,8 @@ returns-clause-told g c =
     let same = all_done inv.done c.loop-rest.rest.now c.args.trace.now inv.whole
     (sym c.is_empty.ensures ∙ c.loop-rest-test.false) in (
       inv.lines,
-      subst (λ (ts : List TracedTap). AreTold c.args.table.now [] (taps_of_trace ts) c.loop-rest.teller inv.lines)
+      subst (λ (ts : List TracedTap). AreTold c.args.table.now [] (taps_of_trace ts)
+          c.loop-rest.teller inv.lines)
           same inv.told,
       inv.appended,
     )

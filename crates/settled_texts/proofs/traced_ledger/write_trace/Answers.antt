@@ -32,13 +32,15 @@ returns-clause-ok g c =
     let no_fall = canonical_falls c.of-teller.result.token taps
     (c.of-teller.ensures.token ∙ c.least_token.ensures) c.requires.named c.requires.sorted in (
       head_text ++ told.0,
-      ledger_along fares (posted fares taps) told.0 (posted_falls fares c.of-teller.result.token taps
+      ledger_along fares (posted fares taps) told.0
+          (posted_falls fares c.of-teller.result.token taps
           no_fall) told.1.are,
       subst (λ (bs : List ℕ). Appends (g.W.Write.contents c.args.out.now)
           (g.W.Write.contents c.write_lines.new.out) bs)
           (ap (λ (h : List ℕ). (h ++ c.as_bytes-2.result.now) ++ with_columns told.0 columns)
           c.as_bytes.ensures.value
-          ∙ ap (λ (h : List ℕ). (codes "token,line,moment,validator,mode,answer,cents,window_start,window_end,ride,reason,points_at" ++ h)
+          ∙ ap (λ (h : List ℕ).
+          (codes "token,line,moment,validator,mode,answer,cents,window_start,window_end,ride,reason,points_at" ++ h)
           ++ with_columns told.0 columns) c.as_bytes-2.ensures.value
           ∙ sym (head_on told.0 columns))
           (Appends-trans _ _ _ _ _ (Appends-trans _ _ _ _ _ c.in_ok-write_out.ensures.ok

@@ -1,6 +1,7 @@
-use Rattle.std.proofs.Common.{◌≡◌, ℕ, ◌+◌, ◌<◌, ◌≤◌, ap, arith, get_or, inl, inr, sym, ◌∙◌, not, Bool, true, false, refl}
+use Rattle.std.proofs.Common.{◌≡◌, ℕ, ◌+◌, ◌<◌, ◌≤◌, ap, arith, get_or, inl, inr, sym, ◌∙◌, not}
+use Rattle.std.proofs.Common.{Bool, true, false, refl}
 use Rattle.std.specs.Prelude.{◌⊎◌}
-use Rattle.std.proofs.lemmas.Bool.{cases_lt, false≢true}
+use Rattle.std.proofs.lemmas.Bool.{cases_lt, false≢true, not-false, not-true}
 use Rattle.std.proofs.lemmas.List.{get_or_default}
 use Rattle.tap_views.specs.declared.encoder.TapFields.{TapFields}
 use Rattle.tap_views.specs.Token.{token_eq}
@@ -10,14 +11,6 @@ use Rattle.settlement.specs.Posted.{token_of_tap}
 use Rattle.settlement.proofs.TokenRuns.{no_tap}
 use Rattle.settlement.proofs.bill.run_length.Goals as goal
 
-not_false : (b : Bool) → not b ≡ true → b ≡ false
-not_false true is = absurd (false≢true is)
-not_false false is = refl
-
-not_true : (b : Bool) → not b ≡ false → b ≡ true
-not_true true is = refl
-not_true false is = absurd (false≢true (sym is))
-
 pub returns-then-ne-clause-next : goal.returns-then-ne-clause-next
 returns-then-ne-clause-next c = λ tap inside same.
     let taps = c.args.taps.now in
@@ -25,7 +18,7 @@ returns-then-ne-clause-next c = λ tap inside same.
     let here : token_of_tap (get_or taps place no_tap) ≡ c.args.token =
     ap token_of_tap (sym (get_or_default taps place tap no_tap inside)) ∙ same in
     let apart : token_eq c.token_of.result c.args.token ≡ false =
-    not_false (token_eq c.token_of.result c.args.token) (sym c.ne.ensures ∙ c.if-ne.true) in
+    not-true (token_eq c.token_of.result c.args.token) (sym c.ne.ensures ∙ c.if-ne.true) in
     let one : token_eq c.token_of.result c.args.token ≡ true =
     ap (λ (t : Token). token_eq t c.args.token) (c.token_of.ensures ∙ here)
     ∙ token_eq-refl c.args.token in
@@ -43,7 +36,7 @@ loop-place-preserved c = λ i tap below. by_place i tap below (cases_lt i c.loop
         let place = c.loop-place.place in
         let same : i ≡ place = omega (arith, below, least) in
         let one : token_eq c.token_of.result c.args.token ≡ true =
-        not_true (token_eq c.token_of.result c.args.token) (sym c.ne.ensures ∙ c.if-ne.false) in
+        not-false (token_eq c.token_of.result c.args.token) (sym c.ne.ensures ∙ c.if-ne.false) in
         ap (λ n. token_of_tap (get_or taps n tap)) same
         ∙ ap token_of_tap (get_or_default taps place tap no_tap c.loop-place-test.true)
         ∙ sym c.token_of.ensures ∙ same_token c.token_of.result c.args.token one

@@ -1,5 +1,5 @@
-use Rattle.std.proofs.Common.{◌≡◌, ◌<◌, ◌≤◌, List, ◌++◌, ◌∷◌, All, Vec, Global, get_or, length, map, ap, arith, append-nil}
-use Rattle.std.proofs.Common.{flat_map, subst, sym, ◌∙◌, []}
+use Rattle.std.proofs.Common.{◌≡◌, ◌<◌, ◌≤◌, List, ◌++◌, ◌∷◌, All, Vec, Global, get_or, length, map}
+use Rattle.std.proofs.Common.{ap, arith, append-nil, flat_map, subst, sym, ◌∙◌, []}
 use Rattle.std.specs.List.Sorted.{IsPermutation, IsSorted}
 use Rattle.std.proofs.lemmas.List.Sorted.{All-permutation, IsPermutation-refl}
 use Rattle.tap_views.specs.Encoding.{AreEarly}
@@ -15,7 +15,8 @@ use Rattle.settlement.proofs.Files.{taps_in}
 use Rattle.settlement.proofs.bill_by_threads.add_part.Goals as goal
 
 -- the taps of one piece alone
-one_piece : (pieces : List (Vec TapFields Global)) (piece : Vec TapFields Global) → 1 ≤ length pieces
+one_piece : (pieces : List (Vec TapFields Global)) (piece : Vec TapFields Global)
+    → 1 ≤ length pieces
     → length pieces < 2 → piece ≡ get_or pieces 0 piece → flat_map taps_in pieces ≡ piece.items
 one_piece [] piece some few is = absurd (omega (arith, some))
 one_piece (p ∷ []) piece some few is = append-nil p.items ∙ ap taps_in (sym is)
@@ -35,7 +36,8 @@ returns-then-are_in_order c =
       list = list;
       canonical = record {
         moved = subst (λ ts. IsPermutation ts list) (sym same) (IsPermutation-refl list);
-        sorted = subst (IsSorted tap_cmp) c.deref.ensures.value (c.are_in_order.ensures c.if-are_in_order.true);
+        sorted = subst (IsSorted tap_cmp) c.deref.ensures.value
+            (c.are_in_order.ensures c.if-are_in_order.true);
       };
       few = omega (
         arith,
@@ -47,21 +49,25 @@ returns-then-are_in_order c =
           → IsCountOf (before ++ posted fares ts) c.add.new.self) given c.in_ok-add.ensures.counted;
       tokens = subst (λ ts. (before : List Entry) → old.tokens ≡ sums_by_token before
           → AreBelow (map token_of before) (map token_of_tap ts)
-          → c.add.new.self.tokens ≡ sums_by_token (before ++ posted fares ts)) given c.in_ok-add.ensures.tokens;
+          → c.add.new.self.tokens ≡ sums_by_token (before ++ posted fares ts)) given
+          c.in_ok-add.ensures.tokens;
     }
 
 pub add-requires-2-clause-early : goal.add-requires-2-clause-early
 add-requires-2-clause-early c =
     let list = c.arrange_into.new.list.items in
-    let is = subst (λ ts. IsCanonical ts list) c.as_slice-pieces.ensures c.in_ok-arrange_into.ensures in
+    let is = subst (λ ts. IsCanonical ts list) c.as_slice-pieces.ensures
+    c.in_ok-arrange_into.ensures in
     subst (λ ts. AreEarly (λ (tap : TapFields). tap.moment) ts) (sym c.deref-3.ensures.value)
-    (All-permutation (λ (tap : TapFields). tap.moment < moment_limit) c.args.pieces.now list is.moved
+    (All-permutation (λ (tap : TapFields). tap.moment < moment_limit) c.args.pieces.now list
+    is.moved
     c.requires.sound.early)
 
 pub add-requires-2-clause-tokens : goal.add-requires-2-clause-tokens
 add-requires-2-clause-tokens c =
     let list = c.arrange_into.new.list.items in
-    let is = subst (λ ts. IsCanonical ts list) c.as_slice-pieces.ensures c.in_ok-arrange_into.ensures in
+    let is = subst (λ ts. IsCanonical ts list) c.as_slice-pieces.ensures
+    c.in_ok-arrange_into.ensures in
     subst (λ ts. All HasTokenBytes ts) (sym c.deref-3.ensures.value)
     (All-permutation HasTokenBytes c.args.pieces.now list is.moved c.requires.sound.tokens)
 
@@ -72,7 +78,8 @@ returns c =
     let list = c.arrange_into.new.list.items in
     record {
       list = list;
-      canonical = subst (λ ts. IsCanonical ts list) c.as_slice-pieces.ensures c.in_ok-arrange_into.ensures;
+      canonical = subst (λ ts. IsCanonical ts list) c.as_slice-pieces.ensures
+          c.in_ok-arrange_into.ensures;
       few = omega (
         arith,
         c.number_of-2.ensures.few,

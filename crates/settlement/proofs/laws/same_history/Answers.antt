@@ -15,5 +15,6 @@ returns-clause-reports c = λ fares history again text other same one two shown 
     let uploads = map bytes_in c.args.uploads.now in
     let others = map bytes_in c.args.others.now in
     same_reports uploads others history again text other
-    (same_history fares uploads others history again c.one_reading_each.ensures c.one_reading_each-2.ensures same one
+    (same_history fares uploads others history again c.one_reading_each.ensures
+    c.one_reading_each-2.ensures same one
     two) shown shown_too

@@ -2,9 +2,9 @@ use Rattle.std.proofs.Common.{IfOk, map, ◌++◌, sym, ap, ◌∙◌, subst}
 use Rattle.std.specs.List.{AllZip}
 use Rattle.std.proofs.lemmas.List.{map-append}
 use Rattle.tap_parts.specs.Canonical.{IsCanonical}
-use Rattle.fare_service.proofs.PlainRuns.{AllZip-append}
 use Rattle.settlement.proofs.Files.{taps_in}
 use Rattle.settlement.proofs.lists_by_threads.+lists.Goals as goal
+use Rattle.tap_views.proofs.Lists.{AllZip-append}
 
 pub returns : goal.returns
 returns g t c =

@@ -16,11 +16,14 @@ returns g t c =
     let more = c.in_ok-more.more in
     subst (λ (ts : List TapFields). IsRunOwn may_be start end token ts c.append-2.new.self.items)
     (sym c.in_ok-append.ensures.items)
-    (subst (λ (es : List UploadEnd). IsRunOwn may_be start end token (own.taps.items ++ more.taps.items) es)
+    (subst (λ (es : List UploadEnd). IsRunOwn may_be start end token
+    (own.taps.items ++ more.taps.items) es)
     (sym c.in_ok-append-2.ensures.items)
     (both_runs_own may_be start middle end token own.taps.items more.taps.items own.ends.items
     more.ends.items
-    (subst (λ r. IfOk r (λ o. IsRunOwn may_be start middle token o.taps.items o.ends.items)) c.in_ok-own.was
+    (subst (λ r. IfOk r (λ o. IsRunOwn may_be start middle token o.taps.items o.ends.items))
+    c.in_ok-own.was
     c.join-own.ensures.first)
-    (subst (λ r. IfOk r (λ o. IsRunOwn may_be middle end token o.taps.items o.ends.items)) c.in_ok-more.was
+    (subst (λ r. IfOk r (λ o. IsRunOwn may_be middle end token o.taps.items o.ends.items))
+    c.in_ok-more.was
     c.join-own.ensures.second)))

@@ -29,7 +29,8 @@ loop-tap-preserved-in-Continue-1 c =
       added = only_more token old now c.push.new.self.items yielded (tap ∷ []) inv.added
           (c.in_ok-push.ensures.items
           ∙ ap (λ (f : TapFields). now ++ f ∷ []) c.of-then-eq.ensures
-          ∙ ap (λ (ts : List TapFields). now ++ ts) (sym (only_here token (fields_of tap) [] same)));
+          ∙ ap (λ (ts : List TapFields). now ++ ts)
+          (sym (only_here token (fields_of tap) [] same)));
     }
 
 pub loop-tap-preserved : goal.loop-tap-preserved

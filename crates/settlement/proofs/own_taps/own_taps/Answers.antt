@@ -11,7 +11,9 @@ loop-number-init g c =
     let start = c.args.start in
     record {
       order = c.requires.order;
-      run = subst (λ (ts : List TapFields). IsRunOwn may_be start start c.args.token ts c.new-ends.result.items)
+      run = subst
+          (λ (ts : List TapFields). IsRunOwn may_be start start c.args.token ts
+          c.new-ends.result.items)
           (sym c.new-taps.ensures.items)
           (subst (λ (es : List UploadEnd). IsRunOwn may_be start start c.args.token [] es)
           (sym c.new-ends.ensures.items) (no_run_own may_be start c.args.token));
@@ -29,8 +31,11 @@ loop-number-preserved g c =
     c.in_ok-end_of_upload.ensures in
     record {
       order = omega (arith, c.loop-number-test.true);
-      run = subst (λ (es : List UploadEnd). IsRunOwn may_be c.args.start (c.loop-number.number + 1) c.args.token new es)
+      run = subst
+          (λ (es : List UploadEnd). IsRunOwn may_be c.args.start (c.loop-number.number + 1)
+          c.args.token new es)
           (sym c.in_ok-push.ensures.items)
-          (run_own_more may_be c.args.start c.loop-number.number c.args.token old new c.loop-number.ends.items
+          (run_own_more may_be c.args.start c.loop-number.number c.args.token old new
+          c.loop-number.ends.items
           upload.items end inv.run c.in_ok-upload.ensures c.good_tokens.ensures one);
     }

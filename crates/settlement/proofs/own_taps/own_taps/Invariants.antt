@@ -5,5 +5,6 @@ use Rattle.settlement.proofs.own_taps.own_taps.Given as goal
 abbrev pub invariant-loop-number : goal.invariant-loop-number
 invariant-loop-number g l = record {
   order : l.number ≤ l.fn.end;
-  run : IsRunOwn (g.U.Uploads.may_be l.uploads) l.fn.start l.number l.token l.taps.items l.ends.items;
+  run : IsRunOwn (g.U.Uploads.may_be l.uploads) l.fn.start l.number l.token l.taps.items
+      l.ends.items;
 }

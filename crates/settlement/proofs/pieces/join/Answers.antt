@@ -1,11 +1,10 @@
-use Rattle.std.proofs.Common.{◌≡◌, ℕ, ◌<◌, ◌≤◌, ◌+◌, List, ◌∷◌, ◌++◌, length, get_or, map, set, sym, []}
-use Rattle.std.proofs.Common.{ap, ◌∙◌, arith, append_assoc, inl, inr, length-append}
+use Rattle.std.proofs.Common.{◌≡◌, ℕ, ◌<◌, ◌≤◌, ◌+◌, List, ◌∷◌, ◌++◌, length, get_or, map, set, sym}
+use Rattle.std.proofs.Common.{[], ap, ◌∙◌, arith, append_assoc, inl, inr, length-append}
 use Rattle.std.specs.Prelude.{◌⊎◌}
 use Rattle.std.specs.Vec.Iter.{into_iter_items}
 use Rattle.std.proofs.lemmas.Bool.{cases_lt}
 use Rattle.std.proofs.lemmas.List.{get_or_default, get_or-set_same, get_or-set_other, length-set}
-use Rattle.std.proofs.lemmas.List.{get_or_append_left, get_or-append-add}
-use Rattle.std.proofs.lemmas.List.{length-map, map-append}
+use Rattle.std.proofs.lemmas.List.{get_or_append_left, get_or-append-add, length-map, map-append}
 use Rattle.tap_views.specs.declared.encoder.TapFields.{TapFields}
 use Rattle.settlement.proofs.Files.{taps_in}
 use Rattle.settlement.proofs.pieces.join.Goals as goal
@@ -62,7 +61,8 @@ loop-piece-preserved c =
         → get_or (set c.loop-piece.parts c.loop-piece.place c.push.new.self) c.loop-piece.place []
         ≡ c.push.new.self
         → c.push.new.self ≡ get_or c.args.parts.now c.loop-piece.place [] ++ c.in-Some.piece.items
-        → get_or (map taps_in c.loop-piece.yielded ++ c.in-Some.piece.items ∷ []) c.loop-piece.place []
+        → get_or (map taps_in c.loop-piece.yielded ++ c.in-Some.piece.items ∷ []) c.loop-piece.place
+        []
         ≡ c.in-Some.piece.items
         → get_or (set c.loop-piece.parts c.loop-piece.place c.push.new.self) part []
         ≡ get_or c.args.parts.now part []
@@ -72,8 +72,14 @@ loop-piece-preserved c =
         omega (arith, e, less))
         ∙ c.loop-piece.invariant.joined part less
         ∙ ap (λ ts. get_or c.args.parts.now part [] ++ ts)
-        (sym (get_or_append_left (map taps_in c.loop-piece.yielded) (c.in-Some.piece.items ∷ []) [] part
-        (omega (arith, less, c.loop-piece.invariant.place, length-map c.loop-piece.yielded taps_in))))
+        (sym (get_or_append_left (map taps_in c.loop-piece.yielded) (c.in-Some.piece.items ∷ []) []
+        part
+        (omega (
+          arith,
+          less,
+          c.loop-piece.invariant.place,
+          length-map c.loop-piece.yielded taps_in,
+        ))))
     by_place part (inr above) below there pushed of_piece =
         let e : part ≡ c.loop-piece.place = omega (arith, above, below) in
         ap (λ n. get_or (set c.loop-piece.parts c.loop-piece.place c.push.new.self) n []) e

@@ -11,6 +11,7 @@ invariant-loop-piece l = record {
   place : l.place ≡ length l.yielded;
   number : length l.parts ≡ length l.fn.parts;
   joined : (part : ℕ) → part < l.place
-      → get_or l.parts part [] ≡ get_or l.fn.parts part [] ++ get_or (map (λ list. list.items) l.yielded) part [];
+      → get_or l.parts part []
+      ≡ get_or l.fn.parts part [] ++ get_or (map (λ list. list.items) l.yielded) part [];
   rest : (part : ℕ) → l.place ≤ part → get_or l.parts part [] ≡ get_or l.fn.parts part [];
 }

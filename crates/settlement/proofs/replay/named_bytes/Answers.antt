@@ -5,5 +5,6 @@ use Rattle.settlement.proofs.replay.named_bytes.Goals as goal
 
 pub returns-clause-bytes : goal.returns-clause-bytes
 returns-clause-bytes c =
-    let named = named_token c.args.tap.now _ _ refl c.of-named.ensures.bytes c.of-named.ensures.fits in
+    let named = named_token c.args.tap.now _ _ refl c.of-named.ensures.bytes
+    c.of-named.ensures.fits in
     sym c.of-named.ensures.bytes ∙ ap bytes_of (sym named) ∙ ap bytes_of c.requires

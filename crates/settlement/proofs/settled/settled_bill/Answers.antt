@@ -22,8 +22,10 @@ returns g c =
       files,
       read,
       split.ended,
-      bill_settled files c.in_ok-ends.field-0.ends.items c.in_ok-ends.field-0.parts.items split c.args.table.now
+      bill_settled files c.in_ok-ends.field-0.ends.items c.in_ok-ends.field-0.parts.items split
+          c.args.table.now
           c.in_ok-bill.bill
-          (subst (λ (ps : List (List TapFields)). IsBillOfParts c.args.table.now ps c.in_ok-bill.bill)
+          (subst (λ (ps : List (List TapFields)). IsBillOfParts c.args.table.now ps
+          c.in_ok-bill.bill)
           c.deref.ensures.value c.in_ok-bill.ensures),
     )

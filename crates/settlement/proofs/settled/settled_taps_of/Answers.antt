@@ -9,10 +9,12 @@ returns-clause-order g c =
     let run = c.in_ok-taps.ensures in
     let own = run.are in (
       run.files,
-      subst (λ n. AreRead (g.U.Uploads.may_be c.args.uploads.now) 0 n run.files) c.len.ensures run.read,
+      subst (λ n. AreRead (g.U.Uploads.may_be c.args.uploads.now) 0 n run.files) c.len.ensures
+          run.read,
       own.ended,
       own_settled run.files c.args.token c.in_ok-taps.field-0.taps.items c.sorted-taps.result.items
-          c.in_ok-taps.field-0.ends.items own (all_tokens run.files own.taps run.tokens own.of_uploads)
+          c.in_ok-taps.field-0.ends.items own
+          (all_tokens run.files own.taps run.tokens own.of_uploads)
           c.sorted-taps.ensures,
     )
 

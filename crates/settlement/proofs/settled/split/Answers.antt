@@ -12,7 +12,8 @@ returns g c =
     let number = pieces.number ∙ c.len-2.ensures.number in
     let few = c.in_ok-ranges.ensures in (
       run.files,
-      subst (λ n. AreRead (g.U.Uploads.may_be c.args.uploads.now) 0 n run.files) c.len.ensures run.read,
+      subst (λ n. AreRead (g.U.Uploads.may_be c.args.uploads.now) 0 n run.files) c.len.ensures
+          run.read,
       record {
         ended = inside.ended;
         taps = inside.taps;

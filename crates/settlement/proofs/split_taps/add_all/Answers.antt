@@ -1,5 +1,4 @@
-use Rattle.std.proofs.Common.{◌+◌, List, sym}
-use Rattle.std.proofs.Common.{subst, arith}
+use Rattle.std.proofs.Common.{◌+◌, List, sym, subst, arith}
 use Rattle.report_texts.specs.declared.upload_end.UploadEnd.{UploadEnd}
 use Rattle.tap_parts.proofs.RangeLemmas.{range_below}
 use Rattle.tap_parts.specs.Ranges.{range_of_token}
@@ -18,10 +17,12 @@ add_upload-requires g c = λ token.
 pub loop-number-init : goal.loop-number-init
 loop-number-init g c = record {
   order = c.requires.order;
-  run = subst (λ (ends : List UploadEnd). IsRunAdded (g.U.Uploads.may_be c.args.uploads.now) c.args.start
+  run = subst
+      (λ (ends : List UploadEnd). IsRunAdded (g.U.Uploads.may_be c.args.uploads.now) c.args.start
       c.args.start (range_of_token c.args.ranges.now) c.args.parts.now c.args.parts.now ends)
       (sym c.new-ends.ensures.items)
-      (no_run (g.U.Uploads.may_be c.args.uploads.now) c.args.start (range_of_token c.args.ranges.now)
+      (no_run (g.U.Uploads.may_be c.args.uploads.now) c.args.start
+      (range_of_token c.args.ranges.now)
       c.args.parts.now);
 }
 
@@ -37,9 +38,13 @@ loop-number-preserved g c =
     c.as_slice.ensures.value c.in_ok-added.ensures in
     record {
       order = omega (arith, c.loop-number-test.true);
-      run = subst (λ (ends : List UploadEnd). IsRunAdded may_be c.args.start (c.loop-number.number + 1) part_of
+      run = subst
+          (λ (ends : List UploadEnd). IsRunAdded may_be c.args.start (c.loop-number.number + 1)
+          part_of
           c.args.parts.now c.add_upload.new.self ends) (sym c.in_ok-push.ensures.items)
-          (run_more may_be c.args.start c.loop-number.number part_of c.args.parts.now c.loop-number.parts
-          c.add_upload.new.self c.loop-number.ends.items upload.items added c.by_fault.result inv.run
+          (run_more may_be c.args.start c.loop-number.number part_of c.args.parts.now
+          c.loop-number.parts
+          c.add_upload.new.self c.loop-number.ends.items upload.items added c.by_fault.result
+          inv.run
           c.in_ok-upload.ensures c.good_tokens.ensures one c.by_fault.ensures);
     }

@@ -11,13 +11,19 @@ returns-then-not-agree c = record {
 
 pub loop-i-preserved : goal.loop-i-preserved
 loop-i-preserved c =
-    agree-more c.args.book.now.entries c.args.list.now c.loop-i.i (omega (arith, c.len-len.ensures.len, c.min-shorter.ensures)) (c.agree.ensures.0 c.if-not-agree.false) c.loop-i.invariant
+    agree-more c.args.book.now.entries c.args.list.now c.loop-i.i
+    (omega (arith, c.len-len.ensures.len, c.min-shorter.ensures))
+    (c.agree.ensures.0 c.if-not-agree.false) c.loop-i.invariant
 
 pub returns-else-len-list : goal.returns-else-len-list
 returns-else-len-list c =
-    let is : c.min-shorter.result ≡ min (length c.args.book.now.entries) (length c.args.list.now) = omega (arith, c.len-len.ensures.len, c.min-shorter.ensures) in
+    let is : c.min-shorter.result ≡ min (length c.args.book.now.entries) (length c.args.list.now) =
+    omega (arith, c.len-len.ensures.len, c.min-shorter.ensures) in
     let here : c.loop-i.i ≡ c.min-shorter.result = omega arith in
     record {
-      before = subst (λ (i : ℕ). take i c.args.book.now.entries ≡ take i c.args.list.now) here c.loop-i.invariant;
-      here = ends-apart c.args.book.now.entries c.args.list.now c.min-shorter.result (λ (same : length c.args.book.now.entries ≡ length c.args.list.now). omega (arith, c.len-len.ensures.len)) is;
+      before = subst (λ (i : ℕ). take i c.args.book.now.entries ≡ take i c.args.list.now) here
+          c.loop-i.invariant;
+      here = ends-apart c.args.book.now.entries c.args.list.now c.min-shorter.result
+          (λ (same : length c.args.book.now.entries ≡ length c.args.list.now). omega
+          (arith, c.len-len.ensures.len)) is;
     }

@@ -16,11 +16,16 @@ returns c = λ token.
     let taps = taps_of book.table token book.entries in
     let limits = terms_at book.table (bytes_of token) in
     record {
-      rides = λ place window there. c.windows_keep_limits.ensures.rides rules taps limits.rides place
+      rides = λ place window there. c.windows_keep_limits.ensures.rides rules taps limits.rides
+          place
           window there (λ n ride is. omega arith);
       ceiling = λ place window there. c.windows_keep_limits.ensures.ceiling rules taps
           limits.ceiling place window there (λ n ride is. omega arith);
-      shared = ap (λ (replied : List Reply). filter is_ride replied) (replies-own book.table token book.entries c.len.ensures.legal) ∙ c.windows_add_up.ensures.rides rules taps;
-      paid = paid-own book.table token book.entries c.len.ensures.legal ∙ c.windows_add_up.ensures.paid rules taps;
-      cents = cents-own book.table token book.entries c.len.ensures.legal ∙ c.windows_add_up.ensures.cents rules taps;
+      shared = ap (λ (replied : List Reply). filter is_ride replied)
+          (replies-own book.table token book.entries c.len.ensures.legal)
+          ∙ c.windows_add_up.ensures.rides rules taps;
+      paid = paid-own book.table token book.entries c.len.ensures.legal
+          ∙ c.windows_add_up.ensures.paid rules taps;
+      cents = cents-own book.table token book.entries c.len.ensures.legal
+          ∙ c.windows_add_up.ensures.cents rules taps;
     }

@@ -12,11 +12,13 @@ use Rattle.shard_book.proofs.laws.one_rising_list.Goals as goal
 pub returns-clause-numbers : goal.returns-clause-numbers
 returns-clause-numbers c = λ keys risen. (
   rising-only nat_cmp_total nat_cmp-IsAntisymmetric keys risen,
-  λ is. subst (λ (list : List ℕ). IsRising nat_cmp keys list) (sym is) (rising-is nat_cmp_total nat_cmp-IsAntisymmetric keys),
+  λ is. subst (λ (list : List ℕ). IsRising nat_cmp keys list) (sym is)
+      (rising-is nat_cmp_total nat_cmp-IsAntisymmetric keys),
 )
 
 pub returns-clause-tokens : goal.returns-clause-tokens
 returns-clause-tokens c = λ keys risen. (
   rising-only token_cmp-total token_cmp-ties keys risen,
-  λ is. subst (λ (list : List Token). IsRising token_cmp keys list) (sym is) (rising-is token_cmp-total token_cmp-ties keys),
+  λ is. subst (λ (list : List Token). IsRising token_cmp keys list) (sym is)
+      (rising-is token_cmp-total token_cmp-ties keys),
 )

@@ -4,15 +4,18 @@ use Rattle.shard_book.proofs.PackedLemmas.{moment-back, answer-in_bits, cents-in
 use Rattle.shard_book.proofs.packed.bits_of.Goals as goal
 
 pub returns-clause-moment : goal.returns-clause-moment
-returns-clause-moment c = moment-back c.from.result c.place_of-number.result c.args.moment c.requires.early
+returns-clause-moment c =
+    moment-back c.from.result c.place_of-number.result c.args.moment c.requires.early
 
 pub returns-clause-answer : goal.returns-clause-answer
 returns-clause-answer c =
-    ap (λ number. bits_answer ((c.from.result * 8 + number) * 4398046511104 + c.args.moment)) c.place_of-number.ensures.place
+    ap (λ number. bits_answer ((c.from.result * 8 + number) * 4398046511104 + c.args.moment))
+    c.place_of-number.ensures.place
     ∙ answer-in_bits c.from.result c.args.moment c.args.reply.answer c.requires.early
 
 pub returns-clause-cents : goal.returns-clause-cents
 returns-clause-cents c =
-    ap (λ number. bits_cents ((c.from.result * 8 + number) * 4398046511104 + c.args.moment)) c.place_of-number.ensures.place
+    ap (λ number. bits_cents ((c.from.result * 8 + number) * 4398046511104 + c.args.moment))
+    c.place_of-number.ensures.place
     ∙ cents-in_bits c.from.result c.args.moment c.args.reply.answer c.requires.early
     ∙ c.from.ensures

@@ -8,9 +8,12 @@ use Rattle.shard_book.proofs.sums.sums_by_validator.Goals as goal
 pub listed-requires : goal.listed-requires
 unfolding HasRoom
 listed-requires g c =
-    let bound : length (all_entries c.args.books.now) ≤ length c.args.books.now * 2 ^ 64 = c.in_ok-tallies.ensures.few in
+    let bound : length (all_entries c.args.books.now) ≤ length c.args.books.now * 2 ^ 64 =
+    c.in_ok-tallies.ensures.few in
     let most : length c.args.books.now ≤ 64 = c.requires in
     (all_entries c.args.books.now, c.in_ok-tallies.ensures.by_key, omega arith)
 
 pub returns-in_default : goal.returns-in_default
-returns-in_default g c = validators-none c.args.books.now _ c.new.ensures.items (ap option_copied (sym c.in_default.is) ∙ c.first.ensures.value)
+returns-in_default g c =
+    validators-none c.args.books.now _ c.new.ensures.items
+    (ap option_copied (sym c.in_default.is) ∙ c.first.ensures.value)

@@ -26,7 +26,8 @@ returns-clause-billed g c = λ fares few part most.
     (record {
       to = begun;
       taken = refl;
-      stand = subst (λ (rs : List TapReader). StandAs begun rs) (sym c.deref.ensures.value) (stand_alone begun);
+      stand = subst (λ (rs : List TapReader). StandAs begun rs) (sym c.deref.ensures.value)
+          (stand_alone begun);
     }) (part.spanned files are) in
     let less = part.few in
     let long = posted_length fares [] part.taps in
@@ -46,7 +47,8 @@ returns-clause-billed g c = λ fares few part most.
           let numbers = map (λ (reader : TapReader). reader.passed) end in
           subst (λ (ends : List UploadEnd). ArePlainEnds files ends)
           (sym (c.in_ok-made.ensures.ends
-          ∙ ap (λ (rs : List TapReader). map Posted (map (λ (reader : TapReader). reader.passed) rs)) there))
+          ∙ ap (λ (rs : List TapReader). map Posted
+          (map (λ (reader : TapReader). reader.passed) rs)) there))
           (counted_ends files numbers
           (passed_counts files begun way.to part.taps numbers
           (c.in_ok-readers.ensures.begun files are) way.taken

@@ -9,8 +9,11 @@ pub loop-taken-init : goal.loop-taken-init
 loop-taken-init c = record {
   few = omega arith;
   joined = λ fares known all.
-      let got = c.next_part.ensures fares known all in
-      (got.0, subst (λ (r : Option Part). IfSome r (IsPart fares known (2 ^ 73))) c.in-Some.is got.1);
+      let got = c.next_part.ensures fares known all in (
+        got.0,
+        subst (λ (r : Option Part). IfSome r (IsPart fares known (2 ^ 73))) c.in-Some.is
+            got.1,
+      );
 }
 
 pub append-requires : goal.append-requires
@@ -21,7 +24,8 @@ append-requires c =
     let few = c.loop-taken.invariant.few in
     parts_room fares known (c.loop-taken._taken * 2 ^ 73) (2 ^ 73) c.loop-taken.whole
     c.in-Some-next_part.more before.1
-    (subst (λ (r : Option Part). IfSome r (IsPart fares known (2 ^ 73))) c.in-Some-next_part.is got.1)
+    (subst (λ (r : Option Part). IfSome r (IsPart fares known (2 ^ 73))) c.in-Some-next_part.is
+    got.1)
     (omega (arith, few))
 
 pub loop-taken-preserved : goal.loop-taken-preserved
@@ -33,9 +37,11 @@ loop-taken-preserved c = record {
       let more = subst (λ (r : Option Part). IfSome r (IsPart fares known (2 ^ 73)))
       c.in-Some-next_part.is got.1 in (
         got.0,
-        part_within fares known (c.loop-taken._taken * 2 ^ 73 + 2 ^ 73) ((c.loop-taken._taken + 1) * 2 ^ 73)
+        part_within fares known (c.loop-taken._taken * 2 ^ 73 + 2 ^ 73)
+            ((c.loop-taken._taken + 1) * 2 ^ 73)
             c.append.new.self
-            (c.in-Ok.ensures fares known (c.loop-taken._taken * 2 ^ 73) (2 ^ 73) before.1 more) (omega arith),
+            (c.in-Ok.ensures fares known (c.loop-taken._taken * 2 ^ 73) (2 ^ 73) before.1 more)
+            (omega arith),
       );
 }
 

@@ -8,10 +8,13 @@ use Rattle.sorted_bills.proofs.by_threads.next_part.Goals as goal
 pub returns-in-Some : goal.returns-in-Some
 returns-in-Some c = λ fares known all.
     let P : Option Part → Type 0 = λ (p : Option Part). IfSome p (IsPart fares known (2 ^ 73)) in
-    let got = All-pop P c.args.parts.now.items c.pop.new.self.items c.pop.result c.pop.ensures.items all in
+    let got = All-pop P c.args.parts.now.items c.pop.new.self.items c.pop.result c.pop.ensures.items
+    all in
     (got.0, subst (λ (r : Option (Option Part)). IfSome r P) c.in-Some.is got.1)
 
 pub returns-in-None : goal.returns-in-None
 returns-in-None c = λ fares known all.
-    let P : Option Part → Type 0 = λ (p : Option Part). IfSome p (IsPart fares known (2 ^ 73)) in
-    ((All-pop P c.args.parts.now.items c.pop.new.self.items c.pop.result c.pop.ensures.items all).0, tt)
+    let P : Option Part → Type 0 = λ (p : Option Part). IfSome p (IsPart fares known (2 ^ 73)) in (
+      (All-pop P c.args.parts.now.items c.pop.new.self.items c.pop.result c.pop.ensures.items all).0,
+      tt,
+    )

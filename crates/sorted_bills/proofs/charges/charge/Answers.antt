@@ -8,7 +8,8 @@ use Rattle.settled_texts.specs.Telling.{NoTapFallsFrom, last_token}
 use Rattle.settled_texts.proofs.Tellings.{last_append}
 use Rattle.sorted_bills.specs.inside.OpenBills.{IsOpenBill}
 use Rattle.sorted_bills.proofs.Counted.{late_says_nothing}
-use Rattle.sorted_bills.proofs.Takings.{Early, both_taken, fall_both, last_taken, none_taken, none_there}
+use Rattle.sorted_bills.proofs.Takings.{Early, both_taken, fall_both, last_taken, none_taken}
+use Rattle.sorted_bills.proofs.Takings.{none_there}
 use Rattle.sorted_bills.proofs.charges.charge.Goals as goal
 
 pub loop-round-init : goal.loop-round-init
@@ -61,7 +62,8 @@ loop-round-preserved g c =
       done = inv.done ++ taps;
       taken = both_taken known begin c.loop-round.taker.merge.readers.items
           c.take.new.self.merge.readers.items inv.done taps inv.taken c.in_ok-take.ensures.taken;
-      bill = subst (λ (ts : List TapFields). IsOpenBill c.args.table.now (inv.done ++ ts) c.add.new.self)
+      bill = subst
+          (λ (ts : List TapFields). IsOpenBill c.args.table.now (inv.done ++ ts) c.add.new.self)
           c.deref.ensures.value (c.in_ok-add.ensures.bill inv.done inv.bill);
       no_fall = fall_both from inv.done taps inv.no_fall
           (subst (λ (t : Token). NoTapFallsFrom t taps) (c.token.ensures ∙ inv.token)

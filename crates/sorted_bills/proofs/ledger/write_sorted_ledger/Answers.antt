@@ -42,7 +42,8 @@ write_ranges-requires-clause-told g c κs within =
 pub write_ranges-requires-clause-ranges : goal.write_ranges-requires-clause-ranges
 write_ranges-requires-clause-ranges g c κs within =
     let known = map g.F.Placed.bytes c.args.files.now in
-    subst (λ (rs : List Range). All (IsRange c.args.table.now known) rs) (sym c.deref_mut-2.ensures.value)
+    subst (λ (rs : List Range). All (IsRange c.args.table.now known) rs)
+    (sym c.deref_mut-2.ensures.value)
     (c.of-rounds.ensures c.args.table.now known)
 
 pub returns-clause-ok : goal.returns-clause-ok

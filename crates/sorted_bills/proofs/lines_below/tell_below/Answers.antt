@@ -72,16 +72,19 @@ loop-preserved g c =
           let now = inv.told earlier begun from before so_far in
           let entries = earlier ++ posted_after fares earlier now.taps in
           let told = next.told entries now.told.come in
-          told_more fares known earlier begun from before was is c.loop.teller c.write_taps.new.teller
+          told_more fares known earlier begun from before was is c.loop.teller
+          c.write_taps.new.teller
           (append_known (g.W.Write.contents c.loop.out) (string_bytes c.loop.text))
-          (append_known (g.W.Write.contents c.write_taps.new.out) (string_bytes c.write_taps.new.text))
+          (append_known (g.W.Write.contents c.write_taps.new.out)
+          (string_bytes c.write_taps.new.text))
           now token taps told.0
           (λ files are. come_further files begun was is now.taps taps (now.come files are)
           (c.in_ok-take.ensures.taken.taken files are)) (up_itself token)
           (record {
             named = c.in_ok-take.ensures.taken.named;
             no_fall = c.in_ok-take.ensures.no_fall;
-            told = subst (λ (ts : List TapFields). AreTold fares entries ts c.write_taps.new.teller told.0)
+            told = subst
+                (λ (ts : List TapFields). AreTold fares entries ts c.write_taps.new.teller told.0)
                 here told.1;
             up = subst (λ (t : Token). IsUpTo (last_token token taps) t)
                 (sym (next.token ∙ ap (last_token token) here)) (up_itself (last_token token taps));

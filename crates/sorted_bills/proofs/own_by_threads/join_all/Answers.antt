@@ -4,8 +4,8 @@ use Rattle.std.proofs.lemmas.Option.{slice_get-get_or}
 use Rattle.tap_views.specs.declared.encoder.TapFields.{TapFields}
 use Rattle.sorted_taps.proofs.Files.{known_number}
 use Rattle.sorted_bills.specs.inside.OwnTaps.{AreOwnAdded, AreSound}
-use Rattle.sorted_bills.proofs.OwnTaps.{AreOwnSoFar, known_slice, none_so_far, none_sound, one_file_more}
-use Rattle.sorted_bills.proofs.OwnTaps.{own_behind, own_of_all, sound_both}
+use Rattle.sorted_bills.proofs.OwnTaps.{AreOwnSoFar, known_slice, none_so_far, none_sound}
+use Rattle.sorted_bills.proofs.OwnTaps.{one_file_more, own_behind, own_of_all, sound_both}
 use Rattle.sorted_bills.proofs.own_by_threads.join_all.Goals as goal
 
 pub loop-place-init : goal.loop-place-init
@@ -45,13 +45,15 @@ loop-place-preserved g c =
       own = λ all are.
           let file = get_or all place [] in
           let added = made.added (Some file)
-          (known_slice g.F.Placed.bytes c.args.files.now all place are (omega (arith, long, test))) in
+          (known_slice g.F.Placed.bytes c.args.files.now all place are
+          (omega (arith, long, test))) in
           one_file_more token all place taps c.extend_from_slice.new.self.items numbers
           c.extend_from_slice-in-Some.new.self.items (c.loop-place.invariant.own all are)
           (subst (λ (ts : List TapFields). AreOwnAdded token file taps ts numbers
           c.extend_from_slice-in-Some.new.self.items) (sym more)
           (subst (λ (ns : List ℕ). AreOwnAdded token file taps (taps ++ own.taps.items) numbers ns)
-          (sym counts) (own_behind token file taps own.taps.items numbers own.numbers.items added)));
+          (sym counts)
+          (own_behind token file taps own.taps.items numbers own.numbers.items added)));
     }
 
 pub returns-clause-sound : goal.returns-clause-sound

@@ -21,7 +21,8 @@ returns-in-Ok-add_file g c =
       sound = c.in-Ok-add_file.ensures.sound;
       added = λ known there. subst (λ (bytes : Option (List ℕ)). IfSome bytes
           (λ all. AreOwnAdded token all [] taps [] numbers))
-          (known_there g.F.Placed.bytes c.args.files.now c.args.place file known (omega (arith, within))
+          (known_there g.F.Placed.bytes c.args.files.now c.args.place file known
+          (omega (arith, within))
           c.index-files-place.is there)
           (subst (λ (ns : List ℕ). IfSome (g.F.Placed.bytes file)
           (λ all. AreOwnAdded token all [] taps ns numbers)) c.new-numbers.ensures.items

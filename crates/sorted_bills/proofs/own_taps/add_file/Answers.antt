@@ -26,7 +26,8 @@ loop-init g c =
       window = omega (arith, long, room);
       sound = c.requires.sound;
       numbers = refl;
-      read = known_map (λ all. StandsIn all 0 [] reader) (λ all. IsOwnRead token all taps taps reader)
+      read = known_map (λ all. StandsIn all 0 [] reader)
+          (λ all. IsOwnRead token all taps taps reader)
           (g.F.Placed.bytes c.args.file.now) (λ all stands. none_read token all taps reader stands)
           c.in_ok-reader.ensures.stands;
     }

@@ -4,7 +4,8 @@ use Rattle.sorted_taps.specs.Sorted.{IsSortedFault}
 use Rattle.sorted_taps.proofs.Checking.{first_fault}
 use Rattle.sorted_taps.proofs.Files.{if_known, known_at, known_number}
 use Rattle.sorted_bills.specs.inside.OwnTaps.{AreOwnAdded, AreSound}
-use Rattle.sorted_bills.proofs.OwnTaps.{AreOwnSoFar, none_so_far, none_sound, one_file_more, own_of_all}
+use Rattle.sorted_bills.proofs.OwnTaps.{AreOwnSoFar, none_so_far, none_sound, one_file_more}
+use Rattle.sorted_bills.proofs.OwnTaps.{own_of_all}
 use Rattle.sorted_bills.proofs.own_taps.own_taps.Goals as goal
 
 pub loop-index-init : goal.loop-index-init

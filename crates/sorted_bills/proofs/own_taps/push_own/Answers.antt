@@ -1,24 +1,16 @@
 use Rattle.std.proofs.Common.{◌≡◌, ◌∙◌, true, false, Bool, not, refl, sym, ap}
-use Rattle.std.proofs.lemmas.Bool.{false≢true}
+use Rattle.std.proofs.lemmas.Bool.{false≢true, not-false, not-true}
 use Rattle.tap_views.specs.Token.{token_eq}
 use Rattle.tap_views.specs.declared.token.Token.{Token}
 use Rattle.sorted_bills.proofs.OwnTaps.{is_own, not_own}
 use Rattle.sorted_bills.proofs.own_taps.push_own.Goals as goal
-
-not_false : (b : Bool) → not b ≡ true → b ≡ false
-not_false true is = absurd (false≢true is)
-not_false false is = refl
-
-not_true : (b : Bool) → not b ≡ false → b ≡ true
-not_true true is = refl
-not_true false is = absurd (false≢true (sym is))
 
 pub returns-then-ne-clause-pushed : goal.returns-then-ne-clause-pushed
 returns-then-ne-clause-pushed c =
     let token = c.args.token in
     not_own token c.args.tap.now c.args.taps.now.items
     (ap (λ (t : Token). token_eq t token) (sym c.name_of.ensures.token)
-    ∙ not_false (token_eq c.name_of.result token) (sym c.ne.ensures ∙ c.if-ne.true))
+    ∙ not-true (token_eq c.name_of.result token) (sym c.ne.ensures ∙ c.if-ne.true))
     c.name_of.ensures.named
 
 pub returns-clause-pushed : goal.returns-clause-pushed
@@ -26,5 +18,5 @@ returns-clause-pushed c =
     let token = c.args.token in
     is_own token c.args.tap.now c.args.taps.now.items c.push.new.self.items
     (ap (λ (t : Token). token_eq t token) (sym c.name_of.ensures.token)
-    ∙ not_true (token_eq c.name_of.result token) (sym c.ne.ensures ∙ c.if-ne.false))
+    ∙ not-false (token_eq c.name_of.result token) (sym c.ne.ensures ∙ c.if-ne.false))
     c.name_of.ensures.named (c.if-not-is_early.ensures refl) c.in_ok-push.ensures.items

@@ -5,8 +5,8 @@ use Rattle.shard_book.specs.SumsByKey.{sums_by_token}
 use Rattle.shard_book.specs.TalliesByKey.{HaveRoom}
 use Rattle.shard_book.specs.Tally.{sums_of_tally}
 use Rattle.shard_book.proofs.SumsLemmas.{sums-append, sums-taps}
+use Rattle.shard_book.proofs.SumsByToken.{by_token_joined}
 use Rattle.settlement.specs.inside.Billing.{HaveBillRoom}
-use Rattle.settlement.proofs.Concats.{by_token_joined}
 use Rattle.sorted_bills.proofs.part.add_bill.Goals as goal
 
 pub add_all-requires : goal.add_all-requires
@@ -30,7 +30,8 @@ returns c = λ entries others one other below. record {
       ∙ ap (λ (ts : List (Token × Sums)). sums_by_token entries ++ ts) other.tokens
       ∙ sym (by_token_joined entries others below);
   counts = record {
-    validators = c.in_ok-add_all.ensures entries others one.counts.validators other.counts.validators;
+    validators = c.in_ok-add_all.ensures entries others one.counts.validators
+        other.counts.validators;
     totals = c.add_all-2.ensures
         ∙ ap (λ (s : Sums). add_sums s (sums_of_tally c.args.more.totals)) one.counts.totals
         ∙ ap (λ (s : Sums). add_sums (sums entries) s) other.counts.totals

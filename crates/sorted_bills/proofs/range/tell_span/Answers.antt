@@ -1,6 +1,6 @@
--- The lines are those of the taps after whatever entries of lower tokens, since the teller is fresh.
-use Rattle.std.proofs.Common.{ℕ, List, [], Some, Vec, Global, map, string_bytes, sym}
-use Rattle.std.proofs.Common.{subst, arith}
+-- The lines are those of the taps after whatever entries of lower tokens, since the teller is
+-- fresh.
+use Rattle.std.proofs.Common.{ℕ, List, [], Some, Vec, Global, map, string_bytes, sym, subst, arith}
 use Rattle.std.specs.Io.KnownBytes.{append_known}
 use Rattle.fare_texts.proofs.PieceWriting.{come_first, last_out}
 use Rattle.settled_texts.specs.Telling.{AreTold}
@@ -50,7 +50,8 @@ returns-clause-lines g c = λ earlier none up.
     let all = all_out c.args.lines.now.items (string_bytes c.args.text.now) c.pass_on.new.out.items
     told.lines c.requires.none.0 c.requires.none.1
     (last_out (Some c.args.lines.now.items) (Some c.tell_below.new.out.items)
-    (Some c.pass_on.new.out.items) (string_bytes c.args.text.now) (string_bytes c.tell_below.new.text)
+    (Some c.pass_on.new.out.items) (string_bytes c.args.text.now)
+    (string_bytes c.tell_below.new.text)
     (string_bytes c.pass_on.new.text) told.lines told.appended c.in_ok-pass_on.ensures.kept
     c.in_ok-pass_on.ensures.empty) in
     record {

@@ -31,10 +31,12 @@ returns-in_ok-write_out-in-Some-clause-told g c = λ earlier begun from before s
     (g.W.Write.contents c.write_out.new.out) ls)
     (c.deref.ensures.value ∙ ap (λ (v : Vec ℕ Global). v.items) lines)
     c.in_ok-write_out-in-Some.ensures.ok in
-    subst (λ (t : Teller). AreToldSoFar fares known earlier begun from before next.readers.items t more)
+    subst (λ (t : Teller). AreToldSoFar fares known earlier begun from before next.readers.items t
+    more)
     (sym teller)
     (told_range fares known earlier begun from before readers c.args.teller.now bytes more so_far
     c.args.left.now range next (c.in-Some.ensures.follows fares known c.requires.range)
     (lines_out bytes (g.W.Write.contents c.pass_on.new.out) (g.W.Write.contents c.write_out.new.out)
-    left range.lines.items c.in_ok-pass_on-in-Some.ensures.kept c.in_ok-pass_on-in-Some.ensures.empty
+    left range.lines.items c.in_ok-pass_on-in-Some.ensures.kept
+    c.in_ok-pass_on-in-Some.ensures.empty
     wrote))

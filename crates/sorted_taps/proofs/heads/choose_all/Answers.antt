@@ -27,7 +27,8 @@ loop-place-preserved c =
       most : place - 1 ≤ length readers;
     }) (sym anew.put)
     (record {
-      leaves = leaves_kept readers tree (place - 1) anew.head (omega (arith, most, more)) inv.leaves;
+      leaves = leaves_kept readers tree (place - 1) anew.head (omega (arith, most, more))
+          inv.leaves;
       chosen = chosen_before (length readers) tree place (place - 1) anew.head (omega (arith, more))
           (omega (arith, more)) (omega (arith, most, size, more)) inv.chosen anew.chosen;
       most = omega (arith, most);

@@ -1,7 +1,8 @@
 use Rattle.std.proofs.Common.{◌/◌, ◌+◌, ◌<◌, length, arith, refl, sym, subst}
 use Rattle.std.proofs.lemmas.List.{length-set}
 use Rattle.sorted_taps.specs.Heads.{HasLeaves}
-use Rattle.sorted_taps.proofs.Ranking.{AreChosenBut, chosen_above, leaves_kept, put_chosen, put_leaf}
+use Rattle.sorted_taps.proofs.Ranking.{AreChosenBut, chosen_above, leaves_kept, put_chosen}
+use Rattle.sorted_taps.proofs.Ranking.{put_leaf}
 use Rattle.sorted_taps.proofs.heads.put_head.Goals as goal
 
 pub loop-place-init : goal.loop-place-init
@@ -48,8 +49,10 @@ loop-place-preserved c =
       within : place / 2 < length t;
     }) (sym anew.put)
     (record {
-      leaves = leaves_kept readers tree (place / 2) anew.head (omega (arith, within, size)) inv.leaves;
-      chosen = chosen_above (length readers) tree place (place / 2) anew.head refl (omega (arith, more))
+      leaves = leaves_kept readers tree (place / 2) anew.head (omega (arith, within, size))
+          inv.leaves;
+      chosen = chosen_above (length readers) tree place (place / 2) anew.head refl
+          (omega (arith, more))
           (omega (arith, within)) inv.chosen anew.chosen;
       within = omega (arith, long, within);
     })

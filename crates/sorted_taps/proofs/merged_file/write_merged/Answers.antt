@@ -1,5 +1,5 @@
-use Rattle.std.proofs.Common.{◌≡◌, ◌≢◌, List, ℕ, [], ◌∷◌, ◌++◌, ap, sym, ◌∙◌, subst, refl, arith, map}
-use Rattle.std.proofs.Common.{Some}
+use Rattle.std.proofs.Common.{◌≡◌, ◌≢◌, List, ℕ, [], ◌∷◌, ◌++◌, ap, sym, ◌∙◌, subst, refl, arith}
+use Rattle.std.proofs.Common.{map, Some}
 use Rattle.std.specs.Prelude.{IfErr, IfSome}
 use Rattle.std.proofs.lemmas.Result.{err_from_is_err_and}
 use Rattle.sorted_taps.specs.Merges.{IsTapTaken}
@@ -19,7 +19,8 @@ returns-in_err-stamps-clause-begun g c =
 pub returns-in_err-waiting-clause-begun : goal.returns-in_err-waiting-clause-begun
 returns-in_err-waiting-clause-begun g c =
     let old = g.W.Write.contents c.args.out.now in
-    if_any _ c.from_residual-in_err-waiting.result (λ stop is. put_begun old old [] [] (put_none old))
+    if_any _ c.from_residual-in_err-waiting.result
+    (λ stop is. put_begun old old [] [] (put_none old))
 
 pub returns-in_err-merge-clause-begun : goal.returns-in_err-merge-clause-begun
 returns-in_err-merge-clause-begun g c =
@@ -41,7 +42,8 @@ loop-init g c =
       may_wait = may_wait_none waiting none;
       taps = [];
       put = subst (λ l. HasPut old old [] l) (sym none) (put_none old);
-      taken = λ all are. (c.in_ok-merge.merge.readers.items, c.in_ok-merge.ensures.begun all are, refl);
+      taken = λ all are.
+          (c.in_ok-merge.merge.readers.items, c.in_ok-merge.ensures.begun all are, refl);
     }
 
 pub returns-in_err-put-in-Some-clause-begun : goal.returns-in_err-put-in-Some-clause-begun
@@ -84,7 +86,8 @@ returns-in-None-clause-merged g c = λ all are.
       merged = taps;
       canonical = merged.canonical;
       written = c.in_ok-put_rest-in-None.ensures.written old taps
-          (subst (λ l. HasPut old here taps l) (sym c.deref-in-None.ensures.value) c.loop.invariant.put);
+          (subst (λ l. HasPut old here taps l) (sym c.deref-in-None.ensures.value)
+          c.loop.invariant.put);
     }
 
 pub loop-preserved : goal.loop-preserved

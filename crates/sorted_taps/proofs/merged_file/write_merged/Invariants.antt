@@ -16,5 +16,6 @@ invariant-loop g l = record {
   taps : List TapFields;
   put : HasPut (g.W.Write.contents l.fn.out) (g.W.Write.contents l.out) taps l.waiting.items;
   taken : (all : List (List ℕ)) → map g.F.Placed.bytes l.files ≡ map Some all
-      → (begun : List TapReader) × AreBegun all begun × AreTaken all begun taps l.merge.readers.items;
+      → (begun : List TapReader) × AreBegun all begun
+      × AreTaken all begun taps l.merge.readers.items;
 }

@@ -1,4 +1,5 @@
-use Rattle.std.proofs.Common.{◌≡◌, ◌⊎◌, ℕ, ◌<◌, ◌≤◌, ◌+◌, ◌∙◌, [], arith, inl, inr, sym, subst, get_or, length}
+use Rattle.std.proofs.Common.{◌≡◌, ◌⊎◌, ℕ, ◌<◌, ◌≤◌, ◌+◌, ◌∙◌, [], arith, inl, inr, sym, subst}
+use Rattle.std.proofs.Common.{get_or, length}
 use Rattle.std.proofs.lemmas.Bool.{cases_lt}
 use Rattle.std.proofs.lemmas.List.{get_or_default, same_lists}
 use Rattle.tap_views.specs.declared.encoder.TapFields.{TapFields}
@@ -21,7 +22,8 @@ loop-at-preserved c = λ k d within. by_case k d within (cases_lt k c.loop-at.at
         let low : at < length one = omega (arith, c.loop-at-test.true) in
         let long = c.if-one-other.false in
         get_or_default one at d none low
-        ∙ tap_cmp_exact (get_or one at none) (get_or other at none) (sym c.compare.ensures ∙ c.in-Equal.is)
+        ∙ tap_cmp_exact (get_or one at none) (get_or other at none)
+        (sym c.compare.ensures ∙ c.in-Equal.is)
         ∙ sym (get_or_default other at d none (omega (arith, low, long)))
 
     by_case : (k : ℕ) (d : TapFields) → k < c.loop-at.at + 1

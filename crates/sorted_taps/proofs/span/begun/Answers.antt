@@ -1,4 +1,5 @@
-use Rattle.std.proofs.Common.{◌≡◌, ◌<◌, ℕ, [], length, get_or, arith, sym, subst, ap, ◌∙◌, length-append, ◌++◌, ◌∷◌}
+use Rattle.std.proofs.Common.{◌≡◌, ◌<◌, ℕ, [], length, get_or, arith, sym, subst, ap, ◌∙◌}
+use Rattle.std.proofs.Common.{length-append, ◌++◌, ◌∷◌}
 use Rattle.sorted_taps.specs.Readers.{StandsIn}
 use Rattle.sorted_taps.specs.declared.reader.TapReader.{TapReader}
 use Rattle.sorted_taps.proofs.Files.{known_at, known_number, if_known, each_more}

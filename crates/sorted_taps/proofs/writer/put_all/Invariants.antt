@@ -8,5 +8,6 @@ invariant-loop-tap g l = record {
   may_wait : MayWait l.waiting.items;
   put : (begin : Option (List ℕ)) (earlier : List TapFields)
       → HasPut begin (g.W.Write.contents l.fn.out) earlier l.fn.waiting.items
-      → HasPut begin (g.W.Write.contents l.out) (earlier ++ take l.tap-index l.taps) l.waiting.items;
+      → HasPut begin (g.W.Write.contents l.out) (earlier ++ take l.tap-index l.taps)
+      l.waiting.items;
 }

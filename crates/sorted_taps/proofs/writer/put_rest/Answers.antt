@@ -13,7 +13,8 @@ use Rattle.sorted_taps.proofs.writer.put_rest.Goals as goal
 pub returns-then-is_empty-clause-written : goal.returns-then-is_empty-clause-written
 returns-then-is_empty-clause-written g c = λ begin taps put.
     written_whole begin (g.W.Write.contents c.args.out.now) taps c.args.waiting.now put
-    (nil_from_length c.args.waiting.now (eqb-true _ 0 (sym c.is_empty.ensures ∙ c.if-is_empty.true)))
+    (nil_from_length c.args.waiting.now
+    (eqb-true _ 0 (sym c.is_empty.ensures ∙ c.if-is_empty.true)))
 
 pub returns-clause-written : goal.returns-clause-written
 returns-clause-written g c =

@@ -12,7 +12,9 @@ returns c = λ taps is.
     let upload = c.args.upload.now in
     subst (λ (ts : List Tap). All HasTokenBytes (map fields_of ts)) (append-nil taps)
     (good.good_tokens (map bytes_in c.from_ref-2.result.now) (taps ∷ [])
-    (subst (λ us. All HasOneReading (map bytes_in us)) (c.from_ref.ensures.value ∙ sym c.from_ref-2.ensures.value)
+    (subst (λ us. All HasOneReading (map bytes_in us))
+    (c.from_ref.ensures.value ∙ sym c.from_ref-2.ensures.value)
     c.one_reading_each.ensures)
-    (subst (λ us. AreGoodTapsOfEach (map bytes_in us) (taps ∷ [])) (sym c.from_ref-2.ensures.value) (is, tt))
+    (subst (λ us. AreGoodTapsOfEach (map bytes_in us) (taps ∷ [])) (sym c.from_ref-2.ensures.value)
+    (is, tt))
     c.plain_history.ensures.some c.plain_history.ensures.fields)

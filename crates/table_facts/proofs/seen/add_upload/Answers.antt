@@ -1,7 +1,8 @@
 use Rattle.std.proofs.Common.{[], ◌++◌, ◌∷◌, refl, subst, sym}
+use Rattle.std.proofs.Math.Bool.{or-false}
 use Rattle.tap_views.specs.Files.{GoodBatchesView, IsReadAs, taps_of_batches}
 use Rattle.tap_views.proofs.ReadingLemmas.{read_end, read_on, taps_more}
-use Rattle.table_facts.proofs.SeenLemmas.{no_tap, one_batch}
+use Rattle.table_facts.proofs.SeenLemmas.{one_batch}
 use Rattle.table_facts.specs.SeenValidators.{is_among}
 use Rattle.table_facts.proofs.seen.add_upload.Goals as goal
 
@@ -13,7 +14,7 @@ loop-batch-init c =
       ends = tt;
       read = subst P (sym c.into_iter-batch-iterator.ensures.into_iter_gives)
           c.good_batches-batch-items.ensures;
-      same = λ v. no_tap (is_among c.args.numbers.now.keys v);
+      same = λ v. sym (or-false (is_among c.args.numbers.now.keys v));
     }
 
 pub loop-batch-preserved : goal.loop-batch-preserved

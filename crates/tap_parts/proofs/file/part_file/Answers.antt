@@ -1,6 +1,5 @@
-use Rattle.std.proofs.Common.{◌≡◌, ◌<◌, ◌++◌, ◌∙◌, ◌∷◌, List, [], length, take, refl, sym, ap}
-use Rattle.std.proofs.Common.{subst, arith, append-nil, append_assoc, false, true, ◌==◌, length-append}
-use Rattle.std.proofs.lemmas.Bool.{eqb-true}
+use Rattle.std.proofs.Common.{◌≡◌, ◌<◌, ◌++◌, ◌∙◌, [], length, take, refl, sym, ap}
+use Rattle.std.proofs.Common.{subst, arith, append_assoc, false, true, ◌==◌, length-append}
 use Rattle.std.proofs.lemmas.Bool.Decides.{nat_tests}
 use Rattle.std.proofs.lemmas.List.{take-append-drop}
 use Rattle.std.proofs.lemmas.List.Elements.{All-drop, All-same}
@@ -10,24 +9,16 @@ use Rattle.tap_parts.specs.Parts.{IsInFullBatches}
 use Rattle.tap_views.specs.Files.{IsFileOf}
 use Rattle.tap_parts.proofs.FullBatches.{AreInBatches, full_size, more_batches, no_batches}
 use Rattle.tap_views.proofs.Texts.{more_text, no_text}
+use Rattle.tap_views.proofs.Lists.{all_done}
 use Rattle.tap_parts.proofs.file.part_file.Goals as goal
 
 abbrev Early : TapFields → Type 0
 Early tap = tap.moment < moment_limit
 
-nothing : (xs : List TapFields) → length xs ≡ 0 → xs ≡ []
-nothing [] e = refl
-nothing (x ∷ xs) e = absurd (omega (arith, e))
-
-all_done : (done left taps : List TapFields) → done ++ left ≡ taps → (length left == 0) ≡ true
-    → done ≡ taps
-all_done done left taps all test =
-    sym (append-nil done) ∙ ap (λ more. done ++ more) (sym (nothing left (eqb-true (length left) 0 test)))
-    ∙ all
-
 pub loop-left-init : goal.loop-left-init
 loop-left-init c =
-    rw c.in_ok-text.ensures.items ([], no_text, refl, c.requires, no_batches (length c.args.taps.now))
+    rw c.in_ok-text.ensures.items
+    ([], no_text, refl, c.requires, no_batches (length c.args.taps.now))
 
 pub loop-left-smaller : goal.loop-left-smaller
 loop-left-smaller c =
@@ -72,7 +63,8 @@ pub returns-clause-file : goal.returns-clause-file
 returns-clause-file c =
     let (done, file, all, early, batches) = c.loop-left.invariant in
     subst (λ taps. IsFileOf c.loop-left.text.items taps)
-    (all_done done c.loop-left.left.now _ all (sym c.is_empty.ensures ∙ c.loop-left-test.false)) file
+    (all_done done c.loop-left.left.now _ all (sym c.is_empty.ensures ∙ c.loop-left-test.false))
+    file
 
 pub returns-clause-batches : goal.returns-clause-batches
 returns-clause-batches c =

@@ -7,10 +7,14 @@ use Rattle.tap_rows.proofs.field.stands_for.Goals as goal
 
 pub returns-in-Some : goal.returns-in-Some
 returns-in-Some c =
-    let decides = slice_eq-Decides Decides-eqb c.in-Some.found.now c.args.value.now c.eq.result c.eq.ensures in (
-      λ same. subst (λ value. FieldStandsFor c.args.field.now value) (decides.0 same) c.in-Some.ensures,
-      λ stands. decides.1 (one_value c.args.field.now c.in-Some.found.now c.args.value.now c.in-Some.ensures stands),
+    let decides = slice_eq-Decides Decides-eqb c.in-Some.found.now c.args.value.now c.eq.result
+    c.eq.ensures in (
+      λ same. subst (λ value. FieldStandsFor c.args.field.now value) (decides.0 same)
+          c.in-Some.ensures,
+      λ stands. decides.1
+          (one_value c.args.field.now c.in-Some.found.now c.args.value.now c.in-Some.ensures stands),
     )
 
 pub returns-in-None : goal.returns-in-None
-returns-in-None c = (λ no. absurd (cc (no)), λ stands. absurd (c.in-None.ensures c.args.value.now stands))
+returns-in-None
+    c = (λ no. absurd (cc (no)), λ stands. absurd (c.in-None.ensures c.args.value.now stands))

@@ -3,7 +3,8 @@ use Rattle.std.specs.Prelude.{slice_index}
 use Rattle.std.proofs.lemmas.Bool.Decides.{nat_tests}
 use Rattle.tap_rows.proofs.FieldLemmas.{ends_quoted}
 use Rattle.tap_rows.proofs.field.value_of.Goals as goal
-use Rattle.tap_rows.proofs.field.value_of.Goals.{else-last-gt0-via-then-last-gt0+else-field-last-eq34, else-last-gt0-via-else-last-gt0}
+use Rattle.tap_rows.proofs.field.value_of.Goals.{else-last-gt0-via-then-last-gt0+else-field-last-eq34}
+use Rattle.tap_rows.proofs.field.value_of.Goals.{else-last-gt0-via-else-last-gt0}
 
 pub returns-else-last-gt0 : goal.returns-else-last-gt0
 returns-else-last-gt0 c = λ value stands.

@@ -1,5 +1,6 @@
 use Rattle.std.proofs.Common.{◌≡◌, List, [], ◌++◌, ◌∷◌, map, ap, ◌∙◌, sym, refl, subst}
 use Rattle.std.proofs.lemmas.List.{map-append}
+use Rattle.std.proofs.KnownBytes.{Appends-nil, Appends-trans}
 use Rattle.std.specs.Io.KnownBytes.{Appends}
 use Rattle.tap_views.specs.Encoding.{fields_of}
 use Rattle.tap_views.specs.Layout.{Tap}
@@ -8,20 +9,23 @@ use Rattle.tap_views.proofs.ReadingLemmas.{read_end, read_on, taps_more}
 use Rattle.tap_rows.specs.Decoded.{fields_in}
 use Rattle.tap_rows.specs.Rows.{rows_text}
 use Rattle.tap_rows.proofs.RowLemmas.{rows_joined}
-use Rattle.tap_rows.proofs.TableLemmas.{appends_nothing, appends_more}
 use Rattle.tap_rows.proofs.into_table.decode.Goals as goal
 
 -- the rows of one batch more
-batch_more : (done : List (List Tap)) (batch : List Tap) → rows_text (fields_in done) ++ rows_text (map fields_of batch) ≡ rows_text (fields_in (done ++ batch ∷ []))
+batch_more : (done : List (List Tap)) (batch : List Tap)
+    → rows_text (fields_in done) ++ rows_text (map fields_of batch)
+    ≡ rows_text (fields_in (done ++ batch ∷ []))
 batch_more done batch =
-    sym (rows_joined (fields_in done) (map fields_of batch)) ∙ ap rows_text (sym (map-append fields_of (taps_of_batches done) batch)) ∙ ap (λ taps. rows_text (map fields_of taps)) (sym (taps_more done batch))
+    sym (rows_joined (fields_in done) (map fields_of batch))
+    ∙ ap rows_text (sym (map-append fields_of (taps_of_batches done) batch))
+    ∙ ap (λ taps. rows_text (map fields_of taps)) (sym (taps_more done batch))
 
 pub loop-batch-init : goal.loop-batch-init
 loop-batch-init g c = record {
   may = tt;
   ends = tt;
   read = c.good_batches-good.ensures;
-  written = appends_nothing (g.W.Write.contents c.args.out.now);
+  written = Appends-nil (g.W.Write.contents c.args.out.now);
 }
 
 pub loop-batch-preserved : goal.loop-batch-preserved
@@ -39,7 +43,7 @@ loop-batch-preserved g c =
       ends = tt;
       read = read_on _ _ _ _ _ c.loop-batch.invariant.read c.in-Some.ensures.steps;
       written = subst (λ text. Appends old new text) (batch_more done batch)
-          (appends_more old here new (rows_text (fields_in done)) (rows_text (map fields_of batch))
+          (Appends-trans old here new (rows_text (fields_in done)) (rows_text (map fields_of batch))
           c.loop-batch.invariant.written more);
     }
 

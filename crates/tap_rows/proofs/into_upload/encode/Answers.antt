@@ -5,11 +5,16 @@ use Rattle.tap_rows.proofs.into_upload.encode.Goals as goal
 
 pub returns-else-written-count-clause-same : goal.returns-else-written-count-clause-same
 returns-else-written-count-clause-same g c = λ changed some same.
-    c.if-written-count.false (same_count (g.R.Read.remaining c.args.table.now) (g.S.Read.remaining c.args.again.now) (g.W.Write.contents c.args.out.now) (g.W.Write.contents c.write_taps.new.out)
-    c.in_ok-count.count c.in-Ok.written some same c.in_ok-count.ensures.table c.in-Ok.ensures.upload)
+    c.if-written-count.false
+    (same_count (g.R.Read.remaining c.args.table.now) (g.S.Read.remaining c.args.again.now)
+    (g.W.Write.contents c.args.out.now) (g.W.Write.contents c.write_taps.new.out)
+    c.in_ok-count.count c.in-Ok.written some same c.in_ok-count.ensures.table
+    c.in-Ok.ensures.upload)
 
 pub returns-in-Err-clause-same : goal.returns-in-Err-clause-same
 returns-in-Err-clause-same g c = λ changed some same.
     let is : c.when_read_again.result ≡ Changed = cc in
-    no_change (g.R.Read.remaining c.args.table.now) (g.S.Read.remaining c.args.again.now) c.in_ok-count.count c.in-Err.fault c.when_read_again.result
-    c.when_read_again.ensures.changed c.when_read_again.ensures.other is some same c.in_ok-count.ensures.table c.in-Err.ensures.refused
+    no_change (g.R.Read.remaining c.args.table.now) (g.S.Read.remaining c.args.again.now)
+    c.in_ok-count.count c.in-Err.fault c.when_read_again.result
+    c.when_read_again.ensures.changed c.when_read_again.ensures.other is some same
+    c.in_ok-count.ensures.table c.in-Err.ensures.refused

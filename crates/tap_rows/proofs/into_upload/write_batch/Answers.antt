@@ -1,21 +1,29 @@
 use Rattle.std.proofs.Common.{◌≡◌, ◌∙◌, [], sym, subst}
 use Rattle.std.specs.Io.KnownBytes.{Appends}
 use Rattle.std.proofs.lemmas.Bool.{eqb-true}
+use Rattle.std.proofs.KnownBytes.{Appends-nil}
+use Rattle.std.proofs.lemmas.List.{nil_from_length}
 use Rattle.tap_views.specs.Files.{IsFileOf}
 use Rattle.tap_views.proofs.Texts.{no_text, more_text}
-use Rattle.tap_rows.proofs.TableLemmas.{appends_nothing, nothing, only_memory}
+use Rattle.tap_rows.proofs.TableLemmas.{only_memory}
 use Rattle.tap_rows.proofs.into_upload.write_batch.Goals as goal
 
 pub returns-then-is_empty-clause-upload : goal.returns-then-is_empty-clause-upload
 returns-then-is_empty-clause-upload g c =
-    let none : c.args.taps.now ≡ [] = nothing c.args.taps.now (eqb-true _ 0 (sym c.is_empty.ensures ∙ c.if-is_empty.true)) in
-    ([], subst (λ taps. IsFileOf [] taps) (sym none) no_text, appends_nothing (g.W.Write.contents c.args.out.now))
+    let none : c.args.taps.now ≡ [] =
+    nil_from_length c.args.taps.now (eqb-true _ 0 (sym c.is_empty.ensures ∙ c.if-is_empty.true)) in (
+      [],
+      subst (λ taps. IsFileOf [] taps) (sym none) no_text,
+      Appends-nil (g.W.Write.contents c.args.out.now),
+    )
 
 pub returns-in-Ok-write_all-clause-upload : goal.returns-in-Ok-write_all-clause-upload
 returns-in-Ok-write_all-clause-upload g c = (
   c.in-Ok.bytes.items,
   more_text [] c.in-Ok.bytes.items [] c.args.taps.now no_text c.in-Ok.ensures.batch,
-  subst (λ bytes. Appends (g.W.Write.contents c.args.out.now) (g.W.Write.contents c.write_all.new.self) bytes) c.deref.ensures.value c.in-Ok-write_all.ensures.bytes,
+  subst (λ bytes. Appends (g.W.Write.contents c.args.out.now)
+      (g.W.Write.contents c.write_all.new.self) bytes) c.deref.ensures.value
+      c.in-Ok-write_all.ensures.bytes,
 )
 
 pub why-requires : goal.why-requires

@@ -1,12 +1,16 @@
-use Rattle.std.proofs.Common.{◌≡◌, ◌∙◌, ◌+◌, ◌<◌, List, [], ◌++◌, ◌∷◌, Some, None, Ok, Err, ap, subst, arith, length, vec_items, length-append}
+use Rattle.std.proofs.Common.{◌≡◌, ◌∙◌, ◌+◌, ◌<◌, List, [], ◌++◌, ◌∷◌, Some, None, Ok, Err, ap}
+use Rattle.std.proofs.Common.{subst, arith, length, vec_items, length-append}
 use Rattle.std.specs.Prelude.{IfSome}
 use Rattle.std.proofs.lemmas.Result.{err_from_is_err_and}
 use Rattle.std.proofs.lemmas.Bool.Decides.{nat_tests}
+use Rattle.std.proofs.lemmas.Option.{IfSome_then}
 use Rattle.tap_views.specs.declared.encoder.TapFields.{TapFields}
 use Rattle.tap_rows.specs.inside.TapTables.{IsEncodedAs}
-use Rattle.tap_rows.proofs.TableLemmas.{Ready, weaker, next_of, reached_fault, writing_first, writing_row, writing_end, ready_written, ready_same, ready_early}
+use Rattle.tap_rows.proofs.TableLemmas.{Ready, next_of, reached_fault, writing_first, writing_row}
+use Rattle.tap_rows.proofs.TableLemmas.{writing_end, ready_written, ready_same, ready_early}
 use Rattle.tap_rows.proofs.into_upload.write_taps.Goals as goal
-use Rattle.tap_rows.proofs.into_upload.write_taps.Goals.{then-len-eq-MAX_TAPS+in_ok-write_batch-in-Some, else-len-eq-MAX_TAPS}
+use Rattle.tap_rows.proofs.into_upload.write_taps.Goals.{then-len-eq-MAX_TAPS+in_ok-write_batch-in-Some}
+use Rattle.tap_rows.proofs.into_upload.write_taps.Goals.{else-len-eq-MAX_TAPS}
 
 pub loop-count-init : goal.loop-count-init
 loop-count-init g c =
@@ -14,8 +18,9 @@ loop-count-init g c =
     record {
       most = omega (arith, ap length none);
       early = λ k d within. absurd (omega (arith, within, ap length none));
-      writing = weaker (g.R.Read.remaining c.args.table.now) _ _ (λ text is. writing_first text (g.R.Read.remaining c.read_head.new.text) c.in_ok-taps.taps.items (g.W.Write.contents c.args.out.now) none is)
-          c.in_ok-read_head.ensures.head;
+      writing = IfSome_then (g.R.Read.remaining c.args.table.now) c.in_ok-read_head.ensures.head
+          (λ text is. writing_first text (g.R.Read.remaining c.read_head.new.text)
+          c.in_ok-taps.taps.items (g.W.Write.contents c.args.out.now) none is);
     }
 
 pub returns-in_err-tap-clause-refused : goal.returns-in_err-tap-clause-refused
@@ -23,10 +28,15 @@ returns-in_err-tap-clause-refused g c =
     let now = g.R.Read.remaining c.loop-count.table in
     let new = g.R.Read.remaining c.next_row.new.text in
     let fault = c.in_err-tap.field-0.0 in
-    let next = next_of now new (c.loop-count.count + 2) c.next_row.result (Err fault) c.in_err-tap.was c.next_row.ensures.row in
-    let p = err_from_is_err_and c.from_residual-in_err-tap.result c.from_residual-in_err-tap.ensures.1 in
-    rw (p.1, p.2) (weaker (g.R.Read.remaining c.args.table.now) _ _ (λ text writing.
-    reached_fault text now new (c.loop-count.count + 2) (writing.done ++ c.loop-count.taps.items) fault writing.reached (omega (arith, writing.number)) next) c.loop-count.invariant.writing)
+    let next = next_of now new (c.loop-count.count + 2) c.next_row.result (Err fault)
+    c.in_err-tap.was c.next_row.ensures.row in
+    let p = err_from_is_err_and c.from_residual-in_err-tap.result
+    c.from_residual-in_err-tap.ensures.1 in
+    rw (p.1, p.2)
+    (IfSome_then (g.R.Read.remaining c.args.table.now) c.loop-count.invariant.writing
+    (λ text writing.
+    reached_fault text now new (c.loop-count.count + 2) (writing.done ++ c.loop-count.taps.items)
+    fault writing.reached (omega (arith, writing.number)) next))
 
 pub returns-in-None-clause-upload : goal.returns-in-None-clause-upload
 returns-in-None-clause-upload g c =
@@ -34,11 +44,15 @@ returns-in-None-clause-upload g c =
     let new = g.R.Read.remaining c.next_row.new.text in
     let here = g.W.Write.contents c.loop-count.out in
     let there = g.W.Write.contents c.write_batch-in-None.new.out in
-    let next = next_of now new (c.loop-count.count + 2) c.next_row.result (Ok None) (c.in_ok-tap.was ∙ ap (λ row. Ok row) c.in-None.is) c.next_row.ensures.row in
+    let next = next_of now new (c.loop-count.count + 2) c.next_row.result (Ok None)
+    (c.in_ok-tap.was ∙ ap (λ row. Ok row) c.in-None.is) c.next_row.ensures.row in
     let P : List TapFields → Type 0 = λ taps. IsEncodedAs taps here there in
-    let encoded = subst P c.deref-in-None.ensures.value c.in_ok-write_batch-in-None.ensures.upload in
-    weaker (g.R.Read.remaining c.args.table.now) _ _ (λ text writing.
-    writing_end text now new c.loop-count.count (c.loop-count.count + 2) c.loop-count.taps.items (g.W.Write.contents c.args.out.now) here there writing next encoded) c.loop-count.invariant.writing
+    let encoded = subst P c.deref-in-None.ensures.value
+    c.in_ok-write_batch-in-None.ensures.upload in
+    IfSome_then (g.R.Read.remaining c.args.table.now) c.loop-count.invariant.writing
+    (λ text writing.
+    writing_end text now new c.loop-count.count (c.loop-count.count + 2) c.loop-count.taps.items
+    (g.W.Write.contents c.args.out.now) here there writing next encoded)
 
 pub loop-count-preserved : goal.loop-count-preserved
 loop-count-preserved g c =
@@ -51,25 +65,34 @@ loop-count-preserved g c =
     let count = c.loop-count.count in
     let tap = c.in-Some.tap in
     let pending = c.if-len-eq-MAX_TAPS.taps.items in
-    let next = next_of now new (count + 2) c.next_row.result (Ok (Some tap)) (c.in_ok-tap.was ∙ ap (λ row. Ok row) c.in-Some.is) c.next_row.ensures.row in
-    let early : tap.moment < 4102444800000 = subst (λ row. IfSome row (λ tap. tap.moment < 4102444800000)) c.in-Some.is c.in_ok-tap.ensures.early in
+    let next = next_of now new (count + 2) c.next_row.result (Ok (Some tap))
+    (c.in_ok-tap.was ∙ ap (λ row. Ok row) c.in-Some.is) c.next_row.ensures.row in
+    let early : tap.moment < 4102444800000 =
+    subst (λ row. IfSome row (λ tap. tap.moment < 4102444800000)) c.in-Some.is
+    c.in_ok-tap.ensures.early in
     let ready : Ready old now out0 out count pending = elim c.if-len-eq-MAX_TAPS.branch [
       | then-len-eq-MAX_TAPS+in_ok-write_batch-in-Some w ↦
           let there = g.W.Write.contents w.write_batch.new.out in
           let P : List TapFields → Type 0 = λ taps. IsEncodedAs taps here there in
-          ready_written old now out0 here there out count c.loop-count.taps.items pending (ap vec_items w.taps-is ∙ w.clear.ensures.items) (ap g.W.Write.contents w.out-is)
-          c.loop-count.invariant.writing (subst P w.deref.ensures.value w.in_ok-write_batch-in-Some.ensures.upload)
+          ready_written old now out0 here there out count c.loop-count.taps.items pending
+          (ap vec_items w.taps-is ∙ w.clear.ensures.items) (ap g.W.Write.contents w.out-is)
+          c.loop-count.invariant.writing
+          (subst P w.deref.ensures.value w.in_ok-write_batch-in-Some.ensures.upload)
       | else-len-eq-MAX_TAPS w ↦
           let test = w.if-len-eq-MAX_TAPS.false in
           let is = c.len.ensures in
           let most = c.loop-count.invariant.most in
           let size = c.loop-count.taps.ok.0 in
-          ready_same old now out0 here out count c.loop-count.taps.items pending (ap vec_items w.taps-is) (ap g.W.Write.contents w.out-is)
-          (grind (arith, nat_tests, test, is, most, size)) c.loop-count.invariant.early c.loop-count.invariant.writing
+          ready_same old now out0 here out count c.loop-count.taps.items pending
+          (ap vec_items w.taps-is) (ap g.W.Write.contents w.out-is)
+          (grind (arith, nat_tests, test, is, most, size)) c.loop-count.invariant.early
+          c.loop-count.invariant.writing
     ] in
     let more : c.push.new.self.items ≡ pending ++ tap ∷ [] = c.in_ok-push-in-Some.ensures.items in
     record {
       most = omega (arith, ready.room, ap length more, length-append pending (tap ∷ []));
       early = ready_early old now out0 out count pending c.push.new.self.items tap ready more early;
-      writing = weaker old _ _ (λ text writing. writing_row text now new count (count + 2) pending c.push.new.self.items out0 out tap writing more next) ready.writing;
+      writing = IfSome_then old ready.writing
+          (λ text writing. writing_row text now new count (count + 2) pending c.push.new.self.items
+          out0 out tap writing more next);
     }

@@ -5,6 +5,7 @@ use Rattle.tap_rows.proofs.laws.one_tap_table.Goals as goal
 
 pub returns : goal.returns
 returns c = record {
-  taps = λ text taps others table also. one_list (drop_through 10 text) taps others table.rows also.rows;
+  taps = λ text taps others table also. one_list (drop_through 10 text) taps others table.rows
+      also.rows;
   good = λ text taps number column table bad. no_fault text taps (Row number column) table tt bad;
 }

@@ -7,5 +7,6 @@ returns-in_default c = λ number is. c.in_default.ensures number (omega (arith, 
 
 pub returns-else-number-lt-MOMENT_LIMIT_MS : goal.returns-else-number-lt-MOMENT_LIMIT_MS
 returns-else-number-lt-MOMENT_LIMIT_MS c = λ number is.
-    let same : number ≡ c.in-Some.number = one_time c.args.field.now number c.in-Some.number is.0 c.in-Some.ensures in
+    let same : number ≡ c.in-Some.number =
+    one_time c.args.field.now number c.in-Some.number is.0 c.in-Some.ensures in
     absurd (omega (arith, same, is.1))

@@ -7,7 +7,8 @@ pub returns-else-stands_for-2 : goal.returns-else-stands_for-2
 returns-else-stands_for-2 c = (
   λ positive. let no = c.if-stands_for-2.false in absurd (cc (positive, no)),
   λ is.
-      let names = names_of c.args.line.now c.in-Some.token.now c.in-Some.validator.now c.in-Some.moment.now c.in-Some.ensures is in
+      let names = names_of c.args.line.now c.in-Some.token.now c.in-Some.validator.now
+      c.in-Some.moment.now c.in-Some.ensures is in
       elim c.if-stands_for.branch [
         | then-stands_for w ↦ w.value-is ∙ w.stands_for-then-stands_for.ensures.1 names.1
         | else-stands_for w ↦ w.value-is ∙ c.stands_for.ensures.1 names.0

@@ -6,4 +6,6 @@ use Rattle.tap_views.proofs.laws.one_reading_each.Goals as goal
 pub returns : goal.returns
 returns c =
     let A : List (Vec ℕ Global) → Type 0 = All (λ upload. HasOneReading upload.items) in
-    All-map HasOneReading (λ upload. upload.items) c.args.uploads.now (subst A (take_all c.loop-upload.upload-index c.args.uploads.now c.loop-upload-test.false) c.loop-upload.invariant)
+    All-map HasOneReading (λ upload. upload.items) c.args.uploads.now
+    (subst A (take_all c.loop-upload.upload-index c.args.uploads.now c.loop-upload-test.false)
+    c.loop-upload.invariant)

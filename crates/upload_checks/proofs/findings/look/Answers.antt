@@ -21,7 +21,8 @@ returns g c =
     let all : List (List ℕ) = map (λ upload. upload.items) uploads in
     let number = sym (length-map uploads (λ upload. upload.items)) in
     let same : files ≡ all = loaded_files all files
-    (subst (λ n. AreRead (λ upload bytes. slice_get all upload ≡ Some bytes) 0 n files) number read) in
+    (subst (λ n. AreRead (λ upload bytes. slice_get all upload ≡ Some bytes) 0 n files) number
+    read) in
     let ends = c.in_ok-ends.field-0.ends.items in
     let order = flat_map taps_in c.in_ok-ends.field-0.lists.items in
     let flat : flat_map taps_in c.as_slice-all.result.now ≡ order =

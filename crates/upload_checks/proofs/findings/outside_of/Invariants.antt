@@ -7,7 +7,9 @@ abbrev pub invariant-loop-list : goal.invariant-loop-list
 invariant-loop-list l = record {
   span : l.outside.span ≡ l.fn.span;
   before : l.outside.before.items
-      ≡ filter (is_before l.fn.span.first) (flat_map (λ list. list.items) (take l.list-index l.lists));
+      ≡ filter (is_before l.fn.span.first)
+      (flat_map (λ list. list.items) (take l.list-index l.lists));
   after : l.outside.after.items
-      ≡ filter (is_after l.fn.span.last) (flat_map (λ list. list.items) (take l.list-index l.lists));
+      ≡ filter (is_after l.fn.span.last)
+      (flat_map (λ list. list.items) (take l.list-index l.lists));
 }

@@ -1,12 +1,13 @@
-use Rattle.std.proofs.Common.{◌≡◌, ◌++◌, ◌∷◌, ◌∙◌, [], ℕ, List, Some, None, ap, append-nil, map, subst, sym, take}
+use Rattle.std.proofs.Common.{◌≡◌, ◌++◌, ◌∷◌, ◌∙◌, [], ℕ, List, Some, None, ap, append-nil, map}
+use Rattle.std.proofs.Common.{subst, sym, take, Bor, length, ◌+◌}
 use Rattle.std.specs.BTreeMap as tree
 use Rattle.std.specs.BTreeMap.{BTreeMap}
 use Rattle.std.specs.Cmp.Lexicographic.{slice_cmp}
 use Rattle.std.specs.Ordering.{nat_cmp}
-use Rattle.std.proofs.Common.{Bor, length, ◌+◌}
 use Rattle.upload_checks.specs.Repeats.{place_of, repeats}
 use Rattle.upload_checks.specs.declared.repeats.Repeat.{Repeat}
-use Rattle.upload_checks.proofs.RepeatLemmas.{place_kept, place_put, repeats_more, upload_more, uploads_gone}
+use Rattle.upload_checks.proofs.RepeatLemmas.{place_kept, place_put, repeats_more, upload_more}
+use Rattle.upload_checks.proofs.RepeatLemmas.{uploads_gone}
 use Rattle.upload_checks.proofs.repeats.repeated_uploads.Goals.{in-None+in_ok-insert-in-None}
 use Rattle.upload_checks.proofs.repeats.repeated_uploads.Goals.{in-Some+in_ok-push-in-Some}
 use Rattle.upload_checks.proofs.repeats.repeated_uploads.Goals as goal

@@ -14,17 +14,20 @@ use Rattle.account_rule.specs.Taps.{live_at}
 use Rattle.account_rule.specs.declared.tap.TapIn.{TapIn}
 use Rattle.account_rule.proofs.ReasonLemmas.{reason_unknown, why_ride, why_stale, why_transfer}
 use Rattle.account_rule.proofs.StepLemmas.{IsStep, at_fresh, at_kept, at_state, first_ride}
-use Rattle.account_rule.proofs.StepLemmas.{gives_none-fresh, gives_none-state, kept-fresh, kept-open}
-use Rattle.account_rule.proofs.StepLemmas.{class_there, gives_same, kept_room, next_ride, terms_same, stale, stands-open, transfer, unknown}
+use Rattle.account_rule.proofs.StepLemmas.{gives_none-fresh, gives_none-state, kept-fresh}
+use Rattle.account_rule.proofs.StepLemmas.{kept-open, class_there, gives_same, kept_room, next_ride}
+use Rattle.account_rule.proofs.StepLemmas.{terms_same, stale, stands-open, transfer, unknown}
 use Rattle.account_rule.proofs.WindowLemmas.{room-open}
 use Rattle.account_rule.proofs.FareLemmas.{given-few, ride_reason-few}
 use Rattle.account_rule.proofs.account.Account.explain_step.Goals as goal
-use Rattle.account_rule.proofs.account.Account.explain_step.Goals.{After-explain_ride, After-first_ride}
+use Rattle.account_rule.proofs.account.Account.explain_step.Goals.{After-explain_ride}
+use Rattle.account_rule.proofs.account.Account.explain_step.Goals.{After-first_ride}
 
 -- the tap's validator is not known
 
 pub returns-in_default-clause-reason : goal.returns-in_default-clause-reason
-returns-in_default-clause-reason c = λ taps stands. sym (reason_unknown _ taps c.args.tap c.in_default.is)
+returns-in_default-clause-reason c =
+    λ taps stands. sym (reason_unknown _ taps c.args.tap c.in_default.is)
 
 pub returns-in_default-clause-stands : goal.returns-in_default-clause-stands
 unfolding Stands

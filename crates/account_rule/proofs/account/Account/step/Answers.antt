@@ -9,7 +9,8 @@ use Rattle.account_rule.specs.Stands.{StandsForSome, Stands}
 use Rattle.account_rule.specs.Taps.{live_at}
 use Rattle.account_rule.specs.declared.tap.TapIn.{TapIn}
 use Rattle.account_rule.proofs.StepLemmas.{IsStep, at_state, first_ride, gives_none-state}
-use Rattle.account_rule.proofs.StepLemmas.{kept-fresh, kept-open, class_there, gives_same, kept_room, next_ride, terms_same}
+use Rattle.account_rule.proofs.StepLemmas.{kept-fresh, kept-open, class_there, gives_same}
+use Rattle.account_rule.proofs.StepLemmas.{kept_room, next_ride, terms_same}
 use Rattle.account_rule.proofs.StepLemmas.{stale, stands-open, transfer, unknown}
 use Rattle.account_rule.proofs.FareLemmas.{free-few, ride-few}
 use Rattle.account_rule.proofs.account.Account.step.Goals as goal

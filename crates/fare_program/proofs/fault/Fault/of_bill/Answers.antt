@@ -13,6 +13,8 @@ returns-in-Some-clause-right c = λ known says.
     record {
       index = c.in-File.refused.index;
       named = slice_get-map name_in names c.in-File.refused.index
-          ∙ ap (option_map name_in) (slice_get_read names (length names) c.in-File.refused.index c.in-Some.name.now refl found.3.0 found.1);
+          ∙ ap (option_map name_in)
+          (slice_get_read names (length names) c.in-File.refused.index c.in-Some.name.now refl
+          found.3.0 found.1);
       first = λ all are. subst (IsBillFault all) c.in-File.is (says all are);
     }

@@ -4,6 +4,8 @@ use Rattle.fare_program.proofs.listing.Listing.add.Goals as goal
 
 pub returns-clause-stands : goal.returns-clause-stands
 returns-clause-stands c = λ taps stands.
-    stands-push c.self.inside.last.entries c.liveness_next.new.last.entries c.self.inside.counts c.count.new.self taps
-    (listed_of c.args.tap.now c.args.known) c.in_ok-liveness.liveness c.in_ok-liveness.ensures.liveness c.in_ok-liveness.ensures.last
+    stands-push c.self.inside.last.entries c.liveness_next.new.last.entries c.self.inside.counts
+    c.count.new.self taps
+    (listed_of c.args.tap.now c.args.known) c.in_ok-liveness.liveness
+    c.in_ok-liveness.ensures.liveness c.in_ok-liveness.ensures.last
     c.count.ensures (rw c.self.view_is stands)

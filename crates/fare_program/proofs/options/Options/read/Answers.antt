@@ -9,15 +9,31 @@ pub returns-clause-asked : goal.returns-clause-asked
 returns-clause-asked c =
     let found = found_of c.in_ok-matches.matches in
     let rows = c.in_ok-matches.ensures.rows in
-    let table = c.get_str.ensures ∙ first_value-rows found (codes "table") ∙ ap (first_of (codes "table")) rows in
+    let table = c.get_str.ensures ∙ first_value-rows found (codes "table")
+    ∙ ap (first_of (codes "table")) rows in
     let list = c.flag_in.ensures ∙ ap (is_given (codes "list")) rows in
     let workers = c.number_in.ensures.number ∙ ap (number_of (codes "workers")) rows in
     let shards = c.number_in-2.ensures.number ∙ ap (number_of (codes "shards")) rows in
-    let token = c.get_str-2.ensures ∙ first_value-rows found (codes "token") ∙ ap (first_of (codes "token")) rows in
+    let token = c.get_str-2.ensures ∙ first_value-rows found (codes "token")
+    ∙ ap (first_of (codes "token")) rows in
     let settle = c.flag_in-2.ensures ∙ ap (is_given (codes "settle")) rows in
     let sorted = c.flag_in-3.ensures ∙ ap (is_given (codes "sorted")) rows in
     let ledger = c.flag_in-4.ensures ∙ ap (is_given (codes "ledger")) rows in
     let explain = c.flag_in-5.ensures ∙ ap (is_given (codes "explain")) rows in
     let traced = c.flag_in-6.ensures ∙ ap (is_given (codes "traced")) rows in
     let files = c.in_ok-names_in.ensures ∙ ap (λ r. unwrap_or (all_of (codes "FILE") r) []) rows in
-    λ i. record { table = table i; list = list i; workers = workers i; shards = shards i; token = token i; settle = settle i; sorted = sorted i; ledger = ledger i; explain = explain i; traced = traced i; files = files i }
+    λ i. record {
+      table = table i;
+      list = list i;
+      workers = workers i;
+      shards = shards i;
+      token =
+          token i;
+      settle = settle i;
+      sorted = sorted i;
+      ledger = ledger i;
+      explain =
+          explain i;
+      traced = traced i;
+      files = files i;
+    }

@@ -11,11 +11,16 @@ loop-upload-preserved c =
     let end = c.upload.result in
     let place = c.loop-upload.upload in
     let W : UploadEnd → Type 0 = λ e. WasNotCut e in
-    All-more WasNotCut ends place end (slice_get_within ends place end c.upload.ensures) c.loop-upload.invariant
-    (subst W (sym (get_or_from_slice_get ends place end end c.upload.ensures)) (c.was_not_cut.ensures.0 c.if-not-was_not_cut.false))
+    All-more WasNotCut ends place end (slice_get_within ends place end c.upload.ensures)
+    c.loop-upload.invariant
+    (subst W (sym (get_or_from_slice_get ends place end end c.upload.ensures))
+    (c.was_not_cut.ensures.0 c.if-not-was_not_cut.false))
 
 pub returns : goal.returns
 returns c =
     let A : List UploadEnd → Type 0 = All WasNotCut in
-    let all = subst A (take_all c.loop-upload.upload c.args.outcome.now.ends (omega (arith, c.loop-upload-test.false, c.uploads-upload-end.ensures))) c.loop-upload.invariant in
+    let all = subst A
+    (take_all c.loop-upload.upload c.args.outcome.now.ends
+    (omega (arith, c.loop-upload-test.false, c.uploads-upload-end.ensures)))
+    c.loop-upload.invariant in
     (λ yes. all, λ whole. refl)

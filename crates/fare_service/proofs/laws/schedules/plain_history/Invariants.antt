@@ -5,6 +5,7 @@ use Rattle.fare_service.proofs.laws.schedules.plain_history.Given as goal
 
 abbrev pub invariant-loop-upload : goal.invariant-loop-upload
 invariant-loop-upload l = record {
-  taps : (taps : List (List Tap)) × AreGoodTapsOfEach (map (λ upload. upload.items) (take l.upload-index l.uploads)) taps;
+  taps : (taps : List (List Tap))
+      × AreGoodTapsOfEach (map (λ upload. upload.items) (take l.upload-index l.uploads)) taps;
   bytes : All (λ upload. All (λ byte. byte < 256) upload.items) (take l.upload-index l.uploads);
 }

@@ -5,11 +5,15 @@ use Rattle.fare_service.proofs.laws.schedules.statements_are_plain.Goals as goal
 pub returns-clause-entries : goal.returns-clause-entries
 returns-clause-entries c = λ fares shards history whole.
     let files = map (λ (upload : Vec ℕ Global). upload.items) c.args.uploads.now in
-    let some : 0 < length c.args.outcome.now.books = omega (arith, c.shards.ensures.some, c.shards.ensures.number) in
-    same_own (record { table = fares; shards = shards; uploads = files }) c.args.outcome.now history some c.tokens_are_named.ensures.named c.one_reading_each.ensures whole
+    let some : 0 < length c.args.outcome.now.books =
+    omega (arith, c.shards.ensures.some, c.shards.ensures.number) in
+    same_own (record { table = fares; shards = shards; uploads = files }) c.args.outcome.now history
+    some c.tokens_are_named.ensures.named c.one_reading_each.ensures whole
 
 pub returns-clause-texts : goal.returns-clause-texts
 returns-clause-texts c = λ fares shards history whole.
     let files = map (λ (upload : Vec ℕ Global). upload.items) c.args.uploads.now in
-    let some : 0 < length c.args.outcome.now.books = omega (arith, c.shards.ensures.some, c.shards.ensures.number) in
-    same_statement (record { table = fares; shards = shards; uploads = files }) c.args.outcome.now history some c.tokens_are_named.ensures.named c.one_reading_each.ensures whole
+    let some : 0 < length c.args.outcome.now.books =
+    omega (arith, c.shards.ensures.some, c.shards.ensures.number) in
+    same_statement (record { table = fares; shards = shards; uploads = files }) c.args.outcome.now
+    history some c.tokens_are_named.ensures.named c.one_reading_each.ensures whole

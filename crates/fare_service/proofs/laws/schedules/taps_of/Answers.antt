@@ -10,4 +10,6 @@ returns-clause-taps c =
     (taps_of_batches good.result.batches, good_taps _ _ _ good.ensures)
 
 pub returns-clause-bytes : goal.returns-clause-bytes
-returns-clause-bytes c = All-from_get_or (λ byte. byte < 256) c.args.file.now 0 (λ i within. let byte = c.type_inv.file i in omega arith)
+returns-clause-bytes c =
+    All-from_get_or (λ byte. byte < 256) c.args.file.now 0
+    (λ i within. let byte = c.type_inv.file i in omega arith)

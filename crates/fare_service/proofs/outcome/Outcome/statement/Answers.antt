@@ -8,8 +8,11 @@ use Rattle.fare_service.proofs.outcome.Outcome.statement.Goals as goal
 
 pub returns : goal.returns
 returns c =
-    let shard = c.shard_of.ensures.value ∙ ap (λ bytes. shard_of_token bytes c.shards.result) c.bytes-bytes.ensures ∙ ap (shard_of_token (bytes_of c.args.token.now)) c.shards.ensures.number in
-    let T : Fares → Type 0 = λ t. IsStatementText t c.in_ok-statement.statement (string_bytes c.in_ok-text.text) in
+    let shard = c.shard_of.ensures.value
+    ∙ ap (λ bytes. shard_of_token bytes c.shards.result) c.bytes-bytes.ensures
+    ∙ ap (shard_of_token (bytes_of c.args.token.now)) c.shards.ensures.number in
+    let T : Fares → Type 0 =
+    λ t. IsStatementText t c.in_ok-statement.statement (string_bytes c.in_ok-text.text) in
     record {
       book = c.book-book.result.now;
       at = ap (slice_get c.args.self.now.books) (sym shard) ∙ c.book-book.ensures;

@@ -1,7 +1,7 @@
-use Rattle.std.proofs.Common.{◌≡◌, ℕ, ◌^◌, ◌≤◌, arith, ◌<◌, List, All, length, map, replicate, sym, ◌∙◌, ap, subst}
-use Rattle.std.specs.Prelude.{Result, Ok, Err, IfErr, IsErrAnd}
+use Rattle.std.proofs.Common.{◌≡◌, ℕ, ◌^◌, ◌≤◌, arith, ◌<◌, List, All, length, map, replicate, sym}
+use Rattle.std.proofs.Common.{◌∙◌, ap, subst}
 use Rattle.std.proofs.lemmas.List.{length-map}
-use Rattle.shard_book.specs.Sums.{sums, sums_of}
+use Rattle.shard_book.specs.Sums.{sums, sums_of, add_all}
 use Rattle.shard_book.specs.SumsByKey.{all_entries}
 use Rattle.report_texts.specs.declared.upload_end.UploadEnd.TheVariants.{Undrawn}
 use Rattle.fare_service.specs.declared.faults.GatherFault.{GatherFault}
@@ -13,120 +13,227 @@ use Rattle.fare_service.specs.ServiceView.{ServiceView, shards_of}
 use Rattle.fare_service.specs.ShareView.{ShareView}
 use Rattle.fare_service.specs.Shares.{IsShareOf}
 use Rattle.fare_service.specs.Headline.{HasOutcome}
-use Rattle.shard_book.specs.Sums.{add_all}
 use Rattle.fare_service.proofs.AddingLemmas.{shares_add_up, few_taps}
 use Rattle.fare_service.proofs.EndingLemmas.{full_made}
 use Rattle.fare_service.proofs.GatheredWork.{given_of}
-use Rattle.fare_service.proofs.GatherLemmas.{has_gathered, told_undrawn, undrawn_last, is_outcome, done_within}
+use Rattle.fare_service.proofs.GatherLemmas.{has_gathered, told_undrawn, undrawn_last, is_outcome}
+use Rattle.fare_service.proofs.GatherLemmas.{done_within}
 use Rattle.fare_service.proofs.HeadlineLemmas.{headline_of}
 use Rattle.fare_service.proofs.service.Service.gather.Goals as goal
+use Rattle.tap_views.proofs.Choices.{IfErr_handed_on}
 
 pub ends_of-requires : goal.ends_of-requires
 ends_of-requires c =
-    let service : ServiceView = record { table = c.self.inside.table; drawing = c.self.inside.draw; books = c.self.inside.books.items; uploads = map (λ upload. upload.items) c.self.inside.uploads.now } in
+    let service : ServiceView =
+    record {
+      table = c.self.inside.table;
+      drawing = c.self.inside.draw;
+      books =
+          c.self.inside.books.items;
+      uploads = map (λ upload. upload.items) c.self.inside.uploads.now;
+    } in
     let S : ServiceView → Type 0 = λ h. All (IsShareOf h) c.args.shares.items in
-    let all : All (IsShareOf service) c.args.shares.items = subst S (sym c.self.view_is) c.requires in
-    let P : List ShareView → Type 0 = λ ss. All (λ share. All (λ d. d.upload < length c.self.inside.uploads.now) share.done) ss in
-    subst P (sym c.as_slice.ensures.value) (done_within service (length c.self.inside.uploads.now) c.args.shares.items (length-map c.self.inside.uploads.now (λ upload. upload.items)) all)
+    let all : All (IsShareOf service) c.args.shares.items =
+    subst S (sym c.self.view_is) c.requires in
+    let P : List ShareView → Type 0 =
+    λ ss. All (λ share. All (λ d. d.upload < length c.self.inside.uploads.now) share.done) ss in
+    subst P (sym c.as_slice.ensures.value)
+    (done_within service (length c.self.inside.uploads.now) c.args.shares.items
+    (length-map c.self.inside.uploads.now (λ upload. upload.items)) all)
 
 pub added-totals-requires : goal.added-totals-requires
 added-totals-requires c =
-    let service : ServiceView = record { table = c.self.inside.table; drawing = c.self.inside.draw; books = c.self.inside.books.items; uploads = map (λ upload. upload.items) c.self.inside.uploads.now } in
+    let service : ServiceView =
+    record {
+      table = c.self.inside.table;
+      drawing = c.self.inside.draw;
+      books =
+          c.self.inside.books.items;
+      uploads = map (λ upload. upload.items) c.self.inside.uploads.now;
+    } in
     let S : ServiceView → Type 0 = λ h. All (IsShareOf h) c.args.shares.items in
-    let all : All (IsShareOf service) c.args.shares.items = subst S (sym c.self.view_is) c.requires in
-    let number : length service.uploads ≡ length c.self.inside.uploads.now = length-map c.self.inside.uploads.now (λ upload. upload.items) in
-    let told : c.in_ok-ends.ends.items ≡ with_all_done (replicate (length service.uploads) Undrawn) c.args.shares.items =
-    c.in_ok-ends.ensures.ends ∙ ap (with_all_done (replicate (length c.self.inside.uploads.now) Undrawn)) c.as_slice.ensures.value
+    let all : All (IsShareOf service) c.args.shares.items =
+    subst S (sym c.self.view_is) c.requires in
+    let number : length service.uploads ≡ length c.self.inside.uploads.now =
+    length-map c.self.inside.uploads.now (λ upload. upload.items) in
+    let told : c.in_ok-ends.ends.items
+    ≡ with_all_done (replicate (length service.uploads) Undrawn) c.args.shares.items =
+    c.in_ok-ends.ensures.ends
+    ∙ ap (with_all_done (replicate (length c.self.inside.uploads.now) Undrawn))
+    c.as_slice.ensures.value
     ∙ ap (λ n. with_all_done (replicate n Undrawn) c.args.shares.items) (sym number) in
-    let workers : map sums_of c.in_ok-workers.workers.items ≡ map (λ share. share.totals) c.args.shares.items =
-    c.in_ok-workers.ensures ∙ ap (λ ss. map (λ (share : ShareView). share.totals) ss) c.as_slice-2.ensures.value in
-    let same : sums (all_entries c.close_with.new.closed.items) ≡ add_all (map sums_of c.in_ok-workers.workers.items) =
-    shares_add_up service c.self.invariant c.args.shares.items all c.close_with.new.closed.items c.in_ok-close_with.ensures.ok c.in_ok-ends.ends.items told
-    (c.in_ok-ends.ensures.number ∙ sym number) (map sums_of c.in_ok-workers.workers.items) workers in
+    let workers : map sums_of c.in_ok-workers.workers.items
+    ≡ map (λ share. share.totals) c.args.shares.items =
+    c.in_ok-workers.ensures
+    ∙ ap (λ ss. map (λ (share : ShareView). share.totals) ss) c.as_slice-2.ensures.value in
+    let same : sums (all_entries c.close_with.new.closed.items)
+    ≡ add_all (map sums_of c.in_ok-workers.workers.items) =
+    shares_add_up service c.self.invariant c.args.shares.items all c.close_with.new.closed.items
+    c.in_ok-close_with.ensures.ok c.in_ok-ends.ends.items told
+    (c.in_ok-ends.ensures.number ∙ sym number) (map sums_of c.in_ok-workers.workers.items)
+    workers in
     let few : length (all_entries c.close_with.new.closed.items) ≤ 2 ^ 70 =
-    omega (arith, c.entries_in-entries.ensures.number, c.entries_in-entries.ensures.few, ap (λ bs. length (all_entries bs)) c.as_slice-3.ensures.value) in
+    omega (
+      arith,
+      c.entries_in-entries.ensures.number,
+      c.entries_in-entries.ensures.few,
+      ap (λ bs. length (all_entries bs)) c.as_slice-3.ensures.value,
+    ) in
     let taps : (add_all (map sums_of c.in_ok-workers.workers.items)).taps ≤ 2 ^ 70 =
-    few_taps (all_entries c.close_with.new.closed.items) (add_all (map sums_of c.in_ok-workers.workers.items)) (2 ^ 70) same few in
+    few_taps (all_entries c.close_with.new.closed.items)
+    (add_all (map sums_of c.in_ok-workers.workers.items)) (2 ^ 70) same few in
     omega (arith, taps, ap (λ ts. (add_all (map sums_of ts)).taps) c.as_slice-4.ensures.value)
 
 pub invariant_of-result : goal.invariant_of-result
 invariant_of-result c =
-    let service : ServiceView = record { table = c.self.inside.table; drawing = c.self.inside.draw; books = c.self.inside.books.items; uploads = map (λ upload. upload.items) c.self.inside.uploads.now } in
+    let service : ServiceView =
+    record {
+      table = c.self.inside.table;
+      drawing = c.self.inside.draw;
+      books =
+          c.self.inside.books.items;
+      uploads = map (λ upload. upload.items) c.self.inside.uploads.now;
+    } in
     let S : ServiceView → Type 0 = λ h. All (IsShareOf h) c.args.shares.items in
-    let all : All (IsShareOf service) c.args.shares.items = subst S (sym c.self.view_is) c.requires in
-    let number : length service.uploads ≡ length c.self.inside.uploads.now = length-map c.self.inside.uploads.now (λ upload. upload.items) in
-    let told : c.in_ok-ends.ends.items ≡ with_all_done (replicate (length service.uploads) Undrawn) c.args.shares.items =
-    c.in_ok-ends.ensures.ends ∙ ap (with_all_done (replicate (length c.self.inside.uploads.now) Undrawn)) c.as_slice.ensures.value
+    let all : All (IsShareOf service) c.args.shares.items =
+    subst S (sym c.self.view_is) c.requires in
+    let number : length service.uploads ≡ length c.self.inside.uploads.now =
+    length-map c.self.inside.uploads.now (λ upload. upload.items) in
+    let told : c.in_ok-ends.ends.items
+    ≡ with_all_done (replicate (length service.uploads) Undrawn) c.args.shares.items =
+    c.in_ok-ends.ensures.ends
+    ∙ ap (with_all_done (replicate (length c.self.inside.uploads.now) Undrawn))
+    c.as_slice.ensures.value
     ∙ ap (λ n. with_all_done (replicate n Undrawn) c.args.shares.items) (sym number) in
-    let workers : map sums_of c.in_ok-workers.workers.items ≡ map (λ share. share.totals) c.args.shares.items =
-    c.in_ok-workers.ensures ∙ ap (λ ss. map (λ (share : ShareView). share.totals) ss) c.as_slice-2.ensures.value in
-    let same : sums (all_entries c.close_with.new.closed.items) ≡ add_all (map sums_of c.in_ok-workers.workers.items) =
-    shares_add_up service c.self.invariant c.args.shares.items all c.close_with.new.closed.items c.in_ok-close_with.ensures.ok c.in_ok-ends.ends.items told
-    (c.in_ok-ends.ensures.number ∙ sym number) (map sums_of c.in_ok-workers.workers.items) workers in
-    is_outcome service c.self.invariant c.args.shares.items c.close_with.new.closed.items c.in_ok-close_with.ensures.ok c.in_ok-ends.ends.items
-    (c.in_ok-ends.ensures.number ∙ sym number) (map sums_of c.in_ok-workers.workers.items) (sums_of c.added-totals.result)
-    (c.added-totals.ensures ∙ ap (λ ts. add_all (map sums_of ts)) c.as_slice-4.ensures.value ∙ sym same)
+    let workers : map sums_of c.in_ok-workers.workers.items
+    ≡ map (λ share. share.totals) c.args.shares.items =
+    c.in_ok-workers.ensures
+    ∙ ap (λ ss. map (λ (share : ShareView). share.totals) ss) c.as_slice-2.ensures.value in
+    let same : sums (all_entries c.close_with.new.closed.items)
+    ≡ add_all (map sums_of c.in_ok-workers.workers.items) =
+    shares_add_up service c.self.invariant c.args.shares.items all c.close_with.new.closed.items
+    c.in_ok-close_with.ensures.ok c.in_ok-ends.ends.items told
+    (c.in_ok-ends.ensures.number ∙ sym number) (map sums_of c.in_ok-workers.workers.items)
+    workers in
+    is_outcome service c.self.invariant c.args.shares.items c.close_with.new.closed.items
+    c.in_ok-close_with.ensures.ok c.in_ok-ends.ends.items
+    (c.in_ok-ends.ensures.number ∙ sym number) (map sums_of c.in_ok-workers.workers.items)
+    (sums_of c.added-totals.result)
+    (c.added-totals.ensures ∙ ap (λ ts. add_all (map sums_of ts)) c.as_slice-4.ensures.value
+    ∙ sym same)
 
 pub returns-clause-headline : goal.returns-clause-headline
 returns-clause-headline c =
-    let service : ServiceView = record { table = c.self.inside.table; drawing = c.self.inside.draw; books = c.self.inside.books.items; uploads = map (λ upload. upload.items) c.self.inside.uploads.now } in
+    let service : ServiceView =
+    record {
+      table = c.self.inside.table;
+      drawing = c.self.inside.draw;
+      books =
+          c.self.inside.books.items;
+      uploads = map (λ upload. upload.items) c.self.inside.uploads.now;
+    } in
     let S : ServiceView → Type 0 = λ h. All (IsShareOf h) c.args.shares.items in
-    let all : All (IsShareOf service) c.args.shares.items = subst S (sym c.self.view_is) c.requires in
-    let number : length service.uploads ≡ length c.self.inside.uploads.now = length-map c.self.inside.uploads.now (λ upload. upload.items) in
-    let told : c.in_ok-ends.ends.items ≡ with_all_done (replicate (length service.uploads) Undrawn) c.args.shares.items =
-    c.in_ok-ends.ensures.ends ∙ ap (with_all_done (replicate (length c.self.inside.uploads.now) Undrawn)) c.as_slice.ensures.value
+    let all : All (IsShareOf service) c.args.shares.items =
+    subst S (sym c.self.view_is) c.requires in
+    let number : length service.uploads ≡ length c.self.inside.uploads.now =
+    length-map c.self.inside.uploads.now (λ upload. upload.items) in
+    let told : c.in_ok-ends.ends.items
+    ≡ with_all_done (replicate (length service.uploads) Undrawn) c.args.shares.items =
+    c.in_ok-ends.ensures.ends
+    ∙ ap (with_all_done (replicate (length c.self.inside.uploads.now) Undrawn))
+    c.as_slice.ensures.value
     ∙ ap (λ n. with_all_done (replicate n Undrawn) c.args.shares.items) (sym number) in
-    let workers : map sums_of c.in_ok-workers.workers.items ≡ map (λ share. share.totals) c.args.shares.items =
-    c.in_ok-workers.ensures ∙ ap (λ ss. map (λ (share : ShareView). share.totals) ss) c.as_slice-2.ensures.value in
+    let workers : map sums_of c.in_ok-workers.workers.items
+    ≡ map (λ share. share.totals) c.args.shares.items =
+    c.in_ok-workers.ensures
+    ∙ ap (λ ss. map (λ (share : ShareView). share.totals) ss) c.as_slice-2.ensures.value in
     let closed = c.close_with.new.closed.items in
     let work = c.in_ok-close_with.ensures.ok in
     let same : sums (all_entries closed) ≡ add_all (map sums_of c.in_ok-workers.workers.items) =
-    shares_add_up service c.self.invariant c.args.shares.items all closed work c.in_ok-ends.ends.items told
-    (c.in_ok-ends.ensures.number ∙ sym number) (map sums_of c.in_ok-workers.workers.items) workers in
-    let H : ServiceView → Type 0 = λ h. HasOutcome h c.args.shares.items (record { books = closed; ends = c.in_ok-ends.ends.items; workers = map sums_of c.in_ok-workers.workers.items; totals = sums_of c.added-totals.result }) in
-    let o = has_gathered service c.self.invariant c.args.shares.items all closed work c.in_ok-ends.ends.items told
-    (c.in_ok-ends.ensures.number ∙ sym number) (map sums_of c.in_ok-workers.workers.items) workers (sums_of c.added-totals.result) in
+    shares_add_up service c.self.invariant c.args.shares.items all closed work
+    c.in_ok-ends.ends.items told
+    (c.in_ok-ends.ensures.number ∙ sym number) (map sums_of c.in_ok-workers.workers.items)
+    workers in
+    let H : ServiceView → Type 0 =
+    λ h. HasOutcome h c.args.shares.items
+    (record {
+      books = closed;
+      ends = c.in_ok-ends.ends.items;
+      workers =
+          map sums_of c.in_ok-workers.workers.items;
+      totals = sums_of c.added-totals.result;
+    }) in
+    let o = has_gathered service c.self.invariant c.args.shares.items all closed work
+    c.in_ok-ends.ends.items told
+    (c.in_ok-ends.ensures.number ∙ sym number) (map sums_of c.in_ok-workers.workers.items) workers
+    (sums_of c.added-totals.result) in
     subst H c.self.view_is (
       o.0,
       o.1,
-      headline_of (given_of service) o.0 _ o.2 (c.added-totals.ensures ∙ ap (λ ts. add_all (map sums_of ts)) c.as_slice-4.ensures.value ∙ sym same)
-          (λ shard book at. (work.books shard book at).limits) (undrawn_last service c.args.shares.items o.0 o.1 closed work),
+      headline_of (given_of service) o.0 _ o.2
+          (c.added-totals.ensures ∙ ap (λ ts. add_all (map sums_of ts)) c.as_slice-4.ensures.value
+          ∙ sym same)
+          (λ shard book at. (work.books shard book at).limits)
+          (undrawn_last service c.args.shares.items o.0 o.1 closed work),
     )
 
 pub returns-clause-undrawn : goal.returns-clause-undrawn
 returns-clause-undrawn c =
-    let service : ServiceView = record { table = c.self.inside.table; drawing = c.self.inside.draw; books = c.self.inside.books.items; uploads = map (λ upload. upload.items) c.self.inside.uploads.now } in
+    let service : ServiceView =
+    record {
+      table = c.self.inside.table;
+      drawing = c.self.inside.draw;
+      books =
+          c.self.inside.books.items;
+      uploads = map (λ upload. upload.items) c.self.inside.uploads.now;
+    } in
     let S : ServiceView → Type 0 = λ h. All (IsShareOf h) c.args.shares.items in
-    let all : All (IsShareOf service) c.args.shares.items = subst S (sym c.self.view_is) c.requires in
-    let number : length service.uploads ≡ length c.self.inside.uploads.now = length-map c.self.inside.uploads.now (λ upload. upload.items) in
-    let told : c.in_ok-ends.ends.items ≡ with_all_done (replicate (length service.uploads) Undrawn) c.args.shares.items =
-    c.in_ok-ends.ensures.ends ∙ ap (with_all_done (replicate (length c.self.inside.uploads.now) Undrawn)) c.as_slice.ensures.value
+    let all : All (IsShareOf service) c.args.shares.items =
+    subst S (sym c.self.view_is) c.requires in
+    let number : length service.uploads ≡ length c.self.inside.uploads.now =
+    length-map c.self.inside.uploads.now (λ upload. upload.items) in
+    let told : c.in_ok-ends.ends.items
+    ≡ with_all_done (replicate (length service.uploads) Undrawn) c.args.shares.items =
+    c.in_ok-ends.ensures.ends
+    ∙ ap (with_all_done (replicate (length c.self.inside.uploads.now) Undrawn))
+    c.as_slice.ensures.value
     ∙ ap (λ n. with_all_done (replicate n Undrawn) c.args.shares.items) (sym number) in
-    told_undrawn service c.args.shares.items all c.close_with.new.closed.items c.in_ok-close_with.ensures.ok c.in_ok-ends.ends.items told (c.in_ok-ends.ensures.number ∙ sym number)
+    told_undrawn service c.args.shares.items all c.close_with.new.closed.items
+    c.in_ok-close_with.ensures.ok c.in_ok-ends.ends.items told
+    (c.in_ok-ends.ensures.number ∙ sym number)
 
 pub returns-clause-full : goal.returns-clause-full
 returns-clause-full c =
-    let service : ServiceView = record { table = c.self.inside.table; drawing = c.self.inside.draw; books = c.self.inside.books.items; uploads = map (λ upload. upload.items) c.self.inside.uploads.now } in
+    let service : ServiceView =
+    record {
+      table = c.self.inside.table;
+      drawing = c.self.inside.draw;
+      books =
+          c.self.inside.books.items;
+      uploads = map (λ upload. upload.items) c.self.inside.uploads.now;
+    } in
     let S : ServiceView → Type 0 = λ h. All (IsShareOf h) c.args.shares.items in
-    let all : All (IsShareOf service) c.args.shares.items = subst S (sym c.self.view_is) c.requires in
-    full_made service c.self.invariant c.args.shares.items all c.close_with.new.closed.items c.in_ok-close_with.ensures.ok
-
--- an error that was handed on
-handed_on : {T E : Type 0} (r : Result T E) (fault : E) (P : E → Type 0) → IsErrAnd r (λ e. e ≡ fault) → P fault → IfErr r P
-handed_on (Ok x) fault P is holds = tt
-handed_on (Err e) fault P is holds = subst P (sym is) holds
+    let all : All (IsShareOf service) c.args.shares.items =
+    subst S (sym c.self.view_is) c.requires in
+    full_made service c.self.invariant c.args.shares.items all c.close_with.new.closed.items
+    c.in_ok-close_with.ensures.ok
 
 pub returns-in_err-close_with-clause-first : goal.returns-in_err-close_with-clause-first
 returns-in_err-close_with-clause-first c =
     let fault : GatherFault = c.in_err-close_with.field-0.0 in
     let F : ℕ → Type 0 = λ n. TellsFirst c.self.inside.books.items n c.args.shares.items fault in
-    let H : ServiceView → Type 0 = λ h. TellsFirst h.books (length h.uploads) c.args.shares.items fault in
-    handed_on c.from_residual-in_err-close_with.result fault (TellsFirst c.args.self.books (length c.args.self.uploads) c.args.shares.items) c.from_residual-in_err-close_with.ensures.1
+    let H : ServiceView → Type 0 =
+    λ h. TellsFirst h.books (length h.uploads) c.args.shares.items fault in
+    IfErr_handed_on c.from_residual-in_err-close_with.result fault
+    (TellsFirst c.args.self.books (length c.args.self.uploads) c.args.shares.items)
+    c.from_residual-in_err-close_with.ensures.1
     (subst H c.self.view_is (subst F c.self.invariant.numbers c.in_err-close_with.ensures.first))
 
 pub returns-in_err-close_with-clause-claims : goal.returns-in_err-close_with-clause-claims
 returns-in_err-close_with-clause-claims c whole =
     let fault : GatherFault = c.in_err-close_with.field-0.0 in
     let N : ℕ → Type 0 = λ n. HaveAllClaims n c.args.shares.items in
-    handed_on c.from_residual-in_err-close_with.result fault IsForMemory c.from_residual-in_err-close_with.ensures.1
-    (absurd (c.in_err-close_with.ensures.claims (subst N (sym (ap shards_of c.self.view_is)) whole)))
+    IfErr_handed_on c.from_residual-in_err-close_with.result fault IsForMemory
+    c.from_residual-in_err-close_with.ensures.1
+    (absurd (c.in_err-close_with.ensures.claims
+    (subst N (sym (ap shards_of c.self.view_is)) whole)))

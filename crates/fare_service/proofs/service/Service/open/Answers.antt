@@ -17,28 +17,50 @@ invariant_of-service g c =
       some_shard = omega (arith, c.in_ok-books.ensures.number);
       few_shards = omega (arith, c.in_ok-books.ensures.number);
       books = subst P (sym c.in_ok-books.ensures.number) c.in_ok-books.ensures.books;
-      numbers = c.in_ok-draw.ensures.draw ∙ sym (length-map c.args.uploads.now (λ upload. upload.items));
-      few_uploads = omega (arith, length-map c.args.uploads.now (λ upload. upload.items), c.if-uploads-gt-MAX_UPLOADS.false);
+      numbers = c.in_ok-draw.ensures.draw
+          ∙ sym (length-map c.args.uploads.now (λ upload. upload.items));
+      few_uploads = omega (
+        arith,
+        length-map c.args.uploads.now (λ upload. upload.items),
+        c.if-uploads-gt-MAX_UPLOADS.false,
+      );
     }
 
 pub returns-clause-share : goal.returns-clause-share
 returns-clause-share g c =
-    let service : ServiceView = record { table = c.args.table; drawing = c.in_ok-draw.draw; books = c.in_ok-books.books.items; uploads = map (λ upload. upload.items) c.args.uploads.now } in
+    let service : ServiceView =
+    record {
+      table = c.args.table;
+      drawing = c.in_ok-draw.draw;
+      books =
+          c.in_ok-books.books.items;
+      uploads = map (λ upload. upload.items) c.args.uploads.now;
+    } in
     let P : List PassView → Type 0 = λ ps. (shard : ℕ) → made_visits_at shard ps ≡ [] in
-    fresh_share service c.in_ok-draw.drawer c.in_ok-books.passes.items (sums_of c.new-3.result) c.new-4.result.items
-    (ap (λ d. d.drawn_from) c.in_ok-draw.ensures.drawer) (ap (λ d. d.drawn) c.in_ok-draw.ensures.drawer) (ap books_of c.in_ok-books.ensures.passes ∙ books_new c.in_ok-books.books.items)
-    (subst P (sym c.in_ok-books.ensures.passes) (λ shard. own_new shard c.in_ok-books.books.items)) c.new-3.ensures c.new-4.ensures.items
+    fresh_share service c.in_ok-draw.drawer c.in_ok-books.passes.items (sums_of c.new-3.result)
+    c.new-4.result.items
+    (ap (λ d. d.drawn_from) c.in_ok-draw.ensures.drawer)
+    (ap (λ d. d.drawn) c.in_ok-draw.ensures.drawer)
+    (ap books_of c.in_ok-books.ensures.passes ∙ books_new c.in_ok-books.books.items)
+    (subst P (sym c.in_ok-books.ensures.passes) (λ shard. own_new shard c.in_ok-books.books.items))
+    c.new-3.ensures c.new-4.ensures.items
 
 pub returns-clause-fresh : goal.returns-clause-fresh
 returns-clause-fresh g c =
     let P : List PassView → Type 0 = λ ps. (shard : ℕ) → made_visits_at shard ps ≡ [] in
-    fresh c.in_ok-draw.drawer c.in_ok-books.passes.items (sums_of c.new-3.result) c.new-4.result.items (ap (λ d. d.drawn) c.in_ok-draw.ensures.drawer)
-    (subst P (sym c.in_ok-books.ensures.passes) (λ shard. own_new shard c.in_ok-books.books.items)) c.new-3.ensures c.new-4.ensures.items
+    fresh c.in_ok-draw.drawer c.in_ok-books.passes.items (sums_of c.new-3.result)
+    c.new-4.result.items (ap (λ d. d.drawn) c.in_ok-draw.ensures.drawer)
+    (subst P (sym c.in_ok-books.ensures.passes) (λ shard. own_new shard c.in_ok-books.books.items))
+    c.new-3.ensures c.new-4.ensures.items
 
 pub returns-clause-claims : goal.returns-clause-claims
 returns-clause-claims g c =
-    let P : List PassView → Type 0 = λ ps. (shard : ℕ) → shard < c.args.shards → claims_at shard ps ≡ all_claims in
+    let P : List PassView → Type 0 =
+    λ ps. (shard : ℕ) → shard < c.args.shards → claims_at shard ps ≡ all_claims in
     record {
       drawing = ap (λ d. 0 + d.claims) c.in_ok-draw.ensures.drawer;
-      books = λ shard within. ap (λ n. 0 + n) (subst P (sym c.in_ok-books.ensures.passes) (λ s w. claims_new_at s c.in_ok-books.books.items (omega (arith, w, c.in_ok-books.ensures.number))) shard within);
+      books = λ shard within. ap (λ n. 0 + n)
+          (subst P (sym c.in_ok-books.ensures.passes)
+          (λ s w. claims_new_at s c.in_ok-books.books.items
+          (omega (arith, w, c.in_ok-books.ensures.number))) shard within);
     }

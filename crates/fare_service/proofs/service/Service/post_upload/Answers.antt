@@ -9,16 +9,30 @@ use Rattle.fare_service.proofs.service.Service.post_upload.Goals as goal
 
 pub returns-in-Ok-clause-worked : goal.returns-in-Ok-clause-worked
 returns-in-Ok-clause-worked g c =
-    let file = c.as_slice-file.ensures.value ∙ the_upload (λ u. u.items) c.self.inside.uploads.now c.args.upload c.index-self-upload.result c.args.self.now.uploads (ap (λ h. h.uploads) c.self.view_is) c.requires.upload in
-    let P : UploadEnd → Type 0 = λ end. Worked_as c.args.self.now c.args.upload end c.args.posting.now.passes.items c.post_batches-posted.new.posting.passes.items (sums_of c.args.posting.now.totals) (sums_of c.post_batches-posted.new.posting.totals) in
-    subst P (sym c.by_fault.ensures) (upload_whole c.args.self.now c.args.upload _ c.in-Ok.found c.as_slice-file.result.now c.args.posting.now.passes.items c.post_batches-posted.new.posting.passes.items (sums_of c.args.posting.now.totals) (sums_of c.post_batches-posted.new.posting.totals)
-    c.post_batches-posted.result c.requires.upload file c.post_batches-posted.ensures.made c.in-Ok.is refl)
+    let file = c.as_slice-file.ensures.value
+    ∙ the_upload (λ u. u.items) c.self.inside.uploads.now c.args.upload c.index-self-upload.result
+    c.args.self.now.uploads (ap (λ h. h.uploads) c.self.view_is) c.requires.upload in
+    let P : UploadEnd → Type 0 =
+    λ end. Worked_as c.args.self.now c.args.upload end c.args.posting.now.passes.items
+    c.post_batches-posted.new.posting.passes.items (sums_of c.args.posting.now.totals)
+    (sums_of c.post_batches-posted.new.posting.totals) in
+    subst P (sym c.by_fault.ensures)
+    (upload_whole c.args.self.now c.args.upload _ c.in-Ok.found c.as_slice-file.result.now
+    c.args.posting.now.passes.items c.post_batches-posted.new.posting.passes.items
+    (sums_of c.args.posting.now.totals) (sums_of c.post_batches-posted.new.posting.totals)
+    c.post_batches-posted.result c.requires.upload file c.post_batches-posted.ensures.made
+    c.in-Ok.is refl)
 
 pub returns-in-Err-clause-worked : goal.returns-in-Err-clause-worked
 returns-in-Err-clause-worked g c =
-    let file = c.as_slice-file.ensures.value ∙ the_upload (λ u. u.items) c.self.inside.uploads.now c.args.upload c.index-self-upload.result c.args.self.now.uploads (ap (λ h. h.uploads) c.self.view_is) c.requires.upload in
-    upload_cut c.args.self.now c.args.upload _ c.in-Err.stop c.as_slice-file.result.now c.args.posting.now.passes.items c.post_batches-posted.new.posting.passes.items (sums_of c.args.posting.now.totals) (sums_of c.post_batches-posted.new.posting.totals)
-    c.post_batches-posted.result c.requires.upload file c.post_batches-posted.ensures.made c.in-Err.is refl
+    let file = c.as_slice-file.ensures.value
+    ∙ the_upload (λ u. u.items) c.self.inside.uploads.now c.args.upload c.index-self-upload.result
+    c.args.self.now.uploads (ap (λ h. h.uploads) c.self.view_is) c.requires.upload in
+    upload_cut c.args.self.now c.args.upload _ c.in-Err.stop c.as_slice-file.result.now
+    c.args.posting.now.passes.items c.post_batches-posted.new.posting.passes.items
+    (sums_of c.args.posting.now.totals) (sums_of c.post_batches-posted.new.posting.totals)
+    c.post_batches-posted.result c.requires.upload file c.post_batches-posted.ensures.made
+    c.in-Err.is refl
 
 whole_by : (taps : ℕ) (found : Option (ℕ × LayoutFault)) → WasNotCut (end_by taps found)
 whole_by taps None = tt
@@ -28,7 +42,8 @@ pub returns-in-Ok-clause-full : goal.returns-in-Ok-clause-full
 returns-in-Ok-clause-full g c = λ h. c.post_batches-posted.ensures.full (inl h)
 
 pub returns-in-Ok-clause-goes_on : goal.returns-in-Ok-clause-goes_on
-returns-in-Ok-clause-goes_on g c = λ goes. inl (subst WasNotCut (sym c.by_fault.ensures) (whole_by _ c.in-Ok.found))
+returns-in-Ok-clause-goes_on g c =
+    λ goes. inl (subst WasNotCut (sym c.by_fault.ensures) (whole_by _ c.in-Ok.found))
 
 pub returns-in-Err-clause-full : goal.returns-in-Err-clause-full
 returns-in-Err-clause-full g c = λ h. c.post_batches-posted.ensures.full (inl h)

@@ -1,5 +1,4 @@
-use Rattle.std.proofs.Common.{◌≡◌, ◌∙◌, sym, subst}
-use Rattle.std.specs.Prelude.{Result, Ok, Err, IfErr, IsErrAnd}
+use Rattle.std.proofs.Common.{◌∙◌}
 use Rattle.fare_service.specs.declared.faults.RunFault.TheVariants.{Gather}
 use Rattle.fare_service.specs.declared.faults.GatherFault.{GatherFault}
 use Rattle.fare_service.specs.Faults.{MissesNothing}
@@ -8,24 +7,28 @@ use Rattle.fare_service.proofs.ClaimLemmas.{claims_kept}
 use Rattle.fare_service.proofs.EndingLemmas.{have_stopped}
 use Rattle.fare_service.proofs.GatherLemmas.{has_run}
 use Rattle.fare_service.proofs.service.Service.run.Goals as goal
+use Rattle.tap_views.proofs.Choices.{IfErr_handed_on}
 
 pub returns-clause-headline : goal.returns-clause-headline
 returns-clause-headline g c =
-    has_run c.args.self c.in_ok-shares-2.shares.items c.args.workers c.in_ok-outcome.outcome (c.in_ok-shares-2.ensures.number ∙ c.in_ok-shares.ensures.number) c.in_ok-outcome.ensures.headline
+    has_run c.args.self c.in_ok-shares-2.shares.items c.args.workers c.in_ok-outcome.outcome
+    (c.in_ok-shares-2.ensures.number ∙ c.in_ok-shares.ensures.number)
+    c.in_ok-outcome.ensures.headline
 
 pub returns-clause-stopped : goal.returns-clause-stopped
 returns-clause-stopped g c fresh =
-    have_stopped c.args.self c.in_ok-shares.shares.items c.in_ok-shares-2.shares.items c.args.workers c.in_ok-outcome.outcome (c.in_ok-shares-2.ensures.number ∙ c.in_ok-shares.ensures.number)
-    (c.in_ok-shares.ensures.fresh fresh) c.in_ok-shares-2.ensures.worked c.in_ok-outcome.ensures.headline c.in_ok-outcome.ensures.undrawn c.in_ok-outcome.ensures.full
-
--- an error that was handed on
-handed_on : {T E : Type 0} (r : Result T E) (fault : E) (P : E → Type 0) → IsErrAnd r (λ e. e ≡ fault) → P fault → IfErr r P
-handed_on (Ok x) fault P is holds = tt
-handed_on (Err e) fault P is holds = subst P (sym is) holds
+    have_stopped c.args.self c.in_ok-shares.shares.items c.in_ok-shares-2.shares.items
+    c.args.workers c.in_ok-outcome.outcome
+    (c.in_ok-shares-2.ensures.number ∙ c.in_ok-shares.ensures.number)
+    (c.in_ok-shares.ensures.fresh fresh) c.in_ok-shares-2.ensures.worked
+    c.in_ok-outcome.ensures.headline c.in_ok-outcome.ensures.undrawn c.in_ok-outcome.ensures.full
 
 pub returns-in_err-outcome-clause-claims : goal.returns-in_err-outcome-clause-claims
 returns-in_err-outcome-clause-claims g c whole =
     let service = c.args.self in
     let fault : GatherFault = c.in_err-outcome.field-0.0 in
-    let kept = claims_kept service (WorkedOn service) (λ old new w. w.went_on) c.in_ok-shares.shares.items c.in_ok-shares-2.shares.items c.in_ok-shares-2.ensures.worked (c.in_ok-shares.ensures.claims whole) in
-    handed_on c.from_residual-in_err-outcome.result (Gather fault) MissesNothing c.from_residual-in_err-outcome.ensures.1 (c.in_err-outcome.ensures.claims kept)
+    let kept = claims_kept service (WorkedOn service) (λ old new w. w.went_on)
+    c.in_ok-shares.shares.items c.in_ok-shares-2.shares.items c.in_ok-shares-2.ensures.worked
+    (c.in_ok-shares.ensures.claims whole) in
+    IfErr_handed_on c.from_residual-in_err-outcome.result (Gather fault) MissesNothing
+    c.from_residual-in_err-outcome.ensures.1 (c.in_err-outcome.ensures.claims kept)

@@ -11,5 +11,6 @@ invariant-loop l = record {
   each : All (IsShareOf l.self) l.shares.items;
   number : length l.shares.items + 1 ≡ l.counter;
   fresh : IsFresh l.fn.first → IsFresh l.first × All IsFresh l.shares.items;
-  claims : HasAllClaims (shards_of l.self) l.fn.first → AreSharesSplit (shards_of l.self) l.first l.shares.items;
+  claims : HasAllClaims (shards_of l.self) l.fn.first
+      → AreSharesSplit (shards_of l.self) l.first l.shares.items;
 }

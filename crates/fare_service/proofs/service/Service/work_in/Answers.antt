@@ -1,5 +1,6 @@
-use Rattle.std.proofs.Common.{◌≡◌, List, [], ◌∷◌, ◌++◌, All, length, map, length-append, append_assoc, append-nil, refl, sym, ◌∙◌, ap, subst, arith}
-use Rattle.std.proofs.lemmas.List.{map-append}
+use Rattle.std.proofs.Common.{◌≡◌, List, [], ◌∷◌, ◌++◌, All, length, map, length-append}
+use Rattle.std.proofs.Common.{append_assoc, append-nil, sym, ◌∙◌, ap, subst, arith}
+use Rattle.std.proofs.lemmas.List.{map-append, nil_from_length}
 use Rattle.std.proofs.lemmas.List.Elements.{All-nil, All-cons, All-append}
 use Rattle.std.specs.Vec.Iter.{into_iter_items}
 use Rattle.std.specs.declared.thread.PromisedHandle.{PromisedHandle}
@@ -22,27 +23,46 @@ loop-share-preserved g c =
     let items = c.in_ok-push.ensures.items in
     let mine : H c.in-Ok.thread = ap (λ (p : OfShare). p.service.now) c.in-Ok.ensures.ok in
     record {
-      left = append_assoc c.loop-share.yielded (c.in-Some.share ∷ []) (into_iter_items c.next.new.self) ∙ ap (λ ss. c.loop-share.yielded ++ ss) (sym steps.0) ∙ c.loop-share.invariant.left;
+      left = append_assoc c.loop-share.yielded (c.in-Some.share ∷ [])
+          (into_iter_items c.next.new.self) ∙ ap (λ ss. c.loop-share.yielded ++ ss) (sym steps.0)
+          ∙ c.loop-share.invariant.left;
       left_len = omega (arith, steps.1, c.loop-share.invariant.left_len, ap length steps.0);
-      held = subst P (sym items) (All-append H c.loop-share.threads.items (c.in-Ok.thread ∷ []) c.loop-share.invariant.held (All-cons H c.in-Ok.thread [] mine (All-nil H)));
-      began = ap (λ hs. map began_with hs) items ∙ (map-append began_with c.loop-share.threads.items (c.in-Ok.thread ∷ [])
-          ∙ (ap (λ ss. ss ++ began_with c.in-Ok.thread ∷ []) c.loop-share.invariant.began ∙ ap (λ s. c.loop-share.yielded ++ s ∷ []) (ap (λ (p : OfShare). p.began.value) c.in-Ok.ensures.ok ∙ c.of-began.ensures)));
-      number = omega (arith, c.loop-share.invariant.number, ap length items, length-append c.loop-share.threads.items (c.in-Ok.thread ∷ []), length-append c.loop-share.yielded (c.in-Some.share ∷ []));
+      held = subst P (sym items)
+          (All-append H c.loop-share.threads.items (c.in-Ok.thread ∷ []) c.loop-share.invariant.held
+          (All-cons H c.in-Ok.thread [] mine (All-nil H)));
+      began = ap (λ hs. map began_with hs) items
+          ∙ (map-append began_with c.loop-share.threads.items (c.in-Ok.thread ∷ [])
+          ∙ (ap (λ ss. ss ++ began_with c.in-Ok.thread ∷ []) c.loop-share.invariant.began
+          ∙ ap (λ s. c.loop-share.yielded ++ s ∷ [])
+          (ap (λ (p : OfShare). p.began.value) c.in-Ok.ensures.ok ∙ c.of-began.ensures)));
+      number = omega (
+        arith,
+        c.loop-share.invariant.number,
+        ap length items,
+        length-append c.loop-share.threads.items (c.in-Ok.thread ∷ []),
+        length-append c.loop-share.yielded (c.in-Some.share ∷ []),
+      );
     }
-
-nothing : (ss : List ShareView) → length ss ≡ 0 → ss ≡ []
-nothing [] none = refl
-nothing (s ∷ ss) none = absurd (omega arith)
 
 pub returns-clause-worked : goal.returns-clause-worked
 returns-clause-worked g c =
     let inv = c.loop-share.invariant in
     let left = into_iter_items c.loop-share.share-iterator in
-    let none : left ≡ [] = nothing left (omega (arith, c.in-None.ensures.steps.0, inv.left_len)) in
-    let all : c.loop-share.yielded ≡ c.args.shares.items = sym (append-nil c.loop-share.yielded) ∙ (ap (λ ss. c.loop-share.yielded ++ ss) (sym none) ∙ inv.left) in
+    let none : left ≡ [] =
+    nil_from_length left (omega (arith, c.in-None.ensures.steps.0, inv.left_len)) in
+    let all : c.loop-share.yielded ≡ c.args.shares.items =
+    sym (append-nil c.loop-share.yielded)
+    ∙ (ap (λ ss. c.loop-share.yielded ++ ss) (sym none) ∙ inv.left) in
     let rs = c.in-Ok-join_promised.worked.items in
     let P : List ShareView → Type 0 = λ ss. AllZip (WorkedOn c.args.self.now) ss rs in
     subst P (inv.began ∙ all)
-    (kept_zip _ c.loop-share.threads.items rs _ (omega (arith, c.loop-share.threads.ok.0)) (omega (arith, c.loop-share.threads.ok.0, c.in-Ok-join_promised.worked.ok.0, c.in-Ok-join_promised.ensures.len)) c.in-Ok-join_promised.ensures.each
-    (WorkedOn c.args.self.now) (λ (p : OfShare). p.began.value) (λ (p : OfShare). p.service.now ≡ c.args.self.now) inv.held
+    (kept_zip _ c.loop-share.threads.items rs _ (omega (arith, c.loop-share.threads.ok.0))
+    (omega (
+      arith,
+      c.loop-share.threads.ok.0,
+      c.in-Ok-join_promised.worked.ok.0,
+      c.in-Ok-join_promised.ensures.len,
+    )) c.in-Ok-join_promised.ensures.each
+    (WorkedOn c.args.self.now) (λ (p : OfShare). p.began.value)
+    (λ (p : OfShare). p.service.now ≡ c.args.self.now) inv.held
     (λ p r own kept. subst (λ s. WorkedOn s p.began.value r) own kept.1))

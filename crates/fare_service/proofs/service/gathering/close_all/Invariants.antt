@@ -11,7 +11,8 @@ invariant-loop-book l = record {
   ends : (goal.iterator-loop-book).is_finite l.book-iterator;
   left : l.yielded ++ into_iter_items l.book-iterator ≡ l.fn.books.items;
   left_len : into_iter_len l.book-iterator ≡ length (into_iter_items l.book-iterator);
-  passes : (done : List PassView) × (done ++ into_iter_items l.passes ≡ l.fn.passes.items) × (books_of done ≡ l.yielded);
+  passes : (done : List PassView) × (done ++ into_iter_items l.passes ≡ l.fn.passes.items)
+      × (books_of done ≡ l.yielded);
   passes_len : into_iter_len l.passes ≡ length (into_iter_items l.passes);
   shard : l.shard ≡ length l.yielded;
   number : length l.closed.items ≡ length l.yielded;

@@ -1,4 +1,5 @@
-use Rattle.std.proofs.Common.{◌<◌, ◌∷◌, [], ◌++◌, length, refl, sym, ◌∙◌, ap, arith, append_assoc, length-append}
+use Rattle.std.proofs.Common.{◌<◌, ◌∷◌, [], ◌++◌, length, refl, sym, ◌∙◌, ap, arith, append_assoc}
+use Rattle.std.proofs.Common.{length-append}
 use Rattle.std.proofs.lemmas.List.{length-map}
 use Rattle.std.proofs.Math.Seq.{map-set_same}
 use Rattle.std.specs.Vec.Iter.{into_iter_items}
@@ -41,12 +42,24 @@ loop-pass-preserved c =
     record {
       may = tt;
       ends = tt;
-      left = append_assoc c.loop-pass.yielded (c.in-Some.pass ∷ []) (into_iter_items c.next.new.self) ∙ ap (λ ps. c.loop-pass.yielded ++ ps) (sym steps.0) ∙ c.loop-pass.invariant.left;
+      left = append_assoc c.loop-pass.yielded (c.in-Some.pass ∷ [])
+          (into_iter_items c.next.new.self) ∙ ap (λ ps. c.loop-pass.yielded ++ ps) (sym steps.0)
+          ∙ c.loop-pass.invariant.left;
       left_len = omega (arith, steps.1, c.loop-pass.invariant.left_len, ap length steps.0);
-      place = omega (arith, c.loop-pass.invariant.place, length-append c.loop-pass.yielded (c.in-Some.pass ∷ []));
-      books = map-set_same (λ p. p.book) c.loop-pass.into.items c.loop-pass.shard c.join.new.pass c.index_mut.result.now (c.join.ensures.book ∙ ap (λ p. p.book) c.index_mut.ensures.value) ∙ c.loop-pass.invariant.books;
-      claims = λ shard. claims_step c.args.into.now.items c.loop-pass.yielded c.loop-pass.into.items c.loop-pass.shard c.index_mut.result.now c.in-Some.pass c.join.new.pass shard
-          (c.loop-pass.invariant.claims shard) c.loop-pass.invariant.place within c.index_mut.ensures.value c.join.ensures.claims;
-      joined = λ shard. join_step c.args.into.now.items c.loop-pass.yielded c.loop-pass.into.items c.loop-pass.shard c.index_mut.result.now c.in-Some.pass c.join.new.pass shard
-          (c.loop-pass.invariant.joined shard) c.loop-pass.invariant.place within c.index_mut.ensures.value c.join.ensures;
+      place = omega (
+        arith,
+        c.loop-pass.invariant.place,
+        length-append c.loop-pass.yielded (c.in-Some.pass ∷ []),
+      );
+      books = map-set_same (λ p. p.book) c.loop-pass.into.items c.loop-pass.shard c.join.new.pass
+          c.index_mut.result.now (c.join.ensures.book ∙ ap (λ p. p.book) c.index_mut.ensures.value)
+          ∙ c.loop-pass.invariant.books;
+      claims = λ shard. claims_step c.args.into.now.items c.loop-pass.yielded c.loop-pass.into.items
+          c.loop-pass.shard c.index_mut.result.now c.in-Some.pass c.join.new.pass shard
+          (c.loop-pass.invariant.claims shard) c.loop-pass.invariant.place within
+          c.index_mut.ensures.value c.join.ensures.claims;
+      joined = λ shard. join_step c.args.into.now.items c.loop-pass.yielded c.loop-pass.into.items
+          c.loop-pass.shard c.index_mut.result.now c.in-Some.pass c.join.new.pass shard
+          (c.loop-pass.invariant.joined shard) c.loop-pass.invariant.place within
+          c.index_mut.ensures.value c.join.ensures;
     }

@@ -13,6 +13,7 @@ invariant-loop-pass l = record {
   left_len : into_iter_len l.pass-iterator ≡ length (into_iter_items l.pass-iterator);
   place : l.shard ≡ length l.yielded;
   books : books_of l.into.items ≡ l.books;
-  claims : (shard : ℕ) → claims_at shard l.into.items ≡ claims_at shard l.fn.into.items + claims_at shard l.yielded;
+  claims : (shard : ℕ)
+      → claims_at shard l.into.items ≡ claims_at shard l.fn.into.items + claims_at shard l.yielded;
   joined : (shard : ℕ) → AreJoinedAt shard l.fn.into.items l.yielded l.into.items;
 }

@@ -9,5 +9,6 @@ invariant-loop-share l = record {
   ends : (goal.iterator-loop-share).is_finite l.share-iterator;
   left : l.yielded ++ into_iter_items l.share-iterator ≡ l.fn.others.items;
   left_len : into_iter_len l.share-iterator ≡ length (into_iter_items l.share-iterator);
-  joined : IsJoinedOf l.draw l.books (length l.fn.others.items + 1) (l.fn.first ∷ l.yielded) l.drawer l.passes.items;
+  joined : IsJoinedOf l.draw l.books (length l.fn.others.items + 1) (l.fn.first ∷ l.yielded)
+      l.drawer l.passes.items;
 }

@@ -5,7 +5,8 @@ use Rattle.fare_service.proofs.service.shard_books.open_books.Given as goal
 
 abbrev pub invariant-loop-shard : goal.invariant-loop-shard
 invariant-loop-shard l = record {
-  books : (shard : ℕ) (book : SharedBookView) → slice_get l.books.items shard ≡ Some book → IsBookOf l.fn.table shard l.fn.shards book;
+  books : (shard : ℕ) (book : SharedBookView) → slice_get l.books.items shard ≡ Some book
+      → IsBookOf l.fn.table shard l.fn.shards book;
   number : length l.books.items ≡ l.shard;
   number_too : length l.passes.items ≡ l.shard;
   passes : l.passes.items ≡ map new_pass l.books.items;

@@ -1,5 +1,5 @@
-use Rattle.std.proofs.Common.{◌≡◌, ◌∙◌, ◌+◌, ℕ, List, [], ◌∷◌, ◌++◌, All, Ok, ap, arith, length, map}
-use Rattle.std.proofs.Common.{length-append, sym, string_bytes}
+use Rattle.std.proofs.Common.{◌≡◌, ◌∙◌, ◌+◌, ℕ, List, [], ◌∷◌, ◌++◌, All, Ok, ap, arith, length}
+use Rattle.std.proofs.Common.{map, length-append, sym, string_bytes}
 use Rattle.std.proofs.lemmas.Grind.{common_steps}
 use Rattle.toml.specs.Data.{Data, Members, member}
 use Rattle.toml.specs.View.{members_view, view}
@@ -21,7 +21,8 @@ count-step : (whole : ℕ) (earlier found : List Class) (one : Class) (key : Lis
     (more : Members) → whole ≡ length earlier + count_of (member key value more)
     → found ≡ earlier ++ one ∷ [] → whole ≡ length found + count_of more
 count-step whole earlier found one key value more is same =
-    let longer : length found ≡ length earlier + 1 = ap length same ∙ length-append earlier (one ∷ []) in
+    let longer : length found ≡ length earlier + 1 =
+    ap length same ∙ length-append earlier (one ∷ []) in
     omega (arith, is, longer)
 
 pub loop-name-preserved : goal.loop-name-preserved
@@ -39,9 +40,12 @@ loop-name-preserved c =
       same =
           c.loop-name.invariant.same
           ∙ ap (λ more. classes_from modes earlier (members_view more)) c.in-Some.ensures.steps
-          ∙ classes-step modes earlier found key value more one (sym c.in_ok-class.ensures.class) same;
-      bounds = all_with earlier found one c.loop-name.invariant.bounds c.in_ok-class.ensures.bounds same;
+          ∙ classes-step modes earlier found key value more one (sym c.in_ok-class.ensures.class)
+          same;
+      bounds = all_with earlier found one c.loop-name.invariant.bounds c.in_ok-class.ensures.bounds
+          same;
       count = count-step (count_of classes) earlier found one key value more
           (c.loop-name.invariant.count
-          ∙ ap (λ more. length earlier + count_of (members_view more)) c.in-Some.ensures.steps) same;
+          ∙ ap (λ more. length earlier + count_of (members_view more)) c.in-Some.ensures.steps)
+          same;
     }

@@ -25,13 +25,16 @@ loop-name-preserved c =
     let value = view c.in-Some.value.now in
     let more = members_view c.next.new.self in
     let P : List ℕ → Type 0 = λ text. mode_named modes text ≡ Ok place in
-    let named : mode_named modes key ≡ Ok place = subst P c.as_str.ensures.value (sym c.in_ok-place.ensures.mode) in
-    let number : number_in the_key.Fares 0 100_000 value ≡ Ok cents = sym c.in_ok-cents.ensures.number in
+    let named : mode_named modes key ≡ Ok place =
+    subst P c.as_str.ensures.value (sym c.in_ok-place.ensures.mode) in
+    let number : number_in the_key.Fares 0 100_000 value ≡ Ok cents =
+    sym c.in_ok-cents.ensures.number in
     record {
       same =
           c.loop-name.invariant.same
           ∙ ap (λ more. fares_from modes fares (members_view more)) c.in-Some.ensures.steps
-          ∙ fares-step modes fares (set fares place cents) key value more place cents named number refl;
+          ∙ fares-step modes fares (set fares place cents) key value more place cents named number
+          refl;
       bounds = All-set (λ one. one ≤ 100_000) fares place cents
           c.in_ok-cents.ensures.high c.loop-name.invariant.bounds;
       long = length-set fares place cents ∙ c.loop-name.invariant.long;

@@ -7,11 +7,10 @@ use Rattle.std.specs.Ordering.{nat_cmp}
 use Rattle.toml.specs.Data.{Data, Members, member}
 use Rattle.toml.specs.View.{members_view, view}
 use Rattle.fare_table.proofs.RiderBytes.{found-by_bytes, insert-by_bytes}
-use Rattle.fare_table.specs.Riders.{is_rider, rider_of, riders_from}
+use Rattle.fare_table.specs.Riders.{is_rider, rider_of, riders_from, by_bytes}
 use Rattle.fare_table.specs.declared.fault.TableFault.TheVariants.{Rider}
 use Rattle.fare_table.specs.Classes.{count_of}
 use Rattle.tap_views.specs.Token.{Fits, token_cmp}
-use Rattle.fare_table.specs.Riders.{by_bytes}
 use Rattle.fare_table.proofs.read.riders.riders_from.Goals as goal
 
 riders-step : (classes : Members) (earlier riders : List (List ℕ × ℕ)) (key : List ℕ)
@@ -39,7 +38,8 @@ returns-then-contains_key-clause-answer c =
     let is : rider_of classes key value ≡ Ok (bytes, terms) =
     let P : List ℕ → Type 0 = λ text. rider_of classes text value ≡ Ok (bytes, terms) in
     let Q : Members → Type 0 = λ m. rider_of m c.as_str.result.now value ≡ Ok (bytes, terms) in
-    subst P c.as_str.ensures.value (subst Q c.in_ok-names.ensures.same c.in_ok-bytes.ensures.rider) in
+    subst P c.as_str.ensures.value
+    (subst Q c.in_ok-names.ensures.same c.in_ok-bytes.ensures.rider) in
     let again : is_rider earlier bytes ≡ true =
     rw (← found-by_bytes c.of-token.result entries bytes earlier c.of-token.ensures.fits
     c.loop-key.invariant.fits c.of-token.ensures.bytes refl) (sym c.contains_key.ensures
@@ -62,7 +62,8 @@ loop-key-preserved c =
     let is : rider_of classes key value ≡ Ok (bytes, terms) =
     let P : List ℕ → Type 0 = λ text. rider_of classes text value ≡ Ok (bytes, terms) in
     let Q : Members → Type 0 = λ m. rider_of m c.as_str.result.now value ≡ Ok (bytes, terms) in
-    subst P c.as_str.ensures.value (subst Q c.in_ok-names.ensures.same c.in_ok-bytes.ensures.rider) in
+    subst P c.as_str.ensures.value
+    (subst Q c.in_ok-names.ensures.same c.in_ok-bytes.ensures.rider) in
     let fits = c.loop-key.invariant.fits in
     let free : is_rider earlier bytes ≡ false =
     rw (← found-by_bytes c.of-token.result entries bytes earlier c.of-token.ensures.fits fits

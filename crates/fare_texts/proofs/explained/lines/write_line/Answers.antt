@@ -36,6 +36,7 @@ returns c =
           (lack.0 ++ (local.0 ++ last)) reason_words.2
           (in_parts (string_bytes c.write_reason_words.new.text)
           (string_bytes c.write_no_transfer.new.text) done lack.0 (local.0 ++ last) lack.2
-          (in_parts (string_bytes c.write_no_transfer.new.text) (string_bytes c.write_local.new.text)
+          (in_parts (string_bytes c.write_no_transfer.new.text)
+          (string_bytes c.write_local.new.text)
           done local.0 last local.2 c.in_ok-push_str.ensures.bytes)))),
     )

@@ -38,9 +38,11 @@ returns c =
           c.in_ok-push_str-2.ensures.bytes
           (in_parts (string_bytes c.push_str-2.new.self) (string_bytes c.write_moment-2.new.text)
           done until.0 (words ++ (from.0 ++ (to.0 ++ last))) until.2
-          (in_parts (string_bytes c.write_moment-2.new.text) (string_bytes c.write_window_words.new.text)
+          (in_parts (string_bytes c.write_moment-2.new.text)
+          (string_bytes c.write_window_words.new.text)
           done words (from.0 ++ (to.0 ++ last)) c.in_ok-write_window_words.ensures
-          (in_parts (string_bytes c.write_window_words.new.text) (string_bytes c.write_local.new.text) done
+          (in_parts (string_bytes c.write_window_words.new.text)
+          (string_bytes c.write_local.new.text) done
           from.0 (to.0 ++ last) from.2
           (in_parts (string_bytes c.write_local.new.text) (string_bytes c.write_local-2.new.text)
           done to.0 last to.2 c.in_ok-push_str-3.ensures.bytes)))))),

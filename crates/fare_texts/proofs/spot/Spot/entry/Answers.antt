@@ -9,4 +9,5 @@ returns-in-Some c = ap (λ (found : Option Entry). unwrap_or found no_entry) c.i
 
 pub returns-in-None : goal.returns-in-None
 unfolding entry_at_spot
-returns-in-None c = c.nothing.ensures ∙ ap (λ (found : Option Entry). unwrap_or found no_entry) c.in-None.ensures
+returns-in-None c = c.nothing.ensures
+    ∙ ap (λ (found : Option Entry). unwrap_or found no_entry) c.in-None.ensures

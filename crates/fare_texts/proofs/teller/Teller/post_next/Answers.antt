@@ -1,7 +1,7 @@
 -- The account stands for the taps of the entries told, and then for one tap more. The reply is the
 -- one that follows from the reason.
-use Rattle.std.proofs.Common.{◌≡◌, ℕ, ◌+◌, ◌∷◌, [], ◌++◌, List, Option, map, option_map, refl, ap, sym, subst, ◌∙◌}
-use Rattle.std.proofs.Common.{length-append}
+use Rattle.std.proofs.Common.{◌≡◌, ℕ, ◌+◌, ◌∷◌, [], ◌++◌, List, Option, map, option_map, refl, ap}
+use Rattle.std.proofs.Common.{sym, subst, ◌∙◌, length-append}
 use Rattle.std.proofs.lemmas.List.{map-append}
 use Rattle.fare_table.specs.Fares.{Fares, mode_at}
 use Rattle.fare_table.specs.declared.mode.Mode.{Mode}
@@ -60,7 +60,8 @@ explain_step-reason-requires-clause-stands c =
 reason_of : (c : goal.After-entry-1) (earlier : List Entry) (entry : Entry)
     → HasTold c.args.table.now c.args.self.now earlier
     → entry.validator ≡ c.args.validator → entry.moment ≡ c.args.moment
-    → c.explain_step-reason.result ≡ reason_after c.args.table.now c.args.self.now.token earlier entry
+    → c.explain_step-reason.result
+    ≡ reason_after c.args.table.now c.args.self.now.token earlier entry
 reason_of c earlier entry told at when =
     let of = rules_of c.args.table.now (bytes_of c.args.self.now.token) in
     let taps = map (tap_of c.args.table.now) earlier in

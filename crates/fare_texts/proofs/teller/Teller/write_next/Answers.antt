@@ -16,7 +16,8 @@ returns-clause-line c = λ earlier told.
       line.0,
       subst (λ (n : ℕ). IsLedgerLine fares token n entry why line.0)
           (next.number ∙ ap (λ n. n + 1) told.counted)
-          (subst (λ (t : Token). IsLedgerLine fares t c.explain_next.new.self.number entry why line.0)
+          (subst (λ (t : Token). IsLedgerLine fares t c.explain_next.new.self.number entry why
+          line.0)
           next.token
           (subst (λ (w : Reason). IsLedgerLine fares c.explain_next.new.self.token
           c.explain_next.new.self.number entry w line.0) (next.reason earlier told) line.1)),

@@ -16,13 +16,16 @@ returns-clause-line c = λ earlier told.
     let line = c.in_ok-write_line.ensures in
     let why = reason_after fares token earlier posted.0 in (
       line.0,
-      subst (λ (e : Entry). IsLedgerLineAfter fares token earlier e line.0) (next.entry earlier told)
+      subst (λ (e : Entry). IsLedgerLineAfter fares token earlier e line.0)
+          (next.entry earlier told)
           (subst (λ (n : ℕ). IsLedgerLine fares token n posted.0 why line.0)
           (next.number ∙ ap (λ n. n + 1) told.counted)
-          (subst (λ (t : Token). IsLedgerLine fares t c.post_next-posted.new.self.number posted.0 why line.0)
+          (subst (λ (t : Token). IsLedgerLine fares t c.post_next-posted.new.self.number posted.0
+          why line.0)
           next.token
           (subst (λ (w : Reason). IsLedgerLine fares c.post_next-posted.new.self.token
-          c.post_next-posted.new.self.number posted.0 w line.0) (next.reason earlier told) line.1))),
+          c.post_next-posted.new.self.number posted.0 w line.0) (next.reason earlier told)
+          line.1))),
       line.2,
     )
 

@@ -6,5 +6,6 @@ pub returns : goal.returns
 returns c =
     on_ok_weaker c.put_one.result
     (λ more good is.
-    added c.args.self.now.left c.put_one.new.left c.args.self.now.surplus good c.args.tap.now more is)
+    added c.args.self.now.left c.put_one.new.left c.args.self.now.surplus good c.args.tap.now more
+    is)
     c.put_one.ensures

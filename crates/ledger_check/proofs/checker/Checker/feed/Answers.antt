@@ -1,5 +1,6 @@
 -- Each round reads one line more of the piece.
-use Rattle.std.proofs.Common.{◌≡◌, ◌++◌, [], ℕ, List, sym, ap, subst, ◌∙◌, append_assoc, append-nil, arith, rules, tests}
+use Rattle.std.proofs.Common.{◌≡◌, ◌++◌, [], ℕ, List, sym, ap, subst, ◌∙◌, append_assoc, append-nil}
+use Rattle.std.proofs.Common.{arith, rules, tests}
 use Rattle.std.proofs.lemmas.Bool.Decides.{nat_tests}
 use Rattle.ledger_check.specs.Struck.{HasStruck, IfUntold}
 use Rattle.ledger_check.specs.Verdicts.{HasFed, IsFed}
@@ -8,19 +9,25 @@ use Rattle.ledger_check.proofs.StruckLemmas.{none_told, some_told}
 use Rattle.ledger_check.proofs.checker.Checker.feed.Goals as goal
 
 pub keep-requires-clause-fed : goal.keep-requires-clause-fed
-keep-requires-clause-fed c =
-    (c.args.table.now, c.requires.fed.0 ++ c.loop-rest.invariant.consumed, c.loop-rest.invariant.fed c.requires.fed.0 c.requires.fed.1)
+keep-requires-clause-fed c = (
+  c.args.table.now,
+  c.requires.fed.0 ++ c.loop-rest.invariant.consumed,
+  c.loop-rest.invariant.fed c.requires.fed.0 c.requires.fed.1,
+)
 
 pub take_line-requires-clause-fed : goal.take_line-requires-clause-fed
-take_line-requires-clause-fed c =
-    (c.requires.fed.0 ++ c.loop-rest.invariant.consumed, c.loop-rest.invariant.fed c.requires.fed.0 c.requires.fed.1)
+take_line-requires-clause-fed c = (
+  c.requires.fed.0 ++ c.loop-rest.invariant.consumed,
+  c.loop-rest.invariant.fed c.requires.fed.0 c.requires.fed.1,
+)
 
 pub returns-in_default-clause-fed : goal.returns-in_default-clause-fed
 returns-in_default-clause-fed c = λ text fed.
     let fares = c.args.table.now in
     let before = c.loop-rest.invariant in
     let got = c.in_ok-told.ensures.fed fares (text ++ before.consumed) (before.fed text fed) in
-    subst (λ (p : List ℕ). IsFed fares c.keep.new.self (text ++ p) c.in_ok-told.told) (sym before.whole)
+    subst (λ (p : List ℕ). IsFed fares c.keep.new.self (text ++ p) c.in_ok-told.told)
+    (sym before.whole)
     (fed_on fares c.keep.new.self text before.consumed c.loop-rest.rest.now c.in_ok-told.told got)
 
 pub returns-then-is_some-clause-fed : goal.returns-then-is_some-clause-fed
@@ -29,8 +36,10 @@ returns-then-is_some-clause-fed c = λ text fed.
     let before = c.loop-rest.invariant in
     let whole = before.whole ∙ ap (λ (r : List ℕ). before.consumed ++ r) c.in-Some.ensures.some.1 in
     let got = c.in_ok-told-2.ensures.fed (text ++ before.consumed) (before.fed text fed) in
-    subst (λ (p : List ℕ). IsFed fares c.take_line.new.self (text ++ p) c.in_ok-told-2.told) (sym whole)
-    (told_early fares c.take_line.new.self text before.consumed c.in-Some.line.now c.in-Some.behind.now c.in_ok-told-2.told
+    subst (λ (p : List ℕ). IsFed fares c.take_line.new.self (text ++ p) c.in_ok-told-2.told)
+    (sym whole)
+    (told_early fares c.take_line.new.self text before.consumed c.in-Some.line.now
+    c.in-Some.behind.now c.in_ok-told-2.told
     (sym c.is_some.ensures ∙ c.if-is_some.true) got)
 
 pub loop-rest-preserved : goal.loop-rest-preserved
@@ -41,15 +50,20 @@ loop-rest-preserved c =
     let behind = c.in-Some.behind.now in
     record {
       consumed = before.consumed ++ line;
-      whole = before.whole ∙ ap (λ (r : List ℕ). before.consumed ++ r) c.in-Some.ensures.some.1 ∙ sym (append_assoc before.consumed line behind);
+      whole = before.whole ∙ ap (λ (r : List ℕ). before.consumed ++ r) c.in-Some.ensures.some.1
+          ∙ sym (append_assoc before.consumed line behind);
       fed = λ text fed.
-          subst (λ (t : List ℕ). HasFed fares c.take_line.new.self t) (append_assoc text before.consumed line)
-          (fed_none fares c.take_line.new.self ((text ++ before.consumed) ++ line) c.in_ok-told-2.told (sym c.is_some.ensures ∙ c.if-is_some.false)
+          subst (λ (t : List ℕ). HasFed fares c.take_line.new.self t)
+          (append_assoc text before.consumed line)
+          (fed_none fares c.take_line.new.self ((text ++ before.consumed) ++ line)
+          c.in_ok-told-2.told (sym c.is_some.ensures ∙ c.if-is_some.false)
           (c.in_ok-told-2.ensures.fed (text ++ before.consumed) (before.fed text fed)));
       struck = λ text good struck.
-          subst (λ (t : List ℕ). HasStruck fares c.take_line.new.self c.take_line.new.balance t good) (append_assoc text before.consumed line)
+          subst (λ (t : List ℕ). HasStruck fares c.take_line.new.self c.take_line.new.balance t
+          good) (append_assoc text before.consumed line)
           (none_told c.in_ok-told-2.told _ (sym c.is_some.ensures ∙ c.if-is_some.false)
-          (c.in_ok-told-2.ensures.struck (text ++ before.consumed) good (before.struck text good struck)));
+          (c.in_ok-told-2.ensures.struck (text ++ before.consumed) good
+          (before.struck text good struck)));
     }
 
 pub returns-in_default-clause-struck : goal.returns-in_default-clause-struck
@@ -57,9 +71,12 @@ returns-in_default-clause-struck c = λ text good struck.
     let fares = c.args.table.now in
     let before = c.loop-rest.invariant in
     let joined : (text ++ before.consumed) ++ c.loop-rest.rest.now ≡ text ++ c.args.piece.now =
-    append_assoc text before.consumed c.loop-rest.rest.now ∙ ap (λ (p : List ℕ). text ++ p) (sym before.whole) in
-    subst (λ (t : List ℕ). IfUntold c.in_ok-told.told (HasStruck fares c.keep.new.self c.loop-rest.balance t good)) joined
-    (c.in_ok-told.ensures.struck fares (text ++ before.consumed) c.loop-rest.balance good (before.struck text good struck))
+    append_assoc text before.consumed c.loop-rest.rest.now
+    ∙ ap (λ (p : List ℕ). text ++ p) (sym before.whole) in
+    subst (λ (t : List ℕ). IfUntold c.in_ok-told.told
+    (HasStruck fares c.keep.new.self c.loop-rest.balance t good)) joined
+    (c.in_ok-told.ensures.struck fares (text ++ before.consumed) c.loop-rest.balance good
+    (before.struck text good struck))
 
 pub returns-then-is_some-clause-struck : goal.returns-then-is_some-clause-struck
 returns-then-is_some-clause-struck c = λ text good struck.
@@ -70,6 +87,11 @@ returns-then-is_some-clause-struck c = λ text good struck.
 pub returns-clause-struck : goal.returns-clause-struck
 returns-clause-struck c = λ text good struck.
     let before = c.loop-rest.invariant in
-    let none : c.loop-rest.rest.now ≡ [] = empty_list c.loop-rest.rest.now (first_of (omega arith, grind (arith, nat_tests), search (rules, tests))) in
-    let all : before.consumed ≡ c.args.piece.now = sym (append-nil before.consumed) ∙ sym (before.whole ∙ ap (λ (r : List ℕ). before.consumed ++ r) none) in
-    subst (λ (p : List ℕ). HasStruck c.args.table.now c.loop-rest.self c.loop-rest.balance (text ++ p) good) all (before.struck text good struck)
+    let none : c.loop-rest.rest.now ≡ [] =
+    empty_list c.loop-rest.rest.now
+    (first_of (omega arith, grind (arith, nat_tests), search (rules, tests))) in
+    let all : before.consumed ≡ c.args.piece.now =
+    sym (append-nil before.consumed)
+    ∙ sym (before.whole ∙ ap (λ (r : List ℕ). before.consumed ++ r) none) in
+    subst (λ (p : List ℕ). HasStruck c.args.table.now c.loop-rest.self c.loop-rest.balance
+    (text ++ p) good) all (before.struck text good struck)

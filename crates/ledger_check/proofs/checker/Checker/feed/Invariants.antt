@@ -10,7 +10,8 @@ invariant-loop-rest l = record {
   consumed : List ℕ;
   whole : l.piece ≡ consumed ++ l.rest;
   fed : (text : List ℕ) → HasFed l.table l.fn.self text → HasFed l.table l.self (text ++ consumed);
-  struck : (text : List ℕ) (good : List TapFields) → HasStruck l.table l.fn.self l.fn.balance text good
+  struck : (text : List ℕ) (good : List TapFields)
+      → HasStruck l.table l.fn.self l.fn.balance text good
       → HasStruck l.table l.self l.balance (text ++ consumed) good;
 }
 

@@ -7,7 +7,8 @@ use Rattle.ledger_check.specs.declared.checker.Verdict.{Verdict}
 use Rattle.ledger_check.proofs.StruckLemmas.{all_struck}
 use Rattle.ledger_check.proofs.CheckerLemmas.{empty_list, ended_in_line, ended_unheaded, ended_well}
 use Rattle.ledger_check.proofs.checker.Checker.finish.Goals as goal
-use Rattle.ledger_check.proofs.checker.Checker.finish.Goals.{then-not-self-via-then-not-self, then-not-self-via-else-not-self+then-not-is_empty}
+use Rattle.ledger_check.proofs.checker.Checker.finish.Goals.{then-not-self-via-then-not-self}
+use Rattle.ledger_check.proofs.checker.Checker.finish.Goals.{then-not-self-via-else-not-self+then-not-is_empty}
 
 pub returns-then-not-self-clause-verdict : goal.returns-then-not-self-clause-verdict
 returns-then-not-self-clause-verdict c = λ fares text fed.
@@ -15,10 +16,12 @@ returns-then-not-self-clause-verdict c = λ fares text fed.
     subst (IsVerdict fares text) (sym c.no_line.ensures)
     (elim c.then-not-self.branch [
       | then-not-self-via-then-not-self w ↦
-          let none : checker.so_far.has_head ≡ false = first_of (cc, search (rules, tests), grind (arith, nat_tests)) in
+          let none : checker.so_far.has_head ≡ false =
+          first_of (cc, search (rules, tests), grind (arith, nat_tests)) in
           ended_unheaded fares checker text fed none
       | then-not-self-via-else-not-self+then-not-is_empty w ↦
-          let some : 0 < length checker.begun.items = grind (arith, nat_tests, checker.begun.ok.0) in
+          let some : 0 < length checker.begun.items =
+          grind (arith, nat_tests, checker.begun.ok.0) in
           ended_in_line fares checker text fed some
     ])
 
@@ -26,7 +29,8 @@ pub returns-clause-verdict : goal.returns-clause-verdict
 returns-clause-verdict c = λ fares text fed.
     let checker = c.args.self.now in
     let none : length checker.begun.items ≤ 0 = grind (arith, nat_tests, checker.begun.ok.0) in
-    let some : checker.so_far.has_head ≡ true = first_of (cc, search (rules, tests), grind (arith, nat_tests)) in
+    let some : checker.so_far.has_head ≡ true =
+    first_of (cc, search (rules, tests), grind (arith, nat_tests)) in
     ended_well fares checker text fed (empty_list checker.begun.items none) some
 
 false_true : false ≡ true → ⊥
@@ -40,4 +44,5 @@ pub returns-clause-struck : goal.returns-clause-struck
 returns-clause-struck c = λ fares text balance good struck legal entries is.
     let checker = c.args.self.now in
     let none : length checker.begun.items ≤ 0 = grind (arith, nat_tests, checker.begun.ok.0) in
-    all_struck fares checker balance text good struck (empty_list checker.begun.items none) entries is
+    all_struck fares checker balance text good struck (empty_list checker.begun.items none) entries
+    is

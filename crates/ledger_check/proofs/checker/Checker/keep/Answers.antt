@@ -8,22 +8,26 @@ returns-then-len-gt-MAX_LINE_BYTES-clause-fed c = λ fares text fed more.
     let whole = c.extend_from_slice.new.self.items in
     let long : 255 < length whole = omega (arith, c.extend_from_slice.new.self.ok.0) in
     subst (IsVerdict fares ((text ++ c.args.rest.now) ++ more)) (sym c.no_line.ensures)
-    (too_long fares c.args.self.now text c.args.rest.now whole fed c.requires.rest c.in_ok-extend_from_slice.ensures.items long more)
+    (too_long fares c.args.self.now text c.args.rest.now whole fed c.requires.rest
+    c.in_ok-extend_from_slice.ensures.items long more)
 
 pub returns-clause-fed : goal.returns-clause-fed
 returns-clause-fed c = λ fares text fed.
     let whole = c.extend_from_slice.new.self.items in
     let short : length whole ≤ 255 = omega (arith, c.extend_from_slice.new.self.ok.0) in
-    kept fares c.args.self.now _ text c.args.rest.now fed c.requires.rest refl c.in_ok-extend_from_slice.ensures.items short
+    kept fares c.args.self.now _ text c.args.rest.now fed c.requires.rest refl
+    c.in_ok-extend_from_slice.ensures.items short
 
 pub returns-then-len-gt-MAX_LINE_BYTES-clause-struck : goal.returns-then-len-gt-MAX_LINE_BYTES-clause-struck
-returns-then-len-gt-MAX_LINE_BYTES-clause-struck c = λ fares text balance good struck. ap is_legal c.no_line.ensures
+returns-then-len-gt-MAX_LINE_BYTES-clause-struck c =
+    λ fares text balance good struck. ap is_legal c.no_line.ensures
 
 pub returns-clause-struck : goal.returns-clause-struck
 returns-clause-struck c = λ fares text balance good struck.
     let whole = c.extend_from_slice.new.self.items in
     let short : length whole ≤ 255 = omega (arith, c.extend_from_slice.new.self.ok.0) in
     record {
-      fed = kept fares c.args.self.now _ text c.args.rest.now struck.fed c.requires.rest refl c.in_ok-extend_from_slice.ensures.items short;
+      fed = kept fares c.args.self.now _ text c.args.rest.now struck.fed c.requires.rest refl
+          c.in_ok-extend_from_slice.ensures.items short;
       struck = struck.struck;
     }

@@ -11,5 +11,6 @@ pub returns : goal.returns
 returns c = λ good is.
     begun c.args.balance.left c.args.balance.surplus _ good refl
     (λ key.
-    ap (λ (es : List (TapFields × ℕ)). unwrap_or (lookup (is_at (tap_cmp key)) es) 0) c.new.ensures.empty)
+    ap (λ (es : List (TapFields × ℕ)). unwrap_or (lookup (is_at (tap_cmp key)) es) 0)
+    c.new.ensures.empty)
     is

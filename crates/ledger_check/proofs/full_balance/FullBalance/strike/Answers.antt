@@ -9,7 +9,8 @@ returns-then-count_at-eq0 c =
     let new = c.put_one.new.left in
     on_ok_weaker c.put_one.result
     (λ more good struck is.
-    struck_surplus full (record { missing = full.missing; surplus = new }) good struck c.args.tap.now refl
+    struck_surplus full (record { missing = full.missing; surplus = new }) good struck
+    c.args.tap.now refl
     (sym c.count_at.ensures ∙ c.if-count_at-eq0.true)
     more is)
     c.put_one.ensures
@@ -18,7 +19,8 @@ pub returns : goal.returns
 returns c = λ good struck is.
     let full = c.args.self.now in
     let new = c.take_one-was_left.new.left in
-    struck_missing full (record { missing = new; surplus = full.surplus }) good struck c.args.tap.now refl
+    struck_missing full (record { missing = new; surplus = full.surplus }) good struck
+    c.args.tap.now refl
     (c.take_one-was_left.ensures.taken (taken c.take_one-was_left.result refl))
     is
   where

@@ -1,4 +1,5 @@
-use Rattle.std.proofs.Common.{◌≡◌, ◌+◌, arith, ◌++◌, ◌∙◌, ℕ, List, ◌∷◌, length, refl, sym, ap, subst, string_bytes}
+use Rattle.std.proofs.Common.{◌≡◌, ◌+◌, arith, ◌++◌, ◌∙◌, ℕ, List, ◌∷◌, length, refl, sym, ap}
+use Rattle.std.proofs.Common.{subst, string_bytes}
 use Rattle.ledger_check.specs.Recounts.{TakenLine, taps_from, told_text}
 use Rattle.ledger_check.specs.RecountStates.{AreSums}
 use Rattle.ledger_check.specs.declared.recount_sums.RecountSums.{RecountSums}
@@ -18,15 +19,18 @@ returns c = λ taken whole lines line same.
     let wanted = string_bytes c.find.new.self.walk.wanted in
     let found = c.in_ok-finding.ensures.found taken whole lines line same in
     let next : TakenLine = record { line = whole; finding = finding; wanted = wanted } in
-    let before = subst (λ (s : RecountSums). AreSums s taken) (sym c.in_ok-finding.ensures.sums) lines.sums in
+    let before = subst (λ (s : RecountSums). AreSums s taken) (sym c.in_ok-finding.ensures.sums)
+    lines.sums in
     let sums = c.in_ok-sums.ensures taken next refl before in
-    let number : c.in_ok-sums.sums.lines ≡ length taken + 1 = let n = sums.lines in omega (arith, n) in
+    let number : c.in_ok-sums.sums.lines ≡ length taken + 1 = let n = sums.lines in
+    omega (arith, n) in
     record {
       next = next;
       is = refl;
       lines = lines_more fares c.args.self.now _ taken whole finding lines found sums;
       written = c.in_ok-write_told.ensures
-          ∙ ap (λ (w : List ℕ). string_bytes c.args.told.now ++ told_text c.in_ok-sums.sums.lines finding.told w) c.as_str.ensures.value
+          ∙ ap (λ (w : List ℕ). string_bytes c.args.told.now ++ told_text c.in_ok-sums.sums.lines
+          finding.told w) c.as_str.ensures.value
           ∙ ap (λ (n : ℕ). string_bytes c.args.told.now ++ told_text n finding.told wanted) number;
       struck = λ good. c.in_ok-strike_tap.ensures good (taps_from taken);
     }

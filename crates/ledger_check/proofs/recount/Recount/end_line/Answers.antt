@@ -1,4 +1,5 @@
-use Rattle.std.proofs.Common.{◌≡◌, ◌<◌, ◌≤◌, ◌++◌, List, ℕ, [], length, inl, inr, refl, sym, ap, subst, ◌∙◌, arith, string_bytes}
+use Rattle.std.proofs.Common.{◌≡◌, ◌<◌, ◌≤◌, ◌++◌, List, ℕ, [], length, inl, inr, refl, sym, ap}
+use Rattle.std.proofs.Common.{subst, ◌∙◌, arith, string_bytes}
 use Rattle.std.proofs.lemmas.Bool.Decides.{nat_tests}
 use Rattle.ledger_check.specs.Lines.{IsLine}
 use Rattle.ledger_check.specs.RecountStates.{HasRecounted, IsKept}
@@ -18,9 +19,12 @@ returns-then-is_empty c = λ text written good is.
     let none : length recount.begun.items ≤ 0 = grind (arith, nat_tests, recount.begun.ok.0) in
     let empty = empty_list recount.begun.items none in
     let begun : is.begun ≡ [] = kept_none recount.begun.items is.begun is.kept empty in
-    let same : c.args.line.now ≡ is.begun ++ c.args.line.now = ap (λ (b : List ℕ). b ++ c.args.line.now) (sym begun) in
-    took_line_of c.args.table.now recount _ c.args.strikes c.args.full.now _ text c.args.line.now written good (string_bytes c.args.told.now) _ is c.requires.line empty
-    (c.in_ok-take.ensures is.taken (is.begun ++ c.args.line.now) is.lines (line_ends is.begun c.args.line.now is.lacks c.requires.line) (inl same))
+    let same : c.args.line.now ≡ is.begun ++ c.args.line.now =
+    ap (λ (b : List ℕ). b ++ c.args.line.now) (sym begun) in
+    took_line_of c.args.table.now recount _ c.args.strikes c.args.full.now _ text c.args.line.now
+    written good (string_bytes c.args.told.now) _ is c.requires.line empty
+    (c.in_ok-take.ensures is.taken (is.begun ++ c.args.line.now) is.lines
+    (line_ends is.begun c.args.line.now is.lacks c.requires.line) (inl same))
 
 pub take-requires-2-clause-taken : goal.take-requires-2-clause-taken
 take-requires-2-clause-taken c = let fed = c.requires.fed in (fed.3.taken, fed.3.lines)
@@ -30,11 +34,16 @@ take-requires-2-clause-line c =
     let is = c.requires.fed.3 in (
       is.begun ++ c.args.line.now,
       line_ends is.begun c.args.line.now is.lacks c.requires.line,
-      subst (λ (k : List ℕ). IsKept k (is.begun ++ c.args.line.now)) (sym c.as_slice.ensures.value) (c.in_ok-keep.ensures is.begun is.kept),
+      subst (λ (k : List ℕ). IsKept k (is.begun ++ c.args.line.now)) (sym c.as_slice.ensures.value)
+          (c.in_ok-keep.ensures is.begun is.kept),
     )
 
 pub returns : goal.returns
 returns c = λ text written good is.
-    took_line_of c.args.table.now c.args.self.now _ c.args.strikes c.args.full.now _ text c.args.line.now written good (string_bytes c.args.told.now) _ is c.requires.line c.clear.ensures.items
-    (c.in_ok-take-2.ensures is.taken (is.begun ++ c.args.line.now) is.lines (line_ends is.begun c.args.line.now is.lacks c.requires.line)
-    (subst (λ (k : List ℕ). IsKept k (is.begun ++ c.args.line.now)) (sym c.as_slice.ensures.value) (c.in_ok-keep.ensures is.begun is.kept)))
+    took_line_of c.args.table.now c.args.self.now _ c.args.strikes c.args.full.now _ text
+    c.args.line.now written good (string_bytes c.args.told.now) _ is c.requires.line
+    c.clear.ensures.items
+    (c.in_ok-take-2.ensures is.taken (is.begun ++ c.args.line.now) is.lines
+    (line_ends is.begun c.args.line.now is.lacks c.requires.line)
+    (subst (λ (k : List ℕ). IsKept k (is.begun ++ c.args.line.now)) (sym c.as_slice.ensures.value)
+    (c.in_ok-keep.ensures is.begun is.kept)))

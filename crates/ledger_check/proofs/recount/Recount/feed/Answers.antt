@@ -1,5 +1,6 @@
 -- Each round reads one line more of the piece.
-use Rattle.std.proofs.Common.{◌≡◌, ◌++◌, [], ℕ, List, refl, sym, ap, subst, ◌∙◌, append_assoc, append-nil, arith, rules, tests, string_bytes}
+use Rattle.std.proofs.Common.{◌≡◌, ◌++◌, [], ℕ, List, refl, sym, ap, subst, ◌∙◌, append_assoc}
+use Rattle.std.proofs.Common.{append-nil, arith, rules, tests, string_bytes}
 use Rattle.std.proofs.lemmas.Bool.Decides.{nat_tests}
 use Rattle.ledger_check.proofs.CheckerLemmas.{empty_list}
 use Rattle.ledger_check.proofs.FeedLemmas.{Fed, fed_none, fed_on}
@@ -10,7 +11,8 @@ pub loop-rest-init : goal.loop-rest-init
 loop-rest-init c = record {
   consumed = [];
   whole = refl;
-  fed = λ text written good is. fed_none c.args.table.now c.args.self.now c.args.strikes c.args.full.now text written good (string_bytes c.args.told.now) is;
+  fed = λ text written good is. fed_none c.args.table.now c.args.self.now c.args.strikes
+      c.args.full.now text written good (string_bytes c.args.told.now) is;
 }
 
 pub end_line-requires-clause-fed : goal.end_line-requires-clause-fed
@@ -26,11 +28,14 @@ loop-rest-preserved c =
     let behind = c.in-Some.behind.now in
     record {
       consumed = before.consumed ++ line;
-      whole = before.whole ∙ ap (λ (r : List ℕ). before.consumed ++ r) c.in-Some.ensures.some.1 ∙ sym (append_assoc before.consumed line behind);
+      whole = before.whole ∙ ap (λ (r : List ℕ). before.consumed ++ r) c.in-Some.ensures.some.1
+          ∙ sym (append_assoc before.consumed line behind);
       fed = λ text written good is.
           let now = before.fed text written good is in
-          fed_on c.args.table.now c.loop-rest.self c.end_line.new.self c.args.strikes c.loop-rest.full c.end_line.new.full text before.consumed line written good
-          (string_bytes c.args.told.now) (string_bytes c.loop-rest.told) (string_bytes c.end_line.new.told) now
+          fed_on c.args.table.now c.loop-rest.self c.end_line.new.self c.args.strikes
+          c.loop-rest.full c.end_line.new.full text before.consumed line written good
+          (string_bytes c.args.told.now) (string_bytes c.loop-rest.told)
+          (string_bytes c.end_line.new.told) now
           (c.in_ok-end_line.ensures (text ++ before.consumed) (written ++ now.0) good now.2);
     }
 
@@ -41,12 +46,16 @@ returns-in_default c = λ text written good is.
     let now = before.fed text written good is in
     let after = record c.loop-rest.self { begun = c.keep.new.kept } in
     let joined : before.consumed ++ c.loop-rest.rest.now ≡ c.args.piece.now = sym before.whole in
-    subst (λ (p : List ℕ). Fed fares after c.args.strikes c.loop-rest.full (text ++ p) written good (string_bytes c.args.told.now) (string_bytes c.loop-rest.told)) joined
-    (fed_on fares c.loop-rest.self after c.args.strikes c.loop-rest.full c.loop-rest.full text before.consumed c.loop-rest.rest.now written good
-    (string_bytes c.args.told.now) (string_bytes c.loop-rest.told) (string_bytes c.loop-rest.told) now (
+    subst (λ (p : List ℕ). Fed fares after c.args.strikes c.loop-rest.full (text ++ p) written good
+    (string_bytes c.args.told.now) (string_bytes c.loop-rest.told)) joined
+    (fed_on fares c.loop-rest.self after c.args.strikes c.loop-rest.full c.loop-rest.full text
+    before.consumed c.loop-rest.rest.now written good
+    (string_bytes c.args.told.now) (string_bytes c.loop-rest.told) (string_bytes c.loop-rest.told)
+    now (
       [],
       sym (append-nil (string_bytes c.loop-rest.told)),
-      kept_piece fares c.loop-rest.self after c.args.strikes c.loop-rest.full (text ++ before.consumed) c.loop-rest.rest.now (written ++ now.0) good now.2
+      kept_piece fares c.loop-rest.self after c.args.strikes c.loop-rest.full
+          (text ++ before.consumed) c.loop-rest.rest.now (written ++ now.0) good now.2
           c.in_default.ensures.none refl (c.in_ok-keep.ensures now.2.begun now.2.kept),
     ))
 
@@ -54,6 +63,11 @@ pub returns : goal.returns
 returns c = λ text written good is.
     let before = c.loop-rest.invariant in
     let now = before.fed text written good is in
-    let none : c.loop-rest.rest.now ≡ [] = empty_list c.loop-rest.rest.now (first_of (omega arith, grind (arith, nat_tests), search (rules, tests))) in
-    let all : before.consumed ≡ c.args.piece.now = sym (append-nil before.consumed) ∙ sym (before.whole ∙ ap (λ (r : List ℕ). before.consumed ++ r) none) in
-    subst (λ (p : List ℕ). Fed c.args.table.now c.loop-rest.self c.args.strikes c.loop-rest.full (text ++ p) written good (string_bytes c.args.told.now) (string_bytes c.loop-rest.told)) all now
+    let none : c.loop-rest.rest.now ≡ [] =
+    empty_list c.loop-rest.rest.now
+    (first_of (omega arith, grind (arith, nat_tests), search (rules, tests))) in
+    let all : before.consumed ≡ c.args.piece.now =
+    sym (append-nil before.consumed)
+    ∙ sym (before.whole ∙ ap (λ (r : List ℕ). before.consumed ++ r) none) in
+    subst (λ (p : List ℕ). Fed c.args.table.now c.loop-rest.self c.args.strikes c.loop-rest.full
+    (text ++ p) written good (string_bytes c.args.told.now) (string_bytes c.loop-rest.told)) all now

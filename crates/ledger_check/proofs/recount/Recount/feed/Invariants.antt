@@ -8,7 +8,8 @@ abbrev pub invariant-loop-rest : goal.invariant-loop-rest
 invariant-loop-rest l = record {
   consumed : List ℕ;
   whole : l.piece ≡ consumed ++ l.rest;
-  fed : (text written : List ℕ) (good : List TapFields) → HasRecounted l.table l.fn.self l.strikes l.fn.full text written good
+  fed : (text written : List ℕ) (good : List TapFields)
+      → HasRecounted l.table l.fn.self l.strikes l.fn.full text written good
       → (more : List ℕ) × (string_bytes l.told ≡ string_bytes l.fn.told ++ more)
       × HasRecounted l.table l.self l.strikes l.full (text ++ consumed) (written ++ more) good;
 }

@@ -12,7 +12,8 @@ returns c = λ fares strikes full text written good is.
       ap (λ (n : ℕ). nat_eq n 0) ended.sums_are.wrong,
       ended.struck,
       ended.more ++ end,
-      c.in_ok-write_end.ensures ended.taken ended.sums_are ∙ ap (λ (t : List ℕ). t ++ end) ended.grown
+      c.in_ok-write_end.ensures ended.taken ended.sums_are
+          ∙ ap (λ (t : List ℕ). t ++ end) ended.grown
           ∙ append_assoc (string_bytes c.args.told.now) ended.more end,
       sym (append_assoc written ended.more end) ∙ ap (λ (t : List ℕ). t ++ end) ended.all,
     )

@@ -1,6 +1,7 @@
 use Rattle.std.proofs.Common.{◌≡◌, ℕ, ◌+◌, ◌≤◌, ◌^◌, Option, ◌∷◌, length, sym, ap, ap₂, ◌∙◌, arith}
 use Rattle.tap_views.specs.declared.token.Token.{Token}
-use Rattle.ledger_check.specs.Recounts.{asked_cents, last_wrong_token, one_other, one_wrong, ruled_cents, wrong_token_of}
+use Rattle.ledger_check.specs.Recounts.{asked_cents, last_wrong_token, one_other, one_wrong}
+use Rattle.ledger_check.specs.Recounts.{ruled_cents, wrong_token_of}
 use Rattle.ledger_check.specs.declared.walk.LineFinding.{LineFinding}
 use Rattle.ledger_check.proofs.recount_sums.RecountSums.with.Goals as goal
 
@@ -8,12 +9,17 @@ pub returns : goal.returns
 returns c = λ taken next same sums.
     let finding = c.args.finding in
     let last : c.wrong_token_of-last_wrong.result ≡ last_wrong_token (next ∷ taken) =
-    c.wrong_token_of-last_wrong.ensures ∙ ap (λ (l : Option Token). wrong_token_of l finding.told finding.tap) sums.last
+    c.wrong_token_of-last_wrong.ensures
+    ∙ ap (λ (l : Option Token). wrong_token_of l finding.told finding.tap) sums.last
     ∙ ap (λ (f : LineFinding). wrong_token_of (last_wrong_token taken) f.told f.tap) (sym same) in
-    let wrong : one_wrong finding.told ≡ one_wrong next.finding.told = ap (λ (f : LineFinding). one_wrong f.told) (sym same) in
-    let cents : asked_cents finding.tap ≡ asked_cents next.finding.tap = ap (λ (f : LineFinding). asked_cents f.tap) (sym same) in
-    let wanted : ruled_cents finding.tap ≡ ruled_cents next.finding.tap = ap (λ (f : LineFinding). ruled_cents f.tap) (sym same) in
-    let tokens : c.one_other.result ≡ one_other (last_wrong_token taken) (last_wrong_token (next ∷ taken)) =
+    let wrong : one_wrong finding.told ≡ one_wrong next.finding.told =
+    ap (λ (f : LineFinding). one_wrong f.told) (sym same) in
+    let cents : asked_cents finding.tap ≡ asked_cents next.finding.tap =
+    ap (λ (f : LineFinding). asked_cents f.tap) (sym same) in
+    let wanted : ruled_cents finding.tap ≡ ruled_cents next.finding.tap =
+    ap (λ (f : LineFinding). ruled_cents f.tap) (sym same) in
+    let tokens : c.one_other.result
+    ≡ one_other (last_wrong_token taken) (last_wrong_token (next ∷ taken)) =
     c.one_other.ensures ∙ ap₂ one_other sums.last last in
     record {
       lines = omega (arith, sums.lines);

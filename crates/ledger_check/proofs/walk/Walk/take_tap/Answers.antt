@@ -1,4 +1,5 @@
-use Rattle.std.proofs.Common.{◌≡◌, ℕ, ◌+◌, ◌^◌, ◌<◌, ◌++◌, ◌∷◌, [], List, length, refl, sym, ap, subst, ◌∙◌, arith, string_bytes}
+use Rattle.std.proofs.Common.{◌≡◌, ℕ, ◌+◌, ◌^◌, ◌<◌, ◌++◌, ◌∷◌, [], List, length, refl, sym, ap}
+use Rattle.std.proofs.Common.{subst, ◌∙◌, arith, string_bytes}
 use Rattle.account_rule.specs.declared.reason.Reason.{Reason}
 use Rattle.shard_book.specs.Entry.{own}
 use Rattle.shard_book.specs.declared.entry.Entry.{Entry}
@@ -33,14 +34,19 @@ returns c = λ run stands.
     let line = c.in_ok-write_line.ensures in
     let written = line.2 ∙ ap (λ (t : List ℕ). t ++ line.0) c.clear.ensures.bytes in
     let token = c.teller_after-falls.ensures.token in
-    let is = subst (λ (t : Token). entry ≡ next_entry fares t before tap.validator tap.moment) token (posted.entry before told) in
+    let is = subst (λ (t : Token). entry ≡ next_entry fares t before tap.validator tap.moment) token
+    (posted.entry before told) in
     record {
       ruled = is;
-      shown = subst (λ (t : List ℕ). IsLedgerLine fares tap.token (length before + 1) entry why t) (sym written)
-          (subst (λ (n : ℕ). IsLedgerLine fares tap.token n entry why line.0) (posted.number ∙ ap (λ n. n + 1) told.counted)
+      shown = subst (λ (t : List ℕ). IsLedgerLine fares tap.token (length before + 1) entry why t)
+          (sym written)
+          (subst (λ (n : ℕ). IsLedgerLine fares tap.token n entry why line.0)
+          (posted.number ∙ ap (λ n. n + 1) told.counted)
           (subst (λ (w : Reason). IsLedgerLine fares tap.token after.number entry w line.0)
-          (posted.reason before told ∙ ap (λ (t : Token). reason_after fares t before entry) token) line.1));
+          (posted.reason before told ∙ ap (λ (t : Token). reason_after fares t before entry) token)
+          line.1));
       falling = c.teller_after-falls.ensures.falls fares run stands;
-      teller = stands_more fares after run tap.token entry c.requires.fits (posted.token ∙ token) (ap (λ (e : Entry). e.token) is)
+      teller = stands_more fares after run tap.token entry c.requires.fits (posted.token ∙ token)
+          (ap (λ (e : Entry). e.token) is)
           (posted.told before told);
     }

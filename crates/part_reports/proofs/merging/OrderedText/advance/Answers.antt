@@ -1,6 +1,7 @@
 use Rattle.std.proofs.lemmas.Bool.{false≢true}
+use Rattle.std.proofs.lemmas.Option.{IfSome_then}
 use Rattle.part_reports.specs.inside.Standings.{MayFollowToken, standing}
-use Rattle.part_reports.proofs.Firsts.{no_order, weaker}
+use Rattle.part_reports.proofs.Firsts.{no_order}
 use Rattle.part_reports.proofs.merging.OrderedText.advance.Goals as goal
 
 pub returns-else-may_stand-clause-refused : goal.returns-else-may_stand-clause-refused
@@ -10,6 +11,5 @@ returns-else-may_stand-clause-refused g c = λ of_texts.
     let at = standing g.R.Read.remaining c.read.new.self in
     let wrong : ¬ (MayFollowToken lines before c.read.new.self.token) = λ may.
     false≢true (c.if-may_stand.ensures.1 may) in
-    weaker (g.R.Read.remaining c.args.self.now.reader.from) _ _
+    IfSome_then (g.R.Read.remaining c.args.self.now.reader.from) c.in_ok-read.ensures.read
     (λ text source list is. no_order lines text at before source wrong list is)
-    c.in_ok-read.ensures.read

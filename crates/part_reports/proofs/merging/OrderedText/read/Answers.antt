@@ -1,7 +1,8 @@
 use Rattle.std.proofs.Common.{sym, ◌∙◌, subst}
 use Rattle.std.proofs.lemmas.Result.{MatchResult-at_ok, err_from_is_err_and}
+use Rattle.std.proofs.lemmas.Option.{IfSome_then}
 use Rattle.part_reports.specs.inside.Standings.{IsFirstLine}
-use Rattle.part_reports.proofs.Firsts.{first_is_source, no_text, weaker}
+use Rattle.part_reports.proofs.Firsts.{first_is_source, no_text}
 use Rattle.part_reports.proofs.Wrongs.{wrong_of}
 use Rattle.part_reports.proofs.merging.OrderedText.read.Goals as goal
 
@@ -12,18 +13,17 @@ returns-in_err-lines-clause-refused g c =
     let p = err_from_is_err_and c.from_residual-in_err-lines.result
     c.from_residual-in_err-lines.ensures.1 in
     rw (p.1) (λ of_texts.
-    weaker (g.R.Read.remaining c.args.self.now.reader.from) _ _
+    IfSome_then (g.R.Read.remaining c.args.self.now.reader.from) c.in_ok-next.ensures.line
     (λ text read list is.
     no_text lines text c.next.new.self.line.items read.0
     (λ behind head first. none behind head
-    (subst (λ line. IsFirstLine lines line behind head) (sym c.line.ensures) first)) list is)
-    c.in_ok-next.ensures.line)
+    (subst (λ line. IsFirstLine lines line behind head) (sym c.line.ensures) first)) list is))
 
 pub returns-clause-read : goal.returns-clause-read
 returns-clause-read g c =
     let lines = c.args.self.now.lines in
     let first = MatchResult-at_ok _ _ _ c.in_ok-lines.ensures.value c.first_of.ensures in
-    weaker (g.R.Read.remaining c.args.self.now.reader.from) _ _
+    IfSome_then (g.R.Read.remaining c.args.self.now.reader.from) c.in_ok-next.ensures.line
     (λ text read.
     first_is_source lines text (record {
       left = g.R.Read.remaining c.next.new.self.from;
@@ -33,4 +33,3 @@ returns-clause-read g c =
     }) read.0 read.1
     (subst (λ line. IsFirstLine lines line c.in_ok-lines.lines c.in_ok-lines.token) c.line.ensures
     (first text (c.line.ensures ∙ read.0))))
-    c.in_ok-next.ensures.line

@@ -4,26 +4,28 @@ use Rattle.std.specs.Map.{lookup}
 use Rattle.std.specs.Option.{option_map}
 use Rattle.std.specs.Ordering.{nat_cmp}
 use Rattle.std.proofs.lemmas.Result.{err_from_is_err_and}
+use Rattle.std.proofs.lemmas.Option.{IfSome_then}
 use Rattle.shard_book.specs.Sums.{sums_of}
 use Rattle.part_reports.specs.inside.Standings.{standing}
 use Rattle.part_reports.specs.inside.SumsLeft.{sums_left}
-use Rattle.part_reports.proofs.Firsts.{weaker}
 use Rattle.part_reports.proofs.ReportsLeft.{not_begun, used_none}
 use Rattle.part_reports.proofs.report_left.ReportLeft.begin.Goals as goal
 
 pub returns-in_err-report-clause-refused : goal.returns-in_err-report-clause-refused
 returns-in_err-report-clause-refused g c =
     let p = err_from_is_err_and c.from_residual.result c.from_residual.ensures.1 in
-    rw (p.1, p.2) (λ of_texts. weaker (g.R.Read.remaining c.args.from) _ _
+    rw (p.1, p.2)
+    (λ of_texts. IfSome_then (g.R.Read.remaining c.args.from)
+    (c.in_err-report.ensures.refused of_texts)
     (λ file no_part charges. not_begun file c.no_sums-sums.result charges c.no_sums-sums.ensures
-    no_part) (c.in_err-report.ensures.refused of_texts))
+    no_part))
 
 pub returns-clause-begun : goal.returns-clause-begun
 returns-clause-begun g c =
     let remaining = g.R.Read.remaining in
-    weaker (remaining c.args.from) _ _ (λ file part.
+    IfSome_then (remaining c.args.from) c.in_ok-report.ensures.read (λ file part.
     used_none file c.no_sums-sums.result c.read_part.new.sums
     (standing remaining c.in_ok-report.report) c.new-2.result (sums_left c.of.result)
     c.no_sums-sums.ensures part (ap sums_left c.of.ensures ∙ c.new.ensures)
     (λ q. ap (λ entries. option_map sums_of (lookup (is_at (nat_cmp q)) entries))
-    c.new-2.ensures.empty)) c.in_ok-report.ensures.read
+    c.new-2.ensures.empty))

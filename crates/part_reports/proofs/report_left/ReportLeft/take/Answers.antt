@@ -42,7 +42,8 @@ returns-in-None-clause-refused g c =
     λ of_texts file done used charge is more add.
     let same = one_charge (line_with token c.args.ledger.now.line.items) charge
     (charge_with token sum) is own in
-    too_much file (report_at remaining c.args.self.now) (report_at remaining c.rest_of.new.self) done
+    too_much file (report_at remaining c.args.self.now) (report_at remaining c.rest_of.new.self)
+    done
     token sum c.in_ok-before.before more used c.in_ok-before.ensures.next c.in-None.ensures
     (subst (λ charge. AddUpToText (done ++ charge ∷ more) file) same add)
 

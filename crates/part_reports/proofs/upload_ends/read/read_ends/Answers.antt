@@ -28,7 +28,8 @@ loop-from-preserved g c =
     record {
       read = read_next g.R.Read.remaining c.loop-from.yielded c.in-Some.from c.loop-from.ends
           c.read_more.new.ends c.loop-from.invariant.read
-          (subst (λ from. AreEndsAdded c.loop-from.ends c.read_more.new.ends (g.R.Read.remaining from)
+          (subst (λ from. AreEndsAdded c.loop-from.ends c.read_more.new.ends
+          (g.R.Read.remaining from)
           (Ok tt)) c.new-lines.ensures.from c.in_ok-read_more.ensures.added);
       front = front_more items c.loop-from.yielded c.in-Some.from c.loop-from.invariant.front turn.0
           turn.1;

@@ -1,4 +1,5 @@
-use Rattle.std.proofs.Common.{◌≡◌, ◌∙◌, Bool, true, false, List, Option, Some, ap, ap₂, codes, refl, sym}
+use Rattle.std.proofs.Common.{◌≡◌, ◌∙◌, Bool, true, false, List, Option, Some, ap, ap₂, codes, refl}
+use Rattle.std.proofs.Common.{sym}
 use Rattle.std.specs.Prelude.{◌&&◌, if◌then◌else◌, is_some, not, option_map}
 use Rattle.clap.specs.Words.{Row, Text, found_of, rows_of}
 use Rattle.clap.proofs.WalkLemmas.{first_value-rows}
@@ -24,23 +25,28 @@ named_lacks_none false name = refl
 
 pub returns-then-is_null-clause-wrong : goal.returns-then-is_null-clause-wrong
 returns-then-is_null-clause-wrong c =
-    let none = c.in_default.ensures ∙ first_value-rows (found_of c.args.matches.now) (codes "files-from") in
+    let none = c.in_default.ensures
+    ∙ first_value-rows (found_of c.args.matches.now) (codes "files-from") in
     (refl, ap₂ lacks_of (sym c.flag_in-is_null.ensures ∙ c.if-is_null.true) (sym none))
 
 pub returns-else-is_null-clause-list : goal.returns-else-is_null-clause-list
 returns-else-is_null-clause-list c =
     let found = found_of c.args.matches.now in
-    ap (asked_of (rows_of found)) (c.in_default.ensures ∙ first_value-rows found (codes "files-from"))
+    ap (asked_of (rows_of found))
+    (c.in_default.ensures ∙ first_value-rows found (codes "files-from"))
 
 pub returns-clause-list : goal.returns-clause-list
 returns-clause-list c =
     let found = found_of c.args.matches.now in
     let end_is : c.if-is_null-2.end ≡ end_asked (rows_of found) = elim c.if-is_null-2.branch [
-      | then-is_null-2 w ↦ w.end-is ∙ ap end_of_flag (sym w.if-is_null-2.true ∙ c.flag_in-is_null.ensures)
-      | else-is_null-2 w ↦ w.end-is ∙ ap end_of_flag (sym w.if-is_null-2.false ∙ c.flag_in-is_null.ensures)
+      | then-is_null-2 w ↦ w.end-is
+          ∙ ap end_of_flag (sym w.if-is_null-2.true ∙ c.flag_in-is_null.ensures)
+      | else-is_null-2 w ↦ w.end-is
+          ∙ ap end_of_flag (sym w.if-is_null-2.false ∙ c.flag_in-is_null.ensures)
     ] in
     ap (λ (end : NameEnd). Some (c.in-Some.name.now, end)) end_is
-    ∙ ap (asked_of (rows_of found)) (c.in-Some.ensures ∙ first_value-rows found (codes "files-from"))
+    ∙ ap (asked_of (rows_of found))
+    (c.in-Some.ensures ∙ first_value-rows found (codes "files-from"))
 
 pub returns-clause-right : goal.returns-clause-right
 returns-clause-right c =

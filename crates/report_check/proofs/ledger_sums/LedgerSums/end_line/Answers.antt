@@ -36,6 +36,7 @@ add_line-requires-2-clause-summed c =
 pub returns : goal.returns
 returns c = λ text is.
     let summed = summed_of c.args.table.now c.args.self.now text c.if-not-self.false is in
-    ended c.args.table.now c.args.self.now _ text c.args.line.now c.as_slice.result.now summed c.requires.line
+    ended c.args.table.now c.args.self.now _ text c.args.line.now c.as_slice.result.now summed
+    c.requires.line
     (c.as_slice.ensures.value ∙ c.in_ok-extend_from_slice.ensures.items)
     (c.in_ok-add_line-2.ensures summed.lines summed.summed) c.clear.ensures.items

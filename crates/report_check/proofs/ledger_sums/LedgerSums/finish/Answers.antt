@@ -25,5 +25,6 @@ returns c = λ fares text is.
     let summed = summed_of fares c.args.self text c.if-not-self.false is in
     let none : length c.args.self.begun.items ≤ 0 =
     grind (arith, nat_tests, c.args.self.begun.ok.0) in
-    all_added fares c.args.self text c.in_ok-sums.sums summed (empty_list c.args.self.begun.items none)
+    all_added fares c.args.self text c.in_ok-sums.sums summed
+    (empty_list c.args.self.begun.items none)
     (c.in_ok-sums.ensures summed.summed.seen summed.summed.are)

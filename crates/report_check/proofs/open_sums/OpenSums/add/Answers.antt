@@ -38,12 +38,15 @@ pub returns : goal.returns
 returns c = λ entries is.
     let run = rw c.in-Some.is at (c.in_ok-held.ensures.run entries is) in
     entry_added entries c.args.self.now _ c.in-Some.held _ c.args.entry.now is run.1 run.0 refl refl
-    (c.add.ensures ∙ ap (λ (r : Reply). add_sums (sums_of_tally c.in-Some.held.tally) (sums_of_replies (r ∷ [])))
+    (c.add.ensures ∙ ap
+    (λ (r : Reply). add_sums (sums_of_tally c.in-Some.held.tally) (sums_of_replies (r ∷ [])))
     c.reply.ensures)
     (c.in_ok-add.ensures entries
     (subst (λ (list : List (ℕ × Tally)). AreByKey ◌==◌ validator_of entries list)
     (sym c.in_ok-held.ensures.validators) is.validators))
     (c.add-2.ensures
-    ∙ ap (λ (t : Tally). add_sums (sums_of_tally t) (sums_of_replies (c.reply-2.result ∷ []))) c.in_ok-held.ensures.totals
-    ∙ ap (λ (r : Reply). add_sums (sums_of_tally c.args.self.now.totals) (sums_of_replies (r ∷ []))) c.reply-2.ensures)
+    ∙ ap (λ (t : Tally). add_sums (sums_of_tally t) (sums_of_replies (c.reply-2.result ∷ [])))
+    c.in_ok-held.ensures.totals
+    ∙ ap (λ (r : Reply). add_sums (sums_of_tally c.args.self.now.totals) (sums_of_replies (r ∷ [])))
+    c.reply-2.ensures)
     (ap (λ (n : ℕ). n + 1) c.in_ok-held.ensures.entries)

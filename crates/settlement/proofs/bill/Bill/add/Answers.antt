@@ -1,7 +1,7 @@
 use Rattle.std.proofs.Common.{◌≡◌, ◌-◌, ◌<◌, List, ◌++◌, length, take, drop}
 use Rattle.std.proofs.Common.{append-nil, append_assoc, ap, sym, subst, ◌∙◌, arith}
 use Rattle.std.proofs.lemmas.List.{take_all}
-use Rattle.std.proofs.lemmas.List.Elements.{All-drop, All-take}
+use Rattle.std.proofs.lemmas.List.Elements.{All-drop, All-take, All-weaker}
 use Rattle.tap_views.specs.Layout.{moment_limit}
 use Rattle.tap_views.specs.declared.encoder.TapFields.{TapFields}
 use Rattle.shard_book.specs.SumsByKey.{sums_by_token}
@@ -9,7 +9,6 @@ use Rattle.shard_book.specs.declared.entry.Entry.{Entry}
 use Rattle.tap_parts.specs.Canonical.{HasTokenBytes}
 use Rattle.settlement.specs.Bills.{IsCountOf}
 use Rattle.settlement.specs.Posted.{HasName, posted, posted_after}
-use Rattle.settlement.proofs.Placed.{all_map}
 use Rattle.settlement.proofs.Ranges.{has_name}
 use Rattle.settlement.proofs.Runs.{IsNextRun, next_run, run_below}
 use Rattle.settlement.proofs.bill.Bill.add.Goals as goal
@@ -44,8 +43,9 @@ loop-start-preserved c =
     let n = c.in_ok-start.field-0 in
     let rest = take (length taps - s) (drop s taps) in
     let added = c.in_ok-start.ensures in
-    let names = all_map HasTokenBytes HasName taps has_name c.requires.tokens in
-    let next : IsNextRun fares taps s n = next_run fares taps s n c.requires.sorted names inv.edge inv.within added.run in
+    let names = All-weaker HasTokenBytes HasName has_name taps c.requires.tokens in
+    let next : IsNextRun fares taps s n =
+    next_run fares taps s n c.requires.sorted names inv.edge inv.within added.run in
     let done = posted fares (take s taps) in
     let more = posted fares (take n rest) in
     let room = inv.room in
@@ -66,7 +66,8 @@ loop-start-preserved c =
 
 pub returns-clause-counted : goal.returns-clause-counted
 returns-clause-counted c = λ before one.
-    subst (λ (ts : List TapFields). IsCountOf (before ++ posted c.args.table.now ts) c.loop-start.self)
+    subst (λ (ts : List TapFields). IsCountOf (before ++ posted c.args.table.now ts)
+    c.loop-start.self)
     (take_all c.loop-start.start c.args.taps.now c.loop-start-test.false)
     (c.loop-start.invariant.counted before one)
 

@@ -1,5 +1,6 @@
 use Rattle.std.proofs.Common.{◌≡◌, ◌==◌, ◌+◌, List, ◌∷◌, ◌++◌, length, get_or, map, take, []}
-use Rattle.std.proofs.Common.{append-nil, append_assoc, ap, sym, subst, ◌∙◌, arith, refl, length-append}
+use Rattle.std.proofs.Common.{append-nil, append_assoc, ap, sym, subst, ◌∙◌, arith, refl}
+use Rattle.std.proofs.Common.{length-append}
 use Rattle.std.proofs.lemmas.List.{get_or_default, take_all}
 use Rattle.std.proofs.lemmas.List.Elements.{All-take}
 use Rattle.tap_views.specs.declared.token.Token.{Token}
@@ -14,12 +15,11 @@ use Rattle.shard_book.specs.declared.entry.Entry.{Entry}
 use Rattle.shard_book.specs.declared.sums.tally.Tally.{Tally}
 use Rattle.shard_book.proofs.SumsLemmas.{sums-append, sums-taps}
 use Rattle.shard_book.specs.Plain.{answered}
+use Rattle.shard_book.proofs.SumsByToken.{by_token_joined, one_token_list, below_same}
 use Rattle.settlement.specs.Bills.{IsCountOf}
 use Rattle.settlement.specs.Posted.{posted, posted_after, token_of_tap, unposted}
 use Rattle.settlement.specs.Replays.{HasPosted}
-use Rattle.settlement.proofs.Concats.{by_token_joined}
-use Rattle.settlement.proofs.TokenRuns.{below_same, few_posted, no_tap, one_token_list, posted_length}
-use Rattle.settlement.proofs.TokenRuns.{posted_more, tokens_are}
+use Rattle.settlement.proofs.TokenRuns.{few_posted, no_tap, posted_length, posted_more, tokens_are}
 use Rattle.settlement.proofs.bill.Bill.add_token.Goals as goal
 
 pub loop-tap-init : goal.loop-tap-init
@@ -59,8 +59,11 @@ add-requires-in-loop-tap c =
     let few = few_posted fares taps i in
     let long = length-append room.0 done in
     let fits = room.2 in
-    let inside = c.loop-tap-test.true in
-    (room.0 ++ done, inv.validators room.0 room.1.validators, omega (arith, long, few.0, inside, fits))
+    let inside = c.loop-tap-test.true in (
+      room.0 ++ done,
+      inv.validators room.0 room.1.validators,
+      omega (arith, long, few.0, inside, fits),
+    )
 
 pub loop-tap-preserved : goal.loop-tap-preserved
 loop-tap-preserved c =
@@ -72,7 +75,8 @@ loop-tap-preserved c =
     let done = posted fares (take i taps) in
     let tap = get_or taps i no_tap in
     let entry = c.next-entry.result in
-    let is : entry ≡ answered fares done (unposted tap) = c.next-entry.ensures.entry done inv.stands in
+    let is : entry ≡ answered fares done (unposted tap) =
+    c.next-entry.ensures.entry done inv.stands in
     let more : posted fares (take (i + 1) taps) ≡ done ++ entry ∷ [] =
     posted_more fares taps i tap inside (get_or_default taps i tap no_tap inside)
     ∙ ap (λ (e : Entry). done ++ e ∷ []) (sym is) in
@@ -89,7 +93,8 @@ loop-tap-preserved c =
       totals = inv.totals;
       validators = λ before by. subst (λ (es : List Entry). AreByKey ◌==◌ validator_of es
           c.add-in-loop-tap.new.self)
-          (append_assoc before done (entry ∷ []) ∙ ap (λ (es : List Entry). before ++ es) (sym more))
+          (append_assoc before done (entry ∷ [])
+          ∙ ap (λ (es : List Entry). before ++ es) (sym more))
           (c.in_ok-add.ensures (before ++ done) (inv.validators before by));
     }
 
@@ -135,7 +140,8 @@ returns-clause-counted c = λ before one.
     })) all (record {
       validators = inv.validators before one.validators;
       totals = c.add_all.ensures
-          ∙ ap (λ (t : Tally). add_sums (sums_of_tally t) (sums_of_tally c.loop-tap.tally)) inv.totals
+          ∙ ap (λ (t : Tally). add_sums (sums_of_tally t) (sums_of_tally c.loop-tap.tally))
+          inv.totals
           ∙ ap (λ (s : Sums). add_sums s (sums_of_tally c.loop-tap.tally)) one.totals
           ∙ ap (λ (s : Sums). add_sums (sums before) s) inv.tally
           ∙ sym (sums-append before done);

@@ -1,8 +1,8 @@
-use Rattle.settlement.proofs.TokenRuns.{nothing_billed}
 use Rattle.settlement.proofs.bill.Bill.new.Goals as goal
+use Rattle.shard_book.proofs.SumsByToken.{no_sums}
 
 pub returns : goal.returns
 returns c = record {
-  tokens = nothing_billed _ c.new.ensures;
+  tokens = no_sums _ c.new.ensures;
   counts = record { validators = c.new-2.ensures; totals = c.new-3.ensures };
 }

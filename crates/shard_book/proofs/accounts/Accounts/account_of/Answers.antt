@@ -8,5 +8,7 @@ use Rattle.shard_book.proofs.accounts.Accounts.account_of.Goals as goal
 pub returns-in-None : goal.returns-in-None
 unfolding kept_at
 returns-in-None c = λ rules taps kept.
-    let empty : taps ≡ [] = subst (λ (o : Option KeptAccount). IsKept rules o taps) (sym c.in-None.ensures.value) kept in
-    subst (λ (ts : List TapIn). Stands rules c.fresh.result ts) (sym empty) (c.fresh.ensures.stands rules)
+    let empty : taps ≡ [] =
+    subst (λ (o : Option KeptAccount). IsKept rules o taps) (sym c.in-None.ensures.value) kept in
+    subst (λ (ts : List TapIn). Stands rules c.fresh.result ts) (sym empty)
+    (c.fresh.ensures.stands rules)

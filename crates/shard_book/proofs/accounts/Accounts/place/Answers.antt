@@ -4,7 +4,8 @@ use Rattle.shard_book.proofs.PackedLemmas.{keep_same}
 use Rattle.shard_book.proofs.accounts.Accounts.place.Goals as goal
 
 pub returns-then-is_at-clause-made : goal.returns-then-is_at-clause-made
-returns-then-is_at-clause-made c = made_before c.args.self.now c.args.token c.args.known (c.is_at.ensures c.if-is_at.true)
+returns-then-is_at-clause-made c =
+    made_before c.args.self.now c.args.token c.args.known (c.is_at.ensures c.if-is_at.true)
 
 pub returns-then-is_at-clause-places : goal.returns-then-is_at-clause-places
 returns-then-is_at-clause-places c = keep_same refl

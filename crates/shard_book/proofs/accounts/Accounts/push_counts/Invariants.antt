@@ -4,4 +4,6 @@ use Rattle.shard_book.specs.Counts.{token_counts}
 use Rattle.shard_book.proofs.accounts.Accounts.push_counts.Given as goal
 
 abbrev pub invariant-loop-token : goal.invariant-loop-token
-invariant-loop-token l = map token_counts l.list.items ++ map pair_of (filter is_used l.token-iterator) ≡ map token_counts l.initial.list.items ++ pairs_of l.self
+invariant-loop-token l =
+    map token_counts l.list.items ++ map pair_of (filter is_used l.token-iterator)
+    ≡ map token_counts l.initial.list.items ++ pairs_of l.self

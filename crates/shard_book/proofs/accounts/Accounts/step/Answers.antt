@@ -14,35 +14,61 @@ use Rattle.shard_book.proofs.accounts.Accounts.step.Goals as goal
 
 pub step-reply-requires-clause-stands : goal.step-reply-requires-clause-stands
 unfolding StandsForSome
-step-reply-requires-clause-stands c = rw c.bytes.ensures (c.requires.kept.0, stands_or _ (kept_at c.args.self.now c.args.token) _ _ (found c.in_ok-place.ensures.made c.pair_mut-kept.ensures.value) c.requires.kept.1)
+step-reply-requires-clause-stands c =
+    rw c.bytes.ensures (
+      c.requires.kept.0,
+      stands_or _ (kept_at c.args.self.now c.args.token) _ _
+          (found c.in_ok-place.ensures.made c.pair_mut-kept.ensures.value) c.requires.kept.1,
+    )
 
 pub returns-clause-kept : goal.returns-clause-kept
 unfolding kept_at
 returns-clause-kept c = λ taps kept.
-    let next : KeptAccount = record { account = c.step-reply.new.self; counts = c.add-was_counted.new.self } in
-    let stands : Stands (rules_of c.args.table.now (bytes_of c.args.token)) c.step-reply.new.self (taps ++ c.args.tap ∷ []) =
-    (rw c.bytes.ensures at c.step-reply.ensures.stands) taps (stands_or _ (kept_at c.args.self.now c.args.token) _ taps (found c.in_ok-place.ensures.made c.pair_mut-kept.ensures.value) kept) in
-    subst (λ (o : Option KeptAccount). IsKept (rules_of c.args.table.now (bytes_of c.args.token)) o (taps ++ c.args.tap ∷ [])) (sym (written c.place.new.self c.in_ok-place.place c.args.token _ (record { account = c.step-reply.new.self; counts = c.add-was_counted.new.self }) c.pair_mut-kept.ensures.unique c.in_ok-place.ensures.made.at).1) stands
+    let next : KeptAccount =
+    record { account = c.step-reply.new.self; counts = c.add-was_counted.new.self } in
+    let stands : Stands (rules_of c.args.table.now (bytes_of c.args.token)) c.step-reply.new.self
+    (taps ++ c.args.tap ∷ []) =
+    (rw c.bytes.ensures at c.step-reply.ensures.stands) taps
+    (stands_or _ (kept_at c.args.self.now c.args.token) _ taps
+    (found c.in_ok-place.ensures.made c.pair_mut-kept.ensures.value) kept) in
+    subst (λ (o : Option KeptAccount). IsKept (rules_of c.args.table.now (bytes_of c.args.token)) o
+    (taps ++ c.args.tap ∷ []))
+    (sym (written c.place.new.self c.in_ok-place.place c.args.token _
+    (record { account = c.step-reply.new.self; counts = c.add-was_counted.new.self })
+    c.pair_mut-kept.ensures.unique c.in_ok-place.ensures.made.at).1) stands
 
 pub returns-clause-counted : goal.returns-clause-counted
 unfolding kept_at
 returns-clause-counted c = λ counting.
-    ap counted (written c.place.new.self c.in_ok-place.place c.args.token _ (record { account = c.step-reply.new.self; counts = c.add-was_counted.new.self }) c.pair_mut-kept.ensures.unique c.in_ok-place.ensures.made.at).1
+    ap counted
+    (written c.place.new.self c.in_ok-place.place c.args.token _
+    (record { account = c.step-reply.new.self; counts = c.add-was_counted.new.self })
+    c.pair_mut-kept.ensures.unique c.in_ok-place.ensures.made.at).1
     ∙ c.add-was_counted.ensures (grind arith)
     ∙ ap (λ (s : Sums). add_sums s (sums_of_replies (c.step-reply.result ∷ [])))
-    (counted_or (kept_at c.args.self.now c.args.token) _ (found c.in_ok-place.ensures.made c.pair_mut-kept.ensures.value))
+    (counted_or (kept_at c.args.self.now c.args.token) _
+    (found c.in_ok-place.ensures.made c.pair_mut-kept.ensures.value))
 
 pub returns-clause-others : goal.returns-clause-others
 unfolding kept_at
-returns-clause-others c = λ other apart. (written c.place.new.self c.in_ok-place.place c.args.token _ (record { account = c.step-reply.new.self; counts = c.add-was_counted.new.self }) c.pair_mut-kept.ensures.unique c.in_ok-place.ensures.made.at).2 other apart ∙ c.in_ok-place.ensures.others other apart
+returns-clause-others c =
+    λ other apart.
+    (written c.place.new.self c.in_ok-place.place c.args.token _
+    (record { account = c.step-reply.new.self; counts = c.add-was_counted.new.self })
+    c.pair_mut-kept.ensures.unique c.in_ok-place.ensures.made.at).2 other apart
+    ∙ c.in_ok-place.ensures.others other apart
 
 pub returns-clause-place : goal.returns-clause-place
 returns-clause-place c =
     ap (λ (tokens : List Token). slice_get tokens c.in_ok-place.place)
-    (keys-with_value_at c.place.new.self.map c.in_ok-place.place (record { account = c.step-reply.new.self; counts = c.add-was_counted.new.self }))
-    ∙ token-at c.place.new.self.map.entries c.in_ok-place.place c.args.token _ c.in_ok-place.ensures.made.at
+    (keys-with_value_at c.place.new.self.map c.in_ok-place.place
+    (record { account = c.step-reply.new.self; counts = c.add-was_counted.new.self }))
+    ∙ token-at c.place.new.self.map.entries c.in_ok-place.place c.args.token _
+    c.in_ok-place.ensures.made.at
 
 pub returns-clause-places : goal.returns-clause-places
 returns-clause-places c =
     keep_then c.in_ok-place.ensures.places
-    (keep_same (keys-with_value_at c.place.new.self.map c.in_ok-place.place (record { account = c.step-reply.new.self; counts = c.add-was_counted.new.self })))
+    (keep_same
+    (keys-with_value_at c.place.new.self.map c.in_ok-place.place
+    (record { account = c.step-reply.new.self; counts = c.add-was_counted.new.self })))

@@ -8,13 +8,18 @@ use Rattle.shard_book.proofs.SoundLemmas.{book-on}
 use Rattle.shard_book.proofs.book.ShardBook.open_early.Goals as goal
 
 pub invariant_of-self : goal.invariant_of-self
-invariant_of-self c = book-on refl c.open_early.ensures.places c.open_early.ensures.stays (λ counting. rw c.open_early.ensures.counting at counting) c.self.invariant
+invariant_of-self c =
+    book-on refl c.open_early.ensures.places c.open_early.ensures.stays
+    (λ counting. rw c.open_early.ensures.counting at counting) c.self.invariant
 
 abbrev book_of : Fares → ℕ → ℕ → List Entry → Book
-book_of table shard shards entries = record { table = table; shard = shard; shards = shards; entries = entries }
+book_of table shard shards entries =
+    record { table = table; shard = shard; shards = shards; entries = entries }
 
 pub returns : goal.returns
 returns c =
-    ap (λ (entries : List Entry). book_of c.self.inside.table c.self.inside.shard c.self.inside.shards entries)
-    (history-kept (tokens_of c.self.inside.accounts) (tokens_of c.open_early.new.self) c.self.inside.history.items c.self.invariant.placed c.open_early.ensures.places)
+    ap (λ (entries : List Entry). book_of c.self.inside.table c.self.inside.shard
+    c.self.inside.shards entries)
+    (history-kept (tokens_of c.self.inside.accounts) (tokens_of c.open_early.new.self)
+    c.self.inside.history.items c.self.invariant.placed c.open_early.ensures.places)
     ∙ c.self.view_is

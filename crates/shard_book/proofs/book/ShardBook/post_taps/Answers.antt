@@ -10,11 +10,15 @@ loop-tap-init c =
     let run = c.args.run.now in
     posting-none run c.into_iter-tap-iterator.result c.args.self.now c.args.out.now
     (c.into_iter-tap-iterator.ensures.into_iter_gives ∙ c.taps-tap-items.ensures.taps)
-    (subst (λ (taps : List Tap). AllByRecursion (IsShardTap run.shard run.shards) taps) (sym c.into_iter-tap-iterator.ensures.into_iter_gives) c.taps-tap-items.ensures.in_shard)
+    (subst (λ (taps : List Tap). AllByRecursion (IsShardTap run.shard run.shards) taps)
+    (sym c.into_iter-tap-iterator.ensures.into_iter_gives) c.taps-tap-items.ensures.in_shard)
     c.requires.legal
 
 pub push-requires : goal.push-requires
 push-requires c = posting-room c.loop-tap.invariant c.in-Some.ensures.steps c.requires.room
 
 pub loop-tap-preserved : goal.loop-tap-preserved
-loop-tap-preserved c = posting-push c.loop-tap.invariant c.in-Some.ensures.steps (rw c.prefetch_every_sixteenth.ensures at c.in-Ok.ensures.ok) c.in-Ok.ensures.legal c.push.ensures.items c.push.ensures.spare
+loop-tap-preserved c =
+    posting-push c.loop-tap.invariant c.in-Some.ensures.steps
+    (rw c.prefetch_every_sixteenth.ensures at c.in-Ok.ensures.ok) c.in-Ok.ensures.legal
+    c.push.ensures.items c.push.ensures.spare

@@ -8,4 +8,6 @@ unfolding own
 loop-i-init c = sym (append-nil c.args.list.now.items)
 
 pub loop-i-preserved : goal.loop-i-preserved
-loop-i-preserved c = own-read c.args.list.now.items c.args.self.now.entries _ _ c.args.token c.loop-i.i c.entry.result c.entry.ensures c.loop-i.invariant c.in_ok-push_if_own.ensures
+loop-i-preserved c =
+    own-read c.args.list.now.items c.args.self.now.entries _ _ c.args.token c.loop-i.i
+    c.entry.result c.entry.ensures c.loop-i.invariant c.in_ok-push_if_own.ensures

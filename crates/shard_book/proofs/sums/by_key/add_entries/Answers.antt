@@ -10,11 +10,19 @@ unfolding HasRoom
 add_entry-requires g c = (
   c.requires.0 ++ take c.loop-i.i c.args.book.now.entries,
   c.loop-i.invariant c.requires.0 c.requires.1,
-  omega (arith, length-append c.requires.0 (take c.loop-i.i c.args.book.now.entries), length-take-le c.loop-i.i c.args.book.now.entries (omega arith), c.requires.2),
+  omega (
+    arith,
+    length-append c.requires.0 (take c.loop-i.i c.args.book.now.entries),
+    length-take-le c.loop-i.i c.args.book.now.entries (omega arith),
+    c.requires.2,
+  ),
 )
 
 pub loop-i-preserved : goal.loop-i-preserved
 loop-i-preserved g c = λ before by_key.
-    subst (λ (entries : List Entry). AreByKey g.K.PartialEq.eq g.K.SumKey.key_of entries c.add_entry.new.tallies.entries)
-    (grown-read before c.args.book.now.entries c.loop-i.i c.entry-entry.result c.entry-entry.ensures)
-    (c.in_ok-add_entry.ensures (before ++ take c.loop-i.i c.args.book.now.entries) (c.loop-i.invariant before by_key))
+    subst (λ (entries : List Entry). AreByKey g.K.PartialEq.eq g.K.SumKey.key_of entries
+    c.add_entry.new.tallies.entries)
+    (grown-read before c.args.book.now.entries c.loop-i.i c.entry-entry.result
+    c.entry-entry.ensures)
+    (c.in_ok-add_entry.ensures (before ++ take c.loop-i.i c.args.book.now.entries)
+    (c.loop-i.invariant before by_key))

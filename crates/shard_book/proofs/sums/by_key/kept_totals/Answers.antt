@@ -9,6 +9,7 @@ pub totals-requires : goal.totals-requires
 totals-requires g c =
     omega (
       arith,
-      room-kept g.K.PartialEq.eq g.K.SumKey.key_of c.args.tallies.now.entries c.args.key (all_of c.in-Some.kept.now.counts) 0 c.requires
+      room-kept g.K.PartialEq.eq g.K.SumKey.key_of c.args.tallies.now.entries c.args.key
+          (all_of c.in-Some.kept.now.counts) 0 c.requires
           (ap (λ (kept : Option Tally). (kept_sums kept).taps) c.in-Some.ensures.value),
     )

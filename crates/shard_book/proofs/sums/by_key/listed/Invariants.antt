@@ -4,5 +4,8 @@ use Rattle.shard_book.specs.TalliesByKey.{kept_sums}
 use Rattle.shard_book.proofs.sums.by_key.listed.Given as goal
 
 abbrev pub invariant-loop-key : goal.invariant-loop-key
-invariant-loop-key g l = (map g.K.SumKey.shown l.list.items ≡ map (λ key. (key, kept_sums (get g.K.PartialEq.eq l.tallies key))) (take l.key-index l.key-items))
+invariant-loop-key g l =
+    (map g.K.SumKey.shown l.list.items
+    ≡ map (λ key. (key, kept_sums (get g.K.PartialEq.eq l.tallies key)))
+    (take l.key-index l.key-items))
     × (vec_len l.list ≡ l.key-index) × (vec_capacity l.list ≡ length l.key-items)

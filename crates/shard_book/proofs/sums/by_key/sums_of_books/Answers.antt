@@ -6,11 +6,14 @@ use Rattle.shard_book.proofs.ByKeyLemmas.{sums_by-none}
 use Rattle.shard_book.proofs.sums.by_key.sums_of_books.Goals as goal
 
 pub returns-in_default : goal.returns-in_default
-returns-in_default g c = sums_by-none _ _ _ _ c.args.books.now _ c.new.ensures.items (ap option_copied (sym c.in_default.is) ∙ c.first.ensures.value)
+returns-in_default g c =
+    sums_by-none _ _ _ _ c.args.books.now _ c.new.ensures.items
+    (ap option_copied (sym c.in_default.is) ∙ c.first.ensures.value)
 
 pub listed-requires : goal.listed-requires
 unfolding HasRoom
 listed-requires g c =
-    let bound : length (all_entries c.args.books.now) ≤ length c.args.books.now * 2 ^ 64 = c.in_ok-tallies.ensures.few in
+    let bound : length (all_entries c.args.books.now) ≤ length c.args.books.now * 2 ^ 64 =
+    c.in_ok-tallies.ensures.few in
     let most : length c.args.books.now ≤ 64 = c.requires in
     (all_entries c.args.books.now, c.in_ok-tallies.ensures.by_key, omega arith)

@@ -11,6 +11,7 @@ pub add_entries-requires : goal.add_entries-requires
 unfolding HasRoom
 add_entries-requires g c =
     let before = take c.loop-book.book-index c.args.books.now in
-    let bound : length (all_entries before) ≤ c.loop-book.book-index * 2 ^ 64 = c.loop-book.invariant.1 in
+    let bound : length (all_entries before) ≤ c.loop-book.book-index * 2 ^ 64 =
+    c.loop-book.invariant.1 in
     let most : length c.args.books.now ≤ 64 = c.requires in
     (all_entries before, c.loop-book.invariant.0, omega (arith, c.len.ensures.len))

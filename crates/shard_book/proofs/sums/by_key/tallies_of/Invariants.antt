@@ -4,4 +4,6 @@ use Rattle.shard_book.specs.TalliesByKey.{AreByKey}
 use Rattle.shard_book.proofs.sums.by_key.tallies_of.Given as goal
 
 abbrev pub invariant-loop-book : goal.invariant-loop-book
-invariant-loop-book g l = AreByKey g.K.PartialEq.eq g.K.SumKey.key_of (all_entries (take l.book-index l.books)) l.tallies.entries × (length (all_entries (take l.book-index l.books)) ≤ l.book-index * 2 ^ 64)
+invariant-loop-book g l =
+    AreByKey g.K.PartialEq.eq g.K.SumKey.key_of (all_entries (take l.book-index l.books))
+    l.tallies.entries × (length (all_entries (take l.book-index l.books)) ≤ l.book-index * 2 ^ 64)

@@ -5,4 +5,6 @@ use Rattle.shard_book.specs.SumsByKey.{all_entries}
 use Rattle.shard_book.proofs.sums.by_token.collected.Given as goal
 
 abbrev pub invariant-loop-book : goal.invariant-loop-book
-invariant-loop-book l = AreSummed (all_entries (take l.book-index l.books)) (map token_counts l.list.items) × AreBelow l.shards l.lowest (all_entries (take l.book-index l.books))
+invariant-loop-book l =
+    AreSummed (all_entries (take l.book-index l.books)) (map token_counts l.list.items)
+    × AreBelow l.shards l.lowest (all_entries (take l.book-index l.books))

@@ -10,4 +10,5 @@ pub returns-clause-later : goal.returns-clause-later
 returns-clause-later c =
     let later = later_by_look c.pass.inside.seat.table_id _ _ _ c.look.ensures.seen in
     subst (λ p. HasSeenMore p (knows c.look.new.seat.table_id c.look.new.seat.me)) c.pass.view_is
-    (subst (λ home. HasSeenMore (knows c.pass.inside.seat.table_id c.pass.inside.seat.me) (knows home c.look.new.seat.me)) (sym c.look.ensures.same) later)
+    (subst (λ home. HasSeenMore (knows c.pass.inside.seat.table_id c.pass.inside.seat.me)
+    (knows home c.look.new.seat.me)) (sym c.look.ensures.same) later)

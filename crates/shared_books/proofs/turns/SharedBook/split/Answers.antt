@@ -5,7 +5,9 @@ use Rattle.shared_books.proofs.turns.SharedBook.split.Goals as goal
 
 pub split_seat-seat-requires : goal.split_seat-seat-requires
 split_seat-seat-requires c =
-    let home : c.pass.inside.seat.table_id ≡ c.self.inside.table.shared.table_id = ap (λ d. d.book.home) c.pass.view_is ∙ (ap (λ d. d.home) c.requires.belongs ∙ sym (ap (λ d. d.home) c.self.view_is)) in
+    let home : c.pass.inside.seat.table_id ≡ c.self.inside.table.shared.table_id =
+    ap (λ d. d.book.home) c.pass.view_is
+    ∙ (ap (λ d. d.home) c.requires.belongs ∙ sym (ap (λ d. d.home) c.self.view_is)) in
     let word : 0 < c.self.inside.table.shared.table_id.words = omega (arith, c.self.invariant.1) in
     (home, word, parts _ _ _ c.pass.invariant.free.unjoined)
 

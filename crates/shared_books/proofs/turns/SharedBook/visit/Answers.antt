@@ -1,7 +1,8 @@
 use Rattle.std.proofs.Common.{◌≡◌, ◌∙◌, ap, refl, arith}
 use Rattle.std.proofs.lemmas.Result.{err_from_is_err_and}
 use Rattle.shard_book.specs.Book.{with_entries}
-use Rattle.shared_books.proofs.Passing.{full_told, full_pass_is, brings, entries_now, legal_now, pass_visits, visit_told, held_small}
+use Rattle.shared_books.proofs.Passing.{full_told, full_pass_is, brings, entries_now, legal_now}
+use Rattle.shared_books.proofs.Passing.{pass_visits, visit_told, held_small}
 use Rattle.shared_books.proofs.turns.SharedBook.visit.Goals as goal
 
 pub invariant_of-pass : goal.invariant_of-pass
@@ -16,7 +17,8 @@ returns-in_err-number-clause-full g c =
 pub give-requires-clause-brings : goal.give-requires-clause-brings
 give-requires-clause-brings g c =
     let posted = c.post_run-how.ensures.posts in
-    let appended : c.post_run-how.new.self ≡ with_entries c.in_ok-number.book.value posted.visit = posted.appended ∙ ap (λ b. with_entries b posted.visit) c.deref_mut.ensures.value in
+    let appended : c.post_run-how.new.self ≡ with_entries c.in_ok-number.book.value posted.visit =
+    posted.appended ∙ ap (λ b. with_entries b posted.visit) c.deref_mut.ensures.value in
     brings _ _ _ _ _ posted.visit c.in_ok-number.ensures.taken appended c.post_run-how.ensures.legal
 
 pub overflow_add-held : goal.overflow_add-held
@@ -25,18 +27,24 @@ overflow_add-held g c = let few = held_small _ _ c.pass.invariant in omega arith
 pub invariant_of-pass-2 : goal.invariant_of-pass-2
 invariant_of-pass-2 g c =
     let posted = c.post_run-how.ensures.posts in
-    let appended : c.post_run-how.new.self ≡ with_entries c.in_ok-number.book.value posted.visit = posted.appended ∙ ap (λ b. with_entries b posted.visit) c.deref_mut.ensures.value in
+    let appended : c.post_run-how.new.self ≡ with_entries c.in_ok-number.book.value posted.visit =
+    posted.appended ∙ ap (λ b. with_entries b posted.visit) c.deref_mut.ensures.value in
     let taken = c.in_ok-number.ensures.taken in
-    pass_visits _ _ _ _ _ _ posted.visit c.pass.invariant taken (c.give.ensures.given posted.visit (entries_now _ _ _ _ _ _ taken appended))
+    pass_visits _ _ _ _ _ _ posted.visit c.pass.invariant taken
+    (c.give.ensures.given posted.visit (entries_now _ _ _ _ _ _ taken appended))
 
 pub returns-clause-visit : goal.returns-clause-visit
 returns-clause-visit g c =
     let posted = c.post_run-how.ensures.posts in
-    let appended : c.post_run-how.new.self ≡ with_entries c.in_ok-number.book.value posted.visit = posted.appended ∙ ap (λ b. with_entries b posted.visit) c.deref_mut.ensures.value in
+    let appended : c.post_run-how.new.self ≡ with_entries c.in_ok-number.book.value posted.visit =
+    posted.appended ∙ ap (λ b. with_entries b posted.visit) c.deref_mut.ensures.value in
     let taken = c.in_ok-number.ensures.taken in
     record {
       visit = posted.visit;
-      stands = visit_told _ _ _ _ _ _ _ _ posted.visit c.pass.view_is (c.give.ensures.same ∙ c.take.ensures.same) taken (c.give.ensures.given posted.visit (entries_now _ _ _ _ _ _ taken appended)) (legal_now _ _ _ _ _ _ taken appended c.post_run-how.ensures.legal);
+      stands = visit_told _ _ _ _ _ _ _ _ posted.visit c.pass.view_is
+          (c.give.ensures.same ∙ c.take.ensures.same) taken
+          (c.give.ensures.given posted.visit (entries_now _ _ _ _ _ _ taken appended))
+          (legal_now _ _ _ _ _ _ taken appended c.post_run-how.ensures.legal);
       of_run = posted.of_run;
       items = posted.items;
       spare = posted.spare;

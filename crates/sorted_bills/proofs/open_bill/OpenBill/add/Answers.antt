@@ -1,15 +1,16 @@
 use Rattle.std.proofs.Common.{List, [], ◌∷◌, ◌++◌, take, refl, sym, ap, subst, ◌∙◌}
 use Rattle.std.proofs.Common.{append_assoc, append-nil, arith, length-append}
-use Rattle.std.proofs.lemmas.List.{length-take, take_all}
+use Rattle.std.proofs.lemmas.List.{length-take, take_all, take_more}
 use Rattle.tap_views.specs.declared.encoder.TapFields.{TapFields}
 use Rattle.settled_texts.specs.Telling.{last_token}
-use Rattle.settled_texts.proofs.Tellings.{fall_here, last_append, taken}
+use Rattle.settled_texts.proofs.Tellings.{fall_here, last_append}
 use Rattle.sorted_bills.specs.inside.OpenBills.{IsOpenBill}
 use Rattle.sorted_bills.proofs.open_bill.OpenBill.add.Goals as goal
 
 pub loop-tap-init : goal.loop-tap-init
 loop-tap-init c = record {
-  bill = λ before is. subst (λ (ts : List TapFields). IsOpenBill c.args.table.now ts c.args.self.now)
+  bill = λ before is. subst
+      (λ (ts : List TapFields). IsOpenBill c.args.table.now ts c.args.self.now)
       (sym (append-nil before)) is;
   token = refl;
 }
@@ -35,11 +36,12 @@ loop-tap-preserved c =
     let i = c.loop-tap.tap-index in
     let done = take i taps in
     let inv = c.loop-tap.invariant in
-    let more = taken taps i _ c.loop-tap-test.true in
+    let more = take_more taps i _ c.loop-tap-test.true in
     record {
       bill = λ before is.
           subst (λ (ts : List TapFields). IsOpenBill c.args.table.now ts c.add_tap.new.self)
-          (append_assoc before done (_ ∷ []) ∙ ap (λ (ts : List TapFields). before ++ ts) (sym more))
+          (append_assoc before done (_ ∷ [])
+          ∙ ap (λ (ts : List TapFields). before ++ ts) (sym more))
           (c.in_ok-add_tap.ensures.bill (before ++ done) (inv.bill before is));
       token = c.in_ok-add_tap.ensures.token
           ∙ sym (ap (last_token c.args.self.now.replay.token) more

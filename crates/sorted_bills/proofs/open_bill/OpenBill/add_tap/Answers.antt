@@ -5,7 +5,8 @@ use Rattle.sorted_bills.proofs.open_bill.OpenBill.add_tap.Goals as goal
 
 pub go_on_to-requires-clause-up : goal.go_on_to-requires-clause-up
 go_on_to-requires-clause-up c =
-    subst (λ (t : Token). IsUpTo c.args.self.now.replay.token t) (sym c.token_of.ensures) c.requires.up
+    subst (λ (t : Token). IsUpTo c.args.self.now.replay.token t) (sym c.token_of.ensures)
+    c.requires.up
 
 pub go_on_to-requires-clause-room : goal.go_on_to-requires-clause-room
 go_on_to-requires-clause-room c =

@@ -1,13 +1,12 @@
-use Rattle.std.proofs.Common.{◌≡◌, [], refl, true, false}
+use Rattle.std.proofs.Common.{◌≡◌, [], refl, true, false, All, ◌∷◌}
 use Rattle.std.proofs.lemmas.List.Elements.{All-nil}
 use Rattle.std.specs.declared.cmp.Ordering.TheVariants.{Less}
 use Rattle.tap_views.specs.Token.{token_cmp}
 use Rattle.tap_views.specs.declared.encoder.TapFields.{TapFields}
 use Rattle.tap_views.specs.declared.token.Token.{Token}
-use Rattle.std.proofs.Common.{All, ◌∷◌}
 use Rattle.shard_book.specs.Entry.{own}
+use Rattle.shard_book.proofs.SumsByToken.{no_sums}
 use Rattle.settlement.specs.Posted.{posted_after, token_of_tap}
-use Rattle.settlement.proofs.TokenRuns.{nothing_billed}
 use Rattle.sorted_bills.proofs.open_bill.OpenBill.new.Goals as goal
 
 pub returns-clause-bill : goal.returns-clause-bill
@@ -23,7 +22,7 @@ returns-clause-bill c = λ fares. record {
   tally = c.new-4.ensures;
   some = λ e. absurd (let wrong : false ≡ true = e in cc);
   none = λ e. refl;
-  tokens = nothing_billed _ c.new.ensures;
+  tokens = no_sums _ c.new.ensures;
   totals = c.new-3.ensures;
   validators = c.new-2.ensures;
 }

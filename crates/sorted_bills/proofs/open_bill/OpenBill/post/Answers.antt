@@ -34,6 +34,7 @@ returns-clause-bill c = λ taps is.
     one_more fares taps old _ c.args.tap.now c.next-entry.result is c.requires.its
     c.next-entry.ensures.token (c.next-entry.ensures.entry done is.stands)
     (c.next-entry.ensures.posted done is.stands)
-    (c.add.ensures ∙ ap (λ (r : Reply). add_sums (sums_of_tally old.tally) (sums_of_replies (r ∷ [])))
+    (c.add.ensures ∙ ap
+    (λ (r : Reply). add_sums (sums_of_tally old.tally) (sums_of_replies (r ∷ [])))
     c.reply.ensures) refl refl refl
     (c.in_ok-add.ensures (posted fares is.lower ++ done) is.validators)

@@ -4,7 +4,8 @@ use Rattle.fare_texts.proofs.Rising.{up_chain}
 use Rattle.settlement.specs.Posted.{HasName}
 use Rattle.sorted_taps.specs.Spans.{HaveCome}
 use Rattle.sorted_taps.specs.declared.reader.TapReader.{TapReader}
-use Rattle.sorted_bills.proofs.Parts.{From, below_bound, billed_both, from_lower, less_is_up, up_to_next}
+use Rattle.sorted_bills.proofs.Parts.{From, below_bound, billed_both, from_lower, less_is_up}
+use Rattle.sorted_bills.proofs.Parts.{up_to_next}
 use Rattle.sorted_bills.proofs.part.Part.append.Goals as goal
 
 pub returns : goal.returns
@@ -32,7 +33,8 @@ returns c = λ fares known few others part next.
       named = All-append HasName part.taps next.taps part.named next.named;
       bill_is = billed_both fares part.taps next.taps c.args.self.now.bill c.args.more.bill
           c.add_bill.new.bill below part.bill_is next.bill_is c.in_ok-add_bill.ensures;
-      range = up_chain first high end (up_chain first last high part.range (less_is_up last high above))
+      range = up_chain first high end
+          (up_chain first last high part.range (less_is_up last high above))
           next.range;
       from = All-append (From first) part.taps next.taps part.from
           (from_lower next.taps first last high part.range above next.from);

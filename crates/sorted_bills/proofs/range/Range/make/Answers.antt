@@ -7,7 +7,8 @@ pub returns : goal.returns
 returns g c =
     let few = c.in-Ok.ensures.few in (
       omega (arith, few),
-      subst (λ (t : Token). AreLinesAnywhere c.args.table.now (map g.F.Placed.bytes c.args.files.now) t
+      subst (λ (t : Token). AreLinesAnywhere c.args.table.now
+          (map g.F.Placed.bytes c.args.files.now) t
           c.in-Ok.span c.tell_span.new.teller c.tell_span.new.lines.items) c.of-self.ensures.token
           c.in-Ok.ensures.lines,
     )

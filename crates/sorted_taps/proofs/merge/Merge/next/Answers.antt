@@ -13,7 +13,8 @@ advance-requires-clause-head g c =
     let reader = c.index_mut-reader.result.now in
     let readers = c.args.self.now.readers.items in
     let ranked = subst (λ t. IsRanked readers t) (sym c.deref.ensures.value) c.requires.ranked in
-    let least = subst (λ l. MatchOption l (AreAtEnd readers) (λ least. IsLeastHead readers least.0 least.1))
+    let least = subst
+    (λ l. MatchOption l (AreAtEnd readers) (λ least. IsLeastHead readers least.0 least.1))
     c.in-Some.is (c.least_of.ensures readers ranked) in
     let (rest, stands) = least.head reader in
     let long = ap length (ap ahead c.index_mut-reader.ensures.value ∙ stands) in
@@ -24,7 +25,8 @@ put_head-requires-clause-ranked g c =
     let readers = c.args.self.now.readers.items in
     let heads = c.args.self.now.heads.items in
     let was = c.index_mut-reader.result.now in
-    let back = set_back readers c.in-Some.at c.advance.new.self was c.index_mut-reader.ensures.value in (
+    let back = set_back readers c.in-Some.at c.advance.new.self was
+    c.index_mut-reader.ensures.value in (
       was,
       rw (c.deref-2.ensures.value, c.deref_mut.ensures.value)
           (subst (λ rs. IsRanked rs heads) (sym back) c.requires.ranked),
@@ -52,7 +54,8 @@ returns-clause-taken g c =
     let file = c.index-files-at.result in
     let readers = c.args.self.now.readers.items in
     let ranked = subst (λ t. IsRanked readers t) (sym c.deref.ensures.value) c.requires.ranked in
-    let least = subst (λ l. MatchOption l (AreAtEnd readers) (λ least. IsLeastHead readers least.0 least.1))
+    let least = subst
+    (λ l. MatchOption l (AreAtEnd readers) (λ least. IsLeastHead readers least.0 least.1))
     c.in-Some.is (c.least_of.ensures readers ranked) in
     let within = least.within in
     let number = c.requires.files in

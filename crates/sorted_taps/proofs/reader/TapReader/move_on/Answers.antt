@@ -9,7 +9,8 @@ returns-then-self-len-clause-kept g c =
     let old = c.args.self.now in
     let more = c.if-self-len.true in
     let e = c.len.ensures in
-    known_all _ (g.F.Placed.bytes c.args.file.now) (λ all. next_moved all old (omega (arith, more, e)))
+    known_all _ (g.F.Placed.bytes c.args.file.now)
+    (λ all. next_moved all old (omega (arith, more, e)))
 
 pub returns-clause-kept : goal.returns-clause-kept
 returns-clause-kept g c =

@@ -4,7 +4,8 @@ use Rattle.sorted_taps.specs.Reading.{AreTapsBetween}
 use Rattle.sorted_taps.specs.inside.Decoding.{IsReadOn}
 use Rattle.sorted_taps.proofs.Known.{known_all, known_map2}
 use Rattle.sorted_taps.proofs.Between.{between_none, read_behind, end_behind}
-use Rattle.sorted_taps.proofs.reader.TapReader.refill.Goals.{then-used-eq0-via-then-used-eq0, then-used-eq0-via-else-used-eq0+then-not-is_empty}
+use Rattle.sorted_taps.proofs.reader.TapReader.refill.Goals.{then-used-eq0-via-then-used-eq0}
+use Rattle.sorted_taps.proofs.reader.TapReader.refill.Goals.{then-used-eq0-via-else-used-eq0+then-not-is_empty}
 use Rattle.sorted_taps.proofs.reader.TapReader.refill.Goals as goal
 
 pub loop-init : goal.loop-init

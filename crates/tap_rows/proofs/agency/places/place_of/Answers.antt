@@ -4,4 +4,5 @@ use Rattle.tap_rows.proofs.AgencyRowLemmas.{column_found}
 use Rattle.tap_rows.proofs.agency.places.place_of.Goals as goal
 
 pub returns : goal.returns
-returns c = column_found (fields_of c.args.head.now) c.args.name.now c.loop-place.place c.loop-place.found (omega arith) c.loop-place.invariant
+returns c = column_found (fields_of c.args.head.now) c.args.name.now c.loop-place.place
+    c.loop-place.found (omega arith) c.loop-place.invariant

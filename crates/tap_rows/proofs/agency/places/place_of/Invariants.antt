@@ -5,5 +5,7 @@ use Rattle.tap_rows.proofs.agency.places.place_of.Given as goal
 
 abbrev pub invariant-loop-place : goal.invariant-loop-place
 invariant-loop-place l =
-    MatchOption l.found ((k : ℕ) → k < l.place → ¬ (field_at (fields_of l.fn.head) k ≡ Some l.fn.name))
-    (λ at. (at < l.place) × (field_at (fields_of l.fn.head) at ≡ Some l.fn.name) × ((k : ℕ) → k < l.place → field_at (fields_of l.fn.head) k ≡ Some l.fn.name → k ≡ at))
+    MatchOption l.found
+    ((k : ℕ) → k < l.place → ¬ (field_at (fields_of l.fn.head) k ≡ Some l.fn.name))
+    (λ at. (at < l.place) × (field_at (fields_of l.fn.head) at ≡ Some l.fn.name)
+    × ((k : ℕ) → k < l.place → field_at (fields_of l.fn.head) k ≡ Some l.fn.name → k ≡ at))

@@ -5,5 +5,7 @@ use Rattle.tap_rows.proofs.agency.places.places_of_conditions.Goals as goal
 
 pub loop-index-preserved : goal.loop-index-preserved
 loop-index-preserved c =
-    places_more (fields_of c.args.head.now) c.args.choice.now.only.now c.loop-index.places.items c.push.new.self.items c.loop-index.index _ c.in_ok-place.place c.loop-index.invariant (omega arith)
+    places_more (fields_of c.args.head.now) c.args.choice.now.only.now c.loop-index.places.items
+    c.push.new.self.items c.loop-index.index _ c.in_ok-place.place c.loop-index.invariant
+    (omega arith)
     c.in_ok-push.ensures.items c.in_ok-place.ensures.place

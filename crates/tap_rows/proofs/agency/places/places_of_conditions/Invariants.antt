@@ -5,4 +5,5 @@ use Rattle.tap_rows.specs.inside.Places.{IsPlaceOf}
 use Rattle.tap_rows.proofs.agency.places.places_of_conditions.Given as goal
 
 abbrev pub invariant-loop-index : goal.invariant-loop-index
-invariant-loop-index l = AllZip (IsPlaceOf (fields_of l.fn.head)) (take l.index l.fn.choice.only.now) l.places.items
+invariant-loop-index l =
+    AllZip (IsPlaceOf (fields_of l.fn.head)) (take l.index l.fn.choice.only.now) l.places.items

@@ -3,4 +3,6 @@ use Rattle.tap_rows.proofs.AgencyRowLemmas.{none_there}
 use Rattle.tap_rows.proofs.agency.reading.field_in.Goals as goal
 
 pub returns-in-None : goal.returns-in-None
-returns-in-None c = λ within. absurd (none_there (fields_of c.args.row.now) c.args.place c.get.result c.get.ensures.value c.in-None.is within)
+returns-in-None c = λ within. absurd
+    (none_there (fields_of c.args.row.now) c.args.place c.get.result c.get.ensures.value
+    c.in-None.is within)

@@ -12,7 +12,10 @@ returns-then-not-has_at c = λ head all.
     let within : c.loop-index.index < length c.args.only.now = grind (arith, test, end) in
     let no = c.if-not-has_at.true in (
       λ t. absurd (cc t),
-      λ kept. absurd (unmet_there head (fields_of c.args.row.now) c.args.only.now c.args.places.now c.loop-index.index _ 0 all within (λ e. let yes = c.has_at.ensures.1 e in absurd (cc (yes, no))) kept),
+      λ kept. absurd
+          (unmet_there head (fields_of c.args.row.now) c.args.only.now c.args.places.now
+          c.loop-index.index _ 0 all within
+          (λ e. let yes = c.has_at.ensures.1 e in absurd (cc (yes, no))) kept),
     )
 
 pub loop-index-preserved : goal.loop-index-preserved
@@ -20,7 +23,8 @@ loop-index-preserved c = λ head all.
     let test = c.loop-index-test.true in
     let end = c.min-index-end.ensures in
     let within : c.loop-index.index < length c.args.only.now = grind (arith, test, end) in
-    met_more head (fields_of c.args.row.now) c.args.only.now c.args.places.now c.loop-index.index _ 0 all within (c.has_at.ensures.0 c.if-not-has_at.false) (c.loop-index.invariant head all)
+    met_more head (fields_of c.args.row.now) c.args.only.now c.args.places.now c.loop-index.index _
+    0 all within (c.has_at.ensures.0 c.if-not-has_at.false) (c.loop-index.invariant head all)
 
 pub returns : goal.returns
 returns c = λ head all.

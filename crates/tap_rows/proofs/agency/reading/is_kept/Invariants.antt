@@ -10,4 +10,5 @@ use Rattle.tap_rows.proofs.agency.reading.is_kept.Given as goal
 abbrev pub invariant-loop-index : goal.invariant-loop-index
 invariant-loop-index l =
     (head : List (List ℕ)) → AllZip (IsPlaceOf head) l.fn.only l.fn.places
-    → (k : ℕ) (d : Condition) → k < l.index → IsMet head (fields_of l.fn.row) (slice_index_or l.fn.only k d)
+    → (k : ℕ) (d : Condition) → k < l.index
+    → IsMet head (fields_of l.fn.row) (slice_index_or l.fn.only k d)

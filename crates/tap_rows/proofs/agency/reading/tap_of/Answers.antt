@@ -8,32 +8,48 @@ pub returns-in_default-clause-wrong : goal.returns-in_default-clause-wrong
 returns-in_default-clause-wrong c = λ head are long.
     let choice = c.args.choice.now in
     let row = fields_of c.args.row.now in
-    has_some head row choice.token.now c.field_in.result.now c.args.places.now.token IsNoToken are.token
-    (c.field_in.ensures (column_within head row choice.token.now c.args.places.now.token are.token long)) c.in_default.ensures
+    has_some head row choice.token.now c.field_in.result.now c.args.places.now.token IsNoToken
+    are.token
+    (c.field_in.ensures
+    (column_within head row choice.token.now c.args.places.now.token are.token long))
+    c.in_default.ensures
 
 pub returns-in-Err-clause-wrong : goal.returns-in-Err-clause-wrong
 returns-in-Err-clause-wrong c = λ head are long.
     let choice = c.args.choice.now in
     let row = fields_of c.args.row.now in
     let places = c.args.places.now in
-    let token = has_some head row choice.token.now c.field_in.result.now places.token (λ text. IsTokenText text c.in-Some.token) are.token
-    (c.field_in.ensures (column_within head row choice.token.now places.token are.token long)) c.in-Some.ensures in
-    let field = c.field_in-2.ensures (column_within head row choice.validator.now places.validator are.validator long) in
+    let token = has_some head row choice.token.now c.field_in.result.now places.token
+    (λ text. IsTokenText text c.in-Some.token) are.token
+    (c.field_in.ensures (column_within head row choice.token.now places.token are.token long))
+    c.in-Some.ensures in
+    let field = c.field_in-2.ensures
+    (column_within head row choice.validator.now places.validator are.validator long) in
     wrong_validator choice head row c.in-Some.token c.field_in-2.result.now c.in-Err.reason token
-    (record { place = places.validator; column = are.validator; field = field }) c.in-Err.ensures.wrong
+    (record { place = places.validator; column = are.validator; field = field })
+    c.in-Err.ensures.wrong
 
 pub returns-in_default-agency_moment_in-clause-wrong : goal.returns-in_default-agency_moment_in-clause-wrong
 returns-in_default-agency_moment_in-clause-wrong c = λ head are long.
     let choice = c.args.choice.now in
     let row = fields_of c.args.row.now in
     let places = c.args.places.now in
-    let token = has_some head row choice.token.now c.field_in.result.now places.token (λ text. IsTokenText text c.in-Some.token) are.token
-    (c.field_in.ensures (column_within head row choice.token.now places.token are.token long)) c.in-Some.ensures in
-    let validator = has_some head row choice.validator.now c.field_in-2.result.now places.validator (λ text. StandsForValidator choice.devices text c.in-Ok.validator) are.validator
-    (c.field_in-2.ensures (column_within head row choice.validator.now places.validator are.validator long)) c.in-Ok.ensures.validator in
-    let field = c.field_in-field.ensures (column_within head row choice.moment.now places.moment are.moment long) in
-    wrong_moment choice head row c.in-Some.token c.in-Ok.validator c.field_in-field.result.now c.moment_reason.result token validator
-    (record { place = places.moment; column = are.moment; field = field }) c.in_default-agency_moment_in.ensures c.moment_reason.ensures.local c.moment_reason.ensures.other
+    let token = has_some head row choice.token.now c.field_in.result.now places.token
+    (λ text. IsTokenText text c.in-Some.token) are.token
+    (c.field_in.ensures (column_within head row choice.token.now places.token are.token long))
+    c.in-Some.ensures in
+    let validator = has_some head row choice.validator.now c.field_in-2.result.now places.validator
+    (λ text. StandsForValidator choice.devices text c.in-Ok.validator) are.validator
+    (c.field_in-2.ensures
+    (column_within head row choice.validator.now places.validator are.validator long))
+    c.in-Ok.ensures.validator in
+    let field = c.field_in-field.ensures
+    (column_within head row choice.moment.now places.moment are.moment long) in
+    wrong_moment choice head row c.in-Some.token c.in-Ok.validator c.field_in-field.result.now
+    c.moment_reason.result token validator
+    (record { place = places.moment; column = are.moment; field = field })
+    c.in_default-agency_moment_in.ensures c.moment_reason.ensures.local
+    c.moment_reason.ensures.other
 
 pub returns-clause-tap : goal.returns-clause-tap
 returns-clause-tap c = λ head are long.
@@ -41,10 +57,18 @@ returns-clause-tap c = λ head are long.
     let row = fields_of c.args.row.now in
     let places = c.args.places.now in
     record {
-      token = has_some head row choice.token.now c.field_in.result.now places.token (λ text. IsTokenText text c.in-Some.token) are.token
-          (c.field_in.ensures (column_within head row choice.token.now places.token are.token long)) c.in-Some.ensures;
-      validator = has_some head row choice.validator.now c.field_in-2.result.now places.validator (λ text. StandsForValidator choice.devices text c.in-Ok.validator) are.validator
-          (c.field_in-2.ensures (column_within head row choice.validator.now places.validator are.validator long)) c.in-Ok.ensures.validator;
-      moment = has_some head row choice.moment.now c.field_in-field.result.now places.moment (λ text. IsAgencyMoment text c.in-Some-agency_moment_in.moment) are.moment
-          (c.field_in-field.ensures (column_within head row choice.moment.now places.moment are.moment long)) c.in-Some-agency_moment_in.ensures;
+      token = has_some head row choice.token.now c.field_in.result.now places.token
+          (λ text. IsTokenText text c.in-Some.token) are.token
+          (c.field_in.ensures (column_within head row choice.token.now places.token are.token long))
+          c.in-Some.ensures;
+      validator = has_some head row choice.validator.now c.field_in-2.result.now places.validator
+          (λ text. StandsForValidator choice.devices text c.in-Ok.validator) are.validator
+          (c.field_in-2.ensures
+          (column_within head row choice.validator.now places.validator are.validator long))
+          c.in-Ok.ensures.validator;
+      moment = has_some head row choice.moment.now c.field_in-field.result.now places.moment
+          (λ text. IsAgencyMoment text c.in-Some-agency_moment_in.moment) are.moment
+          (c.field_in-field.ensures
+          (column_within head row choice.moment.now places.moment are.moment long))
+          c.in-Some-agency_moment_in.ensures;
     }

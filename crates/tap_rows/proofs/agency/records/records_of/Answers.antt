@@ -9,9 +9,21 @@ returns g c = λ bytes known.
     let fr = c.from_reader.ensures in
     record {
       left = strip_bom bytes;
-      config = rw (c.delimiter.ensures, c.flexible.ensures, c.has_headers.ensures, c.new.ensures.config, c.byte.ensures) at fr.config;
-      trims = rw (c.delimiter.ensures, c.flexible.ensures, c.has_headers.ensures) at fr.trim ∙ c.new.ensures.trim;
-      ready = inr (inr (rw (c.delimiter.ensures, c.flexible.ensures, c.has_headers.ensures) at fr.has_headers, fr.headers));
+      config = rw (
+        c.delimiter.ensures,
+        c.flexible.ensures,
+        c.has_headers.ensures,
+        c.new.ensures.config,
+        c.byte.ensures,
+      ) at fr.config;
+      trims = rw (c.delimiter.ensures, c.flexible.ensures, c.has_headers.ensures) at fr.trim
+          ∙ c.new.ensures.trim;
+      ready = inr
+          (inr (
+            rw (c.delimiter.ensures, c.flexible.ensures, c.has_headers.ensures) at
+                fr.has_headers,
+            fr.headers,
+          ));
       source = fr.source ∙ ap (option_map strip_bom) known;
       reached = (sym fr.state, refl);
     }

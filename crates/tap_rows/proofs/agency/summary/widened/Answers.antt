@@ -5,4 +5,5 @@ use Rattle.tap_rows.proofs.agency.summary.widened.Goals as goal
 
 pub returns-in-Some : goal.returns-in-Some
 returns-in-Some c = λ moments is.
-    wider moments c.args.moment (Some c.in-Some.span) _ (subst (IsSpan moments) c.in-Some.is is) (c.min.ensures, c.max.ensures)
+    wider moments c.args.moment (Some c.in-Some.span) _ (subst (IsSpan moments) c.in-Some.is is)
+    (c.min.ensures, c.max.ensures)

@@ -9,4 +9,5 @@ returns-in-Ok-clause-written g c = λ old taps is.
     let here = g.W.Write.contents c.args.out.now in
     let there = g.W.Write.contents c.write_batch.new.out in
     let P : List TapFields → Type 0 = λ ts. IsEncodedAs ts here there in
-    all_written old here there c.args.waiting.now.items taps is (subst P c.deref.ensures.value c.in-Ok.ensures.upload)
+    all_written old here there c.args.waiting.now.items taps is
+    (subst P c.deref.ensures.value c.in-Ok.ensures.upload)

@@ -5,4 +5,5 @@ use Rattle.tap_rows.proofs.devices.reading.read_by.Given as goal
 
 abbrev pub invariant-loop-count : goal.invariant-loop-count
 invariant-loop-count l =
-    HasDevices (λ (s : Bor (List ℕ)). Some s.now) l.fn.separator l.fn.text l.count l.reader (devices_of l.table)
+    HasDevices (λ (s : Bor (List ℕ)). Some s.now) l.fn.separator l.fn.text l.count l.reader
+    (devices_of l.table)

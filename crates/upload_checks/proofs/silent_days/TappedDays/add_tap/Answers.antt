@@ -8,7 +8,8 @@ returns c = λ taps are.
     let tap = c.args.tap.now in
     let day = day_of tap.moment in
     record {
-      days = λ n. seen_more (is_on n) taps tap _ _ _ (c.in_ok-insert.ensures.updates.0 n) (key_at day n)
+      days = λ n. seen_more (is_on n) taps tap _ _ _ (c.in_ok-insert.ensures.updates.0 n)
+          (key_at day n)
           (are.days n);
       validators = λ n. seen_more (is_by n) taps tap _ _ _ (c.in_ok-insert-2.ensures.updates.0 n)
           (key_at tap.validator n) (are.validators n);

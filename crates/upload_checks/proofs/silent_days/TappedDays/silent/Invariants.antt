@@ -7,5 +7,7 @@ use Rattle.upload_checks.proofs.silent_days.TappedDays.silent.Given as goal
 abbrev pub invariant-loop-day : goal.invariant-loop-day
 invariant-loop-day l =
     l.found.items
-    ++ flat_map (λ day. silent_by (has_visit_on l.self day) day l.self.validators.keys) l.day-iterator
-    ≡ flat_map (λ day. silent_by (has_visit_on l.self day) day l.self.validators.keys) l.self.days.keys
+    ++ flat_map (λ day. silent_by (has_visit_on l.self day) day l.self.validators.keys)
+    l.day-iterator
+    ≡ flat_map (λ day. silent_by (has_visit_on l.self day) day l.self.validators.keys)
+    l.self.days.keys

@@ -1,8 +1,9 @@
-use Rattle.std.proofs.Common.{◌≡◌, ◌∙◌, ◌++◌, ◌∷◌, [], List, ℕ, ap, append-nil, map, string_bytes, sym}
+use Rattle.std.proofs.Common.{◌≡◌, ◌∙◌, ◌++◌, ◌∷◌, [], List, ℕ, ap, append-nil, map, string_bytes}
+use Rattle.std.proofs.Common.{sym}
 use Rattle.toml.specs.Data.{Members, member}
 use Rattle.toml.specs.View.{members_view, view}
 use Rattle.fare_table.proofs.NameLemmas.{names_push, ordered_view}
-use Rattle.fare_table.specs.Classes.{names_in}
+use Rattle.fare_table.specs.inside.Classes.{names_in}
 use Rattle.fare_table.proofs.read.class_names.ClassNames.new.Goals as goal
 
 pub loop-name-preserved : goal.loop-name-preserved

@@ -1,5 +1,5 @@
-use Rattle.std.proofs.Common.{◌≡◌, ◌∙◌, ◌<◌, ℕ, Bor, Equal, Err, IfErr, IfOk, List, Ok, Option, Result, Some}
-use Rattle.std.proofs.Common.{ap, get_or, length, sym, subst}
+use Rattle.std.proofs.Common.{◌≡◌, ◌∙◌, ◌<◌, ℕ, Bor, Equal, Err, IfErr, IfOk, List, Ok, Option}
+use Rattle.std.proofs.Common.{Result, Some, ap, get_or, length, sym, subst}
 use Rattle.std.specs.Cmp.Lexicographic.{slice_cmp}
 use Rattle.std.specs.Option.{ok_or}
 use Rattle.std.specs.Ordering.{nat_cmp}
@@ -11,7 +11,8 @@ use Rattle.fare_table.specs.declared.fault.TableFault.TheVariants.{NoMemory, Rid
 use Rattle.fare_table.specs.inside.OrFault.{Answers}
 use Rattle.fare_table.proofs.read.class_names.ClassNames.place_of.Goals as goal
 
-answer_of : (result : Result ℕ TableFault) (place : ℕ) (o : Option ℕ) → IfOk result (λ short. short ≡ place)
+answer_of : (result : Result ℕ TableFault) (place : ℕ) (o : Option ℕ)
+    → IfOk result (λ short. short ≡ place)
     → IfErr result (λ e. e ≡ NoMemory) → o ≡ Some place
     → Answers (λ short. short) result (ok_or o Rider)
 answer_of (Ok short) place o same refused at =
@@ -27,7 +28,8 @@ pub returns-in-Ok-clause-place : goal.returns-in-Ok-clause-place
 returns-in-Ok-clause-place c =
     let self = c.args.self.now in
     let H : List (Bor (List ℕ)) → Type 0 =
-    λ names. slice_cmp nat_cmp (get_or names c.in-Ok.place c.args.name).now c.args.name.now ≡ Equal in
+    λ names. slice_cmp nat_cmp (get_or names c.in-Ok.place c.args.name).now c.args.name.now
+    ≡ Equal in
     let L : List (Bor (List ℕ)) → Type 0 = λ names. c.in-Ok.place < length names in
     let f = found_at self.names.items (table_view self.classes.now) c.args.name.now c.in-Ok.place
     c.args.name self.listed self.rising (subst L c.as_slice.ensures.value c.in-Ok.ensures.bound)
@@ -40,7 +42,8 @@ pub returns-in-Ok-clause-there : goal.returns-in-Ok-clause-there
 returns-in-Ok-clause-there c =
     let self = c.args.self.now in
     let H : List (Bor (List ℕ)) → Type 0 =
-    λ names. slice_cmp nat_cmp (get_or names c.in-Ok.place c.args.name).now c.args.name.now ≡ Equal in
+    λ names. slice_cmp nat_cmp (get_or names c.in-Ok.place c.args.name).now c.args.name.now
+    ≡ Equal in
     let L : List (Bor (List ℕ)) → Type 0 = λ names. c.in-Ok.place < length names in
     let f = found_at self.names.items (table_view self.classes.now) c.args.name.now c.in-Ok.place
     c.args.name self.listed self.rising (subst L c.as_slice.ensures.value c.in-Ok.ensures.bound)

@@ -9,6 +9,8 @@ pub returns : goal.returns
 returns c =
     let counts = c.args.self.now.counts in
     let here = count_place c.args.reply.answer in
-    ap (λ at. sums_of_places (slice_set counts at (slice_index counts at + 1)) (c.args.self.now.cents + c.from.result)) c.place_of.ensures.place
-    ∙ ap (λ more. sums_of_places (slice_set counts here (slice_index counts here + 1)) (c.args.self.now.cents + more)) c.from.ensures
+    ap (λ at. sums_of_places (slice_set counts at (slice_index counts at + 1))
+    (c.args.self.now.cents + c.from.result)) c.place_of.ensures.place
+    ∙ ap (λ more. sums_of_places (slice_set counts here (slice_index counts here + 1))
+    (c.args.self.now.cents + more)) c.from.ensures
     ∙ tallied counts c.args.self.now.cents c.args.reply (search rules)
