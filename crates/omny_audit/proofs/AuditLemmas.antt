@@ -1,5 +1,6 @@
 -- What is told of a ledger and of a report, by its parts.
-use Rattle.std.proofs.Common.{◌≡◌, ◌∙◌, ℕ, Bool, true, false, List, [], Option, Some, None, refl, sym, ap}
+use Rattle.std.proofs.Common.{◌≡◌, ◌∙◌, ℕ, Bool, true, false, List, [], Option, Some, None, refl}
+use Rattle.std.proofs.Common.{sym, ap}
 use Rattle.std.specs.Prelude.{◌↔◌, ◌&&◌, ◌||◌, is_some, not}
 use Rattle.std.proofs.lemmas.Bool.{and_parts}
 use Rattle.fare_table.specs.Fares.{Fares}
@@ -48,18 +49,24 @@ fits_of verdicts fares ledger (Some report) true rest fits entries told line of 
     line.told ∙ (verdicts entries report line.verdict (line.true_of entries of)).1 own
 
 -- columns that are right
-columns_right : (classes : Option (List ℕ → List ℕ)) (looked : Bool) (file : List ℕ) (read : List ReadLine) (told : List ℕ) (right : Bool)
-    → AreColumnsTold classes looked file read told right → right ≡ true → HasRightColumns classes file read
+columns_right : (classes : Option (List ℕ → List ℕ)) (looked : Bool) (file : List ℕ)
+    (read : List ReadLine) (told : List ℕ) (right : Bool)
+    → AreColumnsTold classes looked file read told right → right ≡ true
+    → HasRightColumns classes file read
 columns_right None looked file read told right is yes = tt
-columns_right (Some classes) false file read told right is yes = absurd (false_true (sym is.1 ∙ yes))
-columns_right (Some classes) true file read told right is yes = (is.0, none_of (wrong_class classes read) (sym is.2 ∙ yes))
+columns_right (Some classes) false file read told right is yes = absurd
+    (false_true (sym is.1 ∙ yes))
+columns_right (Some classes) true file read told right is
+    yes = (is.0, none_of (wrong_class classes read) (sym is.2 ∙ yes))
   where
     none_of : (wrong : Option WrongClass) → not (is_some wrong) ≡ true → wrong ≡ None
     none_of None yes = refl
     none_of (Some wrong) yes = absurd (false_true yes)
 
-right_columns : (classes : Option (List ℕ → List ℕ)) (looked : Bool) (file : List ℕ) (read : List ReadLine) (told : List ℕ) (right : Bool)
-    → looked ≡ true → AreColumnsTold classes looked file read told right → HasRightColumns classes file read → right ≡ true
+right_columns : (classes : Option (List ℕ → List ℕ)) (looked : Bool) (file : List ℕ)
+    (read : List ReadLine) (told : List ℕ) (right : Bool)
+    → looked ≡ true → AreColumnsTold classes looked file read told right
+    → HasRightColumns classes file read → right ≡ true
 right_columns None looked file read told right look is has = is.1
 right_columns (Some classes) false file read told right look is has = absurd (false_true look)
 right_columns (Some classes) true file read told right look is has =
@@ -69,7 +76,8 @@ looked_at : (all legal : Bool) → legal ≡ true → (all || legal) ≡ true
 looked_at true legal is = refl
 looked_at false legal is = is
 
-pub decides : FindingsDecide → FullFindingsDecide → ReportVerdictsDecide → (all : Bool) (fares : Fares)
+pub decides : FindingsDecide → FullFindingsDecide → ReportVerdictsDecide
+    → (all : Bool) (fares : Fares)
     (classes : Option (List ℕ → List ℕ)) (file : List ℕ) (read : List ReadLine)
     (good : Option (List TapFields)) (report : Option (List ℕ)) (text : List ℕ)
     (well : Bool) → IsAudit all fares classes file read good report text well
@@ -85,14 +93,20 @@ decides some full verdicts all fares classes file read good report text well aud
             right.0,
             right.1,
             right.2,
-            columns_right classes looked file read audit.columns audit.right audit.are_columns ends.0,
-            own_of verdicts fares ledger report (audit.legal && audit.right) audit.rest audit.fits right.0 audit.report_line ends.1 right.1,
+            columns_right classes looked file read audit.columns audit.right audit.are_columns
+            ends.0,
+            own_of verdicts fares ledger report (audit.legal && audit.right) audit.rest audit.fits
+            right.0 audit.report_line ends.1 right.1,
           ),
       λ right.
           let legal = audit.is_legal.1 (right.0, right.1) in
-          let columns = right_columns classes looked file read audit.columns audit.right (looked_at all audit.legal legal) audit.are_columns right.3 in
-          let both : (audit.legal && audit.right) ≡ true = ap (λ (x : Bool). x && audit.right) legal ∙ columns in
-          audit.both ∙ ap (λ (x : Bool). x && (audit.right && audit.fits)) (sound.1 (right.0, right.1, right.2))
+          let columns = right_columns classes looked file read audit.columns audit.right
+          (looked_at all audit.legal legal) audit.are_columns right.3 in
+          let both : (audit.legal && audit.right) ≡ true = ap (λ (x : Bool). x && audit.right) legal
+          ∙ columns in
+          audit.both ∙ ap (λ (x : Bool). x && (audit.right && audit.fits))
+          (sound.1 (right.0, right.1, right.2))
           ∙ ap (λ (x : Bool). x && audit.fits) columns
-          ∙ (fits_of verdicts fares ledger report (audit.legal && audit.right) audit.rest audit.fits right.0 both audit.report_line right.1 right.4),
+          ∙ (fits_of verdicts fares ledger report (audit.legal && audit.right) audit.rest audit.fits
+          right.0 both audit.report_line right.1 right.4),
     )

@@ -1,5 +1,8 @@
 -- What was loaded, one more each time, and what the program compares.
-use Rattle.std.proofs.Common.{◌≡◌, ◌∙◌, ℕ, Bool, true, false, not, List, [], ◌∷◌, ◌++◌, length, map, refl, sym, ap, subst, append-nil, append_assoc, nat_eq, Option, Some, None, if◌then◌else◌, Bor, ◌<◌, ◌≤◌, ◌⊎◌, ⊎_elim, zero, suc, get_or, inl, inr, arith, codes}
+use Rattle.std.proofs.Common.{◌≡◌, ◌∙◌, ℕ, Bool, true, false, not, List, [], ◌∷◌, ◌++◌, length, map}
+use Rattle.std.proofs.Common.{refl, sym, ap, subst, append-nil, append_assoc, nat_eq, Option, Some}
+use Rattle.std.proofs.Common.{None, if◌then◌else◌, Bor, ◌<◌, ◌≤◌, ◌⊎◌, ⊎_elim, zero, suc, get_or}
+use Rattle.std.proofs.Common.{inl, inr, arith, codes}
 use Rattle.std.specs.Prelude.{IfErr, IfSome, Result, Ok, Err, option_map, unwrap_or}
 use Rattle.std.specs.Io.KnownBytes.{Consumes, IsAtEnd, Keeps}
 use Rattle.std.specs.Fmt.{option_append}
@@ -15,8 +18,10 @@ use Rattle.tap_views.specs.declared.encoder.TapFields.{TapFields}
 use Rattle.omny_audit.specs.Fault.{IsRightFault, NamesOneOf, is_unwritten, named_by}
 use Rattle.omny_audit.specs.Options.{AuditAsked, files_of, named_file}
 use Rattle.omny_audit.specs.declared.fault.Fault.{Fault}
-use Rattle.omny_audit.specs.declared.fault.Fault.TheVariants.{ClassName, File, Ledger, Table, Write, Closed, NoMemory}
-use Rattle.omny_audit.specs.Program.{AreClasses, AreGoodFieldsOfAll, IsRightAuditFault, IsTracedAs, LoadsNamedFiles, compared}
+use Rattle.omny_audit.specs.declared.fault.Fault.TheVariants.{ClassName, File, Ledger, Table, Write}
+use Rattle.omny_audit.specs.declared.fault.Fault.TheVariants.{Closed, NoMemory}
+use Rattle.omny_audit.specs.Program.{AreClasses, AreGoodFieldsOfAll, IsRightAuditFault, IsTracedAs}
+use Rattle.omny_audit.specs.Program.{LoadsNamedFiles, compared}
 use Rattle.omny_audit.specs.Source.{OpensOne}
 use Rattle.program_manners.specs.Refusals.{IsOneOf}
 use Rattle.program_manners.proofs.Refusals.{is_one_at}
@@ -233,17 +238,22 @@ chained (Some xs) None head file reads all = absurd reads
 chained (Some xs) (Some ys) head file reads all = reads ∙ all
 
 -- a file is a traced ledger exactly if its first bytes say so
-still_head : (head rest : List ℕ) → length traced_head ≤ length head → has_traced_head head ≡ has_traced_head (head ++ rest)
-still_head head rest long = ap (λ (t : List ℕ). bytes_eq t traced_head) (sym (take-append-le (length traced_head) head rest long))
+still_head : (head rest : List ℕ) → length traced_head ≤ length head
+    → has_traced_head head ≡ has_traced_head (head ++ rest)
+still_head head rest long = ap (λ (t : List ℕ). bytes_eq t traced_head)
+    (sym (take-append-le (length traced_head) head rest long))
 
-pub headed : (before after : Option (List Loaded)) (name : Option Text) (left left' : Option (List ℕ)) (head file : List ℕ)
-    → OpensOne before after name left → Consumes left left' head → IsAtEnd left' ⊎ (length traced_head ≤ length head)
+pub headed : (before after : Option (List Loaded)) (name : Option Text)
+    (left left' : Option (List ℕ)) (head file : List ℕ)
+    → OpensOne before after name left → Consumes left left' head
+    → IsAtEnd left' ⊎ (length traced_head ≤ length head)
     → IsAllOf (option_append (Some head) left') file → IsTracedAs before file (has_traced_head head)
 headed None after name left left' head file opens reads enough all = tt
 headed (Some before) after name None left' head file opens reads enough all = absurd opens
 headed (Some before) after name (Some xs) None head file opens reads enough all = absurd reads
 headed (Some before) after name (Some xs) (Some ys) head file opens reads enough all = ⊎_elim
-    (λ end. ap has_traced_head (sym (append-nil head) ∙ ap (λ (t : List ℕ). head ++ t) (sym end) ∙ all))
+    (λ end. ap has_traced_head (sym (append-nil head) ∙ ap (λ (t : List ℕ). head ++ t) (sym end)
+    ∙ all))
     (λ long. still_head head ys long ∙ ap has_traced_head all)
     enough
 
@@ -255,11 +265,15 @@ pub record ReadsLedger (before after : Option (List Loaded)) (name : Option Text
   pub is_traced : IsTracedAs before file traced
   pub are_classes : AreClasses table traced classes
 
-pub reads_ledger : (before after : Option (List Loaded)) (name : Option Text) (left left' whole : Option (List ℕ)) (head begun table lent file : List ℕ)
-    (classes : Option (List ℕ → List ℕ)) → OpensOne before after name left → Consumes left left' head → IsAtEnd left' ⊎ (length traced_head ≤ length head)
-    → begun ≡ head → lent ≡ table → whole ≡ option_append (Some head) left' → IsAllOf whole file → AreClasses lent (has_traced_head begun) classes
+pub reads_ledger : (before after : Option (List Loaded)) (name : Option Text)
+    (left left' whole : Option (List ℕ)) (head begun table lent file : List ℕ)
+    (classes : Option (List ℕ → List ℕ)) → OpensOne before after name left
+    → Consumes left left' head → IsAtEnd left' ⊎ (length traced_head ≤ length head)
+    → begun ≡ head → lent ≡ table → whole ≡ option_append (Some head) left' → IsAllOf whole file
+    → AreClasses lent (has_traced_head begun) classes
     → ReadsLedger before after name table classes file
-reads_ledger before after name left left' whole head begun table lent file classes opens reads enough same_head same_table is all named =
+reads_ledger before after name left left' whole head begun table lent file classes opens reads
+    enough same_head same_table is all named =
     let rest = subst (λ (w : Option (List ℕ)). IsAllOf w file) is all in
     record {
       told = opened before after name left file opens (chained left left' head file reads rest);

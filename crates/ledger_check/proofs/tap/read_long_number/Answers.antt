@@ -8,11 +8,15 @@ use Rattle.ledger_check.proofs.tap.read_long_number.Goals as goal
 pub returns-in-Ok : goal.returns-in-Ok
 returns-in-Ok c = record {
   found = λ number small is.
-      c.ok.ensures.value ∙ ap result_ok (parse-decimal 64 number _ _ small (omega arith) (c.in-Ok.ensures.cases.0 ∙ is) c.parse.ensures.value.0);
+      c.ok.ensures.value
+      ∙ ap result_ok (parse-decimal 64 number _ _ small (omega arith) (c.in-Ok.ensures.cases.0 ∙ is)
+      c.parse.ensures.value.0);
 }
 
 pub returns-in-Err : goal.returns-in-Err
 returns-in-Err c = record {
   found = λ number small is.
-      absurd (c.in-Err.ensures.cases.0 (subst IsUtf8 (sym is) (IsUtf8-from_ascii (decimal number) (IsAscii-decimal number (omega arith)))));
+      absurd (c.in-Err.ensures.cases.0
+      (subst IsUtf8 (sym is)
+      (IsUtf8-from_ascii (decimal number) (IsAscii-decimal number (omega arith)))));
 }

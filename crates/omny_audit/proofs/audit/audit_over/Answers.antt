@@ -12,7 +12,8 @@ pub audit_text-requires : goal.audit_text-requires
 audit_text-requires g c = λ yes.
     let found = c.in_ok-verdict.ensures.told in
     let ledger = read_as (is_some (classes_of c.verdict_of.new.trace)) found.0 in
-    let decide = c.verdicts_decide.ensures c.args.table.now ledger c.in_ok-verdict.verdict found.2 in
+    let decide = c.verdicts_decide.ensures c.args.table.now ledger c.in_ok-verdict.verdict
+    found.2 in
     (c.args.table.now, ledger, found.4 yes, decide.0 yes)
 
 pub returns-clause-told : goal.returns-clause-told
@@ -22,16 +23,22 @@ returns-clause-told g c =
     let told = c.in_ok-told.told in
     let ledger = read_as (is_some (classes_of c.verdict_of.new.trace)) found.0 in
     let decide = c.verdicts_decide.ensures fares ledger c.in_ok-verdict.verdict found.2 in
-    let wrote = subst (λ (t : List ℕ). Appends (g.W.Write.contents c.args.out.now) (g.W.Write.contents c.write_text.new.out) t) c.as_slice.ensures.value c.in_ok-write_text.ensures.text in (
+    let wrote = subst (λ (t : List ℕ). Appends (g.W.Write.contents c.args.out.now)
+    (g.W.Write.contents c.write_text.new.out) t) c.as_slice.ensures.value
+    c.in_ok-write_text.ensures.text in (
       found.0,
       found.1,
       λ good balanced.
-          let audit = c.in_ok-told.ensures fares found.0 good found.2 decide (found.3 good balanced) found.4 found.5 in (
+          let audit = c.in_ok-told.ensures fares found.0 good found.2 decide (found.3 good balanced)
+          found.4 found.5 in (
             told.0.items,
             audit.0,
-            subst (λ (cs : Option (List ℕ → List ℕ)). IsAudit false fares cs found.0 audit.0 (if c.args.has_uploads then Some good else None) _ told.0.items told.1)
+            subst (λ (cs : Option (List ℕ → List ℕ)). IsAudit false fares cs found.0 audit.0
+            (if c.args.has_uploads then Some good else None) _ told.0.items told.1)
                 c.verdict_of.ensures.classes
-                (subst (λ (r : Option (List ℕ)). IsAudit false fares (classes_of c.verdict_of.new.trace) found.0 audit.0 (if c.args.has_uploads then Some good else None) r told.0.items told.1)
+                (subst (λ (r : Option (List ℕ)). IsAudit false fares
+                (classes_of c.verdict_of.new.trace) found.0 audit.0
+                (if c.args.has_uploads then Some good else None) r told.0.items told.1)
                 c.verdict_of.ensures.report audit.1),
             wrote,
           ),
@@ -49,14 +56,20 @@ returns-in_err-write_text-clause-begun g c =
       found.0,
       found.1,
       λ good balanced.
-          let audit = c.in_ok-told.ensures fares found.0 good found.2 decide (found.3 good balanced) found.4 found.5 in (
+          let audit = c.in_ok-told.ensures fares found.0 good found.2 decide (found.3 good balanced)
+          found.4 found.5 in (
             told.0.items,
             told.1,
             audit.0,
-            subst (λ (cs : Option (List ℕ → List ℕ)). IsAudit false fares cs found.0 audit.0 (if c.args.has_uploads then Some good else None) _ told.0.items told.1)
+            subst (λ (cs : Option (List ℕ → List ℕ)). IsAudit false fares cs found.0 audit.0
+            (if c.args.has_uploads then Some good else None) _ told.0.items told.1)
                 c.verdict_of.ensures.classes
-                (subst (λ (r : Option (List ℕ)). IsAudit false fares (classes_of c.verdict_of.new.trace) found.0 audit.0 (if c.args.has_uploads then Some good else None) r told.0.items told.1)
+                (subst (λ (r : Option (List ℕ)). IsAudit false fares
+                (classes_of c.verdict_of.new.trace) found.0 audit.0
+                (if c.args.has_uploads then Some good else None) r told.0.items told.1)
                 c.verdict_of.ensures.report audit.1),
-            subst (λ (t : List ℕ). Begins (g.W.Write.contents c.args.out.now) (g.W.Write.contents c.write_text.new.out) t) c.as_slice.ensures.value c.in_err-write_text.ensures.begun,
+            subst (λ (t : List ℕ). Begins (g.W.Write.contents c.args.out.now)
+            (g.W.Write.contents c.write_text.new.out) t) c.as_slice.ensures.value
+            c.in_err-write_text.ensures.begun,
           ),
     )

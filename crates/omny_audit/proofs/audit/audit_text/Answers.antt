@@ -1,4 +1,5 @@
-use Rattle.std.proofs.Common.{◌≡◌, ◌++◌, ◌∙◌, ℕ, Bool, List, sym, ap, subst, string_bytes, append_assoc}
+use Rattle.std.proofs.Common.{◌≡◌, ◌++◌, ◌∙◌, ℕ, Bool, List, sym, ap, subst, string_bytes}
+use Rattle.std.proofs.Common.{append_assoc}
 use Rattle.std.specs.Prelude.{◌&&◌, is_some}
 use Rattle.std.proofs.lemmas.Bool.{and_parts}
 use Rattle.ledger_check.specs.Columns.{read_as}
@@ -12,7 +13,8 @@ use Rattle.omny_audit.proofs.audit.audit_text.Goals as goal
 pub write_report_line-requires : goal.write_report_line-requires
 write_report_line-requires c = λ yes.
     c.requires (sym c.tells_legal-is_legal.ensures
-    ∙ (and_parts c.tells_legal-is_legal.result c.in_ok-is_right.is_right (sym c.are_both-is_whole.ensures ∙ yes)).0)
+    ∙ (and_parts c.tells_legal-is_legal.result c.in_ok-is_right.is_right
+    (sym c.are_both-is_whole.ensures ∙ yes)).0)
 
 pub returns : goal.returns
 returns c = λ fares file good is decide balance sums all.
@@ -34,13 +36,19 @@ returns c = λ fares file good is decide balance sums all.
         is_legal = decide;
         columns = columns.0;
         right = right;
-        are_columns = subst (λ (b : Bool). AreColumnsTold (classes_of trace) b file told.0 columns.0 right) same told.1;
+        are_columns = subst (λ (b : Bool). AreColumnsTold (classes_of trace) b file told.0 columns.0
+            right) same told.1;
         rest = wrote.0;
         fits = c.in_ok-fits.fits;
-        report_line = subst (λ (b : Bool). IsReportLine fares ledger (text_of c.args.report) b wrote.0 c.in_ok-fits.fits)
+        report_line = subst (λ (b : Bool). IsReportLine fares ledger (text_of c.args.report) b
+            wrote.0 c.in_ok-fits.fits)
             (whole ∙ ap (λ (b : Bool). b && right) same)
-            (wrote.2 fares ledger (λ yes. sums (sym same ∙ (and_parts c.tells_legal-is_legal.result right (sym whole ∙ yes)).0)));
-        shown = wrote.1 ∙ ap (λ (t : List ℕ). t ++ wrote.0) (columns.1 ∙ ap (λ (t : List ℕ). t ++ columns.0) c.into_bytes-text.ensures.value)
+            (wrote.2 fares ledger
+            (λ yes. sums (sym same
+            ∙ (and_parts c.tells_legal-is_legal.result right (sym whole ∙ yes)).0)));
+        shown = wrote.1
+            ∙ ap (λ (t : List ℕ). t ++ wrote.0) (columns.1
+            ∙ ap (λ (t : List ℕ). t ++ columns.0) c.into_bytes-text.ensures.value)
             ∙ append_assoc (string_bytes found.0) columns.0 wrote.0;
         both = c.are_both.ensures ∙ ap (λ (b : Bool). found.1 && b) c.are_both-is_behind.ensures;
       },

@@ -1,5 +1,6 @@
 -- What is read of what was read so far is what the checker was fed.
-use Rattle.std.proofs.Common.{◌≡◌, ◌++◌, ℕ, List, [], true, false, refl, take, sym, ap, subst, ◌∙◌, append-nil, arith}
+use Rattle.std.proofs.Common.{◌≡◌, ◌++◌, ℕ, List, [], true, false, refl, take, sym, ap, subst, ◌∙◌}
+use Rattle.std.proofs.Common.{append-nil, arith}
 use Rattle.std.specs.Prelude.{IsTrue, is_some}
 use Rattle.ledger_check.specs.Columns.{read_as}
 use Rattle.ledger_check.specs.Struck.{HasStruck}
@@ -25,7 +26,8 @@ loop-piece-init g c = record {
 }
 
 pub end_verdict-requires-clause-fed : goal.end_verdict-requires-clause-fed
-end_verdict-requires-clause-fed g c = (c.loop-piece.invariant.told, c.loop-piece.invariant.fed, c.loop-piece.invariant.sums)
+end_verdict-requires-clause-fed g c = (c.loop-piece.invariant.told, c.loop-piece.invariant.fed,
+    c.loop-piece.invariant.sums)
 
 pub feed-requires-clause-fed : goal.feed-requires-clause-fed
 feed-requires-clause-fed g c = (c.loop-piece.invariant.told, c.loop-piece.invariant.fed)
@@ -39,7 +41,8 @@ returns-then-count-eq0-clause-told g c =
     let ended = c.in_ok-last.ensures in
     let traced = is_some (classes_of c.end_verdict.new.trace) in
     let given = c.requires.good in
-    let none = ap (λ (n : ℕ). before.file ++ take n c.read.new.buf) c.if-count-eq0.true ∙ append-nil before.file in
+    let none = ap (λ (n : ℕ). before.file ++ take n c.read.new.buf) c.if-count-eq0.true
+    ∙ append-nil before.file in
     let Is : List ℕ → Type 0 = λ file. IsVerdict fares (read_as traced file) last
     × StrikesOut fares (read_as traced file) c.args.balance.now c.end_verdict.new.balance last
     × (IsTrue (is_legal last) → HasSummedFor fares c.end_verdict.new.report (read_as traced file))
@@ -49,8 +52,10 @@ returns-then-count-eq0-clause-told g c =
     (got.1 c.if-count-eq0.true (omega arith))
     (subst Is (sym none) (
       ended.verdict before.file before.told before.as_told before.fed,
-      λ good is legal entries ledger. ended.struck before.file before.told good before.as_told (before.struck good is) legal entries ledger,
-      λ legal. ended.sums before.file before.told before.as_told before.sums legal given.0 (before.struck given.0 given.1),
+      λ good is legal entries ledger. ended.struck before.file before.told good before.as_told
+      (before.struck good is) legal entries ledger,
+      λ legal. ended.sums before.file before.told before.as_told before.sums legal given.0
+      (before.struck given.0 given.1),
       λ legal. ended.all before.file before.told before.as_told,
     )) in
     (told.0, told.1, told.2.0, told.2.1, told.2.2, told.2.3)
@@ -70,16 +75,20 @@ returns-in-Some-clause-told g c =
     let traced = is_some (classes_of trace) in
     let Is : List ℕ → Type 0 = λ file. IsVerdict fares (read_as traced file) c.in-Some.verdict
     × StrikesOut fares (read_as traced file) c.args.balance.now c.feed.new.balance c.in-Some.verdict
-    × (IsTrue (is_legal c.in-Some.verdict) → HasSummedFor fares c.loop-piece.report (read_as traced file))
+    × (IsTrue (is_legal c.in-Some.verdict) → HasSummedFor fares c.loop-piece.report
+    (read_as traced file))
     × (IsTrue (is_legal c.in-Some.verdict) → HasReadAll trace file) in
     let given = c.requires.good in
-    let no : is_legal c.in-Some.verdict ≡ false = rw c.in-Some.is at (c.in_ok-verdict.ensures.struck before.told given.0 (before.struck given.0 given.1)) in
+    let no : is_legal c.in-Some.verdict ≡ false = rw c.in-Some.is at
+    (c.in_ok-verdict.ensures.struck before.told given.0 (before.struck given.0 given.1)) in
     let told = whatever_follows Is _ _ _
     (consumes-more _ _ _ before.file piece before.read got.0)
     (λ more.
-    let rest = reads_more trace (before.file ++ piece) (before.told ++ c.read_piece.new.text.items) as_told more in (
+    let rest = reads_more trace (before.file ++ piece) (before.told ++ c.read_piece.new.text.items)
+    as_told more in (
       subst (λ (t : List ℕ). IsVerdict fares t c.in-Some.verdict)
-          (ap (λ (t : List ℕ). (before.told ++ t) ++ rest.0) c.as_slice-part.ensures.value ∙ sym rest.1) (fed rest.0),
+          (ap (λ (t : List ℕ). (before.told ++ t) ++ rest.0) c.as_slice-part.ensures.value
+          ∙ sym rest.1) (fed rest.0),
       λ good is legal. absurd (false_true (sym no ∙ legal)),
       λ legal. absurd (false_true (sym no ∙ legal)),
       λ legal. absurd (false_true (sym no ∙ legal)),
@@ -87,10 +96,12 @@ returns-in-Some-clause-told g c =
     (told.0, told.1, told.2.0, told.2.1, told.2.2, told.2.3)
 
 pub returns-then-count-eq0-clause-report : goal.returns-then-count-eq0-clause-report
-returns-then-count-eq0-clause-report g c = c.end_verdict.ensures.report ∙ c.loop-piece.invariant.report
+returns-then-count-eq0-clause-report g c = c.end_verdict.ensures.report
+    ∙ c.loop-piece.invariant.report
 
 pub returns-then-count-eq0-clause-classes : goal.returns-then-count-eq0-clause-classes
-returns-then-count-eq0-clause-classes g c = c.end_verdict.ensures.classes ∙ c.loop-piece.invariant.classes
+returns-then-count-eq0-clause-classes g c = c.end_verdict.ensures.classes
+    ∙ c.loop-piece.invariant.classes
 
 pub returns-in-Some-clause-report : goal.returns-in-Some-clause-report
 returns-in-Some-clause-report g c = c.loop-piece.invariant.report
@@ -110,12 +121,16 @@ loop-piece-preserved g c =
       told = before.told ++ c.read_piece.new.text.items;
       as_told = c.in_ok-read_piece.ensures.read before.file before.told before.as_told;
       classes = c.read_piece.ensures.classes ∙ before.classes;
-      fed = subst (λ (t : List ℕ). HasFed c.args.table.now c.feed.new.self (before.told ++ t)) c.as_slice-part.ensures.value
+      fed = subst (λ (t : List ℕ). HasFed c.args.table.now c.feed.new.self (before.told ++ t))
+          c.as_slice-part.ensures.value
           (rw c.in_default-2.is at (c.in_ok-verdict.ensures.fed before.told before.fed));
-      struck = λ good is. subst (λ (t : List ℕ). HasStruck c.args.table.now c.feed.new.self c.feed.new.balance (before.told ++ t) good) c.as_slice-part.ensures.value
-          (rw c.in_default-2.is at (c.in_ok-verdict.ensures.struck before.told good (before.struck good is)));
+      struck = λ good is. subst (λ (t : List ℕ). HasStruck c.args.table.now c.feed.new.self
+          c.feed.new.balance (before.told ++ t) good) c.as_slice-part.ensures.value
+          (rw c.in_default-2.is at (c.in_ok-verdict.ensures.struck before.told good
+          (before.struck good is)));
       read = consumes-more _ _ _ before.file (take c.in-Ok.count c.read.new.buf) before.read got.0;
-      sums = subst (λ (t : List ℕ). HasSummedFor c.args.table.now c.add_piece.new.report (before.told ++ t)) c.as_slice-part.ensures.value
+      sums = subst (λ (t : List ℕ). HasSummedFor c.args.table.now c.add_piece.new.report
+          (before.told ++ t)) c.as_slice-part.ensures.value
           (c.in_ok-add_piece.ensures.sums before.told before.sums);
       report = c.add_piece.ensures.text ∙ before.report;
     }

@@ -7,7 +7,8 @@ use Rattle.omny_audit.proofs.full_audit.end_text.Goals as goal
 
 pub write_report_line-requires : goal.write_report_line-requires
 write_report_line-requires c = λ yes.
-    c.requires (and_parts c.args.legal c.in_ok-is_right.is_right (sym c.are_both-is_whole.ensures ∙ yes)).0
+    c.requires (and_parts c.args.legal c.in_ok-is_right.is_right (sym c.are_both-is_whole.ensures
+    ∙ yes)).0
 
 pub returns : goal.returns
 returns c =
@@ -24,8 +25,10 @@ returns c =
       c.in_ok-fits.fits,
       c.in_ok-ending.ensures,
       λ file all. columns.2 file (λ yes. all),
-      λ fares text sums. subst (λ (b : Bool). IsReportLine fares text (text_of c.args.report) b wrote.0 c.in_ok-fits.fits) whole
+      λ fares text sums. subst (λ (b : Bool). IsReportLine fares text (text_of c.args.report) b
+      wrote.0 c.in_ok-fits.fits) whole
           (wrote.2 fares text (λ yes. sums (and_parts c.args.legal right (sym whole ∙ yes)).0)),
-      wrote.1 ∙ ap (λ (t : List ℕ). t ++ wrote.0) (columns.1 ∙ ap (λ (t : List ℕ). t ++ columns.0) c.into_bytes-text.ensures.value),
+      wrote.1 ∙ ap (λ (t : List ℕ). t ++ wrote.0) (columns.1
+      ∙ ap (λ (t : List ℕ). t ++ columns.0) c.into_bytes-text.ensures.value),
       c.are_both.ensures ∙ ap (λ (b : Bool). ending.1 && b) c.are_both-is_behind.ensures,
     )

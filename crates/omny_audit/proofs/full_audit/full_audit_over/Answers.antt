@@ -1,4 +1,5 @@
-use Rattle.std.proofs.Common.{◌≡◌, ◌++◌, ◌∙◌, ℕ, Bool, List, Option, Some, None, true, if◌then◌else◌, refl, sym, ap, subst, append_assoc}
+use Rattle.std.proofs.Common.{◌≡◌, ◌++◌, ◌∙◌, ℕ, Bool, List, Option, Some, None, true}
+use Rattle.std.proofs.Common.{if◌then◌else◌, refl, sym, ap, subst, append_assoc}
 use Rattle.std.specs.Prelude.{◌↔◌, ◌&&◌, is_some, nat_eq}
 use Rattle.std.specs.Io.KnownBytes.{Appends}
 use Rattle.ledger_check.specs.Ledger.{IsLedger}
@@ -21,7 +22,8 @@ end_text-requires g c = λ yes.
     let good = c.requires.good in
     let ledger = read_as (is_some (classes_of c.recount_all.new.trace)) found.0 in
     let all = found.2 good.0 (λ has. c.of-full.ensures good.0 good.1) in
-    let decide = recount_legal c.recounts_decide.ensures c.args.table.now ledger all.taken all.recount in
+    let decide = recount_legal c.recounts_decide.ensures c.args.table.now ledger all.taken
+    all.recount in
     (c.args.table.now, ledger, found.3, decide.0 (sym all.is_legal ∙ yes))
 
 pub returns-clause-told : goal.returns-clause-told
@@ -42,7 +44,9 @@ returns-clause-told g c =
           let line = parts.8 fares ledger (λ yes. found.3) in (
             recount_text all.taken ++ told.0.items,
             columns.0,
-            subst (λ (cs : Option (List ℕ → List ℕ)). IsAudit true fares cs found.0 columns.0 (if c.args.has_uploads then Some good else None) _ (recount_text all.taken ++ told.0.items) told.1)
+            subst (λ (cs : Option (List ℕ → List ℕ)). IsAudit true fares cs found.0 columns.0
+            (if c.args.has_uploads then Some good else None) _
+            (recount_text all.taken ++ told.0.items) told.1)
                 c.recount_all.ensures.classes
                 (record {
                   found = recount_text all.taken ++ parts.0;
@@ -52,21 +56,29 @@ returns-clause-told g c =
                     recount = all.recount;
                     rest = parts.0;
                     shown = refl;
-                    second = subst (λ (b : Bool). IsDifferencesEnd (if c.args.has_uploads then Some good else None) (taps_from all.taken) b parts.0 parts.3) is end;
+                    second = subst (λ (b : Bool). IsDifferencesEnd
+                        (if c.args.has_uploads then Some good else None) (taps_from all.taken) b
+                        parts.0 parts.3) is end;
                   };
                   legal = c.in_ok-legal.legal;
-                  is_legal = subst (λ (b : Bool). (b ≡ true) ↔ IsLedger fares ledger) (sym is) (recount_legal c.recounts_decide.ensures fares ledger all.taken all.recount);
+                  is_legal = subst (λ (b : Bool). (b ≡ true) ↔ IsLedger fares ledger) (sym is)
+                      (recount_legal c.recounts_decide.ensures fares ledger all.taken all.recount);
                   columns = parts.1;
                   right = parts.4;
                   are_columns = columns.1;
                   rest = parts.2;
                   fits = parts.5;
-                  report_line = subst (λ (r : Option (List ℕ)). IsReportLine fares ledger r (c.in_ok-legal.legal && parts.4) parts.2 parts.5) c.recount_all.ensures.report line;
-                  shown = ap (λ (t : List ℕ). recount_text all.taken ++ t) (parts.9 ∙ append_assoc parts.0 parts.1 parts.2)
+                  report_line = subst (λ (r : Option (List ℕ)). IsReportLine fares ledger r
+                      (c.in_ok-legal.legal && parts.4) parts.2 parts.5) c.recount_all.ensures.report
+                      line;
+                  shown = ap (λ (t : List ℕ). recount_text all.taken ++ t) (parts.9
+                      ∙ append_assoc parts.0 parts.1 parts.2)
                       ∙ sym (append_assoc (recount_text all.taken) parts.0 (parts.1 ++ parts.2));
                   both = parts.10;
                 }),
             appends_more _ _ _ (recount_text all.taken) told.0.items all.written
-                (subst (λ (t : List ℕ). Appends (g.W.Write.contents c.recount_all.new.out) (g.W.Write.contents c.write_text.new.out) t) c.as_slice.ensures.value c.in_ok-write_text.ensures.text),
+                (subst (λ (t : List ℕ). Appends (g.W.Write.contents c.recount_all.new.out)
+                (g.W.Write.contents c.write_text.new.out) t) c.as_slice.ensures.value
+                c.in_ok-write_text.ensures.text),
           ),
     )

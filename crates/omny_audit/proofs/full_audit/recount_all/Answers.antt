@@ -1,5 +1,6 @@
 -- What is read of what was read so far is what the recount was fed.
-use Rattle.std.proofs.Common.{◌≡◌, ◌++◌, ℕ, List, [], true, refl, take, sym, ap, subst, ◌∙◌, append-nil, arith}
+use Rattle.std.proofs.Common.{◌≡◌, ◌++◌, ℕ, List, [], true, refl, take, sym, ap, subst, ◌∙◌}
+use Rattle.std.proofs.Common.{append-nil, arith}
 use Rattle.std.specs.Prelude.{is_some}
 use Rattle.std.specs.Io.KnownBytes.{Appends}
 use Rattle.ledger_check.specs.Columns.{read_as}
@@ -20,7 +21,8 @@ loop-piece-init g c = record {
   as_text = c.requires.trace;
   classes = refl;
   read = consumes-none _;
-  known = λ good struck. ([], c.new-recount.ensures c.args.table.now c.args.has_uploads c.args.full.now good struck, appends_nothing _);
+  known = λ good struck. ([], c.new-recount.ensures c.args.table.now c.args.has_uploads
+      c.args.full.now good struck, appends_nothing _);
   sums = c.requires.sums;
   report = refl;
 }
@@ -44,9 +46,13 @@ returns-then-count-eq0-clause-told g c =
     let got = c.in-Ok.ensures.bytes in
     let legal = c.in_ok-legal.legal in
     let traced = is_some (classes_of c.end_recount.new.trace) in
-    let none = ap (λ (n : ℕ). before.file ++ take n c.read.new.buf) c.if-count-eq0.true ∙ append-nil before.file in
-    let Is : List ℕ → Type 0 = λ file. ((good : List TapFields) → (c.args.has_uploads ≡ true → IsFullBalance c.args.full.now good [])
-    → HasRecountedAll fares c.args.has_uploads c.end_recount.new.full (read_as traced file) good legal (g.W.Write.contents c.args.out.now) (g.W.Write.contents c.write_piece.new.out))
+    let none = ap (λ (n : ℕ). before.file ++ take n c.read.new.buf) c.if-count-eq0.true
+    ∙ append-nil before.file in
+    let Is : List ℕ
+    → Type 0 = λ file. ((good : List TapFields)
+    → (c.args.has_uploads ≡ true → IsFullBalance c.args.full.now good [])
+    → HasRecountedAll fares c.args.has_uploads c.end_recount.new.full (read_as traced file) good
+    legal (g.W.Write.contents c.args.out.now) (g.W.Write.contents c.write_piece.new.out))
     × HasSummedFor fares c.end_recount.new.report (read_as traced file)
     × HasReadAll c.end_recount.new.trace file in
     let told = at_end Is _ _ _
@@ -55,7 +61,8 @@ returns-then-count-eq0-clause-told g c =
     (subst Is (sym none) (
       λ good struck.
           let now = before.known good struck in
-          let ended = c.in_ok-legal.ensures.told before.file before.text now.0 good before.as_text now.1 in
+          let ended = c.in_ok-legal.ensures.told before.file before.text now.0 good before.as_text
+          now.1 in
           let more = ended.5 ∙ ap (λ (t : List ℕ). t ++ ended.4) c.clear.ensures.bytes in
           record {
             taken = ended.0;
@@ -76,10 +83,12 @@ returns-then-count-eq0-clause-told g c =
     (told.0, told.1, told.2.0, told.2.1, told.2.2)
 
 pub returns-then-count-eq0-clause-report : goal.returns-then-count-eq0-clause-report
-returns-then-count-eq0-clause-report g c = c.end_recount.ensures.report ∙ c.loop-piece.invariant.report
+returns-then-count-eq0-clause-report g c = c.end_recount.ensures.report
+    ∙ c.loop-piece.invariant.report
 
 pub returns-then-count-eq0-clause-classes : goal.returns-then-count-eq0-clause-classes
-returns-then-count-eq0-clause-classes g c = c.end_recount.ensures.classes ∙ c.loop-piece.invariant.classes
+returns-then-count-eq0-clause-classes g c = c.end_recount.ensures.classes
+    ∙ c.loop-piece.invariant.classes
 
 pub add_piece-requires : goal.add_piece-requires
 add_piece-requires g c = (c.loop-piece.invariant.text, c.loop-piece.invariant.sums)
@@ -101,10 +110,14 @@ loop-piece-preserved g c =
           let fed = c.in_ok-feed.ensures before.text now.0 good now.1 in
           let more = fed.1 ∙ ap (λ (t : List ℕ). t ++ fed.0) c.clear.ensures.bytes in (
             now.0 ++ fed.0,
-            subst (λ (t : List ℕ). HasRecounted fares c.feed.new.self c.args.has_uploads c.feed.new.full (before.text ++ t) (now.0 ++ fed.0) good) part fed.2,
+            subst (λ (t : List ℕ). HasRecounted fares c.feed.new.self c.args.has_uploads
+            c.feed.new.full (before.text ++ t) (now.0 ++ fed.0) good) part fed.2,
             appends_more _ _ _ now.0 fed.0 now.2
-                (subst (λ (t : List ℕ). Appends (g.W.Write.contents c.loop-piece.out) (g.W.Write.contents c.write_piece-in-loop-piece.new.out) t) (c.as_str-in-loop-piece.ensures.value ∙ more) c.in_ok-write_piece-2.ensures.text),
+                (subst (λ (t : List ℕ). Appends (g.W.Write.contents c.loop-piece.out)
+                (g.W.Write.contents c.write_piece-in-loop-piece.new.out) t)
+                (c.as_str-in-loop-piece.ensures.value ∙ more) c.in_ok-write_piece-2.ensures.text),
           );
-      sums = subst (λ (t : List ℕ). HasSummedFor fares c.add_piece.new.report (before.text ++ t)) part (c.in_ok-add_piece.ensures.sums before.text before.sums);
+      sums = subst (λ (t : List ℕ). HasSummedFor fares c.add_piece.new.report (before.text ++ t))
+          part (c.in_ok-add_piece.ensures.sums before.text before.sums);
       report = c.add_piece.ensures.text ∙ before.report;
     }

@@ -5,10 +5,12 @@ use Rattle.omny_audit.proofs.program.read_head.Goals as goal
 
 pub loop-piece-init : goal.loop-piece-init
 loop-piece-init g c =
-    subst (λ (t : List ℕ). Consumes (g.R.Read.remaining c.args.ledger.now) (g.R.Read.remaining c.args.ledger.now) t) (sym c.new-head.ensures.items) (consumes-none _)
+    subst (λ (t : List ℕ). Consumes (g.R.Read.remaining c.args.ledger.now)
+    (g.R.Read.remaining c.args.ledger.now) t) (sym c.new-head.ensures.items) (consumes-none _)
 
 pub loop-piece-preserved : goal.loop-piece-preserved
 loop-piece-preserved g c =
     let got = c.in-Ok.ensures.bytes in
     subst (λ (t : List ℕ). Consumes _ _ t) (sym c.in_ok-extend_from_slice.ensures.items)
-    (consumes-more _ _ _ c.loop-piece.head.items (take c.in-Ok.count c.read.new.buf) c.loop-piece.invariant got.0)
+    (consumes-more _ _ _ c.loop-piece.head.items (take c.in-Ok.count c.read.new.buf)
+    c.loop-piece.invariant got.0)

@@ -7,10 +7,12 @@ pub returns-then-same_bytes : goal.returns-then-same_bytes
 returns-then-same_bytes c =
     let is = c.same_bytes.ensures.0 c.if-same_bytes.true ∙ c.traced_head_line.ensures in
     c.in_ok-extend_from_slice.ensures.items
-    ∙ ap (λ (t : List ℕ). c.args.text.now.items ++ t) (c.as_bytes.ensures ∙ c.head_line.ensures ∙ sym (other_head c.args.line.now is))
+    ∙ ap (λ (t : List ℕ). c.args.text.now.items ++ t) (c.as_bytes.ensures ∙ c.head_line.ensures
+    ∙ sym (other_head c.args.line.now is))
 
 pub returns : goal.returns
 returns c =
-    let other = λ is. false≢true (sym c.if-same_bytes.false ∙ c.same_bytes.ensures.1 (is ∙ sym c.traced_head_line.ensures)) in
+    let other = λ is. false≢true (sym c.if-same_bytes.false
+    ∙ c.same_bytes.ensures.1 (is ∙ sym c.traced_head_line.ensures)) in
     c.in_ok-push.ensures.items
     ∙ ap (λ (t : List ℕ). c.args.text.now.items ++ t) (sym (other_line c.args.line.now other))
