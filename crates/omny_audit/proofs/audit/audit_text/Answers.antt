@@ -47,8 +47,7 @@ returns c = λ fares file good is decide balance sums all.
             (λ yes. sums (sym same
             ∙ (and_parts c.tells_legal-is_legal.result right (sym whole ∙ yes)).0)));
         shown = wrote.1
-            ∙ ap (λ (t : List ℕ). t ++ wrote.0) (columns.1
-            ∙ ap (λ (t : List ℕ). t ++ columns.0) c.into_bytes-text.ensures.value)
+            ∙ ap (λ (t : List ℕ). t ++ wrote.0) (rw c.into_bytes-text.ensures.value at columns.1)
             ∙ append_assoc (string_bytes found.0) columns.0 wrote.0;
         both = c.are_both.ensures ∙ ap (λ (b : Bool). found.1 && b) c.are_both-is_behind.ensures;
       },

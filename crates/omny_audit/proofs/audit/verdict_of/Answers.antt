@@ -8,7 +8,8 @@ use Rattle.ledger_check.specs.Verdicts.{HasFed, IsVerdict, is_legal}
 use Rattle.omny_audit.specs.inside.Findings.{StrikesOut}
 use Rattle.omny_audit.specs.inside.Reports.{HasSummedFor}
 use Rattle.omny_audit.specs.inside.Traced.{HasReadAll, HasReadAs, classes_of}
-use Rattle.omny_audit.proofs.ReadLemmas.{at_end, consumes-more, consumes-none, whatever_follows}
+use Rattle.std.proofs.KnownBytes.{Consumes-trans, Consumes-nil}
+use Rattle.omny_audit.proofs.ReadLemmas.{at_end, whatever_follows}
 use Rattle.omny_audit.proofs.TraceLemmas.{reads_more}
 use Rattle.omny_audit.proofs.audit.verdict_of.Goals as goal
 
@@ -48,7 +49,7 @@ returns-then-count-eq0-clause-told g c =
     × (IsTrue (is_legal last) → HasSummedFor fares c.end_verdict.new.report (read_as traced file))
     × (IsTrue (is_legal last) → HasReadAll c.end_verdict.new.trace file) in
     let told = at_end Is _ _ _
-    (consumes-more _ _ _ before.file (take c.in-Ok.count c.read.new.buf) before.read got.0)
+    (Consumes-trans _ _ _ before.file (take c.in-Ok.count c.read.new.buf) before.read got.0)
     (got.1 c.if-count-eq0.true (omega arith))
     (subst Is (sym none) (
       ended.verdict before.file before.told before.as_told before.fed,
@@ -82,7 +83,7 @@ returns-in-Some-clause-told g c =
     let no : is_legal c.in-Some.verdict ≡ false = rw c.in-Some.is at
     (c.in_ok-verdict.ensures.struck before.told given.0 (before.struck given.0 given.1)) in
     let told = whatever_follows Is _ _ _
-    (consumes-more _ _ _ before.file piece before.read got.0)
+    (Consumes-trans _ _ _ before.file piece before.read got.0)
     (λ more.
     let rest = reads_more trace (before.file ++ piece) (before.told ++ c.read_piece.new.text.items)
     as_told more in (
@@ -128,7 +129,7 @@ loop-piece-preserved g c =
           c.feed.new.balance (before.told ++ t) good) c.as_slice-part.ensures.value
           (rw c.in_default-2.is at (c.in_ok-verdict.ensures.struck before.told good
           (before.struck good is)));
-      read = consumes-more _ _ _ before.file (take c.in-Ok.count c.read.new.buf) before.read got.0;
+      read = Consumes-trans _ _ _ before.file (take c.in-Ok.count c.read.new.buf) before.read got.0;
       sums = subst (λ (t : List ℕ). HasSummedFor c.args.table.now c.add_piece.new.report
           (before.told ++ t)) c.as_slice-part.ensures.value
           (c.in_ok-add_piece.ensures.sums before.told before.sums);

@@ -28,7 +28,6 @@ returns c =
       λ fares text sums. subst (λ (b : Bool). IsReportLine fares text (text_of c.args.report) b
       wrote.0 c.in_ok-fits.fits) whole
           (wrote.2 fares text (λ yes. sums (and_parts c.args.legal right (sym whole ∙ yes)).0)),
-      wrote.1 ∙ ap (λ (t : List ℕ). t ++ wrote.0) (columns.1
-      ∙ ap (λ (t : List ℕ). t ++ columns.0) c.into_bytes-text.ensures.value),
+      wrote.1 ∙ ap (λ (t : List ℕ). t ++ wrote.0) (rw c.into_bytes-text.ensures.value at columns.1),
       c.are_both.ensures ∙ ap (λ (b : Bool). ending.1 && b) c.are_both-is_behind.ensures,
     )

@@ -8,6 +8,7 @@ use Rattle.omny_audit.specs.Findings.{IsDifferencesEnd}
 use Rattle.omny_audit.specs.Reports.{IsAudit, IsReportLine}
 use Rattle.omny_audit.specs.inside.Traced.{classes_of}
 use Rattle.ledger_check.specs.Columns.{read_as}
+use Rattle.std.proofs.KnownBytes.{Appends-trans}
 use Rattle.omny_audit.proofs.FullFindingLemmas.{recount_legal}
 use Rattle.omny_audit.proofs.full_audit.full_audit_over.Goals as goal
 
@@ -76,7 +77,7 @@ returns-clause-told g c =
                       ∙ sym (append_assoc (recount_text all.taken) parts.0 (parts.1 ++ parts.2));
                   both = parts.10;
                 }),
-            appends_more _ _ _ (recount_text all.taken) told.0.items all.written
+            Appends-trans _ _ _ (recount_text all.taken) told.0.items all.written
                 (subst (λ (t : List ℕ). Appends (g.W.Write.contents c.recount_all.new.out)
                 (g.W.Write.contents c.write_text.new.out) t) c.as_slice.ensures.value
                 c.in_ok-write_text.ensures.text),

@@ -10,8 +10,8 @@ use Rattle.tap_views.specs.declared.encoder.TapFields.{TapFields}
 use Rattle.omny_audit.specs.inside.Findings.{HasRecountedAll}
 use Rattle.omny_audit.specs.inside.Reports.{HasSummedFor}
 use Rattle.omny_audit.specs.inside.Traced.{HasReadAll, classes_of}
-use Rattle.omny_audit.proofs.ReadLemmas.{at_end, consumes-more, consumes-none}
-use Rattle.omny_audit.proofs.Written.{appends_more, appends_nothing}
+use Rattle.std.proofs.KnownBytes.{Consumes-trans, Consumes-nil, Appends-trans, Appends-nil}
+use Rattle.omny_audit.proofs.ReadLemmas.{at_end}
 use Rattle.omny_audit.proofs.full_audit.recount_all.Goals as goal
 
 pub loop-piece-init : goal.loop-piece-init
@@ -20,9 +20,9 @@ loop-piece-init g c = record {
   text = [];
   as_text = c.requires.trace;
   classes = refl;
-  read = consumes-none _;
+  read = Consumes-nil _;
   known = λ good struck. ([], c.new-recount.ensures c.args.table.now c.args.has_uploads
-      c.args.full.now good struck, appends_nothing _);
+      c.args.full.now good struck, Appends-nil _);
   sums = c.requires.sums;
   report = refl;
 }
@@ -56,7 +56,7 @@ returns-then-count-eq0-clause-told g c =
     × HasSummedFor fares c.end_recount.new.report (read_as traced file)
     × HasReadAll c.end_recount.new.trace file in
     let told = at_end Is _ _ _
-    (consumes-more _ _ _ before.file (take c.in-Ok.count c.read.new.buf) before.read got.0)
+    (Consumes-trans _ _ _ before.file (take c.in-Ok.count c.read.new.buf) before.read got.0)
     (got.1 c.if-count-eq0.true (omega arith))
     (subst Is (sym none) (
       λ good struck.
@@ -104,7 +104,7 @@ loop-piece-preserved g c =
       text = before.text ++ c.read_piece.new.text.items;
       as_text = c.in_ok-read_piece.ensures.read before.file before.text before.as_text;
       classes = c.read_piece.ensures.classes ∙ before.classes;
-      read = consumes-more _ _ _ before.file (take c.in-Ok.count c.read.new.buf) before.read got.0;
+      read = Consumes-trans _ _ _ before.file (take c.in-Ok.count c.read.new.buf) before.read got.0;
       known = λ good struck.
           let now = before.known good struck in
           let fed = c.in_ok-feed.ensures before.text now.0 good now.1 in
@@ -112,7 +112,7 @@ loop-piece-preserved g c =
             now.0 ++ fed.0,
             subst (λ (t : List ℕ). HasRecounted fares c.feed.new.self c.args.has_uploads
             c.feed.new.full (before.text ++ t) (now.0 ++ fed.0) good) part fed.2,
-            appends_more _ _ _ now.0 fed.0 now.2
+            Appends-trans _ _ _ now.0 fed.0 now.2
                 (subst (λ (t : List ℕ). Appends (g.W.Write.contents c.loop-piece.out)
                 (g.W.Write.contents c.write_piece-in-loop-piece.new.out) t)
                 (c.as_str-in-loop-piece.ensures.value ∙ more) c.in_ok-write_piece-2.ensures.text),

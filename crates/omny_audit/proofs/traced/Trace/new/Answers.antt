@@ -5,7 +5,7 @@ pub returns-clause-read : goal.returns-clause-read
 returns-clause-read c = record {
   lines = record { are = tt; count = refl; class = refl };
   begun = [];
-  kept = inl c.new-2.ensures.items;
+  kept = inl c.new-3.ensures.items;
   lacks = tt;
   split = λ more. refl;
   told = refl;
