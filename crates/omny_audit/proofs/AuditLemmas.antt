@@ -53,15 +53,15 @@ columns_right : (classes : Option (List ℕ → List ℕ)) (looked : Bool) (file
     (read : List ReadLine) (told : List ℕ) (right : Bool)
     → AreColumnsTold classes looked file read told right → right ≡ true
         → HasRightColumns classes file read
-columns_right None looked file read told right is yes = tt
-columns_right (Some classes) false file read told right is yes = absurd
-    (false_true (sym is.1 ∙ yes))
+columns_right None looked file read told right is holds = tt
+columns_right (Some classes) false file read told right is holds = absurd
+    (false_true (sym is.1 ∙ holds))
 columns_right (Some classes) true file read told right is
-    yes = (is.0, none_of (wrong_class classes read) (sym is.2 ∙ yes))
+    holds = (is.0, none_of (wrong_class classes read) (sym is.2 ∙ holds))
   where
     none_of : (wrong : Option WrongClass) → not (is_some wrong) ≡ true → wrong ≡ None
-    none_of None yes = refl
-    none_of (Some wrong) yes = absurd (false_true yes)
+    none_of None holds = refl
+    none_of (Some wrong) holds = absurd (false_true holds)
 
 right_columns : (classes : Option (List ℕ → List ℕ)) (looked : Bool) (file : List ℕ)
     (read : List ReadLine) (told : List ℕ) (right : Bool)

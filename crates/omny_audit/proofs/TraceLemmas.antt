@@ -195,6 +195,7 @@ Ended trace file told text text' =
 pub ended_whole : (trace : Trace) (file told text : List ℕ) (read : List ReadLine)
     → HasTraced trace file told read
     → trace.begun.items ≡ [] → Ended trace file told text text
+unfolding lines_of
 ended_whole trace file told text read is none =
     let begun : is.begun ≡ [] = kept_none trace.begun.items is.begun is.kept none in
     let all : lines_of file ≡ lines_read read =
@@ -209,7 +210,6 @@ ended_whole trace file told text read is none =
     )
   where
     nothing : lines_read read ++ lines_of [] ≡ lines_read read
-    unfolding lines_of
     nothing = append-nil (lines_read read)
 
 -- the line that its end cuts was read too
