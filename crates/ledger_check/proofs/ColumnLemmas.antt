@@ -116,7 +116,7 @@ digits_lack_feed (c ∷ text) digits =
     let first = digits.0 in
     (λ is. absurd (grind (arith, nat_tests)), digits_lack_feed text digits.1)
 
-decimal_lacks_feed : (n : ℕ) → n < 2 ^ 64 → Lacks 10 (decimal n)
+pub decimal_lacks_feed : (n : ℕ) → n < 2 ^ 64 → Lacks 10 (decimal n)
 decimal_lacks_feed n small = digits_lack_feed (decimal n) (decimal_is_IsNumeral n small).0.1
 
 -- a text without a line feed, and one that goes on behind its first line feed
