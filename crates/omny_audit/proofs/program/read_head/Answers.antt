@@ -11,6 +11,7 @@ loop-piece-init g c =
 pub loop-piece-preserved : goal.loop-piece-preserved
 loop-piece-preserved g c =
     let got = c.in-Ok.ensures.bytes in
-    subst (λ (t : List ℕ). Consumes _ _ t) (sym c.in_ok-extend_from_slice.ensures.items)
+    subst (λ (t : List ℕ). Consumes (g.R.Read.remaining c.args.ledger.now)
+    (g.R.Read.remaining c.read.new.self) t) (sym c.in_ok-extend_from_slice.ensures.items)
     (Consumes-trans _ _ _ c.loop-piece.head.items (take c.in-Ok.count c.read.new.buf)
     c.loop-piece.invariant got.0)
