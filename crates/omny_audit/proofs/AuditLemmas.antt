@@ -52,7 +52,7 @@ fits_of verdicts fares ledger (Some report) true rest fits entries told line of 
 columns_right : (classes : Option (List ℕ → List ℕ)) (looked : Bool) (file : List ℕ)
     (read : List ReadLine) (told : List ℕ) (right : Bool)
     → AreColumnsTold classes looked file read told right → right ≡ true
-        → HasRightColumns classes file read
+    → HasRightColumns classes file read
 columns_right None looked file read told right is holds = tt
 columns_right (Some classes) false file read told right is holds = absurd
     (false_true (sym is.1 ∙ holds))
@@ -66,7 +66,7 @@ columns_right (Some classes) true file read told right is
 right_columns : (classes : Option (List ℕ → List ℕ)) (looked : Bool) (file : List ℕ)
     (read : List ReadLine) (told : List ℕ) (right : Bool)
     → looked ≡ true → AreColumnsTold classes looked file read told right
-        → HasRightColumns classes file read → right ≡ true
+    → HasRightColumns classes file read → right ≡ true
 right_columns None looked file read told right look is has = is.1
 right_columns (Some classes) false file read told right look is has = absurd (false_true look)
 right_columns (Some classes) true file read told right look is has =
@@ -101,12 +101,12 @@ decides some full verdicts all fares classes file read good report text well aud
       λ right.
           let legal = audit.is_legal.1 (right.0, right.1) in
           let columns = right_columns classes looked file read audit.columns audit.right
-              (looked_at all audit.legal legal) audit.are_columns right.3 in
+          (looked_at all audit.legal legal) audit.are_columns right.3 in
           let both : (audit.legal && audit.right) ≡ true = ap (λ (x : Bool). x && audit.right) legal
-              ∙ columns in
+          ∙ columns in
           audit.both ∙ ap (λ (x : Bool). x && (audit.right && audit.fits))
-              (sound.1 (right.0, right.1, right.2))
+          (sound.1 (right.0, right.1, right.2))
           ∙ ap (λ (x : Bool). x && audit.fits) columns
           ∙ (fits_of verdicts fares ledger report (audit.legal && audit.right) audit.rest audit.fits
-              right.0 both audit.report_line right.1 right.4),
+          right.0 both audit.report_line right.1 right.4),
     )

@@ -246,14 +246,14 @@ still_head head rest long = ap (λ (t : List ℕ). bytes_eq t traced_head)
 pub headed : (before after : Option (List Loaded)) (name : Option Text)
     (left left' : Option (List ℕ)) (head file : List ℕ)
     → OpensOne before after name left → Consumes left left' head
-        → IsAtEnd left' ⊎ (length traced_head ≤ length head)
+    → IsAtEnd left' ⊎ (length traced_head ≤ length head)
     → IsAllOf (option_append (Some head) left') file → IsTracedAs before file (has_traced_head head)
 headed None after name left left' head file opens reads enough all = tt
 headed (Some before) after name None left' head file opens reads enough all = absurd opens
 headed (Some before) after name (Some xs) None head file opens reads enough all = absurd reads
 headed (Some before) after name (Some xs) (Some ys) head file opens reads enough all = ⊎_elim
     (λ end. ap has_traced_head (sym (append-nil head) ∙ ap (λ (t : List ℕ). head ++ t) (sym end)
-        ∙ all))
+    ∙ all))
     (λ long. still_head head ys long ∙ ap has_traced_head all)
     enough
 
@@ -268,9 +268,9 @@ pub record ReadsLedger (before after : Option (List Loaded)) (name : Option Text
 pub reads_ledger : (before after : Option (List Loaded)) (name : Option Text)
     (left left' whole : Option (List ℕ)) (head begun table lent file : List ℕ)
     (classes : Option (List ℕ → List ℕ)) → OpensOne before after name left
-        → Consumes left left' head → IsAtEnd left' ⊎ (length traced_head ≤ length head)
+    → Consumes left left' head → IsAtEnd left' ⊎ (length traced_head ≤ length head)
     → begun ≡ head → lent ≡ table → whole ≡ option_append (Some head) left' → IsAllOf whole file
-        → AreClasses lent (has_traced_head begun) classes
+    → AreClasses lent (has_traced_head begun) classes
     → ReadsLedger before after name table classes file
 reads_ledger before after name left left' whole head begun table lent file classes opens reads
     enough same_head same_table is all named =

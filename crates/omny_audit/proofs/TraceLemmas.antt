@@ -44,7 +44,7 @@ head_short = omega arith
 long_other : (line : List ℕ) → 352 < length line → untraced_by line None ≡ 10 ∷ []
 long_other line long =
     other_line line (λ is. let size = ap (λ (t : List ℕ). length t) is in let short = head_short in
-        omega (arith, long, size, short))
+    omega (arith, long, size, short))
 
 -- what a line tells, of which this was kept
 kept_long : (kept whole : List ℕ) → IsKeptOf kept whole → 352 < length kept → 352 < length whole
@@ -75,11 +75,14 @@ or_none (Some wrong) = refl
 pub took_other : (so_far after : LinesRead) (kept whole : List ℕ) (read : List ReadLine)
     → HasLines so_far read
     → IsKeptOf kept whole → cut_line kept ≡ None → after.lines ≡ so_far.lines + 1
-        → after.wrong_class ≡ so_far.wrong_class
+    → after.wrong_class ≡ so_far.wrong_class
     → after.names ≡ so_far.names → HasLines after (record { line = whole; traced = None } ∷ read)
 took_other so_far after kept whole read has same none count class names = record {
-  are = (has.are, subst (λ (c : Option TracedLine). TellsTracedTap c None)
-      (sym (kept_cut kept whole None same none)) refl);
+  are = (
+    has.are,
+    subst (λ (c : Option TracedLine). TellsTracedTap c None)
+        (sym (kept_cut kept whole None same none)) refl,
+  );
   count = let before = has.count in omega (arith, before, count);
   class = class ∙ has.class ∙ ap (λ (n : ClassNames). wrong_class (class_by n) read) (sym names)
       ∙ sym (or_none (wrong_class (class_by after.names) read));
@@ -88,29 +91,32 @@ took_other so_far after kept whole read has same none count class names = record
 pub took_cut : (so_far after : LinesRead) (kept whole : List ℕ) (cut : TracedLine)
     (traced : Option TracedTap) (read : List ReadLine)
     → HasLines so_far read → IsKeptOf kept whole → cut_line kept ≡ Some cut
-        → after.lines ≡ so_far.lines + 1
+    → after.lines ≡ so_far.lines + 1
     → after.wrong_class ≡ option_or so_far.wrong_class
-        (class_fault (class_by so_far.names) (so_far.lines + 1) traced)
+    (class_fault (class_by so_far.names) (so_far.lines + 1) traced)
     → after.names ≡ so_far.names → TellsTracedTap (Some cut) traced
     → HasLines after (record { line = whole; traced = traced } ∷ read)
 took_cut so_far after kept whole cut traced read has same is count class names tells = record {
-  are = (has.are, subst (λ (c : Option TracedLine). TellsTracedTap c traced)
-      (sym (kept_cut kept whole (Some cut) same is)) tells);
+  are = (
+    has.are,
+    subst (λ (c : Option TracedLine). TellsTracedTap c traced)
+        (sym (kept_cut kept whole (Some cut) same is)) tells,
+  );
   count = let before = has.count in omega (arith, before, count);
   class = class
       ∙ ap (λ (w : Option WrongClass). option_or w
       (class_fault (class_by so_far.names) (so_far.lines + 1) traced)) has.class
       ∙ ap (λ (n : ℕ). option_or (wrong_class (class_by so_far.names) read)
-          (class_fault (class_by so_far.names) (n + 1) traced)) has.count
+      (class_fault (class_by so_far.names) (n + 1) traced)) has.count
       ∙ ap (λ (n : ClassNames). option_or (wrong_class (class_by n) read)
-          (class_fault (class_by n) (length read + 1) traced)) (sym names);
+      (class_fault (class_by n) (length read + 1) traced)) (sym names);
 }
 
 -- a text that was read, and more of it
 abbrev pub Traced : Trace → List ℕ → List ℕ → List ℕ → List ℕ → Type 0
 Traced trace file told text text' =
     (more : List ℕ) × (read : List ReadLine) × (text' ≡ text ++ more) × HasTraced trace file
-        (told ++ more) read
+    (told ++ more) read
 
 pub traced_none : (trace : Trace) (file told text : List ℕ) (read : List ReadLine)
     → HasTraced trace file told read
@@ -134,7 +140,7 @@ traced_on middle after file front piece told text text' text'' before next = (
   subst (λ (f : List ℕ). HasTraced after f (told ++ (before.0 ++ next.0)) next.1)
       (append_assoc file front piece)
       (subst (λ (t : List ℕ). HasTraced after ((file ++ front) ++ piece) t next.1)
-          (append_assoc told before.0 next.0) next.3),
+      (append_assoc told before.0 next.0) next.3),
 )
 
 -- a piece that ends no line
@@ -173,7 +179,7 @@ took_line trace after file line told text text' read is ends none (next, same, h
         ∙ ap (λ (l : List ℕ). (lines_read read ++ l ∷ []) ++ lines_of more) (sym same);
     told = ap (λ (t : List ℕ). t ++ untraced_line (is.begun ++ line)) is.told
         ∙ ap (λ (t : List ℕ). untraced_lines (lines_read read) ++ t)
-            (sym (append-nil (untraced_line (is.begun ++ line))))
+        (sym (append-nil (untraced_line (is.begun ++ line))))
         ∙ sym (untraced-append (lines_read read) ((is.begun ++ line) ∷ []))
         ∙ ap (λ (l : List ℕ). untraced_lines (lines_read read ++ l ∷ [])) (sym same);
   },
@@ -188,9 +194,9 @@ kept_none kept begun (inr (left, right)) none = absurd
 abbrev pub Ended : Trace → List ℕ → List ℕ → List ℕ → List ℕ → Type 0
 Ended trace file told text text' =
     (more : List ℕ) × (read : List ReadLine) × (text' ≡ text ++ more) ×
-        (told ++ more ≡ untraced_lines (lines_of file))
+    (told ++ more ≡ untraced_lines (lines_of file))
     × AreLinesOf file read × (trace.so_far.wrong_class ≡ wrong_class (class_by trace.so_far.names)
-        read)
+    read)
 
 pub ended_whole : (trace : Trace) (file told text : List ℕ) (read : List ReadLine)
     → HasTraced trace file told read
@@ -200,7 +206,7 @@ ended_whole trace file told text read is none =
     let begun : is.begun ≡ [] = kept_none trace.begun.items is.begun is.kept none in
     let all : lines_of file ≡ lines_read read =
     ap lines_of (sym (append-nil file)) ∙ is.split []
-        ∙ ap (λ (b : List ℕ). lines_read read ++ lines_of (b ++ [])) begun ∙ nothing in (
+    ∙ ap (λ (b : List ℕ). lines_read read ++ lines_of (b ++ [])) begun ∙ nothing in (
       [],
       read,
       sym (append-nil text),
@@ -222,16 +228,19 @@ ended_cut trace after file told text text' read is some (next, same, has) writte
     ap lines_of (sym (append-nil file)) ∙ is.split []
     ∙ ap (λ (b : List ℕ). lines_read read ++ lines_of b) (append-nil is.begun)
     ∙ ap (λ (ls : List (List ℕ)). lines_read read ++ ls)
-        (lines-part is.begun is.lacks (some_begun trace.begun.items is.begun is.kept some)) in (
+    (lines-part is.begun is.lacks (some_begun trace.begun.items is.begun is.kept some)) in (
       untraced_line is.begun,
       next ∷ read,
       written,
       ap (λ (t : List ℕ). t ++ untraced_line is.begun) is.told
           ∙ ap (λ (t : List ℕ). untraced_lines (lines_read read) ++ t)
-              (sym (append-nil (untraced_line is.begun)))
+          (sym (append-nil (untraced_line is.begun)))
           ∙ sym (untraced-append (lines_read read) (is.begun ∷ [])) ∙ ap untraced_lines (sym all),
-      record { split = ap (λ (l : List ℕ). lines_read read ++ l ∷ []) same
-          ∙ sym all; are = has.are },
+      record {
+        split = ap (λ (l : List ℕ). lines_read read ++ l ∷ []) same
+            ∙ sym all;
+        are = has.are;
+      },
       has.class,
     )
   where
@@ -261,12 +270,12 @@ pub fault_none : (classes : List ℕ → List ℕ) (line : ℕ) (cut : TracedLin
 unfolding fault_at
 fault_none classes line cut tap same =
     ap (λ (b : Bool). if b then None else Some (fault_at line tap.token))
-        ((bytes_eq-Decides (classes tap.token) cut.class).1 same)
+    ((bytes_eq-Decides (classes tap.token) cut.class).1 same)
 
 pub fault_some : (classes : List ℕ → List ℕ) (line : ℕ) (cut : TracedLine) (tap : TapFields)
     → (classes tap.token ≡ cut.class → ⊥)
     → class_fault classes line (Some (traced_by cut tap)) ≡ Some
-        (record { line = line; token = tap.token })
+    (record { line = line; token = tap.token })
 unfolding fault_at
 fault_some classes line cut tap other = by_test (bytes_eq (classes tap.token) cut.class) refl
   where

@@ -58,9 +58,11 @@ returns-clause-ok g c =
         after_uploads = _;
         after_report = _;
         fares = c.in_ok-table.table;
-        loads_table = record
-            { bytes = c.in_ok-table.table_text.items; told_is = c.in_ok-table.ensures.ok.0;
-            means = c.in_ok-table.ensures.ok.1 };
+        loads_table = record {
+          bytes = c.in_ok-table.table_text.items;
+          told_is = c.in_ok-table.ensures.ok.0;
+          means = c.in_ok-table.ensures.ok.1;
+        };
         uploads = loaded.0;
         loads_uploads = loads_same c.as_slice-names.result.now c.args.options.now.uploads.items _ _
             loaded.0 names loaded.2;
@@ -110,9 +112,11 @@ returns-then-options-clause-ok g c =
         after_uploads = _;
         after_report = _;
         fares = c.in_ok-table.table;
-        loads_table = record
-            { bytes = c.in_ok-table.table_text.items; told_is = c.in_ok-table.ensures.ok.0;
-            means = c.in_ok-table.ensures.ok.1 };
+        loads_table = record {
+          bytes = c.in_ok-table.table_text.items;
+          told_is = c.in_ok-table.ensures.ok.0;
+          means = c.in_ok-table.ensures.ok.1;
+        };
         uploads = loaded.0;
         loads_uploads = loads_same c.as_slice-names.result.now c.args.options.now.uploads.items _ _
             loaded.0 names loaded.2;
@@ -210,10 +214,10 @@ returns-clause-right g c =
           let ledger = reads_ledger _ _ _ _ _ _ c.in_ok-head.head.items c.as_slice.result.now
           c.in_ok-table.table_text.items c.as_slice-2.result.now told.0
           (classes_of c.in_ok-trace.trace)
-    c.in_ok-ledger.ensures.ok c.in_ok-head.ensures.read c.in_ok-head.ensures.enough
-    c.as_slice.ensures.value c.as_slice-2.ensures.value (c.chain-whole.ensures.bytes
-    ∙ ap (λ (h : List ℕ). option_append (Some h) _) c.from.ensures.0) told.1
-    c.in_ok-trace.ensures.classes in
+          c.in_ok-ledger.ensures.ok c.in_ok-head.ensures.read c.in_ok-head.ensures.enough
+          c.as_slice.ensures.value c.as_slice-2.ensures.value (c.chain-whole.ensures.bytes
+          ∙ ap (λ (h : List ℕ). option_append (Some h) _) c.from.ensures.0) told.1
+          c.in_ok-trace.ensures.classes in
           record {
             text = finding.0;
             well = finding.1;
@@ -222,9 +226,11 @@ returns-clause-right g c =
               after_uploads = _;
               after_report = _;
               fares = c.in_ok-table.table;
-              loads_table = record
-                  { bytes = c.in_ok-table.table_text.items; told_is = c.in_ok-table.ensures.ok.0;
-                  means = c.in_ok-table.ensures.ok.1 };
+              loads_table = record {
+                bytes = c.in_ok-table.table_text.items;
+                told_is = c.in_ok-table.ensures.ok.0;
+                means = c.in_ok-table.ensures.ok.1;
+              };
               uploads = loaded.0;
               loads_uploads = loads_same c.as_slice-names.result.now
                   c.args.options.now.uploads.items _ _ loaded.0 names loaded.2;

@@ -14,9 +14,12 @@ returns-in_default-cut_line-clause-read c = λ whole read kept has.
     let none : cut_line line ≡ None = sym c.cut_line.ensures.cut
     ∙ ap (λ (o : Option CutLine). option_map cut_of o) c.in_default-cut_line.is in
     let count : c.in-Some.number ≡ c.args.self.now.lines + 1 = first_of
-    (omega arith, grind (arith, nat_tests), search (rules, tests)) in
-    (record { line = whole; traced = None }, refl, took_other c.args.self.now _ line whole read has
-    kept none count refl refl)
+    (omega arith, grind (arith, nat_tests), search (rules, tests)) in (
+      record { line = whole; traced = None },
+      refl,
+      took_other c.args.self.now _ line whole read has
+          kept none count refl refl,
+    )
 
 pub returns-in_default-cut_line-clause-text : goal.returns-in_default-cut_line-clause-text
 returns-in_default-cut_line-clause-text c = λ whole kept.
@@ -36,11 +39,13 @@ returns-clause-read c = λ whole read kept has.
     ∙ ap (λ (o : Option CutLine). option_map cut_of o) c.in-Some-cut_line.is in
     let count : c.in-Some.number ≡ c.args.self.now.lines + 1 = first_of
     (omega arith, grind (arith, nat_tests), search (rules, tests)) in
-    let traced = option_map (traced_by cut) c.in_ok-tap.tap in
-    (record { line = whole; traced = traced }, refl,
-    took_cut c.args.self.now _ line whole cut traced read has kept is count
-    (rw count at c.look.ensures.class) c.look.ensures.names
-    (c.in_ok-tap.tap, c.in_ok-tap.ensures.tap, refl))
+    let traced = option_map (traced_by cut) c.in_ok-tap.tap in (
+      record { line = whole; traced = traced },
+      refl,
+      took_cut c.args.self.now _ line whole cut traced read has kept is count
+          (rw count at c.look.ensures.class) c.look.ensures.names
+          (c.in_ok-tap.tap, c.in_ok-tap.ensures.tap, refl),
+    )
 
 pub returns-clause-text : goal.returns-clause-text
 returns-clause-text c = λ whole kept.
