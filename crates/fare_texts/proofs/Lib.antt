@@ -1,4 +1,5 @@
 pub mod Along
+pub mod Beginnings
 pub mod ByToken
 pub mod Closing
 pub mod Collecting
@@ -11,5 +12,6 @@ pub mod Parts
 pub mod Rising
 pub mod Sorting
 pub mod StatementLines
+pub mod TextsExist
 pub mod Whole
 pub mod PieceWriting

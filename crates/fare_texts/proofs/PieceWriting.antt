@@ -1,8 +1,7 @@
 -- One line after another: what the teller has come to, and what was written.
 use Rattle.std.proofs.Common.{◌≡◌, ℕ, ◌+◌, ◌<◌, true, false, List, [], ◌∷◌, ◌++◌, Option, Some, None, length, take, drop, get_or, refl, sym, ap, subst, ◌∙◌, append_assoc, append-nil, add-one, drop-cons, arith}
 use Rattle.std.specs.Prelude.{slice_get}
-use Rattle.std.specs.Io.KnownBytes.{Appends, Keeps, append_known}
-use Rattle.std.proofs.lemmas.List.{get_or-map, length-map}
+use Rattle.std.proofs.lemmas.List.{get_or-map, length-map, take-append-drop}
 use Rattle.std.proofs.Math.Seq.{take-suc}
 use Rattle.fare_table.specs.Fares.{Fares}
 use Rattle.shard_book.specs.Entry.{own}
@@ -17,6 +16,7 @@ use Rattle.fare_texts.specs.declared.spot.Spot.{Spot}
 use Rattle.shard_book.specs.Book.{Book}
 use Rattle.fare_texts.specs.declared.teller.Teller.{Teller}
 use Rattle.fare_texts.proofs.Rising.{none_below, own_push, up_itself, up_push, up_weaker}
+use Rattle.fare_texts.proofs.TextsExist.{along_exist}
 
 -- ---- the teller
 pub come_first : (fares : Fares) (teller : Teller) → HasTold fares teller [] → HasCome fares teller []
@@ -116,17 +116,15 @@ rise_first books (one ∷ list) first is no_fall =
     let same : one ≡ first = cc in
     subst (λ (x : Spot). NoFallFrom (entry_at_spot books x).token (entries_at_spots books (one ∷ list))) same (up_itself (entry_at_spot books one).token, no_fall)
 
--- ---- the bytes
-pub grown : (a b : Option (List ℕ)) (text longer written line : List ℕ) → Appends a (append_known b text) written → longer ≡ text ++ line → Appends a (append_known b longer) (written ++ line)
-grown None b text longer written line p e = tt
-grown (Some x) None text longer written line p e = absurd p
-grown (Some x) (Some y) text longer written line p e =
-    ap (λ t. y ++ t) e ∙ sym (append_assoc y text line) ∙ ap (λ t. t ++ line) p ∙ append_assoc x written line
-
-pub last_out : (a b c : Option (List ℕ)) (first text left written : List ℕ) → Appends (append_known a first) (append_known b text) written
-    → Keeps (append_known b text) (append_known c left) → left ≡ [] → Appends a c (first ++ written)
-last_out None b c first text left written p q e = tt
-last_out (Some x) None c first text left written p q e = absurd p
-last_out (Some x) (Some y) None first text left written p q e = absurd q
-last_out (Some x) (Some y) (Some z) first text left written p q e =
-    sym (append-nil z) ∙ ap (λ t. z ++ t) (sym e) ∙ q ∙ p ∙ append_assoc x first written
+-- lines of the first entries, and those of the others behind them
+pub along_all : (fares : Fares) (entries : List Entry) (place : ℕ) (written : List ℕ)
+    → AreLinesAlong fares [] (take place entries) written
+    → (more : List ℕ) × AreLinesAlong fares [] entries (written ++ more)
+along_all fares entries place written along =
+    let others = along_exist fares (take place entries) (drop place entries) in (
+      others.0,
+      subst (λ (es : List Entry). AreLinesAlong fares [] es (written ++ others.0))
+          (take-append-drop place entries)
+          (along_append fares [] (take place entries) (drop place entries) written others.0 along
+          others.1),
+    )

@@ -11,4 +11,5 @@ pub mod ReasonWords
 pub mod ReportLines
 pub mod StatementText
 pub mod Tellers
+pub mod WrittenOut
 pub mod inside

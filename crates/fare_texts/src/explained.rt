@@ -7,6 +7,8 @@ ghost use Rattle.std.specs.Io.KnownBytes.{Appends};
 ghost use Rattle.shard_book.specs.Sums.{sums, sums_of};
 ghost use Rattle.fare_texts.specs.Explained.{IsExplained, IsExplainedOf, terms_line};
 ghost use Rattle.fare_texts.specs.PrintFaults.{KeepsUnlessWrite};
+ghost use Rattle.fare_texts.specs.WrittenOut.{Begins};
+ghost use Rattle.fare_texts.specs.declared.print_fault.PrintFault.TheVariants.{Write as ForWrite};
 
 mod lines;
 mod window_lines;
@@ -66,6 +68,9 @@ pub fn write_explained_of<W: Write>(
 ) -> Result<(), PrintFault>
     ensures ok { OnOk result ((text : List ℕ) × IsExplained table.now token entries.now text
         × Appends (W.contents out.old) (W.contents out.new) text) }
+    ensures begun { IfErr result (λ fault. fault ≡ ForWrite
+        → (text : List ℕ) × IsExplained table.now token entries.now text
+        × Begins (W.contents out.old) (W.contents out.new) text) }
     ensures fault { IfErr result (λ fault. KeepsUnlessWrite fault (out.new ≡ out.old)) }
 {
     let mut text = text_of(alloc, table, token, entries)?;
@@ -97,6 +102,9 @@ pub fn write_explained<W: Write>(
     requires { 0 < length books.now }
     ensures ok { OnOk result ((text : List ℕ) × IsExplainedOf books.now token text
         × Appends (W.contents out.old) (W.contents out.new) text) }
+    ensures begun { IfErr result (λ fault. fault ≡ ForWrite
+        → (text : List ℕ) × IsExplainedOf books.now token text
+        × Begins (W.contents out.old) (W.contents out.new) text) }
     ensures fault { IfErr result (λ fault. KeepsUnlessWrite fault (out.new ≡ out.old)) }
 {
     let mut text = explained_text(alloc, books, token)?;

@@ -5,6 +5,8 @@ ghost use Rattle.std.specs.Prelude.{None, Some, length};
 ghost use Rattle.std.specs.Prelude.{slice_get, string_bytes};
 ghost use Rattle.std.specs.Io.KnownBytes.{Appends};
 ghost use Rattle.fare_texts.specs.PrintFaults.{KeepsUnlessWrite};
+ghost use Rattle.fare_texts.specs.WrittenOut.{Begins};
+ghost use Rattle.fare_texts.specs.declared.print_fault.PrintFault.TheVariants.{Write as ForWrite};
 ghost use Rattle.shard_book.specs.Book.{Book};
 ghost use Rattle.shard_book.specs.Entry.{own};
 ghost use Rattle.shard_book.specs.SumsByKey.{all_entries};
@@ -63,6 +65,9 @@ fn write_all<W: Write>(alloc: Global, books: &[ShardBook], out: &mut W) -> Resul
     requires { 0 < length books.now }
     ensures ok { OnOk result ((text : List ℕ) × IsLedgerOfBooks books.now None text
         × Appends (W.contents out.old) (W.contents out.new) text) }
+    ensures begun { IfErr result (λ fault. fault ≡ ForWrite
+        → (text : List ℕ) × IsLedgerOfBooks books.now None text
+        × Begins (W.contents out.old) (W.contents out.new) text) }
     ensures fault { IfErr result (λ fault. KeepsUnlessWrite fault (out.new ≡ out.old)) }
 {
     let table = table_of(books);
@@ -102,6 +107,11 @@ pub fn write_ledger_of<W: Write>(
         × ((history : List Entry) → own token history ≡ entries.now
         → IsLedgerOver table.now history (Some token) text)
         × Appends (W.contents out.old) (W.contents out.new) text) }
+    ensures begun { IfErr result (λ fault. fault ≡ ForWrite
+        → (text : List ℕ)
+        × ((history : List Entry) → own token history ≡ entries.now
+        → IsLedgerOver table.now history (Some token) text)
+        × Begins (W.contents out.old) (W.contents out.new) text) }
     ensures fault { IfErr result (λ fault. KeepsUnlessWrite fault (out.new ≡ out.old)) }
 {
     let mut text = token_text(alloc, table, token, entries)?;
@@ -130,6 +140,9 @@ fn write_own<W: Write>(
     requires { 0 < length books.now }
     ensures ok { OnOk result ((text : List ℕ) × IsLedgerOfBooks books.now (Some token) text
         × Appends (W.contents out.old) (W.contents out.new) text) }
+    ensures begun { IfErr result (λ fault. fault ≡ ForWrite
+        → (text : List ℕ) × IsLedgerOfBooks books.now (Some token) text
+        × Begins (W.contents out.old) (W.contents out.new) text) }
     ensures fault { IfErr result (λ fault. KeepsUnlessWrite fault (out.new ≡ out.old)) }
 {
     let mut text = own_text(alloc, books, token)?;
@@ -151,6 +164,9 @@ pub fn write_ledger<W: Write>(
     requires { 0 < length books.now }
     ensures ok { OnOk result ((text : List ℕ) × IsLedgerOfBooks books.now only text
         × Appends (W.contents out.old) (W.contents out.new) text) }
+    ensures begun { IfErr result (λ fault. fault ≡ ForWrite
+        → (text : List ℕ) × IsLedgerOfBooks books.now only text
+        × Begins (W.contents out.old) (W.contents out.new) text) }
     ensures fault { IfErr result (λ fault. KeepsUnlessWrite fault (out.new ≡ out.old)) }
 {
     match only {

@@ -37,4 +37,4 @@ pub use print_fault::PrintFault;
 pub use reason_words::write_reason_words;
 pub use statement::{statement_text, write_entry_words, write_statement_head, write_window_words};
 pub use teller::Teller;
-pub use writing::write_out;
+pub use writing::{write_bytes, write_out};

@@ -1,10 +1,12 @@
 //! The lines of entries that stand in order of token, written in pieces.
 
-ghost use Rattle.std.specs.Prelude.{◌≡◌, ◌≤◌, ℕ, List, [], ◌++◌, IfErr, OnOk, string_bytes};
-ghost use Rattle.std.specs.Io.KnownBytes.{Appends, Keeps, append_known};
+ghost use Rattle.std.specs.Prelude.{◌≡◌, ◌≤◌, ℕ, List, [], ◌++◌, IfErr, OnErr, OnOk};
+ghost use Rattle.std.specs.Prelude.{string_bytes};
+ghost use Rattle.std.specs.Io.KnownBytes.{Appends};
 ghost use Rattle.fare_texts.specs.declared.print_fault.PrintFault.TheVariants.{Write as ForWrite};
 ghost use Rattle.fare_texts.specs.Lines.{AreLinesAlong, HasCome, IsUpTo, NoFall};
 ghost use Rattle.fare_texts.specs.Lines.{NoFallFrom};
+ghost use Rattle.fare_texts.specs.WrittenOut.{Begins, GoesOut};
 ghost use Rattle.fare_texts.specs.inside.Spots.{entries_at_spots};
 ghost use Rattle.fare_table.specs.Fares.{Fares};
 ghost use Rattle.tap_views.specs.declared.token.Token.{Token};
@@ -23,9 +25,11 @@ pub const PIECE_BYTES: usize = 65_536;
 
 /// Writes out what waits in the text, whose room stays.
 pub fn pass_on<W: Write>(text: &mut String, out: &mut W) -> Result<(), PrintFault>
-    ensures kept { OnOk result (Keeps (append_known (W.contents out.old) (string_bytes text.old))
-        (append_known (W.contents out.new) (string_bytes text.new))) }
+    ensures whole { OnOk result (Appends (W.contents out.old) (W.contents out.new)
+        (string_bytes text.old)) }
     ensures empty { OnOk result (string_bytes text.new ≡ []) }
+    ensures begun { OnErr result (Begins (W.contents out.old) (W.contents out.new)
+        (string_bytes text.old)) }
     ensures fault { IfErr result (λ fault. fault ≡ ForWrite) }
 {
     write_out(text.as_bytes(), out)?;
@@ -35,8 +39,10 @@ pub fn pass_on<W: Write>(text: &mut String, out: &mut W) -> Result<(), PrintFaul
 
 /// Writes out what waits in the text, where it is a piece: `PIECE_BYTES` or more.
 pub fn pass_piece<W: Write>(text: &mut String, out: &mut W) -> Result<(), PrintFault>
-    ensures kept { OnOk result (Keeps (append_known (W.contents out.old) (string_bytes text.old))
-        (append_known (W.contents out.new) (string_bytes text.new))) }
+    ensures gone { OnOk result (GoesOut (W.contents out.old) (string_bytes text.old)
+        (W.contents out.new) (string_bytes text.new) []) }
+    ensures begun { OnErr result (Begins (W.contents out.old) (W.contents out.new)
+        (string_bytes text.old)) }
     ensures fault { IfErr result (λ fault. fault ≡ ForWrite) }
 {
     if text.len() < PIECE_BYTES {
@@ -74,8 +80,11 @@ fn write_pieces<W: Write>(
     requires no_fall { NoFallFrom first (entries_at_spots books.now spots.now) }
     ensures lines { OnOk result ((lines : List ℕ)
         × AreLinesAlong table.now [] (entries_at_spots books.now spots.now) lines
-        × Appends (append_known (W.contents out.old) (string_bytes text.old))
-        (append_known (W.contents out.new) (string_bytes text.new)) lines) }
+        × GoesOut (W.contents out.old) (string_bytes text.old) (W.contents out.new)
+        (string_bytes text.new) lines) }
+    ensures begun { OnErr result ((lines : List ℕ)
+        × AreLinesAlong table.now [] (entries_at_spots books.now spots.now) lines
+        × Begins (W.contents out.old) (W.contents out.new) (string_bytes text.old ++ lines)) }
     ensures fault { IfErr result (λ fault. fault ≡ ForWrite) }
 {
     let mut teller = Teller::of(first);
@@ -105,8 +114,11 @@ fn write_some<W: Write>(
     requires no_fall { NoFall (entries_at_spots books.now spots.now) }
     ensures lines { OnOk result ((lines : List ℕ)
         × AreLinesAlong table.now [] (entries_at_spots books.now spots.now) lines
-        × Appends (append_known (W.contents out.old) (string_bytes text.old))
-        (append_known (W.contents out.new) (string_bytes text.new)) lines) }
+        × GoesOut (W.contents out.old) (string_bytes text.old) (W.contents out.new)
+        (string_bytes text.new) lines) }
+    ensures begun { OnErr result ((lines : List ℕ)
+        × AreLinesAlong table.now [] (entries_at_spots books.now spots.now) lines
+        × Begins (W.contents out.old) (W.contents out.new) (string_bytes text.old ++ lines)) }
     ensures fault { IfErr result (λ fault. fault ≡ ForWrite) }
 {
     match spots.first() {
@@ -132,6 +144,9 @@ pub(crate) fn write_lines<W: Write>(
     ensures ok { OnOk result ((lines : List ℕ)
         × AreLinesAlong table.now [] (entries_at_spots books.now spots.now) lines
         × Appends (W.contents out.old) (W.contents out.new) (string_bytes text.old ++ lines)) }
+    ensures begun { OnErr result ((lines : List ℕ)
+        × AreLinesAlong table.now [] (entries_at_spots books.now spots.now) lines
+        × Begins (W.contents out.old) (W.contents out.new) (string_bytes text.old ++ lines)) }
     ensures fault { IfErr result (λ fault. fault ≡ ForWrite) }
 {
     write_some(text, table, clock, books, spots, out)?;

@@ -5,7 +5,7 @@ use tap_views::NoMemory;
 /// Why a text was not printed.
 #[derive(Clone, Copy, Debug, PartialEq, Eq, thiserror::Error)]
 pub enum PrintFault {
-    /// The writer failed. Nothing is known of how much of the text went out.
+    /// The writer failed. A beginning of the text was written.
     #[error("cannot write")]
     Write,
     /// The text could not be made, and nothing was written.

@@ -4,4 +4,3 @@ pub mod FullFindingLemmas
 pub mod ProgramLemmas
 pub mod ReadLemmas
 pub mod TapLines
-pub mod Written

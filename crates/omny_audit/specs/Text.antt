@@ -2,7 +2,6 @@
 use Rattle.std.specs.Prelude.{◌≡◌, ℕ, List, [], ◌∷◌, ◌++◌, codes, string_bytes, Option, None, Some}
 use Rattle.std.specs.Prelude.{◌&&◌, Bool, MatchBool, length, nat_eq}
 use Rattle.std.specs.Fmt.{decimal}
-use Rattle.std.specs.Io.KnownBytes.{Appends}
 use Rattle.hex.specs.Hex.{encode_lower}
 use Rattle.fare_texts.specs.Moments.{IsMomentText}
 use Rattle.ledger_check.specs.declared.balance.Difference.{Difference}
@@ -68,10 +67,3 @@ abbrev pub IsDifferencesText : List TapFields → List TapFields → List ℕ �
 IsDifferencesText missing surplus text =
     MatchBool (are_none missing surplus) (IsDifferenceText None text)
     (AreDifferenceLines missing surplus text)
-
--- known bytes grow by a beginning of the text
-pub record Begins (before after : Option (List ℕ)) (text : List ℕ) : Type 0 where
-  pub front : List ℕ
-  pub rest : List ℕ
-  pub whole : text ≡ front ++ rest
-  pub written : Appends before after front

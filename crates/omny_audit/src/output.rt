@@ -4,9 +4,10 @@ ghost use Rattle.std.specs.Io.KnownBytes.{Appends, Keeps};
 ghost use Rattle.std.specs.IoError.{error_kind};
 ghost use Rattle.omny_audit.specs.Fault.{is_quiet, is_unwritten, named_by};
 ghost use Rattle.omny_audit.specs.inside.Fault.{is_of_loading};
-ghost use Rattle.omny_audit.specs.Text.{Begins};
+ghost use Rattle.fare_texts.specs.WrittenOut.{Begins};
 
 use crate::fault::Fault;
+use fare_texts::write_bytes;
 use std::io;
 use std::io::{ErrorKind, Write};
 
@@ -22,29 +23,6 @@ pub(crate) fn unwritten<'a>(error: &io::Error) -> Fault<'a>
     } else {
         Fault::Write
     }
-}
-
-/// Writes the whole text. If a write fails, a beginning of it was written.
-fn write_bytes<W: Write>(out: &mut W, text: &[u8]) -> io::Result<()>
-    ensures text { OnOk result (Appends (W.contents out.old) (W.contents out.new) text.now) }
-    ensures begun { OnErr result (Begins (W.contents out.old) (W.contents out.new) text.now) }
-{
-    let mut rest = text;
-    for _write in 0..u64::MAX {
-        if rest.is_empty() {
-            return Ok(());
-        }
-        match out.write(rest) {
-            Ok(0) => return Err(io::Error::from(ErrorKind::WriteZero)),
-            Ok(count) => rest = &rest[count..],
-            Err(error) => {
-                if error.kind() != ErrorKind::Interrupted {
-                    return Err(error);
-                }
-            }
-        }
-    }
-    Err(io::Error::from(ErrorKind::WriteZero))
 }
 
 /// Flushes the writer. No contract says where the bytes go.
@@ -83,7 +61,7 @@ pub(crate) fn write_text<'a, W: Write>(out: &mut W, text: &[u8]) -> Result<(), F
     // What a write that fails leaves is a beginning of the text.
     ensures begun { OnErr result (Begins (W.contents out.old) (W.contents out.new) text.now) }
 {
-    match write_bytes(out, text) {
+    match write_bytes(text, out) {
         Ok(()) => flush(out),
         Err(error) => Err(unwritten(&error)),
     }

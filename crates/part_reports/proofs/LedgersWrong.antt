@@ -8,7 +8,7 @@ use Rattle.fare_texts.specs.LedgerLines.{head_text}
 use Rattle.part_reports.specs.Faults.{IsOfTexts}
 use Rattle.part_reports.specs.Ledgers.{IsMergedLedger, IsNoLedger, IsPartLedger, IsWrongLedgerAt}
 use Rattle.part_reports.specs.Ledgers.{LedgersShareToken, NamesWrongLedger}
-use Rattle.part_reports.specs.Texts.{Begins}
+use Rattle.fare_texts.specs.WrittenOut.{Begins}
 use Rattle.part_reports.specs.TokenLines.{IsMergedByToken, TokenLine, text_of}
 use Rattle.part_reports.specs.inside.BegunLedgers.{AreBegunLedgers}
 use Rattle.part_reports.specs.inside.Kinds.{AreTexts, IsTextOf}
@@ -21,7 +21,7 @@ use Rattle.part_reports.specs.declared.fault.MergeFault.TheVariants.{NoMemory}
 use Rattle.part_reports.specs.declared.merging.LineKind.{LineKind}
 use Rattle.part_reports.specs.declared.merging.LineKind.TheVariants.{Entries}
 use Rattle.part_reports.proofs.LedgerTexts.{lefts_of, texts_to}
-use Rattle.part_reports.proofs.MergedBefore.{begins_behind, begins_front}
+use Rattle.fare_texts.proofs.Beginnings.{begins_behind, begins_front}
 
 -- ---- what was written
 -- a beginning of the head line

@@ -38,5 +38,4 @@ pub mod Unique
 pub mod UniqueTexts
 pub mod WholeFronts
 pub mod WholeReports
-pub mod Written
 pub mod Wrongs

@@ -11,7 +11,7 @@ use Rattle.std.proofs.lemmas.List.Concat.{flat_map-append}
 use Rattle.std.specs.declared.cmp.Ordering.TheVariants.{Less}
 use Rattle.tap_views.specs.Token.{token_cmp, token_eq}
 use Rattle.tap_views.specs.declared.token.Token.{Token}
-use Rattle.part_reports.specs.Texts.{Begins}
+use Rattle.fare_texts.specs.WrittenOut.{Begins}
 use Rattle.part_reports.specs.TokenLines.{IsMergedByToken, ShareNoToken, TokenLine, lines_of_token}
 use Rattle.part_reports.specs.TokenLines.{text_of}
 use Rattle.part_reports.specs.inside.Going.{IsGoing, Part, Rise}
@@ -31,41 +31,9 @@ use Rattle.part_reports.proofs.Orders.{NotBelow, may_not_below, not_below_itself
 use Rattle.part_reports.proofs.Parts.{going_end, going_line, line_at, next_part}
 use Rattle.part_reports.proofs.PermutedTokens.{eq_of, same_token}
 use Rattle.part_reports.proofs.Places.{at_map, each_at}
+use Rattle.fare_texts.proofs.Beginnings.{begins_more}
 use Rattle.part_reports.proofs.Risings.{begins, each_behind, each_weaker, falls_to, lines_each}
 use Rattle.part_reports.proofs.Risings.{lines_rise, no_bytes, rise_behind, rise_middle, rise_push}
-
--- ---- beginnings
-pub begins_nothing : (o : Option (List ℕ)) (text : List ℕ) → Begins o o text
-begins_nothing o text = record { front = []; rest = text; whole = refl; written = appends_nothing o }
-
-pub begins_whole : (a b : Option (List ℕ)) (text : List ℕ) → Appends a b text → Begins a b text
-begins_whole a b text written =
-    record { front = text; rest = []; whole = sym (append-nil text); written = written }
-
--- a beginning of a text that goes on
-pub begins_front : (a b : Option (List ℕ)) (x y : List ℕ) → Begins a b x → Begins a b (x ++ y)
-begins_front a b x y begun = record {
-  front = begun.front;
-  rest = begun.rest ++ y;
-  whole = ap (λ text. text ++ y) begun.whole ∙ append_assoc begun.front begun.rest y;
-  written = begun.written;
-}
-
--- a whole text, and a beginning of the last one
-pub begins_behind : (a b c : Option (List ℕ)) (x y : List ℕ) → Appends a b x → Begins b c y
-    → Begins a c (x ++ y)
-begins_behind a b c x y first next = record {
-  front = x ++ next.front;
-  rest = next.rest;
-  whole = ap (λ text. x ++ text) next.whole ∙ sym (append_assoc x next.front next.rest);
-  written = appends_more a b c x next.front first next.written;
-}
-
--- a whole text, and a beginning of the next one
-pub begins_more : (a b c : Option (List ℕ)) (x y z : List ℕ) → Appends a b x → Begins b c y
-    → Begins a c (x ++ (y ++ z))
-begins_more a b c x y z first next =
-    begins_behind a b c x (y ++ z) first (begins_front b c y z next)
 
 -- ---- lists that do not fall, by the lines of each token
 -- a fact of each line's token, where a line has this token

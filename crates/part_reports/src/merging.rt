@@ -7,7 +7,7 @@ ghost use Rattle.std.specs.Io.BufRead.{take_through};
 ghost use Rattle.std.specs.List.{AllZip};
 ghost use Rattle.std.specs.Io.KnownBytes.{Appends};
 ghost use Rattle.part_reports.specs.Faults.{IsOfTaps, IsOfTexts};
-ghost use Rattle.part_reports.specs.Texts.{Begins};
+ghost use Rattle.fare_texts.specs.WrittenOut.{Begins};
 ghost use Rattle.part_reports.specs.inside.Told.{IsOfReader, IsOfText, NamesOneOf, NamesOnly};
 ghost use Rattle.part_reports.specs.inside.Told.{text_number};
 ghost use Rattle.part_reports.specs.inside.WrongTexts.{IsWrongText};

@@ -2,36 +2,13 @@
 
 ghost use Rattle.std.specs.Prelude.{◌≡◌, IfErr, OnErr, OnOk};
 ghost use Rattle.std.specs.Io.KnownBytes.{Appends};
+ghost use Rattle.fare_texts.specs.WrittenOut.{Begins};
 ghost use Rattle.part_reports.specs.Faults.{IsOfTaps, IsOfTexts};
-ghost use Rattle.part_reports.specs.Texts.{Begins};
 ghost use Rattle.part_reports.specs.declared.fault.MergeFault.TheVariants.{Write as Unwritten};
 
 use crate::fault::MergeFault;
-use std::io;
-use std::io::{ErrorKind, Write};
-
-/// Writes the whole text. If a write fails, a beginning of it was written.
-fn write_bytes<W: Write>(out: &mut W, text: &[u8]) -> io::Result<()>
-    ensures text { OnOk result (Appends (W.contents out.old) (W.contents out.new) text.now) }
-    ensures begun { OnErr result (Begins (W.contents out.old) (W.contents out.new) text.now) }
-{
-    let mut rest = text;
-    for _write in 0..u64::MAX {
-        if rest.is_empty() {
-            return Ok(());
-        }
-        match out.write(rest) {
-            Ok(0) => return Err(io::Error::from(ErrorKind::WriteZero)),
-            Ok(count) => rest = &rest[count..],
-            Err(error) => {
-                if error.kind() != ErrorKind::Interrupted {
-                    return Err(error);
-                }
-            }
-        }
-    }
-    Err(io::Error::from(ErrorKind::WriteZero))
-}
+use fare_texts::write_bytes;
+use std::io::Write;
 
 /// Writes these bytes. If a write fails, a beginning of them was written, and the fault is `Write`.
 pub(crate) fn write_text<W: Write>(out: &mut W, text: &[u8]) -> Result<(), MergeFault>
@@ -40,7 +17,7 @@ pub(crate) fn write_text<W: Write>(out: &mut W, text: &[u8]) -> Result<(), Merge
     ensures fault { IfErr result (λ fault. (¬ (IsOfTexts fault)) × ¬ (IsOfTaps fault)) }
     ensures write { IfErr result (λ fault. fault ≡ Unwritten) }
 {
-    match write_bytes(out, text) {
+    match write_bytes(text, out) {
         Ok(()) => Ok(()),
         Err(_) => Err(MergeFault::Write),
     }

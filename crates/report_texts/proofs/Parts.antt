@@ -1,15 +1,17 @@
 -- Texts that are written part by part.
-use Rattle.std.specs.Prelude.{ℕ, ◌≡◌, ◌+◌, ◌<◌, ◌≤◌, List, [], ◌∷◌, ◌++◌, length, take, Option, Some, None, slice_get, codes}
-use Rattle.std.specs.Io.KnownBytes.{Appends, append_known}
-use Rattle.std.proofs.KnownBytes.{Appends-trans}
+use Rattle.std.specs.Prelude.{ℕ, ◌≡◌, ◌+◌, ◌<◌, ◌≤◌, List, [], ◌∷◌, ◌++◌, drop, length, take, Option, Some, None, slice_get, codes}
+use Rattle.std.specs.Io.KnownBytes.{Appends}
 use Rattle.std.specs.List.{flat_map}
 use Rattle.std.proofs.Common.{get_or, length-take}
-use Rattle.std.proofs.lemmas.List.{take_more, take_all, flat_map_more}
+use Rattle.std.proofs.lemmas.List.{take-append-drop, take_more, take_all, flat_map_more}
+use Rattle.std.proofs.lemmas.Grind.{flat_map-append}
 use Rattle.std.proofs.lemmas.Option.{slice_get_within, get_or_from_slice_get}
 use Rattle.std.proofs.Common.{sym, ◌∙◌, ap, subst, append_assoc, append-nil, arith, add-zero}
 use Rattle.shard_book.specs.Sums.{Sums}
 use Rattle.tap_views.specs.declared.token.Token.{Token}
 use Rattle.fare_texts.specs.ReportLines.{token_line}
+use Rattle.fare_texts.specs.WrittenOut.{Begins, GoesOut}
+use Rattle.fare_texts.proofs.Beginnings.{goes_last, goes_on, goes_then_on}
 use Rattle.report_texts.specs.Report.{upload_line, upload_lines}
 use Rattle.report_texts.specs.declared.upload_end.UploadEnd.{UploadEnd}
 use Rattle.report_texts.specs.declared.upload_end.UploadEnd.TheVariants.{Posted}
@@ -39,25 +41,36 @@ token_more sums i sum at =
     (ap (λ s. take i sums ++ s ∷ []) (sym (get_or_from_slice_get sums i sum sum at)) ∙ sym (take_more sums i sum (slice_get_within sums i sum at)))
 
 -- the lines before a token's, and its line
-pub next_token : (a b c : Option (List ℕ)) (line : List ℕ) (sums : List (Token × Sums)) (i : ℕ) (sum : Token × Sums) → slice_get sums i ≡ Some sum
-    → Appends a b (flat_map token_line (take i sums)) → line ≡ token_line sum → Appends b c line → Appends a c (flat_map token_line (take (i + 1) sums))
-next_token a b c line sums i sum at before shown more =
-    subst (λ (text : List ℕ). Appends a c text) (ap (λ (last : List ℕ). flat_map token_line (take i sums) ++ last) shown ∙ token_more sums i sum at)
-    (Appends-trans a b c (flat_map token_line (take i sums)) line before more)
-
--- what waits is written after what was
-waits_out : (a b c : Option (List ℕ)) (start waits lines : List ℕ) → Appends (append_known a start) (append_known b waits) lines → Appends b c waits
-    → Appends a c (start ++ lines)
-waits_out None b c start waits lines p q = tt
-waits_out (Some x) None c start waits lines p q = absurd p
-waits_out (Some x) (Some y) None start waits lines p q = absurd q
-waits_out (Some x) (Some y) (Some z) start waits lines p q = q ∙ p ∙ append_assoc x start lines
+pub next_token : (a b c : Option (List ℕ)) (start waits left line : List ℕ)
+    (sums : List (Token × Sums)) (i : ℕ) (sum : Token × Sums) → slice_get sums i ≡ Some sum
+    → GoesOut a start b waits (flat_map token_line (take i sums)) → line ≡ token_line sum
+    → GoesOut b waits c left line → GoesOut a start c left (flat_map token_line (take (i + 1) sums))
+next_token a b c start waits left line sums i sum at before shown more =
+    subst (λ (text : List ℕ). GoesOut a start c left text)
+    (ap (λ (last : List ℕ). flat_map token_line (take i sums) ++ last) shown
+    ∙ token_more sums i sum at)
+    (goes_on a b c start waits left (flat_map token_line (take i sums)) line before more)
 
 -- so all lines are out at last
-pub last_out : (a b c : Option (List ℕ)) (start waits : List ℕ) (sums : List (Token × Sums)) (i : ℕ) → length sums ≤ i
-    → Appends (append_known a start) (append_known b waits) (flat_map token_line (take i sums)) → Appends b c waits → Appends a c (start ++ flat_map token_line sums)
-last_out a b c start waits sums i all p q =
-    subst (λ (taken : List (Token × Sums)). Appends a c (start ++ flat_map token_line taken)) (take_all i sums all) (waits_out a b c start waits (flat_map token_line (take i sums)) p q)
+pub last_out : (a b c : Option (List ℕ)) (start waits : List ℕ) (sums : List (Token × Sums))
+    (i : ℕ) → length sums ≤ i → GoesOut a start b waits (flat_map token_line (take i sums))
+    → Appends b c waits → Appends a c (start ++ flat_map token_line sums)
+last_out a b c start waits sums i all gone written =
+    subst (λ (taken : List (Token × Sums)). Appends a c (start ++ flat_map token_line taken))
+    (take_all i sums all) (goes_last a b c start waits (flat_map token_line (take i sums)) gone written)
+
+-- where a write fails, a beginning of all lines is out
+pub lines_begun : (a b c : Option (List ℕ)) (start waits : List ℕ) (sums : List (Token × Sums))
+    (i : ℕ) → GoesOut a start b waits (flat_map token_line (take i sums)) → Begins b c waits
+    → Begins a c (start ++ flat_map token_line sums)
+lines_begun a b c start waits sums i gone begun =
+    let whole : flat_map token_line (take i sums) ++ flat_map token_line (drop i sums)
+    ≡ flat_map token_line sums =
+    sym (flat_map-append token_line (take i sums) (drop i sums))
+    ∙ ap (λ (all : List (Token × Sums)). flat_map token_line all) (take-append-drop i sums) in
+    subst (λ (text : List ℕ). Begins a c (start ++ text)) whole
+    (goes_then_on a b c start waits (flat_map token_line (take i sums))
+    (flat_map token_line (drop i sums)) gone begun)
 
 -- one upload more
 upload_lines-push : (upload : ℕ) (ends : List UploadEnd) (end : UploadEnd) → upload_lines upload (ends ++ end ∷ []) ≡ upload_lines upload ends ++ upload_line (upload + length ends) end

@@ -6,6 +6,8 @@ ghost use Rattle.std.specs.Io.KnownBytes.{Appends};
 ghost use Rattle.std.specs.List.{flat_map};
 ghost use Rattle.fare_texts.specs.PrintFaults.{KeepsUnlessWrite};
 ghost use Rattle.fare_texts.specs.ReportLines.{token_line};
+ghost use Rattle.fare_texts.specs.WrittenOut.{Begins};
+ghost use Rattle.fare_texts.specs.declared.print_fault.PrintFault.TheVariants.{Write as ForWrite};
 ghost use Rattle.shard_book.specs.Shown.{validator_sum};
 ghost use Rattle.shard_book.specs.Sums.{sums_of};
 ghost use Rattle.report_texts.specs.Report.{report};
@@ -53,6 +55,9 @@ pub fn write_report<W: Write>(
 ) -> Result<(), PrintFault>
     ensures ok { OnOk result (Appends (W.contents out.old) (W.contents out.new)
         (report ends.now (sums_of totals.now) (map validator_sum validators.now) tokens.now)) }
+    ensures begun { IfErr result (λ fault. fault ≡ ForWrite
+        → Begins (W.contents out.old) (W.contents out.new) (report ends.now (sums_of totals.now)
+        (map validator_sum validators.now) tokens.now)) }
     ensures fault { IfErr result (λ fault. KeepsUnlessWrite fault (out.new ≡ out.old)) }
 {
     let Ok(mut text) = begun(alloc, ends, totals, validators, tokens) else {

@@ -1,8 +1,8 @@
 //! The part of the report that has a line for each token: of many tokens, it is most of the text.
 
-ghost use Rattle.std.specs.Prelude.{◌≡◌, ◌+◌, ◌≤◌, [], ◌++◌, OnOk, IfErr, length, codes, vec_len};
-ghost use Rattle.std.specs.Prelude.{vec_capacity};
-ghost use Rattle.std.specs.Io.KnownBytes.{Appends, Keeps, append_known};
+ghost use Rattle.std.specs.Prelude.{◌≡◌, ◌+◌, ◌≤◌, [], ◌++◌, OnErr, OnOk, IfErr, length};
+ghost use Rattle.std.specs.Prelude.{codes, vec_capacity, vec_len};
+ghost use Rattle.std.specs.Io.KnownBytes.{Appends};
 ghost use Rattle.std.specs.List.{flat_map};
 ghost use Rattle.hex.specs.Hex.{encode_lower};
 ghost use Rattle.shard_book.specs.Shown.{token_sum};
@@ -10,6 +10,7 @@ ghost use Rattle.shard_book.specs.Sums.{sums_of};
 ghost use Rattle.tap_views.specs.Token.{bytes_of};
 ghost use Rattle.fare_texts.specs.Counts.{first_counts, last_counts};
 ghost use Rattle.fare_texts.specs.ReportLines.{token_line};
+ghost use Rattle.fare_texts.specs.WrittenOut.{Begins, GoesOut};
 ghost use Rattle.fare_texts.specs.declared.print_fault.PrintFault.TheVariants.{Write as ForWrite};
 
 use crate::line::Line;
@@ -21,9 +22,10 @@ use tap_views::Token;
 /// Writes out what waits in the text where it leaves too little room.
 fn make_room<W: Write>(text: &mut Vec<u8>, needed: usize, out: &mut W) -> Result<(), PrintFault>
     requires { needed ≤ vec_capacity text.old }
-    ensures kept { OnOk result
-        (Keeps (append_known (W.contents out.old) text.old.items)
-        (append_known (W.contents out.new) text.new.items)) }
+    ensures gone { OnOk result (GoesOut (W.contents out.old) text.old.items (W.contents out.new)
+        text.new.items []) }
+    ensures begun { OnErr result (Begins (W.contents out.old) (W.contents out.new)
+        text.old.items) }
     ensures room { OnOk result (vec_len text.new + needed ≤ vec_capacity text.new) }
     ensures capacity { vec_capacity text.new ≡ vec_capacity text.old }
     ensures fault { IfErr result (λ fault. fault ≡ ForWrite) }
@@ -39,8 +41,10 @@ fn make_room<W: Write>(text: &mut Vec<u8>, needed: usize, out: &mut W) -> Result
 /// Appends a line to the text, of which what stood there may go out first. No memory is taken.
 fn push_line<W: Write>(text: &mut Vec<u8>, line: &Line, out: &mut W) -> Result<(), PrintFault>
     requires { 384 ≤ vec_capacity text.old }
-    ensures ok { OnOk result (Appends (append_known (W.contents out.old) text.old.items)
-        (append_known (W.contents out.new) text.new.items) line.now) }
+    ensures gone { OnOk result (GoesOut (W.contents out.old) text.old.items (W.contents out.new)
+        text.new.items line.now) }
+    ensures begun { OnErr result (Begins (W.contents out.old) (W.contents out.new)
+        text.old.items) }
     ensures capacity { vec_capacity text.old ≤ vec_capacity text.new }
     ensures fault { IfErr result (λ fault. fault ≡ ForWrite) }
 {
@@ -61,6 +65,8 @@ pub(crate) fn write_lines<W: Write>(
 ) -> Result<(), PrintFault>
     requires { 384 ≤ vec_capacity text.old }
     ensures ok { OnOk result (Appends (W.contents out.old) (W.contents out.new)
+        (text.old.items ++ flat_map token_line sums.now)) }
+    ensures begun { OnErr result (Begins (W.contents out.old) (W.contents out.new)
         (text.old.items ++ flat_map token_line sums.now)) }
     ensures fault { IfErr result (λ fault. fault ≡ ForWrite) }
 {

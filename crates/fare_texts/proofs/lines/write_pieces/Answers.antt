@@ -1,15 +1,14 @@
 use Rattle.std.proofs.Common.{◌+◌, List, [], ◌∷◌, ◌++◌, drop, take, string_bytes, refl, sym, ap}
 use Rattle.std.proofs.Common.{subst, ◌∙◌, arith}
-use Rattle.std.specs.Io.KnownBytes.{append_known}
-use Rattle.std.proofs.KnownBytes.{Appends-kept, Appends-nil}
 use Rattle.shard_book.specs.Entry.{own}
 use Rattle.shard_book.specs.declared.entry.Entry.{Entry}
 use Rattle.tap_views.specs.declared.token.Token.{Token}
 use Rattle.fare_texts.specs.LedgerLines.{IsLedgerLineAfter}
 use Rattle.fare_texts.specs.Lines.{AreLinesAlong, HasCome, IsLineAfter, IsUpTo, NoFallFrom}
 use Rattle.fare_texts.specs.inside.Spots.{entries_at_spots}
-use Rattle.fare_texts.proofs.PieceWriting.{along_push, come_first, come_next, grown, rise_here}
-use Rattle.fare_texts.proofs.PieceWriting.{rise_on, seen_taken}
+use Rattle.fare_texts.proofs.Beginnings.{goes_grown, goes_nothing, goes_passed}
+use Rattle.fare_texts.proofs.PieceWriting.{along_push, come_first, come_next, rise_here, rise_on}
+use Rattle.fare_texts.proofs.PieceWriting.{seen_taken}
 use Rattle.fare_texts.proofs.lines.write_pieces.Goals as goal
 
 pub loop-spot-init : goal.loop-spot-init
@@ -19,7 +18,7 @@ loop-spot-init g c = record {
   few = omega (arith, c.of-teller.ensures.none);
   written = [];
   along = refl;
-  whole = Appends-nil (append_known (g.W.Write.contents c.args.out.now) (string_bytes c.args.text.now));
+  whole = goes_nothing (g.W.Write.contents c.args.out.now) (string_bytes c.args.text.now);
 }
 
 -- the teller gone_on to the entry's token
@@ -65,7 +64,7 @@ loop-spot-preserved g c =
       along = subst (λ (es : List Entry). AreLinesAlong fares [] es (inv.written ++ line.0)) (sym taken)
           (along_push fares [] done _ inv.written line.0 inv.along
           (subst (λ (e : Entry). IsLineAfter fares done e line.0) is after));
-      whole = Appends-kept _ _ _ (inv.written ++ line.0)
-          (grown _ (g.W.Write.contents c.loop-spot.out) (string_bytes c.loop-spot.text) _ inv.written
-          line.0 inv.whole line.2) c.in_ok-pass_piece.ensures.kept;
+      whole = goes_passed _ _ _ _ _ _ (inv.written ++ line.0)
+          (goes_grown _ (g.W.Write.contents c.loop-spot.out) _ (string_bytes c.loop-spot.text) _ inv.written
+          line.0 inv.whole line.2) c.in_ok-pass_piece.ensures.gone;
     }

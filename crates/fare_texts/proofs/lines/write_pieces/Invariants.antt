@@ -1,6 +1,6 @@
 use Rattle.std.proofs.Common.{ℕ, List, [], ◌≤◌, drop, take, string_bytes}
-use Rattle.std.specs.Io.KnownBytes.{Appends, append_known}
 use Rattle.fare_texts.specs.Lines.{AreLinesAlong, HasCome, NoFallFrom}
+use Rattle.fare_texts.specs.WrittenOut.{GoesOut}
 use Rattle.fare_texts.specs.inside.Spots.{entries_at_spots}
 use Rattle.fare_texts.proofs.lines.write_pieces.Given as goal
 
@@ -12,6 +12,6 @@ invariant-loop-spot g l = record {
   few : l.teller.number ≤ l.spot-index;
   written : List ℕ;
   along : AreLinesAlong l.table [] (take l.spot-index (entries_at_spots l.books l.spots)) written;
-  whole : Appends (append_known (g.W.Write.contents l.fn.out) (string_bytes l.fn.text))
-      (append_known (g.W.Write.contents l.out) (string_bytes l.text)) written;
+  whole : GoesOut (g.W.Write.contents l.fn.out) (string_bytes l.fn.text)
+      (g.W.Write.contents l.out) (string_bytes l.text) written;
 }

@@ -6,13 +6,13 @@ use Rattle.fare_texts.specs.LedgerLines.{head_text}
 use Rattle.part_reports.specs.inside.BegunLedgers.{AreBegunLedgers}
 use Rattle.part_reports.specs.Faults.{text_named}
 use Rattle.part_reports.specs.Ledgers.{NamesWrongLedger}
-use Rattle.part_reports.specs.Texts.{Begins}
+use Rattle.fare_texts.specs.WrittenOut.{Begins}
 use Rattle.part_reports.specs.inside.Standings.{standing}
 use Rattle.part_reports.specs.inside.Told.{AreNumbered, text_number}
 use Rattle.part_reports.proofs.FewParts.{map_length}
 use Rattle.part_reports.proofs.LedgerTexts.{merged_none, merged_whole}
 use Rattle.part_reports.proofs.LedgersWrong.{head_begun, merged_begun, merged_wrong}
-use Rattle.part_reports.proofs.MergedBefore.{begins_nothing}
+use Rattle.fare_texts.proofs.Beginnings.{begins_nothing}
 use Rattle.part_reports.proofs.ToldOf.{below_numbered}
 use Rattle.part_reports.proofs.ledgers.merge_ledgers.Goals as goal
 

@@ -3,13 +3,13 @@ use Rattle.std.proofs.lemmas.List.{length-map}
 use Rattle.std.specs.Io.KnownBytes.{Appends}
 use Rattle.std.proofs.lemmas.Result.{IfErr-weaker, err_from_is_err_and, on_err_weaker, on_ok_weaker}
 use Rattle.fare_texts.specs.LedgerLines.{head_text}
-use Rattle.part_reports.specs.Texts.{Begins}
+use Rattle.fare_texts.specs.WrittenOut.{Begins}
 use Rattle.part_reports.specs.inside.BegunLedgers.{AreBegunLedgers}
 use Rattle.part_reports.specs.inside.ReportsLeft.{AreBegunReports, report_at}
 use Rattle.part_reports.specs.inside.Standings.{standing}
 use Rattle.part_reports.proofs.ReportsMerged.{ledgers_number, no_charges, no_whole, reports_number}
 use Rattle.part_reports.proofs.LedgersWrong.{head_begun, merged_begun}
-use Rattle.part_reports.proofs.MergedBefore.{begins_nothing}
+use Rattle.fare_texts.proofs.Beginnings.{begins_nothing}
 use Rattle.part_reports.proofs.ReportsMerged.{unused_of, whole}
 use Rattle.part_reports.proofs.ledgers_with_reports.merge_ledgers_with_reports.Goals as goal
 

@@ -6,7 +6,8 @@ use Rattle.std.specs.Prelude.{map}
 use Rattle.part_reports.specs.TokenLines.{text_of}
 use Rattle.part_reports.specs.inside.ReportsLeft.{report_at}
 use Rattle.part_reports.specs.inside.Standings.{standing}
-use Rattle.part_reports.proofs.MergedBefore.{begins_nothing, begun_least, begun_so_far}
+use Rattle.fare_texts.proofs.Beginnings.{begins_nothing}
+use Rattle.part_reports.proofs.MergedBefore.{begun_least, begun_so_far}
 use Rattle.part_reports.proofs.Merges.{least_of, merging_stuck, merging_twin, twin_of}
 use Rattle.part_reports.proofs.ReportsMerged.{at_end, beginning, going_on, not_taken, something_left}
 use Rattle.part_reports.proofs.ToldOf.{on_err_any}

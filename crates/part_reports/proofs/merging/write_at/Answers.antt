@@ -3,10 +3,10 @@ use Rattle.std.specs.Prelude.{slice_get, slice_set}
 use Rattle.std.specs.Io.KnownBytes.{Appends}
 use Rattle.std.proofs.lemmas.Option.{slice_get-get_or}
 use Rattle.std.proofs.lemmas.Result.{err_from_is_err_and}
-use Rattle.part_reports.specs.Texts.{Begins}
+use Rattle.fare_texts.specs.WrittenOut.{Begins}
 use Rattle.part_reports.specs.inside.Standings.{MayFollowToken, Standing, standing}
 use Rattle.part_reports.specs.inside.Told.{NamesOnly, text_number}
-use Rattle.part_reports.proofs.MergedBefore.{begins_whole}
+use Rattle.fare_texts.proofs.Beginnings.{begins_whole}
 use Rattle.part_reports.proofs.Places.{map_at, map_kept, map_of_set, one_at}
 use Rattle.part_reports.proofs.ToldOf.{of_text, only_of}
 use Rattle.part_reports.proofs.merging.write_at.Goals as goal

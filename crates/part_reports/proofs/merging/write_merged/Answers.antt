@@ -5,7 +5,8 @@ use Rattle.std.specs.Prelude.{map, slice_get}
 use Rattle.part_reports.specs.TokenLines.{text_of}
 use Rattle.part_reports.specs.inside.Standings.{standing}
 use Rattle.part_reports.specs.inside.Told.{NamesOneOf, NamesOnly, text_number}
-use Rattle.part_reports.proofs.MergedBefore.{begins_nothing, begun_least, begun_so_far}
+use Rattle.fare_texts.proofs.Beginnings.{begins_nothing}
+use Rattle.part_reports.proofs.MergedBefore.{begun_least, begun_so_far}
 use Rattle.part_reports.proofs.Merges.{least_of, merging_end, merging_first, merging_next}
 use Rattle.part_reports.proofs.Merges.{merging_stuck, merging_twin, twin_of}
 use Rattle.part_reports.proofs.ToldOf.{one_of}

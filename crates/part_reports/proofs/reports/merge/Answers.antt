@@ -7,11 +7,11 @@ use Rattle.part_reports.proofs.WholeReports.{merged}
 use Rattle.std.proofs.lemmas.Result.{err_from_is_err_and}
 use Rattle.part_reports.specs.Faults.{IsOfTexts, NamesAmong, number_from}
 use Rattle.part_reports.specs.Reports.{NamesWrongText}
-use Rattle.part_reports.specs.Texts.{Begins}
+use Rattle.fare_texts.specs.WrittenOut.{Begins}
 use Rattle.part_reports.specs.TokenLines.{text_of}
 use Rattle.part_reports.specs.inside.Told.{AreNumbered, text_number}
 use Rattle.part_reports.proofs.FewParts.{map_length}
-use Rattle.part_reports.proofs.MergedBefore.{begins_behind, begins_front, begins_nothing}
+use Rattle.fare_texts.proofs.Beginnings.{begins_behind, begins_front, begins_nothing}
 use Rattle.part_reports.proofs.ReportsWrong.{behind_ends, merged_text, merged_wrong}
 use Rattle.part_reports.proofs.ToldOf.{among_numbered}
 use Rattle.part_reports.proofs.CannotMerge.{joined_too, reports_taps, same_taps, uploads_taps}

@@ -1,24 +1,24 @@
 use Rattle.std.proofs.Common.{ℕ, List, arith, subst}
-use Rattle.std.specs.Io.KnownBytes.{Appends, append_known}
-use Rattle.std.proofs.KnownBytes.{Appends-nil}
+use Rattle.std.specs.Io.KnownBytes.{Appends}
+use Rattle.fare_texts.proofs.Beginnings.{goes_nothing}
 use Rattle.shard_book.specs.Shown.{token_sum}
-use Rattle.report_texts.proofs.Parts.{next_token, last_out}
+use Rattle.report_texts.proofs.Parts.{last_out, lines_begun, next_token}
 use Rattle.report_texts.proofs.token_lines.write_lines.Goals as goal
 
 pub loop-place-init : goal.loop-place-init
 loop-place-init g c = record {
   room = c.requires;
-  lines = Appends-nil (append_known (g.W.Write.contents c.args.out.now) c.args.text.now.items);
+  lines = goes_nothing (g.W.Write.contents c.args.out.now) c.args.text.now.items;
 }
 
 pub loop-place-preserved : goal.loop-place-preserved
 loop-place-preserved g c = record {
   room = omega (arith, c.push_line.ensures.capacity, c.loop-place.invariant.room);
-  lines = next_token (append_known (g.W.Write.contents c.args.out.now) c.args.text.now.items)
-      (append_known (g.W.Write.contents c.loop-place.out) c.loop-place.text.items)
-      (append_known (g.W.Write.contents c.push_line.new.out) c.push_line.new.text.items)
-      c.make_line.new.line c.args.sums.now c.loop-place.place (token_sum c.get-sum.result) c.get-sum.ensures
-      c.loop-place.invariant.lines c.make_line.ensures c.in_ok-push_line.ensures.ok;
+  lines = next_token (g.W.Write.contents c.args.out.now) (g.W.Write.contents c.loop-place.out)
+      (g.W.Write.contents c.push_line.new.out) c.args.text.now.items c.loop-place.text.items
+      c.push_line.new.text.items c.make_line.new.line c.args.sums.now c.loop-place.place
+      (token_sum c.get-sum.result) c.get-sum.ensures c.loop-place.invariant.lines
+      c.make_line.ensures c.in_ok-push_line.ensures.gone;
 }
 
 pub returns-clause-ok : goal.returns-clause-ok

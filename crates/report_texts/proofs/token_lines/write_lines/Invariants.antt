@@ -1,11 +1,12 @@
 use Rattle.std.proofs.Common.{◌≤◌, take, vec_capacity}
-use Rattle.std.specs.Io.KnownBytes.{Appends, append_known}
 use Rattle.std.specs.List.{flat_map}
+use Rattle.fare_texts.specs.WrittenOut.{GoesOut}
 use Rattle.fare_texts.specs.ReportLines.{token_line}
 use Rattle.report_texts.proofs.token_lines.write_lines.Given as goal
 
 abbrev pub invariant-loop-place : goal.invariant-loop-place
 invariant-loop-place g l = record {
   room : 384 ≤ vec_capacity l.text;
-  lines : Appends (append_known (g.W.Write.contents l.fn.out) l.fn.text.items) (append_known (g.W.Write.contents l.out) l.text.items) (flat_map token_line (take l.place l.sums));
+  lines : GoesOut (g.W.Write.contents l.fn.out) l.fn.text.items (g.W.Write.contents l.out)
+      l.text.items (flat_map token_line (take l.place l.sums));
 }

@@ -3,7 +3,8 @@ use Rattle.std.proofs.Common.{ℕ, List, [], ◌++◌, string_bytes, subst, ◌�
 use Rattle.std.specs.Io.KnownBytes.{Appends}
 use Rattle.fare_texts.specs.LedgerLines.{head_text}
 use Rattle.fare_texts.proofs.Along.{ledger_along}
-use Rattle.fare_texts.proofs.PieceWriting.{come_first, last_out}
+use Rattle.fare_texts.proofs.Beginnings.{goes_last}
+use Rattle.fare_texts.proofs.PieceWriting.{come_first}
 use Rattle.settlement.specs.Posted.{posted}
 use Rattle.settled_texts.proofs.Joined.{joined}
 use Rattle.settled_texts.proofs.Rows.{canonical_falls, posted_falls}
@@ -31,8 +32,7 @@ returns-clause-ok g c =
           no_fall) told.1.are,
       subst (λ (head : List ℕ). Appends (g.W.Write.contents c.args.out.now)
           (g.W.Write.contents c.pass_on.new.out) (head ++ told.0)) c.in_ok-text.ensures
-          (last_out (g.W.Write.contents c.args.out.now) (g.W.Write.contents c.write_lists.new.out)
+          (goes_last (g.W.Write.contents c.args.out.now) (g.W.Write.contents c.write_lists.new.out)
           (g.W.Write.contents c.pass_on.new.out) (string_bytes c.in_ok-text.text)
-          (string_bytes c.write_lists.new.text) (string_bytes c.pass_on.new.text) told.0 told.2
-          c.in_ok-pass_on.ensures.kept c.in_ok-pass_on.ensures.empty),
+          (string_bytes c.write_lists.new.text) told.0 told.2 c.in_ok-pass_on.ensures.whole),
     )

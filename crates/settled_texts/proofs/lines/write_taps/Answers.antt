@@ -2,8 +2,7 @@
 use Rattle.std.proofs.Common.{◌≡◌, ◌<◌, ◌++◌, ◌==◌, false, true, List, [], length}
 use Rattle.std.proofs.Common.{string_bytes, refl, sym, ap, subst, ◌∙◌, append_assoc, append-nil}
 use Rattle.std.proofs.Common.{arith, length-append}
-use Rattle.std.specs.Io.KnownBytes.{append_known}
-use Rattle.std.proofs.KnownBytes.{Appends-kept, Appends-nil}
+use Rattle.fare_texts.proofs.Beginnings.{goes_grown, goes_nothing, goes_passed}
 use Rattle.std.proofs.lemmas.Bool.{eqb-true}
 use Rattle.std.proofs.lemmas.Bool.Decides.{nat_tests}
 use Rattle.std.proofs.lemmas.List.{nil_from_length}
@@ -11,7 +10,6 @@ use Rattle.std.proofs.lemmas.List.Elements.{All-drop, All-same, All-take}
 use Rattle.tap_views.specs.declared.token.Token.{Token}
 use Rattle.tap_views.specs.Layout.{moment_limit}
 use Rattle.tap_views.specs.declared.encoder.TapFields.{TapFields}
-use Rattle.fare_texts.proofs.PieceWriting.{grown}
 use Rattle.settlement.specs.Posted.{posted_after}
 use Rattle.settled_texts.specs.Telling.{AreTold, last_token}
 use Rattle.settled_texts.proofs.Tellings.{fall_within, halves_of, last_append, none_told}
@@ -29,7 +27,7 @@ loop-rest-init g c = record {
   told = λ earlier come. (
     [],
     none_told c.args.table.now earlier c.args.teller.now come,
-    Appends-nil (append_known (g.W.Write.contents c.args.out.now) (string_bytes c.args.text.now)),
+    goes_nothing (g.W.Write.contents c.args.out.now) (string_bytes c.args.text.now),
   );
   token = refl;
   few = omega arith;
@@ -98,9 +96,10 @@ loop-rest-preserved g c =
             so_far.0 ++ more.0,
             told_append fares earlier inv.done stride c.loop-rest.teller c.tell_taps.new.teller so_far.0
                 more.0 so_far.1 more.1,
-            Appends-kept _ _ _ (so_far.0 ++ more.0) (grown _ (g.W.Write.contents c.loop-rest.out)
+            goes_passed _ _ _ _ _ _ (so_far.0 ++ more.0)
+                (goes_grown _ (g.W.Write.contents c.loop-rest.out) _
                 (string_bytes c.loop-rest.text) _ so_far.0 more.0 so_far.2 more.2)
-                c.in_ok-pass_piece.ensures.kept,
+                c.in_ok-pass_piece.ensures.gone,
           );
       token = next.token ∙ ap (λ (t : Token). last_token t stride) inv.token
           ∙ sym (last_append c.args.teller.now.token inv.done stride);

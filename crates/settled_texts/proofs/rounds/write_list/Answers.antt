@@ -3,7 +3,7 @@ use Rattle.std.proofs.Common.{◌≡◌, ℕ, Bool, true, false, not, List, stri
 use Rattle.std.specs.Io.KnownBytes.{Appends}
 use Rattle.tap_views.specs.Token.{token_eq}
 use Rattle.fare_texts.proofs.Rising.{none_below, up_weaker}
-use Rattle.settled_texts.proofs.Joined.{passed_on}
+use Rattle.fare_texts.proofs.Beginnings.{goes_through}
 use Rattle.settled_texts.proofs.rounds.write_list.Goals as goal
 
 not_false : (b : Bool) → not b ≡ false → b ≡ true
@@ -21,9 +21,9 @@ returns-clause-told g c = λ earlier come.
       string_bytes seat.text,
       whole.told earlier (none_below earlier token seat.first come.up up apart)
           (up_weaker earlier token seat.first come.up up),
-      passed_on (g.W.Write.contents c.args.out.now) (g.W.Write.contents c.pass_on.new.out)
+      goes_through (g.W.Write.contents c.args.out.now) (g.W.Write.contents c.pass_on.new.out)
           (g.W.Write.contents c.write_out.new.out) (string_bytes c.args.text.now)
-          (string_bytes c.pass_on.new.text) (string_bytes seat.text) c.in_ok-pass_on.ensures.kept
+          (string_bytes c.pass_on.new.text) (string_bytes seat.text) c.in_ok-pass_on.ensures.whole
           c.in_ok-pass_on.ensures.empty (subst (λ (bytes : List ℕ). Appends
           (g.W.Write.contents c.pass_on.new.out) (g.W.Write.contents c.write_out.new.out) bytes)
           c.as_bytes.ensures.value c.in_ok-write_out.ensures.ok),

@@ -1,8 +1,7 @@
 -- Each turn writes a round more.
 use Rattle.std.proofs.Common.{◌≡◌, ◌==◌, true, All, List, [], ◌++◌, length, string_bytes, refl, sym, ap}
 use Rattle.std.proofs.Common.{subst, ◌∙◌, append_assoc, append-nil, arith, length-append, Vec, Global}
-use Rattle.std.specs.Io.KnownBytes.{append_known}
-use Rattle.std.proofs.KnownBytes.{Appends-nil, Appends-trans}
+use Rattle.fare_texts.proofs.Beginnings.{goes_nothing, goes_on}
 use Rattle.std.proofs.lemmas.Bool.{eqb-true}
 use Rattle.std.proofs.lemmas.List.{nil_from_length}
 use Rattle.tap_views.specs.declared.token.Token.{Token}
@@ -34,7 +33,7 @@ loop-rest-init g c = record {
   told = λ earlier come. (
     [],
     none_told c.args.table.now earlier c.args.teller.now come,
-    Appends-nil (append_known (g.W.Write.contents c.args.out.now) (string_bytes c.args.text.now)),
+    goes_nothing (g.W.Write.contents c.args.out.now) (string_bytes c.args.text.now),
   );
   token = refl;
   few = omega arith;
@@ -109,7 +108,7 @@ loop-rest-preserved g c =
                 (so_far.0 ++ lines.0)) (sym more) (told_append fares earlier (joined inv.done)
                 (joined round) c.loop-rest.teller c.write_round.new.teller so_far.0 lines.0 so_far.1
                 lines.1),
-            Appends-trans _ _ _ so_far.0 lines.0 so_far.2 lines.2,
+            goes_on _ _ _ _ _ _ so_far.0 lines.0 so_far.2 lines.2,
           );
       token = next.token ∙ ap (λ (t : Token). last_token t (joined round)) inv.token
           ∙ sym (ap (last_token c.args.teller.now.token) more

@@ -2,8 +2,7 @@
 use Rattle.std.proofs.Common.{◌≡◌, ◌+◌, List, [], ◌++◌, Some, drop, get_or, length, take}
 use Rattle.std.proofs.Common.{string_bytes, refl, sym, ap, subst, ◌∙◌, arith}
 use Rattle.std.proofs.Common.{length-append, option_map, Vec, Global}
-use Rattle.std.specs.Io.KnownBytes.{append_known}
-use Rattle.std.proofs.KnownBytes.{Appends-nil, Appends-trans}
+use Rattle.fare_texts.proofs.Beginnings.{goes_nothing, goes_on}
 use Rattle.std.proofs.lemmas.List.{take_all}
 use Rattle.std.proofs.lemmas.List.Elements.{All-same}
 use Rattle.std.proofs.lemmas.Option.{slice_get-get_or, slice_get-map}
@@ -26,7 +25,7 @@ loop-place-init g c = record {
   told = λ earlier come. (
     [],
     none_told c.args.table.now earlier c.args.teller.now come,
-    Appends-nil (append_known (g.W.Write.contents c.args.out.now) (string_bytes c.args.text.now)),
+    goes_nothing (g.W.Write.contents c.args.out.now) (string_bytes c.args.text.now),
   );
   token = refl;
   few = omega arith;
@@ -109,7 +108,7 @@ loop-place-preserved g c =
             subst (λ (ts : List TapFields). AreTold fares earlier ts c.write_list.new.teller
                 (so_far.0 ++ lines.0)) (sym more) (told_append fares earlier before list
                 c.loop-place.teller c.write_list.new.teller so_far.0 lines.0 so_far.1 lines.1),
-            Appends-trans _ _ _ so_far.0 lines.0 so_far.2 lines.2,
+            goes_on _ _ _ _ _ _ so_far.0 lines.0 so_far.2 lines.2,
           );
       token = next.token ∙ ap (λ (t : Token). last_token t list) inv.token
           ∙ sym (ap (last_token c.args.teller.now.token) more
