@@ -1,7 +1,7 @@
 -- Why the program gives up is the case.
 use Rattle.std.specs.Prelude.{◌≡◌, ◌⊎◌, ◌<◌, ℕ, List, [], ◌∷◌, Option, Some, true, false}
 use Rattle.std.specs.Prelude.{codes, length, map, slice_get}
-use Rattle.placed_files.specs.declared.opening.Unopened.{Unopened}
+use Rattle.placed_files.specs.declared.unopened.Unopened.{Unopened}
 use Rattle.program_manners.specs.Loads.{Loaded}
 use Rattle.program_manners.specs.Refusals.{IsOneOf, RefusesTable, TellsRefusal}
 use Rattle.program_manners.specs.declared.loading.LoadFault.{LoadFault}

@@ -1,7 +1,7 @@
 -- The fault lines of sorted files, without their line feeds.
 use Rattle.std.specs.Prelude.{ℕ, List, ◌++◌, codes, decimal}
-use Rattle.placed_files.specs.declared.opening.Unopened.{Unopened}
-use Rattle.placed_files.specs.declared.opening.Unopened.TheVariants as unopened
+use Rattle.placed_files.specs.declared.unopened.Unopened.{Unopened}
+use Rattle.placed_files.specs.declared.unopened.Unopened.TheVariants as unopened
 use Rattle.sorted_taps.specs.declared.fault.SortedFault.{SortedFault}
 use Rattle.sorted_taps.specs.declared.fault.SortedFault.TheVariants as sorted
 use Rattle.tap_views.specs.Names.{fault_name}

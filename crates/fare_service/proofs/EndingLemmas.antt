@@ -13,6 +13,7 @@ use Rattle.shard_book.specs.Entry.{IsEntryOf}
 use Rattle.shard_book.specs.Sums.{Sums, sums}
 use Rattle.shared_books.specs.declared.turns.rule.Mark.{Mark}
 use Rattle.shared_books.specs.Passes.{PassView, SharedBookView, seen_by}
+use Rattle.tap_views.specs.Shards.{run_of}
 use Rattle.fare_service.specs.declared.service.share.Done.{Done}
 use Rattle.report_texts.specs.declared.upload_end.UploadEnd.{UploadEnd}
 use Rattle.report_texts.specs.declared.upload_end.UploadEnd.TheVariants.{Posted, Refused, Cut, Undrawn}
@@ -23,7 +24,7 @@ use Rattle.fare_service.specs.Faults.{visits_held}
 use Rattle.fare_service.specs.Headline.{Signed, HasOutcome, ToldUndrawn}
 use Rattle.fare_service.specs.Outcomes.{OutcomeView}
 use Rattle.fare_service.specs.Plain.{WasNotCut}
-use Rattle.fare_service.specs.Runs.{PlacedTap, placed_from, of_shard, PlacedRun, placed_run, if_any, runs_below, runs_of, RunVisit, run_of_visit, ArePostedWhole, AreCut, IsEntered, taps_of_placed, entries_to, entries_of, taps_posted}
+use Rattle.fare_service.specs.Runs.{PostedRun, posted_run, if_any, runs_below, runs_of, RunVisit, run_of_visit, ArePostedWhole, AreCut, IsEntered, entries_to, entries_of, taps_posted}
 use Rattle.fare_service.specs.inside.Runs.{visits_to}
 use Rattle.fare_service.specs.ServiceView.{ServiceView, shards_of}
 use Rattle.fare_service.specs.ShareView.{ShareView}
@@ -167,35 +168,35 @@ within (y ∷ xs) zero x at = omega arith
 within (y ∷ xs) (suc i) x at = omega (arith, within xs i x at)
 
 -- all runs have a tap
-run_some : (shard : ℕ) (taps : List PlacedTap) → All (λ r. 0 < length r.taps) (if_any shard taps)
-run_some shard [] = All-nil (λ (r : PlacedRun). 0 < length r.taps)
-run_some shard (tap ∷ taps) = All-cons (λ (r : PlacedRun). 0 < length r.taps) (placed_run shard (tap ∷ taps)) [] (omega arith) (All-nil (λ (r : PlacedRun). 0 < length r.taps))
+run_some : (shard : ℕ) (taps : List Tap) → All (λ r. 0 < length r.taps) (if_any shard taps)
+run_some shard [] = All-nil (λ (r : PostedRun). 0 < length r.taps)
+run_some shard (tap ∷ taps) = All-cons (λ (r : PostedRun). 0 < length r.taps) (posted_run shard (tap ∷ taps)) [] (omega arith) (All-nil (λ (r : PostedRun). 0 < length r.taps))
 
-below_some : (shards shard : ℕ) (taps : List PlacedTap) → All (λ r. 0 < length r.taps) (runs_below shards shard taps)
-below_some shards zero taps = All-nil (λ (r : PlacedRun). 0 < length r.taps)
+below_some : (shards shard : ℕ) (taps : List Tap) → All (λ r. 0 < length r.taps) (runs_below shards shard taps)
+below_some shards zero taps = All-nil (λ (r : PostedRun). 0 < length r.taps)
 below_some shards (suc shard) taps =
-    All-append (λ (r : PlacedRun). 0 < length r.taps) (runs_below shards shard taps) (if_any shard (of_shard shard shards taps)) (below_some shards shard taps) (run_some shard (of_shard shard shards taps))
+    All-append (λ (r : PostedRun). 0 < length r.taps) (runs_below shards shard taps) (if_any shard (run_of shard shards taps)) (below_some shards shard taps) (run_some shard (run_of shard shards taps))
 
-runs_some : (shards place : ℕ) (batches : List (List Tap)) → All (λ r. 0 < length r.taps) (runs_of shards place batches)
-runs_some shards place [] = All-nil (λ (r : PlacedRun). 0 < length r.taps)
-runs_some shards place (batch ∷ batches) =
-    All-append (λ (r : PlacedRun). 0 < length r.taps) (runs_below shards shards (placed_from place batch)) (runs_of shards (place + length batch) batches) (below_some shards shards (placed_from place batch)) (runs_some shards (place + length batch) batches)
+runs_some : (shards : ℕ) (batches : List (List Tap)) → All (λ r. 0 < length r.taps) (runs_of shards batches)
+runs_some shards [] = All-nil (λ (r : PostedRun). 0 < length r.taps)
+runs_some shards (batch ∷ batches) =
+    All-append (λ (r : PostedRun). 0 < length r.taps) (runs_below shards shards batch) (runs_of shards batches) (below_some shards shards batch) (runs_some shards batches)
 
 -- visits of runs that have a tap posted one each
-visits_few : (shards : ℕ) (before more : List PlacedRun) (visits : List RunVisit) → map run_of_visit visits ≡ before ++ more → All (λ r. 0 < length r.taps) before → All (IsEntered shards) visits
+visits_few : (shards : ℕ) (before more : List PostedRun) (visits : List RunVisit) → map run_of_visit visits ≡ before ++ more → All (λ r. 0 < length r.taps) before → All (IsEntered shards) visits
     → length visits ≤ taps_posted visits + length more
 visits_few shards [] more visits same some entered = omega (arith, ap length same, length-map visits run_of_visit)
 visits_few shards (r ∷ before) more [] same some entered = absurd (cc)
 visits_few shards (r ∷ before) more (v ∷ visits) same some entered =
     let head : run_of_visit v ≡ r = cc in
     let tail : map run_of_visit visits ≡ before ++ more = cc in
-    let taps : 0 < length v.taps = omega (arith, All-head (λ (x : PlacedRun). 0 < length x.taps) r before some, ap (λ (x : PlacedRun). length x.taps) head) in
-    let entries : length (taps_of_placed v.taps) ≡ length v.entries = AllZip-length IsEntryOf (taps_of_placed v.taps) v.entries (All-head (IsEntered shards) v visits entered).fields in
+    let taps : 0 < length v.taps = omega (arith, All-head (λ (x : PostedRun). 0 < length x.taps) r before some, ap (λ (x : PostedRun). length x.taps) head) in
+    let entries : length v.taps ≡ length v.entries = AllZip-length IsEntryOf v.taps v.entries (All-head (IsEntered shards) v visits entered).fields in
     let both : taps_posted (v ∷ visits) ≡ length v.entries + taps_posted visits = length-append v.entries (entries_of visits) in
-    let rest = visits_few shards before more visits tail (All-tail (λ (x : PlacedRun). 0 < length x.taps) r before some) (All-tail (IsEntered shards) v visits entered) in
-    omega (arith, taps, entries, both, rest, length-map v.taps (λ (p : PlacedTap). p.tap))
+    let rest = visits_few shards before more visits tail (All-tail (λ (x : PostedRun). 0 < length x.taps) r before some) (All-tail (IsEntered shards) v visits entered) in
+    omega (arith, taps, entries, both, rest)
 
-all_before : (P : PlacedRun → Type 0) (xs ys : List PlacedRun) → All P (xs ++ ys) → All P xs
+all_before : (P : PostedRun → Type 0) (xs ys : List PostedRun) → All P (xs ++ ys) → All P xs
 all_before P [] ys all = All-nil P
 all_before P (x ∷ xs) ys all = All-cons P x xs (All-head P x (xs ++ ys) all) (all_before P xs ys (All-tail P x (xs ++ ys) all))
 
@@ -206,24 +207,24 @@ work_few given w is =
     let h : length w.visits ≤ taps_posted w.visits + cut_one w.end = by_end w.end is.ended in
     omega (arith, h, told)
   where
-    whole : ArePostedWhole (runs_of given.shards 0 is.batches) w.visits → length w.visits ≤ taps_posted w.visits
+    whole : ArePostedWhole (runs_of given.shards is.batches) w.visits → length w.visits ≤ taps_posted w.visits
     whole posted =
-        let h = visits_few given.shards (runs_of given.shards 0 is.batches) [] w.visits (posted ∙ sym (append-nil (runs_of given.shards 0 is.batches))) (runs_some given.shards 0 is.batches) is.entered in
+        let h = visits_few given.shards (runs_of given.shards is.batches) [] w.visits (posted ∙ sym (append-nil (runs_of given.shards is.batches))) (runs_some given.shards is.batches) is.entered in
         omega (arith, h)
 
-    cut : AreCut (runs_of given.shards 0 is.batches) w.visits → length w.visits ≤ taps_posted w.visits + 1
+    cut : AreCut (runs_of given.shards is.batches) w.visits → length w.visits ≤ taps_posted w.visits + 1
     cut c = by_made c.made
       where
         some : All (λ r. 0 < length r.taps) c.before
         some =
-            let P : List PlacedRun → Type 0 = All (λ (r : PlacedRun). 0 < length r.taps) in
-            all_before (λ (r : PlacedRun). 0 < length r.taps) c.before (c.cut ∷ c.after) (subst P c.all (runs_some given.shards 0 is.batches))
+            let P : List PostedRun → Type 0 = All (λ (r : PostedRun). 0 < length r.taps) in
+            all_before (λ (r : PostedRun). 0 < length r.taps) c.before (c.cut ∷ c.after) (subst P c.all (runs_some given.shards is.batches))
 
-        by_made : ((map run_of_visit w.visits ≡ c.before) ⊎ ((posted : ℕ) × (posted < length c.cut.taps) × (map run_of_visit w.visits ≡ c.before ++ placed_run c.cut.shard (take posted c.cut.taps) ∷ [])))
+        by_made : ((map run_of_visit w.visits ≡ c.before) ⊎ ((posted : ℕ) × (posted < length c.cut.taps) × (map run_of_visit w.visits ≡ c.before ++ posted_run c.cut.shard (take posted c.cut.taps) ∷ [])))
             → length w.visits ≤ taps_posted w.visits + 1
         by_made (inl e) = let h = visits_few given.shards c.before [] w.visits (e ∙ sym (append-nil c.before)) some is.entered in omega (arith, h)
         by_made (inr (posted, few, e)) =
-            let h = visits_few given.shards c.before (placed_run c.cut.shard (take posted c.cut.taps) ∷ []) w.visits e some is.entered in
+            let h = visits_few given.shards c.before (posted_run c.cut.shard (take posted c.cut.taps) ∷ []) w.visits e some is.entered in
             omega (arith, h)
 
     by_end : (end : UploadEnd) → IsEndOf given.shards (file_at given.uploads w.upload) is.batches is.rest w.visits end → length w.visits ≤ taps_posted w.visits + cut_one end

@@ -21,7 +21,7 @@ use Rattle.fare_service.specs.Runs.{entries_to}
 use Rattle.fare_service.specs.Shares.{Worked, all_works, all_visits}
 use Rattle.fare_service.proofs.AddingLemmas.{gathered_sums}
 use Rattle.fare_service.proofs.GatheredWork.{Given, IsBookOfWork, IsGathered}
-use Rattle.fare_service.proofs.PlacedVisits.{filter_none}
+use Rattle.fare_service.proofs.OwnVisits.{filter_none}
 use Rattle.fare_service.proofs.PlacingLemmas.{stands_once}
 use Rattle.fare_service.proofs.Signing.{step_no, step_yes}
 

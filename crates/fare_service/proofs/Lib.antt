@@ -10,7 +10,7 @@ pub mod HeadlineLemmas
 pub mod JoinLemmas
 pub mod OrderLemmas
 pub mod PlaceLemmas
-pub mod PlacedVisits
+pub mod OwnVisits
 pub mod PlacingLemmas
 pub mod RunLemmas
 pub mod RunVisits

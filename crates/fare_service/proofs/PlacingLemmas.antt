@@ -14,14 +14,16 @@ use Rattle.shard_book.specs.Entry.{IsEntryOf}
 use Rattle.shared_books.specs.Drawing.{NoneTwice, times}
 use Rattle.shared_books.specs.Marks.{history_of_visits}
 use Rattle.report_texts.specs.declared.upload_end.UploadEnd.{UploadEnd}
+use Rattle.tap_views.specs.Shards.{run_of}
 use Rattle.fare_service.specs.Headline.{Signed, by_worker}
 use Rattle.fare_service.specs.Outcomes.{OutcomeView}
 use Rattle.fare_service.specs.Placing.{Origin, of_upload, posted_of, StandOnce, WerePostedOf}
-use Rattle.fare_service.specs.Runs.{PlacedTap, taps_of_placed, of_shard, RunVisit, IsEntered, entries_to}
+use Rattle.tap_views.specs.Layout.{Tap}
+use Rattle.fare_service.specs.Runs.{RunVisit, IsEntered, entries_to}
 use Rattle.fare_service.specs.inside.Runs.{visits_to}
 use Rattle.fare_service.specs.Shares.{Worked, all_visits, IsWorkOf, all_works, file_at}
 use Rattle.fare_service.proofs.GatherLemmas.{drawn_times, times_same, each_work}
-use Rattle.fare_service.proofs.PlacedVisits.{IsOwnVisit, own_worked, shard_taps, works_on, no_works_on, end_posted, filter_none}
+use Rattle.fare_service.proofs.OwnVisits.{IsOwnVisit, own_worked, shard_taps, works_on, no_works_on, end_posted, filter_none}
 use Rattle.fare_service.proofs.Signing.{step_no, step_yes}
 use Rattle.fare_service.proofs.GatheredWork.{Given, IsBookOfWork, IsGathered}
 
@@ -234,11 +236,11 @@ all_made given works each shard worker =
 
 -- the entry has the fields of the tap's bytes
 abbrev IsEntryOfOrigin : Origin → Entry → Type 0
-IsEntryOfOrigin origin entry = IsEntryOf origin.placed.tap entry
+IsEntryOfOrigin origin entry = IsEntryOf origin.tap entry
 
 -- the taps of a visit, each with its upload
 abbrev origins_of : By → List Origin
-origins_of y = map (λ p. record { upload = y.made.upload; placed = p }) y.made.visit.taps
+origins_of y = map (λ p. record { upload = y.made.upload; tap = p }) y.made.visit.taps
 
 abbrev all_origins : List By → List Origin
 all_origins made = flat_map origins_of made
@@ -249,7 +251,7 @@ AllZip-append R [] xs' (y ∷ ys) ys' a b = absurd a
 AllZip-append R (x ∷ xs) xs' [] ys' a b = absurd a
 AllZip-append R (x ∷ xs) xs' (y ∷ ys) ys' a b = (a.0, AllZip-append R xs xs' ys ys' a.1 b)
 
-origin_fields : (upload : ℕ) (taps : List PlacedTap) (entries : List Entry) → AllZip IsEntryOf (taps_of_placed taps) entries → AllZip IsEntryOfOrigin (map (λ p. record { upload = upload; placed = p }) taps) entries
+origin_fields : (upload : ℕ) (taps : List Tap) (entries : List Entry) → AllZip IsEntryOf taps entries → AllZip IsEntryOfOrigin (map (λ p. record { upload = upload; tap = p }) taps) entries
 origin_fields upload [] [] h = tt
 origin_fields upload [] (e ∷ entries) h = absurd h
 origin_fields upload (p ∷ taps) [] h = absurd h
@@ -263,27 +265,27 @@ all_fields given works (y ∷ made) all =
     (all_fields given works made (All-tail (λ z. IsMade given works z.worker z.made) y made all))
 
 -- the taps of one upload among a visit's
-origin_yes : (upload from : ℕ) (taps : List PlacedTap) → (from == upload) ≡ true → of_upload upload (map (λ p. record { upload = from; placed = p }) taps) ≡ taps
+origin_yes : (upload from : ℕ) (taps : List Tap) → (from == upload) ≡ true → of_upload upload (map (λ p. record { upload = from; tap = p }) taps) ≡ taps
 origin_yes upload from [] b = refl
 origin_yes upload from (p ∷ taps) b =
-    let more : List Origin = filter (λ o. o.upload == upload) (map (λ q. record { upload = from; placed = q }) taps) in
-    ap (λ t. map (λ (o : Origin). o.placed) (cond t (record { upload = from; placed = p } ∷ more) more)) b ∙ ap (λ ts. p ∷ ts) (origin_yes upload from taps b)
+    let more : List Origin = filter (λ o. o.upload == upload) (map (λ q. record { upload = from; tap = q }) taps) in
+    ap (λ t. map (λ (o : Origin). o.tap) (cond t (record { upload = from; tap = p } ∷ more) more)) b ∙ ap (λ ts. p ∷ ts) (origin_yes upload from taps b)
 
-origin_no : (upload from : ℕ) (taps : List PlacedTap) → (from == upload) ≡ false → of_upload upload (map (λ p. record { upload = from; placed = p }) taps) ≡ []
+origin_no : (upload from : ℕ) (taps : List Tap) → (from == upload) ≡ false → of_upload upload (map (λ p. record { upload = from; tap = p }) taps) ≡ []
 origin_no upload from [] b = refl
 origin_no upload from (p ∷ taps) b =
-    let more : List Origin = filter (λ o. o.upload == upload) (map (λ q. record { upload = from; placed = q }) taps) in
-    ap (λ t. map (λ (o : Origin). o.placed) (cond t (record { upload = from; placed = p } ∷ more) more)) b ∙ origin_no upload from taps b
+    let more : List Origin = filter (λ o. o.upload == upload) (map (λ q. record { upload = from; tap = q }) taps) in
+    ap (λ t. map (λ (o : Origin). o.tap) (cond t (record { upload = from; tap = p } ∷ more) more)) b ∙ origin_no upload from taps b
 
 of_upload-append : (upload : ℕ) (xs ys : List Origin) → of_upload upload (xs ++ ys) ≡ of_upload upload xs ++ of_upload upload ys
 of_upload-append upload xs ys =
-    ap (map (λ (o : Origin). o.placed)) (filter-append (λ o. o.upload == upload) xs ys)
-    ∙ map-append (λ (o : Origin). o.placed) (filter (λ o. o.upload == upload) xs) (filter (λ o. o.upload == upload) ys)
+    ap (map (λ (o : Origin). o.tap)) (filter-append (λ o. o.upload == upload) xs ys)
+    ∙ map-append (λ (o : Origin). o.tap) (filter (λ o. o.upload == upload) xs) (filter (λ o. o.upload == upload) ys)
 
 abbrev made_for : ℕ → List By → List By
 made_for upload made = filter (λ y. y.made.upload == upload) made
 
-abbrev taps_made : List By → List PlacedTap
+abbrev taps_made : List By → List Tap
 taps_made made = flat_map (λ y. y.made.visit.taps) made
 
 -- the taps of one upload among those of some visits
@@ -371,7 +373,7 @@ own_all given (w ∷ works) all =
 -- the taps of one upload in a shard's book
 exactly_posted : (given : Given) (works : List (List Worked)) → All (λ done. All (IsWorkOf given.shards given.uploads) done) works → NoneTwice (map (λ w. w.upload) (all_works works)) → (shard upload : ℕ) (made : List By)
     → ((w : ℕ) → map (λ y. y.made) (filter (λ y. y.worker == w) made) ≡ to_shard shard (works_at w works)) → All (λ y. IsMade given works y.worker y.made) made
-    → of_upload upload (all_origins made) ≡ of_shard shard given.shards (posted_of upload (all_works works))
+    → of_upload upload (all_origins made) ≡ run_of shard given.shards (posted_of upload (all_works works))
 exactly_posted given works each once shard upload made own all =
     origins_for upload made
     ∙ (ap taps_made (filter_within (λ y. y.made.upload == upload) (λ y. y.worker == s.worker) made implied)

@@ -76,7 +76,7 @@ each_length (file ∷ uploads) [] each = absurd each
 each_length (file ∷ uploads) (ts ∷ taps) each = ap suc (each_length uploads taps each.1)
 
 pub whole_posted : (shards : ℕ) (file : List ℕ) (batches : List (List Tap)) (rest : List ℕ) (visits : List RunVisit) (end : UploadEnd) → IsEndOf shards file batches rest visits end → WasNotCut end
-    → ArePostedWhole (runs_of shards 0 batches) visits
+    → ArePostedWhole (runs_of shards batches) visits
 whole_posted shards file batches rest visits (Posted taps) is whole = is.1
 whole_posted shards file batches rest visits (Refused taps offset fault) is whole = is.1
 whole_posted shards file batches rest visits (Cut taps) is whole = absurd whole

@@ -25,10 +25,10 @@ zip_at R (x ∷ xs) [] same each = absurd (omega (arith, same))
 zip_at R (x ∷ xs) (y ∷ ys) same each = (each 0 x y refl refl, zip_at R xs ys (omega (arith, same)) (λ i a b at there. each (suc i) a b at there))
 
 -- whole runs post all taps of the batches
-all_posted : (shards : ℕ) (batches : List (List Tap)) (visits : List RunVisit) → 0 < shards → All (IsEntered shards) visits → ArePostedWhole (runs_of shards 0 batches) visits
+all_posted : (shards : ℕ) (batches : List (List Tap)) (visits : List RunVisit) → 0 < shards → All (IsEntered shards) visits → ArePostedWhole (runs_of shards batches) visits
     → taps_posted visits ≡ length (flat_map (λ batch. batch) batches)
 all_posted shards batches visits some entered posted =
-    posted_taps shards (runs_of shards 0 batches) visits entered posted ∙ all_runs_taps shards 0 batches (λ token. mod-lt _ some)
+    posted_taps shards (runs_of shards batches) visits entered posted ∙ all_runs_taps shards batches (λ token. mod-lt _ some)
     ∙ sym (length-flat_map (λ (batch : List Tap). batch) batches)
 
 -- an upload that was worked on and posted whole

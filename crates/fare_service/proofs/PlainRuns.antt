@@ -14,59 +14,58 @@ use Rattle.shard_book.specs.Keys.{same_token}
 use Rattle.tap_views.specs.Token.{bytes_of}
 use Rattle.shared_books.specs.Marks.{history_of_visits}
 use Rattle.shard_book.specs.Plain.{unanswered, token_of_bytes, IsNamed}
-use Rattle.fare_service.specs.Runs.{PlacedTap, placed_from, taps_of_placed, of_shard, PlacedRun, placed_run, if_any, runs_below, runs_of, RunVisit, IsEntered, run_of_visit, ArePostedWhole, entries_to}
+use Rattle.fare_service.specs.Runs.{PostedRun, posted_run, if_any, runs_below, runs_of, RunVisit, IsEntered, run_of_visit, ArePostedWhole, entries_to}
 use Rattle.shard_book.proofs.PlainReplies.{bare}
-use Rattle.fare_service.proofs.RunLemmas.{taps-of_shard}
 
 -- the taps of some runs to a shard
-abbrev taps_at : ℕ → List PlacedRun → List Tap
-taps_at shard runs = flat_map (λ r. taps_of_placed r.taps) (filter (λ r. r.shard == shard) runs)
+abbrev taps_at : ℕ → List PostedRun → List Tap
+taps_at shard runs = flat_map (λ r. r.taps) (filter (λ r. r.shard == shard) runs)
 
-taps_at-append : (shard : ℕ) (xs ys : List PlacedRun) → taps_at shard (xs ++ ys) ≡ taps_at shard xs ++ taps_at shard ys
+taps_at-append : (shard : ℕ) (xs ys : List PostedRun) → taps_at shard (xs ++ ys) ≡ taps_at shard xs ++ taps_at shard ys
 taps_at-append shard xs ys =
-    ap (flat_map (λ r. taps_of_placed r.taps)) (filter-append (λ r. r.shard == shard) xs ys)
-    ∙ flat_map-append (λ r. taps_of_placed r.taps) (filter (λ r. r.shard == shard) xs) (filter (λ r. r.shard == shard) ys)
+    ap (flat_map (λ r. r.taps)) (filter-append (λ r. r.shard == shard) xs ys)
+    ∙ flat_map-append (λ r. r.taps) (filter (λ r. r.shard == shard) xs) (filter (λ r. r.shard == shard) ys)
 
-any_here : (shard n : ℕ) (taps : List PlacedTap) → (n == shard) ≡ true → taps_at shard (if_any n taps) ≡ taps_of_placed taps
+any_here : (shard n : ℕ) (taps : List Tap) → (n == shard) ≡ true → taps_at shard (if_any n taps) ≡ taps
 any_here shard n [] is = refl
-any_here shard n (tap ∷ taps) is = ap (λ b. flat_map (λ (r : PlacedRun). taps_of_placed r.taps) (cond b (placed_run n (tap ∷ taps) ∷ []) [])) is ∙ append-nil (taps_of_placed (tap ∷ taps))
+any_here shard n (tap ∷ taps) is = ap (λ b. flat_map (λ (r : PostedRun). r.taps) (cond b (posted_run n (tap ∷ taps) ∷ []) [])) is ∙ append-nil (tap ∷ taps)
 
-any_else : (shard n : ℕ) (taps : List PlacedTap) → (n == shard) ≡ false → taps_at shard (if_any n taps) ≡ []
+any_else : (shard n : ℕ) (taps : List Tap) → (n == shard) ≡ false → taps_at shard (if_any n taps) ≡ []
 any_else shard n [] is = refl
-any_else shard n (tap ∷ taps) is = ap (λ b. flat_map (λ (r : PlacedRun). taps_of_placed r.taps) (cond b (placed_run n (tap ∷ taps) ∷ []) [])) is
+any_else shard n (tap ∷ taps) is = ap (λ b. flat_map (λ (r : PostedRun). r.taps) (cond b (posted_run n (tap ∷ taps) ∷ []) [])) is
 
-below_none : (shards shard n : ℕ) (taps : List PlacedTap) → n ≤ shard → taps_at shard (runs_below shards n taps) ≡ []
+below_none : (shards shard n : ℕ) (taps : List Tap) → n ≤ shard → taps_at shard (runs_below shards n taps) ≡ []
 below_none shards shard zero taps few = refl
 below_none shards shard (suc n) taps few =
-    taps_at-append shard (runs_below shards n taps) (if_any n (of_shard n shards taps))
-    ∙ ap (λ ts. ts ++ taps_at shard (if_any n (of_shard n shards taps))) (below_none shards shard n taps (omega (arith, few)))
+    taps_at-append shard (runs_below shards n taps) (if_any n (run_of n shards taps))
+    ∙ ap (λ ts. ts ++ taps_at shard (if_any n (run_of n shards taps))) (below_none shards shard n taps (omega (arith, few)))
     ∙ by_test (eqb_tells n shard)
   where
-    by_test : (((n == shard) ≡ true) × (n ≡ shard)) ⊎ (((n == shard) ≡ false) × (n ≢ shard)) → taps_at shard (if_any n (of_shard n shards taps)) ≡ []
+    by_test : (((n == shard) ≡ true) × (n ≡ shard)) ⊎ (((n == shard) ≡ false) × (n ≢ shard)) → taps_at shard (if_any n (run_of n shards taps)) ≡ []
     by_test (inl (is, same)) = absurd (omega (arith, few, same))
-    by_test (inr (is, apart)) = any_else shard n (of_shard n shards taps) is
+    by_test (inr (is, apart)) = any_else shard n (run_of n shards taps) is
 
-below_some : (shards shard n : ℕ) (taps : List PlacedTap) → shard < n → taps_at shard (runs_below shards n taps) ≡ taps_of_placed (of_shard shard shards taps)
+below_some : (shards shard n : ℕ) (taps : List Tap) → shard < n → taps_at shard (runs_below shards n taps) ≡ run_of shard shards taps
 below_some shards shard zero taps within = absurd (omega (arith, within))
 below_some shards shard (suc n) taps within =
-    taps_at-append shard (runs_below shards n taps) (if_any n (of_shard n shards taps)) ∙ by_test (eqb_tells n shard) (below_some shards shard n taps)
+    taps_at-append shard (runs_below shards n taps) (if_any n (run_of n shards taps)) ∙ by_test (eqb_tells n shard) (below_some shards shard n taps)
   where
-    by_test : (((n == shard) ≡ true) × (n ≡ shard)) ⊎ (((n == shard) ≡ false) × (n ≢ shard)) → (shard < n → taps_at shard (runs_below shards n taps) ≡ taps_of_placed (of_shard shard shards taps))
-        → taps_at shard (runs_below shards n taps) ++ taps_at shard (if_any n (of_shard n shards taps)) ≡ taps_of_placed (of_shard shard shards taps)
+    by_test : (((n == shard) ≡ true) × (n ≡ shard)) ⊎ (((n == shard) ≡ false) × (n ≢ shard)) → (shard < n → taps_at shard (runs_below shards n taps) ≡ run_of shard shards taps)
+        → taps_at shard (runs_below shards n taps) ++ taps_at shard (if_any n (run_of n shards taps)) ≡ run_of shard shards taps
     by_test (inl (is, same)) more =
-        ap (λ ts. ts ++ taps_at shard (if_any n (of_shard n shards taps))) (below_none shards shard n taps (omega (arith, same)))
-        ∙ any_here shard n (of_shard n shards taps) is ∙ ap (λ m. taps_of_placed (of_shard m shards taps)) same
+        ap (λ ts. ts ++ taps_at shard (if_any n (run_of n shards taps))) (below_none shards shard n taps (omega (arith, same)))
+        ∙ any_here shard n (run_of n shards taps) is ∙ ap (λ m. run_of m shards taps) same
     by_test (inr (is, apart)) more =
-        ap (λ ts. ts ++ taps_at shard (if_any n (of_shard n shards taps))) (more (omega (arith, within, apart)))
-        ∙ ap (λ ts. taps_of_placed (of_shard shard shards taps) ++ ts) (any_else shard n (of_shard n shards taps) is) ∙ append-nil (taps_of_placed (of_shard shard shards taps))
+        ap (λ ts. ts ++ taps_at shard (if_any n (run_of n shards taps))) (more (omega (arith, within, apart)))
+        ∙ ap (λ ts. run_of shard shards taps ++ ts) (any_else shard n (run_of n shards taps) is) ∙ append-nil (run_of shard shards taps)
 
 -- the runs of batches to a shard have the taps of that shard, in order
-runs_taps_at : (shards shard place : ℕ) (batches : List (List Tap)) → shard < shards → taps_at shard (runs_of shards place batches) ≡ run_of shard shards (flat_map (λ batch. batch) batches)
-runs_taps_at shards shard place [] within = refl
-runs_taps_at shards shard place (batch ∷ batches) within =
-    taps_at-append shard (runs_below shards shards (placed_from place batch)) (runs_of shards (place + length batch) batches)
-    ∙ ap (λ ts. ts ++ taps_at shard (runs_of shards (place + length batch) batches)) (below_some shards shard shards (placed_from place batch) within ∙ taps-of_shard shard shards place batch)
-    ∙ ap (λ ts. run_of shard shards batch ++ ts) (runs_taps_at shards shard (place + length batch) batches within)
+runs_taps_at : (shards shard : ℕ) (batches : List (List Tap)) → shard < shards → taps_at shard (runs_of shards batches) ≡ run_of shard shards (flat_map (λ batch. batch) batches)
+runs_taps_at shards shard [] within = refl
+runs_taps_at shards shard (batch ∷ batches) within =
+    taps_at-append shard (runs_below shards shards batch) (runs_of shards batches)
+    ∙ ap (λ ts. ts ++ taps_at shard (runs_of shards batches)) (below_some shards shard shards batch within)
+    ∙ ap (λ ts. run_of shard shards batch ++ ts) (runs_taps_at shards shard batches within)
     ∙ sym (filter-append (λ tap. shard_of_token tap.token shards == shard) batch (flat_map (λ b. b) batches))
 
 pub AllZip-append : {A B : Type 0} (R : A → B → Type 0) (xs : List A) (ys : List B) (us : List A) (vs : List B) → AllZip R xs ys → AllZip R us vs → AllZip R (xs ++ us) (ys ++ vs)
@@ -84,15 +83,15 @@ visits_entries shards shard (visit ∷ visits) all =
     by_test : (b : Bool) → (visit.shard == shard) ≡ b → AllZip IsEntryOf (taps_at shard (map run_of_visit visits)) (history_of_visits (entries_to shard visits))
         → AllZip IsEntryOf (taps_at shard (map run_of_visit (visit ∷ visits))) (history_of_visits (entries_to shard (visit ∷ visits)))
     by_test true is more =
-        rw is (AllZip-append IsEntryOf (taps_of_placed visit.taps) visit.entries (taps_at shard (map run_of_visit visits)) (history_of_visits (entries_to shard visits))
+        rw is (AllZip-append IsEntryOf visit.taps visit.entries (taps_at shard (map run_of_visit visits)) (history_of_visits (entries_to shard visits))
         (All-head (IsEntered shards) visit visits all).fields more)
     by_test false is more = rw is more
 
-pub shard_entries : (shards shard : ℕ) (batches : List (List Tap)) (visits : List RunVisit) → shard < shards → ArePostedWhole (runs_of shards 0 batches) visits → All (IsEntered shards) visits
+pub shard_entries : (shards shard : ℕ) (batches : List (List Tap)) (visits : List RunVisit) → shard < shards → ArePostedWhole (runs_of shards batches) visits → All (IsEntered shards) visits
     → AllZip IsEntryOf (run_of shard shards (flat_map (λ batch. batch) batches)) (history_of_visits (entries_to shard visits))
 shard_entries shards shard batches visits within posted all =
     let P : List Tap → Type 0 = λ taps. AllZip IsEntryOf taps (history_of_visits (entries_to shard visits)) in
-    subst P (ap (taps_at shard) posted ∙ runs_taps_at shards shard 0 batches within) (visits_entries shards shard visits all)
+    subst P (ap (taps_at shard) posted ∙ runs_taps_at shards shard batches within) (visits_entries shards shard visits all)
 
 -- the tap's token is the name of its bytes
 abbrev pub IsName : Tap → Type 0

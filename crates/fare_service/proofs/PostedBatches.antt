@@ -1,6 +1,6 @@
 -- Batches, posted one after the other.
 use Rattle.std.specs.Prelude.{ℕ, ◌≡◌, ◌+◌, ◌-◌, ◌*◌, ◌^◌, ◌<◌, ◌≤◌, Bool, true, false, List, [], ◌∷◌, ◌++◌, length, map, Result, Ok, Err, IfOk, is_ok, IsErr, Option}
-use Rattle.std.proofs.Common.{sym, ◌∙◌, ap, subst, append_assoc, append-nil, add_assoc, add-zero, arith}
+use Rattle.std.proofs.Common.{refl, sym, ◌∙◌, ap, subst, append_assoc, append-nil, add_assoc, add-zero, arith}
 use Rattle.std.proofs.lemmas.List.{length-map}
 use Rattle.std.proofs.lemmas.List.Sums.{sum_by-append, sum_by-cons}
 use Rattle.tap_views.specs.Layout.{Tap}
@@ -10,7 +10,7 @@ use Rattle.shard_book.specs.Entry.{reply_of}
 use Rattle.shard_book.specs.Sums.{Sums}
 use Rattle.shared_books.specs.Passes.{PassView}
 use Rattle.fare_service.specs.declared.service.working.Stop.{Stop}
-use Rattle.fare_service.specs.Runs.{PlacedRun, RunVisit, placed_from, runs_below, runs_of, AreCut, entries_of, taps_posted}
+use Rattle.fare_service.specs.Runs.{PostedRun, RunVisit, runs_below, runs_of, AreCut, entries_of, taps_posted}
 use Rattle.fare_service.specs.inside.Runs.{ArePostedOrCut}
 use Rattle.fare_service.specs.Shares.{HasVisited}
 use Rattle.fare_service.proofs.RunLemmas.{cut_early}
@@ -19,33 +19,31 @@ use Rattle.fare_service.proofs.BatchLemmas.{Posts, Cuts, posts_more, posts_cut}
 use Rattle.fare_service.proofs.TapCounts.{batches_taps, runs_taps, posted_taps, cut_taps, runs_few, file_room}
 
 -- the runs of batches and of others after them
-pub runs_of-append : (shards place : ℕ) (xs ys : List (List Tap)) → runs_of shards place (xs ++ ys) ≡ runs_of shards place xs ++ runs_of shards (place + batches_taps xs) ys
-runs_of-append shards place [] ys = ap (λ n. runs_of shards n ys) (sym (add-zero place))
-runs_of-append shards place (x ∷ xs) ys =
-    ap (λ rs. runs_below shards shards (placed_from place x) ++ rs)
-    (runs_of-append shards (place + length x) xs ys ∙ ap (λ n. runs_of shards (place + length x) xs ++ runs_of shards n ys)
-    (add_assoc place (length x) (batches_taps xs) ∙ ap (λ n. place + n) (sym (sum_by-cons (λ (b : List Tap). length b) x xs))))
-    ∙ sym (append_assoc (runs_below shards shards (placed_from place x)) (runs_of shards (place + length x) xs) (runs_of shards (place + batches_taps (x ∷ xs)) ys))
+pub runs_of-append : (shards : ℕ) (xs ys : List (List Tap)) → runs_of shards (xs ++ ys) ≡ runs_of shards xs ++ runs_of shards ys
+runs_of-append shards [] ys = refl
+runs_of-append shards (x ∷ xs) ys =
+    ap (λ rs. runs_below shards shards x ++ rs) (runs_of-append shards xs ys)
+    ∙ sym (append_assoc (runs_below shards shards x) (runs_of shards xs) (runs_of shards ys))
 
-one_batch : (shards place : ℕ) (batch : List Tap) → runs_of shards place (batch ∷ []) ≡ runs_below shards shards (placed_from place batch)
-one_batch shards place batch = append-nil (runs_below shards shards (placed_from place batch))
+one_batch : (shards : ℕ) (batch : List Tap) → runs_of shards (batch ∷ []) ≡ runs_below shards shards batch
+one_batch shards batch = append-nil (runs_below shards shards batch)
 
 -- one batch more was posted
 pub batches_more : (shards : ℕ) (p q r : List PassView) (s t u : Sums) (done : List (List Tap)) (batch : List Tap)
-    → Posts shards p q s t (runs_of shards 0 done) → Posts shards q r t u (runs_below shards shards (placed_from (0 + batches_taps done) batch)) → Posts shards p r s u (runs_of shards 0 (done ++ batch ∷ []))
+    → Posts shards p q s t (runs_of shards done) → Posts shards q r t u (runs_below shards shards batch) → Posts shards p r s u (runs_of shards (done ++ batch ∷ []))
 batches_more shards p q r s t u done batch before here =
-    let P : List PlacedRun → Type 0 = Posts shards p r s u in
-    subst P (ap (λ rs. runs_of shards 0 done ++ rs) (sym (one_batch shards (0 + batches_taps done) batch)) ∙ sym (runs_of-append shards 0 done (batch ∷ [])))
-    (posts_more shards p q r s t u (runs_of shards 0 done) (runs_below shards shards (placed_from (0 + batches_taps done) batch)) before here)
+    let P : List PostedRun → Type 0 = Posts shards p r s u in
+    subst P (ap (λ rs. runs_of shards done ++ rs) (sym (one_batch shards batch)) ∙ sym (runs_of-append shards done (batch ∷ [])))
+    (posts_more shards p q r s t u (runs_of shards done) (runs_below shards shards batch) before here)
 
 -- a batch was cut
 pub batches_cut : (shards : ℕ) (p q r : List PassView) (s t u : Sums) (done more : List (List Tap)) (batch : List Tap)
-    → Posts shards p q s t (runs_of shards 0 done) → Cuts shards q r t u (runs_below shards shards (placed_from (0 + batches_taps done) batch)) → Cuts shards p r s u (runs_of shards 0 ((done ++ batch ∷ []) ++ more))
+    → Posts shards p q s t (runs_of shards done) → Cuts shards q r t u (runs_below shards shards batch) → Cuts shards p r s u (runs_of shards ((done ++ batch ∷ []) ++ more))
 batches_cut shards p q r s t u done more batch before here =
-    let (visits, made, cut) = posts_cut shards p q r s t u (runs_of shards 0 done) (runs_below shards shards (placed_from (0 + batches_taps done) batch)) before here in
-    let P : List PlacedRun → Type 0 = λ runs. AreCut runs visits in
-    let first = subst P (ap (λ rs. runs_of shards 0 done ++ rs) (sym (one_batch shards (0 + batches_taps done) batch)) ∙ sym (runs_of-append shards 0 done (batch ∷ []))) cut in
-    (visits, made, subst P (sym (runs_of-append shards 0 (done ++ batch ∷ []) more)) (cut_early (runs_of shards 0 (done ++ batch ∷ [])) (runs_of shards (0 + batches_taps (done ++ batch ∷ [])) more) visits first))
+    let (visits, made, cut) = posts_cut shards p q r s t u (runs_of shards done) (runs_below shards shards batch) before here in
+    let P : List PostedRun → Type 0 = λ runs. AreCut runs visits in
+    let first = subst P (ap (λ rs. runs_of shards done ++ rs) (sym (one_batch shards batch)) ∙ sym (runs_of-append shards done (batch ∷ []))) cut in
+    (visits, made, subst P (sym (runs_of-append shards (done ++ batch ∷ []) more)) (cut_early (runs_of shards (done ++ batch ∷ [])) (runs_of shards more) visits first))
 
 -- how far the totals count
 pub counted_taps : (shards : ℕ) (p q : List PassView) (s t : Sums) (more : List RunVisit) → HasVisited shards p q s t more → t.taps ≡ s.taps + taps_posted more
@@ -58,19 +56,19 @@ done_room file done more rest is =
     omega (arith, file_room file (done ++ more) rest is, sum_by-append (λ (b : List Tap). length b) done more)
 
 pub posted_few : (shards : ℕ) (p q : List PassView) (s t : Sums) (more : List RunVisit) (file : List ℕ) (batches : List (List Tap)) (whole : Bool)
-    → HasVisited shards p q s t more → ArePostedOrCut (runs_of shards 0 batches) whole more → 24 * batches_taps batches ≤ length file → length file < 2 ^ 64 → t.taps ≤ s.taps + 2 ^ 60
+    → HasVisited shards p q s t more → ArePostedOrCut (runs_of shards batches) whole more → 24 * batches_taps batches ≤ length file → length file < 2 ^ 64 → t.taps ≤ s.taps + 2 ^ 60
 posted_few shards p q s t more file batches whole made posted room small =
     let count = counted_taps shards p q s t more made in
-    let few : taps_posted more ≤ runs_taps (runs_of shards 0 batches) = no_more whole posted in
-    omega (arith, count, few, runs_few shards 0 batches, room, small)
+    let few : taps_posted more ≤ runs_taps (runs_of shards batches) = no_more whole posted in
+    omega (arith, count, few, runs_few shards batches, room, small)
   where
-    no_more : (whole : Bool) → ArePostedOrCut (runs_of shards 0 batches) whole more → taps_posted more ≤ runs_taps (runs_of shards 0 batches)
-    no_more true posted = omega (arith, posted_taps shards (runs_of shards 0 batches) more made.entered posted)
-    no_more false posted = cut_taps shards (runs_of shards 0 batches) more made.entered posted
+    no_more : (whole : Bool) → ArePostedOrCut (runs_of shards batches) whole more → taps_posted more ≤ runs_taps (runs_of shards batches)
+    no_more true posted = omega (arith, posted_taps shards (runs_of shards batches) more made.entered posted)
+    no_more false posted = cut_taps shards (runs_of shards batches) more made.entered posted
 
 -- an upload that was cut, told by an answer that is an error
 pub cut_upload : (r : Result (Option (ℕ × LayoutFault)) Stop) (shards : ℕ) (file : List ℕ) (p q : List PassView) (s t : Sums) (batches : List (List Tap)) (rest : List ℕ)
-    → IsErr r → IsFile file batches rest → Cuts shards p q s t (runs_of shards 0 batches)
-    → (batches : List (List Tap)) × (rest : List ℕ) × IsFile file batches rest × ((more : List RunVisit) × HasVisited shards p q s t more × ArePostedOrCut (runs_of shards 0 batches) (is_ok r) more) × IfOk r (IsEndAfterBatches file rest)
+    → IsErr r → IsFile file batches rest → Cuts shards p q s t (runs_of shards batches)
+    → (batches : List (List Tap)) × (rest : List ℕ) × IsFile file batches rest × ((more : List RunVisit) × HasVisited shards p q s t more × ArePostedOrCut (runs_of shards batches) (is_ok r) more) × IfOk r (IsEndAfterBatches file rest)
 cut_upload (Ok x) shards file p q s t batches rest err is cut = absurd (cc)
 cut_upload (Err e) shards file p q s t batches rest err is cut = (batches, rest, is, cut, tt)

@@ -4,37 +4,23 @@ use Rattle.std.proofs.Common.{refl, sym, ◌∙◌, ap, inl, inr, subst, append_
 use Rattle.std.proofs.lemmas.List.{map-append, length-map}
 use Rattle.tap_views.specs.Layout.{Tap}
 use Rattle.tap_views.specs.Shards.{shard_of_token, run_of}
-use Rattle.fare_service.specs.Runs.{PlacedTap, placed_from, taps_of_placed, of_shard, PlacedRun, placed_run, if_any, runs_below, RunVisit, run_of_visit, ArePostedWhole, AreCut}
-
--- the placed taps of a shard are the run's taps
-pub taps-of_shard : (shard shards place : ℕ) (taps : List Tap) → taps_of_placed (of_shard shard shards (placed_from place taps)) ≡ run_of shard shards taps
-taps-of_shard shard shards place [] = refl
-taps-of_shard shard shards place (tap ∷ taps) =
-    let rest = taps-of_shard shard shards (place + 1) taps in
-    elim (shard_of_token tap.token shards == shard) as
-    (λ b. taps_of_placed (cond b (record { place = place; tap = tap } ∷ of_shard shard shards (placed_from (place + 1) taps)) (of_shard shard shards (placed_from (place + 1) taps)))
-    ≡ cond b (tap ∷ run_of shard shards taps) (run_of shard shards taps))
-    [ true ↦ ap (λ ts. tap ∷ ts) rest | false ↦ rest ]
-
-pub length-of_shard : (shard shards place : ℕ) (taps : List Tap) → length (of_shard shard shards (placed_from place taps)) ≡ length (run_of shard shards taps)
-length-of_shard shard shards place taps =
-    sym (length-map (of_shard shard shards (placed_from place taps)) (λ p. p.tap)) ∙ ap length (taps-of_shard shard shards place taps)
+use Rattle.fare_service.specs.Runs.{PostedRun, posted_run, if_any, runs_below, RunVisit, run_of_visit, ArePostedWhole, AreCut}
 
 -- a run with a tap is there
-pub some_run : (shard : ℕ) (taps : List PlacedTap) → 0 < length taps → if_any shard taps ≡ placed_run shard taps ∷ []
+pub some_run : (shard : ℕ) (taps : List Tap) → 0 < length taps → if_any shard taps ≡ posted_run shard taps ∷ []
 some_run shard [] some = absurd (omega arith)
 some_run shard (tap ∷ taps) some = refl
 
 -- no tap, no run
-pub no_run : (shard : ℕ) (taps : List PlacedTap) → length taps ≡ 0 → if_any shard taps ≡ []
+pub no_run : (shard : ℕ) (taps : List Tap) → length taps ≡ 0 → if_any shard taps ≡ []
 no_run shard [] none = refl
 no_run shard (tap ∷ taps) none = absurd (omega arith)
 
-pub posted_posted : (first then : List PlacedRun) (visits more : List RunVisit) → ArePostedWhole first visits → ArePostedWhole then more → ArePostedWhole (first ++ then) (visits ++ more)
+pub posted_posted : (first then : List PostedRun) (visits more : List RunVisit) → ArePostedWhole first visits → ArePostedWhole then more → ArePostedWhole (first ++ then) (visits ++ more)
 posted_posted first then visits more a b = map-append run_of_visit visits more ∙ (ap (λ rs. rs ++ map run_of_visit more) a ∙ ap (λ rs. first ++ rs) b)
 
 -- runs before a cut
-pub posted_cut : (first then : List PlacedRun) (visits more : List RunVisit) → ArePostedWhole first visits → AreCut then more → AreCut (first ++ then) (visits ++ more)
+pub posted_cut : (first then : List PostedRun) (visits more : List RunVisit) → ArePostedWhole first visits → AreCut then more → AreCut (first ++ then) (visits ++ more)
 posted_cut first then visits more a b = record {
   before = first ++ b.before;
   cut = b.cut;
@@ -44,18 +30,18 @@ posted_cut first then visits more a b = record {
   made = made b.made;
 }
   where
-    joined : (rest : List PlacedRun) → map run_of_visit more ≡ rest → map run_of_visit (visits ++ more) ≡ first ++ rest
+    joined : (rest : List PostedRun) → map run_of_visit more ≡ rest → map run_of_visit (visits ++ more) ≡ first ++ rest
     joined rest e = map-append run_of_visit visits more ∙ (ap (λ rs. rs ++ map run_of_visit more) a ∙ ap (λ rs. first ++ rs) e)
 
-    made : ((map run_of_visit more ≡ b.before) ⊎ ((posted : ℕ) × (posted < length b.cut.taps) × (map run_of_visit more ≡ b.before ++ placed_run b.cut.shard (take posted b.cut.taps) ∷ [])))
+    made : ((map run_of_visit more ≡ b.before) ⊎ ((posted : ℕ) × (posted < length b.cut.taps) × (map run_of_visit more ≡ b.before ++ posted_run b.cut.shard (take posted b.cut.taps) ∷ [])))
         → (map run_of_visit (visits ++ more) ≡ first ++ b.before)
-        ⊎ ((posted : ℕ) × (posted < length b.cut.taps) × (map run_of_visit (visits ++ more) ≡ (first ++ b.before) ++ placed_run b.cut.shard (take posted b.cut.taps) ∷ []))
+        ⊎ ((posted : ℕ) × (posted < length b.cut.taps) × (map run_of_visit (visits ++ more) ≡ (first ++ b.before) ++ posted_run b.cut.shard (take posted b.cut.taps) ∷ []))
     made (inl e) = inl (joined b.before e)
     made (inr (posted, few, e)) =
-        inr (posted, few, joined (b.before ++ placed_run b.cut.shard (take posted b.cut.taps) ∷ []) e ∙ sym (append_assoc first b.before (placed_run b.cut.shard (take posted b.cut.taps) ∷ [])))
+        inr (posted, few, joined (b.before ++ posted_run b.cut.shard (take posted b.cut.taps) ∷ []) e ∙ sym (append_assoc first b.before (posted_run b.cut.shard (take posted b.cut.taps) ∷ [])))
 
 -- nothing more is posted after a cut
-pub cut_early : (first then : List PlacedRun) (visits : List RunVisit) → AreCut first visits → AreCut (first ++ then) visits
+pub cut_early : (first then : List PostedRun) (visits : List RunVisit) → AreCut first visits → AreCut (first ++ then) visits
 cut_early first then visits c = record {
   before = c.before;
   cut = c.cut;
@@ -66,10 +52,10 @@ cut_early first then visits c = record {
 }
 
 -- a run of which nothing was posted
-pub cut_none : (shard : ℕ) (taps : List PlacedTap) → 0 < length taps → AreCut (if_any shard taps) []
+pub cut_none : (shard : ℕ) (taps : List Tap) → 0 < length taps → AreCut (if_any shard taps) []
 cut_none shard taps some = record {
   before = [];
-  cut = placed_run shard taps;
+  cut = posted_run shard taps;
   after = [];
   all = some_run shard taps some;
   some_tap = some;
@@ -77,10 +63,10 @@ cut_none shard taps some = record {
 }
 
 -- a run of which the first taps were posted
-pub cut_some : (shard : ℕ) (taps : List PlacedTap) (posted : ℕ) (visit : RunVisit) → posted < length taps → run_of_visit visit ≡ placed_run shard (take posted taps) → AreCut (if_any shard taps) (visit ∷ [])
+pub cut_some : (shard : ℕ) (taps : List Tap) (posted : ℕ) (visit : RunVisit) → posted < length taps → run_of_visit visit ≡ posted_run shard (take posted taps) → AreCut (if_any shard taps) (visit ∷ [])
 cut_some shard taps posted visit few e = record {
   before = [];
-  cut = placed_run shard taps;
+  cut = posted_run shard taps;
   after = [];
   all = some_run shard taps (omega arith);
   some_tap = omega arith;
@@ -88,17 +74,17 @@ cut_some shard taps posted visit few e = record {
 }
 
 -- a run that was posted whole
-pub whole_run : (shard : ℕ) (taps : List PlacedTap) (visit : RunVisit) → 0 < length taps → run_of_visit visit ≡ placed_run shard taps → ArePostedWhole (if_any shard taps) (visit ∷ [])
+pub whole_run : (shard : ℕ) (taps : List Tap) (visit : RunVisit) → 0 < length taps → run_of_visit visit ≡ posted_run shard taps → ArePostedWhole (if_any shard taps) (visit ∷ [])
 whole_run shard taps visit some e = ap (λ r. r ∷ []) e ∙ sym (some_run shard taps some)
 
 -- the runs of one more shard
-pub below_more : (shards shard : ℕ) (taps : List PlacedTap) → runs_below shards (shard + 1) taps ≡ runs_below shards shard taps ++ if_any shard (of_shard shard shards taps)
+pub below_more : (shards shard : ℕ) (taps : List Tap) → runs_below shards (shard + 1) taps ≡ runs_below shards shard taps ++ if_any shard (run_of shard shards taps)
 below_more shards shard taps =
     let e : shard + 1 ≡ suc shard = omega arith in
     ap (λ n. runs_below shards n taps) e
 
 -- a batch cut at one of its shards is cut, whatever shards are left
-pub below_cut : (shards shard left : ℕ) (taps : List PlacedTap) (visits : List RunVisit) → AreCut (runs_below shards shard taps) visits → AreCut (runs_below shards (left + shard) taps) visits
+pub below_cut : (shards shard left : ℕ) (taps : List Tap) (visits : List RunVisit) → AreCut (runs_below shards shard taps) visits → AreCut (runs_below shards (left + shard) taps) visits
 below_cut shards shard zero taps visits c =
     let e : shard ≡ 0 + shard = omega arith in
     let P : ℕ → Type 0 = λ n. AreCut (runs_below shards n taps) visits in
@@ -106,4 +92,4 @@ below_cut shards shard zero taps visits c =
 below_cut shards shard (suc left) taps visits c =
     let e : suc (left + shard) ≡ suc left + shard = omega arith in
     let P : ℕ → Type 0 = λ n. AreCut (runs_below shards n taps) visits in
-    subst P e (cut_early (runs_below shards (left + shard) taps) (if_any (left + shard) (of_shard (left + shard) shards taps)) visits (below_cut shards shard left taps visits c))
+    subst P e (cut_early (runs_below shards (left + shard) taps) (if_any (left + shard) (run_of (left + shard) shards taps)) visits (below_cut shards shard left taps visits c))

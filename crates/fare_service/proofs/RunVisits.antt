@@ -2,7 +2,6 @@
 use Rattle.std.specs.Prelude.{ℕ, ◌≡◌, ◌≢◌, ◌<◌, ◌≤◌, ◌==◌, Bool, true, false, cond, zero, suc, ◌⊎◌, List, [], ◌∷◌, ◌++◌, length, map, take, Result, Ok, Err, is_ok, IsErr, Some}
 use Rattle.std.specs.List.{AllZip}
 use Rattle.std.proofs.Common.{refl, sym, ◌∙◌, ap, inl, inr, subst, append-nil, arith, get_or, set, eq-eqb, length-take}
-use Rattle.std.proofs.lemmas.List.{take-map}
 use Rattle.std.proofs.lemmas.List.Elements.{All-nil, All-cons}
 use Rattle.std.proofs.lemmas.Option.{slice_get-get_or}
 use Rattle.std.proofs.lemmas.Bool.Decides.{eqb_tells}
@@ -18,14 +17,14 @@ use Rattle.shared_books.specs.Passes.{PassView, SharedBookView, HasSeenMore, Vis
 use Rattle.fare_service.specs.declared.service.working.Stop.{Stop}
 use Rattle.fare_service.specs.ServiceView.{ServiceView, shards_of}
 use Rattle.fare_service.specs.inside.ServiceView.{IsService, IsBookOf}
-use Rattle.fare_service.specs.Runs.{PlacedTap, placed_from, of_shard, PlacedRun, if_any, RunVisit, IsEntered, ArePostedWhole, AreCut, entries_to}
+use Rattle.fare_service.specs.Runs.{PostedRun, if_any, RunVisit, IsEntered, ArePostedWhole, AreCut, entries_to}
 use Rattle.fare_service.specs.inside.Runs.{ArePostedOrCut}
 use Rattle.fare_service.specs.Shares.{made_visits, marks_at, made_visits_at, HasVisited}
-use Rattle.fare_service.proofs.RunLemmas.{taps-of_shard, length-of_shard, no_run, cut_none, cut_some, whole_run}
+use Rattle.fare_service.proofs.RunLemmas.{no_run, cut_none, cut_some, whole_run}
 use Rattle.fare_service.proofs.VisitLemmas.{made_none, made_by_pass, own-visits, own-later, add_none}
 
 -- an answer that is an error tells of a cut
-pub was_cut : (r : Result (Unit {0}) Stop) (runs : List PlacedRun) (visits : List RunVisit) → IsErr r → AreCut runs visits → ArePostedOrCut runs (is_ok r) visits
+pub was_cut : (r : Result (Unit {0}) Stop) (runs : List PostedRun) (visits : List RunVisit) → IsErr r → AreCut runs visits → ArePostedOrCut runs (is_ok r) visits
 was_cut (Ok x) runs visits e c = absurd (cc)
 was_cut (Err x) runs visits e c = c
 
@@ -44,39 +43,35 @@ abbrev pub is_whole : RunEnd → Bool
 is_whole Whole = true
 is_whole (Cut posted) = false
 
--- the visit of a run of a batch, with the places of its taps
-pub record IsVisitOf (shards shard place : ℕ) (batch : List Tap) (how : RunEnd) (entries : List Entry) (visit : RunVisit) : Type 0 where
+-- the visit of a run of a batch
+pub record IsVisitOf (shards shard : ℕ) (batch : List Tap) (how : RunEnd) (entries : List Entry) (visit : RunVisit) : Type 0 where
   pub shard_is : visit.shard ≡ shard
   pub entries_are : visit.entries ≡ entries
   pub entered : IsEntered shards visit
-  pub posted : ArePostedOrCut (if_any shard (of_shard shard shards (placed_from place batch))) (is_whole how) (visit ∷ [])
+  pub posted : ArePostedOrCut (if_any shard (run_of shard shards batch)) (is_whole how) (visit ∷ [])
 
-pub visit_of : (shards shard place : ℕ) (batch : List Tap) (how : RunEnd) (entries : List Entry) → shard < shards → 0 < length (run_of shard shards batch)
-    → IsVisit (run_of shard shards batch) how entries → (visit : RunVisit) × IsVisitOf shards shard place batch how entries visit
-visit_of shards shard place batch Whole entries within some h =
-    let placed = of_shard shard shards (placed_from place batch) in
-    let P : List Tap → Type 0 = λ taps. AreEntriesOf taps entries in
-    let visit : RunVisit = record { shard = shard; taps = placed; entries = entries } in
-    let there : 0 < length placed = omega (arith, length-of_shard shard shards place batch) in (
+pub visit_of : (shards shard : ℕ) (batch : List Tap) (how : RunEnd) (entries : List Entry) → shard < shards → 0 < length (run_of shard shards batch)
+    → IsVisit (run_of shard shards batch) how entries → (visit : RunVisit) × IsVisitOf shards shard batch how entries visit
+visit_of shards shard batch Whole entries within some h =
+    let taps = run_of shard shards batch in
+    let visit : RunVisit = record { shard = shard; taps = taps; entries = entries } in (
       visit,
       record {
         shard_is = refl;
         entries_are = refl;
-        entered = record { within = within; fields = subst P (sym (taps-of_shard shard shards place batch)) h };
-        posted = whole_run shard placed visit there refl;
+        entered = record { within = within; fields = h };
+        posted = whole_run shard taps visit some refl;
       },
     )
-visit_of shards shard place batch (Cut posted) entries within some h =
-    let placed = of_shard shard shards (placed_from place batch) in
-    let P : List Tap → Type 0 = λ taps. AreEntriesOf taps entries in
-    let visit : RunVisit = record { shard = shard; taps = take posted placed; entries = entries } in
-    let few : posted < length placed = omega (arith, length-of_shard shard shards place batch, h.0) in (
+visit_of shards shard batch (Cut posted) entries within some h =
+    let taps = run_of shard shards batch in
+    let visit : RunVisit = record { shard = shard; taps = take posted taps; entries = entries } in (
       visit,
       record {
         shard_is = refl;
         entries_are = refl;
-        entered = record { within = within; fields = subst P (ap (take posted) (sym (taps-of_shard shard shards place batch)) ∙ take-map (λ (p : PlacedTap). p.tap) posted placed) h.1 };
-        posted = cut_some shard placed posted visit few refl;
+        entered = record { within = within; fields = h.1 };
+        posted = cut_some shard taps posted visit h.0 refl;
       },
     )
 
@@ -132,35 +127,33 @@ pub same_run : (r : ShardRun) (batch : List Tap) (shard n shards : ℕ) → r �
 same_run r batch shard n shards is same = ap run_taps is ∙ ap (λ k. run_of shard k batch) same
 
 -- a run without taps
-pub run_empty : (shards shard place : ℕ) (batch : List Tap) (passes : List PassView) (totals : Sums) → length (run_of shard shards batch) ≡ 0
-    → (more : List RunVisit) × HasVisited shards passes passes totals totals more × ArePostedWhole (if_any shard (of_shard shard shards (placed_from place batch))) more
-run_empty shards shard place batch passes totals none =
-    ([], made_none shards passes totals, sym (no_run shard (of_shard shard shards (placed_from place batch)) (length-of_shard shard shards place batch ∙ none)))
+pub run_empty : (shards shard : ℕ) (batch : List Tap) (passes : List PassView) (totals : Sums) → length (run_of shard shards batch) ≡ 0
+    → (more : List RunVisit) × HasVisited shards passes passes totals totals more × ArePostedWhole (if_any shard (run_of shard shards batch)) more
+run_empty shards shard batch passes totals none =
+    ([], made_none shards passes totals, sym (no_run shard (run_of shard shards batch) none))
 
 -- a run of which nothing was posted, since memory was refused before its turn
-pub run_refused : (shards shard place : ℕ) (batch : List Tap) (passes : List PassView) (totals : Sums) (r : Result (Unit {0}) Stop) → 0 < length (run_of shard shards batch) → IsErr r
-    → (more : List RunVisit) × HasVisited shards passes passes totals totals more × ArePostedOrCut (if_any shard (of_shard shard shards (placed_from place batch))) (is_ok r) more
-run_refused shards shard place batch passes totals r some err =
-    let placed = of_shard shard shards (placed_from place batch) in
-    let there : 0 < length placed = omega (arith, length-of_shard shard shards place batch) in
-    ([], made_none shards passes totals, was_cut r (if_any shard placed) [] err (cut_none shard placed there))
+pub run_refused : (shards shard : ℕ) (batch : List Tap) (passes : List PassView) (totals : Sums) (r : Result (Unit {0}) Stop) → 0 < length (run_of shard shards batch) → IsErr r
+    → (more : List RunVisit) × HasVisited shards passes passes totals totals more × ArePostedOrCut (if_any shard (run_of shard shards batch)) (is_ok r) more
+run_refused shards shard batch passes totals r some err =
+    let taps = run_of shard shards batch in
+    ([], made_none shards passes totals, was_cut r (if_any shard taps) [] err (cut_none shard taps some))
 
 -- a run of which nothing was posted, since its book takes no more visits
-pub run_full : (shards shard place : ℕ) (batch : List Tap) (passes : List PassView) (old new : PassView) (totals : Sums) (r : Result (Unit {0}) Stop) → 0 < length (run_of shard shards batch) → IsErr r
+pub run_full : (shards shard : ℕ) (batch : List Tap) (passes : List PassView) (old new : PassView) (totals : Sums) (r : Result (Unit {0}) Stop) → 0 < length (run_of shard shards batch) → IsErr r
     → shard < length passes → old ≡ get_or passes shard old → HasSeenMore old new
-    → (more : List RunVisit) × HasVisited shards passes (set passes shard new) totals totals more × ArePostedOrCut (if_any shard (of_shard shard shards (placed_from place batch))) (is_ok r) more
-run_full shards shard place batch passes old new totals r some err within is later =
-    let placed = of_shard shard shards (placed_from place batch) in
-    let there : 0 < length placed = omega (arith, length-of_shard shard shards place batch) in
-    ([], made_look shards shard passes old new totals within is later, was_cut r (if_any shard placed) [] err (cut_none shard placed there))
+    → (more : List RunVisit) × HasVisited shards passes (set passes shard new) totals totals more × ArePostedOrCut (if_any shard (run_of shard shards batch)) (is_ok r) more
+run_full shards shard batch passes old new totals r some err within is later =
+    let taps = run_of shard shards batch in
+    ([], made_look shards shard passes old new totals within is later, was_cut r (if_any shard taps) [] err (cut_none shard taps some))
 
 -- a run that was visited
-pub run_visited : (shards shard place : ℕ) (batch : List Tap) (passes : List PassView) (old new : PassView) (number : ℕ) (how : RunEnd) (entries : List Entry) (totals totals' : Sums)
+pub run_visited : (shards shard : ℕ) (batch : List Tap) (passes : List PassView) (old new : PassView) (number : ℕ) (how : RunEnd) (entries : List Entry) (totals totals' : Sums)
     → 0 < length (run_of shard shards batch) → shard < shards → shard < length passes → old ≡ get_or passes shard old
     → Visits old new number entries → IsVisit (run_of shard shards batch) how entries → totals' ≡ add_sums totals (sums entries)
-    → (more : List RunVisit) × HasVisited shards passes (set passes shard new) totals totals' more × ArePostedOrCut (if_any shard (of_shard shard shards (placed_from place batch))) (is_whole how) more
-run_visited shards shard place batch passes old new number how entries totals totals' some below within is v h counted =
-    let (visit, of) = visit_of shards shard place batch how entries below some h in
+    → (more : List RunVisit) × HasVisited shards passes (set passes shard new) totals totals' more × ArePostedOrCut (if_any shard (run_of shard shards batch)) (is_whole how) more
+run_visited shards shard batch passes old new number how entries totals totals' some below within is v h counted =
+    let (visit, of) = visit_of shards shard batch how entries below some h in
     let P : List Entry → Type 0 = λ es. Visits old new number es in (
       visit ∷ [],
       made_visit shards shard passes old new number visit totals totals' within is of.shard_is (subst P (sym of.entries_are) v)

@@ -1,19 +1,18 @@
 -- How many taps visits post: no more than the batches have, which their file has room for.
 use Rattle.std.specs.Prelude.{ℕ, zero, suc, ◌≡◌, ◌⊎◌, ◌+◌, ◌*◌, ◌<◌, ◌≤◌, ◌==◌, nat_lt, Bool, true, false, cond, List, [], ◌∷◌, ◌++◌, length, map, filter, take, sum_by, All}
 use Rattle.std.proofs.Common.{refl, sym, ◌∙◌, ap, inl, inr, arith, length-append, length-take, add-zero}
-use Rattle.std.proofs.lemmas.List.{length-map}
 use Rattle.std.proofs.lemmas.List.Sums.{sum_by-append, sum_by-cons}
 use Rattle.std.proofs.lemmas.List.Elements.{All-head, All-tail}
 use Rattle.std.proofs.lemmas.Bool.Decides.{nat_tests}
 use Rattle.tap_views.specs.Layout.{Tap}
 use Rattle.tap_views.specs.Files.{IsFile}
-use Rattle.tap_views.specs.Shards.{shard_of_token}
+use Rattle.tap_views.specs.Shards.{shard_of_token, run_of}
 use Rattle.tap_views.proofs.ReadingLemmas.{batch_room}
 use Rattle.shard_book.specs.Entry.{IsEntryOf}
-use Rattle.fare_service.specs.Runs.{PlacedTap, placed_from, taps_of_placed, of_shard, PlacedRun, placed_run, if_any, runs_below, runs_of, RunVisit, IsEntered, run_of_visit, ArePostedWhole, AreCut, entries_of, taps_posted}
+use Rattle.fare_service.specs.Runs.{PostedRun, posted_run, if_any, runs_below, runs_of, RunVisit, IsEntered, run_of_visit, ArePostedWhole, AreCut, entries_of, taps_posted}
 use Rattle.fare_service.proofs.RunVisits.{AllZip-length}
 
-abbrev pub runs_taps : List PlacedRun → ℕ
+abbrev pub runs_taps : List PostedRun → ℕ
 runs_taps runs = sum_by (λ r. length r.taps) runs
 
 abbrev pub batches_taps : List (List Tap) → ℕ
@@ -24,34 +23,34 @@ pub visits_taps : (shards : ℕ) (visits : List RunVisit) → All (IsEntered sha
 visits_taps shards [] all = refl
 visits_taps shards (visit ∷ visits) all =
     let here : length visit.entries ≡ length visit.taps =
-    sym (AllZip-length IsEntryOf (taps_of_placed visit.taps) visit.entries (All-head (IsEntered shards) visit visits all).fields) ∙ length-map visit.taps (λ (p : PlacedTap). p.tap) in
+    sym (AllZip-length IsEntryOf visit.taps visit.entries (All-head (IsEntered shards) visit visits all).fields) in
     let rest : taps_posted visits ≡ runs_taps (map run_of_visit visits) = visits_taps shards visits (All-tail (IsEntered shards) visit visits all) in
     let many : length (visit.entries ++ entries_of visits) ≡ length visit.entries + length (entries_of visits) = length-append visit.entries (entries_of visits) in
     let sum : runs_taps (run_of_visit visit ∷ map run_of_visit visits) ≡ length visit.taps + runs_taps (map run_of_visit visits) =
-    sum_by-cons (λ (r : PlacedRun). length r.taps) (run_of_visit visit) (map run_of_visit visits) in
+    sum_by-cons (λ (r : PostedRun). length r.taps) (run_of_visit visit) (map run_of_visit visits) in
     omega arith
 
 -- whole runs post all their taps
-pub posted_taps : (shards : ℕ) (runs : List PlacedRun) (visits : List RunVisit) → All (IsEntered shards) visits → ArePostedWhole runs visits → taps_posted visits ≡ runs_taps runs
+pub posted_taps : (shards : ℕ) (runs : List PostedRun) (visits : List RunVisit) → All (IsEntered shards) visits → ArePostedWhole runs visits → taps_posted visits ≡ runs_taps runs
 posted_taps shards runs visits all posted = visits_taps shards visits all ∙ ap runs_taps posted
 
 -- runs up to a cut post no more
-pub cut_taps : (shards : ℕ) (runs : List PlacedRun) (visits : List RunVisit) → All (IsEntered shards) visits → AreCut runs visits → taps_posted visits ≤ runs_taps runs
+pub cut_taps : (shards : ℕ) (runs : List PostedRun) (visits : List RunVisit) → All (IsEntered shards) visits → AreCut runs visits → taps_posted visits ≤ runs_taps runs
 cut_taps shards runs visits all c = made c.made
   where
     whole : runs_taps runs ≡ runs_taps c.before + runs_taps (c.cut ∷ c.after)
     whole = ap runs_taps c.all ∙ sum_by-append (λ r. length r.taps) c.before (c.cut ∷ c.after)
 
-    made : ((map run_of_visit visits ≡ c.before) ⊎ ((posted : ℕ) × (posted < length c.cut.taps) × (map run_of_visit visits ≡ c.before ++ placed_run c.cut.shard (take posted c.cut.taps) ∷ [])))
+    made : ((map run_of_visit visits ≡ c.before) ⊎ ((posted : ℕ) × (posted < length c.cut.taps) × (map run_of_visit visits ≡ c.before ++ posted_run c.cut.shard (take posted c.cut.taps) ∷ [])))
         → taps_posted visits ≤ runs_taps runs
     made (inl e) = omega (arith, whole, posted_taps shards c.before visits all e)
     made (inr (posted, few, e)) =
-        let part = placed_run c.cut.shard (take posted c.cut.taps) in
+        let part = posted_run c.cut.shard (take posted c.cut.taps) in
         let all' : taps_posted visits ≡ runs_taps (c.before ++ part ∷ []) = posted_taps shards (c.before ++ part ∷ []) visits all e in
-        let split : runs_taps (c.before ++ part ∷ []) ≡ runs_taps c.before + runs_taps (part ∷ []) = sum_by-append (λ (r : PlacedRun). length r.taps) c.before (part ∷ []) in
-        let one : runs_taps (part ∷ []) ≡ length (take posted c.cut.taps) + 0 = sum_by-cons (λ (r : PlacedRun). length r.taps) part [] in
-        let rest : runs_taps (c.cut ∷ c.after) ≡ length c.cut.taps + runs_taps c.after = sum_by-cons (λ (r : PlacedRun). length r.taps) c.cut c.after in
-        let short : length (take posted c.cut.taps) ≤ length c.cut.taps = omega (arith, length-take {A = PlacedTap}) in
+        let split : runs_taps (c.before ++ part ∷ []) ≡ runs_taps c.before + runs_taps (part ∷ []) = sum_by-append (λ (r : PostedRun). length r.taps) c.before (part ∷ []) in
+        let one : runs_taps (part ∷ []) ≡ length (take posted c.cut.taps) + 0 = sum_by-cons (λ (r : PostedRun). length r.taps) part [] in
+        let rest : runs_taps (c.cut ∷ c.after) ≡ length c.cut.taps + runs_taps c.after = sum_by-cons (λ (r : PostedRun). length r.taps) c.cut c.after in
+        let short : length (take posted c.cut.taps) ≤ length c.cut.taps = omega (arith, length-take {A = Tap}) in
         omega (arith, whole)
 
 length-cond : {X : Type 0} (b : Bool) (x : X) (xs : List X) → length (cond b (x ∷ xs) xs) ≡ cond b 1 0 + length xs
@@ -65,34 +64,34 @@ no_less : (s : ℕ) → nat_lt s 0 ≡ false
 no_less s = grind (arith, nat_tests)
 
 -- the taps before one shard and those of that shard
-split_shards : (shards n : ℕ) (taps : List PlacedTap)
-    → length (filter (λ p. nat_lt (shard_of_token p.tap.token shards) (suc n)) taps)
-    ≡ length (filter (λ p. nat_lt (shard_of_token p.tap.token shards) n) taps) + length (of_shard n shards taps)
+split_shards : (shards n : ℕ) (taps : List Tap)
+    → length (filter (λ p. nat_lt (shard_of_token p.token shards) (suc n)) taps)
+    ≡ length (filter (λ p. nat_lt (shard_of_token p.token shards) n) taps) + length (run_of n shards taps)
 split_shards shards n [] = refl
 split_shards shards n (p ∷ taps) =
-    let s = shard_of_token p.tap.token shards in
-    let below = filter (λ (q : PlacedTap). nat_lt (shard_of_token q.tap.token shards) n) taps in
-    let upto = filter (λ (q : PlacedTap). nat_lt (shard_of_token q.tap.token shards) (suc n)) taps in
-    let rest : length upto ≡ length below + length (of_shard n shards taps) = split_shards shards n taps in
-    omega (arith, length-cond (nat_lt s (suc n)) p upto, length-cond (nat_lt s n) p below, length-cond (s == n) p (of_shard n shards taps), one_test s n)
+    let s = shard_of_token p.token shards in
+    let below = filter (λ (q : Tap). nat_lt (shard_of_token q.token shards) n) taps in
+    let upto = filter (λ (q : Tap). nat_lt (shard_of_token q.token shards) (suc n)) taps in
+    let rest : length upto ≡ length below + length (run_of n shards taps) = split_shards shards n taps in
+    omega (arith, length-cond (nat_lt s (suc n)) p upto, length-cond (nat_lt s n) p below, length-cond (s == n) p (run_of n shards taps), one_test s n)
 
-no_taps_below : (shards : ℕ) (taps : List PlacedTap) → filter (λ p. nat_lt (shard_of_token p.tap.token shards) 0) taps ≡ []
+no_taps_below : (shards : ℕ) (taps : List Tap) → filter (λ p. nat_lt (shard_of_token p.token shards) 0) taps ≡ []
 no_taps_below shards [] = refl
 no_taps_below shards (p ∷ taps) =
-    let below = filter (λ (q : PlacedTap). nat_lt (shard_of_token q.tap.token shards) 0) taps in
-    ap (λ b. cond b (p ∷ below) below) (no_less (shard_of_token p.tap.token shards)) ∙ no_taps_below shards taps
+    let below = filter (λ (q : Tap). nat_lt (shard_of_token q.token shards) 0) taps in
+    ap (λ b. cond b (p ∷ below) below) (no_less (shard_of_token p.token shards)) ∙ no_taps_below shards taps
 
-if_any_taps : (shard : ℕ) (taps : List PlacedTap) → runs_taps (if_any shard taps) ≡ length taps
+if_any_taps : (shard : ℕ) (taps : List Tap) → runs_taps (if_any shard taps) ≡ length taps
 if_any_taps shard [] = refl
-if_any_taps shard (p ∷ taps) = sum_by-cons (λ (r : PlacedRun). length r.taps) (placed_run shard (p ∷ taps)) [] ∙ add-zero (length (p ∷ taps))
+if_any_taps shard (p ∷ taps) = sum_by-cons (λ (r : PostedRun). length r.taps) (posted_run shard (p ∷ taps)) [] ∙ add-zero (length (p ∷ taps))
 
 -- the runs of the first shards have the taps of those shards
-below_taps : (shards n : ℕ) (taps : List PlacedTap) → runs_taps (runs_below shards n taps) ≡ length (filter (λ p. nat_lt (shard_of_token p.tap.token shards) n) taps)
+below_taps : (shards n : ℕ) (taps : List Tap) → runs_taps (runs_below shards n taps) ≡ length (filter (λ p. nat_lt (shard_of_token p.token shards) n) taps)
 below_taps shards zero taps = sym (ap length (no_taps_below shards taps))
 below_taps shards (suc n) taps =
-    sum_by-append (λ (r : PlacedRun). length r.taps) (runs_below shards n taps) (if_any n (of_shard n shards taps))
-    ∙ ap (λ k. k + runs_taps (if_any n (of_shard n shards taps))) (below_taps shards n taps)
-    ∙ ap (λ k. length (filter (λ p. nat_lt (shard_of_token p.tap.token shards) n) taps) + k) (if_any_taps n (of_shard n shards taps))
+    sum_by-append (λ (r : PostedRun). length r.taps) (runs_below shards n taps) (if_any n (run_of n shards taps))
+    ∙ ap (λ k. k + runs_taps (if_any n (run_of n shards taps))) (below_taps shards n taps)
+    ∙ ap (λ k. length (filter (λ p. nat_lt (shard_of_token p.token shards) n) taps) + k) (if_any_taps n (run_of n shards taps))
     ∙ sym (split_shards shards n taps)
 
 length-filter-le : {X : Type 0} (p : X → Bool) (xs : List X) → length (filter p xs) ≤ length xs
@@ -101,29 +100,24 @@ length-filter-le p (x ∷ xs) =
     let rest : length (filter p xs) ≤ length xs = length-filter-le p xs in
     elim (p x) as (λ b. length (cond b (x ∷ filter p xs) (filter p xs)) ≤ length (x ∷ xs)) [ true ↦ omega arith | false ↦ omega arith ]
 
-pub length-placed : (place : ℕ) (taps : List Tap) → length (placed_from place taps) ≡ length taps
-length-placed place [] = refl
-length-placed place (tap ∷ taps) = ap suc (length-placed (place + 1) taps)
-
 -- the runs of a batch have no more taps than the batch
-pub batch_taps : (shards place : ℕ) (batch : List Tap) → runs_taps (runs_below shards shards (placed_from place batch)) ≤ length batch
-batch_taps shards place batch =
+pub batch_taps : (shards : ℕ) (batch : List Tap) → runs_taps (runs_below shards shards batch) ≤ length batch
+batch_taps shards batch =
     omega (
       arith,
-      below_taps shards shards (placed_from place batch),
-      length-filter-le (λ (p : PlacedTap). nat_lt (shard_of_token p.tap.token shards) shards) (placed_from place batch),
-      length-placed place batch,
+      below_taps shards shards batch,
+      length-filter-le (λ (p : Tap). nat_lt (shard_of_token p.token shards) shards) batch,
     )
 
 -- nor do those of some batches
-pub runs_few : (shards place : ℕ) (batches : List (List Tap)) → runs_taps (runs_of shards place batches) ≤ batches_taps batches
-runs_few shards place [] = omega arith
-runs_few shards place (batch ∷ batches) =
-    let first : runs_taps (runs_below shards shards (placed_from place batch)) ≤ length batch = batch_taps shards place batch in
-    let rest : runs_taps (runs_of shards (place + length batch) batches) ≤ batches_taps batches = runs_few shards (place + length batch) batches in
-    let both : runs_taps (runs_below shards shards (placed_from place batch) ++ runs_of shards (place + length batch) batches)
-    ≡ runs_taps (runs_below shards shards (placed_from place batch)) + runs_taps (runs_of shards (place + length batch) batches) =
-    sum_by-append (λ (r : PlacedRun). length r.taps) (runs_below shards shards (placed_from place batch)) (runs_of shards (place + length batch) batches) in
+pub runs_few : (shards : ℕ) (batches : List (List Tap)) → runs_taps (runs_of shards batches) ≤ batches_taps batches
+runs_few shards [] = omega arith
+runs_few shards (batch ∷ batches) =
+    let first : runs_taps (runs_below shards shards batch) ≤ length batch = batch_taps shards batch in
+    let rest : runs_taps (runs_of shards batches) ≤ batches_taps batches = runs_few shards batches in
+    let both : runs_taps (runs_below shards shards batch ++ runs_of shards batches)
+    ≡ runs_taps (runs_below shards shards batch) + runs_taps (runs_of shards batches) =
+    sum_by-append (λ (r : PostedRun). length r.taps) (runs_below shards shards batch) (runs_of shards batches) in
     let all : batches_taps (batch ∷ batches) ≡ length batch + batches_taps batches = sum_by-cons (λ (b : List Tap). length b) batch batches in
     omega arith
 
@@ -139,21 +133,21 @@ file_room file (batch ∷ batches) rest (front, back, is_batch, whole, is) =
 below_tells : (a b : ℕ) → a < b → nat_lt a b ≡ true
 below_tells a b h = grind (arith, nat_tests)
 
-all_below : (shards : ℕ) (taps : List PlacedTap) → ((token : List ℕ) → shard_of_token token shards < shards) → filter (λ p. nat_lt (shard_of_token p.tap.token shards) shards) taps ≡ taps
+all_below : (shards : ℕ) (taps : List Tap) → ((token : List ℕ) → shard_of_token token shards < shards) → filter (λ p. nat_lt (shard_of_token p.token shards) shards) taps ≡ taps
 all_below shards [] within = refl
 all_below shards (p ∷ taps) within =
-    let below = filter (λ (q : PlacedTap). nat_lt (shard_of_token q.tap.token shards) shards) taps in
-    ap (λ b. cond b (p ∷ below) below) (below_tells (shard_of_token p.tap.token shards) shards (within p.tap.token)) ∙ ap (λ ps. p ∷ ps) (all_below shards taps within)
+    let below = filter (λ (q : Tap). nat_lt (shard_of_token q.token shards) shards) taps in
+    ap (λ b. cond b (p ∷ below) below) (below_tells (shard_of_token p.token shards) shards (within p.token)) ∙ ap (λ ps. p ∷ ps) (all_below shards taps within)
 
 -- where each token has one of the shards, the runs of batches have all their taps
-pub all_runs_taps : (shards place : ℕ) (batches : List (List Tap)) → ((token : List ℕ) → shard_of_token token shards < shards) → runs_taps (runs_of shards place batches) ≡ batches_taps batches
-all_runs_taps shards place [] within = refl
-all_runs_taps shards place (batch ∷ batches) within =
-    let first : runs_taps (runs_below shards shards (placed_from place batch)) ≡ length batch =
-    below_taps shards shards (placed_from place batch) ∙ ap length (all_below shards (placed_from place batch) within) ∙ length-placed place batch in
-    let rest : runs_taps (runs_of shards (place + length batch) batches) ≡ batches_taps batches = all_runs_taps shards (place + length batch) batches within in
-    let both : runs_taps (runs_below shards shards (placed_from place batch) ++ runs_of shards (place + length batch) batches)
-    ≡ runs_taps (runs_below shards shards (placed_from place batch)) + runs_taps (runs_of shards (place + length batch) batches) =
-    sum_by-append (λ (r : PlacedRun). length r.taps) (runs_below shards shards (placed_from place batch)) (runs_of shards (place + length batch) batches) in
+pub all_runs_taps : (shards : ℕ) (batches : List (List Tap)) → ((token : List ℕ) → shard_of_token token shards < shards) → runs_taps (runs_of shards batches) ≡ batches_taps batches
+all_runs_taps shards [] within = refl
+all_runs_taps shards (batch ∷ batches) within =
+    let first : runs_taps (runs_below shards shards batch) ≡ length batch =
+    below_taps shards shards batch ∙ ap length (all_below shards batch within) in
+    let rest : runs_taps (runs_of shards batches) ≡ batches_taps batches = all_runs_taps shards batches within in
+    let both : runs_taps (runs_below shards shards batch ++ runs_of shards batches)
+    ≡ runs_taps (runs_below shards shards batch) + runs_taps (runs_of shards batches) =
+    sum_by-append (λ (r : PostedRun). length r.taps) (runs_below shards shards batch) (runs_of shards batches) in
     let all : batches_taps (batch ∷ batches) ≡ length batch + batches_taps batches = sum_by-cons (λ (b : List Tap). length b) batch batches in
     omega arith

@@ -24,7 +24,7 @@ use Rattle.fare_service.proofs.PostedBatches.{counted_taps}
 abbrev pub Ended : ℕ → List ℕ → List PassView → List PassView → Sums → Sums → Result (Option (ℕ × LayoutFault)) Stop → Type 0
 Ended shards file p q s t r =
     (batches : List (List Tap)) × (rest : List ℕ) × IsFile file batches rest
-    × ((more : List RunVisit) × HasVisited shards p q s t more × ArePostedOrCut (runs_of shards 0 batches) (is_ok r) more) × IfOk r (IsEndAfterBatches file rest)
+    × ((more : List RunVisit) × HasVisited shards p q s t more × ArePostedOrCut (runs_of shards batches) (is_ok r) more) × IfOk r (IsEndAfterBatches file rest)
 
 -- the upload was worked on, and ended so
 abbrev pub Worked_as : ServiceView → ℕ → UploadEnd → List PassView → List PassView → Sums → Sums → Type 0
@@ -48,7 +48,7 @@ upload_whole service upload taps found file p q s t r within same ended e counte
     let (batches, rest, is, (more, made, posted), fault) = subst P e ended in
     by_end service upload (end_by taps found) file batches rest more p q s t within same is made (ended_so batches rest more made posted found fault)
   where
-    ended_so : (batches : List (List Tap)) (rest : List ℕ) (more : List RunVisit) → HasVisited (shards_of service) p q s t more → ArePostedWhole (runs_of (shards_of service) 0 batches) more → (found : Option (ℕ × LayoutFault)) → IsEndAfterBatches file rest found
+    ended_so : (batches : List (List Tap)) (rest : List ℕ) (more : List RunVisit) → HasVisited (shards_of service) p q s t more → ArePostedWhole (runs_of (shards_of service) batches) more → (found : Option (ℕ × LayoutFault)) → IsEndAfterBatches file rest found
         → IsEndOf (shards_of service) file batches rest more (end_by taps found)
     ended_so batches rest more made posted None clean = (clean, posted, posted_taps_are (shards_of service) p q s t more taps made counted)
     ended_so batches rest more made posted (Some (offset, fault)) refused = (refused, posted, posted_taps_are (shards_of service) p q s t more taps made counted)

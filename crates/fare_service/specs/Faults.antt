@@ -3,11 +3,9 @@ use Rattle.std.specs.Prelude.{◌≡◌, ◌⊎◌, ℕ, ◌<◌, ◌≤◌, Lis
 use Rattle.fare_service.specs.declared.faults.OpenFault.{OpenFault}
 use Rattle.fare_service.specs.declared.faults.OpenFault.TheVariants.{Shards, Uploads, NoMemory}
 use Rattle.fare_service.specs.declared.faults.GatherFault.{GatherFault}
-use Rattle.fare_service.specs.declared.faults.GatherFault.TheVariants.{NoMemory as NoRoom, Missing}
-use Rattle.fare_service.specs.declared.faults.GatherFault.TheVariants.{Drawn}
+use Rattle.fare_service.specs.declared.faults.GatherFault.TheVariants as gather
 use Rattle.fare_service.specs.declared.faults.RunFault.{RunFault}
-use Rattle.fare_service.specs.declared.faults.RunFault.TheVariants.{Workers, NoMemory as NoThread}
-use Rattle.fare_service.specs.declared.faults.RunFault.TheVariants.{Gather}
+use Rattle.fare_service.specs.declared.faults.RunFault.TheVariants as run
 use Rattle.fare_service.specs.ShareView.{ShareView}
 use Rattle.fare_service.specs.Shares.{made_visits_at}
 
@@ -28,25 +26,25 @@ uploads_held shares = sum_by (λ share. length share.drawer.drawn) shares
 -- What a fault of gathering reports: a shard to which the shares hold fewer visits than were made,
 -- or that they hold fewer uploads than were drawn.
 abbrev pub IsGatherFault : ℕ → List ShareView → GatherFault → Type 0
-IsGatherFault shards shares NoRoom = Unit {0}
-IsGatherFault shards shares (Missing shard held kept) =
+IsGatherFault shards shares gather.NoMemory = Unit {0}
+IsGatherFault shards shares (gather.Missing shard held kept) =
     (shard < shards) × (held ≡ visits_held shard shares) × (held < kept)
-IsGatherFault shards shares (Drawn held drawn) = (held ≡ uploads_held shares) × (held < drawn)
+IsGatherFault shards shares (gather.Drawn held drawn) = (held ≡ uploads_held shares) × (held < drawn)
 
 -- a gathering that misses nothing is refused for memory alone
 abbrev pub IsForMemory : GatherFault → Type 0
-IsForMemory NoRoom = Unit {0}
-IsForMemory (Missing shard held kept) = ⊥
-IsForMemory (Drawn held drawn) = ⊥
+IsForMemory gather.NoMemory = Unit {0}
+IsForMemory (gather.Missing shard held kept) = ⊥
+IsForMemory (gather.Drawn held drawn) = ⊥
 
 -- a run that misses nothing is refused for memory, a thread or the number of its workers alone
 abbrev pub MissesNothing : RunFault → Type 0
-MissesNothing Workers = Unit {0}
-MissesNothing NoThread = Unit {0}
-MissesNothing (Gather fault) = IsForMemory fault
+MissesNothing run.Workers = Unit {0}
+MissesNothing run.NoMemory = Unit {0}
+MissesNothing (run.Gather fault) = IsForMemory fault
 
 -- the number of workers is refused first
 abbrev pub IsRunFault : ℕ → RunFault → Type 0
-IsRunFault workers Workers = (workers ≡ 0) ⊎ (16 < workers)
-IsRunFault workers NoThread = (0 < workers) × (workers ≤ 16)
-IsRunFault workers (Gather fault) = (0 < workers) × (workers ≤ 16)
+IsRunFault workers run.Workers = (workers ≡ 0) ⊎ (16 < workers)
+IsRunFault workers run.NoMemory = (0 < workers) × (workers ≤ 16)
+IsRunFault workers (run.Gather fault) = (0 < workers) × (workers ≤ 16)

@@ -1,26 +1,27 @@
 -- Where the posted taps stand: each in one entry of its shard's book, and the books have no other
 -- entries.
-use Rattle.std.specs.Prelude.{◌≡◌, ℕ, ◌<◌, ◌==◌, List, [], length, map, filter, take, All, count_by}
+use Rattle.std.specs.Prelude.{◌≡◌, ℕ, ◌<◌, ◌==◌, Bool, List, [], length, map, filter, take, All}
+use Rattle.std.specs.Prelude.{count_by}
 use Rattle.std.specs.List.{flat_map, AllZip}
 use Rattle.tap_views.specs.Layout.{Tap}
 use Rattle.tap_views.specs.Files.{IsFile, IsFaultAt}
-use Rattle.tap_views.specs.Shards.{shard_of_token}
+use Rattle.tap_views.specs.Shards.{run_of, shard_of_token}
 use Rattle.shard_book.specs.declared.entry.Entry.{Entry}
 use Rattle.shard_book.specs.Entry.{IsEntryOf}
 use Rattle.report_texts.specs.declared.upload_end.UploadEnd.{UploadEnd}
 use Rattle.report_texts.specs.declared.upload_end.UploadEnd.TheVariants.{Posted, Refused, Cut}
 use Rattle.report_texts.specs.declared.upload_end.UploadEnd.TheVariants.{Undrawn}
-use Rattle.fare_service.specs.Runs.{PlacedTap, placed_from, of_shard, runs_of}
+use Rattle.fare_service.specs.Runs.{runs_of}
 use Rattle.fare_service.specs.Shares.{Worked, all_visits}
 
 -- the taps of an upload's batches in the order in which they are posted: batch by batch, and each
 -- batch by rising shard
-abbrev pub in_posting_order : ℕ → List (List Tap) → List PlacedTap
-in_posting_order shards batches = flat_map (λ run. run.taps) (runs_of shards 0 batches)
+abbrev pub in_posting_order : ℕ → List (List Tap) → List Tap
+in_posting_order shards batches = flat_map (λ run. run.taps) (runs_of shards batches)
 
 -- What was posted of an upload that ended so: all taps before its first fault, or, where it was
 -- cut, the first of them in posting order, as many as the end tells.
-abbrev pub WerePostedOf : ℕ → List ℕ → UploadEnd → List PlacedTap → Type 0
+abbrev pub WerePostedOf : ℕ → List ℕ → UploadEnd → List Tap → Type 0
 WerePostedOf shards file (Posted taps) posted =
     (batches : List (List Tap)) × IsFile file batches []
     × (posted ≡ in_posting_order shards batches) × (taps ≡ length posted)
@@ -37,14 +38,14 @@ WerePostedOf shards file Undrawn posted = posted ≡ []
 -- a tap of an upload
 pub record Origin : Type 0 where
   pub upload : ℕ
-  pub placed : PlacedTap
+  pub tap : Tap
 
 -- the taps of one upload, in their order
-abbrev pub of_upload : ℕ → List Origin → List PlacedTap
-of_upload upload origins = map (λ o. o.placed) (filter (λ o. o.upload == upload) origins)
+abbrev pub of_upload : ℕ → List Origin → List Tap
+of_upload upload origins = map (λ o. o.tap) (filter (λ o. o.upload == upload) origins)
 
 -- the taps that were posted of an upload, in posting order
-abbrev pub posted_of : ℕ → List Worked → List PlacedTap
+abbrev pub posted_of : ℕ → List Worked → List Tap
 posted_of upload works =
     flat_map (λ v. v.taps) (all_visits (filter (λ w. w.upload == upload) works))
 
@@ -53,19 +54,19 @@ posted_of upload works =
 -- upload.
 pub record StandOnce (shard shards : ℕ) (works : List Worked) (entries : List Entry) : Type 0 where
   pub origins : List Origin
-  pub fields : AllZip (λ origin entry. IsEntryOf origin.placed.tap entry) origins entries
+  pub fields : AllZip (λ origin entry. IsEntryOf origin.tap entry) origins entries
   pub exactly : (upload : ℕ)
-      → of_upload upload origins ≡ of_shard shard shards (posted_of upload works)
+      → of_upload upload origins ≡ run_of shard shards (posted_of upload works)
 
--- The same taps in another order: those of each shard stand in the same order, and each place that
--- is there stands there once.
-pub record IsReordered (shards : ℕ) (taps ordered : List PlacedTap) : Type 0 where
+-- The same taps in another order: those of each shard stand in the same order, and of each kind there
+-- are as many.
+pub record IsReordered (shards : ℕ) (taps ordered : List Tap) : Type 0 where
   pub same : (shard : ℕ) → shard < shards
-      → of_shard shard shards ordered ≡ of_shard shard shards taps
-  pub within : All (λ p. shard_of_token p.tap.token shards < shards) taps
+      → run_of shard shards ordered ≡ run_of shard shards taps
+  pub within : All (λ tap. shard_of_token tap.token shards < shards) taps
   pub number : length ordered ≡ length taps
-  pub once : (place : ℕ) → place < length taps → count_by (λ p. p.place == place) ordered ≡ 1
+  pub counts : (kind : Tap → Bool) → count_by kind ordered ≡ count_by kind taps
 
 -- the taps of the batches, in file order
-abbrev pub in_file_order : List (List Tap) → List PlacedTap
-in_file_order batches = placed_from 0 (flat_map (λ batch. batch) batches)
+abbrev pub in_file_order : List (List Tap) → List Tap
+in_file_order batches = flat_map (λ batch. batch) batches

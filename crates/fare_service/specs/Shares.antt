@@ -56,12 +56,12 @@ done_of w = record { upload = w.upload; end = w.end }
 -- how an upload of these batches and this rest ended, by the visits that were made for it
 abbrev pub IsEndOf : ℕ → List ℕ → List (List Tap) → List ℕ → List RunVisit → UploadEnd → Type 0
 IsEndOf shards file batches rest visits (Posted taps) =
-    (rest ≡ []) × ArePostedWhole (runs_of shards 0 batches) visits × (taps ≡ taps_posted visits)
+    (rest ≡ []) × ArePostedWhole (runs_of shards batches) visits × (taps ≡ taps_posted visits)
 IsEndOf shards file batches rest visits (Refused taps offset fault) =
-    IsFaultAt file rest offset fault × ArePostedWhole (runs_of shards 0 batches) visits
+    IsFaultAt file rest offset fault × ArePostedWhole (runs_of shards batches) visits
     × (taps ≡ taps_posted visits)
 IsEndOf shards file batches rest visits (Cut taps) =
-    AreCut (runs_of shards 0 batches) visits × (taps ≡ taps_posted visits)
+    AreCut (runs_of shards batches) visits × (taps ≡ taps_posted visits)
 IsEndOf shards file batches rest visits Undrawn = ⊥
 
 -- the bytes of an upload

@@ -20,7 +20,7 @@ use Rattle.shard_book.specs.Keys.{same_token}
 use Rattle.shard_book.specs.declared.entry.Entry.{Entry}
 use Rattle.shard_book.specs.Plain.{answered, token_of_bytes}
 use Rattle.tap_views.specs.Files.{HasOneReading}
-use Rattle.fare_service.proofs.PlacedVisits.{filter_none}
+use Rattle.fare_service.proofs.OwnVisits.{filter_none}
 use Rattle.tap_parts.specs.Canonical.{tap_cmp}
 use Rattle.tap_parts.proofs.Total.{tap_cmp_total}
 use Rattle.settlement.specs.Settled.{IsSettledHistory}

@@ -5,11 +5,11 @@
 #![tactic(auto)]
 
 mod fill;
-mod opening;
 mod placed;
 mod stamp;
+mod unopened;
 
 pub use fill::{Unread, fill_from};
-pub use opening::{Unopened, open_regular};
 pub use placed::{InMemory, Placed};
 pub use stamp::FileStamp;
+pub use unopened::{Unopened, open_regular};

@@ -3,14 +3,14 @@
 
 mod front;
 mod line;
-mod printing;
-mod reading;
+mod report;
+mod report_lines;
 mod token_lines;
 mod upload_end;
 
 pub use front::{write_section_head, write_upload, write_validator};
-pub use printing::write_report;
-pub use reading::{
+pub use report::write_report;
+pub use report_lines::{
     after_word, end_of, head_of, token_before, token_sum_of, totals_of, validator_sum_of,
 };
 pub use upload_end::UploadEnd;

@@ -7,7 +7,7 @@ ghost use Rattle.settlement.specs.Posted.{only};
 ghost use Rattle.settlement.specs.inside.OwnTaps.{AreOwnAdded, IsRunOwn};
 
 use crate::memory::release;
-use crate::splitting::{good_tokens, middle_of};
+use crate::split_taps::{good_tokens, middle_of};
 use crate::uploads::Uploads;
 use fare_service::UploadEnd;
 use std::alloc::{AllocError, Global};

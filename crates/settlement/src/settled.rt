@@ -12,12 +12,12 @@ ghost use Rattle.settlement.specs.SettledTaps.{AreSettledTaps, AreSettledTapsOf}
 ghost use Rattle.settlement.specs.inside.SplitUploads.{AreSplit};
 ghost use Rattle.tap_parts.specs.Canonical.{IsCanonical};
 
-use crate::arranging::lists_by_threads;
 use crate::bill::Bill;
-use crate::billing::bill_by_threads;
+use crate::bill_by_threads::bill_by_threads;
+use crate::lists_by_threads::lists_by_threads;
 use crate::own_taps::{OwnTaps, own_by_threads};
 use crate::pieces::{Pieces, pieces_of};
-use crate::splitting::{SplitTaps, bytes_of, split_by_threads};
+use crate::split_taps::{SplitTaps, bytes_of, split_by_threads};
 use crate::uploads::Uploads;
 use fare_service::UploadEnd;
 use fare_table::FareTable;

@@ -10,11 +10,11 @@ ghost use Rattle.sorted_bills.specs.Faults.{IsBillFault};
 ghost use Rattle.sorted_bills.specs.inside.Billed.{IsBilled};
 
 use crate::by_threads::bill_by_threads;
-use crate::charging::charge;
-use crate::counting::{count, ends_of};
+use crate::charges::charge;
 use crate::fault::BillFault;
 use crate::open_bill::OpenBill;
-use crate::taking::Taker;
+use crate::taker::Taker;
+use crate::tap_numbers::{count, ends_of};
 use fare_table::FareTable;
 use placed_files::Placed;
 use settled_texts::least_token;

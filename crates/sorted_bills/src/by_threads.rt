@@ -10,9 +10,9 @@ ghost use Rattle.sorted_taps.specs.Reading.{window_bytes};
 ghost use Rattle.sorted_bills.specs.inside.Billed.{IsBilled};
 ghost use Rattle.sorted_bills.specs.inside.Charged.{AreParts, IsPart};
 
-use crate::counting::{count, ends_of};
 use crate::fault::BillFault;
 use crate::part::{Part, part_of};
+use crate::tap_numbers::{count, ends_of};
 use fare_table::FareTable;
 use placed_files::Placed;
 use settlement::{Bill, Billed};

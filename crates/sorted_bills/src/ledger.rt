@@ -6,11 +6,11 @@ ghost use Rattle.report_texts.specs.UploadEnds.{ArePlainEnds, are_posted};
 ghost use Rattle.sorted_bills.specs.Faults.{IsBeforeText, IsBillFault};
 ghost use Rattle.sorted_bills.specs.Ledgers.{IsLedgerOfFiles};
 
-use crate::checking::check_all;
-use crate::counting::{count, ends_of};
 use crate::fault::BillFault;
+use crate::file_checks::check_all;
 use crate::rounds::{Rounds, write_ranges};
-use crate::taking::Taker;
+use crate::taker::Taker;
+use crate::tap_numbers::{count, ends_of};
 use fare_table::FareTable;
 use fare_texts::{Teller, head_with_room, pass_on};
 use placed_files::Placed;

@@ -6,20 +6,20 @@
 
 mod bill;
 mod by_threads;
-mod charging;
-mod checking;
-mod counting;
+mod charges;
 mod fault;
+mod file_checks;
 pub mod laws;
 mod ledger;
+mod lines_below;
 mod open_bill;
 mod own_by_threads;
 mod own_taps;
 mod part;
 mod range;
 mod rounds;
-mod taking;
-mod telling;
+mod taker;
+mod tap_numbers;
 
 pub use bill::sorted_bill;
 pub use fault::BillFault;

@@ -15,10 +15,10 @@ ghost use Rattle.sorted_taps.specs.Sorted.{IsSortedFault};
 ghost use Rattle.sorted_bills.specs.Faults.{IsBillFault};
 ghost use Rattle.sorted_bills.specs.inside.OwnTaps.{AreOwnAdded, AreOwnOf, AreSound, IsOwnPushed};
 
-use crate::counting::ends_of;
 use crate::fault::BillFault;
 use crate::own_by_threads::{OwnTaps, own_by_threads};
-use crate::taking::{is_early, name_of};
+use crate::taker::{is_early, name_of};
+use crate::tap_numbers::ends_of;
 use placed_files::Placed;
 use settlement::TokenTaps;
 use sorted_taps::{FileFault, SortedFault, TapReader, WINDOW_BYTES, have_stamps, stamps_of};

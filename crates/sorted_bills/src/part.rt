@@ -12,10 +12,10 @@ ghost use Rattle.settlement.specs.inside.Apart.{AreBelow};
 ghost use Rattle.settlement.specs.inside.Billing.{HaveBillRoom};
 ghost use Rattle.sorted_bills.specs.inside.Charged.{IsPart};
 
-use crate::charging::charge;
+use crate::charges::charge;
 use crate::fault::BillFault;
 use crate::open_bill::OpenBill;
-use crate::taking::Taker;
+use crate::taker::Taker;
 use fare_table::FareTable;
 use placed_files::Placed;
 use settled_texts::least_token;

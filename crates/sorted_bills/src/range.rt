@@ -7,8 +7,8 @@ ghost use Rattle.fare_texts.specs.Tellers.{HasTold};
 ghost use Rattle.sorted_bills.specs.inside.Ranges.{AreLinesAnywhere, IsRange};
 
 use crate::fault::BillFault;
-use crate::taking::Taker;
-use crate::telling::tell_below;
+use crate::lines_below::tell_below;
+use crate::taker::Taker;
 use fare_table::{Clock, FareTable};
 use fare_texts::{Teller, pass_on};
 use placed_files::Placed;

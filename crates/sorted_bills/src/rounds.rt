@@ -17,10 +17,10 @@ ghost use Rattle.sorted_bills.specs.inside.Told.{AreToldSoFar};
 
 use crate::by_threads::MAX_WORKERS;
 use crate::fault::BillFault;
+use crate::lines_below::tell_below;
 use crate::part::is_below;
 use crate::range::{Range, make_ranges};
-use crate::taking::Taker;
-use crate::telling::tell_below;
+use crate::taker::Taker;
 use fare_table::{Clock, FareTable};
 use fare_texts::{Teller, pass_on, write_out};
 use placed_files::Placed;

@@ -7,10 +7,10 @@ ghost use Rattle.sorted_taps.specs.Written.{IsBegun, IsMergedFile};
 
 use crate::check::check_files;
 use crate::fault::{MergeFault, SortedFault, WriteFault};
+use crate::file_batches::WINDOW_BYTES;
 use crate::merge::Merge;
-use crate::reading::WINDOW_BYTES;
 use crate::stamps::{have_stamps, stamps_of};
-use crate::writing::{BATCH_TAPS, put, put_rest};
+use crate::writer::{BATCH_TAPS, put, put_rest};
 use placed_files::Placed;
 use std::alloc::{AllocError, Global};
 use std::io::Write;

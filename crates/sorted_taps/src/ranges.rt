@@ -7,8 +7,8 @@ ghost use Rattle.std.specs.Prelude.{◌≤◌, IfOk, length};
 ghost use Rattle.sorted_taps.specs.Reading.{window_bytes};
 
 use crate::fault::SortedFault;
+use crate::file_batches::{FIRST_READ_BYTES, fill_at};
 use crate::reader::TapReader;
-use crate::reading::{FIRST_READ_BYTES, fill_at};
 use placed_files::Placed;
 use std::alloc::Global;
 use tap_views::{TAP1_HEADER_BYTES, TAP1_TAP_BYTES, Token};

@@ -10,7 +10,7 @@ ghost use Rattle.sorted_taps.specs.Stands.{StandsAs};
 ghost use Rattle.sorted_taps.specs.inside.Steps.{BeginsBefore, IsMovedOn, IsRefilled};
 
 use crate::fault::SortedFault;
-use crate::reading::read_batches;
+use crate::file_batches::read_batches;
 use placed_files::Placed;
 use std::alloc::{AllocError, Global};
 use std::cmp::Ordering;

@@ -5,7 +5,7 @@ ghost use Rattle.std.specs.Prelude.{slice_index_or};
 ghost use Rattle.tap_views.specs.Encoding.{AreEarly};
 ghost use Rattle.tap_parts.specs.Split.{AreSplit, IsSplitEnd, IsSplitFile};
 
-use crate::arranging::arranged;
+use crate::arrangement::arranged;
 use crate::file::part_file;
 use crate::part::EqualParts;
 use crate::parts::Parts;

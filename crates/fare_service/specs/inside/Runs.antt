@@ -1,9 +1,9 @@
 -- Runs: what private functions alone cite.
 use Rattle.std.specs.Prelude.{ℕ, ◌==◌, Bool, MatchBool, List, filter}
-use Rattle.fare_service.specs.Runs.{AreCut, ArePostedWhole, PlacedRun, RunVisit}
+use Rattle.fare_service.specs.Runs.{AreCut, ArePostedWhole, PostedRun, RunVisit}
 
 -- the runs were posted whole, or up to a cut
-abbrev pub ArePostedOrCut : List PlacedRun → Bool → List RunVisit → Type 0
+abbrev pub ArePostedOrCut : List PostedRun → Bool → List RunVisit → Type 0
 ArePostedOrCut runs whole visits = MatchBool whole (ArePostedWhole runs visits) (AreCut runs visits)
 
 -- the visits to a shard

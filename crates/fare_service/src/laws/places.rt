@@ -10,9 +10,9 @@ ghost use Rattle.fare_service.specs.Placing.{in_posting_order, in_file_order, po
 ghost use Rattle.fare_service.specs.Placing.{IsReordered, WerePostedOf};
 ghost use Rattle.fare_service.specs.Shares.{Worked, all_works, file_at};
 
-/// In posting order, batch by batch and each batch by rising shard, each tap of an upload's batches
-/// stands once, and the taps of a shard stand as in the upload. So what the clauses say of posted
-/// taps, they say of each place of the upload.
+/// In posting order, batch by batch and each batch by rising shard, stand the taps of an upload's
+/// batches, of each kind as many as there, and the taps of a shard in the order of the upload. So what
+/// the clauses say of posted taps, they say of the taps of the upload.
 pub fn posting_order()
     ensures { (shards : ℕ) (batches : List (List Tap)) → 0 < shards
         → IsReordered shards (in_file_order batches) (in_posting_order shards batches) }

@@ -80,6 +80,7 @@ pub(crate) enum Stop {
 
 impl From<NoMemory> for Stop {
     ghost use Rattle.std.specs.Prelude.{◌≡◌};
+    ghost use Rattle.tap_views.specs.Shards.{run_of};
     ghost use Rattle.fare_service.specs.declared.service.working.Stop.TheVariants as why;
 
     ghost from_gives = { λ _ stop. stop ≡ why.Memory };
@@ -124,8 +125,9 @@ impl<'a> Service<'a> {
     ghost use Rattle.fare_service.specs.ServiceView.{shards_of};
     ghost use Rattle.tap_views.specs.Runs.{AreRuns};
     ghost use Rattle.tap_views.specs.Layout.{Tap};
+    ghost use Rattle.tap_views.specs.Shards.{run_of};
     ghost use Rattle.tap_views.specs.Files.{IsFile, IsEndAfterBatches};
-    ghost use Rattle.fare_service.specs.Runs.{RunVisit, if_any, of_shard, placed_from, runs_below};
+    ghost use Rattle.fare_service.specs.Runs.{RunVisit, if_any, runs_below};
     ghost use Rattle.fare_service.specs.Runs.{runs_of};
     ghost use Rattle.fare_service.specs.inside.Runs.{ArePostedOrCut};
     ghost use Rattle.fare_service.specs.Shares.{HasVisited, books_of, IsShareOf, IsWorked};
@@ -151,11 +153,10 @@ impl<'a> Service<'a> {
         requires passes { books_of posting.old.passes.items ≡ self.now.books }
         requires clock { buffers.old.clock ≡ self.now.table.zone }
         requires room { posting.old.totals.taps + 4096 ≤ 2 ^ 95 }
-        ensures made { (place : ℕ) → (more : List RunVisit)
+        ensures made { (more : List RunVisit)
             × HasVisited (shards_of self.now) posting.old.passes.items posting.new.passes.items
             (sums_of posting.old.totals) (sums_of posting.new.totals) more
-            × ArePostedOrCut (if_any shard
-            (of_shard shard (shards_of self.now) (placed_from place batch.now)))
+            × ArePostedOrCut (if_any shard (run_of shard (shards_of self.now) batch.now))
             (is_ok result) more }
         ensures clock { buffers.new.clock ≡ buffers.old.clock }
         ensures few { posting.new.totals.taps ≤ posting.old.totals.taps + 4096 }
@@ -196,11 +197,11 @@ impl<'a> Service<'a> {
         requires clock { buffers.old.run.clock ≡ self.now.table.zone }
         requires runs { length buffers.old.runs ≡ shards_of self.now }
         requires room { posting.old.totals.taps + 2 ^ 18 ≤ 2 ^ 95 }
-        ensures made { (place : ℕ) → (more : List RunVisit)
+        ensures made { (more : List RunVisit)
             × HasVisited (shards_of self.now) posting.old.passes.items posting.new.passes.items
             (sums_of posting.old.totals) (sums_of posting.new.totals) more
-            × ArePostedOrCut (runs_below (shards_of self.now) (shards_of self.now)
-            (placed_from place batch.now)) (is_ok result) more }
+            × ArePostedOrCut (runs_below (shards_of self.now) (shards_of self.now) batch.now)
+            (is_ok result) more }
         ensures clock { buffers.new.run.clock ≡ buffers.old.run.clock }
         ensures runs { length buffers.new.runs ≡ length buffers.old.runs }
         ensures full { TellsFull result posting.old.passes.items posting.new.passes.items }
@@ -229,7 +230,7 @@ impl<'a> Service<'a> {
             × ((more : List RunVisit) × HasVisited
             (shards_of self.now) posting.old.passes.items posting.new.passes.items
             (sums_of posting.old.totals) (sums_of posting.new.totals) more
-            × ArePostedOrCut (runs_of (shards_of self.now) 0 batches) (is_ok result) more)
+            × ArePostedOrCut (runs_of (shards_of self.now) batches) (is_ok result) more)
             × IfOk result (IsEndAfterBatches file.now rest) }
         ensures clock { buffers.new.run.clock ≡ buffers.old.run.clock }
         ensures runs { length buffers.new.runs ≡ length buffers.old.runs }

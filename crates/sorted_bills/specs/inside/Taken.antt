@@ -7,7 +7,7 @@ use Rattle.sorted_taps.specs.Heads.{IsRanked}
 use Rattle.sorted_taps.specs.Merges.{AreTaken}
 use Rattle.sorted_taps.specs.Reading.{window_bytes}
 use Rattle.sorted_taps.specs.declared.reader.TapReader.{TapReader}
-use Rattle.sorted_bills.specs.declared.taking.Taker.{Taker}
+use Rattle.sorted_bills.specs.declared.taker.Taker.{Taker}
 
 -- these taps were taken, one after the other, of files whose bytes are these where they are known;
 -- their moments are before 2100, and the 16 bytes of each token name it

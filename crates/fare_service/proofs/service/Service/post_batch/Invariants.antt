@@ -2,7 +2,7 @@ use Rattle.std.proofs.Common.{◌≡◌, ℕ, ◌+◌, ◌*◌, ◌≤◌, List,
 use Rattle.tap_views.specs.Runs.{AreRuns}
 use Rattle.shard_book.specs.Sums.{sums_of}
 use Rattle.fare_service.specs.ServiceView.{shards_of}
-use Rattle.fare_service.specs.Runs.{RunVisit, ArePostedWhole, placed_from, runs_below}
+use Rattle.fare_service.specs.Runs.{RunVisit, ArePostedWhole, runs_below}
 use Rattle.fare_service.specs.Shares.{HasVisited, books_of}
 use Rattle.fare_service.specs.Stopping.{SomeFull}
 use Rattle.fare_service.proofs.service.Service.post_batch.Given as goal
@@ -16,6 +16,6 @@ invariant-loop-shard g l = record {
   room : l.posting.totals.taps ≤ l.fn.posting.totals.taps + 4096 * l.shard;
   within : l.shard ≤ l.shard-end;
   full : SomeFull l.fn.posting.passes.items → SomeFull l.posting.passes.items;
-  made : (place : ℕ) → (more : List RunVisit) × HasVisited (shards_of l.fn.self) l.fn.posting.passes.items l.posting.passes.items (sums_of l.fn.posting.totals) (sums_of l.posting.totals) more
-      × ArePostedWhole (runs_below (shards_of l.fn.self) l.shard (placed_from place l.fn.batch)) more;
+  made : (more : List RunVisit) × HasVisited (shards_of l.fn.self) l.fn.posting.passes.items l.posting.passes.items (sums_of l.fn.posting.totals) (sums_of l.posting.totals) more
+      × ArePostedWhole (runs_below (shards_of l.fn.self) l.shard l.fn.batch) more;
 }

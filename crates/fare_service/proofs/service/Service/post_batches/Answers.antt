@@ -48,13 +48,13 @@ loop-batch-preserved g c =
       may = tt;
       ends = tt;
       read = read_on _ _ _ _ _ before.read c.in-Some.ensures.steps;
-      passes = (more.made 0).1.books ∙ before.passes;
+      passes = more.made.1.books ∙ before.passes;
       clock = more.clock ∙ before.clock;
       runs = more.runs ∙ before.runs;
       full = λ h. more.full (inl (before.full h));
       made = batches_more (shards_of c.args.self.now) c.args.posting.now.passes.items c.loop-batch.posting.passes.items c.post_batch.new.posting.passes.items
           (sums_of c.args.posting.now.totals) (sums_of c.loop-batch.posting.totals) (sums_of c.post_batch.new.posting.totals) done c.in-Some.batch before.made
-          (more.made (0 + batches_taps done));
+          more.made;
     }
 
 pub returns-in_err-post_batch-clause-made : goal.returns-in_err-post_batch-clause-made
@@ -68,7 +68,7 @@ returns-in_err-post_batch-clause-made g c =
     ((done ++ batch ∷ []) ++ more) read.rest c.from_residual.ensures.0 read.is_file
     (batches_cut (shards_of c.args.self.now) c.args.posting.now.passes.items c.loop-batch.posting.passes.items c.post_batch.new.posting.passes.items
     (sums_of c.args.posting.now.totals) (sums_of c.loop-batch.posting.totals) (sums_of c.post_batch.new.posting.totals) done more batch before.made
-    (c.in_err-post_batch.ensures.made (0 + batches_taps done)))
+    c.in_err-post_batch.ensures.made)
 
 pub returns-in_err-post_batch-clause-few : goal.returns-in_err-post_batch-clause-few
 returns-in_err-post_batch-clause-few g c =
@@ -79,7 +79,7 @@ returns-in_err-post_batch-clause-few g c =
     let read = read_on c.args.file.now done batch c.loop-batch.good c.next.new.self before.read c.in-Some.ensures.steps in
     let cut = batches_cut (shards_of c.args.self.now) c.args.posting.now.passes.items c.loop-batch.posting.passes.items c.post_batch.new.posting.passes.items
     (sums_of c.args.posting.now.totals) (sums_of c.loop-batch.posting.totals) (sums_of c.post_batch.new.posting.totals) done more batch before.made
-    (c.in_err-post_batch.ensures.made (0 + batches_taps done)) in
+    c.in_err-post_batch.ensures.made in
     let F : List (List Tap) → Type 0 = λ bs. IsFile c.args.file.now bs read.rest in
     let all = (done ++ batch ∷ []) ++ more in
     let room : 24 * batches_taps all ≤ length c.args.file.now = done_room c.args.file.now all [] read.rest (subst F (sym (append-nil all)) read.is_file) in

@@ -19,5 +19,5 @@ invariant-loop-batch g l = record {
   full : SomeFull l.fn.posting.passes.items → SomeFull l.posting.passes.items;
   made : Posts (shards_of l.fn.self) l.fn.posting.passes.items l.posting.passes.items
       (sums_of l.fn.posting.totals) (sums_of l.posting.totals)
-      (runs_of (shards_of l.fn.self) 0 l.yielded);
+      (runs_of (shards_of l.fn.self) l.yielded);
 }

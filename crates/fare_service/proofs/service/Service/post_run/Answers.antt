@@ -18,14 +18,14 @@ use Rattle.fare_service.proofs.service.Service.post_run.Goals as goal
 pub returns-then-len-eq0-clause-made : goal.returns-then-len-eq0-clause-made
 returns-then-len-eq0-clause-made g c =
     let same = same_run c.run-run.result c.args.batch.now c.args.shard (length c.args.runs.now) (shards_of c.args.self.now) c.run-run.ensures c.requires.shards in
-    λ place. run_empty (shards_of c.args.self.now) c.args.shard place c.args.batch.now c.args.posting.now.passes.items (sums_of c.args.posting.now.totals)
+    run_empty (shards_of c.args.self.now) c.args.shard c.args.batch.now c.args.posting.now.passes.items (sums_of c.args.posting.now.totals)
     (sym (ap length same) ∙ (sym c.len-len.ensures.number ∙ c.if-len-eq0.true))
 
 pub returns-in_err-reserve-clause-made : goal.returns-in_err-reserve-clause-made
 returns-in_err-reserve-clause-made g c =
     let same = same_run c.run-run.result c.args.batch.now c.args.shard (length c.args.runs.now) (shards_of c.args.self.now) c.run-run.ensures c.requires.shards in
     let some : 0 < length (run_of c.args.shard (shards_of c.args.self.now) c.args.batch.now) = omega (arith, ap length same, c.len-len.ensures.number) in
-    λ place. run_refused (shards_of c.args.self.now) c.args.shard place c.args.batch.now c.args.posting.now.passes.items (sums_of c.args.posting.now.totals)
+    run_refused (shards_of c.args.self.now) c.args.shard c.args.batch.now c.args.posting.now.passes.items (sums_of c.args.posting.now.totals)
     c.from_residual.result some c.from_residual.ensures.0
 
 pub visit-requires-clause-shard : goal.visit-requires-clause-shard
@@ -53,7 +53,7 @@ returns-in_err-visit-clause-made g c =
     let some : 0 < length (run_of c.args.shard (shards_of c.args.self.now) c.args.batch.now) = omega (arith, ap length same, c.len-len.ensures.number) in
     let within : c.args.shard < length c.args.posting.now.passes.items =
     omega (arith, c.requires.shard, ap length c.requires.passes, length-map c.args.posting.now.passes.items (λ (p : PassView). p.book)) in
-    λ place. run_full (shards_of c.args.self.now) c.args.shard place c.args.batch.now c.args.posting.now.passes.items c.index_mut.result.now c.visit.new.pass (sums_of c.args.posting.now.totals)
+    run_full (shards_of c.args.self.now) c.args.shard c.args.batch.now c.args.posting.now.passes.items c.index_mut.result.now c.visit.new.pass (sums_of c.args.posting.now.totals)
     c.from_residual-in_err-visit.result some c.from_residual-in_err-visit.ensures.0 within c.index_mut.ensures.value c.in_err-visit.ensures.full.0
 
 pub count-requires : goal.count-requires
@@ -74,7 +74,7 @@ returns-in-Whole-clause-made g c =
     let P : List Tap → RunEnd → Type 0 = λ taps how. IsVisit taps how made.visit in
     let of_run : IsVisit (run_of c.args.shard (shards_of c.args.self.now) c.args.batch.now) Whole made.visit =
     subst (λ (taps : List Tap). P taps Whole) same (subst (λ (how : RunEnd). P (run_taps c.run-run.result) how) c.in-Whole.is made.of_run) in
-    λ place. run_visited (shards_of c.args.self.now) c.args.shard place c.args.batch.now c.args.posting.now.passes.items c.index_mut.result.now c.visit.new.pass c.in_ok-visit.visit.number Whole made.visit
+    run_visited (shards_of c.args.self.now) c.args.shard c.args.batch.now c.args.posting.now.passes.items c.index_mut.result.now c.visit.new.pass c.in_ok-visit.visit.number Whole made.visit
     (sums_of c.args.posting.now.totals) (sums_of c.count.new.totals) some c.requires.shard within c.index_mut.ensures.value made.stands of_run
     (c.count.ensures ∙ ap (λ xs. add_sums (sums_of c.args.posting.now.totals) (sums_of_replies xs)) items)
 
@@ -97,7 +97,7 @@ returns-in-Cut-clause-made g c =
     let P : List Tap → RunEnd → Type 0 = λ taps how. IsVisit taps how made.visit in
     let of_run : IsVisit (run_of c.args.shard (shards_of c.args.self.now) c.args.batch.now) (Cut c.in-Cut.posted) made.visit =
     subst (λ (taps : List Tap). P taps (Cut c.in-Cut.posted)) same (subst (λ (how : RunEnd). P (run_taps c.run-run.result) how) c.in-Cut.is made.of_run) in
-    λ place. run_visited (shards_of c.args.self.now) c.args.shard place c.args.batch.now c.args.posting.now.passes.items c.index_mut.result.now c.visit.new.pass c.in_ok-visit.visit.number (Cut c.in-Cut.posted) made.visit
+    run_visited (shards_of c.args.self.now) c.args.shard c.args.batch.now c.args.posting.now.passes.items c.index_mut.result.now c.visit.new.pass c.in_ok-visit.visit.number (Cut c.in-Cut.posted) made.visit
     (sums_of c.args.posting.now.totals) (sums_of c.count.new.totals) some c.requires.shard within c.index_mut.ensures.value made.stands of_run
     (c.count.ensures ∙ ap (λ xs. add_sums (sums_of c.args.posting.now.totals) (sums_of_replies xs)) items)
 

@@ -1,0 +1,112 @@
+-- Each round adds the taps that were taken last.
+use Rattle.std.proofs.Common.{List, [], ◌++◌, All, map, length, refl, sym, ap, subst, ◌∙◌, arith}
+use Rattle.std.proofs.Common.{length-append}
+use Rattle.std.proofs.lemmas.Result.{err_from_is_err_and}
+use Rattle.tap_views.specs.declared.encoder.TapFields.{TapFields}
+use Rattle.tap_views.specs.declared.token.Token.{Token}
+use Rattle.settled_texts.specs.Telling.{NoTapFallsFrom, last_token}
+use Rattle.settled_texts.proofs.Tellings.{last_append}
+use Rattle.sorted_bills.specs.inside.OpenBills.{IsOpenBill}
+use Rattle.sorted_bills.proofs.Counted.{late_says_nothing}
+use Rattle.sorted_bills.proofs.Takings.{Early, both_taken, fall_both, last_taken, none_taken, none_there}
+use Rattle.sorted_bills.proofs.charges.charge.Goals as goal
+
+pub loop-round-init : goal.loop-round-init
+loop-round-init g c = record {
+  ready = c.requires.ready;
+  done = [];
+  taken = none_taken (map g.F.Placed.bytes c.args.files.now) c.args.taker.now.merge.readers.items;
+  bill = c.requires.none;
+  no_fall = tt;
+  token = refl;
+  few = omega arith;
+}
+
+pub take-requires : goal.take-requires
+take-requires g c = c.loop-round.invariant.ready
+
+pub add-requires-clause-early : goal.add-requires-clause-early
+add-requires-clause-early g c =
+    subst (λ (taps : List TapFields). All Early taps) (sym c.deref.ensures.value)
+    c.in_ok-take.ensures.taken.early
+
+pub add-requires-clause-no_fall : goal.add-requires-clause-no_fall
+add-requires-clause-no_fall g c =
+    subst (λ (taps : List TapFields). NoTapFallsFrom c.loop-round.so_far.replay.token taps)
+    (sym c.deref.ensures.value)
+    (subst (λ (t : Token). NoTapFallsFrom t c.take.new.self.taps.items) c.token.ensures
+    c.in_ok-take.ensures.no_fall)
+
+pub add-requires-clause-bill : goal.add-requires-clause-bill
+add-requires-clause-bill g c =
+    let inv = c.loop-round.invariant in
+    let few = inv.few in
+    let more = c.in_ok-take.ensures.few in
+    let here = ap length c.deref.ensures.value in
+    let test = c.loop-round-test.true in
+    (inv.done, inv.bill, omega (arith, few, more, here, test))
+
+pub loop-round-preserved : goal.loop-round-preserved
+loop-round-preserved g c =
+    let inv = c.loop-round.invariant in
+    let known = map g.F.Placed.bytes c.args.files.now in
+    let taps = c.take.new.self.taps.items in
+    let begin = c.args.taker.now.merge.readers.items in
+    let from = c.args.so_far.now.replay.token in
+    let few = inv.few in
+    let more = c.in_ok-take.ensures.few in
+    let long = length-append inv.done taps in
+    record {
+      ready = c.in_ok-take.ensures.ready;
+      done = inv.done ++ taps;
+      taken = both_taken known begin c.loop-round.taker.merge.readers.items
+          c.take.new.self.merge.readers.items inv.done taps inv.taken c.in_ok-take.ensures.taken;
+      bill = subst (λ (ts : List TapFields). IsOpenBill c.args.table.now (inv.done ++ ts) c.add.new.self)
+          c.deref.ensures.value (c.in_ok-add.ensures.bill inv.done inv.bill);
+      no_fall = fall_both from inv.done taps inv.no_fall
+          (subst (λ (t : Token). NoTapFallsFrom t taps) (c.token.ensures ∙ inv.token)
+          c.in_ok-take.ensures.no_fall);
+      token = c.in_ok-add.ensures.token
+          ∙ ap (last_token c.loop-round.so_far.replay.token) c.deref.ensures.value
+          ∙ ap (λ (t : Token). last_token t taps) inv.token
+          ∙ sym (last_append from inv.done taps);
+      few = omega (arith, few, more, long);
+    }
+
+pub returns-then-is_empty-clause-charged : goal.returns-then-is_empty-clause-charged
+returns-then-is_empty-clause-charged g c =
+    let inv = c.loop-round.invariant in
+    let known = map g.F.Placed.bytes c.args.files.now in
+    let begin = c.args.taker.now.merge.readers.items in
+    let mid = c.loop-round.taker.merge.readers.items in
+    let taps = c.take.new.self.taps in
+    let new = c.take.new.self.merge.readers.items in
+    let none = none_there taps _ c.is_empty.ensures c.if-is_empty.true in
+    let few = inv.few in
+    let test = c.loop-round-test.true in
+    record {
+      taps = inv.done;
+      taken = last_taken known begin mid new inv.done taps.items none inv.taken
+          c.in_ok-take.ensures.taken;
+      bill_is = inv.bill;
+      no_fall = inv.no_fall;
+      last = inv.token;
+      few = omega (arith, few, test);
+    }
+
+pub returns-then-is_empty-clause-end : goal.returns-then-is_empty-clause-end
+returns-then-is_empty-clause-end g c = λ unbounded.
+    let taps = c.take.new.self.taps in
+    c.in_ok-take.ensures.end unbounded (none_there taps _ c.is_empty.ensures c.if-is_empty.true)
+
+pub returns-in_err-take-clause-fault : goal.returns-in_err-take-clause-fault
+returns-in_err-take-clause-fault g c =
+    let p = err_from_is_err_and c.from_residual-in_err-take.result
+    c.from_residual-in_err-take.ensures.1 in
+    rw (p.1, p.2) (λ all. late_says_nothing all c.in_err-take.field-0.0)
+
+pub returns-in_err-add-clause-fault : goal.returns-in_err-add-clause-fault
+returns-in_err-add-clause-fault g c =
+    let p = err_from_is_err_and c.from_residual-in_err-add.result
+    c.from_residual-in_err-add.ensures.1 in
+    rw (p.1, p.2) (λ all. tt)

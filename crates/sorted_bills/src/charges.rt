@@ -1,0 +1,45 @@
+//! Taps of merged files, charged.
+
+ghost use Rattle.std.specs.Prelude.{◌≡◌, [], None, ℕ, List, IfErr, OnOk, length, map};
+ghost use Rattle.sorted_taps.specs.Merges.{AreAtEnd};
+ghost use Rattle.sorted_bills.specs.Faults.{IsBillFault};
+ghost use Rattle.sorted_bills.specs.inside.Charged.{IsCharged};
+ghost use Rattle.sorted_bills.specs.inside.OpenBills.{IsOpenBill};
+ghost use Rattle.sorted_bills.specs.inside.Taken.{IsReady};
+
+use crate::fault::BillFault;
+use crate::open_bill::OpenBill;
+use crate::taker::Taker;
+use fare_table::FareTable;
+use placed_files::Placed;
+use std::alloc::Global;
+use tap_views::Token;
+
+/// Takes the taps of the files that have tokens below the bound, or all if there is none, and adds
+/// them to the bill, which has none yet.
+pub(crate) fn charge<F: Placed>(
+    alloc: Global,
+    table: &FareTable,
+    files: &[F],
+    below: Option<Token>,
+    taker: &mut Taker,
+    so_far: &mut OpenBill,
+) -> Result<(), BillFault>
+    requires ready { IsReady (length files.now) taker.old }
+    requires none { IsOpenBill table.now [] so_far.old }
+    ensures charged { OnOk result (IsCharged table.now (map F.bytes files.now)
+        taker.old.merge.readers.items so_far.old.replay.token taker.new.merge.readers.items
+        so_far.new) }
+    ensures end { OnOk result (below ≡ None → AreAtEnd taker.new.merge.readers.items) }
+    ensures fault { IfErr result (λ fault. (all : List (List ℕ)) → IsBillFault all fault) }
+{
+    let clock = table.clock(alloc)?;
+    for _round in 0..u64::MAX {
+        taker.take(files, so_far.token(), below)?;
+        if taker.taps.is_empty() {
+            return Ok(());
+        }
+        so_far.add(alloc, table, &clock, &taker.taps)?;
+    }
+    Err(BillFault::Changed)
+}

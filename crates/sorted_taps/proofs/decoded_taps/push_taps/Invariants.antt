@@ -1,0 +1,11 @@
+use Rattle.std.proofs.Common.{◌≡◌, ◌++◌, map}
+use Rattle.tap_views.specs.Encoding.{fields_of}
+use Rattle.sorted_taps.proofs.decoded_taps.push_taps.Given as goal
+
+abbrev pub invariant-loop-tap : goal.invariant-loop-tap
+invariant-loop-tap l = record {
+  may : goal.iterator-loop-tap.can_next l.tap-iterator;
+  ends : goal.iterator-loop-tap.is_finite l.tap-iterator;
+  all : l.yielded ++ l.tap-iterator ≡ l.fn.batch;
+  added : l.taps.items ≡ l.fn.taps.items ++ map fields_of l.yielded;
+}
