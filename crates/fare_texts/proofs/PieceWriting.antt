@@ -10,12 +10,14 @@ use Rattle.shard_book.specs.declared.entry.Entry.{Entry}
 use Rattle.tap_views.specs.declared.token.Token.{Token}
 use Rattle.tap_views.proofs.TokenLemmas.{token_eq-refl}
 use Rattle.fare_texts.specs.Tellers.{HasTold}
+use Rattle.fare_texts.specs.WrittenOut.{Begins, GoesOut}
 use Rattle.fare_texts.specs.Lines.{AreLinesAlong, AreUpTo, HasCome, IsLineAfter, IsUpTo, NoFall, NoFallFrom}
 use Rattle.fare_texts.specs.inside.Spots.{entry_at_spot, entries_at_spots}
 use Rattle.fare_texts.specs.declared.spot.Spot.{Spot}
 use Rattle.shard_book.specs.Book.{Book}
 use Rattle.fare_texts.specs.declared.teller.Teller.{Teller}
 use Rattle.fare_texts.proofs.Rising.{none_below, own_push, up_itself, up_push, up_weaker}
+use Rattle.fare_texts.proofs.Beginnings.{goes_then_on}
 use Rattle.fare_texts.proofs.TextsExist.{along_exist}
 
 -- ---- the teller
@@ -128,3 +130,13 @@ along_all fares entries place written along =
           (along_append fares [] (take place entries) (drop place entries) written others.0 along
           others.1),
     )
+
+-- where a beginning of what waits goes out, what has gone out is a beginning of all lines
+pub lines_begun : (fares : Fares) (entries : List Entry) (place : ℕ) (written : List ℕ)
+    (a b c : Option (List ℕ)) (old new : List ℕ)
+    → AreLinesAlong fares [] (take place entries) written → GoesOut a old b new written
+    → Begins b c new
+    → (lines : List ℕ) × AreLinesAlong fares [] entries lines × Begins a c (old ++ lines)
+lines_begun fares entries place written a b c old new along gone begun =
+    let all = along_all fares entries place written along in
+    (written ++ all.0, all.1, goes_then_on a b c old new written all.0 gone begun)

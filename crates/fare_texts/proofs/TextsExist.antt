@@ -3,6 +3,7 @@ use Rattle.std.proofs.Common.{◌≡◌, ℕ, zero, suc, ◌+◌, ◌/◌, ◌%�
 use Rattle.std.proofs.Common.{neg_ℤ, ◌+ℤ◌, ◌<ℤ◌, ◌≤ℤ◌, List, [], ◌∷◌, ◌++◌, length, map, refl, sym}
 use Rattle.std.proofs.Common.{ap, ◌∙◌, arith, rules, codes, ⊎_elim}
 use Rattle.std.proofs.lemmas.Bool.{cases_lt}
+use Rattle.std.proofs.lemmas.Int.{by_lt_z}
 use Rattle.std.specs.Fmt.{decimal}
 use Rattle.jiff_core.specs.declared.civil.date.Date.{Date}
 use Rattle.jiff_core.specs.Calendar.{days_from_civil, days_in_month}
@@ -10,7 +11,6 @@ use Rattle.jiff_core.specs.Date.{epoch_day}
 use Rattle.jiff_core.proofs.CalendarLemmas.{days_in_month_bounds}
 use Rattle.jiff_core.proofs.DateLemmas.{days_from_civil-day, days_from_civil-max}
 use Rattle.jiff_core.proofs.DateLemmas.{days_from_civil-next_month, days_from_civil-next_year}
-use Rattle.jiff_core.proofs.DateLemmas.{epoch_day-lt-max}
 use Rattle.jiff_core.proofs.SignedLemmas.{signed_arith}
 use Rattle.jiff_core.proofs.StandardFacts.{known_days}
 use Rattle.jiff_fmt.specs.Text.{date_text}
@@ -82,10 +82,44 @@ next_month n date is last less =
 -- the day behind the last one of a year that is not the calendar's last
 next_year : (n : ℕ) (date : Date) → epoch_day date ≡ pos n → n < 2_932_896
     → date.day ≡ days_in_month date.year date.month → date.month ≡ 12 → Day (suc n)
-next_year n date is before last december = ?
+next_year n date is before last december =
+    let day : date.day ≡ 31 = last ∙ ap (λ (m : ℕ). days_in_month date.year m) december in
+    let at : days_from_civil date.year 12 31 ≡ pos n =
+    ap (λ (m : ℕ). days_from_civil date.year m 31) (sym december)
+    ∙ ap (λ (d : ℕ). days_from_civil date.year date.month d) (sym day) ∙ is in
+    by_lt_z date.year (pos 9999)
+    (λ early.
+    let next = date.year +ℤ pos 1 in
+    let same = days_from_civil-next_year date.year next (omega (arith, signed_arith, date.year_in)) refl
+    in (
+      record {
+        year = next;
+        month = 1;
+        day = 1;
+        year_in = (
+          omega (arith, signed_arith, date.year_in),
+          omega (arith, signed_arith, early),
+        );
+        month_in = search rules;
+        day_in = (omega arith, omega (arith, days_in_month_bounds next 1));
+      },
+      omega (arith, signed_arith, same, at),
+    ))
+    (λ late.
+    let year : date.year ≡ pos 9999 = omega (arith, signed_arith, date.year_in, late) in
+    let max : pos n ≡ pos 2_932_896 =
+    sym at ∙ ap (λ (y : ℤ). days_from_civil y 12 31) year ∙ days_from_civil-max in
+    absurd (omega (arith, signed_arith, before, max)))
 
 next_day : (n : ℕ) → n < 2_932_896 → Day n → Day (suc n)
-next_day n before (date, is) = ?
+next_day n before (date, is) =
+    let long = days_in_month date.year date.month in
+    ⊎_elim (λ (less : date.day < long). within_month n date is less)
+    (λ (full : long ≤ date.day).
+    let last : date.day ≡ long = omega (arith, full, date.day_in) in
+    ⊎_elim (λ (less : date.month < 12). next_month n date is last less)
+    (λ (full : 12 ≤ date.month). next_year n date is before last (omega (arith, full, date.month_in)))
+    (cases_lt date.month 12)) (cases_lt date.day long)
 
 pub day_exists : (n : ℕ) → n ≤ 2_932_896 → Day n
 day_exists zero low = first_day
@@ -151,4 +185,4 @@ along_exist fares earlier (entry ∷ entries) =
     let line = line_exists fares entry.token (length (own entry.token earlier) + 1) entry
     (reason_after fares entry.token (own entry.token earlier) entry) in
     let rest = along_exist fares (earlier ++ entry ∷ []) entries in
-    (line.0 ++ rest.0, line.0, rest.0, line.1, rest.1, refl)
+    (line.0 ++ rest.0, (line.0, rest.0, line.1, rest.1, refl))

@@ -89,13 +89,13 @@ fn write_pieces<W: Write>(
 {
     let mut teller = Teller::of(first);
     for spot in spots {
+        pass_piece(text, out)?;
         let entry = spot.entry(books);
         go_on_to(&mut teller, entry.token);
         // The text has room for a line, so that none is refused.
         let Ok(()) = teller.write_next(text, table, clock, &entry) else {
             return Err(PrintFault::Write);
         };
-        pass_piece(text, out)?;
     }
     Ok(())
 }

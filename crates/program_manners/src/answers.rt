@@ -1,23 +1,20 @@
 //! What clap answers where there is nothing to run.
-ghost use Rattle.std.specs.Prelude.{◌≡◌, ◌≢◌, ◌≤◌, IfErr, IfOk, Ok, OnOk, codes, true};
+ghost use Rattle.std.specs.Prelude.{◌≡◌, ◌≢◌, ◌≤◌, IfErr, IfOk, Ok, codes};
 ghost use Rattle.std.specs.Io.KnownBytes.{Keeps};
 ghost use Rattle.clap.specs.Words.{kind_of};
 ghost use Rattle.program_manners.specs.LineWritten.{LineWritten};
 ghost use Rattle.program_manners.specs.Words.{IsRequest};
 
 use crate::complaints::Complaints;
-use crate::output::Output;
 use clap::Error;
 use clap::error::ErrorKind;
 use std::io;
 use std::io::Write;
 
-/// Prints clap's text and flushes the output.
-fn show_text<W: Write>(error: &Error, out: &mut Output<W>) -> io::Result<()>
-    ensures { OnOk result (out.new.is_flushed ≡ true) }
-{
+/// Prints clap's text and flushes the writer.
+fn show_text<W: Write>(error: &Error, out: &mut W) -> io::Result<()> {
     write!(out, "{error}")?;
-    out.finish()
+    out.flush()
 }
 
 /// Shows what clap answers where there is nothing to run: help and version on `out`, else on `err`
@@ -26,7 +23,7 @@ fn show_text<W: Write>(error: &Error, out: &mut Output<W>) -> io::Result<()>
 /// not written, and nothing is told of it yet.
 pub fn show_answer<W: Write, E: Write>(
     error: &Error,
-    out: &mut Output<W>,
+    out: &mut W,
     err: &mut Complaints<E>,
 ) -> io::Result<u8>
     ensures help { IfOk result (λ status. status ≡ 0
@@ -39,10 +36,7 @@ pub fn show_answer<W: Write, E: Write>(
         (codes "fault: out of memory")) }
     ensures mistake { IfOk result (λ status. status ≡ 2 → ¬ IsRequest (kind_of error.now)) }
     ensures kept { IfOk result (λ status. status ≢ 0
-        → Keeps (W.contents out.old.writer) (W.contents out.new.writer)) }
-
-    // Help and the version were flushed.
-    ensures flushed { IfOk result (λ status. status ≡ 0 → out.new.is_flushed ≡ true) }
+        → Keeps (W.contents out.old) (W.contents out.new)) }
     ensures status { IfOk result (λ status. status ≤ 2) }
 {
     match error.kind() {

@@ -118,12 +118,12 @@ pub fn write_taps<W: Write>(
 {
     let mut rest = taps;
     while !rest.is_empty() {
+        pass_piece(text, out)?;
         let (stride, behind) = rest.split_at(rest.len().min(STRIDE_TAPS));
         // The text has room for a stride, so that none is refused.
         let Ok(()) = tell_taps(text, table, clock, teller, stride) else {
             return Err(PrintFault::Write);
         };
-        pass_piece(text, out)?;
         rest = behind;
     }
     Ok(())

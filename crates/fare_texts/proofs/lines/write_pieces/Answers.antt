@@ -1,14 +1,15 @@
 use Rattle.std.proofs.Common.{◌+◌, List, [], ◌∷◌, ◌++◌, drop, take, string_bytes, refl, sym, ap}
 use Rattle.std.proofs.Common.{subst, ◌∙◌, arith}
+use Rattle.std.proofs.lemmas.Result.{err_from_is_err_and}
 use Rattle.shard_book.specs.Entry.{own}
 use Rattle.shard_book.specs.declared.entry.Entry.{Entry}
 use Rattle.tap_views.specs.declared.token.Token.{Token}
 use Rattle.fare_texts.specs.LedgerLines.{IsLedgerLineAfter}
 use Rattle.fare_texts.specs.Lines.{AreLinesAlong, HasCome, IsLineAfter, IsUpTo, NoFallFrom}
 use Rattle.fare_texts.specs.inside.Spots.{entries_at_spots}
-use Rattle.fare_texts.proofs.Beginnings.{goes_grown, goes_nothing, goes_passed}
-use Rattle.fare_texts.proofs.PieceWriting.{along_push, come_first, come_next, rise_here, rise_on}
-use Rattle.fare_texts.proofs.PieceWriting.{seen_taken}
+use Rattle.fare_texts.proofs.Beginnings.{begins_nothing, goes_grown, goes_nothing, goes_passed}
+use Rattle.fare_texts.proofs.PieceWriting.{along_push, come_first, come_next, lines_begun}
+use Rattle.fare_texts.proofs.PieceWriting.{rise_here, rise_on, seen_taken}
 use Rattle.fare_texts.proofs.lines.write_pieces.Goals as goal
 
 pub loop-spot-init : goal.loop-spot-init
@@ -64,7 +65,30 @@ loop-spot-preserved g c =
       along = subst (λ (es : List Entry). AreLinesAlong fares [] es (inv.written ++ line.0)) (sym taken)
           (along_push fares [] done _ inv.written line.0 inv.along
           (subst (λ (e : Entry). IsLineAfter fares done e line.0) is after));
-      whole = goes_passed _ _ _ _ _ _ (inv.written ++ line.0)
-          (goes_grown _ (g.W.Write.contents c.loop-spot.out) _ (string_bytes c.loop-spot.text) _ inv.written
-          line.0 inv.whole line.2) c.in_ok-pass_piece.ensures.gone;
+      whole = goes_grown _ (g.W.Write.contents c.pass_piece.new.out) _
+          (string_bytes c.pass_piece.new.text) _ inv.written line.0
+          (goes_passed _ (g.W.Write.contents c.loop-spot.out) _ _ (string_bytes c.loop-spot.text) _
+          inv.written inv.whole c.in_ok-pass_piece.ensures.gone) line.2;
     }
+
+-- ---- what a write that failed left
+pub returns-in_err-pass_piece-clause-begun : goal.returns-in_err-pass_piece-clause-begun
+returns-in_err-pass_piece-clause-begun g c =
+    let inv = c.loop-spot.invariant in
+    let p = err_from_is_err_and c.from_residual.result c.from_residual.ensures.1 in
+    rw p.1 (lines_begun c.args.table.now (entries_at_spots c.args.books.now c.args.spots.now)
+    c.loop-spot.spot-index inv.written (g.W.Write.contents c.args.out.now)
+    (g.W.Write.contents c.loop-spot.out) (g.W.Write.contents c.pass_piece.new.out)
+    (string_bytes c.args.text.now) (string_bytes c.loop-spot.text) inv.along inv.whole
+    c.in_err-pass_piece.ensures.begun)
+
+pub returns-in_default-clause-begun : goal.returns-in_default-clause-begun
+returns-in_default-clause-begun g c =
+    let inv = c.loop-spot.invariant in
+    let out = g.W.Write.contents c.pass_piece.new.out in
+    lines_begun c.args.table.now (entries_at_spots c.args.books.now c.args.spots.now)
+    c.loop-spot.spot-index inv.written (g.W.Write.contents c.args.out.now) out out
+    (string_bytes c.args.text.now) (string_bytes c.pass_piece.new.text) inv.along
+    (goes_passed _ (g.W.Write.contents c.loop-spot.out) _ _ (string_bytes c.loop-spot.text) _
+    inv.written inv.whole c.in_ok-pass_piece.ensures.gone)
+    (begins_nothing out (string_bytes c.pass_piece.new.text))

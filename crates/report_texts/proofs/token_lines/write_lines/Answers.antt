@@ -1,5 +1,7 @@
 use Rattle.std.proofs.Common.{ℕ, List, arith, subst}
 use Rattle.std.specs.Io.KnownBytes.{Appends}
+use Rattle.std.proofs.lemmas.Result.{err_from_is_err_and}
+use Rattle.fare_texts.specs.WrittenOut.{Begins}
 use Rattle.fare_texts.proofs.Beginnings.{goes_nothing}
 use Rattle.shard_book.specs.Shown.{token_sum}
 use Rattle.report_texts.proofs.Parts.{last_out, lines_begun, next_token}
@@ -26,3 +28,23 @@ returns-clause-ok g c =
     last_out (g.W.Write.contents c.args.out.now) (g.W.Write.contents c.loop-place.out) (g.W.Write.contents c.write_out.new.out) c.args.text.now.items
     c.loop-place.text.items c.args.sums.now c.loop-place.place (omega (arith, c.len-place-end.ensures, c.loop-place-test.false)) c.loop-place.invariant.lines
     (subst (λ (text : List ℕ). Appends (g.W.Write.contents c.loop-place.out) (g.W.Write.contents c.write_out.new.out) text) c.as_slice.ensures.value c.in_ok-write_out.ensures.ok)
+
+-- ---- what a write that failed left
+pub returns-in_err-push_line-clause-begun : goal.returns-in_err-push_line-clause-begun
+returns-in_err-push_line-clause-begun g c =
+    let p = err_from_is_err_and c.from_residual.result c.from_residual.ensures.1 in
+    rw p.1 (lines_begun (g.W.Write.contents c.args.out.now) (g.W.Write.contents c.loop-place.out)
+    (g.W.Write.contents c.push_line.new.out) c.args.text.now.items c.loop-place.text.items
+    c.args.sums.now c.loop-place.place c.loop-place.invariant.lines
+    c.in_err-push_line.ensures.begun)
+
+pub returns-in_err-write_out-clause-begun : goal.returns-in_err-write_out-clause-begun
+returns-in_err-write_out-clause-begun g c =
+    let p = err_from_is_err_and c.from_residual-in_err-write_out.result
+    c.from_residual-in_err-write_out.ensures.1 in
+    rw p.1 (lines_begun (g.W.Write.contents c.args.out.now) (g.W.Write.contents c.loop-place.out)
+    (g.W.Write.contents c.write_out.new.out) c.args.text.now.items c.loop-place.text.items
+    c.args.sums.now c.loop-place.place c.loop-place.invariant.lines
+    (subst (λ (text : List ℕ). Begins (g.W.Write.contents c.loop-place.out)
+    (g.W.Write.contents c.write_out.new.out) text) c.as_slice.ensures.value
+    c.in_err-write_out.ensures.begun))
