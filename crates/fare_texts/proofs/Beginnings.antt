@@ -173,3 +173,13 @@ goes_appends (Some xs) None old new text gone = absurd gone.written
 goes_appends (Some xs) (Some ys) old new text gone =
     ap (λ t. t ++ new) gone.written ∙ append_assoc xs gone.front new
     ∙ ap (λ t. xs ++ t) (sym gone.whole) ∙ sym (append_assoc xs old text)
+
+-- what waits goes out behind all that has gone out
+pub waits_out : (a b c : Option (List ℕ)) (first waits text : List ℕ)
+    → Appends (append_known a first) (append_known b waits) text → Appends b c waits
+    → Appends a c (first ++ text)
+waits_out None b c first waits text all last = tt
+waits_out (Some x) None c first waits text all last = absurd all
+waits_out (Some x) (Some y) None first waits text all last = absurd last
+waits_out (Some x) (Some y) (Some z) first waits text all last =
+    last ∙ all ∙ append_assoc x first text
