@@ -4,3 +4,4 @@ pub mod FullFindingLemmas
 pub mod ProgramLemmas
 pub mod ReadLemmas
 pub mod TapLines
+pub mod Written

@@ -10,7 +10,7 @@ use Rattle.tap_views.specs.declared.encoder.TapFields.{TapFields}
 use Rattle.omny_audit.specs.Reports.{IsAudit, IsRightAudit}
 use Rattle.omny_audit.specs.Fault.{IsRightFault, audit_fault_text, is_quiet, is_unwritten}
 use Rattle.omny_audit.specs.Options.{AuditAsked}
-use Rattle.fare_texts.specs.WrittenOut.{Begins}
+use Rattle.omny_audit.specs.Text.{Begins}
 use Rattle.program_manners.specs.Loads.{Loaded, Tells, TellsOne}
 use Rattle.program_manners.specs.LineWritten.{LineWritten}
 use Rattle.program_manners.specs.declared.loading.LoadFault.{LoadFault}

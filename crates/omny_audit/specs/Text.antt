@@ -67,3 +67,6 @@ abbrev pub IsDifferencesText : List TapFields → List TapFields → List ℕ �
 IsDifferencesText missing surplus text =
     MatchBool (are_none missing surplus) (IsDifferenceText None text)
     (AreDifferenceLines missing surplus text)
+
+-- known bytes grow by a beginning of a text
+pub use Rattle.fare_texts.specs.WrittenOut.{Begins}

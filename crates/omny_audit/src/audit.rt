@@ -16,7 +16,7 @@ ghost use Rattle.omny_audit.specs.inside.Findings.{StrikesOut};
 ghost use Rattle.omny_audit.specs.inside.Reports.{HasSummedFor, text_of};
 ghost use Rattle.omny_audit.specs.Fault.{is_unwritten, named_by};
 ghost use Rattle.omny_audit.specs.inside.Fault.{is_of_loading};
-ghost use Rattle.fare_texts.specs.WrittenOut.{Begins};
+ghost use Rattle.omny_audit.specs.Text.{Begins};
 ghost use Rattle.omny_audit.specs.inside.Source.{IsAllOf};
 
 use crate::fault::Fault;

@@ -1,7 +1,7 @@
 use Rattle.std.proofs.Common.{◌∙◌, ℕ, List, Option, Some, None, false, if◌then◌else◌, subst}
 use Rattle.std.specs.Io.KnownBytes.{Appends}
 use Rattle.omny_audit.specs.Reports.{IsAudit}
-use Rattle.fare_texts.specs.WrittenOut.{Begins}
+use Rattle.omny_audit.specs.Text.{Begins}
 use Rattle.omny_audit.proofs.ProgramLemmas.{unwritten_on}
 use Rattle.omny_audit.proofs.audit.audit_over.Goals as goal
 

@@ -6,7 +6,7 @@ use Rattle.ledger_check.specs.Recounts.{recount_text, taps_from, wrong_count}
 use Rattle.omny_audit.specs.Findings.{IsDifferencesEnd}
 use Rattle.omny_audit.specs.Reports.{IsReportLine}
 use Rattle.omny_audit.proofs.FullFindingLemmas.{recount_legal}
-use Rattle.std.proofs.KnownBytes.{Appends-trans as appends_more}
+use Rattle.omny_audit.proofs.Written.{appends_more}
 use Rattle.omny_audit.proofs.full_audit.full_audit_over.Goals as goal
 
 pub recount_all-requires-clause-good : goal.recount_all-requires-clause-good

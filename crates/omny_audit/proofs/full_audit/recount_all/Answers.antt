@@ -6,7 +6,7 @@ use Rattle.tap_views.specs.declared.encoder.TapFields.{TapFields}
 use Rattle.omny_audit.specs.inside.Findings.{HasRecountedAll}
 use Rattle.omny_audit.specs.inside.Reports.{HasSummedFor}
 use Rattle.omny_audit.proofs.ReadLemmas.{at_end, consumes-more, consumes-none}
-use Rattle.std.proofs.KnownBytes.{Appends-nil as appends_nothing, Appends-trans as appends_more}
+use Rattle.omny_audit.proofs.Written.{appends_more, appends_nothing}
 use Rattle.omny_audit.proofs.full_audit.recount_all.Goals as goal
 
 pub loop-piece-init : goal.loop-piece-init
