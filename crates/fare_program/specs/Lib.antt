@@ -1,4 +1,3 @@
-pub mod Begun
 pub mod Causes
 pub mod Fault
 pub mod Lines

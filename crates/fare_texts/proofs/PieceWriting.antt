@@ -1,6 +1,7 @@
 -- One line after another: what the teller has come to, and what was written.
 use Rattle.std.proofs.Common.{◌≡◌, ℕ, ◌+◌, ◌<◌, true, false, List, [], ◌∷◌, ◌++◌, Option, Some, None, length, take, drop, get_or, refl, sym, ap, subst, ◌∙◌, append_assoc, append-nil, add-one, drop-cons, arith}
 use Rattle.std.specs.Prelude.{slice_get}
+use Rattle.std.specs.Io.KnownBytes.{Appends, Keeps, append_known}
 use Rattle.std.proofs.lemmas.List.{get_or-map, length-map, take-append-drop}
 use Rattle.std.proofs.Math.Seq.{take-suc}
 use Rattle.fare_table.specs.Fares.{Fares}
@@ -140,3 +141,18 @@ pub lines_begun : (fares : Fares) (entries : List Entry) (place : ℕ) (written 
 lines_begun fares entries place written a b c old new along gone begun =
     let all = along_all fares entries place written along in
     (written ++ all.0, all.1, goes_then_on a b c old new written all.0 gone begun)
+
+-- ---- the bytes
+pub grown : (a b : Option (List ℕ)) (text longer written line : List ℕ) → Appends a (append_known b text) written → longer ≡ text ++ line → Appends a (append_known b longer) (written ++ line)
+grown None b text longer written line p e = tt
+grown (Some x) None text longer written line p e = absurd p
+grown (Some x) (Some y) text longer written line p e =
+    ap (λ t. y ++ t) e ∙ sym (append_assoc y text line) ∙ ap (λ t. t ++ line) p ∙ append_assoc x written line
+
+pub last_out : (a b c : Option (List ℕ)) (first text left written : List ℕ) → Appends (append_known a first) (append_known b text) written
+    → Keeps (append_known b text) (append_known c left) → left ≡ [] → Appends a c (first ++ written)
+last_out None b c first text left written p q e = tt
+last_out (Some x) None c first text left written p q e = absurd p
+last_out (Some x) (Some y) None first text left written p q e = absurd q
+last_out (Some x) (Some y) (Some z) first text left written p q e =
+    sym (append-nil z) ∙ ap (λ t. z ++ t) (sym e) ∙ q ∙ p ∙ append_assoc x first written

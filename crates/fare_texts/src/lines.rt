@@ -2,7 +2,7 @@
 
 ghost use Rattle.std.specs.Prelude.{◌≡◌, ◌≤◌, ℕ, List, [], ◌++◌, IfErr, OnErr, OnOk};
 ghost use Rattle.std.specs.Prelude.{string_bytes};
-ghost use Rattle.std.specs.Io.KnownBytes.{Appends};
+ghost use Rattle.std.specs.Io.KnownBytes.{Appends, Keeps, append_known};
 ghost use Rattle.fare_texts.specs.declared.print_fault.PrintFault.TheVariants.{Write as ForWrite};
 ghost use Rattle.fare_texts.specs.Lines.{AreLinesAlong, HasCome, IsUpTo, NoFall};
 ghost use Rattle.fare_texts.specs.Lines.{NoFallFrom};
@@ -25,6 +25,8 @@ pub const PIECE_BYTES: usize = 65_536;
 
 /// Writes out what waits in the text, whose room stays.
 pub fn pass_on<W: Write>(text: &mut String, out: &mut W) -> Result<(), PrintFault>
+    ensures kept { OnOk result (Keeps (append_known (W.contents out.old) (string_bytes text.old))
+        (append_known (W.contents out.new) (string_bytes text.new))) }
     ensures whole { OnOk result (Appends (W.contents out.old) (W.contents out.new)
         (string_bytes text.old)) }
     ensures empty { OnOk result (string_bytes text.new ≡ []) }
@@ -39,6 +41,8 @@ pub fn pass_on<W: Write>(text: &mut String, out: &mut W) -> Result<(), PrintFaul
 
 /// Writes out what waits in the text, where it is a piece: `PIECE_BYTES` or more.
 pub fn pass_piece<W: Write>(text: &mut String, out: &mut W) -> Result<(), PrintFault>
+    ensures kept { OnOk result (Keeps (append_known (W.contents out.old) (string_bytes text.old))
+        (append_known (W.contents out.new) (string_bytes text.new))) }
     ensures gone { OnOk result (GoesOut (W.contents out.old) (string_bytes text.old)
         (W.contents out.new) (string_bytes text.new) []) }
     ensures begun { OnErr result (Begins (W.contents out.old) (W.contents out.new)

@@ -1,12 +1,7 @@
 use Rattle.std.proofs.Common.{List, ℕ, subst}
 use Rattle.std.specs.Io.KnownBytes.{Appends}
-use Rattle.fare_texts.proofs.Beginnings.{goes_empty, goes_nothing}
+use Rattle.fare_texts.proofs.Beginnings.{goes_empty}
 use Rattle.report_texts.proofs.token_lines.make_room.Goals as goal
-
--- nothing goes out
-pub returns-then-le-clause-gone : goal.returns-then-le-clause-gone
-returns-then-le-clause-gone g c =
-    goes_nothing (g.W.Write.contents c.args.out.now) c.args.text.now.items
 
 -- all that waits goes out
 pub returns-clause-gone : goal.returns-clause-gone
