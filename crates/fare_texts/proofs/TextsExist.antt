@@ -49,7 +49,8 @@ within_month : (n : ℕ) (date : Date) → epoch_day date ≡ pos n
     → date.day < days_in_month date.year date.month → Day (suc n)
 within_month n date is less =
     let next = date.day + 1 in
-    let same = days_from_civil-day date.year date.month date.day next date.day_in.0 (omega arith) in (
+    let same =
+    days_from_civil-day date.year date.month date.day next date.day_in.0 (omega arith) in (
       record {
         year = date.year;
         month = date.month;
@@ -90,8 +91,8 @@ next_year n date is before last december =
     by_lt_z date.year (pos 9999)
     (λ early.
     let next = date.year +ℤ pos 1 in
-    let same = days_from_civil-next_year date.year next (omega (arith, signed_arith, date.year_in)) refl
-    in (
+    let same = days_from_civil-next_year date.year next
+    (omega (arith, signed_arith, date.year_in)) refl in (
       record {
         year = next;
         month = 1;
@@ -118,7 +119,8 @@ next_day n before (date, is) =
     (λ (full : long ≤ date.day).
     let last : date.day ≡ long = omega (arith, full, date.day_in) in
     ⊎_elim (λ (less : date.month < 12). next_month n date is last less)
-    (λ (full : 12 ≤ date.month). next_year n date is before last (omega (arith, full, date.month_in)))
+    (λ (full : 12 ≤ date.month).
+    next_year n date is before last (omega (arith, full, date.month_in)))
     (cases_lt date.month 12)) (cases_lt date.day long)
 
 pub day_exists : (n : ℕ) → n ≤ 2_932_896 → Day n

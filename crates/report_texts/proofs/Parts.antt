@@ -1,5 +1,6 @@
 -- Texts that are written part by part.
-use Rattle.std.specs.Prelude.{ℕ, ◌≡◌, ◌+◌, ◌<◌, ◌≤◌, List, [], ◌∷◌, ◌++◌, drop, length, take, Option, Some, None, slice_get, codes}
+use Rattle.std.specs.Prelude.{ℕ, ◌≡◌, ◌+◌, ◌<◌, ◌≤◌, List, [], ◌∷◌, ◌++◌, drop, length, take}
+use Rattle.std.specs.Prelude.{Option, Some, slice_get, codes}
 use Rattle.std.specs.Io.KnownBytes.{Appends}
 use Rattle.std.specs.List.{flat_map}
 use Rattle.std.proofs.Common.{get_or, length-take}
@@ -57,7 +58,8 @@ pub last_out : (a b c : Option (List ℕ)) (start waits : List ℕ) (sums : List
     → Appends b c waits → Appends a c (start ++ flat_map token_line sums)
 last_out a b c start waits sums i all gone written =
     subst (λ (taken : List (Token × Sums)). Appends a c (start ++ flat_map token_line taken))
-    (take_all i sums all) (goes_last a b c start waits (flat_map token_line (take i sums)) gone written)
+    (take_all i sums all)
+    (goes_last a b c start waits (flat_map token_line (take i sums)) gone written)
 
 -- where a write fails, a beginning of all lines is out
 pub lines_begun : (a b c : Option (List ℕ)) (start waits : List ℕ) (sums : List (Token × Sums))

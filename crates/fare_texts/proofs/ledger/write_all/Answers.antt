@@ -23,10 +23,14 @@ returns-in_err-write_lines-clause-begun g c =
     let p = err_from_is_err_and c.from_residual-in_err-write_lines.result
     c.from_residual-in_err-write_lines.ensures.1 in
     let done = c.in_err-write_lines.ensures.begun in
-    let along = subst (λ (spots : List Spot). AreLinesAlong c.table_of-table.result.now [] (entries_at_spots c.args.books.now spots) done.0) c.as_slice.ensures.value done.1 in
+    let along = subst
+    (λ (spots : List Spot). AreLinesAlong c.table_of-table.result.now []
+    (entries_at_spots c.args.books.now spots) done.0) c.as_slice.ensures.value done.1 in
     rw p.1 (λ write. (
       string_bytes c.in_ok-text.text ++ done.0,
-      ledger_of_all c.args.books.now first.0 c.table_of-table.result.now (entries_at_spots c.args.books.now c.in_ok-text.spots.items) (string_bytes c.in_ok-text.text) done.0 first.1 first.2
-          c.in_ok-text.ensures.entries along c.in_ok-text.ensures.head,
+      ledger_of_all c.args.books.now first.0 c.table_of-table.result.now
+          (entries_at_spots c.args.books.now c.in_ok-text.spots.items)
+          (string_bytes c.in_ok-text.text) done.0 first.1 first.2 c.in_ok-text.ensures.entries along
+          c.in_ok-text.ensures.head,
       done.2,
     ))
