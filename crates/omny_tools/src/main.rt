@@ -1,67 +1,82 @@
-//! The program: turns tables of taps into uploads and back, and tells what uploads and fare tables
-//! have.
+//! The program: `tool_program` over the words, with the names of a list if they name one, the files,
+//! the standard input and the outputs of the system. If the standard error is a terminal, a line
+//! there says how far a long run is.
 //!
 //! | module | what it does |
 //! |---|---|
-//! | `words` | the command line, as `clap` reads it |
-//! | `list_words` | the list of files that the words name |
-//! | `names` | the names of files, as they are shown and opened |
-//! | `input`, `output` | files and standard input; standard output |
+//! | `files` | the files and the standard input of the system as a source |
+//! | `made_files` | files that are made |
 //! | `progress` | how far a long run is, on a terminal |
-//! | `fault` | why a task is given up, and the line that says so |
-//! | `layout` | what a layout fault means, and what to do |
-//! | `coding` | `encode` and `decode` |
-//! | `encode_words`, `row_coding` | `encode` of an agency's own CSV |
-//! | `telling`, `common_tokens` | `uploads` |
-//! | `look_words`, `looking` | what `uploads` looks for |
-//! | `splitting` | `split` |
-//! | `sorting` | `sort` |
-//! | `making` | files that are made whole |
-//! | `merging` | `merge` and `merge-ledgers` |
-//! | `part_words` | the command lines of `split`, `merge` and `merge-ledgers` |
-//! | `correcting` | `corrections` |
-//! | `table` | `table` |
-//! | `tasks` | the whole, from the words to the status |
 #![tactic(auto)]
 
-mod coding;
-mod common_tokens;
-mod correcting;
-mod encode_words;
-mod fault;
-mod input;
-mod layout;
-mod list_words;
-mod look_words;
-mod looking;
-mod making;
-mod merging;
-mod names;
-mod output;
-mod part_words;
+mod files;
+mod made_files;
 mod progress;
-mod row_coding;
-mod sorting;
-mod splitting;
-mod table;
-mod tasks;
-mod telling;
-mod words;
 
-use list_words::words_with_list;
-use program_manners::{Complaints, unread_words, words_of};
+use files::Host;
+use made_files::Disk;
+use program_manners::{Complaints, ListLine, unread_words, words_of};
+use progress::Watching;
+use std::alloc::Global;
+use std::io;
+use std::io::Write;
 use std::process::ExitCode;
-use tasks::run;
+use tool_program::{Output, main_over};
+use tool_words::{Escaped, list_of};
+
+/// Says why the names of a list are not had, and gives the status.
+fn tell<E: Write>(alloc: Global, err: &mut Complaints<E>, line: ListLine<'_>) -> u8 {
+    match format!(in alloc; "{line}") {
+        Ok(text) => err.tell_line(Escaped(&text)),
+        Err(_) => err.tell_line("fault: out of memory"),
+    }
+    line.status()
+}
+
+/// The words with the names of the list that they name, if they name one. The error is the status,
+/// where it was told why they are not had.
+fn words_with_list<E: Write>(
+    rt: &HostRuntime,
+    words: &[String],
+    err: &mut Complaints<E>,
+) -> Result<Option<Vec<String>>, u8> {
+    let (list, option) = match list_of(rt.alloc(), words) {
+        Ok(None) => return Ok(None),
+        Ok(Some(list)) => list,
+        Err(fault) => return Err(tell(rt.alloc(), err, ListLine::unnamed(fault))),
+    };
+    match list.add_names(rt, words, option) {
+        Ok(all) => Ok(Some(all)),
+        Err(fault) => Err(tell(rt.alloc(), err, list.line_of(fault))),
+    }
+}
+
+/// Does what the words ask for, and gives the status.
+fn run<E: Write>(rt: &HostRuntime, words: &[String], err: &mut Complaints<E>) -> u8 {
+    let Ok(mut out) = Output::new(rt.alloc(), Watching::new(rt, io::writer(rt))) else {
+        err.tell_line("fault: out of memory");
+        return 1;
+    };
+    main_over(
+        rt,
+        rt.alloc(),
+        words,
+        &mut Host::new(rt),
+        &mut Disk::new(rt),
+        &mut out,
+        err,
+    )
+}
 
 /// The program.
 fn main(rt: HostRuntime) -> ExitCode {
-    let mut err = rt.stderr();
+    let mut err = Complaints::new(rt.stderr());
     let words = match words_of(&rt) {
         Ok(words) => words,
-        Err(fault) => return ExitCode::from(unread_words(&fault, &mut Complaints::new(err))),
+        Err(fault) => return ExitCode::from(unread_words(&fault, &mut err)),
     };
     let status = match words_with_list(&rt, &words, &mut err) {
-        Ok(more) => run(&rt, &rt, &more.unwrap_or(words), &mut err),
+        Ok(more) => run(&rt, &more.unwrap_or(words), &mut err),
         Err(status) => status,
     };
     ExitCode::from(status)

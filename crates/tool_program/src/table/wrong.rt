@@ -1,0 +1,157 @@
+//! One wrong value, and what is wanted in its place.
+
+use super::paths::key_path;
+use super::places::Places;
+use std::alloc::{AllocError, Global};
+use toml::Value;
+use tool_words::Name;
+
+/// Of how many letters a wrong value is shown at most.
+const SHOWN_LETTERS: usize = 60;
+
+/// What is told of what stands at a path.
+#[derive(Clone, Copy)]
+enum Told {
+    /// The key is missing.
+    Missing,
+    /// The key is wrong.
+    Key,
+    /// The value is wrong.
+    Value,
+}
+
+/// One wrong value, and what is wanted in its place.
+#[derive(Drop)]
+pub(super) struct Wrong {
+    /// The whole path.
+    path: String,
+    /// The path of what is shown: the table that lacks a key, the key, or the value.
+    shown: String,
+    /// What is told.
+    told: Told,
+    /// The value as TOML writes it; empty where there is none.
+    value: String,
+    /// What is wanted.
+    wanted: String,
+}
+
+/// A value as TOML writes it, in one line, the first letters of a long one.
+fn shown(alloc: Global, value: &Value) -> Result<String, AllocError> {
+    let whole = format!(in alloc; "{value}")?;
+    let mut text = String::new(alloc);
+    let mut number = 0usize;
+    for letter in whole.chars() {
+        if number == SHOWN_LETTERS {
+            text.push_str(" ..")?;
+            return Ok(text);
+        }
+        number = number.saturating_add(1);
+        if letter.is_control() {
+            let code = letter as u32;
+            write!(text, "\\u{code:04x}")?;
+        } else {
+            text.push(letter)?;
+        }
+    }
+    Ok(text)
+}
+
+/// What is wrong with a table, in the order in which it is looked at.
+#[derive(Drop)]
+pub(super) struct Wrongs {
+    /// The allocator.
+    pub(super) alloc: Global,
+    /// What was found.
+    pub(super) found: Vec<Wrong>,
+}
+
+impl Wrongs {
+    /// Nothing yet.
+    pub(super) fn new(alloc: Global) -> Wrongs {
+        Wrongs {
+            alloc,
+            found: Vec::new(alloc),
+        }
+    }
+
+    /// Adds a key that is missing in the table at a path.
+    pub(super) fn missing(
+        &mut self,
+        holder: &str,
+        key: &str,
+        wanted: &str,
+    ) -> Result<(), AllocError> {
+        let wrong = Wrong {
+            path: key_path(self.alloc, holder, key)?,
+            shown: String::from_str(self.alloc, holder)?,
+            told: Told::Missing,
+            value: String::new(self.alloc),
+            wanted: String::from_str(self.alloc, wanted)?,
+        };
+        self.found.push(wrong)?;
+        Ok(())
+    }
+
+    /// Adds a key that is wrong.
+    pub(super) fn key(&mut self, path: String, wanted: &str) -> Result<(), AllocError> {
+        let wrong = Wrong {
+            shown: path.clone()?,
+            path,
+            told: Told::Key,
+            value: String::new(self.alloc),
+            wanted: String::from_str(self.alloc, wanted)?,
+        };
+        self.found.push(wrong)?;
+        Ok(())
+    }
+
+    /// Adds a value that is wrong.
+    pub(super) fn value(
+        &mut self,
+        path: String,
+        value: &Value,
+        wanted: &str,
+    ) -> Result<(), AllocError> {
+        let wrong = Wrong {
+            shown: path.clone()?,
+            path,
+            told: Told::Value,
+            value: shown(self.alloc, value)?,
+            wanted: String::from_str(self.alloc, wanted)?,
+        };
+        self.found.push(wrong)?;
+        Ok(())
+    }
+}
+
+impl Wrong {
+    /// The line that tells it, with where it stands in the text.
+    pub(super) fn line(
+        &self,
+        alloc: Global,
+        name: Name<'_>,
+        text: &str,
+        places: &Places,
+    ) -> Result<String, AllocError> {
+        let shown = self.shown.as_str();
+        let offset = match self.told {
+            Told::Value => places.of_value(shown),
+            _ => places.of_key(shown),
+        };
+        let (line, column) = match offset {
+            Some(offset) => places.line_and_column(text, offset),
+            None => (1, 1),
+        };
+        let path = self.path.as_str();
+        let wanted = self.wanted.as_str();
+        let value = self.value.as_str();
+        let mut told = format!(in alloc; "fault: {name} line {line} column {column}: {path} ")?;
+        match self.told {
+            Told::Missing => told.push_str("is missing")?,
+            Told::Key => told.push_str("is a wrong key")?,
+            Told::Value => write!(told, "is {value}")?,
+        }
+        write!(told, "; wanted: {wanted}\n")?;
+        Ok(told)
+    }
+}

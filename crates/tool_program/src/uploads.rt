@@ -1,0 +1,181 @@
+//! `uploads`.
+
+use crate::common_tokens::CommonTokens;
+use crate::fault::Fault;
+use crate::layout::{AtTap, Cause, Remedy};
+use crate::output::Output;
+use crate::sink::{MakeFault, Sink};
+use crate::source::{Note, Source, load_upload};
+use fare_texts::write_moment;
+use std::alloc::{AllocError, Global};
+use std::io::Write;
+use tap_views::{Facts, facts_of, good_part};
+use tool_words::Name;
+
+/// Appends a moment, or `-` where there is none.
+pub(crate) fn push_moment(text: &mut String, moment: Option<u64>) -> Result<(), AllocError> {
+    match moment {
+        Some(moment) => write_moment(text, moment),
+        None => text.push_str("-"),
+    }
+}
+
+/// The lines of an upload that has this number.
+pub(crate) fn lines_of(
+    alloc: Global,
+    number: usize,
+    name: Name<'_>,
+    facts: &Facts,
+) -> Result<String, AllocError> {
+    let batches = facts.batches;
+    let taps = facts.taps;
+    let mut text = format!(in alloc; "upload {number} batches {batches} taps {taps} first ")?;
+    push_moment(&mut text, facts.span.map(|span| span.first))?;
+    text.push_str(" last ")?;
+    push_moment(&mut text, facts.span.map(|span| span.last))?;
+    write!(text, " {name}\n")?;
+    if let Some((offset, fault)) = facts.fault {
+        let at_tap = AtTap(fault);
+        let cause = Cause(fault);
+        let remedy = Remedy(fault);
+        write!(
+            text,
+            "fault {number} batch {batches}{at_tap} at {offset} {cause}; {remedy}\n"
+        )?;
+    }
+    Ok(text)
+}
+
+/// Writes what the upload of this name has. Gives the upload.
+fn tell_one<'a, S: Source, W: Write + Drop>(
+    alloc: Global,
+    source: &mut S,
+    number: usize,
+    name: Name<'a>,
+    out: &mut Output<W>,
+) -> Result<(Vec<u8>, bool), Fault<'a>> {
+    let upload = load_upload(alloc, source, name)?;
+    let facts = facts_of(&upload);
+    let text = lines_of(alloc, number, name, &facts)?;
+    out.put(text.as_str())?;
+    Ok((upload, facts.fault.is_none()))
+}
+
+/// The lines of how many tokens each upload has, and how many of these stand in another one, too.
+fn token_lines(alloc: Global, common: &CommonTokens) -> Result<String, AllocError> {
+    let mut text = String::new(alloc);
+    for (number, counts) in common.counts().iter().enumerate() {
+        let all = counts.all;
+        let common = counts.common;
+        write!(text, "tokens {number} all {all} shared {common}\n")?;
+    }
+    Ok(text)
+}
+
+/// Counts no tokens yet, where that is asked for.
+pub(crate) fn no_tokens_yet(alloc: Global, has_tokens: bool) -> Option<CommonTokens> {
+    if has_tokens {
+        Some(CommonTokens::new(alloc))
+    } else {
+        None
+    }
+}
+
+/// Counts the tokens of the next upload, where that is asked for.
+pub(crate) fn add_tokens<'a>(
+    common: &mut Option<CommonTokens>,
+    upload: &[u8],
+) -> Result<(), Fault<'a>> {
+    if let Some(common) = common {
+        common.add(upload)?;
+    }
+    Ok(())
+}
+
+/// Writes how many tokens the uploads have and share, where that is asked for.
+pub(crate) fn tell_tokens<'a, W: Write + Drop>(
+    alloc: Global,
+    common: &Option<CommonTokens>,
+    out: &mut Output<W>,
+) -> Result<(), Fault<'a>> {
+    if let Some(common) = common {
+        let text = token_lines(alloc, common)?;
+        out.put(text.as_str())?;
+    }
+    Ok(())
+}
+
+/// Writes what these uploads have, in their order. Says whether none has a layout fault.
+fn tell_each<'a, S: Source, W: Write + Drop>(
+    alloc: Global,
+    source: &mut S,
+    names: &[Name<'a>],
+    common: &mut Option<CommonTokens>,
+    out: &mut Output<W>,
+) -> Result<bool, Fault<'a>> {
+    let mut is_well = true;
+    for (number, name) in names.iter().enumerate() {
+        source.note(Note::Done {
+            done: number,
+            all: names.len(),
+            things: "uploads",
+        });
+        let (upload, is_whole) = tell_one(alloc, source, number, *name, out)?;
+        is_well &= is_whole;
+        add_tokens(common, &upload)?;
+    }
+    Ok(is_well)
+}
+
+/// Writes what these uploads have, in their order, and then, where that is asked for, how many
+/// tokens they share. Says whether none has a layout fault.
+pub(crate) fn tell<'a, S: Source, W: Write + Drop>(
+    alloc: Global,
+    source: &mut S,
+    names: &[Name<'a>],
+    has_tokens: bool,
+    out: &mut Output<W>,
+) -> Result<bool, Fault<'a>> {
+    source.note(Note::Begun);
+    let mut common = no_tokens_yet(alloc, has_tokens);
+    let told = tell_each(alloc, source, names, &mut common, out);
+    source.note(Note::Over);
+    let is_well = told?;
+    tell_tokens(alloc, &common, out)?;
+    Ok(is_well)
+}
+
+/// Makes a file of these bytes. One that is there already is left as it is. If the bytes cannot be
+/// written, no file is left.
+fn make<'a, K: Sink>(sink: &mut K, name: Name<'a>, bytes: &[u8]) -> Result<(), Fault<'a>> {
+    match sink.create_new(name.0) {
+        Ok(mut file) => match file.write_all(bytes) {
+            Ok(()) => Ok(()),
+            Err(_) => {
+                sink.remove(name.0);
+                Err(Fault::Write)
+            }
+        },
+        Err(MakeFault::Exists) => Err(Fault::Exists(name)),
+        Err(MakeFault::Unmade) => Err(Fault::Unmade(name)),
+    }
+}
+
+/// Writes what the upload has and, where that is asked for, how many tokens; and makes a file of
+/// its batches before its layout fault.
+pub(crate) fn tell_and_keep<'a, S: Source, K: Sink, W: Write + Drop>(
+    alloc: Global,
+    source: &mut S,
+    sink: &mut K,
+    name: Name<'a>,
+    good: Name<'a>,
+    has_tokens: bool,
+    out: &mut Output<W>,
+) -> Result<bool, Fault<'a>> {
+    let mut common = no_tokens_yet(alloc, has_tokens);
+    let (upload, is_whole) = tell_one(alloc, source, 0, name, out)?;
+    add_tokens(&mut common, &upload)?;
+    tell_tokens(alloc, &common, out)?;
+    make(sink, good, good_part(&upload))?;
+    Ok(is_whole)
+}
