@@ -16,13 +16,13 @@ mod progress;
 use files::Host;
 use made_files::Disk;
 use program_manners::{Complaints, ListLine, unread_words, words_of};
-use progress::Watching;
+use progress::{Progress, Watching};
 use std::alloc::Global;
 use std::io;
 use std::io::Write;
 use std::process::ExitCode;
 use tool_program::{Output, main_over};
-use tool_words::{Escaped, list_of};
+use tool_words::{Escaped, list_of, task_of};
 
 /// Says why the names of a list are not had, and gives the status.
 fn tell<E: Write>(alloc: Global, err: &mut Complaints<E>, line: ListLine<'_>) -> u8 {
@@ -53,14 +53,19 @@ fn words_with_list<E: Write>(
 
 /// Does what the words ask for, and gives the status.
 fn run<E: Write>(rt: &HostRuntime, words: &[String], err: &mut Complaints<E>) -> u8 {
-    let Ok(mut out) = Output::new(rt.alloc(), Watching::new(rt, io::writer(rt))) else {
+    let asked = task_of(rt.alloc(), words);
+    let progress = match &asked {
+        Ok(Ok(task)) if task.is_written_on() => Progress::beside_text(rt),
+        _ => Progress::hidden(rt),
+    };
+    let Ok(mut out) = Output::new(rt.alloc(), Watching::new(io::writer(rt), progress)) else {
         err.tell_line("fault: out of memory");
         return 1;
     };
     main_over(
         rt,
         rt.alloc(),
-        words,
+        &asked,
         &mut Host::new(rt),
         &mut Disk::new(rt),
         &mut out,

@@ -6,7 +6,7 @@ use std::fmt::Display;
 use std::io;
 use std::io::{IsTerminal, Read, Write};
 use std::time::Instant;
-use tool_program::{Text, TextWriter};
+use tool_program::Text;
 
 /// A MiB in bytes.
 const MIB: u64 = 1_048_576;
@@ -168,11 +168,9 @@ impl<'r, R: Read + Drop> Text for Watched<'r, R> {
     }
 }
 
-/// A writer that tells how much was written, once that is asked for.
+/// A writer that tells how much was written.
 #[derive(Drop)]
 pub(crate) struct Watching<'r, W: Write + Drop> {
-    /// The runtime, whose clock is asked.
-    rt: &'r HostRuntime,
     /// Where the bytes go.
     to: W,
     /// Where the count is told.
@@ -182,20 +180,13 @@ pub(crate) struct Watching<'r, W: Write + Drop> {
 }
 
 impl<'r, W: Write + Drop> Watching<'r, W> {
-    /// A writer to which nothing was written, and of which nothing is told yet.
-    pub(crate) fn new(rt: &'r HostRuntime, to: W) -> Watching<'r, W> {
+    /// A writer to which nothing was written.
+    pub(crate) fn new(to: W, progress: Progress<'r>) -> Watching<'r, W> {
         Watching {
-            rt,
             to,
-            progress: Progress::hidden(rt),
+            progress,
             done: 0,
         }
-    }
-}
-
-impl<'r, W: Write + Drop> TextWriter for Watching<'r, W> {
-    fn show_written(&mut self) {
-        self.progress = Progress::beside_text(self.rt);
     }
 }
 

@@ -1,1 +1,6 @@
+pub mod Corrections
+pub mod Fault
+pub mod Merge
+pub mod MergeLedgers
 pub mod Source
+pub mod inside

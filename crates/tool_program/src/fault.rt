@@ -1,5 +1,11 @@
 //! Why a task is given up.
 
+ghost use Rattle.std.specs.Prelude.{◌≡◌, ℕ, List, Option, Some};
+ghost use Rattle.program_manners.specs.Refusals.{IsOneOf, Refuses};
+ghost use Rattle.program_manners.specs.declared.loading.LoadFault.{LoadFault as ALoadFault};
+ghost use Rattle.tool_program.specs.Fault.{IsFaultTold, IsRefusal, fault_text, wrong_text};
+ghost use Rattle.tool_words.specs.Names.{file_named};
+
 use crate::agency_rows::{WrongDevices, WrongRows};
 use crate::layout::{Cause, Remedy};
 use fare_table::TableFault;
@@ -62,7 +68,11 @@ pub(crate) enum Fault<'a> {
 
 impl<'a> Fault<'a> {
     /// Why the file of this name was not loaded.
-    pub(crate) fn of_load(name: Name<'a>, fault: LoadFault) -> Fault<'a> {
+    pub(crate) fn of_load(name: Name<'a>, fault: LoadFault) -> Fault<'a>
+        ensures { (refused : Option (Option (List ℕ) × ALoadFault)) (words : List (List ℕ))
+            → IsOneOf name.0.now words → Refuses refused (file_named name.0.now) fault
+            → IsRefusal refused words result }
+    {
         match fault {
             LoadFault::Unread => Fault::Unread(name),
             LoadFault::TooLong => Fault::TooLong(name),
@@ -77,25 +87,40 @@ impl<'a> Fault<'a> {
 }
 
 impl From<AllocError> for Fault<'_> {
+    ghost use Rattle.tool_program.specs.declared.fault.Fault.TheVariants.{NoMemory as ForMemory};
+
+    ghost from_gives = { λ _ fault. fault ≡ ForMemory };
+
     fn from(_refused: AllocError) -> Self {
         Fault::NoMemory
     }
 }
 
 impl<T: Drop> From<AllocFailed<T>> for Fault<'_> {
+    ghost use Rattle.tool_program.specs.declared.fault.Fault.TheVariants.{NoMemory as ForMemory};
+
+    ghost from_gives = { λ _ fault. fault ≡ ForMemory };
+
     fn from(_refused: AllocFailed<T>) -> Self {
         Fault::NoMemory
     }
 }
 
 impl From<NoMemory> for Fault<'_> {
+    ghost use Rattle.tool_program.specs.declared.fault.Fault.TheVariants.{NoMemory as ForMemory};
+
+    ghost from_gives = { λ _ fault. fault ≡ ForMemory };
+
     fn from(_refused: NoMemory) -> Self {
         Fault::NoMemory
     }
 }
 
 /// Writes the line of a fault. Where that fails too, nothing more can be said.
-pub(crate) fn say<E: Write>(err: &mut Complaints<E>, fault: &Fault<'_>) {
+pub(crate) fn say<E: Write>(err: &mut Complaints<E>, fault: &Fault<'_>)
+    ensures { IsFaultTold fault.now (E.contents err.old.writer) (E.contents err.new.writer)
+        err.new.failed }
+{
     if !matches!(fault, Fault::Closed) {
         err.tell_line(*fault);
     }
@@ -121,6 +146,8 @@ impl fmt::Display for WrongRow {
 struct WrongLine(Wrong);
 
 impl fmt::Display for WrongLine {
+    ghost output = { λ line. Some (wrong_text line.0) };
+
     fn fmt<W: fmt::Write>(&self, f: &mut fmt::Formatter<W>) -> fmt::Result {
         f.write_str(match self.0 {
             Wrong::Form => "no such line stands there",
@@ -140,6 +167,8 @@ impl fmt::Display for WrongLine {
 }
 
 impl fmt::Display for Fault<'_> {
+    ghost output = { λ fault. fault_text fault };
+
     fn fmt<W: fmt::Write>(&self, f: &mut fmt::Formatter<W>) -> fmt::Result {
         match self {
             Fault::Unread(name) => write!(f, "fault: cannot read {name}"),

@@ -38,7 +38,7 @@ mod split;
 mod table;
 mod uploads;
 
-pub use output::{Output, TextWriter};
+pub use output::Output;
 pub use program::main_over;
 pub use sink::{MakeFault, Sink};
 pub use source::{Note, PlacedFault, Shown, Source, Text};

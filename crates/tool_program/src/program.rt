@@ -3,14 +3,14 @@
 ghost use Rattle.std.specs.Prelude.{◌≡◌};
 
 use crate::agency_rows::encode_columns;
-use crate::corrections::correct;
+use crate::corrections::corrections_over;
 use crate::decode::decode;
 use crate::encode::encode;
 use crate::fault::{Fault, say};
 use crate::findings::look_at;
-use crate::merge::merge;
+use crate::merge::merge_over;
 use crate::merge_ledgers::merge_ledgers;
-use crate::output::{Output, TextWriter};
+use crate::output::Output;
 use crate::sink::Sink;
 use crate::sort::sort;
 use crate::source::Source;
@@ -26,7 +26,7 @@ use std::marker::Sync;
 use std::random::RandomSource;
 use std::thread::Threads;
 use std::time::Clock;
-use tool_words::{Escaped, Task, task_of};
+use tool_words::{Escaped, Mistake, Task};
 
 /// Says that the command line is wrong, and gives the status.
 fn mistake<E: Write>(err: &mut Complaints<E>, line: &str) -> u8
@@ -82,7 +82,37 @@ fn print<'a, W: Write + Drop>(text: &str, out: &mut Output<W>) -> Result<(), Fau
     out.finish()
 }
 
-/// Does what is asked for, with threads where they help. Says whether all is well.
+/// That all is well, if it is done.
+fn all_well<'a>(done: Result<(), Fault<'a>>) -> Result<bool, Fault<'a>> {
+    match done {
+        Ok(()) => Ok(true),
+        Err(fault) => Err(fault),
+    }
+}
+
+/// Brings what is written through, and says why a task was given up. Gives the status: this one, if
+/// the task is done, and not all is well.
+fn end<'a, W: Write + Drop, E: Write>(
+    done: Result<bool, Fault<'a>>,
+    unwell: u8,
+    out: &mut Output<W>,
+    err: &mut Complaints<E>,
+) -> u8 {
+    let done = match out.finish() {
+        Ok(()) => done,
+        Err(fault) => Err(fault),
+    };
+    match done {
+        Ok(true) => 0,
+        Ok(false) => unwell,
+        Err(fault) => {
+            say(err, &fault);
+            1
+        }
+    }
+}
+
+/// Does the task, with threads where they help, and gives the status.
 fn perform<
     'a,
     R: Threads + RandomSource + Clock + Sync,
@@ -98,16 +128,15 @@ fn perform<
     sink: &mut K,
     out: &mut Output<W>,
     err: &mut Complaints<E>,
-) -> Result<bool, Fault<'a>> {
-    match task {
-        Task::Encode(name) => {
-            encode(alloc, source, *name, out)?;
-            Ok(true)
-        }
-        Task::EncodeRows(name, words) => {
-            encode_columns(rt, alloc, source, sink, *name, words, out, err)?;
-            Ok(true)
-        }
+) -> u8 {
+    let done = match task {
+        Task::Merge(words) => return merge_over(alloc, words, source, out, err),
+        Task::Corrections(words) => return corrections_over(alloc, words, source, out, err),
+        Task::MergeLedgers(words) => all_well(merge_ledgers(alloc, source, words, out)),
+        Task::Encode(name) => all_well(encode(alloc, source, *name, out)),
+        Task::EncodeRows(name, words) => all_well(encode_columns(
+            rt, alloc, source, sink, *name, words, out, err,
+        )),
         Task::Decode(names) => decode(alloc, source, names, out, err),
         Task::Uploads(names, has_tokens) => tell(alloc, source, names, *has_tokens, out),
         Task::GoodPart(name, good, has_tokens) => {
@@ -115,96 +144,38 @@ fn perform<
         }
         Task::Look(words) => look_at(rt, alloc, source, words, out, err),
         Task::Table(question) => tell_table(rt, alloc, source, question, out, err),
-        Task::Sort(words) => sort(rt, alloc, source, sink, words, err),
-        Task::Split(words) => {
-            split(alloc, source, sink, words, out)?;
-            Ok(true)
+        Task::Split(words) => all_well(split(alloc, source, sink, words, out)),
+        Task::Sort(words) => {
+            let done = sort(rt, alloc, source, sink, words, err);
+            return end(done, 3, out, err);
         }
-        Task::Merge(words) => merge(alloc, source, words, out),
-        Task::MergeLedgers(words) => {
-            merge_ledgers(alloc, source, words, out)?;
-            Ok(true)
-        }
-        Task::Corrections(words) => {
-            correct(alloc, source, words, out, err)?;
-            Ok(true)
-        }
-    }
+    };
+    end(done, 1, out, err)
 }
 
-/// Whether the text of the task goes out while it is made.
-fn is_written_on(task: &Task<'_>) -> bool {
-    matches!(
-        task,
-        Task::Merge(_) | Task::MergeLedgers(_) | Task::Corrections(_)
-    )
-}
-
-/// Does what is asked for, and brings what is written through.
-fn finish<
+/// The whole program, of what the words ask for: does it over the source and the sink, and writes
+/// its text to `out`, and mistakes and faults to `err`. Gives the status: 0 where all is well, 1
+/// after a fault, 2 where the words are no command line, and 3 where a file was made or a report
+/// merged, and an upload was refused.
+pub fn main_over<
     'a,
     R: Threads + RandomSource + Clock + Sync,
     S: Source,
     K: Sink,
-    W: TextWriter + Drop,
+    W: Write + Drop,
     E: Write,
 >(
     rt: &R,
     alloc: Global,
-    task: &Task<'a>,
-    source: &mut S,
-    sink: &mut K,
-    out: &mut Output<W>,
-    err: &mut Complaints<E>,
-) -> Result<bool, Fault<'a>> {
-    if is_written_on(task) {
-        out.show_written();
-    }
-    let done = perform(rt, alloc, task, source, sink, out, err);
-    out.finish()?;
-    done
-}
-
-/// The status of a task that was done: whether all is well.
-fn status_of(task: &Task<'_>, is_well: bool) -> u8 {
-    if is_well {
-        return 0;
-    }
-    match task {
-        Task::Merge(_) | Task::Sort(_) => 3,
-        _ => 1,
-    }
-}
-
-/// The whole program: reads the words, of which the first is the program's name, does what they ask
-/// for over the source and the sink, and writes its text to `out`, and mistakes and faults to `err`.
-/// Gives the status: 0 where all is well, 1 after a fault, 2 where the words are no command line,
-/// and 3 where a file was made or a report merged, and an upload was refused.
-pub fn main_over<
-    R: Threads + RandomSource + Clock + Sync,
-    S: Source,
-    K: Sink,
-    W: TextWriter + Drop,
-    E: Write,
->(
-    rt: &R,
-    alloc: Global,
-    words: &[String],
+    asked: &Result<Result<Task<'a>, Mistake>, Error>,
     source: &mut S,
     sink: &mut K,
     out: &mut Output<W>,
     err: &mut Complaints<E>,
 ) -> u8 {
-    let task = match task_of(alloc, words) {
-        Ok(Ok(task)) => task,
-        Ok(Err(wrong)) => return mistake(err, wrong.line()),
-        Err(error) => return show(alloc, &error, out, err),
-    };
-    match finish(rt, alloc, &task, source, sink, out, err) {
-        Ok(is_well) => status_of(&task, is_well),
-        Err(fault) => {
-            say(err, &fault);
-            1
-        }
+    match asked {
+        Ok(Ok(task)) => perform(rt, alloc, task, source, sink, out, err),
+        Ok(Err(wrong)) => mistake(err, wrong.line()),
+        Err(error) => show(alloc, error, out, err),
     }
 }

@@ -1,7 +1,11 @@
 //! Where the program's bytes come from.
-ghost use Rattle.std.specs.Prelude.{◌≡◌, IfErr, IfOk};
+ghost use Rattle.std.specs.Prelude.{◌≡◌, ℕ, List, IfErr, IfOk};
+ghost use Rattle.std.specs.Io.Buffered.{reader_remaining};
 ghost use Rattle.program_manners.specs.Loads.{TellsOne};
-ghost use Rattle.program_manners.specs.Refusals.{Refuses};
+ghost use Rattle.program_manners.specs.Refusals.{IsOneOf};
+ghost use Rattle.tool_program.specs.Fault.{IsRefusal};
+ghost use Rattle.tool_program.specs.Source.{OpensOne};
+ghost use Rattle.tool_words.specs.Names.{file_named};
 
 use crate::fault::Fault;
 use placed_files::Placed;
@@ -120,7 +124,12 @@ pub(crate) fn load_upload<'a, S: Source>(
     alloc: Global,
     source: &mut S,
     name: Name<'a>,
-) -> Result<Vec<u8>, Fault<'a>> {
+) -> Result<Vec<u8>, Fault<'a>>
+    ensures told { IfOk result (λ bytes. TellsOne (S.loaded source.old) (S.loaded source.new)
+        (file_named name.0.now) bytes.items) }
+    ensures refusal { IfErr result (λ fault. (words : List (List ℕ)) → IsOneOf name.0.now words
+        → IsRefusal (S.refused source.new) words fault) }
+{
     match source.load(alloc, name.file()) {
         Ok(bytes) => Ok(bytes),
         Err(fault) => Err(Fault::of_load(name, fault)),
@@ -132,7 +141,12 @@ pub(crate) fn load_any<'a, S: Source>(
     alloc: Global,
     source: &mut S,
     name: Name<'a>,
-) -> Result<Vec<u8>, Fault<'a>> {
+) -> Result<Vec<u8>, Fault<'a>>
+    ensures told { IfOk result (λ bytes. TellsOne (S.loaded source.old) (S.loaded source.new)
+        (file_named name.0.now) bytes.items) }
+    ensures refusal { IfErr result (λ fault. (words : List (List ℕ)) → IsOneOf name.0.now words
+        → IsRefusal (S.refused source.new) words fault) }
+{
     match source.load_any(alloc, name.file()) {
         Ok(bytes) => Ok(bytes),
         Err(fault) => Err(Fault::of_load(name, fault)),
@@ -145,7 +159,12 @@ pub(crate) fn open_text<'a, S: Source>(
     source: &mut S,
     name: Name<'a>,
     shown: Option<Shown>,
-) -> Result<BufReader<S::Text>, Fault<'a>> {
+) -> Result<BufReader<S::Text>, Fault<'a>>
+    ensures told { IfOk result (λ reader. OpensOne (S.loaded source.old) (S.loaded source.new)
+        (file_named name.0.now) (reader_remaining S.Text.remaining reader)) }
+    ensures refusal { IfErr result (λ fault. (words : List (List ℕ)) → IsOneOf name.0.now words
+        → IsRefusal (S.refused source.new) words fault) }
+{
     match source.open(name.file(), shown) {
         Ok(text) => match BufReader::with_capacity(alloc, READ_BYTES, text) {
             Ok(reader) => Ok(reader),

@@ -1,4 +1,8 @@
 //! The names of files.
+ghost use Rattle.std.specs.Prelude.{◌≡◌, ◌<◌, Some, codes, false, option_map};
+ghost use Rattle.std.specs.Fmt.{WritesOnOk, digit_glyph};
+ghost use Rattle.std.specs.Str.{bytes_eq};
+ghost use Rattle.tool_words.specs.Names.{called, escaped, file_named, shown_letter};
 
 use program_manners::STANDARD_INPUT;
 use std::fmt;
@@ -23,12 +27,16 @@ impl<'a> Name<'a> {
     }
 
     /// Whether this is standard input.
-    pub fn is_input(&self) -> bool {
+    pub fn is_input(&self) -> bool
+        ensures { result ≡ bytes_eq self.now.0.now (codes "-") }
+    {
         self.0 == INPUT_WORD
     }
 
     /// The name of the file; none of standard input.
-    pub fn file(&self) -> Option<&'a str> {
+    pub fn file(&self) -> Option<&'a str>
+        ensures { option_map (λ n. n.now) result ≡ file_named self.now.0.now }
+    {
         if self.is_input() {
             None
         } else {
@@ -38,6 +46,8 @@ impl<'a> Name<'a> {
 }
 
 impl fmt::Display for Name<'_> {
+    ghost output = { λ name. Some (called name.0.now) };
+
     fn fmt<W: fmt::Write>(&self, f: &mut fmt::Formatter<W>) -> fmt::Result {
         if self.is_input() {
             return f.write_str(STANDARD_INPUT);
@@ -47,19 +57,57 @@ impl fmt::Display for Name<'_> {
     }
 }
 
+/// The hexadecimal digit of a number.
+fn hex_digit(number: u32) -> char
+    requires { number < 16 }
+    ensures { result ≡ digit_glyph false number }
+{
+    let digit = if number < 10 {
+        b'0' + number as u8
+    } else {
+        b'a' + (number as u8 - 10)
+    };
+    digit as char
+}
+
+/// A letter; a control character as `\xHH`.
+#[derive(Clone, Copy)]
+struct Shown(char);
+
+impl fmt::Display for Shown {
+    ghost output = { λ letter. Some (shown_letter letter.0) };
+
+    fn fmt<W: fmt::Write>(&self, f: &mut fmt::Formatter<W>) -> fmt::Result {
+        let letter = self.0;
+        if letter.is_control() {
+            let code = letter as u32;
+            let (first, second) = (hex_digit(code / 16), hex_digit(code % 16));
+            write!(f, "\\x{first}{second}")
+        } else {
+            f.write_char(letter)
+        }
+    }
+}
+
 /// A text with its control characters escaped, so that it stays within its line.
 #[derive(Clone, Copy, Debug)]
 pub struct Escaped<'a>(pub &'a str);
 
 impl fmt::Display for Escaped<'_> {
+    ghost output = { λ text. Some (escaped text.0.now) };
+
     fn fmt<W: fmt::Write>(&self, f: &mut fmt::Formatter<W>) -> fmt::Result {
-        for letter in self.0.chars() {
-            if letter.is_control() {
-                write!(f, "\\x{:02x}", letter as u32)?;
-            } else {
-                f.write_char(letter)?;
-            }
-        }
-        Ok(())
+        write_escaped(self.0, f)
     }
+}
+
+/// Writes the text with its control characters escaped.
+fn write_escaped<W: fmt::Write>(text: &str, f: &mut fmt::Formatter<W>) -> fmt::Result
+    ensures { WritesOnOk W.write_str_gives f.old result (escaped text.now) f.new }
+{
+    for letter in text.chars() {
+        let shown = Shown(letter);
+        write!(f, "{shown}")?;
+    }
+    Ok(())
 }

@@ -53,6 +53,16 @@ pub enum Task<'a> {
     Corrections(CorrectionsWords<'a>),
 }
 
+impl Task<'_> {
+    /// Whether its text goes out while it is made.
+    pub fn is_written_on(&self) -> bool {
+        matches!(
+            self,
+            Task::Merge(_) | Task::MergeLedgers(_) | Task::Corrections(_)
+        )
+    }
+}
+
 /// What is wrong with words that clap takes.
 #[derive(Clone, Copy, Debug)]
 pub enum Mistake {
