@@ -7,11 +7,13 @@
 //! | `files` | the files and the standard input of the system as a source |
 //! | `made_files` | files that are made |
 //! | `progress` | how far a long run is, on a terminal |
+//! | `table` | `table` |
 #![tactic(auto)]
 
 mod files;
 mod made_files;
 mod progress;
+mod table;
 
 use files::Host;
 use made_files::Disk;
@@ -21,6 +23,7 @@ use std::alloc::Global;
 use std::io;
 use std::io::Write;
 use std::process::ExitCode;
+use table::Tables;
 use tool_program::{Output, main_over};
 use tool_words::{Escaped, list_of, task_of};
 
@@ -65,6 +68,7 @@ fn run<E: Write>(rt: &HostRuntime, words: &[String], err: &mut Complaints<E>) ->
     main_over(
         rt,
         rt.alloc(),
+        &Tables::new(rt),
         &asked,
         &mut Host::new(rt),
         &mut Disk::new(rt),

@@ -1,1 +1,4 @@
+pub mod Corrected
+pub mod Faults
 pub mod Loads
+pub mod Places

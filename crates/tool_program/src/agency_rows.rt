@@ -20,7 +20,7 @@ use tool_words::{Escaped, Name, RowsWords};
 
 /// What is wrong with an agency's CSV.
 #[derive(Clone, Copy, Debug)]
-pub(crate) enum WrongRows<'a> {
+pub enum WrongRows<'a> {
     /// The head has not one column of this name.
     Column(&'a str),
     /// The row of this number is no tap, for this reason.
@@ -56,7 +56,7 @@ fn why(reason: Reason) -> &'static str {
 
 /// What is wrong with a device table.
 #[derive(Clone, Copy, Debug)]
-pub(crate) enum WrongDevices {
+pub enum WrongDevices {
     /// Its head.
     Head,
     /// The row of this number.

@@ -21,7 +21,7 @@ use tool_words::Name;
 
 /// Why a task is given up. Its `Display` is the line on the standard error without its line feed.
 #[derive(Clone, Copy, Debug)]
-pub(crate) enum Fault<'a> {
+pub enum Fault<'a> {
     /// The file could not be read.
     Unread(Name<'a>),
     /// The file is longer than an upload may be.
@@ -117,7 +117,7 @@ impl From<NoMemory> for Fault<'_> {
 }
 
 /// Writes the line of a fault. Where that fails too, nothing more can be said.
-pub(crate) fn say<E: Write>(err: &mut Complaints<E>, fault: &Fault<'_>)
+pub fn say<E: Write>(err: &mut Complaints<E>, fault: &Fault<'_>)
     ensures { IsFaultTold fault.now (E.contents err.old.writer) (E.contents err.new.writer)
         err.new.failed }
 {

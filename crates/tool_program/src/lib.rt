@@ -10,7 +10,7 @@
 //! | `encode`, `agency_rows` | `encode`, and `encode` of an agency's own CSV |
 //! | `decode` | `decode` |
 //! | `uploads`, `common_tokens`, `findings` | `uploads`, its tokens, and what it looks for |
-//! | `table` | `table` |
+//! | `tables` | what tells of fare tables |
 //! | `sort`, `new_file` | `sort`, and files that are made whole |
 //! | `split` | `split` |
 //! | `merge`, `merge_ledgers` | `merge` and `merge-ledgers` |
@@ -35,10 +35,15 @@ mod sink;
 mod sort;
 mod source;
 mod split;
-mod table;
+mod tables;
 mod uploads;
 
+pub use agency_rows::{WrongDevices, WrongRows};
+pub use corrections::corrections_over;
+pub use fault::{Fault, say};
+pub use merge::merge_over;
 pub use output::Output;
 pub use program::main_over;
 pub use sink::{MakeFault, Sink};
-pub use source::{Note, PlacedFault, Shown, Source, Text};
+pub use source::{Note, PlacedFault, Shown, Source, Text, load_upload};
+pub use tables::TellTables;

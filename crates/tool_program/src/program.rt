@@ -15,7 +15,7 @@ use crate::sink::Sink;
 use crate::sort::sort;
 use crate::source::Source;
 use crate::split::split;
-use crate::table::tell_table;
+use crate::tables::TellTables;
 use crate::uploads::{tell, tell_and_keep};
 use clap::Error;
 use clap::error::ErrorKind;
@@ -25,7 +25,6 @@ use std::io::Write;
 use std::marker::Sync;
 use std::random::RandomSource;
 use std::thread::Threads;
-use std::time::Clock;
 use tool_words::{Escaped, Mistake, Task};
 
 /// Says that the command line is wrong, and gives the status.
@@ -115,7 +114,8 @@ fn end<'a, W: Write + Drop, E: Write>(
 /// Does the task, with threads where they help, and gives the status.
 fn perform<
     'a,
-    R: Threads + RandomSource + Clock + Sync,
+    R: Threads + RandomSource + Sync,
+    T: TellTables,
     S: Source,
     K: Sink,
     W: Write + Drop,
@@ -123,6 +123,7 @@ fn perform<
 >(
     rt: &R,
     alloc: Global,
+    tables: &T,
     task: &Task<'a>,
     source: &mut S,
     sink: &mut K,
@@ -143,7 +144,7 @@ fn perform<
             tell_and_keep(alloc, source, sink, *name, *good, *has_tokens, out)
         }
         Task::Look(words) => look_at(rt, alloc, source, words, out, err),
-        Task::Table(question) => tell_table(rt, alloc, source, question, out, err),
+        Task::Table(question) => tables.tell_table(alloc, source, question, out, err),
         Task::Split(words) => all_well(split(alloc, source, sink, words, out)),
         Task::Sort(words) => {
             let done = sort(rt, alloc, source, sink, words, err);
@@ -159,7 +160,8 @@ fn perform<
 /// merged, and an upload was refused.
 pub fn main_over<
     'a,
-    R: Threads + RandomSource + Clock + Sync,
+    R: Threads + RandomSource + Sync,
+    T: TellTables,
     S: Source,
     K: Sink,
     W: Write + Drop,
@@ -167,6 +169,7 @@ pub fn main_over<
 >(
     rt: &R,
     alloc: Global,
+    tables: &T,
     asked: &Result<Result<Task<'a>, Mistake>, Error>,
     source: &mut S,
     sink: &mut K,
@@ -174,7 +177,7 @@ pub fn main_over<
     err: &mut Complaints<E>,
 ) -> u8 {
     match asked {
-        Ok(Ok(task)) => perform(rt, alloc, task, source, sink, out, err),
+        Ok(Ok(task)) => perform(rt, alloc, tables, task, source, sink, out, err),
         Ok(Err(wrong)) => mistake(err, wrong.line()),
         Err(error) => show(alloc, error, out, err),
     }

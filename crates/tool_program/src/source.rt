@@ -120,7 +120,7 @@ pub enum PlacedFault {
 
 /// All bytes of an upload, from a file or from standard input. One that is longer than an upload
 /// may be is not read to its end.
-pub(crate) fn load_upload<'a, S: Source>(
+pub fn load_upload<'a, S: Source>(
     alloc: Global,
     source: &mut S,
     name: Name<'a>,

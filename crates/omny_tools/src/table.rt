@@ -24,9 +24,6 @@ mod ranges;
 mod warnings;
 mod wrong;
 
-use crate::fault::{Fault, say};
-use crate::output::Output;
-use crate::source::{Note, Source, load_upload};
 use checks::wrongs_of;
 use fare_table::{FareTable, TableFault};
 use jiff::Timestamp;
@@ -39,6 +36,7 @@ use std::time::Clock;
 use table_facts::SeenValidators;
 use tap_views::facts_of;
 use toml::Table;
+use tool_program::{Fault, Note, Output, Source, TellTables, load_upload, say};
 use tool_words::{Name, Question};
 use warnings::{Told, warnings_of};
 use wrong::Wrong;
@@ -157,8 +155,35 @@ fn understood<'a, R: Clock, S: Source, W: Write + Drop, E: Write>(
     Ok(is_well && (count == 0 || !question.is_strict))
 }
 
+/// What the clock says of tables, if no moment is given.
+#[derive(Drop)]
+pub(crate) struct Tables<'r> {
+    /// The runtime, whose clock is asked.
+    rt: &'r HostRuntime,
+}
+
+impl<'r> Tables<'r> {
+    /// Told by this runtime's clock.
+    pub(crate) fn new(rt: &'r HostRuntime) -> Tables<'r> {
+        Tables { rt }
+    }
+}
+
+impl TellTables for Tables<'_> {
+    fn tell_table<'a, S: Source, W: Write + Drop, E: Write>(
+        &self,
+        alloc: Global,
+        source: &mut S,
+        question: &Question<'a>,
+        out: &mut Output<W>,
+        err: &mut Complaints<E>,
+    ) -> Result<bool, Fault<'a>> {
+        tell_table(self.rt, alloc, source, question, out, err)
+    }
+}
+
 /// Writes what a table is understood as, or why it is none. Says whether all is well.
-pub(crate) fn tell_table<'a, R: Clock, S: Source, W: Write + Drop, E: Write>(
+fn tell_table<'a, R: Clock, S: Source, W: Write + Drop, E: Write>(
     rt: &R,
     alloc: Global,
     source: &mut S,
