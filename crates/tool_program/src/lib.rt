@@ -42,6 +42,7 @@ pub use agency_rows::{WrongDevices, WrongRows};
 pub use corrections::corrections_over;
 pub use fault::{Fault, say};
 pub use merge::merge_over;
+pub use merge_ledgers::merge_ledgers_over;
 pub use output::Output;
 pub use program::main_over;
 pub use sink::{MakeFault, Sink};

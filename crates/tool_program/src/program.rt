@@ -9,7 +9,7 @@ use crate::encode::encode;
 use crate::fault::{Fault, say};
 use crate::findings::look_at;
 use crate::merge::merge_over;
-use crate::merge_ledgers::merge_ledgers;
+use crate::merge_ledgers::merge_ledgers_over;
 use crate::output::Output;
 use crate::sink::Sink;
 use crate::sort::sort;
@@ -133,7 +133,7 @@ fn perform<
     let done = match task {
         Task::Merge(words) => return merge_over(alloc, words, source, out, err),
         Task::Corrections(words) => return corrections_over(alloc, words, source, out, err),
-        Task::MergeLedgers(words) => all_well(merge_ledgers(alloc, source, words, out)),
+        Task::MergeLedgers(words) => return merge_ledgers_over(alloc, words, source, out, err),
         Task::Encode(name) => all_well(encode(alloc, source, *name, out)),
         Task::EncodeRows(name, words) => all_well(encode_columns(
             rt, alloc, source, sink, *name, words, out, err,
