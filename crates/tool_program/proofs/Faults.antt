@@ -1,5 +1,5 @@
 -- Faults of writes, and of texts that were opened.
-use Rattle.std.proofs.Common.{◌≡◌, ◌∙◌, ◌<◌, ◌≤◌, ◌+◌, ◌-◌, ◌^◌, ℕ, List, [], ◌∷◌, ◌++◌, Bool, true, false, length, refl, sym, ap, subst, append-nil, arith, Option, Some, None, min, inl, inr}
+use Rattle.std.proofs.Common.{◌≡◌, ◌∙◌, ◌<◌, ◌≤◌, ◌+◌, ◌-◌, ◌^◌, ℕ, List, [], ◌∷◌, ◌++◌, Bool, true, false, length, refl, sym, ap, subst, append-nil, arith, Option, Some, None, min, ◌⊎◌, inl, inr}
 use Rattle.std.proofs.KnownBytes.{Appends-kept, Appends-nil, Keeps-trans}
 use Rattle.std.proofs.lemmas.Option.{slice_get_within}
 use Rattle.std.specs.Prelude.{IsTrue, slice_get}
@@ -14,7 +14,8 @@ use Rattle.program_manners.specs.declared.loading.LoadFault.{LoadFault}
 use Rattle.tool_program.specs.Fault.{IsRefusal, is_unwritten}
 use Rattle.tool_program.specs.Merge.{BreaksOffMerge, GivesUpMerge, IsRightMergeFault, MergesReports}
 use Rattle.tool_program.specs.declared.fault.Fault.{Fault}
-use Rattle.tool_program.specs.declared.fault.Fault.TheVariants.{Closed, Line, NoMemory, Taps, Unread, Write}
+use Rattle.program_manners.specs.Refusals.{IsOneOf}
+use Rattle.tool_program.specs.declared.fault.Fault.TheVariants.{Closed, Line, NoMemory, Taps, TooLong, Unread, Write}
 use Rattle.tool_program.specs.inside.Fault.{IsNamedAs}
 
 -- a write may fail at any time
@@ -27,6 +28,25 @@ pub right_write : (words end_texts report_texts : List (List ℕ)) (fault : Faul
 right_write words end_texts report_texts Write un = tt
 right_write words end_texts report_texts Closed un = tt
 right_write words end_texts report_texts fault un = absurd un
+
+-- a name of one of two lists
+one_among : (name : List ℕ) (xs ys : List (List ℕ)) → IsOneOf name xs ⊎ IsOneOf name ys → IsOneOf name (xs ++ ys)
+one_among name [] ys one = elim one [ inl is ↦ absurd is | inr is ↦ is ]
+one_among name (x ∷ xs) ys (inl (inl is)) = inl is
+one_among name (x ∷ xs) ys (inl (inr is)) = inr (one_among name xs ys (inl is))
+one_among name (x ∷ xs) ys (inr is) = inr (one_among name xs ys (inr is))
+
+-- a refusal of a file of one of two lists
+pub refusal_among : (refused : Option (Option (List ℕ) × LoadFault)) (xs ys : List (List ℕ)) (fault : Fault)
+    → IsRefusal refused xs fault ⊎ IsRefusal refused ys fault → IsRefusal refused (xs ++ ys) fault
+refusal_among refused xs ys (Unread name) (inl is) = (one_among name.0.now xs ys (inl is.0), is.1)
+refusal_among refused xs ys (Unread name) (inr is) = (one_among name.0.now xs ys (inr is.0), is.1)
+refusal_among refused xs ys (TooLong name) (inl is) = (one_among name.0.now xs ys (inl is.0), is.1)
+refusal_among refused xs ys (TooLong name) (inr is) = (one_among name.0.now xs ys (inr is.0), is.1)
+refusal_among refused xs ys Write is = tt
+refusal_among refused xs ys Closed is = tt
+refusal_among refused xs ys NoMemory is = tt
+refusal_among refused xs ys fault is = elim is [ inl first ↦ absurd first | inr second ↦ absurd second ]
 
 -- what was written stays a beginning
 pub begins_kept : (a b c : Option (List ℕ)) (text : List ℕ) → Begins a b text → Keeps b c → Begins a c text

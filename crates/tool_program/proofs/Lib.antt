@@ -1,4 +1,5 @@
 pub mod Corrected
 pub mod Faults
 pub mod Loads
+pub mod MergedLedgers
 pub mod Places

@@ -1,6 +1,6 @@
 -- Why a task is given up, and the line that says so, without its line feed.
 use Rattle.std.specs.Prelude.{◌≡◌, ⊤, ℕ, Bool, true, false, List, [], ◌++◌, Option, Some, None, codes}
-use Rattle.std.specs.Prelude.{MatchBool, decimal}
+use Rattle.std.specs.Prelude.{IfSome, MatchBool, decimal}
 use Rattle.part_reports.specs.declared.fault.Wrong.{Wrong}
 use Rattle.part_reports.specs.declared.fault.Wrong.TheVariants as wrong
 use Rattle.program_manners.specs.LineWritten.{LineWritten}
@@ -53,16 +53,12 @@ is_unwritten Write = true
 is_unwritten Closed = true
 is_unwritten _ = false
 
--- the line was told, if it is known, unless a write of it failed
-abbrev pub IsToldLine : Option (List ℕ) → Option (List ℕ) → Option (List ℕ) → Bool → Type 0
-IsToldLine None said said' failed = ⊤
-IsToldLine (Some line) said said' failed = LineWritten said said' failed line
-
 -- The line of the fault was told, unless a write of it failed. Where who reads the text has closed it,
 -- nothing is told.
 abbrev pub IsFaultTold : Fault → Option (List ℕ) → Option (List ℕ) → Bool → Type 0
 IsFaultTold fault said said' failed =
-    MatchBool (is_quiet fault) (said' ≡ said) (IsToldLine (fault_text fault) said said' failed)
+    MatchBool (is_quiet fault) (said' ≡ said)
+    (IfSome (fault_text fault) (λ line. LineWritten said said' failed line))
 
 -- The source refused a file of one of these words, which the fault names; or memory was refused, or a
 -- write failed.

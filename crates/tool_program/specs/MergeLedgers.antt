@@ -59,7 +59,8 @@ pub record BreaksOffLedgers (ledgers reports : List (List ℕ)) (told told' : Op
   pub right : IsRightLedgersFault ledger_texts report_texts fault
   pub named : NamesLedger (nat_eq (length reports) (length ledgers)) (ledgers ++ reports)
       ledger_texts fault
-  pub begun : (text : List ℕ) → IsWholeLedger ledger_texts report_texts text → Begins out out' text
+  pub begun : (some : List ℕ) → IsWholeLedger ledger_texts report_texts some
+      → (text : List ℕ) × IsWholeLedger ledger_texts report_texts text × Begins out out' text
 
 -- The merge was given up: a file was not opened, or memory or a write failed before, and nothing was
 -- written; or all were opened, and the merge was broken off.

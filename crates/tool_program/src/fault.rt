@@ -3,7 +3,8 @@
 ghost use Rattle.std.specs.Prelude.{◌≡◌, ℕ, List, Option, Some};
 ghost use Rattle.program_manners.specs.Refusals.{IsOneOf, Refuses};
 ghost use Rattle.program_manners.specs.declared.loading.LoadFault.{LoadFault as ALoadFault};
-ghost use Rattle.tool_program.specs.Fault.{IsFaultTold, IsRefusal, fault_text, wrong_text};
+ghost use Rattle.tool_program.specs.Fault.{IsFaultTold, IsRefusal, fault_text, is_quiet};
+ghost use Rattle.tool_program.specs.Fault.{wrong_text};
 ghost use Rattle.tool_words.specs.Names.{file_named};
 
 use crate::agency_rows::{WrongDevices, WrongRows};
@@ -80,6 +81,22 @@ impl<'a> Fault<'a> {
         }
     }
 
+    /// Whether who reads the text has closed it, so that nothing is told.
+    fn is_quiet(&self) -> bool
+        ensures { result ≡ is_quiet self.now }
+    {
+        match self {
+            Fault::Closed => true,
+            Fault::Unread(_) | Fault::TooLong(_) | Fault::TapTable(_, _) => false,
+            Fault::Rows(_, _) | Fault::Devices(_, _) | Fault::Layout(_, _, _) => false,
+            Fault::NotUtf8(_) | Fault::NotToml(_, _, _, _) | Fault::Table(_, _) => false,
+            Fault::OutOfOrder(_, _) | Fault::Changed | Fault::TooManyOpen(_) => false,
+            Fault::Exists(_) | Fault::Unmade(_) | Fault::Line(_, _, _) => false,
+            Fault::Unsettled(_, _) | Fault::Taps(_, _) | Fault::UnmadePart(_, _) => false,
+            Fault::Write | Fault::NoMemory => false,
+        }
+    }
+
     /// Whether it is a layout fault of an upload: the next upload can follow.
     pub(crate) fn is_of_layout(&self) -> bool {
         matches!(self, Fault::Layout(..))
@@ -121,7 +138,7 @@ pub fn say<E: Write>(err: &mut Complaints<E>, fault: &Fault<'_>)
     ensures { IsFaultTold fault.now (E.contents err.old.writer) (E.contents err.new.writer)
         err.new.failed }
 {
-    if !matches!(fault, Fault::Closed) {
+    if !fault.is_quiet() {
         err.tell_line(*fault);
     }
 }

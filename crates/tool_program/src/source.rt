@@ -63,7 +63,7 @@ pub trait Source {
     ghost use Rattle.tool_program.specs.Source.{OpensOne};
 
     /// A file or standard input that was opened, to be read in pieces.
-    type Text: Text + Drop;
+    type Text: Read + Text + Drop;
 
     /// A file that was opened to be read at any offset.
     type Placed: Placed + Sync + Drop;
