@@ -71,7 +71,7 @@ impl<'a> Fault<'a> {
     /// Why the file of this name was not loaded.
     pub(crate) fn of_load(name: Name<'a>, fault: LoadFault) -> Fault<'a>
         ensures { (refused : Option (Option (List ℕ) × ALoadFault)) (words : List (List ℕ))
-            → IsOneOf name.0.now words → Refuses refused (file_named name.0.now) fault
+            → IsOneOf name.entry.0.now words → Refuses refused (file_named name.entry.0.now) fault
             → IsRefusal refused words result }
     {
         match fault {

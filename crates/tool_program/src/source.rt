@@ -126,8 +126,8 @@ pub fn load_upload<'a, S: Source>(
     name: Name<'a>,
 ) -> Result<Vec<u8>, Fault<'a>>
     ensures told { IfOk result (λ bytes. TellsOne (S.loaded source.old) (S.loaded source.new)
-        (file_named name.0.now) bytes.items) }
-    ensures refusal { IfErr result (λ fault. (words : List (List ℕ)) → IsOneOf name.0.now words
+        (file_named name.entry.0.now) bytes.items) }
+    ensures refusal { IfErr result (λ fault. (words : List (List ℕ)) → IsOneOf name.entry.0.now words
         → IsRefusal (S.refused source.new) words fault) }
 {
     match source.load(alloc, name.file()) {
@@ -143,8 +143,8 @@ pub(crate) fn load_any<'a, S: Source>(
     name: Name<'a>,
 ) -> Result<Vec<u8>, Fault<'a>>
     ensures told { IfOk result (λ bytes. TellsOne (S.loaded source.old) (S.loaded source.new)
-        (file_named name.0.now) bytes.items) }
-    ensures refusal { IfErr result (λ fault. (words : List (List ℕ)) → IsOneOf name.0.now words
+        (file_named name.entry.0.now) bytes.items) }
+    ensures refusal { IfErr result (λ fault. (words : List (List ℕ)) → IsOneOf name.entry.0.now words
         → IsRefusal (S.refused source.new) words fault) }
 {
     match source.load_any(alloc, name.file()) {
@@ -161,8 +161,8 @@ pub(crate) fn open_text<'a, S: Source>(
     shown: Option<Shown>,
 ) -> Result<BufReader<S::Text>, Fault<'a>>
     ensures told { IfOk result (λ reader. OpensOne (S.loaded source.old) (S.loaded source.new)
-        (file_named name.0.now) (reader_remaining S.Text.remaining reader)) }
-    ensures refusal { IfErr result (λ fault. (words : List (List ℕ)) → IsOneOf name.0.now words
+        (file_named name.entry.0.now) (reader_remaining S.Text.remaining reader)) }
+    ensures refusal { IfErr result (λ fault. (words : List (List ℕ)) → IsOneOf name.entry.0.now words
         → IsRefusal (S.refused source.new) words fault) }
 {
     match source.open(name.file(), shown) {
