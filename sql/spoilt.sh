@@ -83,7 +83,7 @@ declare -A PLANTED_KEYED=(
     ["a transfer of a class that has none"]='more transfers
         |12s/,paid,150,.*$/,transfer,0,,,,transfer,2024-03-08T08:00:00.000Z/'
     ["a transfer a millisecond after its minutes"]='later after
-        |4s/T08:45:00.000Z/T08:45:00.001Z/'
+        |4s/:45:00.000Z/:45:00.001Z/'
     ["a ride within the minutes of the one before it"]='should be
         |17s/,transfer,0,.*$/,paid,200,2024-03-08T10:00:00.000Z,2024-03-15T10:00:00.000Z,3,full,/'
     ["a rider with another class's fare"]='cents|11s/,150,/,300,/'
@@ -93,7 +93,7 @@ declare -A PLANTED_KEYED=(
 # the same of a made week under a zone
 declare -A PLANTED_ZONED=(
     ["a window that ends an hour early"]='one midnight
-        |0,/,1,full,$/s/T05:00:00.000Z,1,full,$/T04:00:00.000Z,1,full,/'
+        |0,/,1,full,$/s/05:00:00.000Z,1,full,$/04:00:00.000Z,1,full,/'
     ["a stale tap that is not stale"]='later than what
         |0,/,stale,0,/s/(,stale,0,,,,stale,).*$/\12025-01-01T00:00:00.000Z/'
 )
