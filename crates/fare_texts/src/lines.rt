@@ -55,9 +55,9 @@ pub fn pass_piece<W: Write>(text: &mut String, out: &mut W) -> Result<(), PrintF
     pass_on(text, out)
 }
 
+#[inline]
 /// Goes on with the token of the next entry, which is not below the teller's own: another token
 /// begins afresh.
-#[inline]
 pub fn go_on_to(teller: &mut Teller, token: Token)
     ensures come { (fares : Fares) (earlier : List Entry) → HasCome fares teller.old earlier
         → IsUpTo teller.old.token token → HasCome fares teller.new earlier }
