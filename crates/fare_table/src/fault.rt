@@ -1,5 +1,6 @@
 //! Why a text is no fare table.
 ghost use Rattle.std.specs.Prelude.{◌≡◌, Some};
+ghost use Rattle.fare_table.specs.Faults.{key_word};
 ghost use Rattle.fare_table.specs.Key.{key_name};
 
 use std::alloc::{AllocError, AllocFailed};
@@ -69,6 +70,30 @@ impl Key {
             Key::Riders => "Riders",
             Key::Zone => "Zone",
             Key::Window => "Window",
+        }
+    }
+
+    /// The key as the text has it.
+    pub fn word(self) -> &'static str
+        ensures { result.now ≡ key_word self }
+    {
+        match self {
+            Key::Modes => "modes",
+            Key::Transfers | Key::RideTransfers => "transfers",
+            Key::Classes => "classes",
+            Key::Fare => "fare",
+            Key::Rides => "rides",
+            Key::Ceiling => "ceiling",
+            Key::Fares => "fares",
+            Key::TransferMinutes => "transfer_minutes",
+            Key::DefaultClass => "default_class",
+            Key::Validators => "validators",
+            Key::First => "first",
+            Key::Last => "last",
+            Key::ModeName => "mode",
+            Key::Riders => "riders",
+            Key::Zone => "zone",
+            Key::Window => "window",
         }
     }
 }

@@ -6,6 +6,7 @@
 //! project's.
 #![tactic(auto)]
 
+mod bounds;
 mod class;
 mod clock;
 mod fault;
@@ -21,6 +22,10 @@ mod validators;
 mod window_span;
 mod zone;
 
+pub use bounds::{
+    MAX_CEILING_CENTS, MAX_FARE_CENTS, MAX_MODE_NAME_BYTES, MAX_RIDE_TRANSFERS, MAX_RIDES,
+    MAX_TRANSFER_MINUTES,
+};
 pub use class::Class;
 pub use clock::Clock;
 pub use fault::{Key, TableFault};

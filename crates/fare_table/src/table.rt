@@ -119,6 +119,17 @@ impl FareTable {
         }
     }
 
+    /// Reads a table from the TOML tree of its text, so that a caller that has the tree need not
+    /// parse the text again. The first fault is answered, in the order of `read`.
+    pub fn of_tree(alloc: Global, tree: &Table) -> Result<FareTable, TableFault>
+        ensures ok { IfOk result (λ t. meaning_of_tree (table_view tree.now) ≡ Ok t.meaning) }
+        ensures zone { IfOk result (λ t. IsClockOf t.meaning t.zone) }
+        ensures fault { IfErr result (λ e. e ≢ TableFault.NoMemory
+            → meaning_of_tree (table_view tree.now) ≡ Err e) }
+    {
+        table_of(alloc, tree)
+    }
+
     /// A clock that tells where this table's windows end. It always answers, since a rule of a zone
     /// takes no memory.
     pub fn clock(&self, _alloc: Global) -> Result<Clock, NoMemory>

@@ -13,6 +13,9 @@ use super::members::{
     text_at,
 };
 use super::modes::mode_named;
+use crate::bounds::{
+    MAX_CEILING_CENTS, MAX_FARE_CENTS, MAX_RIDE_TRANSFERS, MAX_RIDES, MAX_TRANSFER_MINUTES,
+};
 use crate::class::Class;
 use crate::fault::{Key, TableFault};
 use crate::mode::MAX_MODES;
@@ -98,8 +101,8 @@ fn terms_of(element: &Table) -> Result<Terms, TableFault>
     ensures terms { result ≡ spec.terms_of (table_view element.now) }
     ensures bounds { IfOk result AreBoundedTerms }
 {
-    let fare = number_at(element, "fare", Key::Fare, 1, 100_000)?;
-    let rides = number_at(element, "rides", Key::Rides, 1, 1_000)?;
+    let fare = number_at(element, "fare", Key::Fare, 1, MAX_FARE_CENTS)?;
+    let rides = number_at(element, "rides", Key::Rides, 1, MAX_RIDES)?;
     let ceiling = ceiling_of(rides * fare, optional(element, "ceiling"))?;
     Ok(Terms {
         fare,
@@ -153,7 +156,7 @@ fn fares_from(modes: &[String], fare: u32, members: &Table) -> Result<[u32; MAX_
     let mut fares = equal_fares(fare);
     for (name, value) in members {
         let place = mode_named(modes, name.as_str())?;
-        let cents = number_in(value, Key::Fares, 0, 100_000)?;
+        let cents = number_in(value, Key::Fares, 0, MAX_FARE_CENTS)?;
         fares[place as usize] = cents;
     }
     Ok(fares)
@@ -166,9 +169,10 @@ fn ride_transfers_of(element: &Table) -> Result<TransferTerms, TableFault>
     ensures taps { IfOk result (λ terms. terms.taps ≤ 9) }
     ensures time { IfOk result (λ terms. terms.time ≤ 86_400_000) }
 {
-    let taps = number_or(1, optional(element, "transfers"), Key::RideTransfers, 0, 9)?;
+    let taps = optional(element, "transfers");
+    let taps = number_or(1, taps, Key::RideTransfers, 0, MAX_RIDE_TRANSFERS)?;
     let minutes = optional(element, "transfer_minutes");
-    let minutes = number_or(120, minutes, Key::TransferMinutes, 1, 1_440)?;
+    let minutes = number_or(120, minutes, Key::TransferMinutes, 1, MAX_TRANSFER_MINUTES)?;
     Ok(TransferTerms {
         taps,
         time: minutes * MINUTE_MS,
@@ -184,7 +188,7 @@ fn ceiling_of(price: u32, value: Option<&Value>) -> Result<u32, TableFault>
     ensures high { IfOk result (λ n. n ≤ 100_000_000) }
 {
     match value {
-        Some(value) => number_in(value, Key::Ceiling, 1, 100_000_000),
+        Some(value) => number_in(value, Key::Ceiling, 1, MAX_CEILING_CENTS),
         None => Ok(price),
     }
 }

@@ -8,6 +8,7 @@ ghost use Rattle.fare_table.specs.Modes as spec;
 ghost use Rattle.fare_table.specs.inside.OrFault.{Answers};
 
 use super::members::{array_at, of_kind};
+use crate::bounds::MAX_MODE_NAME_BYTES;
 use crate::fault::{Key, TableFault};
 use crate::mode::MAX_MODES;
 use std::alloc::Global;
@@ -73,7 +74,7 @@ fn are_short_words(names: &[String]) -> bool
 fn is_mode_name(name: &str) -> bool
     ensures { result ≡ spec.is_mode_name name.now }
 {
-    1 <= name.len() && name.len() <= 16 && are_letters(name.as_bytes())
+    1 <= name.len() && name.len() <= MAX_MODE_NAME_BYTES && are_letters(name.as_bytes())
 }
 
 /// Whether each byte is a letter `a` to `z`.

@@ -1,0 +1,53 @@
+//! The bounds of the numbers of a table's text, for its readers and for reports of what is wrong.
+ghost use Rattle.std.specs.Prelude.{◌≡◌, ◌≢◌, ℤ, false, IfSome, None, Some};
+ghost use Rattle.toml.specs.Data.{Data, Members, integer};
+ghost use Rattle.fare_table.specs.Faults.{is_from, is_in_bounds, is_kind};
+ghost use Rattle.fare_table.specs.declared.fault.Key.{Key};
+
+use crate::fault::Key;
+
+/// The highest fare of a class, in cents, also on one mode.
+pub const MAX_FARE_CENTS: u32 = 100_000;
+
+/// The most rides that are paid for in a window.
+pub const MAX_RIDES: u32 = 1_000;
+
+/// The highest ceiling of a window, in cents.
+pub const MAX_CEILING_CENTS: u32 = 100_000_000;
+
+/// The most transfers that a ride gives.
+pub const MAX_RIDE_TRANSFERS: u32 = 9;
+
+/// The longest time for which a ride gives transfers, in minutes.
+pub const MAX_TRANSFER_MINUTES: u32 = 1_440;
+
+/// The longest name of a mode, in bytes.
+pub const MAX_MODE_NAME_BYTES: usize = 16;
+
+impl Key {
+    ghost use Rattle.std.specs.Prelude.{◌≡◌, ◌≢◌, ℤ, false, IfSome, None, Some};
+    ghost use Rattle.toml.specs.Data.{Data, Members, integer};
+    ghost use Rattle.fare_table.specs.Faults.{is_from, is_in_bounds, is_kind};
+
+    /// The least and the greatest number that the key may have, or `None` if it takes no number.
+    /// Those of `Fares` are of each fare in it. Those of `Last` are without the `first` beside it,
+    /// which it may not be below.
+    pub fn bounds(self) -> Option<(u32, u32)>
+        ensures bounds { IfSome result (λ b. self ≢ Key.Last → (beside : Members) (value : Data)
+            → is_in_bounds self beside value ≡ is_from b.0 b.1 value) }
+        ensures last { self ≡ Key.Last → result ≡ Some (0, 4_294_967_295) }
+        ensures none { result ≡ None → (self ≢ Key.Fares)
+            × ((number : ℤ) → is_kind self (integer number) ≡ false) }
+    {
+        match self {
+            Key::Fare => Some((1, MAX_FARE_CENTS)),
+            Key::Rides => Some((1, MAX_RIDES)),
+            Key::Ceiling => Some((1, MAX_CEILING_CENTS)),
+            Key::Fares => Some((0, MAX_FARE_CENTS)),
+            Key::RideTransfers => Some((0, MAX_RIDE_TRANSFERS)),
+            Key::TransferMinutes => Some((1, MAX_TRANSFER_MINUTES)),
+            Key::First | Key::Last => Some((0, u32::MAX)),
+            _ => None,
+        }
+    }
+}
