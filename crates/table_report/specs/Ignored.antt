@@ -1,26 +1,31 @@
 -- The keys of a table's text that its rules ignore.
-use Rattle.std.specs.Prelude.{◌≡◌, ℕ, suc, ◌||◌, ◌++◌, ◌∷◌, [], Bool, false, List, Option, Some}
+use Rattle.std.specs.Prelude.{◌≡◌, ℕ, suc, ◌++◌, ◌∷◌, [], Bool, false, List, Option, Some}
 use Rattle.std.specs.Prelude.{None, IsSome, codes, if◌then◌else◌}
 use Rattle.toml.specs.Data.{Items, no_items, item, Members, no_members, member, get_member}
 use Rattle.toml.specs.Data.{as_table}
-use Rattle.fare_table.specs.Faults.{Where, top, class, range, items_of, members_at, members_of}
+use Rattle.std.specs.List.{list_any}
+use Rattle.fare_table.specs.Faults.{Where, top, class, range, items_of, key_word, members_at}
+use Rattle.fare_table.specs.Faults.{members_of}
 use Rattle.fare_table.specs.Modes.{same_name}
+use Rattle.fare_table.specs.declared.fault.Key.{Key}
+use Rattle.fare_table.specs.declared.fault.Key.TheVariants.{Modes, Transfers, Classes, DefaultClass}
+use Rattle.fare_table.specs.declared.fault.Key.TheVariants.{Validators, Riders, Zone, Window, Fare}
+use Rattle.fare_table.specs.declared.fault.Key.TheVariants.{Rides, Ceiling, Fares, RideTransfers}
+use Rattle.fare_table.specs.declared.fault.Key.TheVariants.{TransferMinutes, First, Last, ModeName}
 use Rattle.table_report.specs.declared.holder.KeyHolder.{KeyHolder}
 use Rattle.table_report.specs.declared.holder.KeyHolder.TheVariants.{Top, Class, Range}
 
--- the key has a meaning where it stands
+-- the keys that have a meaning in the holder
+abbrev pub known_keys : KeyHolder → List Key
+known_keys Top =
+    Modes ∷ Transfers ∷ Classes ∷ DefaultClass ∷ Validators ∷ Riders ∷ Zone ∷ Window ∷ []
+known_keys (Class place) =
+    Fare ∷ Rides ∷ Ceiling ∷ Fares ∷ RideTransfers ∷ TransferMinutes ∷ []
+known_keys (Range place) = First ∷ Last ∷ ModeName ∷ []
+
+-- the key has a meaning in the holder
 abbrev pub has_meaning : KeyHolder → List ℕ → Bool
-has_meaning Top key =
-    same_name key (codes "modes") || same_name key (codes "transfers")
-    || same_name key (codes "classes") || same_name key (codes "default_class")
-    || same_name key (codes "validators") || same_name key (codes "riders")
-    || same_name key (codes "zone") || same_name key (codes "window")
-has_meaning (Class place) key =
-    same_name key (codes "fare") || same_name key (codes "rides")
-    || same_name key (codes "ceiling") || same_name key (codes "fares")
-    || same_name key (codes "transfers") || same_name key (codes "transfer_minutes")
-has_meaning (Range place) key =
-    same_name key (codes "first") || same_name key (codes "last") || same_name key (codes "mode")
+has_meaning holder key = list_any (λ known. same_name key (key_word known)) (known_keys holder)
 
 -- the keys found, and those of the members that have no meaning there
 abbrev pub ignored_from : KeyHolder → List (KeyHolder × List ℕ) → Members
@@ -29,7 +34,7 @@ ignored_from holder found no_members = found
 ignored_from holder found (member key value more) =
     ignored_from holder (if has_meaning holder key then found else found ++ (holder, key) ∷ []) more
 
--- the keys found, and those of the value, where it is a table
+-- the keys found, and those of the value, if it is a table
 abbrev pub ignored_of : KeyHolder → List (KeyHolder × List ℕ) → Option Members
     → List (KeyHolder × List ℕ)
 ignored_of holder found None = found
@@ -56,13 +61,13 @@ ignored_in tree =
     (members_of (get_member (codes "classes") tree)))
     (items_of (get_member (codes "validators") tree))
 
--- where the rules of a table look for a key that stands there
+-- where the rules of a table look for the keys of the holder
 abbrev pub where_of : KeyHolder → Where
 where_of Top = top
 where_of (Class place) = class place
 where_of (Range place) = range place
 
--- the text has the key where the holder says, and it has no meaning there
-pub record IsIgnored (tree : Members) (told : KeyHolder × List ℕ) : Type 0 where
-  pub stands : IsSome (get_member told.1 (members_at (where_of told.0) tree))
-  pub no_meaning : has_meaning told.0 told.1 ≡ false
+-- the text has the key in the holder, and it has no meaning there
+pub record IsIgnored (tree : Members) (one : KeyHolder × List ℕ) : Type 0 where
+  pub stands : IsSome (get_member one.1 (members_at (where_of one.0) tree))
+  pub no_meaning : has_meaning one.0 one.1 ≡ false

@@ -11,7 +11,7 @@ use Rattle.fare_table.specs.Faults.{items_of, holds_of_some}
 abbrev pub is_in_no_range : Fares → ℕ → Bool
 is_in_no_range fares validator = is_none (mode_at fares validator)
 
--- the number, where a validator can have it
+-- the number, if a validator can have it
 abbrev pub as_validator : ℤ → Option ℕ
 as_validator number =
     if int_le (pos 0) number && int_le number (pos 4_294_967_295) then Some (unsigned_abs number)

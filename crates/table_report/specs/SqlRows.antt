@@ -15,11 +15,11 @@ pub data Field : Type 0 where
   number : ℕ → Field
   text : List ℕ → Field
 
--- the name at a place, and the empty one where the place has none
+-- the name at a place, and the empty one if there is no such place
 abbrev pub name_at : List (List ℕ) → ℕ → List ℕ
 name_at names place = slice_index_or names place []
 
--- the places of so many things
+-- the places of this number of things
 abbrev pub places : ℕ → List ℕ
 places count = range_with_len 0 count
 
@@ -56,7 +56,7 @@ abbrev pub two_modes : Fares → ℕ → ℕ → List Field
 two_modes fares from to =
     text (name_at fares.meaning.modes from) ∷ text (name_at fares.meaning.modes to) ∷ []
 
--- the pair of two modes, where a ride includes a transfer from the one to the other
+-- the pair of two modes, if a ride includes a transfer from the one to the other
 abbrev pub pair_row : Fares → ℕ → ℕ → List (List Field)
 pair_row fares from to = if is_permitted fares from to then two_modes fares from to ∷ [] else []
 
@@ -79,7 +79,7 @@ rider_row fares rider =
 abbrev pub rule_row : List ℕ → List Field
 rule_row rule = text rule ∷ []
 
--- the row of a zone, and none where there is no zone
+-- the row of a zone, and none if there is no zone
 abbrev pub rows_of_zone : Option (List ℕ) → List (List Field)
 rows_of_zone None = []
 rows_of_zone (Some rule) = rule_row rule ∷ []

@@ -6,7 +6,7 @@ use jiff::tz::{TimeZone, TimeZoneTransition};
 use std::alloc::AllocError;
 use tap_views::MOMENT_LIMIT_MS;
 
-/// How many changes are told.
+/// How many changes of clocks have lines.
 const CHANGES: usize = 4;
 
 /// Appends the line of a change: the moment, the name of the clocks' time and how far it is from

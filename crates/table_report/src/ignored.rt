@@ -31,7 +31,7 @@ fn add_ignored<'a>(
     Ok(())
 }
 
-/// Appends the keys of a value that have no meaning there, where the value is a table.
+/// Appends the keys of a value that have no meaning there, if the value is a table.
 fn add_ignored_of<'a>(
     found: &mut Vec<(KeyHolder, &'a str)>,
     holder: KeyHolder,
@@ -83,7 +83,7 @@ fn add_ignored_in_ranges<'a>(
     Ok(())
 }
 
-/// The keys of a text that its rules ignore, with where each stands: those at the top, then
+/// The keys of a text that its rules ignore, each with its holder: those at the top, then
 /// those of the classes in the order of their names, then those of the elements of `validators`.
 pub fn ignored_keys(alloc: Global, table: &Table) -> Result<Vec<(KeyHolder, &str)>, NoMemory>
     ensures { IfOk result (λ v. map (λ k. (k.0, k.1.now)) v.items

@@ -1,71 +1,35 @@
 //! The known key that is nearest to one that is ignored.
 
-use crate::holder::KeyHolder;
+use crate::holder::{KeyHolder, known_keys};
 use std::alloc::{AllocError, Global};
 use strsim::osa_distance;
 
-/// The keys that have a meaning at the top of a text.
-const TOP: [&str; 8] = [
-    "modes",
-    "transfers",
-    "classes",
-    "default_class",
-    "validators",
-    "riders",
-    "zone",
-    "window",
-];
-
-/// The keys that have a meaning in a class.
-const CLASS: [&str; 6] = [
-    "fare",
-    "rides",
-    "ceiling",
-    "fares",
-    "transfers",
-    "transfer_minutes",
-];
-
-/// The keys that have a meaning in an entry of `validators`.
-const RANGE: [&str; 3] = ["first", "last", "mode"];
-
-/// Whether so many edits make one word of another that has so many letters.
+/// Whether the edits are few for a word of these letters: at most `(letters + 1) / 3`.
 fn is_near(edits: usize, letters: usize) -> bool {
     edits.saturating_mul(3) <= letters.saturating_add(1)
 }
 
-/// The nearest of some words, if one is near.
-fn nearest_of(
+/// The word of the known key that may be meant by one that has no meaning in its holder: the one of
+/// the fewest edits, and the first of these.
+pub(crate) fn nearest(
     alloc: Global,
-    words: &[&'static str],
+    holder: KeyHolder,
     key: &str,
 ) -> Result<Option<&'static str>, AllocError> {
     let mut best: Option<(usize, &'static str)> = None;
-    for word in words {
+    for known in known_keys(holder) {
+        let word = known.word();
         let edits = osa_distance(alloc, key, word)?;
         let is_better = match best {
             Some((least, _)) => edits < least,
             None => true,
         };
         if is_better && is_near(edits, word.len()) {
-            best = Some((edits, *word));
+            best = Some((edits, word));
         }
     }
     match best {
         Some((_, word)) => Ok(Some(word)),
         None => Ok(None),
-    }
-}
-
-/// The key that may be meant by one that has no meaning where it stands.
-pub(crate) fn nearest(
-    alloc: Global,
-    holder: KeyHolder,
-    key: &str,
-) -> Result<Option<&'static str>, AllocError> {
-    match holder {
-        KeyHolder::Top => nearest_of(alloc, &TOP, key),
-        KeyHolder::Class(_) => nearest_of(alloc, &CLASS, key),
-        KeyHolder::Range(_) => nearest_of(alloc, &RANGE, key),
     }
 }

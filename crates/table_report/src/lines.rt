@@ -12,10 +12,7 @@ use jiff::Timestamp;
 use std::alloc::{AllocError, Global};
 use toml::Table;
 
-/// The highest number of a validator.
-const HIGHEST: u64 = 4_294_967_295;
-
-/// The table at a key; none where there is no such key.
+/// The table at a key, or `None` if the key is not there or is no table.
 fn table_at<'t>(tree: &'t Table, key: &str) -> Option<&'t Table> {
     tree.get(key)?.as_table()
 }
@@ -167,10 +164,10 @@ fn push_ranges(text: &mut String, fares: &FareTable) -> Result<(), AllocError> {
         write!(text, "range {first} {last} {mode}\n")?;
         next = u64::from(last).saturating_add(1);
     }
-    push_gap(text, next, HIGHEST.saturating_add(1))
+    push_gap(text, next, u64::from(u32::MAX).saturating_add(1))
 }
 
-/// Appends the lines of the riders: their number, and each of them where that is asked for, in the
+/// Appends the lines of the riders: their number, and each of them if that is asked for, in the
 /// order of the keys of the text, which may have digits of either case.
 fn push_riders(
     text: &mut String,
@@ -208,7 +205,7 @@ fn push_window(text: &mut String, tree: &Table) -> Result<(), AllocError> {
     }
 }
 
-/// The lines of a table without a fault, of which so many warnings are told.
+/// The lines of a table without a fault, the last with the number of its warnings.
 pub(crate) fn lines_of(
     alloc: Global,
     wanted: &Wanted<'_>,

@@ -5,7 +5,7 @@ ghost use Rattle.table_report.specs.SqlRows.{name_at};
 
 use fare_table::FareTable;
 
-/// The name at the place, and the empty one where the place has none.
+/// The name at the place, and the empty one if there is no such place.
 fn name_at(names: &[String], place: usize) -> &str
     ensures { result.now ≡ name_at (map string_bytes names.now) place }
 {

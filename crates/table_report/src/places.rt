@@ -82,7 +82,7 @@ fn behind<'t>(text: &'t str, mark: &str) -> Result<&'t str, Stop> {
     }
 }
 
-/// What follows a comma and blanks, where they come next.
+/// What follows blanks and, if one comes next, a comma and blanks.
 fn behind_comma(text: &str) -> &str {
     let rest = skip_blank(text, true);
     match rest.strip_prefix(",") {
@@ -111,7 +111,7 @@ impl Reader {
         self.places.size.saturating_sub(rest.len())
     }
 
-    /// Keeps where a key or an element stands, the first time.
+    /// Keeps the offset of a key or an element, the first time that it comes.
     fn keep(&mut self, path: &str, rest: &str) -> Result<(), Stop> {
         let offset = self.offset(rest);
         if !self.places.offsets.contains_key(path) {
@@ -121,7 +121,7 @@ impl Reader {
         Ok(())
     }
 
-    /// Keeps where a value stands.
+    /// Keeps the offset of a value.
     fn keep_value(&mut self, path: &str, rest: &str) -> Result<(), Stop> {
         let offset = self.offset(rest);
         let path = String::from_str(self.alloc, path)?;
@@ -137,7 +137,7 @@ impl Reader {
         }
     }
 
-    /// The path of a key that may have dots. Each part is kept with where the key stands.
+    /// The path of a key that may have dots. Each part is kept with the offset of the key.
     fn path_of(&mut self, holder: &str, key: &Key, at: &str) -> Result<String, Stop> {
         let mut path = String::from_str(self.alloc, holder)?;
         for part in &key.path {

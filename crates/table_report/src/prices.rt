@@ -39,8 +39,8 @@ pub(crate) fn push_fares(
     Ok(())
 }
 
-/// Appends a line of how many transfers a ride of the class gives, and for how many minutes, where
-/// the keys of the class say it.
+/// Appends a line of how many transfers a ride of the class gives, and for how many minutes, if the
+/// keys of the class say it.
 pub(crate) fn push_ride_transfers(
     text: &mut String,
     name: &str,

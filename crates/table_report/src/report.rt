@@ -12,7 +12,7 @@ use crate::lines::lines_of;
 use crate::places::Places;
 use crate::seen::SeenValidators;
 use crate::sql::{ReportFault, write_sql};
-use crate::warnings::{Told, warnings_of};
+use crate::warnings::{ReadText, warnings_of};
 use crate::wrong_values::wrong_lines;
 use fare_table::{FareTable, TableFault};
 use jiff::Timestamp;
@@ -114,7 +114,7 @@ impl<'t> TableText<'t> {
                 return Err(not_toml(alloc, text, error)?);
             }
         };
-        match FareTable::read(alloc, bytes) {
+        match FareTable::of_tree(alloc, &tree) {
             Ok(fares) => Ok(TableText { text, tree, fares }),
             Err(TableFault::NoMemory) => Err(Refusal::NoMemory),
             Err(fault) => Err(refusal_of(alloc, name, text, &tree, fault)?),
@@ -136,13 +136,13 @@ impl<'t> TableText<'t> {
         ensures named { IfErr result (λ fault. fault ≡ ReportFault.Name
             → (wanted.now.is_sql ≡ true) × (has_names_in_line self.now ≡ false)) }
     {
-        let told = Told {
+        let read = ReadText {
             name: wanted.name,
             text: self.text,
             tree: &self.tree,
             fares: &self.fares,
         };
-        let (lines, count) = warnings_of(alloc, &told, seen)?;
+        let (lines, count) = warnings_of(alloc, &read, seen)?;
         if wanted.is_sql {
             write_sql(alloc, &self.fares, out)?;
         } else {
@@ -155,7 +155,7 @@ impl<'t> TableText<'t> {
     }
 }
 
-/// Why the text is no TOML, and where.
+/// Why the text is no TOML, with the line and the column.
 fn not_toml(alloc: Global, text: &str, error: TomlError) -> Result<Refusal, AllocError> {
     let start = match error.span() {
         Some(span) => span.start,
@@ -166,7 +166,7 @@ fn not_toml(alloc: Global, text: &str, error: TomlError) -> Result<Refusal, Allo
     Ok(Refusal::NotToml(line, column, error))
 }
 
-/// Each wrong value of the text, or its fault where no value was found to be wrong.
+/// Each wrong value of the text, or its fault if no value was found to be wrong.
 fn refusal_of(
     alloc: Global,
     name: &str,

@@ -1,4 +1,4 @@
-//! The values at the keys of a TOML table, where they are of one kind.
+//! The values of one kind at the keys of a TOML table.
 
 ghost use Rattle.std.specs.Prelude.{◌≡◌, ◌&&◌, pos, int_le, option_map};
 ghost use Rattle.std.specs.Option.{option_and_then};
@@ -36,7 +36,7 @@ pub(crate) fn elements_at<'a>(table: &'a Table, key: &str) -> Option<&'a Array>
 fn is_small(number: i64) -> bool
     ensures { result ≡ (int_le (pos 0) number && int_le number (pos 4_294_967_295)) }
 {
-    0 <= number && number <= 4_294_967_295
+    0 <= number && number <= i64::from(u32::MAX)
 }
 
 /// The number of a validator at a key.

@@ -11,9 +11,9 @@ use fare_table::FareTable;
 use std::alloc::{AllocError, Global};
 use toml::Table;
 
-/// A table without a fault.
+/// A text without a fault, and what it means.
 #[derive(Clone, Copy)]
-pub(crate) struct Told<'a, 't> {
+pub(crate) struct ReadText<'a, 't> {
     /// Its name.
     pub(crate) name: &'a str,
     /// Its text.
@@ -39,32 +39,32 @@ fn holder_path(alloc: Global, classes: &[String], holder: KeyHolder) -> Result<S
     }
 }
 
-/// The beginning of a warning's line, with where the key or the element at a path stands.
+/// The beginning of a warning's line, with the line and the column of the key or element at a path.
 fn begin(
     alloc: Global,
-    told: &Told<'_, '_>,
+    read: &ReadText<'_, '_>,
     places: &Places,
     path: &str,
 ) -> Result<String, AllocError> {
     let (line, column) = match places.of_key(path) {
-        Some(offset) => places.line_and_column(told.text, offset),
+        Some(offset) => places.line_and_column(read.text, offset),
         None => (1, 1),
     };
-    let name = told.name;
+    let name = read.name;
     format!(in alloc; "warning: {name} line {line} column {column}: ")
 }
 
-/// The line of a key that has no meaning where it stands.
+/// The line of a key that has no meaning in its holder.
 fn ignored_line(
     alloc: Global,
-    told: &Told<'_, '_>,
+    read: &ReadText<'_, '_>,
     places: &Places,
     classes: &[String],
     ignored: (KeyHolder, &str),
 ) -> Result<String, AllocError> {
     let (holder, key) = ignored;
     let path = key_path(alloc, holder_path(alloc, classes, holder)?.as_str(), key)?;
-    let mut line = begin(alloc, told, places, path.as_str())?;
+    let mut line = begin(alloc, read, places, path.as_str())?;
     let path = path.as_str();
     write!(line, "{path} is ignored")?;
     if let Some(word) = nearest(alloc, holder, key)? {
@@ -77,34 +77,34 @@ fn ignored_line(
 /// The line of an entry of `validators` that no validator of the uploads is in.
 fn unused_line(
     alloc: Global,
-    told: &Told<'_, '_>,
+    read: &ReadText<'_, '_>,
     places: &Places,
     place: usize,
 ) -> Result<String, AllocError> {
     let path = item_path(alloc, "validators", place)?;
-    let mut line = begin(alloc, told, places, path.as_str())?;
+    let mut line = begin(alloc, read, places, path.as_str())?;
     let path = path.as_str();
     write!(line, "{path} has no validator of the uploads\n")?;
     Ok(line)
 }
 
-/// The lines of the warnings of a table, and their number; of its ranges only where the validators
-/// of some uploads were seen.
+/// The lines of the warnings of a table, and their number. They speak of its ranges only if the
+/// validators of some uploads were seen.
 pub(crate) fn warnings_of(
     alloc: Global,
-    told: &Told<'_, '_>,
+    read: &ReadText<'_, '_>,
     seen: Option<&SeenValidators>,
 ) -> Result<(String, usize), AllocError> {
     let mut lines = String::new(alloc);
-    let Ok(ignored) = ignored_keys(alloc, told.tree) else {
+    let Ok(ignored) = ignored_keys(alloc, read.tree) else {
         return Err(AllocError);
     };
     let mut unused = Vec::new(alloc);
     let mut unknown = Vec::new(alloc);
     if let Some(seen) = seen {
         let (Ok(ranges), Ok(numbers)) = (
-            unused_ranges(alloc, seen, told.tree),
-            seen.unknown(alloc, told.fares),
+            unused_ranges(alloc, seen, read.tree),
+            seen.unknown(alloc, read.fares),
         ) else {
             return Err(AllocError);
         };
@@ -116,17 +116,17 @@ pub(crate) fn warnings_of(
         .saturating_add(unused.len())
         .saturating_add(unknown.len());
     if !ignored.is_empty() || !unused.is_empty() {
-        let places = Places::of(alloc, told.text)?;
-        let classes = told.fares.class_names();
+        let places = Places::of(alloc, read.text)?;
+        let classes = read.fares.class_names();
         for (holder, key) in &ignored {
-            let line = ignored_line(alloc, told, &places, classes, (*holder, key))?;
+            let line = ignored_line(alloc, read, &places, classes, (*holder, key))?;
             lines.push_str(line.as_str())?;
         }
         for place in &unused {
-            lines.push_str(unused_line(alloc, told, &places, *place)?.as_str())?;
+            lines.push_str(unused_line(alloc, read, &places, *place)?.as_str())?;
         }
     }
-    let name = told.name;
+    let name = read.name;
     for number in &unknown {
         write!(
             lines,

@@ -1,4 +1,4 @@
--- What the rides of a window cost, one after the other, where all have the same terms.
+-- What the rides of a window cost, one after the other, if all have the same terms.
 use Rattle.std.specs.Prelude.{ℕ, ◌+◌, ◌==◌, Bool, false, if◌then◌else◌, List, [], ◌∷◌, ◌++◌, map}
 use Rattle.std.specs.Prelude.{Option, None, Some, codes}
 use Rattle.std.specs.Fmt.{decimal}

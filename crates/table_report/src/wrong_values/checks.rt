@@ -1,23 +1,20 @@
 //! What is wrong with the modes, the transfers, the classes, the zone and the window of a text.
 
+ghost use Rattle.std.specs.Prelude.{◌≡◌};
+ghost use Rattle.fare_table.specs.Modes as spec;
+
 use super::people::{check_default, check_riders};
 use super::ranges::check_ranges;
 use super::wrong::{Wrong, Wrongs};
 use crate::paths::{item_path, key_path};
-use fare_table::WindowSpan;
+use fare_table::{Key, MAX_FARE_CENTS, MAX_MODE_NAME_BYTES, MAX_MODES, WindowSpan};
 use jiff::tz::TimeZone;
 use std::alloc::{AllocError, Global};
 use toml::value::Array;
 use toml::{Table, Value};
 
-/// How many names are listed at most where one of them is wanted.
+/// How many names a line lists at most if one of them is wanted.
 pub(super) const LISTED_NAMES: usize = 12;
-
-/// What `modes` has to be.
-const MODES: &str = "1 to 32 names of modes, each of 1 to 16 letters a to z, none twice";
-
-/// What a name in `modes` has to be.
-const MODE_NAME: &str = "a name of 1 to 16 letters a to z that does not come twice";
 
 /// What `transfers` has to be.
 const TRANSFERS: &str = "an array of pairs of modes, from and to; [] for none";
@@ -31,9 +28,6 @@ const CLASSES: &str = "a table of at least one rider class, each with fare and r
 /// What a class has to be.
 const CLASS: &str = "a table with fare, rides and, if it has one, ceiling";
 
-/// What `fares` of a class has to be.
-const FARES: &str = "a table from modes to numbers from 0 to 100000, in cents";
-
 /// What `zone` has to be.
 const ZONE: &str = "a POSIX rule, as \"EST5EDT,M3.2.0,M11.1.0\", not a place";
 
@@ -46,7 +40,7 @@ pub(super) fn top(alloc: Global, key: &str) -> Result<String, AllocError> {
     key_path(alloc, "", key)
 }
 
-/// What is wanted where one of some names has to stand.
+/// What is wanted if it is one of some names.
 pub(super) fn one_of(alloc: Global, what: &str, names: &[&str]) -> Result<String, AllocError> {
     let mut text = format!(in alloc; "{what}:")?;
     for (number, name) in names.iter().enumerate() {
@@ -61,8 +55,8 @@ pub(super) fn one_of(alloc: Global, what: &str, names: &[&str]) -> Result<String
     Ok(text)
 }
 
-/// The array at a key at the top, with the value that it is. None where there is none, which is
-/// told.
+/// The array at a key at the top, with the value that it is. `None` if there is none, which is
+/// added.
 pub(super) fn array_at<'t>(
     wrongs: &mut Wrongs,
     tree: &'t Table,
@@ -80,7 +74,7 @@ pub(super) fn array_at<'t>(
     Ok(Some((value, array)))
 }
 
-/// Whether each element of the array at a key is well; those that are not are told.
+/// Whether each element of the array at a key is well. Those that are not are added.
 pub(super) fn are_all<F: Fn(&Value) -> bool>(
     wrongs: &mut Wrongs,
     array: &Array,
@@ -102,11 +96,15 @@ pub(super) fn are_all<F: Fn(&Value) -> bool>(
 }
 
 /// Whether a name can be that of a mode.
-fn is_mode_name(name: &str) -> bool {
-    !name.is_empty() && name.len() <= 16 && name.bytes().all(|byte| byte.is_ascii_lowercase())
+fn is_mode_name(name: &str) -> bool
+    ensures { result ≡ spec.is_mode_name name.now }
+{
+    1 <= name.len()
+        && name.len() <= MAX_MODE_NAME_BYTES
+        && name.as_bytes().iter().all(|byte| byte.is_ascii_lowercase())
 }
 
-/// The strings of an array of strings; none where an element is none.
+/// The strings of an array of strings, or `None` if an element is no string.
 fn strings_of<'t>(
     wrongs: &mut Wrongs,
     array: &'t Array,
@@ -126,32 +124,38 @@ fn strings_of<'t>(
 }
 
 /// Looks at the names of the modes.
-fn check_names(wrongs: &mut Wrongs, array: &Array) -> Result<(), AllocError> {
+fn check_names(wrongs: &mut Wrongs, array: &Array, wanted: &str) -> Result<(), AllocError> {
     let mut earlier: Vec<&str> = Vec::new(wrongs.alloc);
     for (place, value) in array.iter().enumerate() {
         let name = value.as_str().unwrap_or("");
         if !is_mode_name(name) || earlier.iter().any(|other| *other == name) {
             let path = item_path(wrongs.alloc, "modes", place)?;
-            wrongs.value(path, value, MODE_NAME)?;
+            wrongs.value(path, value, wanted)?;
         }
         earlier.push(name)?;
     }
     Ok(())
 }
 
-/// Looks at `modes`. Gives the names, where they can be had.
+/// Looks at `modes`. Returns the names, if there are 1 to 32 strings.
 fn modes_of<'t>(wrongs: &mut Wrongs, tree: &'t Table) -> Result<Option<Vec<&'t str>>, AllocError> {
-    let Some((value, array)) = array_at(wrongs, tree, "modes", MODES)? else {
+    let letters = format!(in wrongs.alloc; "1 to {} letters a to z", MAX_MODE_NAME_BYTES)?;
+    let all = format!(in wrongs.alloc;
+        "1 to {} names of modes, each of {letters}, none twice",
+        MAX_MODES
+    )?;
+    let one = format!(in wrongs.alloc; "a name of {letters} that does not come twice")?;
+    let Some((value, array)) = array_at(wrongs, tree, "modes", all.as_str())? else {
         return Ok(None);
     };
-    let Some(names) = strings_of(wrongs, array, "modes", MODE_NAME)? else {
+    let Some(names) = strings_of(wrongs, array, "modes", one.as_str())? else {
         return Ok(None);
     };
-    if names.is_empty() || names.len() > 32 {
-        wrongs.value(top(wrongs.alloc, "modes")?, value, MODES)?;
+    if names.is_empty() || names.len() > MAX_MODES {
+        wrongs.value(top(wrongs.alloc, "modes")?, value, all.as_str())?;
         return Ok(None);
     }
-    check_names(wrongs, array)?;
+    check_names(wrongs, array, one.as_str())?;
     Ok(Some(names))
 }
 
@@ -204,7 +208,29 @@ fn check_transfers(
     }
 }
 
-/// Looks at the number at a key, which lies within its bounds. Gives it, where it does.
+/// Looks at the number at a key, which is to lie within its bounds. Returns it if it does.
+pub(super) fn check_key(
+    wrongs: &mut Wrongs,
+    holder: &str,
+    entry: &Table,
+    key: Key,
+    unit: &str,
+) -> Result<Option<i64>, AllocError> {
+    let Some((low, high)) = key.bounds() else {
+        return Ok(None);
+    };
+    check_number(
+        wrongs,
+        holder,
+        entry,
+        key.word(),
+        i64::from(low),
+        i64::from(high),
+        unit,
+    )
+}
+
+/// Looks at the number at a key, which is to lie from `low` to `high`. Returns it if it does.
 pub(super) fn check_number(
     wrongs: &mut Wrongs,
     holder: &str,
@@ -227,6 +253,20 @@ pub(super) fn check_number(
     let path = key_path(wrongs.alloc, holder, key)?;
     wrongs.value(path, value, wanted.as_str())?;
     Ok(None)
+}
+
+/// Looks at the number at a key, if the key is there.
+fn check_optional(
+    wrongs: &mut Wrongs,
+    holder: &str,
+    entry: &Table,
+    key: Key,
+    unit: &str,
+) -> Result<(), AllocError> {
+    if entry.contains_key(key.word()) {
+        check_key(wrongs, holder, entry, key, unit)?;
+    }
+    Ok(())
 }
 
 /// Looks at the name of a mode that is a key of the `fares` at a path.
@@ -256,7 +296,11 @@ fn check_fares(
     };
     let path = key_path(wrongs.alloc, path, "fares")?;
     let Some(fares) = value.as_table() else {
-        return wrongs.value(path, value, FARES);
+        let wanted = format!(in wrongs.alloc;
+            "a table from modes to numbers from 0 to {}, in cents",
+            MAX_FARE_CENTS
+        )?;
+        return wrongs.value(path, value, wanted.as_str());
     };
     for (name, _cents) in fares {
         if let Some(modes) = modes {
@@ -268,7 +312,7 @@ fn check_fares(
             fares,
             name.as_str(),
             0,
-            100_000,
+            i64::from(MAX_FARE_CENTS),
             ", in cents",
         )?;
     }
@@ -282,27 +326,12 @@ fn check_class(
     class: &Table,
     modes: &Option<Vec<&str>>,
 ) -> Result<(), AllocError> {
-    check_number(wrongs, path, class, "fare", 1, 100_000, ", in cents")?;
-    check_number(wrongs, path, class, "rides", 1, 1_000, "")?;
-    if class.contains_key("ceiling") {
-        check_number(wrongs, path, class, "ceiling", 1, 100_000_000, ", in cents")?;
-    }
+    check_key(wrongs, path, class, Key::Fare, ", in cents")?;
+    check_key(wrongs, path, class, Key::Rides, "")?;
+    check_optional(wrongs, path, class, Key::Ceiling, ", in cents")?;
     check_fares(wrongs, path, class, modes)?;
-    if class.contains_key("transfers") {
-        check_number(wrongs, path, class, "transfers", 0, 9, "")?;
-    }
-    if class.contains_key("transfer_minutes") {
-        check_number(
-            wrongs,
-            path,
-            class,
-            "transfer_minutes",
-            1,
-            1_440,
-            ", in minutes",
-        )?;
-    }
-    Ok(())
+    check_optional(wrongs, path, class, Key::RideTransfers, "")?;
+    check_optional(wrongs, path, class, Key::TransferMinutes, ", in minutes")
 }
 
 /// Looks at the classes of a table of classes.
@@ -331,7 +360,7 @@ fn check_classes(
     Ok(())
 }
 
-/// Looks at `classes`. Gives them, where they can be had.
+/// Looks at `classes`. Returns them, if they are a table.
 fn classes_of<'t>(
     wrongs: &mut Wrongs,
     tree: &'t Table,

@@ -14,7 +14,7 @@ const TOKEN: &str = "a token of 32 hexadecimal digits";
 /// What `riders` has to be.
 const RIDERS: &str = "a table from tokens to classes";
 
-/// What is wanted where a class has to stand.
+/// What is wanted if it is a class of the table.
 fn one_class(wrongs: &Wrongs, classes: Option<&Table>) -> Result<String, AllocError> {
     let Some(classes) = classes else {
         return String::from_str(wrongs.alloc, "a class of the table");
@@ -28,7 +28,7 @@ fn one_class(wrongs: &Wrongs, classes: Option<&Table>) -> Result<String, AllocEr
     one_of(wrongs.alloc, "a class of the table", &names)
 }
 
-/// Whether the value names one of the classes, where these can be had.
+/// Whether the value names one of the classes, or is a string if these are not known.
 fn is_class(value: &Value, classes: Option<&Table>) -> bool {
     match (value.as_str(), classes) {
         (Some(name), Some(classes)) => classes.contains_key(name),

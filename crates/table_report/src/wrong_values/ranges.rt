@@ -1,8 +1,9 @@
 //! What is wrong with the ranges of validators of a text.
 
-use super::checks::{are_all, array_at, check_number, is_one_of, one_of};
+use super::checks::{are_all, array_at, check_key, check_number, is_one_of, one_of};
 use super::wrong::Wrongs;
 use crate::paths::{item_path, key_path};
+use fare_table::Key;
 use std::alloc::AllocError;
 use std::collections::BTreeMap;
 use toml::{Table, Value};
@@ -12,9 +13,6 @@ const RANGES: &str = "an array of ranges, each with first, last and mode; [] for
 
 /// What an element of `validators` has to be.
 const RANGE: &str = "a range: a table with first, last and mode";
-
-/// The highest number of a validator.
-const HIGHEST: i64 = 4_294_967_295;
 
 /// The ranges so far, by their first numbers: the last number and the place of each.
 type Ranges = BTreeMap<i64, (i64, usize)>;
@@ -29,7 +27,7 @@ fn shared(ranges: &Ranges, first: i64, last: i64) -> Option<(i64, i64, usize)> {
     }
 }
 
-/// Keeps a range, or tells the earlier one that it shares a number with.
+/// Keeps a range, or adds it as one that shares a number with an earlier one.
 fn check_overlap(
     wrongs: &mut Wrongs,
     ranges: &mut Ranges,
@@ -91,9 +89,17 @@ fn check_range(
         return Ok(());
     };
     let path = item_path(wrongs.alloc, "validators", place)?;
-    let first = check_number(wrongs, path.as_str(), entry, "first", 0, HIGHEST, "")?;
+    let first = check_key(wrongs, path.as_str(), entry, Key::First, "")?;
     let low = first.unwrap_or(0);
-    let last = check_number(wrongs, path.as_str(), entry, "last", low, HIGHEST, "")?;
+    let last = check_number(
+        wrongs,
+        path.as_str(),
+        entry,
+        "last",
+        low,
+        i64::from(u32::MAX),
+        "",
+    )?;
     check_mode(wrongs, path.as_str(), entry, modes)?;
     match (first, last) {
         (Some(first), Some(last)) => {

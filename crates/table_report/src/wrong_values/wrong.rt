@@ -5,17 +5,17 @@ use crate::places::Places;
 use std::alloc::{AllocError, Global};
 use toml::Value;
 
-/// Of how many letters a wrong value is shown at most.
+/// How many letters of a wrong value a line shows at most.
 const SHOWN_LETTERS: usize = 60;
 
-/// What is told of what stands at a path.
+/// What is wrong at a path.
 #[derive(Clone, Copy)]
-enum Told {
-    /// The key is missing.
+enum Part {
+    /// There is no such key.
     Missing,
-    /// The key is wrong.
+    /// The key itself.
     Key,
-    /// The value is wrong.
+    /// The value.
     Value,
 }
 
@@ -26,9 +26,9 @@ pub(super) struct Wrong {
     path: String,
     /// The path of what is shown: the table that lacks a key, the key, or the value.
     shown: String,
-    /// What is told.
-    told: Told,
-    /// The value as TOML writes it; empty where there is none.
+    /// What is wrong there.
+    part: Part,
+    /// The value as TOML writes it. Empty if there is none.
     value: String,
     /// What is wanted.
     wanted: String,
@@ -65,7 +65,7 @@ pub(super) struct Wrongs {
 }
 
 impl Wrongs {
-    /// Nothing yet.
+    /// No wrong value yet.
     pub(super) fn new(alloc: Global) -> Wrongs {
         Wrongs {
             alloc,
@@ -83,7 +83,7 @@ impl Wrongs {
         let wrong = Wrong {
             path: key_path(self.alloc, holder, key)?,
             shown: String::from_str(self.alloc, holder)?,
-            told: Told::Missing,
+            part: Part::Missing,
             value: String::new(self.alloc),
             wanted: String::from_str(self.alloc, wanted)?,
         };
@@ -96,7 +96,7 @@ impl Wrongs {
         let wrong = Wrong {
             shown: path.clone()?,
             path,
-            told: Told::Key,
+            part: Part::Key,
             value: String::new(self.alloc),
             wanted: String::from_str(self.alloc, wanted)?,
         };
@@ -114,7 +114,7 @@ impl Wrongs {
         let wrong = Wrong {
             shown: path.clone()?,
             path,
-            told: Told::Value,
+            part: Part::Value,
             value: shown(self.alloc, value)?,
             wanted: String::from_str(self.alloc, wanted)?,
         };
@@ -124,7 +124,7 @@ impl Wrongs {
 }
 
 impl Wrong {
-    /// The line that tells it, with where it stands in the text.
+    /// Its line, with the line and the column in the text.
     pub(super) fn line(
         &self,
         alloc: Global,
@@ -133,8 +133,8 @@ impl Wrong {
         places: &Places,
     ) -> Result<String, AllocError> {
         let shown = self.shown.as_str();
-        let offset = match self.told {
-            Told::Value => places.of_value(shown),
+        let offset = match self.part {
+            Part::Value => places.of_value(shown),
             _ => places.of_key(shown),
         };
         let (line, column) = match offset {
@@ -144,13 +144,15 @@ impl Wrong {
         let path = self.path.as_str();
         let wanted = self.wanted.as_str();
         let value = self.value.as_str();
-        let mut told = format!(in alloc; "fault: {name} line {line} column {column}: {path} ")?;
-        match self.told {
-            Told::Missing => told.push_str("is missing")?,
-            Told::Key => told.push_str("is a wrong key")?,
-            Told::Value => write!(told, "is {value}")?,
+        let mut line_text = format!(in alloc;
+            "fault: {name} line {line} column {column}: {path} "
+        )?;
+        match self.part {
+            Part::Missing => line_text.push_str("is missing")?,
+            Part::Key => line_text.push_str("is a wrong key")?,
+            Part::Value => write!(line_text, "is {value}")?,
         }
-        write!(told, "; wanted: {wanted}\n")?;
-        Ok(told)
+        write!(line_text, "; wanted: {wanted}\n")?;
+        Ok(line_text)
     }
 }
