@@ -40,7 +40,7 @@ fn word_of(case: &Case) -> &'static str {
     match case {
         Ok(()) => "answered",
         Err(Stop::Refused) => "refused",
-        Err(Stop::Less) => "told of less",
+        Err(Stop::Less) => "reported less",
         Err(Stop::Wrong(what)) => what,
     }
 }

@@ -94,11 +94,11 @@ fn runs<R: Threads + Wait + RandomSource + Sync + Print, G: Gate + Sync>(
     let (taps, whole) = posted(&outcome)?;
     promise(
         outcome.totals().taps == taps,
-        "the ends tell another number of taps",
+        "the ends have another number of taps",
     )?;
     promise(
         whole == (taps == 6),
-        "an upload is told whole that is not, or the other way round",
+        "an upload is reported whole that is not, or the other way round",
     )?;
     if whole { Ok(()) } else { Err(Stop::Less) }
 }

@@ -113,7 +113,8 @@ fn writes_ledger<R: Threads + Sync>(rt: &R, alloc: Global, files: &[InMemory<'_>
     promise(written.as_slice() == LEDGER.as_bytes(), "another ledger")
 }
 
-/// `write_sorted_ledger`. Would catch one that always gives up, or does so for good after a refusal.
+/// `write_sorted_ledger`. Would catch one that always gives up, or does so for good after a
+/// refusal.
 pub(crate) fn ledger_of_sorted<R: Threads + Sync>(rt: &R, alloc: Global) -> Case {
     let (rides, strays) = sorted_files(alloc)?;
     let files = [InMemory { all: &rides }, InMemory { all: &strays }];

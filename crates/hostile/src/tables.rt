@@ -116,8 +116,8 @@ fn tells_ends(alloc: Global, table: &FareTable) -> Case {
     )
 }
 
-/// `clock` and `window_end`. Would catch a rule text that means other dates than New York's, since the
-/// contract leaves to `jiff` what a text means.
+/// `clock` and `window_end`. Would catch a rule text that means other dates than New York's, since
+/// the contract leaves to `jiff` what a text means.
 pub(crate) fn clock(alloc: Global) -> Case {
     let table = table(alloc)?;
     twice!({

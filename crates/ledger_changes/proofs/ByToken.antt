@@ -27,7 +27,7 @@ use Rattle.ledger_changes.specs.Tokens.{tokens_head, tokens_lines}
 use Rattle.ledger_changes.specs.inside.Standings.{IsKnown, Standing, StandsBefore}
 use Rattle.ledger_changes.specs.inside.Sums.{AreSumsWritten, TokenSum, add_changes, add_sums}
 use Rattle.ledger_changes.specs.inside.Sums.{ended_lines, no_sums, sums_after, sums_line}
-use Rattle.ledger_changes.specs.inside.Written.{AreTold}
+use Rattle.ledger_changes.specs.inside.Written.{HoldsOfCorrections}
 use Rattle.ledger_changes.proofs.Keys.{key_cmp_total, tied}
 
 -- ---- tokens
@@ -393,7 +393,7 @@ pub finished_by_token : (old_text new_text : List ℕ) (old new : Standing)
     (out mid end : Option (List ℕ)) (removed : ℕ)
     → StandsBefore (λ rows. IsSettledLedger rows old_text) old
     → StandsBefore (λ rows. IsSettledLedger rows new_text) new → Appends out mid tokens_head
-    → (IsKnown old → IsKnown new → AreTold old new (AreSumsWritten mid end removed))
+    → (IsKnown old → IsKnown new → HoldsOfCorrections old new (AreSumsWritten mid end removed))
     → (text : List ℕ) × IsCorrectionsByTokenText old_text new_text text removed
     × Appends out end text
 finished_by_token old_text new_text old new out mid end removed begun_old begun_new head written =
@@ -410,8 +410,8 @@ finished_by_token old_text new_text old new out mid end removed begun_old begun_
         tokens = by.tokens;
         are_tokens = by.are;
         shown = refl;
-        counted = is.told.counted;
+        counted = is.holds.counted;
       },
       Appends-trans out mid end tokens_head (tokens_lines is.changes by.tokens) head
-          (subst (Appends mid end) by.shown is.told.written),
+          (subst (Appends mid end) by.shown is.holds.written),
     )

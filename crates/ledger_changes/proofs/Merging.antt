@@ -23,7 +23,7 @@ use Rattle.ledger_changes.specs.Texts.{corrections_lines, is_removed, removed_in
 use Rattle.ledger_changes.specs.inside.LedgerRows.{rows_in}
 use Rattle.ledger_changes.specs.inside.Standings.{HasRows, HasRowsAt, IsKnown, IsMoved, Standing}
 use Rattle.ledger_changes.specs.inside.Standings.{StandsBefore}
-use Rattle.ledger_changes.specs.inside.Written.{AreTold, AreWritten, changes_of, next_sides}
+use Rattle.ledger_changes.specs.inside.Written.{HoldsOfCorrections, AreWritten, changes_of, next_sides}
 use Rattle.ledger_changes.specs.inside.Written.{pairs_of, row_in, sides_by, taken_if}
 use Rattle.ledger_changes.proofs.Keys.{key_cmp_total, same_key}
 use Rattle.ledger_changes.proofs.Sorted.{Rise, rise_all}
@@ -352,32 +352,32 @@ pub record IsWhole (old new : Standing) (done pairs : List Pair) : Type 0 where
   pub paired : IsPaired olds news all
   pub shown : filter is_changed all ≡ done ++ filter is_changed pairs
 
-pub record IsDone (old0 new0 old new : Standing) (Told : List Pair → Type 0) : Type 0 where
+pub record IsDone (old0 new0 old new : Standing) (Holds : List Pair → Type 0) : Type 0 where
   pub done : List Pair
-  pub told : Told done
+  pub holds : Holds done
   pub whole : (olds news : List Row) (pairs : List Pair) → HasRows old olds → HasRows new news
       → IsPaired olds news pairs → IsWhole old0 new0 done pairs
 
 -- the ledgers were read up to here, and this is so of their corrections
-pub record IsGoing (old0 new0 old new : Standing) (Told : List Pair → Type 0) : Type 0 where
+pub record IsGoing (old0 new0 old new : Standing) (Holds : List Pair → Type 0) : Type 0 where
   pub known_old : IsKnown old0 → IsKnown old
   pub known_new : IsKnown new0 → IsKnown new
   pub olds : IsKnown old0 → (rows : List Row) → HasRows old0 rows
       → (rest : List Row) × HasRows old rest
   pub news : IsKnown new0 → (rows : List Row) → HasRows new0 rows
       → (rest : List Row) × HasRows new rest
-  pub told : IsKnown old0 → IsKnown new0 → IsDone old0 new0 old new Told
+  pub holds : IsKnown old0 → IsKnown new0 → IsDone old0 new0 old new Holds
 
-pub going_start : (old new : Standing) (Told : List Pair → Type 0) → Told []
-    → IsGoing old new old new Told
-going_start old new Told told = record {
+pub going_start : (old new : Standing) (Holds : List Pair → Type 0) → Holds []
+    → IsGoing old new old new Holds
+going_start old new Holds holds = record {
   known_old = λ known. known;
   known_new = λ known. known;
   olds = λ known rows has. (rows, has);
   news = λ known rows has. (rows, has);
-  told = λ known also. record {
+  holds = λ known also. record {
     done = [];
-    told = told;
+    holds = holds;
     whole = λ olds news pairs has_olds has_news paired. record {
       olds = olds;
       are_old = has_olds;
@@ -422,14 +422,14 @@ whole_more old new done b a pair pairs listed whole = record {
       (sym listed);
 }
 
-pub going_next : (old0 new0 old new old' new' : Standing) (Told Told' : List Pair → Type 0)
-    (h k : Bool) (b a : Option Row) → IsGoing old0 new0 old new Told
+pub going_next : (old0 new0 old new old' new' : Standing) (Holds Holds' : List Pair → Type 0)
+    (h k : Bool) (b a : Option Row) → IsGoing old0 new0 old new Holds
     → (h, k) ≡ next_sides old.row new.row → ¬ (next_sides old.row new.row ≡ (false, false))
     → b ≡ taken_if h old.row → a ≡ taken_if k new.row
     → (IsKnown old → IsMoved old old' (rows_in b)) → (IsKnown new → IsMoved new new' (rows_in a))
-    → ((done : List Pair) → Told done → Told' (done ++ changes_of b a))
-    → IsGoing old0 new0 old' new' Told'
-going_next old0 new0 old new old' new' Told Told' h k b a going sides some is_b is_a moved_old
+    → ((done : List Pair) → Holds done → Holds' (done ++ changes_of b a))
+    → IsGoing old0 new0 old' new' Holds'
+going_next old0 new0 old new old' new' Holds Holds' h k b a going sides some is_b is_a moved_old
     moved_new
     more = record {
       known_old = λ known. (moved_old (going.known_old known)).known;
@@ -442,13 +442,13 @@ going_next old0 new0 old new old' new' Told Told' h k b a going sides some is_b 
           let rest = going.news known rows has in
           rest_moved new new' k (subst (λ (a : Option Row). IsMoved new new' (rows_in a)) is_a
           (moved_new (going.known_new known))) rest.0 rest.1;
-      told = λ known also.
-          let so = going.told known also in
+      holds = λ known also.
+          let so = going.holds known also in
           let to_old = moved_old (going.known_old known) in
           let to_new = moved_new (going.known_new also) in
           record {
             done = so.done ++ changes_of b a;
-            told = more so.done so.told;
+            holds = more so.done so.holds;
             whole = λ olds news pairs has_olds has_news paired.
                 let before_olds : HasRows old (rows_in b ++ olds) = (to_old.rows olds).0 has_olds in
                 let before_news : HasRows new (rows_in a ++ news) = (to_new.rows news).0 has_news in
@@ -498,12 +498,12 @@ no_rows (Some old) (Some new) e = by_order (key_cmp old.key new.key) e
 end_rows : (at : Standing) → at.row ≡ None → HasRows at []
 end_rows at none = subst (λ (row : Option Row). HasRowsAt row at.left []) (sym none) refl
 
-pub going_end : (old0 new0 old new : Standing) (Told : List Pair → Type 0)
-    → IsGoing old0 new0 old new Told → next_sides old.row new.row ≡ (false, false)
-    → IsKnown old0 → IsKnown new0 → AreTold old0 new0 Told
-going_end old0 new0 old new Told going sides known also =
+pub going_end : (old0 new0 old new : Standing) (Holds : List Pair → Type 0)
+    → IsGoing old0 new0 old new Holds → next_sides old.row new.row ≡ (false, false)
+    → IsKnown old0 → IsKnown new0 → HoldsOfCorrections old0 new0 Holds
+going_end old0 new0 old new Holds going sides known also =
     let none = no_rows old.row new.row sides in
-    let so = going.told known also in
+    let so = going.holds known also in
     let whole = so.whole [] [] [] (end_rows old none.0) (end_rows new none.1)
     (record { order = tt; of_old = refl; of_new = refl }) in
     record {
@@ -517,20 +517,20 @@ going_end old0 new0 old new Told going sides known also =
         beside = beside whole.olds whole.news whole.all whole.paired;
         listed = refl;
       };
-      told = subst Told (sym (whole.shown ∙ append-nil so.done)) so.told;
+      holds = subst Holds (sym (whole.shown ∙ append-nil so.done)) so.holds;
     }
 
 -- ---- a ledger that goes on with no rows has none
-pub refused_old : (old0 new0 old new : Standing) (Told : List Pair → Type 0)
-    → IsGoing old0 new0 old new Told → (IsKnown old → (rows : List Row) → ¬ (HasRows old rows))
+pub refused_old : (old0 new0 old new : Standing) (Holds : List Pair → Type 0)
+    → IsGoing old0 new0 old new Holds → (IsKnown old → (rows : List Row) → ¬ (HasRows old rows))
     → IsKnown old0 → (rows : List Row) → ¬ (HasRows old0 rows)
-refused_old old0 new0 old new Told going none known rows has =
+refused_old old0 new0 old new Holds going none known rows has =
     let rest = going.olds known rows has in none (going.known_old known) rest.0 rest.1
 
-pub refused_new : (old0 new0 old new : Standing) (Told : List Pair → Type 0)
-    → IsGoing old0 new0 old new Told → (IsKnown new → (rows : List Row) → ¬ (HasRows new rows))
+pub refused_new : (old0 new0 old new : Standing) (Holds : List Pair → Type 0)
+    → IsGoing old0 new0 old new Holds → (IsKnown new → (rows : List Row) → ¬ (HasRows new rows))
     → IsKnown new0 → (rows : List Row) → ¬ (HasRows new0 rows)
-refused_new old0 new0 old new Told going none known rows has =
+refused_new old0 new0 old new Holds going none known rows has =
     let rest = going.news known rows has in none (going.known_new known) rest.0 rest.1
 
 -- ---- the lines of all corrections
@@ -559,7 +559,7 @@ written_more out0 out out' removed counted more done appends count written =
 pub finished : (old_text new_text : List ℕ) (old new : Standing) (out mid end : Option (List ℕ))
     (removed : ℕ) → StandsBefore (λ rows. IsSettledLedger rows old_text) old
     → StandsBefore (λ rows. IsSettledLedger rows new_text) new → Appends out mid corrections_head
-    → (IsKnown old → IsKnown new → AreTold old new (AreWritten mid end removed))
+    → (IsKnown old → IsKnown new → HoldsOfCorrections old new (AreWritten mid end removed))
     → (text : List ℕ) × IsCorrectionsText old_text new_text text removed × Appends out end text
 finished old_text new_text old new out mid end removed begun_old begun_new head written =
     let is = written begun_old.known begun_new.known in (
@@ -572,8 +572,8 @@ finished old_text new_text old new out mid end removed begun_old begun_new head 
         changes = is.changes;
         are = is.are;
         shown = refl;
-        counted = is.told.counted;
+        counted = is.holds.counted;
       },
       Appends-trans out mid end corrections_head (corrections_lines is.changes) head
-          is.told.written,
+          is.holds.written,
     )

@@ -12,7 +12,7 @@ use Rattle.ledger_changes.specs.inside.Standings.{Standing}
 use Rattle.ledger_changes.specs.inside.Sums.{AreSummed, AreSumsWritten, TokenSum, add_changes}
 use Rattle.ledger_changes.specs.inside.Sums.{ended_line, ended_lines, sums_after, sums_for}
 use Rattle.ledger_changes.specs.inside.Sums.{sums_line}
-use Rattle.ledger_changes.specs.inside.Written.{AreTold, changes_of, pairs_of, row_in}
+use Rattle.ledger_changes.specs.inside.Written.{HoldsOfCorrections, changes_of, pairs_of, row_in}
 use Rattle.ledger_changes.specs.declared.row.LedgerRow.{LedgerRow}
 use Rattle.ledger_changes.proofs.Merging.{removed_more}
 
@@ -144,15 +144,15 @@ summed_all out0 out out' last removed changes appends summed = record {
   counted = summed.counted;
 }
 
-pub told_so : (old new : Standing) (Told So : List Pair → Type 0)
-    → ((changes : List Pair) → Told changes → So changes) → AreTold old new Told
-    → AreTold old new So
-told_so old new Told So so told = record {
-  old_rows = told.old_rows;
-  are_old = told.are_old;
-  new_rows = told.new_rows;
-  are_new = told.are_new;
-  changes = told.changes;
-  are = told.are;
-  told = so told.changes told.told;
+pub holds_so : (old new : Standing) (Holds So : List Pair → Type 0)
+    → ((changes : List Pair) → Holds changes → So changes) → HoldsOfCorrections old new Holds
+    → HoldsOfCorrections old new So
+holds_so old new Holds So so holds = record {
+  old_rows = holds.old_rows;
+  are_old = holds.are_old;
+  new_rows = holds.new_rows;
+  are_new = holds.are_new;
+  changes = holds.changes;
+  are = holds.are;
+  holds = so holds.changes holds.holds;
 }

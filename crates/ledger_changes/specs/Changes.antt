@@ -1,11 +1,12 @@
 -- What changed from one bill to the next.
-use Rattle.std.specs.Prelude.{◌≡◌, ◌+◌, ℕ, Bool, true, false, not, List, [], ◌∷◌, All, filter, flat_map}
+use Rattle.std.specs.Prelude.{◌≡◌, ◌+◌, ℕ, Bool, true, false, not, List, [], ◌∷◌, All, filter}
+use Rattle.std.specs.Prelude.{flat_map}
 use Rattle.std.specs.Prelude.{Option, None, Some, ⊤, sum_by, Contains, ◌⊎◌}
 use Rattle.std.specs.List.Sorted.{IsSorted}
 use Rattle.ledger_changes.specs.Rows.{Charge, Key, Row, is_same_charge, key_cmp}
 
--- a line of one bill beside the line of the other that has the same key; a line that has none beside
--- it stands alone
+-- a line of one bill beside the line of the other that has the same key; a line that has none
+-- beside it stands alone
 pub record Pair : Type 0 where
   pub key : Key
   pub before : Option Charge
@@ -72,9 +73,9 @@ abbrev pub weight_of : (Key → Charge → ℕ) → Key → Option Charge → �
 weight_of weight key None = 0
 weight_of weight key (Some charge) = weight key charge
 
--- The corrections add up, whatever is weighed: the cents of all lines, those of one token, the rides
--- of one validator. What the old bill has and what the corrections bring is what the new bill has and
--- what they take away.
+-- The corrections add up, whatever is weighed: the cents of all lines, those of one token, the
+-- rides of one validator. What the old bill has and what the corrections bring is what the new bill
+-- has and what they take away.
 abbrev pub AddUp : List Row → List Row → List Pair → Type 0
 AddUp old new changes =
     (weight : Key → Charge → ℕ)

@@ -23,7 +23,8 @@ change_word (Some before) (Some after) = codes "changed"
 abbrev pub charge_fields : Option Charge → List ℕ
 charge_fields None = codes ",,,"
 charge_fields (Some charge) =
-    codes "," ++ (charge.answer ++ (codes "," ++ (decimal charge.cents ++ (codes "," ++ charge.reason))))
+    codes "," ++
+    (charge.answer ++ (codes "," ++ (decimal charge.cents ++ (codes "," ++ charge.reason))))
 
 -- the cents of a line, and 0 if there is no line
 abbrev pub cents_of : Option Charge → ℕ
@@ -41,7 +42,8 @@ correction_line pair =
     pair.key.token ++ (codes "," ++ (pair.key.moment ++ (codes "," ++ (decimal pair.key.validator
     ++ (codes "," ++ (change_word pair.before pair.after
     ++ (charge_fields pair.before ++ (charge_fields pair.after
-    ++ (codes "," ++ (difference (cents_of pair.before) (cents_of pair.after) ++ codes "\n"))))))))))
+    ++ (codes "," ++
+    (difference (cents_of pair.before) (cents_of pair.after) ++ codes "\n"))))))))))
 
 -- a line for each correction
 abbrev pub corrections_lines : List Pair → List ℕ

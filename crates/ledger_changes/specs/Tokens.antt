@@ -29,7 +29,8 @@ is_in_both (Some before) (Some after) = true
 abbrev pub is_kept : Pair → Bool
 is_kept change = is_in_both change.before change.after
 
--- how many lines are added, removed and changed, and what cents they have in the old and the new bill
+-- how many lines are added, removed and changed, and what cents they have in the old and the new
+-- bill
 pub record Sums : Type 0 where
   pub added : ℕ
   pub removed : ℕ

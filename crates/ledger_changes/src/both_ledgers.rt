@@ -10,7 +10,8 @@ ghost use Rattle.ledger_changes.specs.Texts.{IsCorrectionsText, removed_in};
 ghost use Rattle.ledger_changes.specs.declared.fault.Bill.{Bill as ABill};
 ghost use Rattle.ledger_changes.specs.declared.fault.Bill.TheVariants.{New, Old};
 ghost use Rattle.ledger_changes.specs.inside.Standings.{HasRows, IsKnown, standing};
-ghost use Rattle.ledger_changes.specs.inside.Written.{AreTold, AreWritten, changes_of, next_sides};
+ghost use Rattle.ledger_changes.specs.inside.Written.{HoldsOfCorrections, AreWritten, changes_of};
+ghost use Rattle.ledger_changes.specs.inside.Written.{next_sides};
 ghost use Rattle.ledger_changes.specs.inside.Written.{row_in};
 
 use crate::correction_text::{write_change, write_text};
@@ -71,7 +72,7 @@ fn write_changes<R: BufRead + Drop, W: Write>(
     requires new { new.old.bill ≡ New }
     ensures written { IfOk result (λ removed. IsKnown (standing R.remaining old.old)
         → IsKnown (standing R.remaining new.old)
-        → AreTold (standing R.remaining old.old) (standing R.remaining new.old)
+        → HoldsOfCorrections (standing R.remaining old.old) (standing R.remaining new.old)
         (AreWritten (W.contents out.old) (W.contents out.new) removed)) }
     ensures refused_old { IfErr result (λ fault. IsOfLedger Old fault
         → IsKnown (standing R.remaining old.old) → (rows : List Row)

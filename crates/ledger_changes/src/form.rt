@@ -130,8 +130,8 @@ fn without_feed(line: &[u8]) -> Option<&[u8]>
     line.strip_suffix(b"\n")
 }
 
-/// The fields of a ledger's line, with its line feed; nothing if the line has not twelve fields, its
-/// token is none, or its validator or its cents are no number of at most 32 bits.
+/// The fields of a ledger's line, with its line feed; nothing if the line has not twelve fields,
+/// its token is none, or its validator or its cents are no number of at most 32 bits.
 pub fn row_fields(line: &[u8]) -> Option<RowFields<'_>>
     ensures { MatchOption result ((row : Row) → ¬ (IsRowLine row line.now))
         (λ fields. IsRowLine (row_of_fields fields) line.now) }

@@ -11,7 +11,7 @@ ghost use Rattle.ledger_changes.specs.declared.fault.Bill.{Bill as ABill};
 ghost use Rattle.ledger_changes.specs.declared.fault.Bill.TheVariants.{New, Old};
 ghost use Rattle.ledger_changes.specs.inside.Standings.{HasRows, IsKnown, standing};
 ghost use Rattle.ledger_changes.specs.inside.Sums.{AreSumsWritten};
-ghost use Rattle.ledger_changes.specs.inside.Written.{AreTold};
+ghost use Rattle.ledger_changes.specs.inside.Written.{HoldsOfCorrections};
 
 use crate::both_ledgers::{count_removed, next_sides};
 use crate::correction_text::write_text;
@@ -36,7 +36,7 @@ fn write_token_sums<R: BufRead + Drop, W: Write>(
     requires new { new.old.bill ≡ New }
     ensures written { IfOk result (λ removed. IsKnown (standing R.remaining old.old)
         → IsKnown (standing R.remaining new.old)
-        → AreTold (standing R.remaining old.old) (standing R.remaining new.old)
+        → HoldsOfCorrections (standing R.remaining old.old) (standing R.remaining new.old)
         (AreSumsWritten (W.contents out.old) (W.contents out.new) removed)) }
     ensures refused_old { IfErr result (λ fault. IsOfLedger Old fault
         → IsKnown (standing R.remaining old.old) → (rows : List Row)

@@ -1,7 +1,7 @@
 //! Tests of the libraries by their public calls: books, numbers that are drawn, turns, texts of
 //! faults; the service with its shares and workers, damaged uploads, writers that fail, schedules;
-//! files of the system, and files whose reads are short, interrupted or fail. They are what no command
-//! line shows; what one shows is a case in `cases/`.
+//! files of the system, and files whose reads are short, interrupted or fail. They are what no
+//! command line shows; what one shows is a case in `cases/`.
 //!
 //! They stand in a crate of their own, so that no library is proved anew with them.
 #![tactic(auto)]

@@ -7,14 +7,14 @@ use std::process::Abort;
 use std::test::Fail;
 use tap_views::{EncodeFault, LayoutFault};
 
-fn is_told<R: Abort, T: Display>(rt: &R, alloc: Global, fault: &T, text: &str) -> Result<(), Fail> {
-    let told = format!(in alloc; "{fault}")?;
-    assert_eq!(rt; told.as_str(), text);
+fn prints<R: Abort, T: Display>(rt: &R, alloc: Global, fault: &T, text: &str) -> Result<(), Fail> {
+    let printed = format!(in alloc; "{fault}")?;
+    assert_eq!(rt; printed.as_str(), text);
     Ok(())
 }
 
 #[test]
-fn faults_are_told_with_their_numbers(rt: HostRuntime) -> Result<(), Fail> {
+fn faults_are_printed_with_their_numbers(rt: HostRuntime) -> Result<(), Fail> {
     let rows = [
         (
             LayoutFault::Short { have: 7 },
@@ -36,7 +36,7 @@ fn faults_are_told_with_their_numbers(rt: HostRuntime) -> Result<(), Fail> {
         ),
     ];
     for (fault, text) in rows {
-        is_told(&rt, rt.alloc(), &fault, text)?;
+        prints(&rt, rt.alloc(), &fault, text)?;
     }
     let rows = [
         (EncodeFault::TooMany, "more than 4096 taps"),
@@ -47,8 +47,8 @@ fn faults_are_told_with_their_numbers(rt: HostRuntime) -> Result<(), Fail> {
         (EncodeFault::NoMemory, "out of memory"),
     ];
     for (fault, text) in rows {
-        is_told(&rt, rt.alloc(), &fault, text)?;
+        prints(&rt, rt.alloc(), &fault, text)?;
     }
     let fault = TableFault::Range { key: Key::Ceiling };
-    is_told(&rt, rt.alloc(), &fault, "Ceiling is out of range")
+    prints(&rt, rt.alloc(), &fault, "Ceiling is out of range")
 }

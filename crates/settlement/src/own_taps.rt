@@ -107,7 +107,8 @@ pub(crate) fn own_by_threads<R: Threads + Sync, U: Uploads + Sync>(
     let fewer = halvings - 1;
     let middle = middle_of(uploads, start, end);
     let first = move || -> Result<OwnTaps, AllocError>
-        requires { IsSync R.row × IsSync U.row × (start ≤ middle) × (middle ≤ U.number uploads.now) }
+        requires { IsSync R.row × IsSync U.row × (start ≤ middle)
+            × (middle ≤ U.number uploads.now) }
         ensures { IfOk result (λ own. IsRunOwn (U.may_be uploads.entry.now) start middle
             token own.taps.items own.ends.items) }
     { own_by_threads(rt, alloc, token, uploads, start, middle, fewer) };

@@ -137,7 +137,8 @@ pub(crate) fn split_by_threads<R: Threads + Sync, U: Uploads + Sync>(
     let fewer = halvings - 1;
     let middle = middle_of(uploads, start, end);
     let first = move || -> Result<SplitTaps, AllocError>
-        requires { IsSync R.row × IsSync U.row × (start ≤ middle) × (middle ≤ U.number uploads.now) }
+        requires { IsSync R.row × IsSync U.row × (start ≤ middle)
+            × (middle ≤ U.number uploads.now) }
         ensures { IfOk result (λ split. IsRunInParts (U.may_be uploads.entry.now) start middle
             (range_of_token ranges.entry.now) (length ranges.entry.now + 1) split.lists.items
             split.ends.items) }

@@ -35,7 +35,7 @@ abbrev pub after : Machine → List Event → Machine
 after m [] = m
 after m (e ∷ es) = after (next m e) es
 
--- a schedule: each event may come where it stands
+-- a schedule: each event may come after those before it
 abbrev pub IsSchedule : Machine → List Event → Type 0
 IsSchedule m [] = Unit {0}
 IsSchedule m (e ∷ es) = May m e × IsSchedule (next m e) es

@@ -21,7 +21,8 @@ pub record IsChosen (left right chosen : Head) : Type 0 where
 -- at this place of the tree is the one chosen of those at twice the place and behind that
 abbrev pub IsChosenAt : List Head → ℕ → Type 0
 IsChosenAt tree place =
-    (d : Head) → IsChosen (get_or tree (2 * place) d) (get_or tree (2 * place + 1) d) (get_or tree place d)
+    (d : Head) → IsChosen (get_or tree (2 * place) d) (get_or tree (2 * place + 1) d)
+    (get_or tree place d)
 
 -- the second half of the tree has the heads of the readers
 pub record HasLeaves (readers : List TapReader) (tree : List Head) : Type 0 where

@@ -3,7 +3,8 @@
 ghost use Rattle.std.specs.Prelude.{◌≡◌, ◌+◌, ◌<◌, ◌≤◌, ◌^◌, length, IfOk, IfErr, IfSome, OnOk};
 ghost use Rattle.placed_files.specs.Placed.{IsFilledFrom};
 ghost use Rattle.sorted_taps.specs.Reading.{window_bytes};
-ghost use Rattle.sorted_taps.specs.inside.Decoding.{IsDecodedAt, IsNoLayoutFault, IsReadOn, IsReadFault};
+ghost use Rattle.sorted_taps.specs.inside.Decoding.{IsDecodedAt, IsNoLayoutFault, IsReadOn};
+ghost use Rattle.sorted_taps.specs.inside.Decoding.{IsReadFault};
 
 use crate::decoded_taps::{Decoded, decode};
 use crate::fault::SortedFault;

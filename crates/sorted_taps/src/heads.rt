@@ -1,6 +1,7 @@
 //! The heads of readers, as a tree whose root is a least one.
 
-ghost use Rattle.std.specs.Prelude.{◌≡◌, ◌+◌, ◌*◌, ◌<◌, ℕ, List, get_or, length, set, IfOk, MatchOption, true, false};
+ghost use Rattle.std.specs.Prelude.{◌≡◌, ◌+◌, ◌*◌, ◌<◌, ℕ, List, get_or, length, set, IfOk};
+ghost use Rattle.std.specs.Prelude.{MatchOption, true, false};
 ghost use Rattle.sorted_taps.specs.Heads.{HasLeaves, IsChosen, IsNotAfter, IsRanked};
 ghost use Rattle.sorted_taps.specs.Merges.{AreAtEnd, IsLeastHead};
 ghost use Rattle.sorted_taps.specs.Readers.{head_of};

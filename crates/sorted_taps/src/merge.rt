@@ -51,9 +51,9 @@ impl Merge {
         Ok(Merge::of(alloc, readers)?)
     }
 
-    /// At the first tap of each file whose token is not below this one, if the files are in order and
-    /// in batches of 512 taps: else at other taps, or there is a fault. How many taps are taken is
-    /// counted from there. The window has `WINDOW_BYTES` at least.
+    /// At the first tap of each file whose token is not below this one, if the files are in order
+    /// and in batches of 512 taps: else at other taps, or there is a fault. How many taps are taken
+    /// is counted from there. The window has `WINDOW_BYTES` at least.
     pub fn near<F: Placed>(
         alloc: Global,
         files: &[F],
@@ -96,8 +96,8 @@ impl Merge {
     }
 
     /// Takes a tap at which a reader stands and before which no reader stands; its reader goes on.
-    /// None if all files are at their ends. After a fault, which is that of the reader, the merge is
-    /// of no use. The window has `WINDOW_BYTES` at least.
+    /// None if all files are at their ends. After a fault, which is that of the reader, the merge
+    /// is of no use. The window has `WINDOW_BYTES` at least.
     pub fn next<F: Placed>(
         &mut self,
         files: &[F],

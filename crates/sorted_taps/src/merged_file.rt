@@ -56,8 +56,8 @@ impl From<WriteFault> for MergeStop {
     }
 }
 
-/// Merges the files as `merge_sorted` does. If one has another stamp than at the begin, it is refused
-/// before the last taps are written.
+/// Merges the files as `merge_sorted` does. If one has another stamp than at the begin, it is
+/// refused before the last taps are written.
 fn write_merged<F: Placed, W: Write>(
     alloc: Global,
     files: &[F],

@@ -5,7 +5,8 @@ ghost use Rattle.std.specs.Prelude.{IfSome, IsTrue, MatchOption, true, false};
 ghost use Rattle.tap_views.specs.declared.encoder.TapFields.{TapFields};
 ghost use Rattle.sorted_taps.specs.Reading.{window_bytes};
 ghost use Rattle.sorted_taps.specs.Merged.{BeginsNotBefore};
-ghost use Rattle.sorted_taps.specs.Readers.{ahead, StandsIn, IsAdvanced, IsBehindFault, IsStepFault};
+ghost use Rattle.sorted_taps.specs.Readers.{ahead, StandsIn, IsAdvanced, IsBehindFault};
+ghost use Rattle.sorted_taps.specs.Readers.{IsStepFault};
 ghost use Rattle.sorted_taps.specs.Stands.{StandsAs};
 ghost use Rattle.sorted_taps.specs.inside.Steps.{BeginsBefore, IsMovedOn, IsRefilled};
 

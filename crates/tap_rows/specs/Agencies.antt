@@ -1,6 +1,7 @@
 -- An agency's CSV as a whole: what its rows are read as, the upload of their taps, the rows that
 -- are refused, and their summary.
-use Rattle.std.specs.Prelude.{◌≡◌, ℕ, ◌+◌, List, [], ◌∷◌, ◌++◌, Option, Some, None, length, map, codes, slice_get, IsSomeAnd, flat_map}
+use Rattle.std.specs.Prelude.{◌≡◌, ℕ, ◌+◌, List, [], ◌∷◌, ◌++◌, Option, Some, None, length, map}
+use Rattle.std.specs.Prelude.{codes, slice_get, IsSomeAnd, flat_map}
 use Rattle.std.specs.Fmt.{decimal}
 use Rattle.std.specs.Io.KnownBytes.{Appends}
 use Rattle.std.specs.List.{AllZip, sum_by}
@@ -35,7 +36,8 @@ IsWanting choice head (wanted.Only place) =
 
 -- the text has a head and these rows, the head lacks no column of the choice, and each row is read
 -- as the reading at its place
-pub record IsRead (choice : Choice) (text : List ℕ) (head : List (List ℕ)) (rows : List (List (List ℕ))) (readings : List Reading) : Type 0 where
+pub record IsRead (choice : Choice) (text : List ℕ) (head : List (List ℕ))
+    (rows : List (List (List ℕ))) (readings : List Reading) : Type 0 where
   pub records : HasRecords choice.separator text (head ∷ rows)
   pub columns : (column : Wanted) → ¬ (IsWanting choice head column)
   pub each : AllZip (IsReadingOf choice head) rows readings
@@ -116,7 +118,8 @@ first_refusal [] = None
 first_refusal (refusal ∷ refused) = Some (refusal.number, refusal.reason)
 
 -- the summary is that of these rows, read so
-pub record IsSummary (rows : List (List (List ℕ))) (readings : List Reading) (summary : Summary) : Type 0 where
+pub record IsSummary (rows : List (List (List ℕ))) (readings : List Reading) (summary : Summary)
+    : Type 0 where
   pub taps : summary.taps ≡ length (taps_in readings)
   pub left_out : summary.left_out ≡ left_out_in readings
   pub refused : summary.refused ≡ length (refusals rows readings)
@@ -126,7 +129,8 @@ pub record IsSummary (rows : List (List (List ℕ))) (readings : List Reading) (
 
 -- the text is read whole. Behind the old bytes an upload was written with no fault, of exactly the
 -- taps of the rows that are kept, in their order; and behind other old bytes the refused rows
-pub record IsRowsEncoded (choice : Choice) (text : List ℕ) (old new old_refused new_refused : Option (List ℕ)) (summary : Summary) : Type 0 where
+pub record IsRowsEncoded (choice : Choice) (text : List ℕ)
+    (old new old_refused new_refused : Option (List ℕ)) (summary : Summary) : Type 0 where
   pub head : List (List ℕ)
   pub rows : List (List (List ℕ))
   pub readings : List Reading
@@ -134,18 +138,21 @@ pub record IsRowsEncoded (choice : Choice) (text : List ℕ) (old new old_refuse
   pub file : List ℕ
   pub upload : IsFileOf file (taps_in readings)
   pub written : Appends old new file
-  pub refused : Appends old_refused new_refused (refusals_text choice.separator head (refusals rows readings))
+  pub refused : Appends old_refused new_refused
+      (refusals_text choice.separator head (refusals rows readings))
   pub summary_is : IsSummary rows readings summary
 
 -- the row of this number is the first that is refused, for this reason
-pub record IsFirstRefused (choice : Choice) (text : List ℕ) (number : ℕ) (reason : Reason) : Type 0 where
+pub record IsFirstRefused (choice : Choice) (text : List ℕ) (number : ℕ) (reason : Reason)
+    : Type 0 where
   pub head : List (List ℕ)
   pub rows : List (List (List ℕ))
   pub readings : List Reading
   pub is_read : IsRead choice text head rows readings
   pub first : first_refusal (refusals rows readings) ≡ Some (number, reason)
 
--- what a fault says of the text; that a read, a write or a growth of memory failed says nothing of it
+-- what a fault says of the text; that a read, a write or a growth of memory failed says nothing of
+-- it
 abbrev pub IsAgencyFault : Choice → List ℕ → AgencyFault → Type 0
 IsAgencyFault choice text (fault.Column wanted) =
     IsWanting choice (first_record choice.separator text) wanted

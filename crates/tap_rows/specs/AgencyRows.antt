@@ -43,16 +43,18 @@ IsTokenText text token = parsed text ≡ Some token
 abbrev pub HasSome : List (List ℕ) → List (List ℕ) → List ℕ → (List ℕ → Type 0) → Type 0
 HasSome head row name IsOne = (value : List ℕ) × HasValue head row name value × IsOne value
 
--- the text stands for this validator: it writes the number or, if there are devices, is the name of the
--- device to which the table gives it
+-- the text stands for this validator: it writes the number or, if there are devices, is the name of
+-- the device to which the table gives it
 abbrev pub StandsForValidator : Option (Bor DeviceTable) → List ℕ → ℕ → Type 0
 StandsForValidator None text number = IsValidator text number
-StandsForValidator (Some devices) text number = validator_of (devices_of devices.now) text ≡ Some number
+StandsForValidator (Some devices) text number =
+    validator_of (devices_of devices.now) text ≡ Some number
 
 -- the row's fields in the columns of the choice give this tap
 pub record IsTapOf (choice : Choice) (head row : List (List ℕ)) (tap : TapFields) : Type 0 where
   pub token : HasSome head row choice.token.now (λ text. IsTokenText text tap.token)
-  pub validator : HasSome head row choice.validator.now (λ text. StandsForValidator choice.devices text tap.validator)
+  pub validator : HasSome head row choice.validator.now
+      (λ text. StandsForValidator choice.devices text tap.validator)
   pub moment : HasSome head row choice.moment.now (λ text. IsAgencyMoment text tap.moment)
 
 -- the text is no token
@@ -78,17 +80,20 @@ abbrev pub HasNoToken : Choice → List (List ℕ) → List (List ℕ) → Type 
 HasNoToken choice head row = HasSome head row choice.token.now IsNoToken
 
 -- it is the validator's, which is wrong in this way
-pub record HasNoValidator (choice : Choice) (head row : List (List ℕ)) (IsWrong : List ℕ → Type 0) : Type 0 where
+pub record HasNoValidator (choice : Choice) (head row : List (List ℕ)) (IsWrong : List ℕ → Type 0)
+    : Type 0 where
   pub bytes : List ℕ
   pub token : HasSome head row choice.token.now (λ text. IsTokenText text bytes)
   pub wrong : HasSome head row choice.validator.now IsWrong
 
 -- it is the moment's, which is wrong in this way
-pub record HasNoMoment (choice : Choice) (head row : List (List ℕ)) (IsWrong : List ℕ → Type 0) : Type 0 where
+pub record HasNoMoment (choice : Choice) (head row : List (List ℕ)) (IsWrong : List ℕ → Type 0)
+    : Type 0 where
   pub bytes : List ℕ
   pub number : ℕ
   pub token : HasSome head row choice.token.now (λ text. IsTokenText text bytes)
-  pub validator : HasSome head row choice.validator.now (λ text. StandsForValidator choice.devices text number)
+  pub validator : HasSome head row choice.validator.now
+      (λ text. StandsForValidator choice.devices text number)
   pub wrong : HasSome head row choice.moment.now (λ text. IsNoMoment text × IsWrong text)
 
 -- why a row that is kept, and has as many fields as the head, is no tap
@@ -107,11 +112,16 @@ IsAsLong head row = length row ≡ length head
 -- why a row is refused
 abbrev pub IsRefused : Choice → List (List ℕ) → List (List ℕ) → Reason → Type 0
 IsRefused choice head row why.Fields = ¬ (IsAsLong head row)
-IsRefused choice head row why.Token = IsAsLong head row × IsKept choice head row × IsNoTap choice head row why.Token
-IsRefused choice head row why.Validator = IsAsLong head row × IsKept choice head row × IsNoTap choice head row why.Validator
-IsRefused choice head row why.Device = IsAsLong head row × IsKept choice head row × IsNoTap choice head row why.Device
-IsRefused choice head row why.LocalTime = IsAsLong head row × IsKept choice head row × IsNoTap choice head row why.LocalTime
-IsRefused choice head row why.Moment = IsAsLong head row × IsKept choice head row × IsNoTap choice head row why.Moment
+IsRefused choice head row why.Token =
+    IsAsLong head row × IsKept choice head row × IsNoTap choice head row why.Token
+IsRefused choice head row why.Validator =
+    IsAsLong head row × IsKept choice head row × IsNoTap choice head row why.Validator
+IsRefused choice head row why.Device =
+    IsAsLong head row × IsKept choice head row × IsNoTap choice head row why.Device
+IsRefused choice head row why.LocalTime =
+    IsAsLong head row × IsKept choice head row × IsNoTap choice head row why.LocalTime
+IsRefused choice head row why.Moment =
+    IsAsLong head row × IsKept choice head row × IsNoTap choice head row why.Moment
 
 -- what a row is read as, under this head: a tap that is kept, a row that is not, or one that is no
 -- tap

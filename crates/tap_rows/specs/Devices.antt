@@ -1,5 +1,6 @@
 -- A device table: a CSV that gives devices, by their names, the numbers of their validators.
-use Rattle.std.specs.Prelude.{◌≡◌, ◌⊎◌, ℕ, ◌+◌, List, [], ◌∷◌, ◌++◌, Option, Some, length, map, codes}
+use Rattle.std.specs.Prelude.{◌≡◌, ◌⊎◌, ℕ, ◌+◌, List, [], ◌∷◌, ◌++◌, Option, Some, length, map}
+use Rattle.std.specs.Prelude.{codes}
 use Rattle.std.specs.List.{AllZip, IsDistinct}
 use Rattle.std.specs.Map.{keys_of, lookup}
 use Rattle.std.specs.Str.{bytes_eq}
@@ -36,11 +37,12 @@ device_head = codes "device" ∷ codes "validator" ∷ []
 abbrev pub HasDeviceHead : Separator → List ℕ → Type 0
 HasDeviceHead separator text = first_record separator text ≡ device_head
 
--- the separator of a device table beside rows with this one: theirs, if the head has its two names by
--- it, or else a comma
+-- the separator of a device table beside rows with this one: theirs, if the head has its two names
+-- by it, or else a comma
 abbrev pub IsItsSeparator : Separator → List ℕ → Separator → Type 0
 IsItsSeparator separator text its =
-    (HasDeviceHead separator text × (its ≡ separator)) ⊎ (¬ (HasDeviceHead separator text) × (its ≡ Comma))
+    (HasDeviceHead separator text × (its ≡ separator))
+    ⊎ (¬ (HasDeviceHead separator text) × (its ≡ Comma))
 
 -- the row gives this device its validator: it has two fields, and the device's is not empty
 pub record IsDeviceRow (row : List (List ℕ)) (device : Device) : Type 0 where
@@ -49,9 +51,10 @@ pub record IsDeviceRow (row : List (List ℕ)) (device : Device) : Type 0 where
   pub named : ¬ (device.0 ≡ [])
   pub number : IsValidator digits device.1
 
--- by this separator the text is a device table of these devices, in the order of their rows: each row
--- gives one its validator, and no two have the same name
-pub record AreDevicesBy (separator : Separator) (text : List ℕ) (devices : List Device) : Type 0 where
+-- by this separator the text is a device table of these devices, in the order of their rows: each
+-- row gives one its validator, and no two have the same name
+pub record AreDevicesBy (separator : Separator) (text : List ℕ) (devices : List Device)
+    : Type 0 where
   pub rows : List (List (List ℕ))
   pub records : HasRecords separator text (device_head ∷ rows)
   pub each : AllZip IsDeviceRow rows devices
@@ -64,7 +67,8 @@ pub record AreDevices (separator : Separator) (text : List ℕ) (devices : List 
   pub are : AreDevicesBy its text devices
 
 -- the text begins with these records
-pub record BeginsWith (separator : Separator) (text : List ℕ) (rows : List (List (List ℕ))) : Type 0 where
+pub record BeginsWith (separator : Separator) (text : List ℕ) (rows : List (List (List ℕ)))
+    : Type 0 where
   pub state : State
   pub left : List ℕ
   pub reached : Reached (config_of separator) StartRecord (strip_bom text) rows state left
@@ -76,10 +80,12 @@ IsWrongDevice devices row wrong.NoName = (digits : List ℕ) × (row ≡ [] ∷ 
 IsWrongDevice devices row wrong.Validator =
     (name digits : List ℕ) × (row ≡ name ∷ digits ∷ []) × ¬ (name ≡ []) × IsNoValidator digits
 IsWrongDevice devices row wrong.Again =
-    (device : Device) × IsDeviceRow row device × (number : ℕ) × (validator_of devices device.0 ≡ Some number)
+    (device : Device) × IsDeviceRow row device × (number : ℕ)
+    × (validator_of devices device.0 ≡ Some number)
 
 -- the row of this number is the first that is wrong, in this way. The head is row 1
-pub record IsFirstWrong (separator : Separator) (text : List ℕ) (number : ℕ) (why : WrongDevice) : Type 0 where
+pub record IsFirstWrong (separator : Separator) (text : List ℕ) (number : ℕ) (why : WrongDevice)
+    : Type 0 where
   pub before : List (List (List ℕ))
   pub devices : List Device
   pub row : List (List ℕ)
@@ -91,7 +97,8 @@ pub record IsFirstWrong (separator : Separator) (text : List ℕ) (number : ℕ)
 
 -- what a fault says of the text; that a growth of memory failed says nothing of it
 abbrev pub IsDevicesFault : Separator → List ℕ → DevicesFault → Type 0
-IsDevicesFault separator text fault.Head = ¬ (HasDeviceHead separator text) × ¬ (HasDeviceHead Comma text)
+IsDevicesFault separator text fault.Head =
+    ¬ (HasDeviceHead separator text) × ¬ (HasDeviceHead Comma text)
 IsDevicesFault separator text (fault.Row number why) =
     (its : Separator) × IsItsSeparator separator text its × IsFirstWrong its text number why
 IsDevicesFault separator text fault.NoMemory = Unit {0}

@@ -51,8 +51,8 @@ pub fn reads_utc()
         → IsSecondText moment text → IsMoment text moment }
 {}
 
-/// An agency's CSV is read in one way at most: it has one head and one list of rows, and each row has
-/// one reading.
+/// An agency's CSV is read in one way at most: it has one head and one list of rows, and each row
+/// has one reading.
 pub fn one_reading_of_rows()
     ensures { (choice : Choice) (text : List ℕ) (head other : List (List ℕ))
         (rows others : List (List (List ℕ))) (readings again : List Reading)

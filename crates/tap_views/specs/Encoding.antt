@@ -49,7 +49,7 @@ module _ {Fields : Type 0} (moment : Fields → ℕ) (taps : List Fields) where
     pub late : IsSomeAnd (slice_get taps index) (λ tap. moment_limit ≤ moment tap)
     pub earlier : All (λ tap. moment tap < moment_limit) (take index taps)
 
-  -- when taps are refused: for want of memory only where nothing else is wrong
+  -- when taps are refused: for want of memory only if nothing else is wrong
   abbrev pub IsRefused : EncodeFault → Type 0
   IsRefused TooMany = 4096 < length taps
   IsRefused (Moment index) = (length taps ≤ 4096) × IsFirstLate index

@@ -41,7 +41,7 @@ abbrev pub moment_in : List ℕ → ℕ → ℕ
 moment_in bytes index = num (take 8 (drop (28 + width (layout_in bytes) * index) bytes))
 
 -- what each fault says of the bytes from the batch's start on; the header of `TAP2` is the longer
--- one, so its bytes may be short where those of another magic are not
+-- one, so its bytes may be short though those of another magic are not
 abbrev pub Row : LayoutFault → List ℕ → Type 0
 Row (Short have) bytes = (have ≡ length bytes) × (length bytes < header (layout_in bytes))
 Row Magic bytes = ¬ (take 4 bytes ≡ codes "TAP1") × ¬ (take 4 bytes ≡ codes "TAP2")

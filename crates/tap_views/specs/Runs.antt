@@ -4,7 +4,7 @@ use Rattle.std.specs.Prelude.{if◌then◌else◌}
 use Rattle.tap_views.specs.Layout.{Tap}
 use Rattle.tap_views.specs.Shards.{shard_of_token}
 
--- the places of the taps of a shard, where the first tap has the place `at`
+-- the places of the taps of a shard, if the first tap has the place `at`
 abbrev pub places_from : ℕ → ℕ → ℕ → List Tap → List ℕ
 places_from shard shards at [] = []
 places_from shard shards at (tap ∷ taps) =

@@ -118,7 +118,7 @@ impl<'a> Batch<'a> {
         }
     }
 
-    /// The same, where the places of the shard's taps are known.
+    /// The same, if the places of the shard's taps are known.
     pub(crate) fn run_at<'b>(&'b self, places: &'b [u16], of_shard: u32, shards: u32) -> Run<'b>
         requires below { of_shard < shards }
         requires most { shards ≤ 64 }

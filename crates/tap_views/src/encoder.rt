@@ -43,7 +43,7 @@ impl TapFields {
     }
 }
 
-/// What a tap is encoded from in a `TAP2` batch, where all taps share a validator.
+/// What a tap is encoded from in a `TAP2` batch. All its taps share a validator.
 #[derive(Clone, Copy, Debug, PartialEq, Eq)]
 pub struct Tap2Fields {
     /// The 16 bytes of the token.

@@ -13,7 +13,7 @@ pub struct Facts {
     pub batches: u64,
     /// How many taps.
     pub taps: u64,
-    /// The first and the last moment; none where there is no tap.
+    /// The first and the last moment, or `None` if there is no tap.
     pub span: Option<MomentSpan>,
     /// The layout fault that ends the upload, and the offset of its batch in bytes.
     pub fault: Option<(u64, LayoutFault)>,

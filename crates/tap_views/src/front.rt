@@ -4,7 +4,7 @@ ghost use Rattle.tap_views.specs.Facts.{IsGoodPart};
 
 use crate::upload::good_batches;
 
-/// The bytes before the upload's first layout fault: an upload without a fault. All bytes where
+/// The bytes before the upload's first layout fault: an upload without a fault. All bytes if
 /// there is none.
 pub fn good_part(upload: &[u8]) -> &[u8]
     ensures { IsGoodPart upload.now result.now }

@@ -1,5 +1,5 @@
-//! What the grammar promises whoever reads bytes by it, and of tokens. Each law is the contract of a function,
-//! which changes and gives nothing, `round_trip` apart; call it where a proof needs its law.
+//! What the grammar promises whoever reads bytes by it, and laws of tokens. Each law is the contract
+//! of a function that does nothing, but for `round_trip`. Call it where a proof needs its law.
 
 ghost use Rattle.std.specs.Prelude.{◌≡◌, ◌++◌, ℕ, List, map, All, MatchResult};
 ghost use Rattle.std.specs.Cmp.Lexicographic.{slice_cmp};
@@ -49,8 +49,8 @@ pub fn one_reading_each(uploads: &[Vec<u8>])
 }
 
 /// The round trip: of the bytes that `encode` or `encode_tap2` gave for some taps, and any bytes
-/// behind them, the first batch is these taps, and the bytes left are those behind them. It is
-/// `Batch::first`, told of encoded bytes.
+/// behind them, the first batch is these taps, and the bytes left are those behind them. It calls
+/// `Batch::first`.
 pub fn round_trip<'a>(bytes: &'a [u8]) -> Result<(Batch<'a>, &'a [u8]), LayoutFault>
     ensures tap1 { (encoded behind : List ℕ) (taps : List TapFields) → Encodes encoded taps
         → bytes.now ≡ encoded ++ behind

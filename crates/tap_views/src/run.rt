@@ -24,7 +24,7 @@ pub struct Run<'a> {
     pub(crate) shard: u32,
     /// The number of shards.
     pub(crate) shards: u32,
-    /// The places of the shard's taps in the batch, where `Runs` has them.
+    /// The places of the shard's taps in the batch, if `Runs` has them.
     pub(crate) places: Option<&'a [u16]>,
 }
 
@@ -50,7 +50,7 @@ impl<'a> Model for Run<'a> {
 }
 
 impl<'a> Run<'a> {
-    /// The number of taps. It scans the batch where the places of the taps are not known.
+    /// The number of taps. It scans the batch if the places of the taps are not known.
     pub fn len(&self) -> u32
         ensures number { result ≡ length (run_taps self.now) }
         ensures most { result ≤ 4096 }
@@ -61,8 +61,8 @@ impl<'a> Run<'a> {
         }
     }
 
-    /// Whether there are no taps. It scans the batch up to the first one where their places
-    /// are not known.
+    /// Whether there are no taps. It scans the batch up to the first one if their places are not
+    /// known.
     #[inline(always)]
     pub fn is_empty(&self) -> bool
         ensures { IsTrue result ↔ (run_taps self.now ≡ []) }
@@ -108,9 +108,9 @@ impl<'a> Run<'a> {
 /// The taps of a run in their order.
 #[derive(Drop)]
 pub struct RunTaps<'a> {
-    /// What is left of the batch; the whole batch where the places of the taps are known.
+    /// What is left of the batch, or the whole batch if the places of the taps are known.
     taps: Taps<'a>,
-    /// The places that are left, where `Runs` has them.
+    /// The places that are left, if `Runs` has them.
     places: Option<&'a [u16]>,
     /// The shard whose taps these are.
     shard: u32,

@@ -115,7 +115,7 @@ impl Model for Runs {
 }
 
 impl Runs {
-    /// No places, of 1 to 64 shards, with room for those of any batch. It fails only where that
+    /// No places, of 1 to 64 shards, with room for those of any batch. It fails only if that
     /// memory is refused.
     pub fn new(alloc: Global, shards: u32) -> Result<Self, AllocError>
         requires least { 1 ≤ shards }

@@ -1,4 +1,4 @@
-//! A sample of an upload's tokens, as the headers of its batches tell where they lie.
+//! A sample of an upload's tokens, found by the headers of its batches alone.
 
 ghost use Rattle.std.specs.Prelude.{◌≤◌};
 

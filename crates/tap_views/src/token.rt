@@ -6,7 +6,7 @@ ghost use Rattle.tap_views.specs.Token.{Fits, bytes_of};
 /// The 16 bytes that name an account, ordered by these bytes.
 ///
 /// Kept as two big-endian numbers, so that order, equality and hash are two machine words each,
-/// also where two tokens begin alike.
+/// also if two tokens begin alike.
 #[derive(Clone, Copy, Debug, PartialEq, Eq, PartialOrd, Ord, Hash)]
 pub struct Token {
     /// The first eight bytes.

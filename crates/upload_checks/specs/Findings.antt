@@ -14,8 +14,8 @@ abbrev pub taps_of : Findings → List TapFields
 taps_of found = flat_map (λ list. list.items) found.lists.items
 
 -- These are the good taps of the uploads in canonical order, the near doubles among them, those of
--- them before and after the span, and the uploads that have the bytes of an earlier one: all of each
--- kind, in their order, and no others.
+-- them before and after the span, and the uploads that have the bytes of an earlier one: all of
+-- each kind, in their order, and no others.
 pub record AreFindings (within : ℕ) (span : MomentSpan) (uploads : List (List ℕ)) (found : Findings)
     : Type 0 where
   pub settled : AreSettledTaps uploads (taps_of found)

@@ -1,5 +1,6 @@
 -- Near doubles: taps that follow another one of their token at their validator closely.
-use Rattle.std.specs.Prelude.{◌≡◌, ◌≤◌, Contains, ℕ, ◌-◌, ◌&&◌, Bool, List, [], ◌∷◌, ◌++◌, Option, Some, None, nat_le}
+use Rattle.std.specs.Prelude.{◌≡◌, ◌≤◌, Contains, ℕ, ◌-◌, ◌&&◌, Bool, List, [], ◌∷◌, ◌++◌, Option}
+use Rattle.std.specs.Prelude.{Some, None, nat_le}
 use Rattle.std.specs.Prelude.{if◌then◌else◌, nat_eq}
 use Rattle.std.specs.Cmp.Lexicographic.{pointwise}
 use Rattle.tap_views.specs.declared.encoder.TapFields.{TapFields}

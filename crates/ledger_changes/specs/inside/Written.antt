@@ -47,14 +47,14 @@ abbrev pub changes_of : Option Row → Option Row → List Pair
 changes_of before after = filter is_changed (pairs_of before after)
 
 -- if these rows are those of the ledgers, this is so of their corrections
-pub record AreTold (old new : Standing) (Told : List Pair → Type 0) : Type 0 where
+pub record HoldsOfCorrections (old new : Standing) (Holds : List Pair → Type 0) : Type 0 where
   pub old_rows : List Row
   pub are_old : HasRows old old_rows
   pub new_rows : List Row
   pub are_new : HasRows new new_rows
   pub changes : List Pair
   pub are : AreCorrections old_rows new_rows changes
-  pub told : Told changes
+  pub holds : Holds changes
 
 -- the line of each correction was written, and `removed` of the old bill's lines are removed
 pub record AreWritten (before after : Option (List ℕ)) (removed : ℕ) (changes : List Pair)

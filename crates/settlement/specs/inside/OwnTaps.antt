@@ -12,8 +12,8 @@ use Rattle.settlement.specs.Posted.{only}
 use Rattle.settlement.specs.Reading.{AreRead}
 use Rattle.settlement.specs.inside.SplitTaps.{HasGoodTokens}
 
--- the token's taps among the good taps of the upload were added, in their order, and the upload ends
--- so
+-- the token's taps among the good taps of the upload were added, in their order, and the upload
+-- ends so
 pub record AreOwnAdded (token : Token) (upload : List ℕ) (old new : List TapFields)
     (end : UploadEnd) : Type 0 where
   pub taps : List Tap
@@ -21,8 +21,8 @@ pub record AreOwnAdded (token : Token) (upload : List ℕ) (old new : List TapFi
   pub added : new ≡ old ++ only token (map fields_of taps)
   pub ended : IsPlainEnd upload end
 
--- the list has the token's taps among the good taps of the uploads, in the order of the uploads, and
--- these are the uploads' ends
+-- the list has the token's taps among the good taps of the uploads, in the order of the uploads,
+-- and these are the uploads' ends
 pub record AreOwnTaps (token : Token) (uploads : List (List ℕ)) (own : List TapFields)
     (ends : List UploadEnd) : Type 0 where
   pub taps : List (List Tap)

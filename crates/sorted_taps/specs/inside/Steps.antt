@@ -12,7 +12,8 @@ abbrev pub BeginsBefore : TapFields → List TapFields → Type 0
 BeginsBefore tap [] = ⊥
 BeginsBefore tap (head ∷ rest) = is_lt (tap_cmp head tap) ≡ true
 
--- the reader's taps are those of the file from its old offset on; it has none only at the file's end
+-- the reader's taps are those of the file from its old offset on; it has none only at the file's
+-- end
 pub record IsRefilled (all : List ℕ) (old new : TapReader) : Type 0 where
   pub between : AreTapsBetween all old.offset new.offset new.taps.items
   pub first : new.next ≡ 0

@@ -5,7 +5,8 @@ use Rattle.std.specs.Map.{keys_of}
 use Rattle.std.specs.Str.{bytes_eq}
 use Rattle.csv.specs.Records.{field_at}
 use Rattle.csv.specs.declared.reader.Reader.{Reader}
-use Rattle.tap_rows.specs.Devices.{Device, HasDeviceHead, IsDeviceRow, IsFirstWrong, IsWrongDevice, device_head}
+use Rattle.tap_rows.specs.Devices.{Device, HasDeviceHead, IsDeviceRow, IsFirstWrong, IsWrongDevice}
+use Rattle.tap_rows.specs.Devices.{device_head}
 use Rattle.tap_rows.specs.declared.agency.choice.Separator.{Separator}
 use Rattle.tap_rows.specs.declared.devices.fault.DevicesFault.{DevicesFault}
 use Rattle.tap_rows.specs.declared.devices.fault.DevicesFault.TheVariants as fault
@@ -15,7 +16,8 @@ use Rattle.tap_rows.specs.inside.RecordReaders.{HasCome}
 -- the row has the two names, as the head of a device table
 abbrev pub IsHeadRow : List (List ℕ) → Type 0
 IsHeadRow row =
-    (length row ≡ 2) × (field_at row 0 ≡ Some (codes "device")) × (field_at row 1 ≡ Some (codes "validator"))
+    (length row ≡ 2) × (field_at row 0 ≡ Some (codes "device"))
+    × (field_at row 1 ≡ Some (codes "validator"))
 
 -- what is wrong with a row, whatever rows are before it
 abbrev pub IsRowOfNone : List (List ℕ) → WrongDevice → Type 0
@@ -34,7 +36,8 @@ IsFaultBy separator text (fault.Row number why) = IsFirstWrong separator text nu
 IsFaultBy separator text fault.NoMemory = Unit {0}
 
 -- `count` rows are read from a device table, and give these devices their validators
-pub record HasDevices {R : Type 0} (remaining : R → Option (List ℕ)) (separator : Separator) (text : List ℕ) (count : ℕ) (reader : Reader R) (devices : List Device) : Type 0 where
+pub record HasDevices {R : Type 0} (remaining : R → Option (List ℕ)) (separator : Separator)
+    (text : List ℕ) (count : ℕ) (reader : Reader R) (devices : List Device) : Type 0 where
   pub rows : List (List (List ℕ))
   pub come : HasCome remaining separator text (device_head ∷ rows) reader
   pub each : AllZip IsDeviceRow rows devices

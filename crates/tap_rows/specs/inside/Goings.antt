@@ -29,15 +29,20 @@ IsOfSystem fault.NoMemory = Unit {0}
 
 -- `count` rows are read from a text whose bytes may be known. Their taps are written but those that
 -- wait, the refused rows are written, and the summary is theirs
-pub record IsGoing {R : Type 0} (remaining : R → Option (List ℕ)) (choice : Choice) (places : Places) (text : Option (List ℕ)) (count : ℕ) (reader : Reader R) (waiting : List TapFields) (summary : Summary) (old new old_refused new_refused : Option (List ℕ)) : Type 0 where
+pub record IsGoing {R : Type 0} (remaining : R → Option (List ℕ)) (choice : Choice)
+    (places : Places) (text : Option (List ℕ)) (count : ℕ) (reader : Reader R)
+    (waiting : List TapFields) (summary : Summary)
+    (old new old_refused new_refused : Option (List ℕ)) : Type 0 where
   pub head : List (List ℕ)
   pub rows : List (List (List ℕ))
   pub readings : List Reading
   pub columns : ArePlaces choice head places
-  pub come : (bytes : List ℕ) → text ≡ Some bytes → HasCome remaining choice.separator bytes (head ∷ rows) reader
+  pub come : (bytes : List ℕ) → text ≡ Some bytes
+      → HasCome remaining choice.separator bytes (head ∷ rows) reader
   pub each : AllZip (IsReadingOf choice head) rows readings
   pub number : length rows ≡ count
   pub room : AreEncodable (λ tap. tap.moment) waiting
   pub written : AreWritten old new waiting (taps_in readings)
-  pub refused : Appends old_refused new_refused (refusals_text choice.separator head (refusals rows readings))
+  pub refused : Appends old_refused new_refused
+      (refusals_text choice.separator head (refusals rows readings))
   pub summary_is : IsSummary rows readings summary

@@ -93,7 +93,8 @@ pub(crate) fn write_refusal<X: Write>(
     out: &mut X,
 ) -> Result<(), AgencyFault>
     ensures text { OnOk result (Appends (X.contents out.old) (X.contents out.new)
-        (refusal_text separator (record { number = number; reason = reason; row = fields_of row.now }))) }
+        (refusal_text separator
+        (record { number = number; reason = reason; row = fields_of row.now }))) }
     ensures fault { IfErr result IsOfSystem }
 {
     let mut digits = Buffer::new();

@@ -1,6 +1,7 @@
 //! The rows of an agency's CSV, written as an upload.
 
-ghost use Rattle.std.specs.Prelude.{◌≡◌, ◌<◌, ◌++◌, ℕ, List, None, Option, All, IfErr, IfOk, IfSome, OnOk};
+ghost use Rattle.std.specs.Prelude.{◌≡◌, ◌<◌, ◌++◌, ℕ, List, None, Option, All, IfErr, IfOk};
+ghost use Rattle.std.specs.Prelude.{IfSome, OnOk};
 ghost use Rattle.std.specs.Prelude.{flat_map};
 ghost use Rattle.std.specs.Io.KnownBytes.{Appends};
 ghost use Rattle.csv.specs.Records.{fields_of};
@@ -25,7 +26,7 @@ use std::alloc::Global;
 use std::io::{Read, Write, sink};
 use tap_views::{MAX_TAPS, TapFields};
 
-/// Writes a row where it belongs: a tap to the taps that wait, a row that is refused to `refused`.
+/// Puts a tap to the taps that wait, and writes a row that is refused to `refused`.
 fn put_row<W: Write, X: Write>(
     alloc: Global,
     separator: Separator,

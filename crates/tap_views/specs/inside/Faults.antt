@@ -3,7 +3,7 @@ use Rattle.std.specs.Prelude.{◌≡◌, ◌⊎◌, ℕ, ◌<◌, ◌≤◌, Lis
 use Rattle.tap_views.specs.Layout.{moment_limit}
 use Rattle.tap_views.specs.Faults.{count_in, flags_in, header, layout_in, moment_in, size_in}
 
--- ---- what the private functions tell each other
+-- ---- what the contracts of the private functions say
 -- the first moments are below the limit
 abbrev pub AllEarly : List ℕ → ℕ → Type 0
 AllEarly bytes n = (index : ℕ) → index < n → moment_in bytes index < moment_limit

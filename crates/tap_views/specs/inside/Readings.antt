@@ -42,7 +42,7 @@ abbrev pub given_at : ℕ → List ℕ → Option LayoutFault → List Item → 
 given_at offset bytes None behind = Ok (first_taps bytes) ∷ behind
 given_at offset bytes (Some fault) behind = Err (offset, fault) ∷ []
 
--- at most so many items
+-- at most this number of items
 abbrev pub items_within : ℕ → ℕ → List ℕ → List Item
 items_within zero offset bytes = []
 items_within (suc fuel) offset [] = []

@@ -6,7 +6,7 @@ use Rattle.std.specs.Borrow.{Bor}
 use Rattle.tap_views.specs.Layout.{Tap}
 use Rattle.tap_views.specs.Shards.{run_of}
 
--- where a run keeps its places, they are these
+-- if a run keeps its places, they are these
 abbrev pub ArePlacesKept : Option (Bor (List ℕ)) → List ℕ → Type 0
 ArePlacesKept None places = Unit {0}
 ArePlacesKept (Some kept) places = kept.now ≡ places
@@ -17,7 +17,7 @@ left_of None shard shards taps = run_of shard shards taps
 left_of (Some places) shard shards taps =
     flat_map (λ place. option_to_list (slice_get taps place)) places.now
 
--- where a run keeps its places, each is below the count
+-- if a run keeps its places, each is below the count
 abbrev pub ArePlacesBelow : Option (Bor (List ℕ)) → ℕ → Type 0
 ArePlacesBelow None count = Unit {0}
 ArePlacesBelow (Some places) count = AllByRecursion (λ place. place < count) places.now

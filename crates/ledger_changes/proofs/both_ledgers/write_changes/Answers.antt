@@ -79,9 +79,9 @@ loop-preserved g c =
           (ap row_in c.in_ok-before.ensures.row ∙ taken_row h c.loop.old.row)
           (ap row_in c.in_ok-after.ensures.row ∙ taken_row k c.loop.new.row)
           c.in_ok-before.ensures.moved c.in_ok-after.ensures.moved
-          (λ done told. written_more _ _ _ _ _
+          (λ done holds. written_more _ _ _ _ _
           (changes_of (row_in c.in_ok-before.before) (row_in c.in_ok-after.after)) done
-          c.in_ok-write_change.ensures.written c.in-Some-count_removed.ensures told);
+          c.in_ok-write_change.ensures.written c.in-Some-count_removed.ensures holds);
     }
 
 pub loop-init : goal.loop-init

@@ -7,7 +7,7 @@ use Rattle.ledger_changes.specs.declared.row.LedgerRow.{LedgerRow}
 use Rattle.ledger_changes.specs.inside.Written.{changes_of, next_sides, row_in}
 use Rattle.ledger_changes.proofs.Merging.{going_end, going_next, going_start, refused_new}
 use Rattle.ledger_changes.proofs.Merging.{refused_old, taken_row}
-use Rattle.ledger_changes.proofs.Summing.{summed_all, summed_more, summed_none, told_so}
+use Rattle.ledger_changes.proofs.Summing.{summed_all, summed_more, summed_none, holds_so}
 use Rattle.ledger_changes.proofs.token_corrections.write_token_sums.Goals as goal
 
 pub returns-in_err-write_sums-clause-refused_old :
@@ -24,7 +24,7 @@ returns-in_err-write_sums-clause-refused_new g c =
 
 pub returns-in_default-clause-written : goal.returns-in_default-clause-written
 returns-in_default-clause-written g c =
-    λ known also. told_so _ _ _ _
+    λ known also. holds_so _ _ _ _
     (λ changes summed. summed_all _ _ _ _ _ changes c.in_ok-write_sums.ensures.written summed)
     (going_end _ _ _ _ _ c.loop.invariant.going
     (ap (λ (row : Option LedgerRow). next_sides (row_in row) (row_in c.loop.new.row))
@@ -95,10 +95,10 @@ loop-preserved g c =
           (ap row_in c.in_ok-before.ensures.row ∙ taken_row h c.loop.old.row)
           (ap row_in c.in_ok-after.ensures.row ∙ taken_row k c.loop.new.row)
           c.in_ok-before.ensures.moved c.in_ok-after.ensures.moved
-          (λ done told. summed_more _ _ _ _ _ _ _
+          (λ done holds. summed_more _ _ _ _ _ _ _
           (changes_of (row_in c.in_ok-before.before) (row_in c.in_ok-after.after)) done
           c.in_ok-last.ensures.written c.in_ok-last.ensures.sums
-          c.in-Some-count_removed.ensures told);
+          c.in-Some-count_removed.ensures holds);
     }
 
 pub loop-init : goal.loop-init
