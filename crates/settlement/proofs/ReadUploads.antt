@@ -20,8 +20,8 @@ use Rattle.report_texts.specs.declared.upload_end.UploadEnd.{UploadEnd}
 use Rattle.tap_views.specs.declared.token.Token.{Token}
 use Rattle.tap_views.proofs.Lists.{AllZip-append}
 use Rattle.settlement.specs.Reading.{AreRead}
-use Rattle.settlement.specs.inside.OwnTaps.{AreOwnAdded, IsRunOwn}
-use Rattle.settlement.specs.inside.SplitTaps.{HasGoodTokens, IsRunAdded, IsRunInParts}
+use Rattle.settlement.specs.inside.OwnTaps.{AreOwnAdded, AreOwnBetween}
+use Rattle.settlement.specs.inside.SplitTaps.{HasGoodTokens, AreAddedBetween, AreInPartsBetween}
 use Rattle.settlement.proofs.Ends.{plain_end, taps_added}
 use Rattle.settlement.proofs.Lists.{both_split}
 use Rattle.settlement.proofs.OnlyTaps.{both_own, no_own, upload_own}
@@ -82,7 +82,7 @@ all_tokens (f ∷ files) (t ∷ taps) tokens each =
 
 -- ---- taps that were added to parts
 pub no_run : (may_be : ℕ → List ℕ → Type 0) (start : ℕ) (part_of : List ℕ → ℕ)
-    (parts : List (List TapFields)) → IsRunAdded may_be start start part_of parts parts []
+    (parts : List (List TapFields)) → AreAddedBetween may_be start start part_of parts parts []
 no_run may_be start part_of parts = record {
   files = [];
   read = none_read may_be start;
@@ -93,10 +93,11 @@ no_run may_be start part_of parts = record {
 pub run_more : (may_be : ℕ → List ℕ → Type 0) (start upload : ℕ) (part_of : List ℕ → ℕ)
     (old now new : List (List TapFields)) (ends : List UploadEnd) (file : List ℕ)
     (added : UploadTaps)
-    (end : UploadEnd) → IsRunAdded may_be start upload part_of old now ends → may_be upload file
+    (end : UploadEnd) → AreAddedBetween may_be start upload part_of old now ends
+    → may_be upload file
     → HasGoodTokens file → IsUploadAddedBy part_of file now new added
     → end ≡ end_by added.taps added.fault
-    → IsRunAdded may_be start (upload + 1) part_of old new (ends ++ end ∷ [])
+    → AreAddedBetween may_be start (upload + 1) part_of old new (ends ++ end ∷ [])
 run_more may_be start upload part_of old now new ends file added end run is tokens one ended =
     let more = taps_of_batches one.batches in
     record {
@@ -117,9 +118,9 @@ run_more may_be start upload part_of old now new ends file added end run is toke
 
 pub both_runs : (may_be : ℕ → List ℕ → Type 0) (start middle end : ℕ) (part_of : List ℕ → ℕ)
     (parts : ℕ) (lists more : List (List (List TapFields))) (ends later : List UploadEnd)
-    → IsRunInParts may_be start middle part_of parts lists ends
-    → IsRunInParts may_be middle end part_of parts more later
-    → IsRunInParts may_be start end part_of parts (lists ++ more) (ends ++ later)
+    → AreInPartsBetween may_be start middle part_of parts lists ends
+    → AreInPartsBetween may_be middle end part_of parts more later
+    → AreInPartsBetween may_be start end part_of parts (lists ++ more) (ends ++ later)
 both_runs may_be start middle end part_of parts lists more ends later one other = record {
   files = one.files ++ other.files;
   read = both_read may_be start middle end one.files other.files one.read other.read;
@@ -130,7 +131,7 @@ both_runs may_be start middle end part_of parts lists more ends later one other 
 
 -- ---- taps of one token
 pub no_run_own : (may_be : ℕ → List ℕ → Type 0) (start : ℕ) (token : Token)
-    → IsRunOwn may_be start start token [] []
+    → AreOwnBetween may_be start start token [] []
 no_run_own may_be start token = record {
   files = [];
   read = none_read may_be start;
@@ -140,9 +141,9 @@ no_run_own may_be start token = record {
 
 pub run_own_more : (may_be : ℕ → List ℕ → Type 0) (start upload : ℕ) (token : Token)
     (old new : List TapFields) (ends : List UploadEnd) (file : List ℕ) (end : UploadEnd)
-    → IsRunOwn may_be start upload token old ends → may_be upload file → HasGoodTokens file
+    → AreOwnBetween may_be start upload token old ends → may_be upload file → HasGoodTokens file
     → AreOwnAdded token file old new end
-    → IsRunOwn may_be start (upload + 1) token new (ends ++ end ∷ [])
+    → AreOwnBetween may_be start (upload + 1) token new (ends ++ end ∷ [])
 run_own_more may_be start upload token old new ends file end run is tokens one = record {
   files = run.files ++ file ∷ [];
   read = both_read may_be start upload (upload + 1) run.files (file ∷ []) run.read
@@ -154,8 +155,9 @@ run_own_more may_be start upload token old new ends file end run is tokens one =
 
 pub both_runs_own : (may_be : ℕ → List ℕ → Type 0) (start middle end : ℕ) (token : Token)
     (own more : List TapFields) (ends later : List UploadEnd)
-    → IsRunOwn may_be start middle token own ends → IsRunOwn may_be middle end token more later
-    → IsRunOwn may_be start end token (own ++ more) (ends ++ later)
+    → AreOwnBetween may_be start middle token own ends
+    → AreOwnBetween may_be middle end token more later
+    → AreOwnBetween may_be start end token (own ++ more) (ends ++ later)
 both_runs_own may_be start middle end token own more ends later one other = record {
   files = one.files ++ other.files;
   read = both_read may_be start middle end one.files other.files one.read other.read;

@@ -17,7 +17,7 @@ use Rattle.shard_book.specs.SumsByKey.{token_of}
 use Rattle.shard_book.specs.declared.entry.Entry.{Entry}
 use Rattle.settlement.specs.inside.Apart.{AreBelow}
 use Rattle.settlement.specs.Posted.{HasName, posted, token_of_tap}
-use Rattle.settlement.specs.inside.Billing.{IsRun}
+use Rattle.settlement.specs.inside.Billing.{IsFirstToken}
 use Rattle.settlement.proofs.Ranges.{AreTapsBelow, posted_below, to_tokens}
 use Rattle.settlement.proofs.TokenRuns.{IsEdge, next_edge, no_tap, posted_length, tokens_posted}
 
@@ -60,7 +60,8 @@ pub record IsNextRun (fares : Fares) (taps : List TapFields) (place run : ℕ) :
       + (length taps - (place + run)) ≤ 2 ^ 95
 
 pub next_run : (fares : Fares) (taps : List TapFields) (place run : ℕ) → IsSorted tap_cmp taps
-    → All HasName taps → IsEdge taps place → place ≤ length taps → IsRun (from place taps) run
+    → All HasName taps → IsEdge taps place → place ≤ length taps
+    → IsFirstToken (from place taps) run
     → IsNextRun fares taps place run
 next_run fares taps place run sorted names edge within is = record {
   within = fits;
@@ -125,7 +126,7 @@ narrow token taps place run all =
 
 -- what was posted before is below the next run
 pub run_below : (fares : Fares) (taps : List TapFields) (place run : ℕ) (before : List Entry)
-    → IsEdge taps place → place ≤ length taps → IsRun (from place taps) run
+    → IsEdge taps place → place ≤ length taps → IsFirstToken (from place taps) run
     → AreBelow (map token_of before) (map token_of_tap taps)
     → AreBelow (map token_of (before ++ posted fares (take place taps)))
     (map token_of_tap (take run (from place taps)))

@@ -12,7 +12,7 @@ ghost use Rattle.shard_book.specs.declared.entry.Entry.{Entry};
 ghost use Rattle.settlement.specs.inside.Apart.{AreBelow};
 ghost use Rattle.settlement.specs.Bills.{IsBillOf, IsCountOf};
 ghost use Rattle.settlement.specs.Posted.{posted, token_of_tap};
-ghost use Rattle.settlement.specs.inside.Billing.{HasBillRoom, HaveBillRoom, IsRun};
+ghost use Rattle.settlement.specs.inside.Billing.{HasBillRoom, HaveBillRoom, IsFirstToken};
 
 use crate::replay::Replay;
 use fare_table::{Clock, FareTable};
@@ -37,7 +37,7 @@ fn token_of(tap: &TapFields) -> Token
 }
 
 /// How many of the first taps have `token`, which the first one has.
-fn run_length(token: Token, taps: &[TapFields]) -> usize
+fn count_of_first(token: Token, taps: &[TapFields]) -> usize
     requires some { 0 < length taps.now }
     requires first { (tap : TapFields) → token_of_tap (slice_index_or taps.now 0 tap) ≡ token }
     ensures some { 0 < result }
@@ -101,7 +101,7 @@ impl Bill {
 
     /// Adds the taps of the first token, and returns how many these are. The taps are in canonical
     /// order.
-    fn add_run(
+    fn add_first_token(
         &mut self,
         alloc: Global,
         table: &FareTable,
@@ -112,7 +112,7 @@ impl Bill {
         requires some { 0 < length taps.now }
         requires early { AreEarly (λ tap. tap.moment) taps.now }
         requires room { HasBillRoom self.old (length taps.now) }
-        ensures run { IfOk result (λ length. IsRun taps.now length) }
+        ensures first { IfOk result (λ length. IsFirstToken taps.now length) }
         ensures counted { IfOk result (λ length. (before : List Entry) → IsCountOf before self.old
             → IsCountOf (before ++ posted table.now (take length taps.now)) self.new) }
         ensures tokens { IfOk result (λ length. (before : List Entry)
@@ -121,7 +121,7 @@ impl Bill {
             → self.new.tokens ≡ sums_by_token (before ++ posted table.now (take length taps.now))) }
     {
         let token = token_of(&taps[0]);
-        let length = run_length(token, taps);
+        let length = count_of_first(token, taps);
         self.add_token(alloc, table, clock, token, &taps[..length])?;
         Ok(length)
     }
@@ -149,7 +149,7 @@ impl Bill {
     {
         let mut start = 0usize;
         while start < taps.len() {
-            start += self.add_run(alloc, table, clock, &taps[start..])?;
+            start += self.add_first_token(alloc, table, clock, &taps[start..])?;
         }
         Ok(())
     }

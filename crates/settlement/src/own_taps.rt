@@ -4,7 +4,7 @@ ghost use Rattle.std.specs.Prelude.{◌≡◌, ◌≤◌, ◌++◌, IfOk, OnOk, 
 ghost use denote.Param.Send.{IsSync};
 ghost use Rattle.tap_views.specs.Encoding.{fields_of};
 ghost use Rattle.settlement.specs.Posted.{only};
-ghost use Rattle.settlement.specs.inside.OwnTaps.{AreOwnAdded, IsRunOwn};
+ghost use Rattle.settlement.specs.inside.OwnTaps.{AreOwnAdded, AreOwnBetween};
 
 use crate::memory::release;
 use crate::split_taps::{good_tokens, middle_of};
@@ -65,7 +65,7 @@ fn own_taps<U: Uploads>(
 ) -> Result<OwnTaps, AllocError>
     requires order { start ≤ end }
     requires within { end ≤ U.number uploads.now }
-    ensures { IfOk result (λ own. IsRunOwn (U.may_be uploads.now) start end token
+    ensures { IfOk result (λ own. AreOwnBetween (U.may_be uploads.now) start end token
         own.taps.items own.ends.items) }
 {
     let mut taps = Vec::new(alloc);
@@ -98,7 +98,7 @@ pub(crate) fn own_by_threads<R: Threads + Sync, U: Uploads + Sync>(
 ) -> Result<OwnTaps, AllocError>
     requires order { start ≤ end }
     requires within { end ≤ U.number uploads.now }
-    ensures { IfOk result (λ own. IsRunOwn (U.may_be uploads.now) start end token
+    ensures { IfOk result (λ own. AreOwnBetween (U.may_be uploads.now) start end token
         own.taps.items own.ends.items) }
 {
     if halvings == 0 {
@@ -109,12 +109,12 @@ pub(crate) fn own_by_threads<R: Threads + Sync, U: Uploads + Sync>(
     let first = move || -> Result<OwnTaps, AllocError>
         requires { IsSync R.row × IsSync U.row × (start ≤ middle)
             × (middle ≤ U.number uploads.now) }
-        ensures { IfOk result (λ own. IsRunOwn (U.may_be uploads.entry.now) start middle
+        ensures { IfOk result (λ own. AreOwnBetween (U.may_be uploads.entry.now) start middle
             token own.taps.items own.ends.items) }
     { own_by_threads(rt, alloc, token, uploads, start, middle, fewer) };
     let second = move || -> Result<OwnTaps, AllocError>
         requires { IsSync R.row × IsSync U.row × (middle ≤ end) × (end ≤ U.number uploads.now) }
-        ensures { IfOk result (λ own. IsRunOwn (U.may_be uploads.entry.now) middle end
+        ensures { IfOk result (λ own. AreOwnBetween (U.may_be uploads.entry.now) middle end
             token own.taps.items own.ends.items) }
     { own_by_threads(rt, alloc, token, uploads, middle, end, fewer) };
     let (own, more) = thread::join(rt, first, second);

@@ -3,7 +3,7 @@
 ghost use Rattle.std.specs.Prelude.{◌≡◌, ◌+◌, ◌<◌, ◌≤◌, length, IfOk};
 ghost use denote.Param.Send.{IsSync};
 ghost use Rattle.tap_parts.specs.Ranges.{range_of_token};
-ghost use Rattle.settlement.specs.inside.SplitTaps.{HasGoodTokens, IsRunAdded, IsRunInParts};
+ghost use Rattle.settlement.specs.inside.SplitTaps.{HasGoodTokens, AreAddedBetween, AreInPartsBetween};
 
 use crate::memory::release;
 use crate::uploads::Uploads;
@@ -56,7 +56,7 @@ fn add_all<U: Uploads>(
     requires room { length ranges.now < length parts.old }
     requires order { start ≤ end }
     requires within { end ≤ U.number uploads.now }
-    ensures { IfOk result (λ ends. IsRunAdded (U.may_be uploads.now) start end
+    ensures { IfOk result (λ ends. AreAddedBetween (U.may_be uploads.now) start end
         (range_of_token ranges.now) parts.old parts.new ends.items) }
 {
     let mut ends = Vec::new(alloc);
@@ -84,7 +84,7 @@ fn split_uploads<U: Uploads>(
 ) -> Result<SplitTaps, AllocError>
     requires order { start ≤ end }
     requires within { end ≤ U.number uploads.now }
-    ensures { IfOk result (λ split. IsRunInParts (U.may_be uploads.now) start end
+    ensures { IfOk result (λ split. AreInPartsBetween (U.may_be uploads.now) start end
         (range_of_token ranges.now) (length ranges.now + 1) split.lists.items split.ends.items) }
 {
     let parts = ranges.len();
@@ -128,7 +128,7 @@ pub(crate) fn split_by_threads<R: Threads + Sync, U: Uploads + Sync>(
 ) -> Result<SplitTaps, AllocError>
     requires order { start ≤ end }
     requires within { end ≤ U.number uploads.now }
-    ensures { IfOk result (λ split. IsRunInParts (U.may_be uploads.now) start end
+    ensures { IfOk result (λ split. AreInPartsBetween (U.may_be uploads.now) start end
         (range_of_token ranges.now) (length ranges.now + 1) split.lists.items split.ends.items) }
 {
     if halvings == 0 {
@@ -139,13 +139,13 @@ pub(crate) fn split_by_threads<R: Threads + Sync, U: Uploads + Sync>(
     let first = move || -> Result<SplitTaps, AllocError>
         requires { IsSync R.row × IsSync U.row × (start ≤ middle)
             × (middle ≤ U.number uploads.now) }
-        ensures { IfOk result (λ split. IsRunInParts (U.may_be uploads.entry.now) start middle
+        ensures { IfOk result (λ split. AreInPartsBetween (U.may_be uploads.entry.now) start middle
             (range_of_token ranges.entry.now) (length ranges.entry.now + 1) split.lists.items
             split.ends.items) }
     { split_by_threads(rt, alloc, ranges, uploads, start, middle, fewer) };
     let second = move || -> Result<SplitTaps, AllocError>
         requires { IsSync R.row × IsSync U.row × (middle ≤ end) × (end ≤ U.number uploads.now) }
-        ensures { IfOk result (λ split. IsRunInParts (U.may_be uploads.entry.now) middle end
+        ensures { IfOk result (λ split. AreInPartsBetween (U.may_be uploads.entry.now) middle end
             (range_of_token ranges.entry.now) (length ranges.entry.now + 1) split.lists.items
             split.ends.items) }
     { split_by_threads(rt, alloc, ranges, uploads, middle, end, fewer) };

@@ -24,14 +24,14 @@ HaveBillRoom bill more =
     (entries : List Entry) × (others : List Entry) × IsCountOf entries bill
     × IsCountOf others more × (length entries + length others ≤ 2 ^ 95)
 
--- the first `run` taps, one at least, are all that have the token of the first one
-pub record IsRun (taps : List TapFields) (run : ℕ) : Type 0 where
-  pub some : 0 < run
-  pub most : run ≤ length taps
-  pub same : (i : ℕ) (tap : TapFields) → i < run
+-- the first `count` taps, one at least, are all that have the token of the first one
+pub record IsFirstToken (taps : List TapFields) (count : ℕ) : Type 0 where
+  pub some : 0 < count
+  pub most : count ≤ length taps
+  pub same : (i : ℕ) (tap : TapFields) → i < count
       → token_of_tap (slice_index_or taps i tap) ≡ token_of_tap (slice_index_or taps 0 tap)
-  pub next : (tap : TapFields) → run < length taps
-      → token_of_tap (slice_index_or taps run tap) ≢ token_of_tap (slice_index_or taps 0 tap)
+  pub next : (tap : TapFields) → count < length taps
+      → token_of_tap (slice_index_or taps count tap) ≢ token_of_tap (slice_index_or taps 0 tap)
 
 -- the taps of a part have moments before 2100, and tokens of 16 bytes
 pub record IsSoundPart (part : List TapFields) : Type 0 where

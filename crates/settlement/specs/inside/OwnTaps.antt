@@ -31,7 +31,7 @@ pub record AreOwnTaps (token : Token) (uploads : List (List ℕ)) (own : List Ta
   pub ended : ArePlainEnds uploads ends
 
 -- of the uploads from one number on and below another, the list has the token's good taps
-pub record IsRunOwn (may_be : ℕ → List ℕ → Type 0) (start end : ℕ) (token : Token)
+pub record AreOwnBetween (may_be : ℕ → List ℕ → Type 0) (start end : ℕ) (token : Token)
     (own : List TapFields) (ends : List UploadEnd) : Type 0 where
   pub files : List (List ℕ)
   pub read : AreRead may_be start end files

@@ -47,7 +47,7 @@ HasGoodTokens upload =
     (taps : List Tap) → AreGoodTaps upload taps → All HasTokenBytes (map fields_of taps)
 
 -- of the uploads from one number on and below another, all that were read were added
-pub record IsRunAdded (may_be : ℕ → List ℕ → Type 0) (start end : ℕ) (part_of : List ℕ → ℕ)
+pub record AreAddedBetween (may_be : ℕ → List ℕ → Type 0) (start end : ℕ) (part_of : List ℕ → ℕ)
     (old new : List (List TapFields)) (ends : List UploadEnd) : Type 0 where
   pub files : List (List ℕ)
   pub read : AreRead may_be start end files
@@ -55,7 +55,7 @@ pub record IsRunAdded (may_be : ℕ → List ℕ → Type 0) (start end : ℕ) (
   pub added : AreAllAdded part_of files old new ends
 
 -- of the uploads from one number on and below another, the good taps lie in parts
-pub record IsRunInParts (may_be : ℕ → List ℕ → Type 0) (start end : ℕ) (part_of : List ℕ → ℕ)
+pub record AreInPartsBetween (may_be : ℕ → List ℕ → Type 0) (start end : ℕ) (part_of : List ℕ → ℕ)
     (parts : ℕ) (lists : List (List (List TapFields))) (ends : List UploadEnd) : Type 0 where
   pub files : List (List ℕ)
   pub read : AreRead may_be start end files

@@ -1,7 +1,7 @@
 use Rattle.std.proofs.Common.{◌+◌, List, sym, subst, arith, []}
 use Rattle.tap_views.specs.declared.encoder.TapFields.{TapFields}
 use Rattle.report_texts.specs.declared.upload_end.UploadEnd.{UploadEnd}
-use Rattle.settlement.specs.inside.OwnTaps.{AreOwnAdded, IsRunOwn}
+use Rattle.settlement.specs.inside.OwnTaps.{AreOwnAdded, AreOwnBetween}
 use Rattle.settlement.proofs.ReadUploads.{no_run_own, run_own_more}
 use Rattle.settlement.proofs.own_taps.own_taps.Goals as goal
 
@@ -12,10 +12,10 @@ loop-number-init g c =
     record {
       order = c.requires.order;
       run = subst
-          (λ (ts : List TapFields). IsRunOwn may_be start start c.args.token ts
+          (λ (ts : List TapFields). AreOwnBetween may_be start start c.args.token ts
           c.new-ends.result.items)
           (sym c.new-taps.ensures.items)
-          (subst (λ (es : List UploadEnd). IsRunOwn may_be start start c.args.token [] es)
+          (subst (λ (es : List UploadEnd). AreOwnBetween may_be start start c.args.token [] es)
           (sym c.new-ends.ensures.items) (no_run_own may_be start c.args.token));
     }
 
@@ -32,7 +32,7 @@ loop-number-preserved g c =
     record {
       order = omega (arith, c.loop-number-test.true);
       run = subst
-          (λ (es : List UploadEnd). IsRunOwn may_be c.args.start (c.loop-number.number + 1)
+          (λ (es : List UploadEnd). AreOwnBetween may_be c.args.start (c.loop-number.number + 1)
           c.args.token new es)
           (sym c.in_ok-push.ensures.items)
           (run_own_more may_be c.args.start c.loop-number.number c.args.token old new

@@ -2,7 +2,7 @@ use Rattle.std.proofs.Common.{List, ◌+◌, ◌++◌, IfOk, length, sym, subst}
 use Rattle.tap_views.specs.declared.encoder.TapFields.{TapFields}
 use Rattle.report_texts.specs.declared.upload_end.UploadEnd.{UploadEnd}
 use Rattle.tap_parts.specs.Ranges.{range_of_token}
-use Rattle.settlement.specs.inside.SplitTaps.{IsRunInParts}
+use Rattle.settlement.specs.inside.SplitTaps.{AreInPartsBetween}
 use Rattle.settlement.proofs.ReadUploads.{both_runs}
 use Rattle.settlement.proofs.split_taps.+splits.Goals as goal
 
@@ -17,18 +17,20 @@ returns g t c =
     let end = c.args.end in
     let made = c.in_ok-split.split in
     let more = c.in_ok-more.more in
-    subst (λ (ls : List (List (List TapFields))). IsRunInParts may_be start end part_of parts ls
+    subst (λ (ls : List (List (List TapFields))). AreInPartsBetween may_be start end part_of parts
+        ls
     c.append-2.new.self.items)
     (sym c.in_ok-append.ensures.items)
-    (subst (λ (es : List UploadEnd). IsRunInParts may_be start end part_of parts
+    (subst (λ (es : List UploadEnd). AreInPartsBetween may_be start end part_of parts
     (made.lists.items ++ more.lists.items) es)
     (sym c.in_ok-append-2.ensures.items)
     (both_runs may_be start middle end part_of parts made.lists.items more.lists.items
     made.ends.items
     more.ends.items
     (subst (λ r. IfOk r
-    (λ split. IsRunInParts may_be start middle part_of parts split.lists.items split.ends.items))
+    (λ split. AreInPartsBetween may_be start middle part_of parts split.lists.items
+        split.ends.items))
     c.in_ok-split.was c.join-split.ensures.first)
     (subst (λ r. IfOk r
-    (λ split. IsRunInParts may_be middle end part_of parts split.lists.items split.ends.items))
+    (λ split. AreInPartsBetween may_be middle end part_of parts split.lists.items split.ends.items))
     c.in_ok-more.was c.join-split.ensures.second)))

@@ -3,7 +3,7 @@ use Rattle.report_texts.specs.declared.upload_end.UploadEnd.{UploadEnd}
 use Rattle.tap_parts.proofs.RangeLemmas.{range_below}
 use Rattle.tap_parts.specs.Ranges.{range_of_token}
 use Rattle.tap_parts.specs.Uploads.{IsUploadAddedBy}
-use Rattle.settlement.specs.inside.SplitTaps.{IsRunAdded}
+use Rattle.settlement.specs.inside.SplitTaps.{AreAddedBetween}
 use Rattle.settlement.proofs.ReadUploads.{no_run, run_more}
 use Rattle.settlement.proofs.split_taps.add_all.Goals as goal
 
@@ -18,7 +18,8 @@ pub loop-number-init : goal.loop-number-init
 loop-number-init g c = record {
   order = c.requires.order;
   run = subst
-      (λ (ends : List UploadEnd). IsRunAdded (g.U.Uploads.may_be c.args.uploads.now) c.args.start
+      (λ (ends : List UploadEnd). AreAddedBetween (g.U.Uploads.may_be c.args.uploads.now)
+          c.args.start
       c.args.start (range_of_token c.args.ranges.now) c.args.parts.now c.args.parts.now ends)
       (sym c.new-ends.ensures.items)
       (no_run (g.U.Uploads.may_be c.args.uploads.now) c.args.start
@@ -39,7 +40,7 @@ loop-number-preserved g c =
     record {
       order = omega (arith, c.loop-number-test.true);
       run = subst
-          (λ (ends : List UploadEnd). IsRunAdded may_be c.args.start (c.loop-number.number + 1)
+          (λ (ends : List UploadEnd). AreAddedBetween may_be c.args.start (c.loop-number.number + 1)
           part_of
           c.args.parts.now c.add_upload.new.self ends) (sym c.in_ok-push.ensures.items)
           (run_more may_be c.args.start c.loop-number.number part_of c.args.parts.now

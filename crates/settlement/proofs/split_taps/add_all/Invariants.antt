@@ -1,12 +1,12 @@
 use Rattle.std.proofs.Common.{◌≤◌}
 use Rattle.tap_parts.specs.Ranges.{range_of_token}
-use Rattle.settlement.specs.inside.SplitTaps.{IsRunAdded}
+use Rattle.settlement.specs.inside.SplitTaps.{AreAddedBetween}
 use Rattle.settlement.proofs.split_taps.add_all.Given as goal
 
 abbrev pub invariant-loop-number : goal.invariant-loop-number
 invariant-loop-number g l = record {
   order : l.number ≤ l.fn.end;
-  run : IsRunAdded (g.U.Uploads.may_be l.uploads) l.fn.start l.number (range_of_token l.ranges)
+  run : AreAddedBetween (g.U.Uploads.may_be l.uploads) l.fn.start l.number (range_of_token l.ranges)
       l.fn.parts
       l.parts l.ends.items;
 }

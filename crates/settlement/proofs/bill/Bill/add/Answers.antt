@@ -27,8 +27,8 @@ loop-start-init c =
       tokens = λ before one below. one ∙ ap sums_by_token (sym (append-nil before));
     }
 
-pub add_run-requires-clause-early : goal.add_run-requires-clause-early
-add_run-requires-clause-early c =
+pub add_first_token-requires-clause-early : goal.add_first_token-requires-clause-early
+add_first_token-requires-clause-early c =
     let taps = c.args.taps.now in
     let s = c.loop-start.start in
     All-take (λ (tap : TapFields). tap.moment < moment_limit) (length taps - s) (drop s taps)
@@ -45,7 +45,7 @@ loop-start-preserved c =
     let added = c.in_ok-start.ensures in
     let names = All-weaker HasTokenBytes HasName has_name taps c.requires.tokens in
     let next : IsNextRun fares taps s n =
-    next_run fares taps s n c.requires.sorted names inv.edge inv.within added.run in
+    next_run fares taps s n c.requires.sorted names inv.edge inv.within added.first in
     let done = posted fares (take s taps) in
     let more = posted fares (take n rest) in
     let room = inv.room in
@@ -54,12 +54,12 @@ loop-start-preserved c =
       within = next.within;
       edge = next.edge;
       room = (room.0 ++ more, added.counted room.0 room.1, next.room room.0 fits);
-      counted = λ before one. subst (λ (es : List Entry). IsCountOf es c.add_run.new.self)
+      counted = λ before one. subst (λ (es : List Entry). IsCountOf es c.add_first_token.new.self)
           (append_assoc before done more ∙ ap (λ (es : List Entry). before ++ es) (sym next.whole))
           (added.counted (before ++ done) (inv.counted before one));
       tokens = λ before one below.
           added.tokens (before ++ done) (inv.tokens before one below)
-          (run_below fares taps s n before inv.edge inv.within added.run below)
+          (run_below fares taps s n before inv.edge inv.within added.first below)
           ∙ ap sums_by_token (append_assoc before done more
           ∙ ap (λ (es : List Entry). before ++ es) (sym next.whole));
     }

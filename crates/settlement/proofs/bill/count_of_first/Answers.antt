@@ -9,7 +9,7 @@ use Rattle.tap_views.specs.declared.token.Token.{Token}
 use Rattle.tap_views.proofs.TokenLemmas.{same_token, token_eq-refl}
 use Rattle.settlement.specs.Posted.{token_of_tap}
 use Rattle.settlement.proofs.TokenRuns.{no_tap}
-use Rattle.settlement.proofs.bill.run_length.Goals as goal
+use Rattle.settlement.proofs.bill.count_of_first.Goals as goal
 
 pub returns-then-ne-clause-next : goal.returns-then-ne-clause-next
 returns-then-ne-clause-next c = λ tap inside same.
