@@ -1,8 +1,8 @@
 # make run      the main job on the example data: the report of two uploads under the sample table,
 #               and one rider's statement with its reasons. If no proved program is there, a trial
 #               is built and run, and it says so
-# make trial    builds the three programs without a proof, in two to three minutes each:
-#               out/trial/NAME. Nothing is proved of them, and they are slow
+# make trial    builds the three programs without a proof: out/trial/NAME. Nothing is proved of them,
+#               and they are slow
 # make build    proves the three programs and all crates below them, with a line for each crate, and
 #               builds the programs: crates/NAME/out/NAME. What rt says is in out/build.log
 # make install  the three proved programs, their manual pages and completions, the documents for

@@ -4,7 +4,10 @@ pub mod Numbers
 pub mod DrawSteps
 pub mod Held
 pub mod MarkLists
+pub mod OneView
 pub mod TurnSteps
+pub mod PassSteps
+pub mod TurnEnds
 pub mod Passing
 pub mod Handing
 pub mod Reached

@@ -24,7 +24,7 @@ use Rattle.shared_books.proofs.MarkLists.{visits-caught, visits-append, visits-o
 use Rattle.shared_books.proofs.MarkLists.{length-visits, others-append, joined-snoc, made-others}
 use Rattle.shared_books.proofs.MarkLists.{made-caught, made-snoc, made_few, made_all}
 use Rattle.shared_books.proofs.MarkLists.{length-made-merged}
-use Rattle.shared_books.proofs.TurnSteps.{Closes}
+use Rattle.shared_books.proofs.TurnEnds.{Closes}
 
 -- a pass, as contracts see it
 abbrev pub knows : TableId → Seat → PassView

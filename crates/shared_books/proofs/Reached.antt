@@ -13,7 +13,8 @@ use Rattle.shared_books.specs.PassStates.{pass_state}
 use Rattle.shared_books.specs.Events.{IsShown, StepsAreEvents, TakesAreEvents, GivesAreEvents}
 use Rattle.shared_books.specs.Events.{taken_by}
 use Rattle.shared_books.proofs.MarkLists.{made_at-caught}
-use Rattle.shared_books.proofs.TurnSteps.{schedule_snoc, after-snoc, word_of, caught_up, took, gave}
+use Rattle.shared_books.proofs.OneView.{schedule_snoc, after-snoc, word_of, caught_up}
+use Rattle.shared_books.proofs.TurnSteps.{took, gave}
 
 -- who has the turn is the holder
 holder_is : (k : Opening) (m : Machine) (s : State (Option Boxed) PassState) (seat : ℕ)

@@ -1,6 +1,6 @@
 use Rattle.std.proofs.Common.{◌≡◌, [], ap, sym, ◌∙◌, arith, unwrap_or}
 use Rattle.shared_books.specs.Passes.{book_of}
-use Rattle.shared_books.proofs.TurnSteps.{whole_unseen}
+use Rattle.shared_books.proofs.TurnEnds.{whole_unseen}
 use Rattle.shared_books.proofs.turns.SharedBook.close_unseen.Goals as goal
 
 pub returns-clause-ok : goal.returns-clause-ok

@@ -5,7 +5,7 @@ use Rattle.shared_books.specs.declared.turns.rule.Opening.{Opening}
 use Rattle.shared_books.specs.Claims.{all_claims}
 use Rattle.shared_books.specs.Turns.{Boxed, IsTurn}
 use Rattle.shared_books.specs.PassStates.{pass_state}
-use Rattle.shared_books.proofs.TurnSteps.{opens}
+use Rattle.shared_books.proofs.TurnEnds.{opens}
 use Rattle.shared_books.proofs.turns.SharedBook.open.Goals as goal
 
 pub new-requires-2 : goal.new-requires-2
