@@ -103,7 +103,7 @@ pub(crate) fn clone(alloc: Global) -> Case {
 
 /// A clock of the sample table says where windows end: in March, before its first second, and when
 /// clocks are turned back.
-fn tells_ends(alloc: Global, table: &FareTable) -> Case {
+fn window_ends(alloc: Global, table: &FareTable) -> Case {
     let clock = table.clock(alloc)?;
     let ends = [
         clock.window_end(START),
@@ -122,6 +122,6 @@ pub(crate) fn clock(alloc: Global) -> Case {
     let table = table(alloc)?;
     twice!({
         is_sample(&table)?;
-        tells_ends(alloc, &table)
+        window_ends(alloc, &table)
     })
 }

@@ -195,9 +195,6 @@ lt_le a b c less up =
           absurd (let t : true ≡ false = sym (ap is_lt less) ∙ here in cc),
     )
 
-le_le : (a b c : Key) → Le a b → Le b c → Le a c
-le_le a b c one two = (ranks_by key_cmp_total (λ (k : Key). k)).chain c b a two one
-
 all_map : {P Q : Row → Type 0} → ((row : Row) → P row → Q row) → (rows : List Row)
     → AllByRecursion P rows → AllByRecursion Q rows
 all_map f [] all = tt

@@ -7,6 +7,8 @@ use Rattle.std.specs.Ordering.{is_lt}
 use Rattle.std.proofs.lemmas.Bool.{cases_eq, cases_lt}
 use Rattle.std.proofs.lemmas.List.{get_or_default, get_or-set_other, get_or-set_same, length-set}
 use Rattle.std.proofs.lemmas.List.{same_lists}
+use Rattle.std.proofs.lemmas.Cmp.{tied_itself}
+use Rattle.tap_views.proofs.TapOrders.{tap_cmp_total}
 use Rattle.tap_views.specs.declared.encoder.TapFields.{TapFields}
 use Rattle.tap_parts.specs.Canonical.{tap_cmp}
 use Rattle.sorted_taps.specs.Heads.{HasLeaves, IsChosen, IsChosenAt, IsNotAfter, IsRanked}
@@ -18,16 +20,9 @@ use Rattle.sorted_taps.specs.declared.reader.TapReader.{TapReader}
 use Rattle.sorted_taps.proofs.Merging.{ranked}
 
 -- no tap is before itself
-not_self : (tap : TapFields) → is_lt (tap_cmp tap tap) ≡ false
-not_self tap = by_test (is_lt (tap_cmp tap tap)) refl
-  where
-    by_test : (b : Bool) → is_lt (tap_cmp tap tap) ≡ b → is_lt (tap_cmp tap tap) ≡ false
-    by_test true e = ranked.one_way tap tap e
-    by_test false e = e
-
 pub not_after_self : (tap : Option TapFields) → IsNotAfter tap tap
 not_after_self None = tt
-not_after_self (Some tap) = not_self tap
+not_after_self (Some tap) = ap is_lt (tied_itself tap_cmp_total tap)
 
 not_after_far : (one mid far : Option TapFields) → IsNotAfter one mid → IsNotAfter mid far
     → IsNotAfter one far
