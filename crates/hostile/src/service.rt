@@ -14,11 +14,11 @@ use tap_views::Token;
 /// A gate that prints which uploads have ended, so that whoever refuses memory knows what was
 /// refused before and what after.
 #[derive(Drop)]
-struct Telling<'a, R> {
+struct Printing<'a, R> {
     rt: &'a R,
 }
 
-impl<R: Print> Gate for Telling<'_, R> {
+impl<R: Print> Gate for Printing<'_, R> {
     type Begun = u32;
 
     ghost begins = { λ begun. begun };
@@ -112,7 +112,7 @@ fn runs<R: Threads + Wait + RandomSource + Sync + Print, G: Gate + Sync>(
 /// it is refused after the last upload's end, none is.
 pub(crate) fn run<R: Threads + Wait + RandomSource + Sync + Print>(rt: &R, alloc: Global) -> Case {
     let uploads = uploads(alloc)?;
-    let first = runs(rt, alloc, uploads.as_slice(), &Telling { rt });
+    let first = runs(rt, alloc, uploads.as_slice(), &Printing { rt });
     if first == Err(Stop::Refused) || first == Err(Stop::Less) {
         let second = runs(rt, alloc, uploads.as_slice(), &OpenGate);
         promise(second == Ok(()), "a second run does not post all")?;

@@ -5,26 +5,26 @@ use Rattle.tap_views.specs.declared.encoder.TapFields.{TapFields}
 use Rattle.tap_rows.specs.Moments.{IsTime}
 use Rattle.tap_rows.proofs.FieldLemmas.{one_fields, one_value}
 use Rattle.tap_rows.proofs.MomentLemmas.{one_time}
-use Rattle.tap_rows.specs.Rows.{IsToken, TellsToken, TellsValidator, TellsMoment, IsTapRow}
+use Rattle.tap_rows.specs.Rows.{IsToken, IsTokenField, IsValidatorField, IsMomentField, IsTapRow}
 use Rattle.tap_rows.specs.Rows.{IsNoTapRow, row_text, rows_text}
 use Rattle.tap_rows.specs.declared.column.Column.{Column}
 use Rattle.tap_rows.specs.declared.column.Column.TheVariants.{Fields, Token, Validator, Moment}
 
 -- what a field tells
-one_token : (text token other : List ℕ) → TellsToken text token → TellsToken text other
+one_token : (text token other : List ℕ) → IsTokenField text token → IsTokenField text other
     → token ≡ other
 one_token text token other (value, stands, is) (again, also_stands, also) =
     let same = one_value text value again stands also_stands in
     let both : Ok token ≡ Ok other = sym is ∙ subst (λ v. IsToken v other) (sym same) also in
     cc
 
-one_validator : (text : List ℕ) (number other : ℕ) → TellsValidator text number
-    → TellsValidator text other → number ≡ other
+one_validator : (text : List ℕ) (number other : ℕ) → IsValidatorField text number
+    → IsValidatorField text other → number ≡ other
 one_validator text number other (value, stands, is) (again, also_stands, also) =
     let same = one_value text value again stands also_stands in
     cc (is.0.value, also.0.value, same)
 
-one_moment : (text : List ℕ) (number other : ℕ) → TellsMoment text number → TellsMoment text other
+one_moment : (text : List ℕ) (number other : ℕ) → IsMomentField text number → IsMomentField text other
     → number ≡ other
 one_moment text number other (value, stands, is) (again, also_stands, also) =
     let same = one_value text value again stands also_stands in
@@ -41,11 +41,11 @@ one_row line tap other is also =
     let (t, v, m) = one_fields line is.token_text is.validator_text is.moment_text also.token_text
     also.validator_text also.moment_text is.fields also.fields in
     let token = one_token is.token_text tap.token other.token is.token
-    (subst (λ text. TellsToken text other.token) (sym t) also.token) in
+    (subst (λ text. IsTokenField text other.token) (sym t) also.token) in
     let validator = one_validator is.validator_text tap.validator other.validator is.validator
-    (subst (λ text. TellsValidator text other.validator) (sym v) also.validator) in
+    (subst (λ text. IsValidatorField text other.validator) (sym v) also.validator) in
     let moment = one_moment is.moment_text tap.moment other.moment is.moment
-    (subst (λ text. TellsMoment text other.moment) (sym m) also.moment) in
+    (subst (λ text. IsMomentField text other.moment) (sym m) also.moment) in
     let first : tap ≡ tap_with other.token tap.validator tap.moment =
     ap (λ t. tap_with t tap.validator tap.moment) token in
     let second : tap_with other.token tap.validator tap.moment
@@ -62,15 +62,15 @@ no_bad_row line tap Fields is bad = bad is.token_text is.validator_text is.momen
 no_bad_row line tap Token is bad =
     let (t, v, m) = one_fields line is.token_text is.validator_text is.moment_text bad.token_text
     bad.validator_text bad.moment_text is.fields bad.fields in
-    bad.wrong tap.token (subst (λ text. TellsToken text tap.token) t is.token)
+    bad.wrong tap.token (subst (λ text. IsTokenField text tap.token) t is.token)
 no_bad_row line tap Validator is bad =
     let (t, v, m) = one_fields line is.token_text is.validator_text is.moment_text bad.token_text
     bad.validator_text bad.moment_text is.fields bad.fields in
-    bad.wrong tap.validator (subst (λ text. TellsValidator text tap.validator) v is.validator)
+    bad.wrong tap.validator (subst (λ text. IsValidatorField text tap.validator) v is.validator)
 no_bad_row line tap Moment is bad =
     let (t, v, m) = one_fields line is.token_text is.validator_text is.moment_text bad.token_text
     bad.validator_text bad.moment_text is.fields bad.fields in
-    bad.wrong tap.moment (subst (λ text. TellsMoment text tap.moment) m is.moment)
+    bad.wrong tap.moment (subst (λ text. IsMomentField text tap.moment) m is.moment)
 
 -- no bytes are the row of no tap
 pub not_empty : (tap : TapFields) → ¬ (IsTapRow [] tap)

@@ -22,16 +22,16 @@ abbrev pub IsNoValidator : List ℕ → Type 0
 IsNoValidator text = (number : ℕ) → ¬ (IsValidator text number)
 
 -- the text of a field stands for such a value, as it is or in quotes
-abbrev pub TellsToken : List ℕ → List ℕ → Type 0
-TellsToken text token = FieldStandsForSome (λ value. IsToken value token) text
+abbrev pub IsTokenField : List ℕ → List ℕ → Type 0
+IsTokenField text token = FieldStandsForSome (λ value. IsToken value token) text
 
 -- it stands for a validator's number
-abbrev pub TellsValidator : List ℕ → ℕ → Type 0
-TellsValidator text number = FieldStandsForSome (λ value. IsValidator value number) text
+abbrev pub IsValidatorField : List ℕ → ℕ → Type 0
+IsValidatorField text number = FieldStandsForSome (λ value. IsValidator value number) text
 
 -- it stands for a moment
-abbrev pub TellsMoment : List ℕ → ℕ → Type 0
-TellsMoment text number = FieldStandsForSome (λ value. IsMoment value number) text
+abbrev pub IsMomentField : List ℕ → ℕ → Type 0
+IsMomentField text number = FieldStandsForSome (λ value. IsMoment value number) text
 
 -- the line is a row of this tap
 pub record IsTapRow (line : List ℕ) (tap : TapFields) : Type 0 where
@@ -39,9 +39,9 @@ pub record IsTapRow (line : List ℕ) (tap : TapFields) : Type 0 where
   pub validator_text : List ℕ
   pub moment_text : List ℕ
   pub fields : AreFields line token_text validator_text moment_text
-  pub token : TellsToken token_text tap.token
-  pub validator : TellsValidator validator_text tap.validator
-  pub moment : TellsMoment moment_text tap.moment
+  pub token : IsTokenField token_text tap.token
+  pub validator : IsValidatorField validator_text tap.validator
+  pub moment : IsMomentField moment_text tap.moment
 
 -- the line has three fields, and the token's gives no token
 pub record HasNoToken (line : List ℕ) : Type 0 where
@@ -49,7 +49,7 @@ pub record HasNoToken (line : List ℕ) : Type 0 where
   pub validator_text : List ℕ
   pub moment_text : List ℕ
   pub fields : AreFields line token_text validator_text moment_text
-  pub wrong : (token : List ℕ) → ¬ (TellsToken token_text token)
+  pub wrong : (token : List ℕ) → ¬ (IsTokenField token_text token)
 
 -- the line has three fields, the first gives a token, and the second no validator
 pub record HasNoValidator (line : List ℕ) : Type 0 where
@@ -57,8 +57,8 @@ pub record HasNoValidator (line : List ℕ) : Type 0 where
   pub validator_text : List ℕ
   pub moment_text : List ℕ
   pub fields : AreFields line token_text validator_text moment_text
-  pub token : (token : List ℕ) × TellsToken token_text token
-  pub wrong : (number : ℕ) → ¬ (TellsValidator validator_text number)
+  pub token : (token : List ℕ) × IsTokenField token_text token
+  pub wrong : (number : ℕ) → ¬ (IsValidatorField validator_text number)
 
 -- the line has three fields, the first two give a token and a validator, and the third no moment
 pub record HasNoMoment (line : List ℕ) : Type 0 where
@@ -66,9 +66,9 @@ pub record HasNoMoment (line : List ℕ) : Type 0 where
   pub validator_text : List ℕ
   pub moment_text : List ℕ
   pub fields : AreFields line token_text validator_text moment_text
-  pub token : (token : List ℕ) × TellsToken token_text token
-  pub validator : (number : ℕ) × TellsValidator validator_text number
-  pub wrong : (number : ℕ) → ¬ (TellsMoment moment_text number)
+  pub token : (token : List ℕ) × IsTokenField token_text token
+  pub validator : (number : ℕ) × IsValidatorField validator_text number
+  pub wrong : (number : ℕ) → ¬ (IsMomentField moment_text number)
 
 -- the line is a row of no tap, and this is the first column that is wrong
 abbrev pub IsNoTapRow : List ℕ → Column → Type 0
