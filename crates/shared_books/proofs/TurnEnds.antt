@@ -1,47 +1,31 @@
 -- The rule of the turn at the start, and what the table shows when it closes.
-use Rattle.std.proofs.Common.{◌≡◌, ℕ, ◌+◌, ◌*◌, ◌/◌, ◌%◌, ◌^◌, ◌<◌, ◌≤◌, ◌≢◌, ◌⊎◌, zero, suc, eqb}
-use Rattle.std.proofs.Common.{true, false, List, [], ◌∷◌, ◌++◌, length, set, get_or, drop, refl}
-use Rattle.std.proofs.Common.{sym, ap, ◌∙◌, subst, arith, inl, inr, ⊎_elim, Option, Some}
-use Rattle.std.proofs.Common.{length-set, length-append, get_or-set_same, append_assoc, append-nil}
-use Rattle.std.proofs.Common.{lt_of_not-le, true≢false}
-use Rattle.std.proofs.lemmas.List.{set-get_or}
-use Rattle.std.proofs.lemmas.List.Sums.{sum_by-append}
-use mathlib.Core.Option.{Option as Maybe, some, none, some-ne-none, some-injective}
+use Rattle.std.proofs.Common.{◌≡◌, ℕ, ◌+◌, ◌*◌, ◌/◌, ◌%◌, ◌^◌, ◌<◌, ◌≤◌, ◌≢◌, zero, suc}
+use Rattle.std.proofs.Common.{true, false, List, [], ◌∷◌, length, get_or, refl}
+use Rattle.std.proofs.Common.{sym, ap, ◌∙◌, subst, arith, inr, ⊎_elim, Option, Some}
+use Rattle.std.proofs.Common.{true≢false}
+use mathlib.Core.Option.{some, none, some-ne-none, some-injective}
 use mathlib.Core.Logic.{dite}
-use native.Mathlib.Decide.{ℕ_discrete, dec_le}
-use prog.Atomic.{either}
+use native.Mathlib.Decide.{ℕ_discrete}
 use lib.ListN.{get_elem?}
-use Rattle.atomic_table.specs.Table.{State, Me, Step, step, keeps, takes, gives, Allows, Splits}
-use Rattle.atomic_table.specs.Table.{Joins, opening, Seen, Final}
-use Rattle.atomic_table.proofs.Lists.{at_set, at_snoc, set_again, set_here, set_else, at_longer}
-use Rattle.atomic_table.proofs.Lists.{exchanged}
-use Rattle.shard_book.specs.declared.entry.Entry.{Entry}
+use Rattle.atomic_table.specs.Table.{opening, Seen, Final}
 use Rattle.shard_book.specs.Book.{Book}
 use Rattle.shard_book.specs.History.{IsLegal}
 use Rattle.shared_books.specs.declared.turns.rule.Opening.{Opening}
 use Rattle.shared_books.specs.declared.turns.rule.Mark.{Mark}
 use Rattle.shared_books.specs.declared.turns.rule.PassState.{PassState}
 use Rattle.shared_books.specs.Claims.{all_claims}
-use Rattle.shared_books.specs.Machine.{Machine, Event, taken, given, start, May, next, after}
-use Rattle.shared_books.specs.Machine.{IsSchedule}
-use Rattle.shared_books.specs.Marks.{mark, others, visits_of, history_of_visits, made_at, made_from}
-use Rattle.shared_books.specs.Marks.{Apart, Begins, joined_marks}
-use Rattle.shared_books.specs.Turns.{Boxed, book_after, makers, FitsMachine, IsSpentPass}
+use Rattle.shared_books.specs.Machine.{Machine, start, after}
+use Rattle.shared_books.specs.Marks.{visits_of, made_at, made_from}
+use Rattle.shared_books.specs.Turns.{Boxed, book_after, FitsMachine, IsSpentPass}
 use Rattle.shared_books.specs.Turns.{ShowsMachine, IsTurn}
 use Rattle.shared_books.specs.PassStates.{pass_state}
-use Rattle.shared_books.specs.inside.Steps.{Seat, spent_pass_state, new_pass_state, left_pass_state}
-use Rattle.shared_books.specs.inside.Steps.{both_pass_states, HasSeen, HasTriedTurn, given_back}
-use Rattle.shared_books.specs.inside.Steps.{HasEndedJoin}
-use Rattle.shared_books.proofs.Changed.{sum_set, sum_part, sum_only, at_less}
-use Rattle.shared_books.proofs.ClaimSteps.{claims_set, claims_split, claims_join, claims_most}
+use Rattle.shared_books.proofs.Changed.{sum_only}
+use Rattle.shared_books.proofs.ClaimSteps.{claims_most}
 use Rattle.shared_books.proofs.ClaimSteps.{others_spent}
-use Rattle.shared_books.proofs.MarkLists.{visits-caught, visits-append, visits-others}
-use Rattle.shared_books.proofs.MarkLists.{length-visits, joined-snoc, drop_all, made_at-others}
-use Rattle.shared_books.proofs.MarkLists.{made_at-caught, made_at-here, made_at-else}
-use Rattle.shared_books.proofs.MarkLists.{made_at-beyond, made_at-merged, made_many, begins_merged}
-use Rattle.shared_books.proofs.MarkLists.{begins_either, begins_whole, begins_shorter}
-use Rattle.shared_books.proofs.OneView.{S, acts, schedule_snoc, after-snoc, word_of, turn_set}
-use Rattle.shared_books.proofs.OneView.{seen_set, CaughtUp, caught_up, begins_itself}
+use Rattle.shared_books.proofs.MarkLists.{length-visits}
+use Rattle.shared_books.proofs.MarkLists.{made_many}
+use Rattle.shared_books.proofs.MarkLists.{begins_whole, begins_shorter}
+use Rattle.shared_books.proofs.OneView.{S, word_of}
 
 -- the table at the start
 pub opens : (first : ℕ) (o : Opening) (b : Book) (x : Boxed) → x.value ≡ b → o.first ≡ first

@@ -1,6 +1,6 @@
 -- Trees of heads: their root, and a place that is chosen anew.
 use Rattle.std.proofs.Common.{◌≡◌, ◌≢◌, ◌⊎◌, ℕ, zero, suc, ◌+◌, ◌-◌, ◌*◌, ◌/◌, ◌<◌, ◌≤◌, List, []}
-use Rattle.std.proofs.Common.{◌∷◌, length, true, false, Bool, refl, sym, ap, subst, ◌∙◌, arith, inl}
+use Rattle.std.proofs.Common.{◌∷◌, length, refl, sym, ap, subst, ◌∙◌, arith, inl}
 use Rattle.std.proofs.Common.{inr, None, Some, get_or, set}
 use Rattle.std.specs.Prelude.{Option}
 use Rattle.std.specs.Ordering.{is_lt}
@@ -10,7 +10,6 @@ use Rattle.std.proofs.lemmas.List.{same_lists}
 use Rattle.std.proofs.lemmas.Cmp.{tied_itself}
 use Rattle.tap_views.proofs.TapOrders.{tap_cmp_total}
 use Rattle.tap_views.specs.declared.encoder.TapFields.{TapFields}
-use Rattle.tap_parts.specs.Canonical.{tap_cmp}
 use Rattle.sorted_taps.specs.Heads.{HasLeaves, IsChosen, IsChosenAt, IsNotAfter, IsRanked}
 use Rattle.sorted_taps.specs.Merged.{BeginsNotBefore}
 use Rattle.sorted_taps.specs.Merges.{AreAtEnd, IsLeastHead}

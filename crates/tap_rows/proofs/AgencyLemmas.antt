@@ -20,8 +20,6 @@ use Rattle.tap_rows.specs.declared.agency.reading.Reading.{Reading}
 use Rattle.tap_rows.specs.declared.agency.reading.Reading.TheVariants as read
 use Rattle.tap_rows.specs.declared.agency.reading.Reason.{Reason}
 use Rattle.tap_rows.specs.declared.agency.summary.Summary.{Summary}
-use Rattle.tap_rows.specs.declared.agency.fault.AgencyFault.{AgencyFault}
-use Rattle.tap_rows.specs.declared.agency.fault.AgencyFault.TheVariants as fault
 
 -- ---- faults
 
