@@ -146,6 +146,7 @@ impl<'a> Fault<'a> {
             RunFault::Workers => unreachable!(),
             RunFault::NoMemory => Fault::NoMemory,
             RunFault::Gather(fault) => Fault::Gather(fault),
+            RunFault::Unlent(_) => Fault::NoMemory,
         }
     }
 
