@@ -85,11 +85,12 @@ impl<U: LentUploads + Drop> Service<U> {
         if shards == 0 || shards > MAX_SHARDS {
             return Err(OpenFault::Shards);
         }
-        if uploads.len() > MAX_UPLOADS {
+        let number = uploads.len();
+        if number > MAX_UPLOADS {
             return Err(OpenFault::Uploads);
         }
         let seed = HashSeed::new(rt)?;
-        let (draw, drawer) = Draw::new(alloc, uploads.len() as u32)?;
+        let (draw, drawer) = Draw::new(alloc, number as u32)?;
         let (books, passes) = open_books(alloc, seed, &table, shards)?;
         let service = Service {
             table,

@@ -245,13 +245,13 @@ impl<U: LentUploads + Drop> Service<U> {
     /// and shares are dropped.
     pub fn gather(self, alloc: Global, shares: Vec<Share>) -> Result<Outcome, GatherFault>
         requires { All (IsShareOf self) shares.items }
-        ensures headline { IfOk result (HasOutcome self.entry shares.items) }
+        ensures headline { IfOk result (HasOutcome self shares.items) }
         ensures undrawn { IfOk result (ToldUndrawn shares.items) }
         ensures full { IfOk result (λ _. FullIsMade shares.items) }
-        ensures fault { IfErr result (IsGatherFault (shards_of self.entry) shares.items) }
+        ensures fault { IfErr result (IsGatherFault (shards_of self) shares.items) }
         ensures first { IfErr result
-            (TellsFirst self.entry.books (length self.entry.uploads) shares.items) }
-        ensures claims { HaveAllClaims (shards_of self.entry) shares.items
+            (TellsFirst self.books (length self.uploads) shares.items) }
+        ensures claims { HaveAllClaims (shards_of self) shares.items
             → IfErr result IsForMemory }
     {
         let mut closed = Vec::with_capacity(alloc, self.books.len())?;

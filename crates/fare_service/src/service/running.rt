@@ -160,11 +160,11 @@ impl<U: LentUploads + Drop + Sync> Service<U> {
     ) -> Result<Outcome, RunFault>
         requires { IsShareOf self share }
         ensures headline { IfOk result
-            (HasRunOver self.entry.table (shards_of self.entry) self.entry.uploads workers) }
+            (HasRunOver self.table (shards_of self) self.uploads workers) }
         ensures stopped { IfOk result (λ outcome. IsFresh share → HaveStopped workers outcome) }
         ensures fault { IfErr result (IsRunFault workers) }
-        ensures gathered { IfErr result (WasNotGathered self.entry workers) }
-        ensures claims { HasAllClaims (shards_of self.entry) share
+        ensures gathered { IfErr result (WasNotGathered self workers) }
+        ensures claims { HasAllClaims (shards_of self) share
             → IfErr result MissesNothing }
     {
         if workers == 0 || workers > MAX_WORKERS {
