@@ -6,18 +6,13 @@ ghost use Rattle.fare_program.specs.inside.ChargedAhead.{IsChargedAhead};
 
 use crate::fault::Fault;
 use crate::files_ahead::{Amount, Disk};
-use crate::posting::charge_live;
-use crate::noting::NotingGate;
 use crate::options::Options;
 use crate::settle::charge_settled;
-use fare_service::LentUploads;
 use fare_table::FareTable;
 use settlement::Uploads;
 use std::alloc::{AllocError, Global};
 use std::io::Write;
 use std::marker::Sync;
-use std::mem;
-use std::sync::Wait;
 use std::random::RandomSource;
 use std::thread::Threads;
 use tap_views::Token;
@@ -80,26 +75,6 @@ impl<D: Disk> Uploads for NamedFiles<'_, D> {
     }
 }
 
-impl<D: Disk> LentUploads for NamedFiles<'_, D> {
-    ghost use Rattle.std.specs.Prelude.{None, map};
-
-    // No contract says what a file of a disk has.
-    ghost known = { λ files. map (λ name. None) files.names.now };
-
-    fn len(&self) -> usize {
-        self.names.len()
-    }
-
-    fn lend<'b>(&'b self, upload: u32, room: &'b mut Vec<u8>) -> Option<&'b [u8]> {
-        let taken = mem::replace(room, Vec::new(self.alloc));
-        let Ok(bytes) = self.read(upload as usize, taken) else {
-            return None;
-        };
-        *room = bytes;
-        Some(room.as_slice())
-    }
-}
-
 /// The sizes of the files of these names, if all may be read before they are due.
 pub(crate) fn sizes_of<D: Disk>(alloc: Global, disk: &D, names: &[&str]) -> Option<Vec<u64>> {
     let mut sizes = Vec::new(alloc);
@@ -117,7 +92,7 @@ pub(crate) fn sizes_of<D: Disk>(alloc: Global, disk: &D, names: &[&str]) -> Opti
 ///
 /// Where it says nothing, nothing was written. Then the files are to be loaded in their turns: so the
 /// fault that is told is that of the first file in the order of the words.
-pub(crate) fn charge_ahead<'a, R: Threads + Wait + RandomSource + Sync, D: Disk + Sync, W: Write>(
+pub(crate) fn charge_ahead<'a, R: Threads + RandomSource + Sync, D: Disk + Sync, W: Write>(
     rt: &R,
     alloc: Global,
     disk: &D,
@@ -133,7 +108,7 @@ pub(crate) fn charge_ahead<'a, R: Threads + Wait + RandomSource + Sync, D: Disk 
         → Keeps (W.contents out.old) (W.contents out.new)) }
     ensures fault { IfErr result (λ fault. fault ≡ Fault.Write) }
 {
-    if options.list || keeps_loads || options.files.is_empty() {
+    if !options.settle || options.list || keeps_loads || options.files.is_empty() {
         return Ok(None);
     }
     let Some(table) = table else {
@@ -149,29 +124,9 @@ pub(crate) fn charge_ahead<'a, R: Threads + Wait + RandomSource + Sync, D: Disk 
         names,
         sizes: &sizes,
     };
-    let charged = if options.settle {
-        charge_settled(rt, alloc, options, table, token, &uploads, out)
-    } else {
-        charge_live_named(rt, alloc, disk, options, table, token, uploads, out)
-    };
-    match charged {
+    match charge_settled(rt, alloc, options, table, token, &uploads, out) {
         Ok(well) => Ok(Some(well)),
         Err(Fault::Write) => Err(Fault::Write),
         Err(_) => Ok(None),
     }
-}
-
-fn charge_live_named<'a, R: Threads + Wait + RandomSource + Sync, D: Disk + Sync, W: Write>(
-    rt: &R,
-    alloc: Global,
-    disk: &D,
-    options: &Options<'a>,
-    table: &FareTable,
-    token: Option<Token>,
-    uploads: NamedFiles<'_, D>,
-    out: &mut W,
-) -> Result<bool, Fault<'a>> {
-    let gate = NotingGate::new(disk, uploads.sizes);
-    let table = table.try_clone(alloc)?;
-    charge_live(rt, alloc, options, table, token, uploads, &gate, out)
 }

@@ -11,9 +11,9 @@ use crate::files_ahead::Disk;
 use crate::noting::NotedUploads;
 use crate::options::Options;
 use crate::output::flush;
-use crate::run::{are_posted, outcome_of, post_live};
+use crate::run::{are_posted, post_live};
 use crate::settle::charge_settled;
-use fare_service::{Gate, LentUploads, Outcome};
+use fare_service::Outcome;
 use fare_table::FareTable;
 use fare_texts::{write_explained, write_ledger};
 use std::alloc::Global;
@@ -123,29 +123,6 @@ pub(crate) fn charge<'a, R: Threads + Wait + RandomSource + Sync, D: Disk + Sync
         return charge_settled(rt, alloc, options, &table, token, &uploads, out);
     }
     let outcome = post_live(rt, alloc, disk, table, options, files)?;
-    print_asked(rt, alloc, options, &outcome, token, out)?;
-    flush(out)?;
-    Ok(are_posted(outcome.ends()))
-}
-
-/// Posts uploads that are lent.
-pub(crate) fn charge_live<
-    'a,
-    R: Threads + Wait + RandomSource + Sync,
-    U: LentUploads + Drop + Sync,
-    G: Gate + Sync,
-    W: Write,
->(
-    rt: &R,
-    alloc: Global,
-    options: &Options<'a>,
-    table: FareTable,
-    token: Option<Token>,
-    uploads: U,
-    gate: &G,
-    out: &mut W,
-) -> Result<bool, Fault<'a>> {
-    let outcome = outcome_of(rt, alloc, table, options, uploads, gate)?;
     print_asked(rt, alloc, options, &outcome, token, out)?;
     flush(out)?;
     Ok(are_posted(outcome.ends()))

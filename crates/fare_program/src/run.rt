@@ -7,14 +7,14 @@ ghost use Rattle.fare_program.specs.inside.Fault.{IsRunFailure};
 ghost use Rattle.report_texts.specs.UploadEnds.{are_posted, is_posted};
 ghost use Rattle.fare_program.specs.Options.{Asked};
 ghost use Rattle.fare_program.specs.Program.{ShowsOf, ShowsPlain};
-ghost use Rattle.fare_service.specs.Headline.{HasRun, HasRunOver};
+ghost use Rattle.fare_service.specs.Headline.{HasRun};
 ghost use Rattle.fare_program.specs.inside.PostedFiles.{IsLiveRun};
 
 use crate::fault::Fault;
 use crate::files_ahead::Disk;
-use crate::noting::{NotingGate, sizes_in};
+use crate::noting::NotingGate;
 use crate::options::Options;
-use fare_service::{Gate, LentUploads, Outcome, Service, UploadEnd, laws};
+use fare_service::{Outcome, Service, UploadEnd, laws};
 use fare_table::FareTable;
 use std::alloc::Global;
 use std::marker::Sync;
@@ -25,28 +25,24 @@ use tap_views::laws::one_reading_each;
 
 /// What the service comes to over these uploads, by this table. Each upload is noted on the disk when
 /// it is posted.
-pub(crate) fn outcome_of<
-    'a,
-    R: Threads + Wait + RandomSource + Sync,
-    U: LentUploads + Drop + Sync,
-    G: Gate + Sync,
->(
+pub(crate) fn outcome_of<'a, R: Threads + Wait + RandomSource + Sync, D: Disk + Sync>(
     rt: &R,
     alloc: Global,
+    disk: &D,
     table: FareTable,
     options: &Options<'a>,
-    files: U,
-    gate: &G,
+    files: &[Vec<u8>],
 ) -> Result<Outcome, Fault<'a>>
-    ensures run { IfOk result (HasRunOver table options.now.shards (U.known files)
-        options.now.workers) }
-    ensures fault { IfErr result (IsRunFailure (length (U.known files))) }
+    ensures run { IfOk result (λ outcome. HasRun table options.now.shards
+        (map (λ f. f.items) files.now) options.now.workers outcome) }
+    ensures fault { IfErr result (IsRunFailure (length files.now)) }
 {
     let (service, share) = match Service::open(rt, alloc, table, options.shards, files) {
         Ok(opened) => opened,
         Err(fault) => return Err(Fault::of_open(fault)),
     };
-    match service.run(rt, alloc, share, options.workers, gate) {
+    let gate = NotingGate::new(disk, files);
+    match service.run(rt, alloc, share, options.workers, &gate) {
         Ok(outcome) => Ok(outcome),
         Err(fault) => Err(Fault::of_run(fault)),
     }
@@ -83,9 +79,7 @@ pub(crate) fn post_live<'a, R: Threads + Wait + RandomSource + Sync, D: Disk + S
     ensures status { IfErr result (λ fault. status_of fault ≡ 1) }
 {
     let uploads = files.as_slice();
-    let sizes = sizes_in(alloc, uploads)?;
-    let gate = NotingGate::new(disk, &sizes);
-    let outcome = outcome_of(rt, alloc, table, options, uploads, &gate)?;
+    let outcome = outcome_of(rt, alloc, disk, table, options, uploads)?;
     // proof: where no token has taps in two files, what is shown does not depend on the schedule
     shows_plain(uploads, &outcome);
     Ok(outcome)

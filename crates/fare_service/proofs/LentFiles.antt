@@ -160,3 +160,13 @@ lent_files service works all once = record {
           ended = subst E (sym at) is.ended;
           entered = is.entered;
         }
+
+-- uploads whose bytes are all known are lent with these
+pub known_files : {A : Type 0} (bytes : A → List ℕ) (uploads : List A) (files : List (List ℕ))
+    → AreLentAs (map (λ upload. Some (bytes upload)) uploads) files → files ≡ map bytes uploads
+known_files bytes [] [] lent = refl
+known_files bytes [] (file ∷ files) lent = absurd lent
+known_files bytes (upload ∷ uploads) [] lent = absurd lent
+known_files bytes (upload ∷ uploads) (file ∷ files) lent =
+    ap (λ (f : List ℕ). f ∷ files) lent.0
+    ∙ ap (λ (fs : List (List ℕ)). bytes upload ∷ fs) (known_files bytes uploads files lent.1)
