@@ -10,8 +10,8 @@ use Rattle.fare_service.proofs.GatheredShares.{has_run}
 use Rattle.fare_service.proofs.service.Service.run.Goals as goal
 use Rattle.tap_views.proofs.Choices.{IfErr_handed_on}
 
-pub gather-outcome-requires : goal.gather-outcome-requires
-gather-outcome-requires g c =
+pub gather-requires : goal.gather-requires
+gather-requires g c =
     (answered c.args.self c.in_ok-shares.shares.items c.in_ok-shares-2.shares.items
     c.in_ok-answers.answers.items c.in_ok-shares-2.ensures.shares c.in_ok-answers.ensures).shares
 
