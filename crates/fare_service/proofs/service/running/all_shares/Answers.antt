@@ -22,7 +22,7 @@ loop-answer-preserved c =
       shares = ap (λ rs. rs ++ c.in-Some.answer ∷ []) inv.shares
           ∙ (ap (λ r. map given c.loop-answer.shares.items ++ r ∷ []) c.in-Ok.is
           ∙ (sym (map-append given c.loop-answer.shares.items (c.in-Ok.share ∷ []))
-          ∙ ap (map given) (sym c.in_ok-push.ensures)));
+          ∙ ap (map given) (sym c.in_ok-push-in-Ok.ensures)));
     }
 
 pub returns-clause-shares : goal.returns-clause-shares
