@@ -1,6 +1,7 @@
 //! Why the program gives up, with the line that says so and the status.
 ghost use Rattle.std.specs.Prelude.{◌≡◌, ◌≢◌, ℕ, List, Option, Some, if◌then◌else◌, map};
 ghost use Rattle.fare_service.specs.declared.faults.GatherFault.{GatherFault};
+ghost use Rattle.fare_service.specs.declared.lending.Unlent.{Unlent};
 ghost use Rattle.fare_program.specs.Fault.{IsLate, fault_text, gather_text, status_of};
 ghost use Rattle.fare_program.specs.Causes.{IsNameTold, IsRightFault, IsRightOfSorted};
 ghost use Rattle.fare_program.specs.Options.{Asked};
@@ -141,11 +142,14 @@ impl<'a> Fault<'a> {
         ensures memory { fault ≡ RunFault.NoMemory → result ≡ Fault.NoMemory }
         ensures gather { (why : GatherFault) → fault ≡ RunFault.Gather why
             → result ≡ Fault.Gather why }
+        ensures unlent { (why : Unlent) → fault ≡ RunFault.Unlent why → result ≡ Fault.NoMemory }
     {
         match fault {
             RunFault::Workers => unreachable!(),
             RunFault::NoMemory => Fault::NoMemory,
             RunFault::Gather(fault) => Fault::Gather(fault),
+            // Loaded files are lent. If another file is not, all are loaded in their turns.
+            RunFault::Unlent(_) => Fault::NoMemory,
         }
     }
 

@@ -37,8 +37,9 @@ use Rattle.fare_service.specs.Runs.{RunVisit, IsEntered, entries_of, taps_posted
 use Rattle.fare_service.specs.inside.Runs.{visits_to}
 use Rattle.fare_service.specs.Shares.{Worked, all_visits, IsWorkOf, IsEndOf, IsShareOf, all_works}
 use Rattle.fare_service.specs.Shares.{file_at}
-use Rattle.fare_service.proofs.GatherLemmas.{has_gathered, times_same, fewer_after, not_drawn}
+use Rattle.fare_service.proofs.GatherLemmas.{times_same, fewer_after, not_drawn}
 use Rattle.fare_service.proofs.GatherLemmas.{end_same, end_other}
+use Rattle.fare_service.proofs.GatheredShares.{has_gathered}
 use Rattle.fare_service.proofs.GatheredWork.{Given, IsBookOfWork, IsGathered, given_of}
 
 -- f of the first n numbers, added up
@@ -434,14 +435,14 @@ pub shares_add_up : (service : ServiceView) → IsService service → (shares : 
 shares_add_up service is shares all closed work ends are number workers sums_are =
     let o = has_gathered service is shares all closed work ends are number workers sums_are
     (sums (all_entries closed)) in
-    workers_add_up (given_of service) o.0
+    workers_add_up (given_of service o.files) o.works
     (record {
       books = closed;
       ends = ends;
       workers = workers;
       totals =
           sums (all_entries closed);
-    }) o.2
+    }) o.gathered
 
 -- few entries, few taps
 pub few_taps : (entries : List Entry) (workers : Sums) (most : ℕ) → sums entries ≡ workers

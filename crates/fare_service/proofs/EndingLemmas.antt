@@ -26,7 +26,7 @@ use Rattle.report_texts.specs.UploadEnds.{taps_told}
 use Rattle.fare_service.specs.Claims.{left_share}
 use Rattle.fare_service.specs.Closing.{IsHistoryOf}
 use Rattle.fare_service.specs.Faults.{visits_held}
-use Rattle.fare_service.specs.Headline.{Signed, HasOutcome, ToldUndrawn}
+use Rattle.fare_service.specs.Headline.{Signed, HasOutcome, Headline, ToldUndrawn}
 use Rattle.fare_service.specs.Outcomes.{OutcomeView}
 use Rattle.fare_service.specs.Plain.{WasNotCut}
 use Rattle.fare_service.specs.Runs.{PostedRun, posted_run, if_any}
@@ -50,6 +50,7 @@ use Rattle.fare_service.proofs.CloseLemmas.{there}
 use Rattle.fare_service.proofs.GatheredWork.{Given, given_of, IsGathered}
 use Rattle.fare_service.proofs.HeadlineLemmas.{gathered_of}
 use Rattle.fare_service.proofs.GatherLemmas.{kept_length}
+use Rattle.fare_service.proofs.LentFiles.{lent_number}
 use Rattle.fare_service.proofs.RunVisits.{marks_here}
 use Rattle.fare_service.proofs.ShareLemmas.{own_left}
 use Rattle.fare_service.proofs.VisitLemmas.{no_taps}
@@ -474,25 +475,41 @@ pub have_stopped : (service : ServiceView) (olds news : List ShareView) (workers
     → AllZip (WorkedOn service) olds news
     → HasOutcome service news outcome → ToldUndrawn news outcome → FullIsMade news
     → HaveStopped workers outcome
-have_stopped service olds news workers outcome number fresh worked (works, kept, headline) undrawn
-    full = record {
-      few_cut = few
-          (cuts_few service (2 ^ 62 ≤ outcome.totals.taps + cuts outcome) news works all
-          (All-weaker
-          (λ (s : ShareView). SomeFull s.passes → (shard : ℕ) × (2 ^ 62 ≤ visits_held shard news))
-          (λ (s : ShareView). SomeFull s.passes → 2 ^ 62 ≤ outcome.totals.taps + cuts outcome)
-          (λ s made some. enough (made some)) news full));
-      undrawn = λ upload at. (
-          let past : upload < length service.uploads =
-          omega (arith, slice_get_within outcome.ends upload Undrawn at, headline.uploads) in
-          let left = All-weaker (λ (s : ShareView). s.drawer.seen ≤ upload)
-          (λ (s : ShareView). s.drawer.seen < length service.uploads) (λ s h. omega (arith, h, past))
-          news (undrawn upload at) in
-          omega (arith, posting_few service news works all left, posting_are, cuts_are));
-    }
+have_stopped service olds news workers outcome number fresh worked has undrawn full = record {
+  few_cut = few
+      (cuts_few service (2 ^ 62 ≤ outcome.totals.taps + cuts outcome) news works all
+      (All-weaker
+      (λ (s : ShareView). SomeFull s.passes → (shard : ℕ) × (2 ^ 62 ≤ visits_held shard news))
+      (λ (s : ShareView). SomeFull s.passes → 2 ^ 62 ≤ outcome.totals.taps + cuts outcome)
+      (λ s made some. enough (made some)) news full));
+  undrawn = λ upload at. (
+      let past : upload < length service.uploads =
+      omega (
+        arith,
+        slice_get_within outcome.ends upload Undrawn at,
+        headline.uploads,
+        lent_number service.uploads has.files has.lent,
+      ) in
+      let left = All-weaker (λ (s : ShareView). s.drawer.seen ≤ upload)
+      (λ (s : ShareView). s.drawer.seen < length service.uploads) (λ s h. omega (arith, h, past))
+      news (undrawn upload at) in
+      omega (arith, posting_few service news works all left, posting_are, cuts_are));
+}
   where
-    is : IsGathered (given_of service) works outcome
-    is = gathered_of (given_of service) works outcome headline
+    works : List (List Worked)
+    works = has.works
+
+    kept : AllZip (KeepsWorks service) news works
+    kept = has.kept
+
+    given : Given
+    given = given_of service has.files
+
+    headline : Headline given.table given.shards given.uploads works outcome
+    headline = has.headline
+
+    is : IsGathered given works outcome
+    is = gathered_of given works outcome headline
 
     all : AllZip (Stops service) news works
     all = all_stop service olds news works fresh worked kept
@@ -500,12 +517,12 @@ have_stopped service olds news workers outcome number fresh worked (works, kept,
     cuts_are : sum_by cuts_in works ≡ cuts outcome
     cuts_are = sym
         (sum_by-flat_map (λ (w : Worked). cut_one w.end) (λ (done : List Worked). done) works)
-        ∙ ends_are cut_one refl (given_of service) works outcome is
+        ∙ ends_are cut_one refl given works outcome is
 
     taps_are : sum_by (λ done. sum_by (λ w. taps_told w.end) done) works ≡ outcome.totals.taps
     taps_are = sym
         (sum_by-flat_map (λ (w : Worked). taps_told w.end) (λ (done : List Worked). done) works)
-        ∙ (ends_are taps_told refl (given_of service) works outcome is
+        ∙ (ends_are taps_told refl given works outcome is
         ∙ sym headline.totals.uploads)
 
     posting_are : posting outcome ≡ sum_by posted_one works
@@ -520,7 +537,7 @@ have_stopped service olds news workers outcome number fresh worked (works, kept,
           arith,
           many,
           held_few service shard news works kept,
-          works_few (given_of service) works headline.worked,
+          works_few given works headline.worked,
           taps_are,
           cuts_are,
         )

@@ -1,4 +1,4 @@
--- Shares are gathered: what their workers did is an outcome.
+-- Shares are gathered: their ends, books and sums by what their workers did.
 use Rattle.std.specs.Prelude.{ℕ, zero, suc, ◌≡◌, ◌≢◌, ◌⊎◌, ◌+◌, ◌<◌, ◌≤◌, ◌==◌, true, false, List}
 use Rattle.std.specs.Prelude.{[], ◌∷◌, ◌++◌, length, map, replicate, slice_set, All, slice_get}
 use Rattle.std.specs.Prelude.{Some, cond}
@@ -22,7 +22,7 @@ use Rattle.fare_service.specs.declared.service.share.Done.{Done}
 use Rattle.report_texts.specs.declared.upload_end.UploadEnd.{UploadEnd}
 use Rattle.report_texts.specs.declared.upload_end.UploadEnd.TheVariants.{Posted, Refused, Cut}
 use Rattle.report_texts.specs.declared.upload_end.UploadEnd.TheVariants.{Undrawn}
-use Rattle.fare_service.specs.Headline.{end_of, HasOutcome, HasRun}
+use Rattle.fare_service.specs.Headline.{end_of}
 use Rattle.fare_service.specs.ServiceView.{ServiceView, shards_of}
 use Rattle.fare_service.specs.inside.ServiceView.{IsService, IsBookOf}
 use Rattle.fare_service.specs.ShareView.{ShareView}
@@ -30,12 +30,13 @@ use Rattle.fare_service.specs.inside.Joining.{with_done, with_all_done}
 use Rattle.fare_service.specs.Outcomes.{OutcomeView}
 use Rattle.fare_service.specs.inside.Outcomes.{IsOutcome}
 use Rattle.fare_service.specs.Runs.{entries_of}
-use Rattle.fare_service.specs.Shares.{Worked, all_visits, all_works, done_of, file_at, IsWorked}
+use Rattle.fare_service.specs.Shares.{Worked, all_visits, all_works, done_of, IsWorked}
 use Rattle.fare_service.specs.Shares.{IsWorkOf, KeepsWorks, IsShareOf, IsEndOf}
-use Rattle.fare_service.proofs.GatheredWork.{Given, given_of, IsBookOfWork, IsGathered}
+use Rattle.fare_service.proofs.GatheredWork.{Given, IsBookOfWork}
+use Rattle.fare_service.proofs.PlainLists.{All-flat}
 
 -- what each share keeps
-abbrev Kept : ServiceView → List ShareView → List (List Worked) → Type 0
+abbrev pub Kept : ServiceView → List ShareView → List (List Worked) → Type 0
 Kept service shares works = AllZip (KeepsWorks service) shares works
 
 pub keepings : (service : ServiceView) (shares : List ShareView) → All (IsShareOf service) shares
@@ -46,7 +47,7 @@ keepings service (s ∷ shares) all =
     let rest = keepings service shares (All-tail (IsShareOf service) s shares all) in
     (first.works ∷ rest.0, (first.keeps, rest.1))
 
-all_each : (service : ServiceView) (shares : List ShareView) (works : List (List Worked))
+pub all_each : (service : ServiceView) (shares : List ShareView) (works : List (List Worked))
     → Kept service shares works → All (λ done. All (IsWorked service) done) works
 all_each service [] [] kept = All-nil (λ done. All (IsWorked service) done)
 all_each service [] (w ∷ works) kept = absurd kept
@@ -65,7 +66,7 @@ each_work given (w ∷ works) all =
     (each_work given works
     (All-tail (λ done. All (IsWorkOf given.shards given.uploads) done) w works all))
 
-drawn_all : (service : ServiceView) (shares : List ShareView) (works : List (List Worked))
+pub drawn_all : (service : ServiceView) (shares : List ShareView) (works : List (List Worked))
     → Kept service shares works
     → flat_map (λ share. share.drawer.drawn) shares ≡ map (λ w. w.upload) (all_works works)
 drawn_all service [] [] kept = refl
@@ -76,7 +77,7 @@ drawn_all service (s ∷ shares) (w ∷ works) kept =
     ∙ ap (λ ds. map (λ (x : Worked). x.upload) w ++ ds) (drawn_all service shares works kept.1)
     ∙ sym (map-append (λ x. x.upload) w (all_works works))
 
-totals_all : (service : ServiceView) (shares : List ShareView) (works : List (List Worked))
+pub totals_all : (service : ServiceView) (shares : List ShareView) (works : List (List Worked))
     → Kept service shares works
     → map (λ share. share.totals) shares ≡ map (λ done. sums (entries_of (all_visits done))) works
 totals_all service [] [] kept = refl
@@ -140,7 +141,7 @@ set_other (e ∷ ends) (suc upload) zero new apart = refl
 set_other (e ∷ ends) (suc upload) (suc other) new apart =
     set_other ends upload other new (λ h. apart (ap suc h))
 
-get_replicate : (number upload : ℕ) (end : UploadEnd)
+pub get_replicate : (number upload : ℕ) (end : UploadEnd)
     → slice_get (replicate number Undrawn) upload ≡ Some end → end ≡ Undrawn
 get_replicate zero upload end at = absurd (cc)
 get_replicate (suc number) zero end at = let h : Undrawn ≡ end = cc in sym h
@@ -183,7 +184,7 @@ fewer_after w works once x = by_test (eqb_tells w.upload x)
     by_test (inr (is, apart)) = omega (arith, once x, times_other w works x is)
 
 -- an upload with its end was not drawn, or it ended as the one that drew it tells
-abbrev Told : List UploadEnd → List Worked → ℕ → UploadEnd → Type 0
+abbrev pub Told : List UploadEnd → List Worked → ℕ → UploadEnd → Type 0
 Told ends works upload end =
     ((drawn_times upload works ≡ 0) × (slice_get ends upload ≡ Some end))
     ⊎ ((0 < drawn_times upload works) × (end ≡ end_of upload works))
@@ -225,8 +226,7 @@ never_undrawn : (service : ServiceView) (w : Worked) → IsWorked service w → 
 never_undrawn service w worked = by_end w.end worked.ended
   where
     by_end : (end : UploadEnd)
-        → IsEndOf (shards_of service) (file_at service.uploads w.upload) worked.batches worked.rest
-        w.visits end → end ≢ Undrawn
+        → IsEndOf (shards_of service) worked.file worked.batches worked.rest w.visits end → end ≢ Undrawn
     by_end Undrawn e is = e
     by_end (Posted taps) e is = absurd (cc)
     by_end (Refused taps offset fault) e is = absurd (cc)
@@ -264,7 +264,7 @@ not_drawn (w ∷ works) upload none = by_test (eqb_tells w.upload upload) (not_d
         end_other w works upload is ∙ rest (omega (arith, none, times_other w works upload is))
 
 -- the ends that the shares tell
-ends_told : (service : ServiceView) (shares : List ShareView) (works : List (List Worked))
+pub ends_told : (service : ServiceView) (shares : List ShareView) (works : List (List Worked))
     → Kept service shares works → NoneTwice (map (λ w. w.upload) (all_works works))
     → (ends : List UploadEnd)
     → ends ≡ with_all_done (replicate (length service.uploads) Undrawn) shares
@@ -276,7 +276,7 @@ ends_told service shares works kept once ends are upload end at =
     (subst G (are ∙ told_works service (replicate (length service.uploads) Undrawn) shares works
     kept) at)
 
-book_of_work : (service : ServiceView) → IsService service
+pub book_of_work : (service : ServiceView) → IsService service
     → (shares : List ShareView) (works : List (List Worked)) → Kept service shares works
     → (shard : ℕ) (book : Book) → IsHistoryOf service.books shares shard book
     → IsBookOfWork service.table shard (shards_of service) works book
@@ -296,49 +296,6 @@ book_of_work service is shares works kept shard book h =
       of_shards = h.of_shards ∙ opened.of_shards;
       legal = subst L (h.table ∙ opened.its_table) h.legal;
     }
-
--- what was gathered of shares, by what each keeps
-abbrev pub HasGathered : ServiceView → List ShareView → OutcomeView → Type 0
-HasGathered service shares outcome =
-    (works : List (List Worked)) × AllZip (KeepsWorks service) shares works
-    × IsGathered (given_of service) works outcome
-
-pub has_gathered : (service : ServiceView) → IsService service → (shares : List ShareView)
-    → All (IsShareOf service) shares → (closed : List Book)
-    → IsClosedWork service.books shares closed
-    → (ends : List UploadEnd)
-    → ends ≡ with_all_done (replicate (length service.uploads) Undrawn) shares
-    → length ends ≡ length service.uploads
-    → (workers : List Sums) → workers ≡ map (λ share. share.totals) shares → (totals : Sums)
-    → HasGathered service shares
-    (record { books = closed; ends = ends; workers = workers; totals = totals })
-has_gathered service is shares all closed work ends are number workers sums_are totals =
-    let k = keepings service shares all in
-    let D : List ℕ → Type 0 = NoneTwice in
-    let once = subst D (drawn_all service shares k.0 k.1) work.once in
-    let each = all_each service shares k.0 k.1 in (
-      k.0,
-      k.1,
-      record {
-        each = each;
-        once = once;
-        shards = work.number;
-        books = λ shard book at. book_of_work service is shares k.0 k.1 shard book
-            (work.books shard book at);
-        uploads = number;
-        ends = λ upload end at. by_told k.0 upload end
-            (ends_told service shares k.0 k.1 once ends are upload end at);
-        workers = sums_are ∙ totals_all service shares k.0 k.1;
-      },
-    )
-  where
-    by_told : (works : List (List Worked)) (upload : ℕ) (end : UploadEnd)
-        → Told (replicate (length service.uploads) Undrawn) (all_works works) upload end
-        → end ≡ end_of upload (all_works works)
-    by_told works upload end (inl (none, there)) =
-        get_replicate (length service.uploads) upload end there
-        ∙ sym (not_drawn (all_works works) upload none)
-    by_told works upload end (inr (some, e)) = e
 
 pub told_undrawn : (service : ServiceView) (shares : List ShareView)
     → All (IsShareOf service) shares → (closed : List Book)
@@ -361,7 +318,7 @@ told_undrawn service shares all closed work ends are number upload at =
         work.undrawn upload (ap (times upload) (drawn_all service shares works kept) ∙ none)
     by_told works kept (inr (some, e)) =
         absurd (drawn_ended service (all_works works) upload
-        (each_work (given_of service) works (all_each service shares works kept)) some (sym e))
+        (All-flat (IsWorked service) works (all_each service shares works kept)) some (sym e))
 
 -- uploads below a number
 all_below : (works : List Worked) (n : ℕ) → AllBelow n (map (λ w. w.upload) works)
@@ -399,7 +356,7 @@ undrawn_last service shares works kept closed work upload ended =
         → All (λ w. w.upload < upload) (all_works works)
     by_times (inl some) =
         absurd (drawn_ended service (all_works works) upload
-        (each_work (given_of service) works (all_each service shares works kept)) some ended)
+        (All-flat (IsWorked service) works (all_each service shares works kept)) some ended)
     by_times (inr few) =
         let none : times upload (flat_map (λ share. share.drawer.drawn) shares) ≡ 0 =
         ap (times upload) (drawn_all service shares works kept) ∙ omega (arith, few) in
@@ -437,10 +394,3 @@ done_within service uploads shares number all =
         (All-map (λ d. d.upload < uploads) done_of h.works
         (All-weaker (IsWorked service) (λ w. w.upload < uploads)
         (λ w q. omega (arith, q.within, number)) h.works h.keeps.each))
-
--- a run of so many workers was gathered
-pub has_run : (service : ServiceView) (shares : List ShareView) (workers : ℕ)
-    (outcome : OutcomeView) → length shares ≡ workers → HasOutcome service shares outcome
-    → HasRun service.table (shards_of service) service.uploads workers outcome
-has_run service shares workers outcome number (works, kept, headline) =
-    (works, sym (kept_length service shares works kept) ∙ number, headline)

@@ -13,15 +13,16 @@ use Rattle.fare_service.specs.Outcomes.{OutcomeView}
 use Rattle.fare_service.specs.Runs.{entries_to, entries_of}
 use Rattle.fare_service.specs.Shares.{Worked, all_works, all_visits, IsWorkOf}
 
--- what a service was given: its table, how many shards there are, and the bytes of the uploads
+-- what a service was given: its table, how many shards there are, and the bytes with which the uploads
+-- were lent
 pub record Given : Type 0 where
   pub table : Fares
   pub shards : ℕ
   pub uploads : List (List ℕ)
 
-abbrev pub given_of : ServiceView → Given
-given_of service = record
-    { table = service.table; shards = shards_of service; uploads = service.uploads }
+abbrev pub given_of : ServiceView → List (List ℕ) → Given
+given_of service files = record
+    { table = service.table; shards = shards_of service; uploads = files }
 
 -- the book of a shard, by the visits of the workers
 pub record IsBookOfWork (table : Fares) (shard shards : ℕ) (works : List (List Worked))

@@ -1,13 +1,16 @@
 pub mod AddingLemmas
+pub mod AnswerLemmas
 pub mod BatchLemmas
 pub mod ClaimLemmas
 pub mod CloseLemmas
 pub mod EndingLemmas
 pub mod FullLemmas
 pub mod GatherLemmas
+pub mod GatheredShares
 pub mod GatheredWork
 pub mod HeadlineLemmas
 pub mod JoinLemmas
+pub mod LentFiles
 pub mod OrderLemmas
 pub mod PlaceLemmas
 pub mod OwnVisits

@@ -41,6 +41,7 @@ use Rattle.fare_service.proofs.PlainRuns.{IsName, shard_entries, named_entries, 
 use Rattle.fare_service.proofs.VisitLemmas.{entries_to-append}
 use Rattle.fare_service.proofs.GatheredWork.{Given, IsBookOfWork, IsGathered}
 use Rattle.fare_service.proofs.GatherLemmas.{end_other, end_same, fewer_after}
+use Rattle.fare_service.proofs.LentFiles.{Tells, not_again}
 
 entries-cons : (shard : ℕ) (w : Worked) (done : List Worked)
     → history_of_visits (entries_to shard (all_visits (w ∷ done)))
@@ -152,9 +153,6 @@ work_read given token taps w some cuts each worked whole named =
 uploads_of : List Worked → List ℕ
 uploads_of works = map (λ w. w.upload) works
 
-abbrev Tells : ℕ → ℕ → Type 0
-Tells m n = (((m == n) ≡ true) × (m ≡ n)) ⊎ (((m == n) ≡ false) × (m ≢ n))
-
 -- an upload that ended was drawn
 pub drawn_by : (P : Worked → Type 0) (works : List Worked) → All P works → (upload : ℕ)
     → end_of upload works ≢ Undrawn → (w : Worked) × P w × (w.upload ≡ upload)
@@ -185,25 +183,6 @@ drawn_count (w ∷ works) upload ended =
           count_other upload w.upload (map (λ x. x.upload) works) is,
           more (λ e. ended (end_other w works upload is ∙ e)),
         )
-
-not_again : (works : List Worked) (upload : ℕ) → count upload (map (λ w. w.upload) works) ≡ 0
-    → All (λ w. w.upload ≢ upload) works
-not_again [] upload none = All-nil (λ w. w.upload ≢ upload)
-not_again (w ∷ works) upload none =
-    All-cons (λ x. x.upload ≢ upload) w works
-    (λ same. absurd
-    (omega (
-      arith,
-      none,
-      count_same upload w.upload (map (λ x. x.upload) works) (eq-eqb w.upload upload same),
-    )))
-    (not_again works upload (by_test (eqb_tells w.upload upload)))
-  where
-    by_test : Tells w.upload upload → count upload (map (λ x. x.upload) works) ≡ 0
-    by_test (inl (is, same)) =
-        absurd (omega (arith, none, count_same upload w.upload (map (λ x. x.upload) works) is))
-    by_test (inr (is, apart)) =
-        sym (count_other upload w.upload (map (λ x. x.upload) works) is) ∙ none
 
 -- where no upload was drawn twice, each ended as the one that drew it tells
 pub end_told : (works : List Worked) → NoneTwice (map (λ w. w.upload) works)

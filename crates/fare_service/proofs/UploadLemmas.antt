@@ -1,8 +1,7 @@
 -- An upload that was posted: how it ended.
 use Rattle.std.specs.Prelude.{ℕ, ◌≡◌, ◌-◌, ◌<◌, List, [], Result, Ok, Err, IfOk, is_ok, Option}
 use Rattle.std.specs.Prelude.{Some, None, length}
-use Rattle.std.proofs.Common.{sym, ◌∙◌, ap, subst, arith, get_or, map}
-use Rattle.std.proofs.lemmas.List.{length-map, get_or-map}
+use Rattle.std.proofs.Common.{subst, arith}
 use Rattle.tap_views.specs.Layout.{Tap}
 use Rattle.tap_views.specs.Files.{IsFile, IsEndAfterBatches}
 use Rattle.tap_views.specs.declared.fault.LayoutFault.{LayoutFault}
@@ -13,7 +12,7 @@ use Rattle.report_texts.specs.declared.upload_end.UploadEnd.TheVariants.{Cut}
 use Rattle.fare_service.specs.declared.service.working.Stop.{Stop}
 use Rattle.report_texts.specs.UploadEnds.{end_by}
 use Rattle.fare_service.specs.ServiceView.{ServiceView, shards_of}
-use Rattle.fare_service.specs.inside.ServiceView.{upload_at}
+use Rattle.fare_service.specs.Lending.{IsLentAs}
 use Rattle.fare_service.specs.Runs.{RunVisit, runs_of, ArePostedWhole, taps_posted}
 use Rattle.fare_service.specs.inside.Runs.{ArePostedOrCut}
 use Rattle.fare_service.specs.Shares.{HasVisited, IsWorked, IsEndOf}
@@ -44,36 +43,35 @@ posted_taps_are shards p q s t more taps made e =
 by_end : (service : ServiceView) (upload : ℕ) (end : UploadEnd) (file : List ℕ)
     (batches : List (List Tap)) (rest : List ℕ) (visits : List RunVisit) (p q : List PassView)
     (s t : Sums)
-    → upload < length service.uploads → file ≡ upload_at service upload → IsFile file batches rest
-    → HasVisited (shards_of service) p q s t visits
+    → upload < length service.uploads → IsLentAs service.uploads upload file
+    → IsFile file batches rest → HasVisited (shards_of service) p q s t visits
     → IsEndOf (shards_of service) file batches rest visits end
     → Worked_as service upload end p q s t
-by_end service upload end file batches rest visits p q s t within same is made ended =
-    let F : List ℕ → Type 0 = λ f. IsFile f batches rest in
-    let E : List ℕ → Type 0 = λ f. IsEndOf (shards_of service) f batches rest visits end in (
-      visits,
-      made,
-      record {
-        within = within;
-        batches = batches;
-        rest = rest;
-        is_file = subst F same is;
-        ended =
-            subst E same ended;
-        entered = made.entered;
-      },
-    )
+by_end service upload end file batches rest visits p q s t within lent is made ended = (
+  visits,
+  made,
+  record {
+    within = within;
+    file = file;
+    lent = lent;
+    batches = batches;
+    rest = rest;
+    is_file = is;
+    ended = ended;
+    entered = made.entered;
+  },
+)
 
 pub upload_whole : (service : ServiceView) (upload taps : ℕ) (found : Option (ℕ × LayoutFault))
     (file : List ℕ) (p q : List PassView) (s t : Sums) (r : Result (Option (ℕ × LayoutFault)) Stop)
-    → upload < length service.uploads → file ≡ upload_at service upload
+    → upload < length service.uploads → IsLentAs service.uploads upload file
     → Ended (shards_of service) file p q s t r → r ≡ Ok found → taps ≡ t.taps - s.taps
     → Worked_as service upload (end_by taps found) p q s t
-upload_whole service upload taps found file p q s t r within same ended e counted =
+upload_whole service upload taps found file p q s t r within lent ended e counted =
     let P : Result (Option (ℕ × LayoutFault)) Stop → Type 0 =
     Ended (shards_of service) file p q s t in
     let (batches, rest, is, (more, made, posted), fault) = subst P e ended in
-    by_end service upload (end_by taps found) file batches rest more p q s t within same is made
+    by_end service upload (end_by taps found) file batches rest more p q s t within lent is made
     (ended_so batches rest more made posted found fault)
   where
     ended_so : (batches : List (List Tap)) (rest : List ℕ) (more : List RunVisit)
@@ -88,20 +86,12 @@ upload_whole service upload taps found file p q s t r within same ended e counte
 
 pub upload_cut : (service : ServiceView) (upload taps : ℕ) (stop : Stop) (file : List ℕ)
     (p q : List PassView) (s t : Sums) (r : Result (Option (ℕ × LayoutFault)) Stop)
-    → upload < length service.uploads → file ≡ upload_at service upload
+    → upload < length service.uploads → IsLentAs service.uploads upload file
     → Ended (shards_of service) file p q s t r → r ≡ Err stop → taps ≡ t.taps - s.taps
     → Worked_as service upload (Cut taps) p q s t
-upload_cut service upload taps stop file p q s t r within same ended e counted =
+upload_cut service upload taps stop file p q s t r within lent ended e counted =
     let P : Result (Option (ℕ × LayoutFault)) Stop → Type 0 =
     Ended (shards_of service) file p q s t in
     let (batches, rest, is, (more, made, posted), any) = subst P e ended in
-    by_end service upload (Cut taps) file batches rest more p q s t within same is made
+    by_end service upload (Cut taps) file batches rest more p q s t within lent is made
     (posted, posted_taps_are (shards_of service) p q s t more taps made counted)
-
--- the bytes of the upload at a place
-pub the_upload : {A : Type 0} (items : A → List ℕ) (all : List A) (i : ℕ) (one : A)
-    (uploads : List (List ℕ)) → map items all ≡ uploads → i < length uploads
-    → items (get_or all i one) ≡ get_or uploads i []
-the_upload items all i one uploads same within =
-    sym (get_or-map items all i one []
-    (omega (arith, within, ap length same, length-map all items))) ∙ ap (λ us. get_or us i []) same

@@ -37,14 +37,17 @@ IsForMemory gather.NoMemory = Unit {0}
 IsForMemory (gather.Missing shard held kept) = ⊥
 IsForMemory (gather.Drawn held drawn) = ⊥
 
--- a run that misses nothing is refused for memory, a thread or the number of its workers alone
+-- a run that misses nothing is refused for memory, a thread, the number of its workers or an upload
+-- that was not lent
 abbrev pub MissesNothing : RunFault → Type 0
 MissesNothing run.Workers = Unit {0}
 MissesNothing run.NoMemory = Unit {0}
 MissesNothing (run.Gather fault) = IsForMemory fault
+MissesNothing (run.Unlent unlent) = Unit {0}
 
 -- the number of workers is refused first
 abbrev pub IsRunFault : ℕ → RunFault → Type 0
 IsRunFault workers run.Workers = (workers ≡ 0) ⊎ (16 < workers)
 IsRunFault workers run.NoMemory = (0 < workers) × (workers ≤ 16)
 IsRunFault workers (run.Gather fault) = (0 < workers) × (workers ≤ 16)
+IsRunFault workers (run.Unlent unlent) = (0 < workers) × (workers ≤ 16)

@@ -1,6 +1,6 @@
 -- THE HEADLINE: what the books, the ends and the totals of an outcome are, by what each worker did.
 use Rattle.std.specs.Prelude.{◌≡◌, ℕ, ◌<◌, ◌≤◌, ◌==◌, if◌then◌else◌, List, [], ◌∷◌, length, map}
-use Rattle.std.specs.Prelude.{filter, All, slice_get, slice_index_or, Some}
+use Rattle.std.specs.Prelude.{filter, All, Option, slice_get, slice_index_or, Some}
 use Rattle.std.specs.List.{flat_map, AllZip}
 use Rattle.fare_table.specs.Fares.{Fares}
 use Rattle.shard_book.specs.declared.entry.Entry.{Entry}
@@ -12,6 +12,7 @@ use Rattle.shared_books.specs.Drawing.{NoneTwice}
 use Rattle.report_texts.specs.declared.upload_end.UploadEnd.{UploadEnd}
 use Rattle.report_texts.specs.declared.upload_end.UploadEnd.TheVariants.{Undrawn}
 use Rattle.fare_service.specs.Adding.{AddUp}
+use Rattle.fare_service.specs.Lending.{AreLentAs}
 use Rattle.fare_service.specs.ServiceView.{ServiceView, shards_of}
 use Rattle.fare_service.specs.ShareView.{ShareView}
 use Rattle.fare_service.specs.Outcomes.{OutcomeView}
@@ -81,11 +82,23 @@ HasRun fares shards files workers outcome =
     (works : List (List Worked)) × (length works ≡ workers)
     × Headline fares shards files works outcome
 
--- the headline, for what the workers of these shares of a service did
-abbrev pub HasOutcome : ServiceView → List ShareView → OutcomeView → Type 0
-HasOutcome service shares outcome =
-    (works : List (List Worked)) × AllZip (KeepsWorks service) shares works
-    × Headline service.table (shards_of service) service.uploads works outcome
+-- the headline of a run over uploads that were lent: of some files, which are the known ones where
+-- their bytes are known
+pub record HasRunOver (fares : Fares) (shards : ℕ) (uploads : List (Option (List ℕ)))
+    (workers : ℕ) (outcome : OutcomeView) : Type 0 where
+  pub files : List (List ℕ)
+  pub lent : AreLentAs uploads files
+  pub run : HasRun fares shards files workers outcome
+
+-- the headline, for what the workers of these shares of a service did: each upload was lent with the
+-- bytes of its file
+pub record HasOutcome (service : ServiceView) (shares : List ShareView) (outcome : OutcomeView)
+    : Type 0 where
+  pub files : List (List ℕ)
+  pub lent : AreLentAs service.uploads files
+  pub works : List (List Worked)
+  pub kept : AllZip (KeepsWorks service) shares works
+  pub headline : Headline service.table (shards_of service) files works outcome
 
 -- an upload that nobody drew: no share has seen it drawn. Uploads are drawn in their order, so
 -- these are the last ones

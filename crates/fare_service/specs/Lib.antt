@@ -3,6 +3,7 @@ pub mod Claims
 pub mod Closing
 pub mod Faults
 pub mod Headline
+pub mod Lending
 pub mod Limits
 pub mod Outcomes
 pub mod Placing

@@ -1,16 +1,16 @@
 -- What contracts see of a service.
-use Rattle.std.specs.Prelude.{ℕ, List, length}
+use Rattle.std.specs.Prelude.{ℕ, List, Option, length}
 use Rattle.fare_table.specs.Fares.{Fares}
 use Rattle.shared_books.specs.Drawing.{Drawing}
 use Rattle.shared_books.specs.Passes.{SharedBookView}
 
 -- a service: its table, the drawing of its uploads, a shared book for each shard, and the bytes of
--- the uploads
+-- each upload where they are known
 pub record ServiceView : Type 0 where
   pub table : Fares
   pub drawing : Drawing
   pub books : List SharedBookView
-  pub uploads : List (List ℕ)
+  pub uploads : List (Option (List ℕ))
 
 -- how many shards there are
 abbrev pub shards_of : ServiceView → ℕ

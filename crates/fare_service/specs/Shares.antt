@@ -14,6 +14,7 @@ use Rattle.report_texts.specs.declared.upload_end.UploadEnd.TheVariants.{Posted,
 use Rattle.report_texts.specs.declared.upload_end.UploadEnd.TheVariants.{Undrawn}
 use Rattle.fare_service.specs.declared.service.share.Done.{Done}
 use Rattle.fare_service.specs.Claims.{claims_of}
+use Rattle.fare_service.specs.Lending.{IsLentAs}
 use Rattle.fare_service.specs.ServiceView.{ServiceView, shards_of}
 use Rattle.fare_service.specs.ShareView.{ShareView}
 use Rattle.fare_service.specs.Runs.{RunVisit, IsEntered, ArePostedWhole, AreCut, runs_of}
@@ -77,9 +78,17 @@ pub record IsWorkOf (shards : ℕ) (files : List (List ℕ)) (w : Worked) : Type
   pub ended : IsEndOf shards (file_at files w.upload) batches rest w.visits w.end
   pub entered : All (IsEntered shards) w.visits
 
--- the same, of an upload of a service
-abbrev pub IsWorked : ServiceView → Worked → Type 0
-IsWorked service = IsWorkOf (shards_of service) service.uploads
+-- what was done with an upload of a service: its visits and its end are those of the bytes with which
+-- it was lent
+pub record IsWorked (service : ServiceView) (w : Worked) : Type 0 where
+  pub within : w.upload < length service.uploads
+  pub file : List ℕ
+  pub lent : IsLentAs service.uploads w.upload file
+  pub batches : List (List Tap)
+  pub rest : List ℕ
+  pub is_file : IsFile file batches rest
+  pub ended : IsEndOf (shards_of service) file batches rest w.visits w.end
+  pub entered : All (IsEntered (shards_of service)) w.visits
 
 -- the share keeps what was done for these uploads, in the order in which it drew them
 pub record KeepsWorks (service : ServiceView) (share : ShareView) (works : List Worked)

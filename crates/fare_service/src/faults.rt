@@ -1,5 +1,6 @@
 //! What may keep a service from opening, running or gathering.
 
+use crate::lending::Unlent;
 use std::alloc::AllocError;
 use tap_views::NoMemory;
 
@@ -43,6 +44,9 @@ pub enum RunFault {
     /// The shares were not gathered.
     #[error("{0}")]
     Gather(GatherFault),
+    /// An upload was not lent. The shares of the other workers were dropped too.
+    #[error("{0}")]
+    Unlent(Unlent),
 }
 
 impl From<NoMemory> for OpenFault {

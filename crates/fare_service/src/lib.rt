@@ -4,12 +4,14 @@
 
 mod faults;
 pub mod laws;
+mod lending;
 mod outcome;
 mod printing;
 mod service;
 
 pub use fare_texts::PrintFault;
 pub use faults::{GatherFault, OpenFault, RunFault};
+pub use lending::{LentUploads, Unlent};
 pub use outcome::Outcome;
 pub use report_texts::UploadEnd;
 pub use service::Service;

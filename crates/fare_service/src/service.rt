@@ -1,6 +1,7 @@
 //! A service: uploads that workers draw, and a shared book for each shard.
 
 use crate::faults::OpenFault;
+use crate::lending::LentUploads;
 use crate::service::shard_books::open_books;
 use crate::service::share::{Posting, Share};
 use fare_table::FareTable;
@@ -25,17 +26,17 @@ const MAX_UPLOADS: usize = 65_535;
 /// The uploads, a shared book for each shard, and the fare table. Many threads may work at it at
 /// once.
 #[derive(Drop)]
-pub struct Service<'a> {
+pub struct Service<U: LentUploads + Drop> {
     /// The fare table, by which each book charges.
     pub(crate) table: FareTable,
     /// What the workers draw the uploads' numbers from.
     pub(crate) draw: Draw,
     pub(crate) books: Vec<SharedBook>,
-    pub(crate) uploads: &'a [Vec<u8>],
+    /// What lends the uploads.
+    pub(crate) uploads: U,
 }
 
-impl<'a> Model for Service<'a> {
-    ghost use Rattle.std.specs.Prelude.{map};
+impl<U: LentUploads + Drop> Model for Service<U> {
     ghost use Rattle.fare_service.specs.ServiceView.{ServiceView};
     ghost use Rattle.fare_service.specs.inside.ServiceView.{IsService};
 
@@ -45,19 +46,19 @@ impl<'a> Model for Service<'a> {
       table = s.table;
       drawing = s.draw;
       books = s.books.items;
-      uploads = map (λ upload. upload.items) s.uploads.now;
+      uploads = U.known s.uploads;
     } };
 
     ghost invariant = { λ s. IsService (record {
       table = s.table;
       drawing = s.draw;
       books = s.books.items;
-      uploads = map (λ upload. upload.items) s.uploads.now;
+      uploads = U.known s.uploads;
     }) };
 }
 
-impl<'a> Service<'a> {
-    ghost use Rattle.std.specs.Prelude.{◌≡◌, ◌<◌, ◌≤◌, IfOk, IfErr, MatchResult, length, map};
+impl<U: LentUploads + Drop> Service<U> {
+    ghost use Rattle.std.specs.Prelude.{◌≡◌, ◌<◌, ◌≤◌, IfOk, IfErr, MatchResult, length};
     ghost use Rattle.fare_service.specs.Claims.{HasAllClaims, HasHalf, left_share};
     ghost use Rattle.fare_service.specs.ServiceView.{shards_of};
     ghost use Rattle.fare_service.specs.Faults.{IsOpenFault};
@@ -71,25 +72,25 @@ impl<'a> Service<'a> {
         alloc: Global,
         table: FareTable,
         shards: u32,
-        uploads: &'a [Vec<u8>],
-    ) -> Result<(Service<'a>, Share), OpenFault>
+        uploads: U,
+    ) -> Result<(Service<U>, Share), OpenFault>
         ensures table { IfOk result (λ r. r.0.table ≡ table) }
         ensures shards { IfOk result (λ r. shards_of r.0 ≡ shards) }
-        ensures uploads { IfOk result
-            (λ r. r.0.uploads ≡ map (λ upload. upload.items) uploads.now) }
+        ensures uploads { IfOk result (λ r. r.0.uploads ≡ U.known uploads) }
         ensures share { IfOk result (λ r. IsShareOf r.0 r.1) }
         ensures fresh { IfOk result (λ r. IsFresh r.1) }
         ensures claims { IfOk result (λ r. HasAllClaims shards r.1) }
-        ensures fault { IfErr result (IsOpenFault shards (length uploads.now)) }
+        ensures fault { IfErr result (IsOpenFault shards (length (U.known uploads))) }
     {
         if shards == 0 || shards > MAX_SHARDS {
             return Err(OpenFault::Shards);
         }
-        if uploads.len() > MAX_UPLOADS {
+        let number = uploads.len();
+        if number > MAX_UPLOADS {
             return Err(OpenFault::Uploads);
         }
         let seed = HashSeed::new(rt)?;
-        let (draw, drawer) = Draw::new(alloc, uploads.len() as u32)?;
+        let (draw, drawer) = Draw::new(alloc, number as u32)?;
         let (books, passes) = open_books(alloc, seed, &table, shards)?;
         let service = Service {
             table,

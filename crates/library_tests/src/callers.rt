@@ -1,6 +1,6 @@
 //! How a caller of `run` uses the laws.
 
-ghost use Rattle.std.specs.Prelude.{◌≡◌, All, IfOk, List, map};
+ghost use Rattle.std.specs.Prelude.{◌≡◌, All, IfOk, List, Some, map};
 ghost use Rattle.shard_book.specs.declared.entry.Entry.{Entry};
 ghost use Rattle.fare_service.specs.Plain.{AreApart, IsPlain, WasNotCut};
 ghost use Rattle.report_texts.specs.OverHistory.{IsReportOver};
@@ -20,7 +20,7 @@ use std::thread::Threads;
 /// Runs a service of these uploads, and knows of the outcome that its report is that of their plain
 /// history.
 fn run<R: Threads + Wait + Sync, G: Gate + Sync>(
-    service: Service,
+    service: Service<&[Vec<u8>]>,
     uploads: &[Vec<u8>],
     rt: &R,
     alloc: Global,
@@ -29,7 +29,7 @@ fn run<R: Threads + Wait + Sync, G: Gate + Sync>(
     gate: &G,
 ) -> Result<Outcome, RunFault>
     requires share { IsShareOf service share }
-    requires uploads { service.uploads ≡ map (λ upload. upload.items) uploads.now }
+    requires uploads { service.uploads ≡ map (λ upload. Some upload.items) uploads.now }
     ensures { IfOk result (λ outcome. All WasNotCut outcome.ends
         → (history : List Entry)
         (plain : IsPlain service.entry.table (map (λ upload. upload.items) uploads.now) history)

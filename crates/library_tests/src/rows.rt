@@ -7,7 +7,7 @@ use crate::runs::{
     REPORT, SAMPLE, end_of, opened, report_text, run, two_taps, two_uploads, uploads_of,
 };
 use fare_service::{
-    Gate, GatherFault, OpenFault, OpenGate, Outcome, RunFault, Service, Share, UploadEnd,
+    Gate, GatherFault, OpenFault, OpenGate, Outcome, RunFault, Service, Share, Unlent, UploadEnd,
 };
 use fare_table::FareTable;
 use shard_book::Totals;
@@ -147,7 +147,7 @@ fn both_worked<'a, R: Threads + Wait + RandomSource + Sync>(
     rt: &R,
     alloc: Global,
     uploads: &'a [Vec<u8>],
-) -> Result<(Service<'a>, Share, Share), Fail>
+) -> Result<(Service<&'a [Vec<u8>]>, Share, Share), Fail>
     ensures { IfOk result (λ r. IsShareOf r.0 r.1 × IsShareOf r.0 r.2) }
 {
     let (service, mut first) = opened(rt, alloc, uploads, 1)?;
@@ -155,15 +155,18 @@ fn both_worked<'a, R: Threads + Wait + RandomSource + Sync>(
     let gate = Both::new();
     let (one, two) = thread::join(
         rt,
-        || -> Share
+        || -> Result<Share, Unlent>
             requires { IsShareOf service first }
-            ensures { IsShareOf service.entry result }
+            ensures { IfOk result (IsShareOf service.entry) }
         { service.work(rt, alloc, first, &gate) },
-        || -> Share
+        || -> Result<Share, Unlent>
             requires { IsShareOf service second }
-            ensures { IsShareOf service.entry result }
+            ensures { IfOk result (IsShareOf service.entry) }
         { service.work(rt, alloc, second, &gate) },
     );
+    let (Ok(one), Ok(two)) = (one, two) else {
+        return Err(Fail::from("a loaded upload is not lent"));
+    };
     Ok((service, one, two))
 }
 
@@ -207,7 +210,12 @@ fn a_share_held_back_is_missing(rt: HostRuntime) -> Result<(), Fail> {
 }
 
 /// Two shares of a service, to be gathered.
-fn pair(service: &Service, alloc: Global, one: Share, two: Share) -> Result<Vec<Share>, Fail>
+fn pair(
+    service: &Service<&[Vec<u8>]>,
+    alloc: Global,
+    one: Share,
+    two: Share,
+) -> Result<Vec<Share>, Fail>
     requires one { IsShareOf service.now one }
     requires two { IsShareOf service.now two }
     ensures { IfOk result (λ shares. All (IsShareOf service.now) shares.items) }

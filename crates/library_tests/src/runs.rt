@@ -1,6 +1,6 @@
 //! The sample table and uploads, and runs over them.
 
-ghost use Rattle.std.specs.Prelude.{◌≡◌, IfOk, map};
+ghost use Rattle.std.specs.Prelude.{◌≡◌, IfOk, Some, map};
 ghost use Rattle.fare_service.specs.Shares.{IsShareOf};
 
 use fare_service::{Gate, Outcome, Service, Share, UploadEnd};
@@ -45,8 +45,9 @@ pub(crate) fn opened<'a, R: RandomSource>(
     alloc: Global,
     uploads: &'a [Vec<u8>],
     shards: u32,
-) -> Result<(Service<'a>, Share), Fail>
-    ensures uploads { IfOk result (λ r. r.0.uploads ≡ map (λ upload. upload.items) uploads.now) }
+) -> Result<(Service<&'a [Vec<u8>]>, Share), Fail>
+    ensures uploads { IfOk result
+        (λ r. r.0.uploads ≡ map (λ upload. Some upload.items) uploads.now) }
     ensures share { IfOk result (λ r. IsShareOf r.0 r.1) }
 {
     let table = FareTable::read(alloc, SAMPLE.as_bytes())?;

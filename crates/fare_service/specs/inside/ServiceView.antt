@@ -1,12 +1,8 @@
 -- ServiceView: what private functions alone cite.
-use Rattle.std.specs.Prelude.{◌≡◌, ℕ, ◌<◌, ◌≤◌, List, [], length, Some, slice_get, slice_index_or}
+use Rattle.std.specs.Prelude.{◌≡◌, ℕ, ◌<◌, ◌≤◌, List, length, Some, slice_get}
 use Rattle.fare_table.specs.Fares.{Fares}
 use Rattle.shared_books.specs.Passes.{SharedBookView}
 use Rattle.fare_service.specs.ServiceView.{ServiceView, shards_of}
-
--- the bytes of an upload
-abbrev pub upload_at : ServiceView → ℕ → List ℕ
-upload_at service upload = slice_index_or service.uploads upload []
 
 -- the book of a shard was opened with the table, and its visits are numbered from 0
 pub record IsBookOf (table : Fares) (shard shards : ℕ) (book : SharedBookView) : Type 0 where

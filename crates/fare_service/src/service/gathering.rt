@@ -17,6 +17,7 @@ ghost use Rattle.fare_service.specs.Faults.{IsForMemory, IsGatherFault};
 ghost use Rattle.fare_service.specs.Shares.{books_of, made_visits_at};
 
 use crate::faults::GatherFault;
+use crate::lending::LentUploads;
 use crate::outcome::Outcome;
 use crate::service::Service;
 use crate::service::share::{Done, Posting, Share};
@@ -231,7 +232,7 @@ fn close_with(
     }
 }
 
-impl<'a> Service<'a> {
+impl<U: LentUploads + Drop> Service<U> {
     ghost use Rattle.fare_service.specs.ServiceView.{shards_of};
     ghost use Rattle.fare_service.specs.Headline.{HasOutcome, ToldUndrawn};
     ghost use Rattle.fare_service.specs.Shares.{IsShareOf};
@@ -244,13 +245,13 @@ impl<'a> Service<'a> {
     /// and shares are dropped.
     pub fn gather(self, alloc: Global, shares: Vec<Share>) -> Result<Outcome, GatherFault>
         requires { All (IsShareOf self) shares.items }
-        ensures headline { IfOk result (HasOutcome self.entry shares.items) }
+        ensures headline { IfOk result (HasOutcome self shares.items) }
         ensures undrawn { IfOk result (ToldUndrawn shares.items) }
         ensures full { IfOk result (λ _. FullIsMade shares.items) }
-        ensures fault { IfErr result (IsGatherFault (shards_of self.entry) shares.items) }
+        ensures fault { IfErr result (IsGatherFault (shards_of self) shares.items) }
         ensures first { IfErr result
-            (TellsFirst self.entry.books (length self.entry.uploads) shares.items) }
-        ensures claims { HaveAllClaims (shards_of self.entry) shares.items
+            (TellsFirst self.books (length self.uploads) shares.items) }
+        ensures claims { HaveAllClaims (shards_of self) shares.items
             → IfErr result IsForMemory }
     {
         let mut closed = Vec::with_capacity(alloc, self.books.len())?;

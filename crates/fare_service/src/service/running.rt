@@ -1,17 +1,19 @@
 //! A run: a thread for each worker, and the gathering of their shares.
 
-ghost use Rattle.std.specs.Prelude.{◌≡◌, ◌<◌, ◌≤◌, All, IfOk, IfErr, length};
+ghost use Rattle.std.specs.Prelude.{◌≡◌, ◌<◌, ◌≤◌, ◌++◌, ◌∷◌, [], All, IfOk, IfErr, Ok};
+ghost use Rattle.std.specs.Prelude.{OnOk, length, map};
 ghost use Rattle.std.specs.List.{AllZip};
 ghost use Rattle.fare_service.specs.Claims.{HasAllClaims, HaveAllClaims};
 ghost use Rattle.fare_service.specs.Faults.{IsRunFault, MissesNothing};
 ghost use Rattle.fare_service.specs.ServiceView.{shards_of};
-ghost use Rattle.fare_service.specs.Headline.{HasRun};
+ghost use Rattle.fare_service.specs.Headline.{HasRunOver};
 ghost use Rattle.fare_service.specs.Refusals.{WasNotGathered};
 ghost use Rattle.fare_service.specs.Shares.{IsFresh, IsShareOf};
 ghost use Rattle.fare_service.specs.Stopping.{HaveStopped};
-ghost use Rattle.fare_service.specs.inside.Stopping.{WorkedOn};
+ghost use Rattle.fare_service.specs.inside.Lending.{IsAnswer, IsFaultOf};
 
 use crate::faults::RunFault;
+use crate::lending::{LentUploads, Unlent};
 use crate::outcome::Outcome;
 use crate::service::Service;
 use crate::service::share::Share;
@@ -28,18 +30,39 @@ const MAX_WORKERS: u32 = 16;
 
 /// The service that a thread gives a share of, and the share that it began with.
 #[derive(Drop)]
-struct OfShare<'s, 'a> {
-    service: &'s Service<'a>,
+struct OfShare<'s, U: LentUploads + Drop> {
+    service: &'s Service<U>,
     /// The share, as it was when the thread began.
     began: Snapshot<Share>,
 }
 
-impl<'s, 'a> Promise<Share> for OfShare<'s, 'a> {
-    ghost kept_by = { λ p share. IsShareOf p.service.now share
-        × WorkedOn p.service.now p.began.value share };
+impl<'s, U: LentUploads + Drop> Promise<Result<Share, Unlent>> for OfShare<'s, U> {
+    ghost kept_by = { λ p answer. IsAnswer p.service.now p.began.value answer };
 }
 
-impl<'a> Service<'a> {
+fn push(shares: &mut Vec<Share>, share: Share) -> Result<(), NoMemory>
+    ensures { OnOk result (shares.new.items ≡ shares.old.items ++ share ∷ []) }
+{
+    shares.push(share)?;
+    Ok(())
+}
+
+/// The shares that were given back, if none was dropped at an upload that was not lent.
+fn all_shares(alloc: Global, answers: Vec<Result<Share, Unlent>>) -> Result<Vec<Share>, RunFault>
+    ensures shares { IfOk result (λ shares. answers.items ≡ map Ok shares.items) }
+    ensures fault { IfErr result (IsFaultOf answers.items) }
+{
+    let mut shares = Vec::new(alloc);
+    for answer in answers {
+        match answer {
+            Ok(share) => push(&mut shares, share)?,
+            Err(unlent) => return Err(RunFault::Unlent(unlent)),
+        }
+    }
+    Ok(shares)
+}
+
+impl<U: LentUploads + Drop + Sync> Service<U> {
     /// A share for each worker, of which the given one is the first.
     fn share_out(&self, alloc: Global, first: Share, workers: u32) -> Result<Vec<Share>, NoMemory>
         requires first { IsShareOf self.now first }
@@ -70,11 +93,9 @@ impl<'a> Service<'a> {
         alloc: Global,
         shares: Vec<Share>,
         gate: &'s G,
-    ) -> Result<Vec<Share>, NoMemory>
+    ) -> Result<Vec<Result<Share, Unlent>>, NoMemory>
         requires { All (IsShareOf self.now) shares.items }
-        ensures shares { IfOk result (λ r. All (IsShareOf self.now) r.items) }
-        ensures number { IfOk result (λ r. length r.items ≡ length shares.items) }
-        ensures worked { IfOk result (λ r. AllZip (WorkedOn self.now) shares.items r.items) }
+        ensures { IfOk result (λ r. AllZip (IsAnswer self.now) shares.items r.items) }
     {
         let mut threads = Vec::new(alloc);
         for share in shares {
@@ -84,10 +105,9 @@ impl<'a> Service<'a> {
                     service: self,
                     began,
                 },
-                move || -> Share
+                move || -> Result<Share, Unlent>
                     requires { IsShareOf self.now share }
-                    ensures { IsShareOf self.entry.now result
-                        × WorkedOn self.entry.now share result }
+                    ensures { IsAnswer self.entry.now share result }
                 { self.work(rt, alloc, share, gate) },
             );
             let Ok(thread) = started else {
@@ -108,21 +128,17 @@ impl<'a> Service<'a> {
         alloc: Global,
         shares: Vec<Share>,
         gate: &G,
-    ) -> Result<Vec<Share>, NoMemory>
+    ) -> Result<Vec<Result<Share, Unlent>>, NoMemory>
         requires { All (IsShareOf self.now) shares.items }
-        ensures shares { IfOk result (λ r. All (IsShareOf self.now) r.items) }
-        ensures number { IfOk result (λ r. length r.items ≡ length shares.items) }
-        ensures worked { IfOk result (λ r. AllZip (WorkedOn self.now) shares.items r.items) }
+        ensures { IfOk result (λ r. AllZip (IsAnswer self.now) shares.items r.items) }
     {
         let worked = thread::scope(
             thread::scope_env(),
             rt,
-            |scope| -> Result<Vec<Share>, NoMemory>
+            |scope| -> Result<Vec<Result<Share, Unlent>>, NoMemory>
                 requires { All (IsShareOf self.now) shares.items }
-                ensures { IfOk result (λ r. All (IsShareOf self.entry.now) r.items)
-                    × IfOk result (λ r. length r.items ≡ length shares.items)
-                    × IfOk result
-                    (λ r. AllZip (WorkedOn self.entry.now) shares.items r.items) }
+                ensures { IfOk result
+                    (λ r. AllZip (IsAnswer self.entry.now) shares.items r.items) }
             { self.work_in(scope, rt, alloc, shares, gate) },
         )?;
         Ok(worked)
@@ -130,7 +146,7 @@ impl<'a> Service<'a> {
 
     /// Runs the service with `workers` workers, 1 to 16, each in a thread of its own, and gathers
     /// their shares. The given share is the first worker's. If it has all claims, nothing is
-    /// missing.
+    /// missing. Nothing is gathered if an upload was not lent.
     pub fn run<R: Threads + Wait + Sync, G: Gate + Sync>(
         self,
         rt: &R,
@@ -141,18 +157,19 @@ impl<'a> Service<'a> {
     ) -> Result<Outcome, RunFault>
         requires { IsShareOf self share }
         ensures headline { IfOk result
-            (HasRun self.entry.table (shards_of self.entry) self.entry.uploads workers) }
+            (HasRunOver self.table (shards_of self) self.uploads workers) }
         ensures stopped { IfOk result (λ outcome. IsFresh share → HaveStopped workers outcome) }
         ensures fault { IfErr result (IsRunFault workers) }
-        ensures gathered { IfErr result (WasNotGathered self.entry workers) }
-        ensures claims { HasAllClaims (shards_of self.entry) share
+        ensures gathered { IfErr result (WasNotGathered self workers) }
+        ensures claims { HasAllClaims (shards_of self) share
             → IfErr result MissesNothing }
     {
         if workers == 0 || workers > MAX_WORKERS {
             return Err(RunFault::Workers);
         }
         let shares = self.share_out(alloc, share, workers)?;
-        let shares = self.work_all(rt, alloc, shares, gate)?;
+        let answers = self.work_all(rt, alloc, shares, gate)?;
+        let shares = all_shares(alloc, answers)?;
         let outcome = self.gather(alloc, shares)?;
         Ok(outcome)
     }

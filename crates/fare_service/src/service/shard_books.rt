@@ -5,6 +5,7 @@ ghost use Rattle.std.specs.Prelude.{Some, vec_len, vec_capacity};
 ghost use Rattle.shared_books.specs.Passes.{new_pass};
 ghost use Rattle.fare_service.specs.inside.ServiceView.{AreOpened};
 
+use crate::lending::LentUploads;
 use crate::service::Service;
 use fare_table::FareTable;
 use shard_book::{HashSeed, ShardBook};
@@ -36,7 +37,7 @@ pub(crate) fn open_books(
     Ok((books, passes))
 }
 
-impl<'a> Service<'a> {
+impl<U: LentUploads + Drop> Service<U> {
     ghost use Rattle.shared_books.specs.Passes.{fresh_pass, left_pass};
     ghost use Rattle.fare_service.specs.Shares.{books_of};
 

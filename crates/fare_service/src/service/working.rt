@@ -1,10 +1,11 @@
 //! The work of one thread: it draws uploads and posts their batches, run by run.
 
-ghost use Rattle.std.specs.Prelude.{◌≡◌, ◌⊎◌, ℕ, ◌+◌, ◌*◌, ◌^◌, ◌<◌, ◌≤◌, List, length, OnOk, IfOk};
+ghost use Rattle.std.specs.Prelude.{◌≡◌, ◌⊎◌, ℕ, ◌+◌, ◌*◌, ◌^◌, ◌<◌, ◌≤◌, List, length, OnOk, IfErr, IfOk};
 ghost use Rattle.std.specs.Prelude.{IfNone, IfSome, is_ok, is_some, map, true, false, ◌++◌, ◌∷◌};
 ghost use Rattle.std.specs.Prelude.{[]};
 ghost use Rattle.shard_book.specs.Sums.{sums_of, sums_of_replies, add_sums};
 
+use crate::lending::{LentUploads, Unlent};
 use crate::service::Service;
 use crate::service::share::{Done, Posting, Share};
 use fare_table::Clock;
@@ -116,7 +117,7 @@ fn bytes_in(file: &[u8]) -> usize
     file.len()
 }
 
-impl<'a> Service<'a> {
+impl<U: LentUploads + Drop> Service<U> {
     ghost use Rattle.fare_service.specs.ServiceView.{shards_of};
     ghost use Rattle.tap_views.specs.Runs.{AreRuns};
     ghost use Rattle.tap_views.specs.Layout.{Tap};
@@ -127,6 +128,7 @@ impl<'a> Service<'a> {
     ghost use Rattle.fare_service.specs.inside.Runs.{ArePostedOrCut};
     ghost use Rattle.fare_service.specs.Shares.{HasVisited, books_of, IsShareOf, IsWorked};
     ghost use Rattle.fare_service.specs.Shares.{WentOn};
+    ghost use Rattle.fare_service.specs.Lending.{IsLentAs, IsUnlent};
     ghost use Rattle.fare_service.specs.inside.Shares.{worked};
     ghost use Rattle.fare_service.specs.Plain.{WasNotCut};
     ghost use Rattle.fare_service.specs.Stopping.{SomeFull, StoppedWell, WasCut};
@@ -241,18 +243,20 @@ impl<'a> Service<'a> {
         Ok(good.fault())
     }
 
-    /// Posts an upload that was begun at the gate. Returns how it ended, and whether the worker may
-    /// go on.
+    /// Posts an upload that was begun at the gate and lent. Returns how it ended, and whether the
+    /// worker may go on.
     fn post_upload<R: Wait, G: Gate>(
         &self,
         rt: &R,
         posting: &mut Posting,
         buffers: &mut Buffers,
         upload: u32,
+        file: &[u8],
         _begun: &G::Begun,
     ) -> (UploadEnd, bool)
         requires begun { G.begins _begun.now ≡ upload }
         requires upload { upload < length self.now.uploads }
+        requires lent { IsLentAs self.now.uploads upload file.now }
         requires passes { books_of posting.old.passes.items ≡ self.now.books }
         requires clock { buffers.old.run.clock ≡ self.now.table.zone }
         requires runs { length buffers.old.runs ≡ shards_of self.now }
@@ -269,7 +273,6 @@ impl<'a> Service<'a> {
         ensures stops { result.1 ≡ false → WasCut result.0 }
     {
         let before = posting.totals.taps;
-        let file = self.uploads[upload as usize].as_slice();
         let posted = self.post_batches(rt, posting, buffers, file);
         let taps = (posting.totals.taps - before) as u64;
         match posted {
@@ -278,49 +281,69 @@ impl<'a> Service<'a> {
         }
     }
 
-    /// Draws an upload and posts it, if one is left. Returns how it ended, and whether the worker
-    /// may go on.
-    fn next_upload<R: Wait, G: Gate>(
+    /// Draws an upload, if one is left.
+    fn next_number(&self, drawer: &mut Drawer) -> Option<u32>
+        requires { drawer.old.drawn_from ≡ self.now.drawing }
+        ensures none { IfNone result
+            (drawer.new ≡ record drawer.old { seen = length self.now.uploads }) }
+        ensures drawn { IfSome result (λ upload. (drawer.old.seen ≤ upload)
+            × (upload < length self.now.uploads)
+            × (drawer.new ≡ record drawer.old {
+              seen = upload + 1;
+              drawn = drawer.old.drawn ++ upload ∷ [];
+            })) }
+    {
+        self.draw.draw(drawer)
+    }
+
+    /// Posts an upload that was drawn and lent. Returns how it ended, and whether the worker may go
+    /// on.
+    fn post_drawn<R: Wait, G: Gate>(
         &self,
         rt: &R,
-        drawer: &mut Drawer,
         posting: &mut Posting,
         buffers: &mut Buffers,
+        upload: u32,
+        file: &[u8],
         gate: &G,
-    ) -> Option<(Done, bool)>
-        requires drawer { drawer.old.drawn_from ≡ self.now.drawing }
+    ) -> (Done, bool)
+        requires upload { upload < length self.now.uploads }
+        requires lent { IsLentAs self.now.uploads upload file.now }
         requires passes { books_of posting.old.passes.items ≡ self.now.books }
         requires clock { buffers.old.run.clock ≡ self.now.table.zone }
         requires runs { length buffers.old.runs ≡ shards_of self.now }
         requires room { posting.old.totals.taps + 2 ^ 60 ≤ 2 ^ 94 }
-        ensures none { IfNone result
-            ((drawer.new ≡ record drawer.old { seen = length self.now.uploads })
-            × (posting.new ≡ posting.old)) }
-        ensures drawn { IfSome result (λ next. (drawer.old.seen ≤ next.0.upload)
-            × (next.0.upload < length self.now.uploads)
-            × (drawer.new ≡ record drawer.old {
-              seen = next.0.upload + 1;
-              drawn = drawer.old.drawn ++ next.0.upload ∷ [];
-            })) }
-        ensures worked { IfSome result (λ next. (visits : List RunVisit)
+        ensures upload { result.0.upload ≡ upload }
+        ensures worked { (visits : List RunVisit)
             × HasVisited (shards_of self.now) posting.old.passes.items posting.new.passes.items
             (sums_of posting.old.totals) (sums_of posting.new.totals) visits
-            × IsWorked self.now (worked next.0.upload next.0.end visits)) }
+            × IsWorked self.now (worked result.0.upload result.0.end visits) }
         ensures few { posting.new.totals.taps ≤ posting.old.totals.taps + 2 ^ 60 }
         ensures full { SomeFull posting.old.passes.items → SomeFull posting.new.passes.items }
-        ensures goes_on { IfSome result (λ next. next.1 ≡ true
-            → WasNotCut next.0.end ⊎ SomeFull posting.new.passes.items) }
-        ensures stops { IfSome result (λ next. next.1 ≡ false → WasCut next.0.end) }
+        ensures goes_on { result.1 ≡ true
+            → WasNotCut result.0.end ⊎ SomeFull posting.new.passes.items }
+        ensures stops { result.1 ≡ false → WasCut result.0.end }
         ensures clock { buffers.new.run.clock ≡ buffers.old.run.clock }
         ensures runs { length buffers.new.runs ≡ length buffers.old.runs }
     {
-        let Some(upload) = self.draw.draw(drawer) else {
-            return None;
-        };
         let begun = gate.before(upload);
-        let (end, goes_on) = self.post_upload::<R, G>(rt, posting, buffers, upload, &begun);
+        let (end, goes_on) = self.post_upload::<R, G>(rt, posting, buffers, upload, file, &begun);
         gate.after(begun);
-        Some((Done { upload, end }, goes_on))
+        (Done { upload, end }, goes_on)
+    }
+
+    /// What a worker makes once.
+    fn buffers(&self, alloc: Global) -> Result<Buffers, NoMemory>
+        ensures clock { IfOk result (λ buffers. buffers.run.clock ≡ self.now.table.zone) }
+        ensures runs { IfOk result (λ buffers. length buffers.runs ≡ shards_of self.now) }
+    {
+        let clock = self.table.clock(alloc)?;
+        let runs = Runs::new(alloc, self.shards())?;
+        let run = RunBuffers {
+            clock,
+            replies: Replies::new(alloc),
+        };
+        Ok(Buffers { runs, run })
     }
 
     /// Draws uploads and posts their batches, until all are drawn or memory is refused. A refusal
@@ -329,59 +352,66 @@ impl<'a> Service<'a> {
     /// refused, the share is given back as it was.
     ///
     /// Gives the share back with the uploads that it drew, the visits that it made and the totals
-    /// of their replies. It waits for turns at the shards' books.
-    pub fn work<R: Wait, G: Gate>(&self, rt: &R, alloc: Global, share: Share, gate: &G) -> Share
+    /// of their replies. If an upload is not lent, the share is dropped, and the upload is named. It
+    /// waits for turns at the shards' books.
+    pub fn work<R: Wait, G: Gate>(
+        &self,
+        rt: &R,
+        alloc: Global,
+        share: Share,
+        gate: &G,
+    ) -> Result<Share, Unlent>
         requires { IsShareOf self.now share }
-        ensures share { IsShareOf self.now result }
-        ensures went_on { WentOn self.now share result }
-        ensures stopped { (result ≡ share) ⊎ StoppedWell self.now share result }
+        ensures share { IfOk result (IsShareOf self.now) }
+        ensures went_on { IfOk result (WentOn self.now share) }
+        ensures stopped { IfOk result
+            (λ new. (new ≡ share) ⊎ StoppedWell self.now share new) }
+        ensures unlent { IfErr result (λ unlent. IsUnlent self.now.uploads unlent.upload) }
     {
-        let Ok(clock) = self.table.clock(alloc) else {
-            return share;
+        let Ok(mut buffers) = self.buffers(alloc) else {
+            return Ok(share);
         };
-        let Ok(runs) = Runs::new(alloc, self.shards()) else {
-            return share;
-        };
-        let run = RunBuffers {
-            clock,
-            replies: Replies::new(alloc),
-        };
-        let mut buffers = Buffers { runs, run };
+        let mut room = Vec::new(alloc);
         let Share {
             mut drawer,
             mut posting,
             mut done,
         } = share;
         if done.reserve(self.uploads.len()).is_err() {
-            return Share {
+            return Ok(Share {
                 drawer,
                 posting,
                 done,
-            };
+            });
         }
         for _ in rt.forever() {
             // proof: it holds fewer than 2^32 uploads, so that the totals have room
             let _held = drawer.held();
-            let Some((next, goes_on)) = self.next_upload(
+            let Some(upload) = self.next_number(&mut drawer) else {
+                return Ok(Share {
+                    drawer,
+                    posting,
+                    done,
+                });
+            };
+            let Some(file) = self.uploads.lend(upload, &mut room) else {
+                return Err(Unlent { upload });
+            };
+            let (next, goes_on) = self.post_drawn(
                 rt,
-                &mut drawer,
                 &mut posting,
                 &mut buffers,
+                upload,
+                file,
                 gate,
-            ) else {
-                return Share {
-                    drawer,
-                    posting,
-                    done,
-                };
-            };
+            );
             done.push_reserved(next);
             if !goes_on {
-                return Share {
+                return Ok(Share {
                     drawer,
                     posting,
                     done,
-                };
+                });
             }
         }
         unreachable!()

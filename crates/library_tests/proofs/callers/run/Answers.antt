@@ -1,20 +1,25 @@
-use Rattle.std.proofs.Common.{ℕ, List, subst}
+use Rattle.std.proofs.Common.{ℕ, List, Vec, Global, subst}
+use Rattle.std.specs.Prelude.{Option}
 use Rattle.fare_service.specs.ServiceView.{shards_of}
 use Rattle.fare_service.specs.Headline.{Headline}
+use Rattle.fare_service.specs.Lending.{AreLentAs}
+use Rattle.fare_service.proofs.LentFiles.{known_files}
 use Rattle.library_tests.proofs.callers.run.Goals as goal
 
 pub returns : goal.returns
 returns g c = λ whole history plain apart.
     let service = c.args.service in
-    let (works, number, headline) = c.in_ok-outcome.ensures.headline in
+    let over = c.in_ok-outcome.ensures.headline in
+    let L : List (Option (List ℕ)) → Type 0 = λ us. AreLentAs us over.files in
+    let same = known_files (λ (u : Vec ℕ Global). u.items) c.args.uploads.now over.files
+    (subst L c.requires.uploads over.lent) in
     let H : List (List ℕ) → Type 0 =
-    λ files. Headline service.table (shards_of service) files works c.in_ok-outcome.outcome in
+    λ files. Headline service.table (shards_of service) files over.run.0 c.in_ok-outcome.outcome in
     c.report_is_plain.ensures service.table (shards_of service) history
     (record {
-      works = works;
-      headline = subst H c.requires.uploads headline;
-      whole =
-          whole;
+      works = over.run.0;
+      headline = subst H same over.run.2;
+      whole = whole;
       plain_is = plain;
       apart = apart;
     })

@@ -1,6 +1,5 @@
 use Rattle.std.proofs.Common.{◌≡◌, ℕ, ◌^◌, ◌≤◌, arith, ◌<◌, List, All, length, map, replicate, sym}
 use Rattle.std.proofs.Common.{◌∙◌, ap, subst}
-use Rattle.std.proofs.lemmas.List.{length-map}
 use Rattle.shard_book.specs.Sums.{sums, sums_of, add_all}
 use Rattle.shard_book.specs.SumsByKey.{all_entries}
 use Rattle.report_texts.specs.declared.upload_end.UploadEnd.TheVariants.{Undrawn}
@@ -15,53 +14,51 @@ use Rattle.fare_service.specs.Shares.{IsShareOf}
 use Rattle.fare_service.specs.Headline.{HasOutcome}
 use Rattle.fare_service.proofs.AddingLemmas.{shares_add_up, few_taps}
 use Rattle.fare_service.proofs.EndingLemmas.{full_made}
+use Rattle.fare_service.proofs.GatheredShares.{has_gathered}
 use Rattle.fare_service.proofs.GatheredWork.{given_of}
-use Rattle.fare_service.proofs.GatherLemmas.{has_gathered, told_undrawn, undrawn_last, is_outcome}
+use Rattle.fare_service.proofs.GatherLemmas.{told_undrawn, undrawn_last, is_outcome}
 use Rattle.fare_service.proofs.GatherLemmas.{done_within}
 use Rattle.fare_service.proofs.HeadlineLemmas.{headline_of}
 use Rattle.fare_service.proofs.service.Service.gather.Goals as goal
 use Rattle.tap_views.proofs.Choices.{IfErr_handed_on}
 
 pub ends_of-requires : goal.ends_of-requires
-ends_of-requires c =
+ends_of-requires g c =
     let service : ServiceView =
     record {
       table = c.self.inside.table;
       drawing = c.self.inside.draw;
       books =
           c.self.inside.books.items;
-      uploads = map (λ upload. upload.items) c.self.inside.uploads.now;
+      uploads = g.U.LentUploads.known c.self.inside.uploads;
     } in
     let S : ServiceView → Type 0 = λ h. All (IsShareOf h) c.args.shares.items in
     let all : All (IsShareOf service) c.args.shares.items =
     subst S (sym c.self.view_is) c.requires in
     let P : List ShareView → Type 0 =
-    λ ss. All (λ share. All (λ d. d.upload < length c.self.inside.uploads.now) share.done) ss in
+    λ ss. All (λ share. All (λ d. d.upload < c.len-2.result) share.done) ss in
     subst P (sym c.as_slice.ensures.value)
-    (done_within service (length c.self.inside.uploads.now) c.args.shares.items
-    (length-map c.self.inside.uploads.now (λ upload. upload.items)) all)
+    (done_within service c.len-2.result c.args.shares.items (sym c.len-2.ensures) all)
 
 pub added-totals-requires : goal.added-totals-requires
-added-totals-requires c =
+added-totals-requires g c =
     let service : ServiceView =
     record {
       table = c.self.inside.table;
       drawing = c.self.inside.draw;
       books =
           c.self.inside.books.items;
-      uploads = map (λ upload. upload.items) c.self.inside.uploads.now;
+      uploads = g.U.LentUploads.known c.self.inside.uploads;
     } in
     let S : ServiceView → Type 0 = λ h. All (IsShareOf h) c.args.shares.items in
     let all : All (IsShareOf service) c.args.shares.items =
     subst S (sym c.self.view_is) c.requires in
-    let number : length service.uploads ≡ length c.self.inside.uploads.now =
-    length-map c.self.inside.uploads.now (λ upload. upload.items) in
+    let number : c.len-2.result ≡ length service.uploads = c.len-2.ensures in
     let told : c.in_ok-ends.ends.items
     ≡ with_all_done (replicate (length service.uploads) Undrawn) c.args.shares.items =
     c.in_ok-ends.ensures.ends
-    ∙ ap (with_all_done (replicate (length c.self.inside.uploads.now) Undrawn))
-    c.as_slice.ensures.value
-    ∙ ap (λ n. with_all_done (replicate n Undrawn) c.args.shares.items) (sym number) in
+    ∙ ap (with_all_done (replicate c.len-2.result Undrawn)) c.as_slice.ensures.value
+    ∙ ap (λ n. with_all_done (replicate n Undrawn) c.args.shares.items) number in
     let workers : map sums_of c.in_ok-workers.workers.items
     ≡ map (λ share. share.totals) c.args.shares.items =
     c.in_ok-workers.ensures
@@ -70,7 +67,7 @@ added-totals-requires c =
     ≡ add_all (map sums_of c.in_ok-workers.workers.items) =
     shares_add_up service c.self.invariant c.args.shares.items all c.close_with.new.closed.items
     c.in_ok-close_with.ensures.ok c.in_ok-ends.ends.items told
-    (c.in_ok-ends.ensures.number ∙ sym number) (map sums_of c.in_ok-workers.workers.items)
+    (c.in_ok-ends.ensures.number ∙ number) (map sums_of c.in_ok-workers.workers.items)
     workers in
     let few : length (all_entries c.close_with.new.closed.items) ≤ 2 ^ 70 =
     omega (
@@ -85,26 +82,24 @@ added-totals-requires c =
     omega (arith, taps, ap (λ ts. (add_all (map sums_of ts)).taps) c.as_slice-4.ensures.value)
 
 pub invariant_of-result : goal.invariant_of-result
-invariant_of-result c =
+invariant_of-result g c =
     let service : ServiceView =
     record {
       table = c.self.inside.table;
       drawing = c.self.inside.draw;
       books =
           c.self.inside.books.items;
-      uploads = map (λ upload. upload.items) c.self.inside.uploads.now;
+      uploads = g.U.LentUploads.known c.self.inside.uploads;
     } in
     let S : ServiceView → Type 0 = λ h. All (IsShareOf h) c.args.shares.items in
     let all : All (IsShareOf service) c.args.shares.items =
     subst S (sym c.self.view_is) c.requires in
-    let number : length service.uploads ≡ length c.self.inside.uploads.now =
-    length-map c.self.inside.uploads.now (λ upload. upload.items) in
+    let number : c.len-2.result ≡ length service.uploads = c.len-2.ensures in
     let told : c.in_ok-ends.ends.items
     ≡ with_all_done (replicate (length service.uploads) Undrawn) c.args.shares.items =
     c.in_ok-ends.ensures.ends
-    ∙ ap (with_all_done (replicate (length c.self.inside.uploads.now) Undrawn))
-    c.as_slice.ensures.value
-    ∙ ap (λ n. with_all_done (replicate n Undrawn) c.args.shares.items) (sym number) in
+    ∙ ap (with_all_done (replicate c.len-2.result Undrawn)) c.as_slice.ensures.value
+    ∙ ap (λ n. with_all_done (replicate n Undrawn) c.args.shares.items) number in
     let workers : map sums_of c.in_ok-workers.workers.items
     ≡ map (λ share. share.totals) c.args.shares.items =
     c.in_ok-workers.ensures
@@ -113,36 +108,34 @@ invariant_of-result c =
     ≡ add_all (map sums_of c.in_ok-workers.workers.items) =
     shares_add_up service c.self.invariant c.args.shares.items all c.close_with.new.closed.items
     c.in_ok-close_with.ensures.ok c.in_ok-ends.ends.items told
-    (c.in_ok-ends.ensures.number ∙ sym number) (map sums_of c.in_ok-workers.workers.items)
+    (c.in_ok-ends.ensures.number ∙ number) (map sums_of c.in_ok-workers.workers.items)
     workers in
     is_outcome service c.self.invariant c.args.shares.items c.close_with.new.closed.items
     c.in_ok-close_with.ensures.ok c.in_ok-ends.ends.items
-    (c.in_ok-ends.ensures.number ∙ sym number) (map sums_of c.in_ok-workers.workers.items)
+    (c.in_ok-ends.ensures.number ∙ number) (map sums_of c.in_ok-workers.workers.items)
     (sums_of c.added-totals.result)
     (c.added-totals.ensures ∙ ap (λ ts. add_all (map sums_of ts)) c.as_slice-4.ensures.value
     ∙ sym same)
 
 pub returns-clause-headline : goal.returns-clause-headline
-returns-clause-headline c =
+returns-clause-headline g c =
     let service : ServiceView =
     record {
       table = c.self.inside.table;
       drawing = c.self.inside.draw;
       books =
           c.self.inside.books.items;
-      uploads = map (λ upload. upload.items) c.self.inside.uploads.now;
+      uploads = g.U.LentUploads.known c.self.inside.uploads;
     } in
     let S : ServiceView → Type 0 = λ h. All (IsShareOf h) c.args.shares.items in
     let all : All (IsShareOf service) c.args.shares.items =
     subst S (sym c.self.view_is) c.requires in
-    let number : length service.uploads ≡ length c.self.inside.uploads.now =
-    length-map c.self.inside.uploads.now (λ upload. upload.items) in
+    let number : c.len-2.result ≡ length service.uploads = c.len-2.ensures in
     let told : c.in_ok-ends.ends.items
     ≡ with_all_done (replicate (length service.uploads) Undrawn) c.args.shares.items =
     c.in_ok-ends.ensures.ends
-    ∙ ap (with_all_done (replicate (length c.self.inside.uploads.now) Undrawn))
-    c.as_slice.ensures.value
-    ∙ ap (λ n. with_all_done (replicate n Undrawn) c.args.shares.items) (sym number) in
+    ∙ ap (with_all_done (replicate c.len-2.result Undrawn)) c.as_slice.ensures.value
+    ∙ ap (λ n. with_all_done (replicate n Undrawn) c.args.shares.items) number in
     let workers : map sums_of c.in_ok-workers.workers.items
     ≡ map (λ share. share.totals) c.args.shares.items =
     c.in_ok-workers.ensures
@@ -152,7 +145,7 @@ returns-clause-headline c =
     let same : sums (all_entries closed) ≡ add_all (map sums_of c.in_ok-workers.workers.items) =
     shares_add_up service c.self.invariant c.args.shares.items all closed work
     c.in_ok-ends.ends.items told
-    (c.in_ok-ends.ensures.number ∙ sym number) (map sums_of c.in_ok-workers.workers.items)
+    (c.in_ok-ends.ensures.number ∙ number) (map sums_of c.in_ok-workers.workers.items)
     workers in
     let H : ServiceView → Type 0 =
     λ h. HasOutcome h c.args.shares.items
@@ -165,52 +158,52 @@ returns-clause-headline c =
     }) in
     let o = has_gathered service c.self.invariant c.args.shares.items all closed work
     c.in_ok-ends.ends.items told
-    (c.in_ok-ends.ensures.number ∙ sym number) (map sums_of c.in_ok-workers.workers.items) workers
+    (c.in_ok-ends.ensures.number ∙ number) (map sums_of c.in_ok-workers.workers.items) workers
     (sums_of c.added-totals.result) in
-    subst H c.self.view_is (
-      o.0,
-      o.1,
-      headline_of (given_of service) o.0 _ o.2
+    subst H c.self.view_is (record {
+      files = o.files;
+      lent = o.lent;
+      works = o.works;
+      kept = o.kept;
+      headline = headline_of (given_of service o.files) o.works _ o.gathered
           (c.added-totals.ensures ∙ ap (λ ts. add_all (map sums_of ts)) c.as_slice-4.ensures.value
           ∙ sym same)
           (λ shard book at. (work.books shard book at).limits)
-          (undrawn_last service c.args.shares.items o.0 o.1 closed work),
-    )
+          (undrawn_last service c.args.shares.items o.works o.kept closed work);
+    })
 
 pub returns-clause-undrawn : goal.returns-clause-undrawn
-returns-clause-undrawn c =
+returns-clause-undrawn g c =
     let service : ServiceView =
     record {
       table = c.self.inside.table;
       drawing = c.self.inside.draw;
       books =
           c.self.inside.books.items;
-      uploads = map (λ upload. upload.items) c.self.inside.uploads.now;
+      uploads = g.U.LentUploads.known c.self.inside.uploads;
     } in
     let S : ServiceView → Type 0 = λ h. All (IsShareOf h) c.args.shares.items in
     let all : All (IsShareOf service) c.args.shares.items =
     subst S (sym c.self.view_is) c.requires in
-    let number : length service.uploads ≡ length c.self.inside.uploads.now =
-    length-map c.self.inside.uploads.now (λ upload. upload.items) in
+    let number : c.len-2.result ≡ length service.uploads = c.len-2.ensures in
     let told : c.in_ok-ends.ends.items
     ≡ with_all_done (replicate (length service.uploads) Undrawn) c.args.shares.items =
     c.in_ok-ends.ensures.ends
-    ∙ ap (with_all_done (replicate (length c.self.inside.uploads.now) Undrawn))
-    c.as_slice.ensures.value
-    ∙ ap (λ n. with_all_done (replicate n Undrawn) c.args.shares.items) (sym number) in
+    ∙ ap (with_all_done (replicate c.len-2.result Undrawn)) c.as_slice.ensures.value
+    ∙ ap (λ n. with_all_done (replicate n Undrawn) c.args.shares.items) number in
     told_undrawn service c.args.shares.items all c.close_with.new.closed.items
     c.in_ok-close_with.ensures.ok c.in_ok-ends.ends.items told
-    (c.in_ok-ends.ensures.number ∙ sym number)
+    (c.in_ok-ends.ensures.number ∙ number)
 
 pub returns-clause-full : goal.returns-clause-full
-returns-clause-full c =
+returns-clause-full g c =
     let service : ServiceView =
     record {
       table = c.self.inside.table;
       drawing = c.self.inside.draw;
       books =
           c.self.inside.books.items;
-      uploads = map (λ upload. upload.items) c.self.inside.uploads.now;
+      uploads = g.U.LentUploads.known c.self.inside.uploads;
     } in
     let S : ServiceView → Type 0 = λ h. All (IsShareOf h) c.args.shares.items in
     let all : All (IsShareOf service) c.args.shares.items =
@@ -219,7 +212,7 @@ returns-clause-full c =
     c.in_ok-close_with.ensures.ok
 
 pub returns-in_err-close_with-clause-first : goal.returns-in_err-close_with-clause-first
-returns-in_err-close_with-clause-first c =
+returns-in_err-close_with-clause-first g c =
     let fault : GatherFault = c.in_err-close_with.field-0.0 in
     let F : ℕ → Type 0 = λ n. TellsFirst c.self.inside.books.items n c.args.shares.items fault in
     let H : ServiceView → Type 0 =
@@ -230,7 +223,7 @@ returns-in_err-close_with-clause-first c =
     (subst H c.self.view_is (subst F c.self.invariant.numbers c.in_err-close_with.ensures.first))
 
 pub returns-in_err-close_with-clause-claims : goal.returns-in_err-close_with-clause-claims
-returns-in_err-close_with-clause-claims c whole =
+returns-in_err-close_with-clause-claims g c whole =
     let fault : GatherFault = c.in_err-close_with.field-0.0 in
     let N : ℕ → Type 0 = λ n. HaveAllClaims n c.args.shares.items in
     IfErr_handed_on c.from_residual-in_err-close_with.result fault IsForMemory

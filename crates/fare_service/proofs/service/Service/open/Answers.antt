@@ -1,5 +1,4 @@
-use Rattle.std.proofs.Common.{ℕ, ◌≡◌, ◌<◌, ◌+◌, List, [], map, sym, ◌∙◌, ap, subst, arith}
-use Rattle.std.proofs.lemmas.List.{length-map}
+use Rattle.std.proofs.Common.{ℕ, ◌≡◌, ◌<◌, ◌+◌, List, [], sym, ◌∙◌, ap, subst, arith}
 use Rattle.shard_book.specs.Sums.{sums_of}
 use Rattle.shared_books.specs.Claims.{all_claims}
 use Rattle.shared_books.specs.Passes.{PassView}
@@ -17,13 +16,8 @@ invariant_of-service g c =
       some_shard = omega (arith, c.in_ok-books.ensures.number);
       few_shards = omega (arith, c.in_ok-books.ensures.number);
       books = subst P (sym c.in_ok-books.ensures.number) c.in_ok-books.ensures.books;
-      numbers = c.in_ok-draw.ensures.draw
-          ∙ sym (length-map c.args.uploads.now (λ upload. upload.items));
-      few_uploads = omega (
-        arith,
-        length-map c.args.uploads.now (λ upload. upload.items),
-        c.if-uploads-gt-MAX_UPLOADS.false,
-      );
+      numbers = c.in_ok-draw.ensures.draw ∙ c.len-number.ensures;
+      few_uploads = omega (arith, c.len-number.ensures, c.if-number-gt-MAX_UPLOADS.false);
     }
 
 pub returns-clause-share : goal.returns-clause-share
@@ -34,7 +28,7 @@ returns-clause-share g c =
       drawing = c.in_ok-draw.draw;
       books =
           c.in_ok-books.books.items;
-      uploads = map (λ upload. upload.items) c.args.uploads.now;
+      uploads = g.U.LentUploads.known c.args.uploads;
     } in
     let P : List PassView → Type 0 = λ ps. (shard : ℕ) → made_visits_at shard ps ≡ [] in
     fresh_share service c.in_ok-draw.drawer c.in_ok-books.passes.items (sums_of c.new-3.result)

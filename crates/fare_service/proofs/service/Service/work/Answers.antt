@@ -1,13 +1,10 @@
-use Rattle.std.proofs.Common.{◌≡◌, [], length, inr, refl, sym, ◌∙◌, ap, subst, arith, false, Ok}
-use Rattle.std.proofs.Common.{Err}
+use Rattle.std.proofs.Common.{◌≡◌, [], ◌++◌, ◌∷◌, ℕ, length, inr, refl, sym, ◌∙◌, ap, subst, arith}
+use Rattle.std.proofs.Common.{false, Ok, Err}
 use Rattle.std.specs.Prelude.{OnOk, Result}
 use Rattle.std.specs.Result.{is_err}
-use Rattle.std.proofs.lemmas.List.{length-map}
 use Rattle.shard_book.specs.Sums.{sums_of}
-use Rattle.fare_service.specs.declared.service.share.Posting.{Posting}
 use Rattle.fare_service.specs.ShareView.{ShareView}
 use Rattle.fare_service.specs.Shares.{IsShareOf, WentOn}
-use Rattle.fare_service.specs.Stopping.{StoppedWell}
 use Rattle.fare_service.proofs.ShareLemmas.{holding, next_share, worked_none}
 use Rattle.fare_service.proofs.StoppingLemmas.{Going, going_start, going_next, cut_next, none_next}
 use Rattle.fare_service.proofs.StoppingLemmas.{stopped_went_on}
@@ -19,14 +16,6 @@ ok_holds (Err e) good holds = absurd (cc)
 
 pub returns-in_default-clause-went_on : goal.returns-in_default-clause-went_on
 returns-in_default-clause-went_on g c =
-    let W : ShareView → Type 0 = WentOn c.args.self.now c.args.share in
-    subst W (sym c.share.view_is)
-    ([], worked_none c.args.self.now c.args.share c.args.share refl refl refl refl refl)
-
-pub returns-in_default-new-clause-went_on : goal.returns-in_default-new-clause-went_on
-returns-in_default-new-clause-went_on g c =
-    let W : ShareView → Type 0 = WentOn c.args.self.now c.args.share in
-    subst W (sym c.share.view_is)
     ([], worked_none c.args.self.now c.args.share c.args.share refl refl refl refl refl)
 
 pub returns-then-is_err-clause-went_on : goal.returns-then-is_err-clause-went_on
@@ -51,99 +40,101 @@ loop-init g c =
     record {
       share = subst S (sym start) c.requires;
       going = subst G (sym start) (going_start service c.args.share);
-      clock = c.in-Ok.ensures.zone ∙ ap (λ h. h.table.zone) c.self.view_is;
-      runs = c.in-Ok-new.ensures ∙ c.shards.ensures.number;
-      room = omega (
-        arith,
-        room,
-        ap (λ h. length h.uploads) c.self.view_is,
-        length-map c.self.inside.uploads.now (λ u. u.items),
-      );
+      clock = c.in-Ok.ensures.clock;
+      runs = c.in-Ok.ensures.runs;
+      room = omega (arith, room, c.len.ensures, ap (λ h. length h.uploads) c.self.view_is);
     }
 
 pub loop-preserved : goal.loop-preserved
 loop-preserved g c =
-    let next = c.in-Some-next_upload.next in
-    let e = c.in-Some-next_upload.ensures in
+    let next = c.post_drawn-goes_on.result.0 in
+    let e = c.in-Some-next_number.ensures.drawn in
+    let done = c.post_drawn-goes_on.ensures in
+    let drawn = ap (λ d. d.drawn) e.2
+    ∙ ap (λ (u : ℕ). c.loop.drawer.drawn ++ u ∷ []) (sym done.upload) in
     record {
-      share = next_share c.args.self.now c.loop.drawer c.next_upload.new.drawer
-          c.loop.posting.passes.items c.next_upload.new.posting.passes.items
-          (sums_of c.loop.posting.totals) (sums_of c.next_upload.new.posting.totals)
+      share = next_share c.args.self.now c.loop.drawer c.next_number.new.drawer
+          c.loop.posting.passes.items c.post_drawn-goes_on.new.posting.passes.items
+          (sums_of c.loop.posting.totals) (sums_of c.post_drawn-goes_on.new.posting.totals)
           c.loop.done.items c.push_reserved.new.self.items next.upload next.end
           (holding c.loop.drawer c.loop.posting.passes.items (sums_of c.loop.posting.totals)
           c.loop.done.items) refl c.loop.invariant.share
-          (ap (λ d. d.claims) e.drawn.2) (ap (λ d. d.drawn) e.drawn.2)
-          (ap (λ d. d.drawn_from) e.drawn.2) c.push_reserved.ensures.items e.worked
-          c.next_upload.ensures.few;
-      going = going_next c.args.self.now c.args.share c.loop.drawer c.next_upload.new.drawer
-          c.loop.posting.passes.items c.next_upload.new.posting.passes.items
-          (sums_of c.loop.posting.totals) (sums_of c.next_upload.new.posting.totals)
+          (ap (λ d. d.claims) e.2) drawn (ap (λ d. d.drawn_from) e.2)
+          c.push_reserved.ensures.items done.worked done.few;
+      going = going_next c.args.self.now c.args.share c.loop.drawer c.next_number.new.drawer
+          c.loop.posting.passes.items c.post_drawn-goes_on.new.posting.passes.items
+          (sums_of c.loop.posting.totals) (sums_of c.post_drawn-goes_on.new.posting.totals)
           c.loop.done.items c.push_reserved.new.self.items next
-          c.loop.invariant.going (ap (λ d. d.claims) e.drawn.2) (ap (λ d. d.drawn) e.drawn.2)
-          c.push_reserved.ensures.items e.worked c.next_upload.ensures.full
-          (e.goes_on c.if-not-goes_on.false);
-      clock = c.next_upload.ensures.clock ∙ c.loop.invariant.clock;
-      runs = c.next_upload.ensures.runs ∙ c.loop.invariant.runs;
+          c.loop.invariant.going (ap (λ d. d.claims) e.2) drawn
+          c.push_reserved.ensures.items done.worked done.full
+          (done.goes_on c.if-not-goes_on.false);
+      clock = done.clock ∙ c.loop.invariant.clock;
+      runs = done.runs ∙ c.loop.invariant.runs;
       room = omega (
         arith,
         c.push_reserved.ensures.len,
         c.push_reserved.ensures.capacity,
         c.loop.invariant.room,
-        e.drawn.0,
-        e.drawn.1,
-        ap (λ d. d.seen) e.drawn.2,
+        e.0,
+        e.1,
+        ap (λ d. d.seen) e.2,
       );
     }
 
 -- no upload was left
-pub returns-in_default-next_upload-clause-stopped : goal.returns-in_default-next_upload-clause-stopped
-returns-in_default-next_upload-clause-stopped g c =
-    let none = c.in_default-next_upload.ensures.none in
-    let P : Posting → Type 0 =
-    λ p. StoppedWell c.args.self.now c.args.share
-    (holding c.next_upload.new.drawer p.passes.items (sums_of p.totals) c.loop.done.items) in
-    inr (subst P (sym none.1)
-    (none_next c.args.self.now c.loop.drawer c.next_upload.new.drawer c.loop.posting.passes.items
-    (sums_of c.loop.posting.totals) c.loop.done.items
-    (ap (λ d. d.claims) none.0) (ap (λ d. d.drawn) none.0) c.args.share c.loop.invariant.going
-    (ap (λ d. d.seen) none.0)))
+pub returns-in_default-next_number-clause-stopped : goal.returns-in_default-next_number-clause-stopped
+returns-in_default-next_number-clause-stopped g c =
+    let none = c.in_default-next_number.ensures.none in
+    inr (none_next c.args.self.now c.loop.drawer c.next_number.new.drawer
+    c.loop.posting.passes.items (sums_of c.loop.posting.totals) c.loop.done.items
+    (ap (λ d. d.claims) none) (ap (λ d. d.drawn) none) c.args.share c.loop.invariant.going
+    (ap (λ d. d.seen) none))
 
 -- the last upload was cut
 pub returns-then-not-goes_on-clause-share : goal.returns-then-not-goes_on-clause-share
 returns-then-not-goes_on-clause-share g c =
-    let next = c.in-Some-next_upload.next in
-    let e = c.in-Some-next_upload.ensures in
-    next_share c.args.self.now c.loop.drawer c.next_upload.new.drawer c.loop.posting.passes.items
-    c.next_upload.new.posting.passes.items
-    (sums_of c.loop.posting.totals) (sums_of c.next_upload.new.posting.totals) c.loop.done.items
+    let next = c.post_drawn-goes_on.result.0 in
+    let e = c.in-Some-next_number.ensures.drawn in
+    let done = c.post_drawn-goes_on.ensures in
+    let drawn = ap (λ d. d.drawn) e.2
+    ∙ ap (λ (u : ℕ). c.loop.drawer.drawn ++ u ∷ []) (sym done.upload) in
+    next_share c.args.self.now c.loop.drawer c.next_number.new.drawer c.loop.posting.passes.items
+    c.post_drawn-goes_on.new.posting.passes.items
+    (sums_of c.loop.posting.totals) (sums_of c.post_drawn-goes_on.new.posting.totals) c.loop.done.items
     c.push_reserved.new.self.items next.upload next.end
     (holding c.loop.drawer c.loop.posting.passes.items (sums_of c.loop.posting.totals)
     c.loop.done.items) refl c.loop.invariant.share
-    (ap (λ d. d.claims) e.drawn.2) (ap (λ d. d.drawn) e.drawn.2) (ap (λ d. d.drawn_from) e.drawn.2)
-    c.push_reserved.ensures.items e.worked c.next_upload.ensures.few
+    (ap (λ d. d.claims) e.2) drawn (ap (λ d. d.drawn_from) e.2)
+    c.push_reserved.ensures.items done.worked done.few
 
 pub returns-then-not-goes_on-clause-went_on : goal.returns-then-not-goes_on-clause-went_on
 returns-then-not-goes_on-clause-went_on g c =
-    let next = c.in-Some-next_upload.next in
-    let e = c.in-Some-next_upload.ensures in
+    let next = c.post_drawn-goes_on.result.0 in
+    let e = c.in-Some-next_number.ensures.drawn in
+    let done = c.post_drawn-goes_on.ensures in
+    let drawn = ap (λ d. d.drawn) e.2
+    ∙ ap (λ (u : ℕ). c.loop.drawer.drawn ++ u ∷ []) (sym done.upload) in
     stopped_went_on c.args.self.now c.args.share _
-    (cut_next c.args.self.now c.args.share c.loop.drawer c.next_upload.new.drawer
-    c.loop.posting.passes.items c.next_upload.new.posting.passes.items
-    (sums_of c.loop.posting.totals) (sums_of c.next_upload.new.posting.totals) c.loop.done.items
+    (cut_next c.args.self.now c.args.share c.loop.drawer c.next_number.new.drawer
+    c.loop.posting.passes.items c.post_drawn-goes_on.new.posting.passes.items
+    (sums_of c.loop.posting.totals) (sums_of c.post_drawn-goes_on.new.posting.totals) c.loop.done.items
     c.push_reserved.new.self.items next
-    c.loop.invariant.going (ap (λ d. d.claims) e.drawn.2) (ap (λ d. d.drawn) e.drawn.2)
-    c.push_reserved.ensures.items e.worked c.next_upload.ensures.full
-    (e.stops c.if-not-goes_on.true))
+    c.loop.invariant.going (ap (λ d. d.claims) e.2) drawn
+    c.push_reserved.ensures.items done.worked done.full
+    (done.stops c.if-not-goes_on.true))
 
 pub returns-then-not-goes_on-clause-stopped : goal.returns-then-not-goes_on-clause-stopped
 returns-then-not-goes_on-clause-stopped g c =
-    let next = c.in-Some-next_upload.next in
-    let e = c.in-Some-next_upload.ensures in
+    let next = c.post_drawn-goes_on.result.0 in
+    let e = c.in-Some-next_number.ensures.drawn in
+    let done = c.post_drawn-goes_on.ensures in
+    let drawn = ap (λ d. d.drawn) e.2
+    ∙ ap (λ (u : ℕ). c.loop.drawer.drawn ++ u ∷ []) (sym done.upload) in
     inr
-    (cut_next c.args.self.now c.args.share c.loop.drawer c.next_upload.new.drawer
-    c.loop.posting.passes.items c.next_upload.new.posting.passes.items
-    (sums_of c.loop.posting.totals) (sums_of c.next_upload.new.posting.totals) c.loop.done.items
+    (cut_next c.args.self.now c.args.share c.loop.drawer c.next_number.new.drawer
+    c.loop.posting.passes.items c.post_drawn-goes_on.new.posting.passes.items
+    (sums_of c.loop.posting.totals) (sums_of c.post_drawn-goes_on.new.posting.totals) c.loop.done.items
     c.push_reserved.new.self.items next
-    c.loop.invariant.going (ap (λ d. d.claims) e.drawn.2) (ap (λ d. d.drawn) e.drawn.2)
-    c.push_reserved.ensures.items e.worked c.next_upload.ensures.full
-    (e.stops c.if-not-goes_on.true))
+    c.loop.invariant.going (ap (λ d. d.claims) e.2) drawn
+    c.push_reserved.ensures.items done.worked done.full
+    (done.stops c.if-not-goes_on.true))

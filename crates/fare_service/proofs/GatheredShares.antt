@@ -1,0 +1,84 @@
+-- Shares are gathered: what their workers did is an outcome of files, with which the uploads were lent.
+use Rattle.std.specs.Prelude.{ℕ, ◌≡◌, List, length, map, replicate, All}
+use Rattle.std.specs.List.{AllZip}
+use Rattle.std.proofs.Common.{sym, ◌∙◌, inl, inr, subst}
+use Rattle.shard_book.specs.Book.{Book}
+use Rattle.shard_book.specs.Sums.{Sums}
+use Rattle.shared_books.specs.Drawing.{NoneTwice}
+use Rattle.report_texts.specs.declared.upload_end.UploadEnd.{UploadEnd}
+use Rattle.report_texts.specs.declared.upload_end.UploadEnd.TheVariants.{Undrawn}
+use Rattle.fare_service.specs.Headline.{end_of, HasOutcome, HasRunOver}
+use Rattle.fare_service.specs.Lending.{AreLentAs}
+use Rattle.fare_service.specs.Outcomes.{OutcomeView}
+use Rattle.fare_service.specs.ServiceView.{ServiceView, shards_of}
+use Rattle.fare_service.specs.ShareView.{ShareView}
+use Rattle.fare_service.specs.Shares.{Worked, all_works, IsShareOf, IsWorked, IsWorkOf, KeepsWorks}
+use Rattle.fare_service.specs.inside.Closing.{IsClosedWork}
+use Rattle.fare_service.specs.inside.Joining.{with_all_done}
+use Rattle.fare_service.specs.inside.ServiceView.{IsService}
+use Rattle.fare_service.proofs.GatheredWork.{given_of, IsGathered}
+use Rattle.fare_service.proofs.GatherLemmas.{Told, all_each, book_of_work, drawn_all, ends_told}
+use Rattle.fare_service.proofs.GatherLemmas.{get_replicate, keepings, kept_length, not_drawn}
+use Rattle.fare_service.proofs.GatherLemmas.{totals_all}
+use Rattle.fare_service.proofs.LentFiles.{lent_files, lent_number}
+use Rattle.fare_service.proofs.PlainLists.{All-flat, flat-All}
+
+-- what was gathered of shares, by what each keeps
+pub record HasGathered (service : ServiceView) (shares : List ShareView) (outcome : OutcomeView)
+    : Type 0 where
+  pub files : List (List ℕ)
+  pub lent : AreLentAs service.uploads files
+  pub works : List (List Worked)
+  pub kept : AllZip (KeepsWorks service) shares works
+  pub gathered : IsGathered (given_of service files) works outcome
+
+pub has_gathered : (service : ServiceView) → IsService service → (shares : List ShareView)
+    → All (IsShareOf service) shares → (closed : List Book)
+    → IsClosedWork service.books shares closed
+    → (ends : List UploadEnd)
+    → ends ≡ with_all_done (replicate (length service.uploads) Undrawn) shares
+    → length ends ≡ length service.uploads
+    → (workers : List Sums) → workers ≡ map (λ share. share.totals) shares → (totals : Sums)
+    → HasGathered service shares
+    (record { books = closed; ends = ends; workers = workers; totals = totals })
+has_gathered service is shares all closed work ends are number workers sums_are totals =
+    let k = keepings service shares all in
+    let D : List ℕ → Type 0 = NoneTwice in
+    let once = subst D (drawn_all service shares k.0 k.1) work.once in
+    let lent = lent_files service (all_works k.0)
+    (All-flat (IsWorked service) k.0 (all_each service shares k.0 k.1)) once in
+    record {
+      files = lent.files;
+      lent = lent.lent;
+      works = k.0;
+      kept = k.1;
+      gathered = record {
+        each = flat-All (IsWorkOf (shards_of service) lent.files) k.0 lent.each;
+        once = once;
+        shards = work.number;
+        books = λ shard book at. book_of_work service is shares k.0 k.1 shard book
+            (work.books shard book at);
+        uploads = number ∙ sym (lent_number service.uploads lent.files lent.lent);
+        ends = λ upload end at. by_told k.0 upload end
+            (ends_told service shares k.0 k.1 once ends are upload end at);
+        workers = sums_are ∙ totals_all service shares k.0 k.1;
+      };
+    }
+  where
+    by_told : (works : List (List Worked)) (upload : ℕ) (end : UploadEnd)
+        → Told (replicate (length service.uploads) Undrawn) (all_works works) upload end
+        → end ≡ end_of upload (all_works works)
+    by_told works upload end (inl (none, there)) =
+        get_replicate (length service.uploads) upload end there
+        ∙ sym (not_drawn (all_works works) upload none)
+    by_told works upload end (inr (some, e)) = e
+
+-- a run of so many workers was gathered
+pub has_run : (service : ServiceView) (shares : List ShareView) (workers : ℕ)
+    (outcome : OutcomeView) → length shares ≡ workers → HasOutcome service shares outcome
+    → HasRunOver service.table (shards_of service) service.uploads workers outcome
+has_run service shares workers outcome number is = record {
+  files = is.files;
+  lent = is.lent;
+  run = (is.works, sym (kept_length service shares is.works is.kept) ∙ number, is.headline);
+}
