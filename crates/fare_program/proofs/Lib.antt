@@ -9,5 +9,6 @@ pub mod Loads
 pub mod PostedTexts
 pub mod Ledgers
 pub mod Explains
+pub mod Finished
 pub mod SortedRuns
 pub mod Works

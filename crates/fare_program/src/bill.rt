@@ -11,7 +11,6 @@ ghost use Rattle.settlement.specs.Reading.{AreRead};
 ghost use Rattle.shard_book.specs.declared.entry.Entry.{Entry};
 
 use crate::fault::Fault;
-use crate::output::flush;
 use crate::run::are_posted;
 use fare_table::FareTable;
 use report_texts::write_report;
@@ -44,7 +43,6 @@ pub(crate) fn write_billed<'a, W: Write>(
     let totals = bill.totals.totals();
     let validators = bill.validators.sums(alloc)?;
     write_report(alloc, &ends, &totals, &validators, &bill.tokens, out)?;
-    flush(out)?;
     Ok(are_posted(&ends))
 }
 

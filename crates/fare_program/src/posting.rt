@@ -10,7 +10,6 @@ use crate::fault::Fault;
 use crate::files_ahead::Disk;
 use crate::noting::NotedUploads;
 use crate::options::Options;
-use crate::output::flush;
 use crate::run::{are_posted, post_live};
 use crate::settle::charge_settled;
 use fare_service::Outcome;
@@ -124,6 +123,5 @@ pub(crate) fn charge<'a, R: Threads + Wait + RandomSource + Sync, D: Disk + Sync
     }
     let outcome = post_live(rt, alloc, disk, table, options, files)?;
     print_asked(rt, alloc, options, &outcome, token, out)?;
-    flush(out)?;
     Ok(are_posted(outcome.ends()))
 }

@@ -33,7 +33,7 @@ use clap::Error;
 use clap::error::ErrorKind;
 use fare_table::FareTable;
 use hex::FromHex;
-use program_manners::{Complaints, STANDARD_INPUT, show_answer};
+use program_manners::{Complaints, Output, STANDARD_INPUT, show_answer};
 use std::alloc::Global;
 use std::io::Write;
 use std::marker::Sync;
@@ -444,24 +444,46 @@ fn tell<E: Write>(err: &mut Complaints<E>, fault: &Fault) -> u8
 
 /// Shows what clap answers when there is nothing to run: help and version on `out`, else the
 /// mistake on `err`.
-fn show<W: Write, E: Write>(error: &Error, out: &mut W, err: &mut Complaints<E>) -> u8
+fn show<W: Write, E: Write>(error: &Error, out: &mut Output<W>, err: &mut Complaints<E>) -> u8
     ensures help { result ≡ 0 → IsRequest (kind_of error.now) }
     ensures memory { kind_of error.now ≡ ErrorKind.OutOfMemory → result ≡ 1 }
     ensures refused { kind_of error.now ≡ ErrorKind.OutOfMemory
         → GaveUp Fault.NoMemory (E.contents err.old.writer) (E.contents err.new.writer)
-        err.new.failed (W.contents out.old) (W.contents out.new) }
+        err.new.failed (W.contents out.old.writer) (W.contents out.new.writer) }
     ensures words { (¬ IsRequest (kind_of error.now))
         → kind_of error.now ≢ ErrorKind.OutOfMemory → result ≡ 2 }
     ensures requested { result ≡ 2 → ¬ IsRequest (kind_of error.now) }
-    ensures mistake { result ≡ 2 → Keeps (W.contents out.old) (W.contents out.new) }
+    ensures mistake { result ≡ 2 → Keeps (W.contents out.old.writer) (W.contents out.new.writer) }
     ensures quiet { result ≡ 0 → err.new ≡ err.old }
     ensures fault { result ≡ 1 → (fault : Fault) × IsOfOutput fault × (status_of fault ≡ 1)
         × GaveUp fault (E.contents err.old.writer) (E.contents err.new.writer) err.new.failed
-        (W.contents out.old) (W.contents out.new) }
+        (W.contents out.old.writer) (W.contents out.new.writer) }
     ensures status { result ≤ 2 }
 {
     match show_answer(error, out, err) {
         Ok(status) => status,
+        Err(_) => tell(err, &Fault::Write),
+    }
+}
+
+/// Flushes the output behind the whole text, which is well or not, and gives the status. A flush that
+/// fails is reported on `err` as a write is.
+fn finish<W: Write, E: Write>(
+    is_well: bool,
+    out: &mut Output<W>,
+    err: &mut Complaints<E>,
+) -> u8
+    ensures kept { Keeps (W.contents out.old.writer) (W.contents out.new.writer) }
+    ensures well { result ≡ 0 → (is_well ≡ true) × (out.new.is_flushed ≡ true)
+        × (err.new ≡ err.old) }
+    ensures ill { result ≡ 1 → ((is_well ≡ false) × (out.new.is_flushed ≡ true)
+        × (err.new ≡ err.old)) ⊎ LineWritten (E.contents err.old.writer)
+        (E.contents err.new.writer) err.new.failed (fault_text Fault.Write) }
+    ensures status { result ≤ 1 }
+{
+    match out.finish() {
+        Ok(()) if is_well => 0,
+        Ok(()) => 1,
         Err(_) => tell(err, &Fault::Write),
     }
 }
@@ -483,13 +505,14 @@ pub fn main_over<
     words: &[String],
     disk: &D,
     source: &mut S,
-    out: &mut W,
+    out: &mut Output<W>,
     err: &mut Complaints<E>,
 ) -> u8
     // With status 0 the whole text was written, and each upload is well.
     ensures done { Parses (map string_bytes words.now) → result ≡ 0
         → Does (asked_by (map string_bytes words.now)) (D.bytes_under disk.now)
-        (S.loaded source.old) (S.loaded source.new) (W.contents out.old) (W.contents out.new)
+        (S.loaded source.old) (S.loaded source.new) (W.contents out.old.writer)
+        (W.contents out.new.writer)
         true }
 
     // Words that are no command line end well only where they ask for help or the version.
@@ -501,42 +524,50 @@ pub fn main_over<
     ensures wrong_words { ¬ Parses (map string_bytes words.now)
         → (¬ AsksForText (map string_bytes words.now))
         → (result ≡ 2) ⊎ ((result ≡ 1) × GaveUp Fault.NoMemory (E.contents err.old.writer)
-        (E.contents err.new.writer) err.new.failed (W.contents out.old) (W.contents out.new)) }
+        (E.contents err.new.writer) err.new.failed (W.contents out.old.writer)
+        (W.contents out.new.writer)) }
 
     // The first mistake in what is asked for is told, with status 2. Only want of memory, where the
     // words are read, may come before it.
     ensures mistaken { (first : Fault) → Parses (map string_bytes words.now)
         → mistake (asked_by (map string_bytes words.now)) ≡ Some first
         → ((result ≡ 2) × GaveUp first (E.contents err.old.writer) (E.contents err.new.writer)
-        err.new.failed (W.contents out.old) (W.contents out.new))
+        err.new.failed (W.contents out.old.writer) (W.contents out.new.writer))
         ⊎ ((result ≡ 1) × GaveUp Fault.NoMemory (E.contents err.old.writer)
-        (E.contents err.new.writer) err.new.failed (W.contents out.old) (W.contents out.new)) }
+        (E.contents err.new.writer) err.new.failed (W.contents out.old.writer)
+        (W.contents out.new.writer)) }
 
     // Only such a mistake, or words that are no command line, have status 2.
     ensures right { result ≡ 2 → (¬ Parses (map string_bytes words.now))
         ⊎ (is_some (mistake (asked_by (map string_bytes words.now))) ≡ true) }
 
-    // With status 1 the whole text was written, and tells of an upload that is not well, and nothing
-    // was said on `err`; or a fault was told, which is the right one, and nothing was written but
-    // where a write failed, or where a sorted file was refused after all were checked.
+    // A text that ends well was flushed.
+    ensures flushed { Parses (map string_bytes words.now) → result ≡ 0
+        → out.new.is_flushed ≡ true }
+
+    // With status 1 the whole text was written and flushed, and tells of an upload that is not well,
+    // and nothing was said on `err`; or a fault was told, which is the right one, and nothing was
+    // written but where a write failed, or where a sorted file was refused after all were checked.
     ensures faults { result ≡ 1
         → (Parses (map string_bytes words.now)
         × Does (asked_by (map string_bytes words.now)) (D.bytes_under disk.now)
-        (S.loaded source.old) (S.loaded source.new) (W.contents out.old) (W.contents out.new)
-        false × (err.new ≡ err.old))
+        (S.loaded source.old) (S.loaded source.new) (W.contents out.old.writer)
+        (W.contents out.new.writer)
+        false × (out.new.is_flushed ≡ true) × (err.new ≡ err.old))
         ⊎ ((fault : Fault) × (status_of fault ≡ 1)
         × (Parses (map string_bytes words.now)
         → IsRightFault (asked_by (map string_bytes words.now)) (D.bytes_under disk.now)
         (S.loaded source.old) (S.loaded source.new) (S.refused source.new) fault)
         × GaveUpOn (asked_by (map string_bytes words.now)) fault (E.contents err.old.writer)
-        (E.contents err.new.writer) err.new.failed (W.contents out.old) (W.contents out.new)) }
+        (E.contents err.new.writer) err.new.failed (W.contents out.old.writer)
+        (W.contents out.new.writer)) }
 
     // Nothing is said on `err` where all is well.
     ensures quiet { result ≡ 0 → err.new ≡ err.old }
 
     // A mistake in the words loads nothing and writes nothing to `out`.
     ensures unloaded { result ≡ 2 → S.loaded source.new ≡ S.loaded source.old }
-    ensures unwritten { result ≡ 2 → Keeps (W.contents out.old) (W.contents out.new) }
+    ensures unwritten { result ≡ 2 → Keeps (W.contents out.old.writer) (W.contents out.new.writer) }
     ensures status { result ≤ 2 }
 {
     let options = match Options::read(alloc, words) {
@@ -544,8 +575,7 @@ pub fn main_over<
         Err(error) => return show(&error, out, err),
     };
     match work(rt, alloc, disk, &options, source, out) {
-        Ok(true) => 0,
-        Ok(false) => 1,
+        Ok(is_well) => finish(is_well, out, err),
         Err(fault) => tell(err, &fault),
     }
 }

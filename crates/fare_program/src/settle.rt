@@ -11,7 +11,6 @@ ghost use Rattle.settlement.specs.Reading.{AreRead};
 use crate::bill::write_bill;
 use crate::fault::Fault;
 use crate::options::Options;
-use crate::output::flush;
 use crate::run::are_posted;
 use crate::settled_token::write_token;
 use fare_table::FareTable;
@@ -48,7 +47,6 @@ fn write_ledger<'a, R: Threads + Sync, U: Uploads + Sync, W: Write>(
     // proof: the taps, posted in their order, are the settled history
     laws::posted_taps();
     write_settled_ledger(rt, alloc, table, &lists, workers, out)?;
-    flush(out)?;
     Ok(are_posted(&ends))
 }
 

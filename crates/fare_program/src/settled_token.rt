@@ -15,7 +15,6 @@ ghost use Rattle.fare_program.specs.inside.Options.{asked_of};
 
 use crate::fault::Fault;
 use crate::options::Options;
-use crate::output::flush;
 use crate::run::are_posted;
 use fare_table::FareTable;
 use settled_texts::{write_token_explained, write_token_ledger, write_token_statement};
@@ -109,6 +108,5 @@ pub(crate) fn write_token<'a, R: Threads + Sync, U: Uploads + Sync, W: Write>(
     // proof: the taps, posted alone, are the token's entries in the settled history
     laws::posted_taps();
     write_text(alloc, options, table, token, &taps, out)?;
-    flush(out)?;
     Ok(are_posted(&ends))
 }

@@ -11,7 +11,6 @@ ghost use Rattle.settled_texts.specs.Ledgers.{IsTracedLedger};
 ghost use Rattle.settled_texts.specs.Names.{class_by};
 
 use crate::fault::Fault;
-use crate::output::flush;
 use fare_table::FareTable;
 use settled_texts::{ClassFault, ClassNames, write_traced_ledger};
 use std::alloc::Global;
@@ -69,6 +68,5 @@ pub(crate) fn charge_traced<'a, W: Write>(
     ensures status { IfErr result (λ fault. status_of fault ≡ 1) }
 {
     let well = write_traced_ledger(alloc, &riders.table, &riders.names, files, out)?;
-    flush(out)?;
     Ok(well)
 }

@@ -1,5 +1,4 @@
 use Rattle.std.proofs.Common.{◌≡◌, ℕ, List, map, ap, ◌∙◌, arith}
-use Rattle.std.proofs.KnownBytes.{Appends-kept}
 use Rattle.shard_book.specs.Sums.{Sums, sums, sums_of}
 use Rattle.shard_book.specs.Shown.{validator_sum}
 use Rattle.shard_book.specs.SumsByKey.{sums_by_validator}
@@ -43,5 +42,5 @@ returns-clause-ok g c =
             (is.tokens i);
       },
       c.are_posted.ensures ∙ ap are_posted c.deref-3.ensures.value,
-      Appends-kept _ _ _ text c.in_ok-write_report.ensures.ok c.flush.ensures.kept,
+      c.in_ok-write_report.ensures.ok,
     )

@@ -3,7 +3,6 @@ use Rattle.std.specs.Prelude.{slice_get}
 use Rattle.std.proofs.lemmas.List.{length-map}
 use Rattle.std.specs.Io.KnownBytes.{Appends}
 use Rattle.std.proofs.lemmas.Result.{IfOk-weaker}
-use Rattle.std.proofs.KnownBytes.{Appends-kept}
 use Rattle.fare_program.specs.inside.Options.{asked_of}
 use Rattle.report_texts.specs.UploadEnds.{are_posted}
 use Rattle.fare_program.specs.Program.{ShowsAsked}
@@ -26,7 +25,7 @@ returns-clause-ok g c =
       live_asked asked c.args.table (map (λ f. f.items) c.args.files.items) c.args.token written.0 _
           outcome
           c.if-options.false written.1 well c.in_ok-outcome.ensures.live,
-      Appends-kept _ _ _ written.0 written.2 c.flush.ensures.kept,
+      written.2,
     )
 
 pub returns-then-options-clause-ok : goal.returns-then-options-clause-ok

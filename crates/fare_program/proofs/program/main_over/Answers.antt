@@ -1,13 +1,24 @@
-use Rattle.std.proofs.Common.{◌≡◌, ◌∙◌, arith, inr, map, subst, sym, true}
+use Rattle.std.proofs.Common.{◌≡◌, ◌∙◌, Bool, inl, inr, map, refl, subst, sym, true, ⊎_elim}
+use Rattle.fare_program.specs.Program.{Does}
+use Rattle.fare_program.specs.declared.fault.Fault.TheVariants.{Write}
+use Rattle.fare_program.proofs.Finished.{does_kept}
 use Rattle.std.specs.Prelude.{string_bytes}
 use Rattle.fare_program.specs.Causes.{IsRightFault}
 use Rattle.fare_program.specs.Options.{Asked, asked_by}
 use Rattle.fare_program.proofs.Causes.{output_is_right}
 use Rattle.fare_program.proofs.program.main_over.Goals as goal
 
--- what tells of a fault does not end well
-pub returns-in-Ok-false-clause-done : goal.returns-in-Ok-false-clause-done
-returns-in-Ok-false-clause-done g c = λ parses is. absurd (omega (arith, is))
+pub returns-in-Ok-work-clause-done : goal.returns-in-Ok-work-clause-done
+returns-in-Ok-work-clause-done g c = λ parses zero.
+    let under = g.D.Disk.bytes_under c.args.disk.now in
+    let out = g.W.Write.contents c.args.out.now.writer in
+    let last = g.W.Write.contents c.finish.new.out.writer in
+    let told = g.S.Source.loaded c.args.source.now in
+    let told' = g.S.Source.loaded c.work.new.source in
+    let well = c.finish.ensures.well zero in
+    subst (λ (asked : Asked). Does asked under told told' out last true) c.in-Ok.ensures.asked
+    (does_kept _ under told told' out _ last true c.finish.ensures.kept
+    (subst (λ (b : Bool). Does _ under told told' out _ b) well.0 c.in-Ok-work.ensures.ok))
 
 -- words that are no command line, of which nothing but want of memory or a write is told
 pub returns-in-Err-clause-faults : goal.returns-in-Err-clause-faults
@@ -41,3 +52,32 @@ returns-clause-faults g c = λ one.
             (λ sorted is. late (subst (λ (asked : Asked). asked.sorted ≡ true) same sorted) is);
       },
     )
+
+-- the whole text was written, and was flushed or not
+pub returns-in-Ok-work-clause-faults : goal.returns-in-Ok-work-clause-faults
+returns-in-Ok-work-clause-faults g c = λ one.
+    let under = g.D.Disk.bytes_under c.args.disk.now in
+    let out = g.W.Write.contents c.args.out.now.writer in
+    let last = g.W.Write.contents c.finish.new.out.writer in
+    let told = g.S.Source.loaded c.args.source.now in
+    let told' = g.S.Source.loaded c.work.new.source in
+    let asked = asked_by (map string_bytes c.args.words.now) in
+    let done : Does asked under told told' out last c.in-Ok-work.is_well =
+    subst (λ (a : Asked). Does a under told told' out last c.in-Ok-work.is_well)
+    c.in-Ok.ensures.asked
+    (does_kept _ under told told' out _ last c.in-Ok-work.is_well c.finish.ensures.kept
+    c.in-Ok-work.ensures.ok) in
+    ⊎_elim
+    (λ ill. inl (
+      c.in-Ok.ensures.parses,
+      subst (λ (b : Bool). Does asked under told told' out last b) ill.0 done,
+      ill.1,
+      ill.2,
+    ))
+    (λ line. inr (
+      Write,
+      refl,
+      (λ parses. tt),
+      record { line_told = line; kept = λ other. absurd (other refl) },
+    ))
+    (c.finish.ensures.ill one)

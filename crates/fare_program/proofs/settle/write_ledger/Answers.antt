@@ -1,7 +1,6 @@
 use Rattle.std.proofs.Common.{Bool, List, None, All, Vec, Global, ap, flat_map, subst, sym, ◌∙◌}
 use Rattle.std.specs.Prelude.{MatchBool}
 use Rattle.std.specs.List.Sorted.{IsSorted}
-use Rattle.std.proofs.KnownBytes.{Appends-kept}
 use Rattle.tap_views.specs.Encoding.{AreEarly}
 use Rattle.tap_views.specs.declared.encoder.TapFields.{TapFields}
 use Rattle.tap_parts.specs.Canonical.{tap_cmp}
@@ -62,5 +61,5 @@ returns-clause-ok g c =
         ended = ended;
         is_well = c.are_posted.ensures ∙ ap are_posted c.deref-2.ensures.value;
       },
-      Appends-kept _ _ _ text written.2 c.flush.ensures.kept,
+      written.2,
     )

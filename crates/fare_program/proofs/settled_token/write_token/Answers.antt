@@ -1,5 +1,4 @@
 use Rattle.std.proofs.Common.{◌∙◌, ap, sym}
-use Rattle.std.proofs.KnownBytes.{Appends-kept}
 use Rattle.report_texts.specs.UploadEnds.{are_posted}
 use Rattle.settlement.specs.Posted.{posted}
 use Rattle.fare_program.proofs.settled_token.write_token.Goals as goal
@@ -24,5 +23,5 @@ returns-clause-ok g c =
         ended = ended;
         is_well = c.are_posted.ensures ∙ ap are_posted c.deref-2.ensures.value;
       },
-      Appends-kept _ _ _ written.0 written.2 c.flush.ensures.kept,
+      written.2,
     )
