@@ -5,6 +5,7 @@ use Rattle.fare_program.proofs.Finished.{does_kept}
 use Rattle.std.specs.Prelude.{string_bytes}
 use Rattle.fare_program.specs.Causes.{IsRightFault}
 use Rattle.fare_program.specs.Options.{Asked, asked_by}
+use Rattle.fare_program.specs.inside.Options.{asked_of}
 use Rattle.fare_program.proofs.Causes.{output_is_right}
 use Rattle.fare_program.proofs.program.main_over.Goals as goal
 
@@ -15,10 +16,12 @@ returns-in-Ok-work-clause-done g c = λ parses zero.
     let last = g.W.Write.contents c.finish.new.out.writer in
     let told = g.S.Source.loaded c.args.source.now in
     let told' = g.S.Source.loaded c.work.new.source in
+    let mine = asked_of c.in-Ok.options in
+    let mid = g.W.Write.contents c.work.new.out.writer in
     let well = c.finish.ensures.well zero in
     subst (λ (asked : Asked). Does asked under told told' out last true) c.in-Ok.ensures.asked
-    (does_kept _ under told told' out _ last true c.finish.ensures.kept
-    (subst (λ (b : Bool). Does _ under told told' out _ b) well.0 c.in-Ok-work.ensures.ok))
+    (does_kept mine under told told' out mid last true c.finish.ensures.kept
+    (subst (λ (b : Bool). Does mine under told told' out mid b) well.0 c.in-Ok-work.ensures.ok))
 
 -- words that are no command line, of which nothing but want of memory or a write is told
 pub returns-in-Err-clause-faults : goal.returns-in-Err-clause-faults
@@ -65,11 +68,12 @@ returns-in-Ok-work-clause-faults g c = λ one.
     let done : Does asked under told told' out last c.in-Ok-work.is_well =
     subst (λ (a : Asked). Does a under told told' out last c.in-Ok-work.is_well)
     c.in-Ok.ensures.asked
-    (does_kept _ under told told' out _ last c.in-Ok-work.is_well c.finish.ensures.kept
+    (does_kept (asked_of c.in-Ok.options) under told told' out
+    (g.W.Write.contents c.work.new.out.writer) last c.in-Ok-work.is_well c.finish.ensures.kept
     c.in-Ok-work.ensures.ok) in
     ⊎_elim
     (λ ill. inl (
-      c.in-Ok.ensures.parses,
+      c.in-Ok.ensures.kinds,
       subst (λ (b : Bool). Does asked under told told' out last b) ill.0 done,
       ill.1,
       ill.2,
