@@ -3,12 +3,13 @@ use Rattle.std.specs.Prelude.{◌≡◌, ◌≤◌, ◌⊎◌, ℕ, Bool, true, 
 use Rattle.std.specs.Io.KnownBytes.{Keeps}
 use Rattle.program_manners.specs.Loads.{Loaded}
 use Rattle.program_manners.specs.declared.loading.LoadFault.{LoadFault}
+use Rattle.fare_program.specs.Begun.{HasBegun}
 use Rattle.fare_program.specs.Causes.{IsRightFault}
 use Rattle.fare_program.specs.Fault.{mistake, status_of}
 use Rattle.fare_program.specs.Options.{AsksForText, Parses, asked_by}
 use Rattle.fare_program.specs.Program.{Does, GaveUp, GaveUpOn}
 use Rattle.fare_program.specs.declared.fault.Fault.{Fault}
-use Rattle.fare_program.specs.declared.fault.Fault.TheVariants.{NoMemory}
+use Rattle.fare_program.specs.declared.fault.Fault.TheVariants.{NoMemory, Write}
 
 -- What `main_over` promises, each clause under its name there: of these words, of what stands on the
 -- disk under a name, of what the source had loaded before and after, of the last load that it
@@ -32,6 +33,8 @@ pub record IsRun (words : List (List ℕ)) (under : List ℕ → Option (List �
       × (flushed ≡ true) × Silent)
       ⊎ ((fault : Fault) × (status_of fault ≡ 1)
       × (Parses words → IsRightFault (asked_by words) under told told' refused fault)
+      × (Parses words → fault ≡ Write → (asked_by words).sorted ≡ false
+      → HasBegun (asked_by words) under told told' out out')
       × GaveUpOn (asked_by words) fault said said' failed out out')
   pub flush : Parses words → status ≡ 0 → flushed ≡ true
   pub quiet : status ≡ 0 → Silent

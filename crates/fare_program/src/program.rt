@@ -1,7 +1,7 @@
 //! The whole program, over any source of bytes and any two writers.
 ghost use Rattle.std.specs.Prelude.{MatchOption, codes, ◌≡◌, ◌≢◌, ◌≤◌, ◌⊎◌, ◌++◌, ◌∷◌, [], ℕ};
 ghost use Rattle.std.specs.Prelude.{List, Option, true, false, None, Some, IfErr, IfOk, OnOk};
-ghost use Rattle.std.specs.Prelude.{is_some, map, option_map, string_bytes};
+ghost use Rattle.std.specs.Prelude.{Bool, is_some, map, option_map, string_bytes};
 ghost use Rattle.clap.specs.Words.{kind_of};
 ghost use Rattle.std.specs.Io.KnownBytes.{Appends, Keeps};
 ghost use Rattle.fare_program.specs.Causes.{IsNameTold, IsRightFault};
@@ -13,6 +13,8 @@ ghost use Rattle.fare_program.specs.inside.Fault.{IsLoadLine, IsTableLine, IsWhy
 ghost use Rattle.fare_program.specs.Options.{Asked, AsksForText, Parses, asked_by};
 ghost use Rattle.fare_program.specs.inside.Options.{asked_of};
 ghost use Rattle.fare_program.specs.Program.{Does, GaveUp, GaveUpOn, IsTokenIn, LoadsFiles};
+ghost use Rattle.fare_program.specs.Begun.{HasBegun, IsBegun};
+ghost use Rattle.fare_texts.specs.WrittenOut.{Begins};
 ghost use Rattle.fare_program.specs.Program.{DoesUntraced, LoadsTable, RunsTraced, names_to_load};
 ghost use Rattle.program_manners.specs.Loads.{Loaded, TellsOne};
 ghost use Rattle.program_manners.specs.LineWritten.{LineWritten};
@@ -54,6 +56,7 @@ fn load_named<'a, S: Source>(source: &mut S, name: &'a str) -> Result<Vec<u8>, F
     ensures right { IfErr result (λ fault. (asked : Asked) (under : List ℕ → Option (List ℕ))
         (told after : Option (List Loaded)) → IsNameTold asked name.entry.now
         → IsRightFault asked under told after (S.refused source.new) fault) }
+    ensures unwritten { IfErr result (λ fault. fault ≢ Fault.Write) }
     ensures status { IfErr result (λ fault. status_of fault ≡ 1) }
 {
     match source.load(name) {
@@ -70,6 +73,7 @@ fn load_input<'a, S: Source>(source: &mut S) -> Result<Vec<u8>, Fault<'a>>
     ensures right { IfErr result (λ fault. (asked : Asked) (under : List ℕ → Option (List ℕ))
         (told after : Option (List Loaded)) → asked.files ≡ []
         → IsRightFault asked under told after (S.refused source.new) fault) }
+    ensures unwritten { IfErr result (λ fault. fault ≢ Fault.Write) }
     ensures status { IfErr result (λ fault. status_of fault ≡ 1) }
 {
     match source.input() {
@@ -92,6 +96,7 @@ fn load_table<'a, S: Source>(
         → asked.table ≡ option_map (λ n. n.now) name.entry
         → IsRightFault asked under (S.loaded source.old) (S.loaded source.new)
         (S.refused source.new) fault) }
+    ensures unwritten { IfErr result (λ fault. fault ≢ Fault.Write) }
     ensures status { IfErr result (λ fault. status_of fault ≡ 1) }
 {
     let Some(name) = name else {
@@ -117,6 +122,7 @@ fn load_files<'a, R: Threads + Sync, D: Disk + Sync, S: Source>(
     ensures right { IfErr result (λ fault. (asked : Asked) (under : List ℕ → Option (List ℕ))
         (told after : Option (List Loaded)) → asked.files ≡ map (λ n. n.now) names.now
         → IsRightFault asked under told after (S.refused source.new) fault) }
+    ensures unwritten { IfErr result (λ fault. fault ≢ Fault.Write) }
     ensures status { IfErr result (λ fault. status_of fault ≡ 1) }
 {
     let mut files = Vec::new(alloc);
@@ -302,6 +308,9 @@ fn list<'a, W: Write>(
     ensures ok { IfOk result (λ clean. (text : List ℕ)
         × IsListing table (map (λ f. f.items) files.now) text clean
         × Appends (W.contents out.old) (W.contents out.new) text) }
+    ensures begun { IfErr result (λ fault. fault ≡ Fault.Write → (clean : Bool) × (text : List ℕ)
+        × IsListing table (map (λ f. f.items) files.now) text clean
+        × Begins (W.contents out.old) (W.contents out.new) text) }
     ensures fault { IfErr result (λ fault. fault ≢ Fault.Write
         → Keeps (W.contents out.old) (W.contents out.new)) }
     ensures output { IfErr result IsOfOutput }
@@ -330,6 +339,14 @@ fn work_by_table<'a, R: Threads + Wait + RandomSource + Sync, D: Disk + Sync, S:
         → (asked_of options.now).sorted ≡ false
         → DoesUntraced (asked_of options.now) (D.bytes_under disk.now) told (S.loaded source.new)
         before (W.contents out.new) well) }
+    ensures begun { IfErr result (λ fault. fault ≡ Fault.Write
+        → (told : Option (List Loaded)) (before : Option (List ℕ))
+        → LoadsTable (asked_of options.now).table told (S.loaded source.old) table
+        → IsTokenIn (asked_of options.now).token token → Keeps before (W.contents out.old)
+        → (asked_of options.now).sorted ≡ false
+        → (well : Bool) × IsBegun before (W.contents out.new) (λ whole.
+        DoesUntraced (asked_of options.now) (D.bytes_under disk.now) told (S.loaded source.new)
+        before whole well)) }
     ensures fault { IfErr result (λ fault. fault ≢ Fault.Write
         → Keeps (W.contents out.old) (W.contents out.new)) }
     ensures right { IfErr result (λ fault. (told : Option (List Loaded))
@@ -367,6 +384,10 @@ fn work_traced<'a, R: Threads + Sync, D: Disk + Sync, S: Source, W: Write>(
     requires table { is_some (asked_of options.now).table ≡ true }
     ensures ok { IfOk result (λ well. RunsTraced (asked_of options.now) (S.loaded source.old)
         (S.loaded source.new) (W.contents out.old) (W.contents out.new) well) }
+    ensures begun { IfErr result (λ fault. fault ≡ Fault.Write → (well : Bool)
+        × IsBegun (W.contents out.old) (W.contents out.new) (λ whole.
+        RunsTraced (asked_of options.now) (S.loaded source.old) (S.loaded source.new)
+        (W.contents out.old) whole well)) }
     ensures fault { IfErr result (λ fault. fault ≢ Fault.Write
         → Keeps (W.contents out.old) (W.contents out.new)) }
     ensures right { IfErr result (λ fault. (asked_of options.now).traced ≡ true
@@ -405,6 +426,12 @@ fn work<'a, R: Threads + Wait + RandomSource + Sync, D: Disk + Sync, S: Source, 
     ensures fault { IfErr result (λ fault. fault ≢ Fault.Write
         → ((asked_of options.now).sorted ≡ true → IsLate fault → ⊥)
         → Keeps (W.contents out.old) (W.contents out.new)) }
+
+    // What a write that failed left is a beginning of the text that is asked for.
+    ensures begun { IfErr result (λ fault. fault ≡ Fault.Write
+        → (asked_of options.now).sorted ≡ false
+        → HasBegun (asked_of options.now) (D.bytes_under disk.now) (S.loaded source.old)
+        (S.loaded source.new) (W.contents out.old) (W.contents out.new)) }
 
     // A mistake in what is asked for is seen before all else, and then nothing was loaded. Another
     // fault has the other status.
@@ -548,6 +575,8 @@ pub fn main_over<
     // With status 1 the whole text was written and flushed, and tells of an upload that is not well,
     // and nothing was said on `err`; or a fault was told, which is the right one, and nothing was
     // written but where a write failed, or where a sorted file was refused after all were checked.
+    // What a write that failed left is a beginning of the text that is asked for: nothing else was
+    // written before the fault, and nothing behind it. Of sorted files that is not said.
     ensures faults { result ≡ 1
         → (Parses (map string_bytes words.now)
         × Does (asked_by (map string_bytes words.now)) (D.bytes_under disk.now)
@@ -558,6 +587,11 @@ pub fn main_over<
         × (Parses (map string_bytes words.now)
         → IsRightFault (asked_by (map string_bytes words.now)) (D.bytes_under disk.now)
         (S.loaded source.old) (S.loaded source.new) (S.refused source.new) fault)
+        × (Parses (map string_bytes words.now) → fault ≡ Fault.Write
+        → (asked_by (map string_bytes words.now)).sorted ≡ false
+        → HasBegun (asked_by (map string_bytes words.now)) (D.bytes_under disk.now)
+        (S.loaded source.old) (S.loaded source.new) (W.contents out.old.writer)
+        (W.contents out.new.writer))
         × GaveUpOn (asked_by (map string_bytes words.now)) fault (E.contents err.old.writer)
         (E.contents err.new.writer) err.new.failed (W.contents out.old.writer)
         (W.contents out.new.writer)) }

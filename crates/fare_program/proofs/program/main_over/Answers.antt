@@ -1,7 +1,9 @@
-use Rattle.std.proofs.Common.{◌≡◌, ◌∙◌, Bool, inl, inr, map, refl, subst, sym, true, ⊎_elim}
+use Rattle.std.proofs.Common.{◌≡◌, ◌∙◌, Bool, arith, false, inl, inr, map, refl, subst, sym, true, ⊎_elim}
+use Rattle.fare_program.specs.Begun.{HasBegun}
 use Rattle.fare_program.specs.Program.{Does}
 use Rattle.fare_program.specs.declared.fault.Fault.TheVariants.{Write}
 use Rattle.fare_program.proofs.Finished.{does_kept}
+use Rattle.fare_program.proofs.WritesFailed.{begun_done}
 use Rattle.std.specs.Prelude.{string_bytes}
 use Rattle.fare_program.specs.Causes.{IsRightFault}
 use Rattle.fare_program.specs.Options.{Asked, asked_by}
@@ -34,6 +36,7 @@ returns-in-Err-clause-faults g c = λ one.
           (g.D.Disk.bytes_under c.args.disk.now)
           (g.S.Source.loaded c.args.source.now) (g.S.Source.loaded c.args.source.now)
           (g.S.Source.refused c.args.source.now) fault output),
+      (λ parses. absurd (c.in-Err.ensures.wrong parses)),
       record { line_told = gave.line_told; kept = λ write late. gave.kept write },
     )
 
@@ -49,6 +52,10 @@ returns-clause-faults g c = λ one.
           (g.S.Source.loaded c.args.source.now) (g.S.Source.loaded c.work.new.source)
           (g.S.Source.refused c.work.new.source) fault) same
           (c.in-Err-work.ensures.right_fault status)),
+      (λ parses write unsorted. subst (λ (asked : Asked). HasBegun asked (g.D.Disk.bytes_under c.args.disk.now)
+          (g.S.Source.loaded c.args.source.now) (g.S.Source.loaded c.work.new.source)
+          (g.W.Write.contents c.args.out.now.writer) (g.W.Write.contents c.work.new.out.writer)) same
+          (c.in-Err-work.ensures.begun write (subst (λ (asked : Asked). asked.sorted ≡ false) (sym same) unsorted))),
       record {
         line_told = c.tell.ensures.line;
         kept = λ write late. c.in-Err-work.ensures.fault write
@@ -82,6 +89,7 @@ returns-in-Ok-work-clause-faults g c = λ one.
       Write,
       refl,
       (λ parses. tt),
+      (λ parses write unsorted. begun_done asked under told told' out last c.in-Ok-work.is_well done),
       record { line_told = line; kept = λ other. absurd (other refl) },
     ))
     (c.finish.ensures.ill one)
