@@ -1,5 +1,6 @@
 pub mod Added
 pub mod Adding
+pub mod BesideWrong
 pub mod CannotMerge
 pub mod ChargeLines
 pub mod Counted

@@ -13,4 +13,5 @@ pub mod SumsLeft
 pub mod Told
 pub mod UploadEnds
 pub mod Whole
+pub mod WrongBeside
 pub mod WrongTexts
