@@ -65,6 +65,7 @@ returns-clause-next g c =
         read = c.in_ok-advance.ensures.read;
         order = subst (λ head. MayFollowToken report.lines report.token head)
             c.in_ok-advance.ensures.token c.in_ok-advance.ensures.follows;
+        number = c.in_ok-advance.ensures.lines;
       };
       token_is = refl;
       used = refl;
