@@ -1,5 +1,5 @@
 use Rattle.std.proofs.Common.{◌≡◌, ◌∙◌, Bool, arith, false, inl, inr, map, refl, subst, sym, true, ⊎_elim}
-use Rattle.fare_program.specs.Begun.{HasBegun}
+use Rattle.fare_program.specs.Begun.{HasBegun, IsSortedLedger}
 use Rattle.fare_program.specs.Program.{Does}
 use Rattle.fare_program.specs.declared.fault.Fault.TheVariants.{Write}
 use Rattle.fare_program.proofs.Finished.{does_kept}
@@ -55,7 +55,7 @@ returns-clause-faults g c = λ one.
       (λ parses write unsorted. subst (λ (asked : Asked). HasBegun asked (g.D.Disk.bytes_under c.args.disk.now)
           (g.S.Source.loaded c.args.source.now) (g.S.Source.loaded c.work.new.source)
           (g.W.Write.contents c.args.out.now.writer) (g.W.Write.contents c.work.new.out.writer)) same
-          (c.in-Err-work.ensures.begun write (subst (λ (asked : Asked). asked.sorted ≡ false) (sym same) unsorted))),
+          (c.in-Err-work.ensures.begun write (subst (λ (asked : Asked). ¬ (IsSortedLedger asked)) (sym same) unsorted))),
       record {
         line_told = c.tell.ensures.line;
         kept = λ write late. c.in-Err-work.ensures.fault write
