@@ -1,7 +1,7 @@
 -- Sorted files whose taps were counted: how they end.
 use Rattle.std.proofs.Common.{◌≡◌, ℕ, zero, suc, ◌+◌, ◌^◌, ◌<◌, List, [], ◌∷◌, length, get_or, map}
 use Rattle.std.proofs.Common.{take, true}
-use Rattle.std.proofs.Common.{None}
+use Rattle.std.proofs.Common.{◌≢◌, None}
 use Rattle.std.proofs.Common.{refl, sym, ap, subst, ◌∙◌, arith}
 use Rattle.std.specs.Prelude.{flat_map, sum}
 use Rattle.std.specs.List.{sum_by}
