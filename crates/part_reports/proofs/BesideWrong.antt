@@ -1,8 +1,10 @@
 -- Which text a fault names of ledgers that are merged beside their reports.
 use Rattle.std.proofs.Common.{◌≡◌, ◌∙◌, ◌⊎◌, ◌<◌, ◌^◌, ℕ, List, ◌∷◌, ◌++◌, Option, Some, Result}
-use Rattle.std.proofs.Common.{Ok, Err, arith, ap, inl, inr, length, map, refl, subst, sym}
+use Rattle.std.proofs.Common.{Bor, Ok, Err, arith, ap, inl, inr, length, map, refl, subst, sym}
 use Rattle.std.specs.Prelude.{IfErr, IfSome, None, slice_get}
 use Rattle.std.specs.List.{AllZip}
+use Rattle.std.specs.Slice.{IsItemAt}
+use Rattle.std.proofs.lemmas.Option.{slice_get-get_or}
 use Rattle.fare_texts.specs.LedgerLines.{head_text}
 use Rattle.shard_book.specs.Sums.{Sums}
 use Rattle.tap_views.specs.declared.token.Token.{Token}
@@ -38,6 +40,15 @@ use Rattle.part_reports.proofs.ReportsLeft.{part_of, report_lines}
 use Rattle.part_reports.proofs.ReportsMerged.{IsMergingBeside, beside_at, left_here}
 use Rattle.part_reports.proofs.ReportsMerged.{not_taken_here, unused_of}
 use Rattle.part_reports.proofs.TokenSums.{line_of}
+
+-- the element that is lent
+pub at_item : {A : Type 0} (xs : List A) (place : ℕ) (found : Option (Bor A)) (x : Bor A)
+    → found ≡ Some x → IsItemAt xs place found → slice_get xs place ≡ Some x.now
+at_item xs place None x is item = absurd (cc)
+at_item xs place (Some y) x is item =
+    let same : y ≡ x = cc in
+    slice_get-get_or xs place y.now item.3.0 ∙ ap (λ v. Some v) (sym item.1)
+    ∙ ap (λ (v : Bor A). Some v.now) same
 
 -- ---- of which of two texts
 pub of_first : (first second lines : ℕ) (This That : Type 0) (fault : MergeFault)

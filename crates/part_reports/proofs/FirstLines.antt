@@ -32,11 +32,11 @@ use Rattle.part_reports.proofs.OneLine.{HasNoFeed, IsOneLine, is_no_feed, taken_
 -- ---- a fault of the next line
 pub next_other : (kind : LineKind) (before : Option Token) (left : Option (List ℕ)) (number : ℕ)
     (fault : MergeFault) → ¬ (IsOfTexts fault) → IsOfNext kind before left number fault
-next_other kind before left number (Line named at wrong) no = absurd (no tt)
-next_other kind before left number (Taps reports uploads) no = tt
-next_other kind before left number (Unread named) no = tt
-next_other kind before left number Write no = tt
-next_other kind before left number NoMemory no = tt
+next_other kind before left number (Line named at wrong) other = absurd (other tt)
+next_other kind before left number (Taps reports uploads) other = tt
+next_other kind before left number (Unread named) other = tt
+next_other kind before left number Write other = tt
+next_other kind before left number NoMemory other = tt
 
 pub next_of : (kind : LineKind) (before : Option Token) (left : Option (List ℕ))
     (number text lines : ℕ) (fault : MergeFault) → IsOfReader text lines fault

@@ -158,7 +158,7 @@ has_token : (first : Part) (token : Token) → IsGoing first → first.at.token 
 has_token first token going is bytes some text others =
     let line : TokenLine = record { token = token; text = bytes } in
     let (behind, whole, left) = going_line first token going is some text in
-    let each : AllByRecursion (λ (other : TokenLine). line_at first.at token .token ≢ other.token)
+    let each : AllByRecursion (λ (other : TokenLine). (line_at first.at token).token ≢ other.token)
     (line ∷ []) =
     each_middle (λ (one : TokenLine). AllByRecursion
     (λ (other : TokenLine). one.token ≢ other.token) (line ∷ [])) first.done

@@ -93,7 +93,8 @@ head_behind (one ∷ files) (other ∷ lefts) (suc place) file left shown there 
 -- a ledger is the lines of its text behind the head line
 record IsTextOfFile (lefts : List (List ℕ)) (place : ℕ) (file : List ℕ) : Type 0 where
   left : List ℕ
-  there : slice_get (map (λ (left : List ℕ). (Entries, left)) lefts) place ≡ Some (Entries, left)
+  there : slice_get {X = LineKind × List ℕ} (map (λ (left : List ℕ). (Entries, left)) lefts) place
+      ≡ Some (Entries, left)
   of : (lines : List TokenLine) → IsPartLedger lines file → IsTextOf (Entries, left) lines
 
 text_of_file : (files lefts : List (List ℕ)) (place : ℕ) (file : List ℕ)
@@ -277,11 +278,11 @@ merged_first files known ats numbers NoMemory same are numbered no_taps first = 
 -- ---- the first lines
 pub first_other : (file : List ℕ) (fault : MergeFault) → ¬ (IsOfTexts fault)
     → IsOfFirstLines file fault
-first_other file (Line text number wrong) no = absurd (no tt)
-first_other file (Taps reports uploads) no = tt
-first_other file (Unread text) no = tt
-first_other file Write no = tt
-first_other file NoMemory no = tt
+first_other file (Line text number wrong) other = absurd (other tt)
+first_other file (Taps reports uploads) other = tt
+first_other file (Unread text) other = tt
+first_other file Write other = tt
+first_other file NoMemory other = tt
 
 -- the head line is another
 pub head_wrong : (file : List ℕ) (text lines : ℕ) (fault : MergeFault) → IsOfReader text lines fault

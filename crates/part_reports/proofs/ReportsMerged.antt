@@ -137,15 +137,15 @@ beside_set (first ∷ parts) (file ∷ files) (one ∷ lefts) (suc k) part next 
     (are.0, beside_set parts files lefts k part next was is are.1 there left step)
 
 -- what stands at one place
-record IsBesideAt (parts : List Part) (files : List (List ℕ)) (k : ℕ) (left : ReportAt)
+pub record IsBesideAt (parts : List Part) (files : List (List ℕ)) (k : ℕ) (left : ReportAt)
     : Type 0 where
-  part : Part
-  part_there : slice_get parts k ≡ Some part
-  file : List ℕ
-  file_there : slice_get files k ≡ Some file
-  is : IsBeside part.done file left
+  pub part : Part
+  pub part_there : slice_get parts k ≡ Some part
+  pub file : List ℕ
+  pub file_there : slice_get files k ≡ Some file
+  pub is : IsBeside part.done file left
 
-beside_at : (parts : List Part) (files : List (List ℕ)) (lefts : List ReportAt) (k : ℕ)
+pub beside_at : (parts : List Part) (files : List (List ℕ)) (lefts : List ReportAt) (k : ℕ)
     (left : ReportAt) → AreBeside parts files lefts → slice_get lefts k ≡ Some left
     → IsBesideAt parts files k left
 beside_at [] [] [] k left are there = absurd (cc)
