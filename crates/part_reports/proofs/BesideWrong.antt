@@ -44,8 +44,8 @@ use Rattle.part_reports.proofs.TokenSums.{line_of}
 -- the element that is lent
 pub at_item : {A : Type 0} (xs : List A) (place : ℕ) (found : Option (Bor A)) (x : Bor A)
     → found ≡ Some x → IsItemAt xs place found → slice_get xs place ≡ Some x.now
-at_item xs place None x is item = absurd (cc)
-at_item xs place (Some y) x is item =
+at_item {A} xs place None x is item = absurd (cc)
+at_item {A} xs place (Some y) x is item =
     let same : y ≡ x = cc in
     slice_get-get_or xs place y.now item.3.0 ∙ ap (λ v. Some v) (sym item.1)
     ∙ ap (λ (v : Bor A). Some v.now) same
@@ -234,11 +234,12 @@ text_wrong texts files numbers left_numbers Write is = tt
 text_wrong texts files numbers left_numbers NoMemory is = tt
 
 -- ---- of whole texts
--- as many known texts as readers
-pub files_count : {R : Type 0} (remaining : R → Option (List ℕ)) (readers : List R)
-    (files : List (List ℕ)) → AreLeft remaining readers files → length readers ≡ length files
-files_count remaining readers files are =
-    sym (map_length remaining readers) ∙ ap length are ∙ map_length (λ file. Some file) files
+pub counted_files : {R : Type 0} (remaining : R → Option (List ℕ)) (readers : List R)
+    (files : List (List ℕ)) (first : ℕ) → AreLeft remaining readers files → first ≡ length readers
+    → first ≡ length files
+counted_files remaining readers files first are first_is =
+    first_is ∙ sym (map_length remaining readers) ∙ ap length are
+    ∙ map_length (λ file. Some file) files
 
 pub report_none : (front back : List (Option (List ℕ))) (file : Option (List ℕ))
     (files : List (List ℕ)) (first text : ℕ) (fault : MergeFault)

@@ -141,8 +141,8 @@ module _ (files lefts : List (List ℕ)) (place number : ℕ)
   rise : Rise Entries at.done
   rise = subst (λ kind. Rise kind at.done) kind_is at.rise
 
-  numbered : number ≡ min (length at.done + 2) (2 ^ 64 - 1)
-  numbered =
+  number_of : number ≡ min (length at.done + 2) (2 ^ 64 - 1)
+  number_of =
       let is = at.number_is head_text whole in
       let both = feeds_append head_text (text_of at.done) in
       let head : line_feeds head_text ≡ 1 = refl in
@@ -162,7 +162,7 @@ module _ (files lefts : List (List ℕ)) (place number : ℕ)
         rest = at.rest;
         more = none_empty (Some stuck.last.token) at.rest wrong;
         shown = lines_whole;
-        number_is = numbered;
+        number_is = number_of;
         wrong = λ line text. subst (λ done. ¬ (IsPartLedger (done ++ line ∷ [])
             (ledger_text (done ++ line ∷ [])))) (sym stuck.is_last)
             (none_follows stuck.front stuck.last at.rest wrong line text);
@@ -187,7 +187,7 @@ module _ (files lefts : List (List ℕ)) (place number : ℕ)
         rest = twin.left;
         shown = lines_whole ∙ ap (λ rest. ledger_text at.done ++ rest) twin.shown
             ∙ one_behind_text at.done twin.line twin.left;
-        number_is = numbered;
+        number_is = number_of;
         earlier = shares.earlier;
         before = shares.before;
         first = first.file;
@@ -276,13 +276,14 @@ merged_first files known ats numbers Write same are numbered no_taps first = tt
 merged_first files known ats numbers NoMemory same are numbered no_taps first = tt
 
 -- ---- the first lines
-pub first_other : (file : List ℕ) (fault : MergeFault) → ¬ (IsOfTexts fault)
-    → IsOfFirstLines file fault
-first_other file (Line text number wrong) other = absurd (other tt)
-first_other file (Taps reports uploads) other = tt
-first_other file (Unread text) other = tt
-first_other file Write other = tt
-first_other file NoMemory other = tt
+pub first_other : (known : Option (List ℕ)) (fault : MergeFault) → ¬ (IsOfTexts fault)
+    → IfSome known (λ file. IsOfFirstLines file fault)
+first_other None fault other = tt
+first_other (Some file) (Line text number wrong) other = absurd (other tt)
+first_other (Some file) (Taps reports uploads) other = tt
+first_other (Some file) (Unread text) other = tt
+first_other (Some file) Write other = tt
+first_other (Some file) NoMemory other = tt
 
 -- the head line is another
 pub head_wrong : (file : List ℕ) (text lines : ℕ) (fault : MergeFault) → IsOfReader text lines fault
@@ -346,7 +347,3 @@ pub err_both : {X Y : Type 0} (result : Result X Y) (P Q : Y → Type 0) → IfE
     → IfErr result Q → IfErr result (λ y. P y × Q y)
 err_both (Ok x) P Q p q = tt
 err_both (Err y) P Q p q = (p, q)
-
-pub some_any : {X : Type 0} (value : Option X) (P : X → Type 0) → ((x : X) → P x) → IfSome value P
-some_any None P all = tt
-some_any (Some x) P all = all x

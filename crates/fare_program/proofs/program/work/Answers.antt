@@ -12,7 +12,7 @@ use Rattle.fare_program.proofs.WritesFailed.{begun_by, begun_so}
 use Rattle.fare_program.specs.inside.ChargedAhead.{IsChargedAhead}
 use Rattle.fare_program.specs.inside.Options.{asked_of}
 use Rattle.fare_program.proofs.SortedRuns.{does_sorted, does_traced, does_untraced, has_table}
-use Rattle.fare_program.proofs.SortedRuns.{traced_table}
+use Rattle.fare_program.proofs.SortedRuns.{one_table, traced_table}
 use Rattle.fare_program.proofs.Works.{does_ahead}
 use Rattle.std.proofs.Common.{◌∙◌, ℕ, Bool, List, None, Option, Some, true, false, sym}
 use Rattle.fare_program.proofs.Causes.{handed_on}
@@ -109,9 +109,6 @@ no_token : (asked : Option (List ℕ)) (token : Option Token) → IsTokenIn aske
 no_token None token is none = refl
 no_token (Some digits) None is none = absurd is
 no_token (Some digits) (Some token) is none = cc
-
-one_table : (a b : Fares) → Some a ≡ Some b → a ≡ b
-one_table a b same = cc
 
 -- a mistake is no write
 no_mistake : (fault : Fault) → status_of fault ≡ 2 → fault ≡ Write → ⊥

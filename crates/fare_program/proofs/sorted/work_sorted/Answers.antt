@@ -4,14 +4,12 @@ use Rattle.fare_table.specs.Fares.{Fares}
 use Rattle.fare_program.specs.Settling.{ShowsSettled}
 use Rattle.fare_program.specs.inside.Options.{asked_of}
 use Rattle.fare_program.proofs.Causes.{handed_on}
+use Rattle.fare_program.proofs.SortedRuns.{one_table}
 use Rattle.fare_program.specs.Causes.{IsRightOfSorted}
 use Rattle.fare_program.proofs.sorted.work_sorted.Goals as goal
 
 abbrev name_in : Bor (List ℕ) → List ℕ
 name_in name = name.now
-
-same : (a b : Fares) → Some a ≡ Some b → a ≡ b
-same a b is = cc
 
 pub returns-clause-ok : goal.returns-clause-ok
 returns-clause-ok g c =
@@ -19,7 +17,7 @@ returns-clause-ok g c =
     let done = c.in_ok-charge_sorted.ensures.ok in (
       refl,
       λ fares is.
-          let one : c.in-Some.table ≡ fares = same c.in-Some.table fares (sym c.in-Some.is ∙ is) in
+          let one : c.in-Some.table ≡ fares = one_table c.in-Some.table fares (sym c.in-Some.is ∙ is) in
           record {
             text = done.text;
             shows = λ files are. subst
@@ -55,7 +53,7 @@ returns-in_err-charge_sorted-clause-begun g c =
     c.from_residual-in_err-charge_sorted.ensures.1 in
     rw p.1 (λ write other fares is.
     let done = c.in_err-charge_sorted.ensures.begun (sym p.2 ∙ write) other in
-    let one : c.in-Some.table ≡ fares = same c.in-Some.table fares (sym c.in-Some.is ∙ is) in
+    let one : c.in-Some.table ≡ fares = one_table c.in-Some.table fares (sym c.in-Some.is ∙ is) in
     record {
       text = done.text;
       shows = λ files are. subst
