@@ -135,15 +135,27 @@ returns-in_err-well-clause-begun g c =
     c.from_residual-in_err-well.ensures.1 in
     let begun = c.in_err-well.ensures.begun in
     rw p.1 (λ write other. (
-      begun.0,
-      begun_so out (g.W.Write.contents c.charge_ahead.new.out) _
+      begun.well,
+      begun_by out out (g.W.Write.contents c.charge_ahead.new.out) begun.text
           (λ all. Does asked under (g.S.Source.loaded c.args.source.now)
-          (g.S.Source.loaded c.load_table.new.source) out all begun.0) begun.1
-          (λ all done. does_untraced asked under _ _ out all begun.0 c.if-options.false
+          (g.S.Source.loaded c.load_table.new.source) out all begun.well) (Keeps-refl out)
+          begun.begun
+          (λ all written. does_untraced asked under _ _ out all begun.well c.if-options.false
           (does_ahead asked under c.keeps_loads-keeps_loads.result _ _ c.in_ok-table.table
-          c.in_ok-token.token out all begun.0 c.in_ok-table.ensures.ok
-          c.keeps_loads-keeps_loads.ensures c.in_ok-token.ensures.token done (Keeps-refl out)
-          c.if-options-2.false)),
+          c.in_ok-token.token out all begun.well c.in_ok-table.ensures.ok
+          c.keeps_loads-keeps_loads.ensures c.in_ok-token.ensures.token (record {
+            fares = begun.fares;
+            is_table = begun.is_table;
+            settles = begun.settles;
+            lists_none = begun.lists_none;
+            kept_none = begun.kept_none;
+            files = begun.files;
+            some = begun.some;
+            number = begun.number;
+            text = begun.text;
+            shows = begun.shows;
+            written = written;
+          }) (Keeps-refl out) c.if-options-2.false)),
     ))
 
 pub returns-clause-begun : goal.returns-clause-begun

@@ -31,8 +31,8 @@ pub returns-in_err-write_text-in-Ok-clause-begun : goal.returns-in_err-write_tex
 returns-in_err-write_text-in-Ok-clause-begun g c =
     let fares = c.args.table.now in
     let token = c.args.token in
-    let p = err_from_is_err_and c.from_residual-in_err-write_text-in-Ok.result
-    c.from_residual-in_err-write_text-in-Ok.ensures.1 in
+    let p = err_from_is_err_and c.from_residual.result
+    c.from_residual.ensures.1 in
     rw p.1 (λ write.
     let (text, shows, begun) = c.in_err-write_text-in-Ok.ensures.begun (sym p.2 ∙ write) in
     record {
