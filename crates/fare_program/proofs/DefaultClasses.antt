@@ -15,14 +15,14 @@ use Rattle.settled_texts.specs.Classes.{default_in}
 -- steps of which the second never gives the value
 never : {A B : Type 0} (x : Result A TableFault) (f : A → Result B TableFault) (y : B)
     → ((a : A) → f a ≡ Ok y → ⊥) → (x >>= f) ≡ Ok y → ⊥
-never (Ok a) f y no is = no a is
-never (Err e) f y no is = cc
+never (Ok a) f y other is = other a is
+never (Err e) f y other is = cc
 
 -- and of which the first gives none
 stuck : {A B : Type 0} (x : Result A TableFault) (f : A → Result B TableFault) (y : B)
     → ((a : A) → x ≡ Ok a → ⊥) → (x >>= f) ≡ Ok y → ⊥
-stuck (Ok a) f y no is = no a refl
-stuck (Err e) f y no is = cc
+stuck (Ok a) f y other is = other a refl
+stuck (Err e) f y other is = cc
 
 no_kind : (part : Option (List ℕ)) → part ≡ None → (name : List ℕ)
     → of_kind the_key.DefaultClass part ≡ Ok name → ⊥
