@@ -119,18 +119,18 @@ pub of_place : (at : ℕ) (numbers left_numbers : List ℕ) (ats : List Standing
 of_place at numbers left_numbers ats lefts first second This That (Line named number wrong) one two
     this that is
     = elim is [
-  | inl here ↦ inl (one ∙ ap (λ text. Some text) (sym here.0), this here.1)
-  | inr there ↦ inr (two ∙ ap (λ text. Some text) (sym there.0), that there.1)
-]
+      | inl here ↦ inl (one ∙ ap (λ text. Some text) (sym here.0), this here.1)
+      | inr there ↦ inr (two ∙ ap (λ text. Some text) (sym there.0), that there.1)
+    ]
 of_place at numbers left_numbers ats lefts first second This That (Taps reports uploads) one two
     this that is
     = absurd is
 of_place at numbers left_numbers ats lefts first second This That (Unread named) one two this that
     is
     = elim is [
-  | inl here ↦ inl (one ∙ ap (λ text. Some text) (sym here))
-  | inr there ↦ inr (two ∙ ap (λ text. Some text) (sym there))
-]
+      | inl here ↦ inl (one ∙ ap (λ text. Some text) (sym here))
+      | inr there ↦ inr (two ∙ ap (λ text. Some text) (sym there))
+    ]
 of_place at numbers left_numbers ats lefts first second This That Write one two this that is =
     absurd is
 of_place at numbers left_numbers ats lefts first second This That NoMemory one two this that is = tt
@@ -188,21 +188,21 @@ pub place_wrong : (texts : List (LineKind × List ℕ)) (files : List (List ℕ)
     → IsWrongOfBoth texts files numbers left_numbers fault
 place_wrong texts files ats lefts old now k numbers left_numbers (Line named number wrong) so_far is
     = elim is [
-  | inl here ↦
-      inl (k, here.0, inr (not_taken_here texts files ats lefts old now k so_far here.1))
-  | inr there ↦
-      let has = there.1 in
-      let beside = beside_at so_far.merging.parts files lefts k has.left so_far.beside has.there in
-      inr (
-        k,
-        there.0,
-        record {
-          file = beside.file;
-          there = beside.file_there;
-          none = has.none beside.file beside.is.charges beside.is.used;
-        },
-      )
-]
+      | inl here ↦
+          inl (k, here.0, inr (not_taken_here texts files ats lefts old now k so_far here.1))
+      | inr there ↦
+          let has = there.1 in
+          let beside = beside_at so_far.merging.parts files lefts k has.left so_far.beside has.there in
+          inr (
+            k,
+            there.0,
+            record {
+              file = beside.file;
+              there = beside.file_there;
+              none = has.none beside.file beside.is.charges beside.is.used;
+            },
+          )
+    ]
 place_wrong texts files ats lefts old now k numbers left_numbers (Taps reports uploads) so_far is =
     absurd is
 place_wrong texts files ats lefts old now k numbers left_numbers (Unread named) so_far is = tt

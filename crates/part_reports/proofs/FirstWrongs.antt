@@ -92,7 +92,8 @@ stuck_first texts files ats old now merging k least are numbers (Line named numb
         rest = at_line.rest;
         shown = shown_here part token found.going found.token_is;
         number_is = λ front of_file.
-            let fronts = before_left file before front part.text.1 (text_of (part.done ++ line ∷ []))
+            let fronts = before_left file before front part.text.1
+            (text_of (part.done ++ line ∷ []))
             at_line.rest left whole of_file (shown_here part token found.going found.token_is) lefts
             in
             let feeds = ap line_feeds fronts in
@@ -140,14 +141,17 @@ past_others p part past going some text =
     let each : AllByRecursion (λ a. AllByRecursion (λ b. a.token ≢ b.token) part.done) some =
     subst (λ lines. AllByRecursion (λ a. AllByRecursion (λ b. a.token ≢ b.token) part.done) lines)
     (sym on.whole)
-    (each-append (λ (a : TokenLine). AllByRecursion (λ (b : TokenLine). a.token ≢ b.token) part.done)
+    (each-append
+    (λ (a : TokenLine). AllByRecursion (λ (b : TokenLine). a.token ≢ b.token) part.done)
     p.done on.rest past.others
     (rest_others on.rest part.done on.rise
     (subst (λ head. IfSome head
     (λ head. AllByRecursion (λ line. token_cmp line.token head ≡ Less) part.done)) on.head
     past.below))) in
-    All-from_recursion (λ (a : TokenLine). All (λ (b : TokenLine). a.token ≢ b.token) part.done) some
-    (each-weaker (λ (a : TokenLine). AllByRecursion (λ (b : TokenLine). a.token ≢ b.token) part.done)
+    All-from_recursion (λ (a : TokenLine). All (λ (b : TokenLine). a.token ≢ b.token) part.done)
+    some
+    (each-weaker
+    (λ (a : TokenLine). AllByRecursion (λ (b : TokenLine). a.token ≢ b.token) part.done)
     (λ (a : TokenLine). All (λ (b : TokenLine). a.token ≢ b.token) part.done) some
     (λ a others. All-from_recursion (λ (b : TokenLine). a.token ≢ b.token) part.done others) each)
 
@@ -211,7 +215,8 @@ twin_first texts files ats old now merging k twin are numbers (Line named number
         rest = found.going.left;
         shown = found.going.shown;
         number_is = λ front of_file.
-            let fronts = before_left file before front part.text.1 (text_of part.done ++ part.at.line)
+            let fronts = before_left file before front part.text.1
+            (text_of part.done ++ part.at.line)
             at_line.rest left whole of_file
             (found.going.shown ∙ ap (λ text. text_of part.done ++ text) at_line.shown
             ∙ sym (append_assoc (text_of part.done) part.at.line at_line.rest)) lefts in
@@ -234,7 +239,8 @@ twin_first texts files ats old now merging k twin are numbers (Line named number
             first_there = first.there;
             shared = has_token first.part token first.going first.token_is part.at.line;
             none_before = λ other one some below there text.
-                let (p, p_there, text_is) = at_map (λ (part : Part). part.text) merging.parts other one
+                let (p, p_there, text_is) =
+                at_map (λ (part : Part). part.text) merging.parts other one
                 (subst (λ texts. slice_get texts other ≡ Some one) (sym merging.of_texts) there) in
                 past_others p part
                 (merging.past other k p part (λ e. absurd (omega (arith, e, below))) p_there

@@ -1,6 +1,7 @@
 -- The first wrong line of a ledger.
 use Rattle.std.proofs.Common.{◌≡◌, ◌≢◌, ◌∙◌, ◌⊎◌, ◌+◌, ◌-◌, ◌^◌, ◌<◌, ℕ, zero, suc, List, [], ◌∷◌}
-use Rattle.std.proofs.Common.{◌++◌, Option, Some, None, append-nil, append_assoc, arith, ap, inl, inr}
+use Rattle.std.proofs.Common.{◌++◌, Option, Some, None, append-nil, append_assoc, arith, ap, inl}
+use Rattle.std.proofs.Common.{inr}
 use Rattle.std.proofs.Common.{length, map, refl, subst, sym}
 use Rattle.std.specs.Prelude.{All, Err, IfErr, IfOk, IfSome, Ok, Result, min, slice_get}
 use Rattle.std.specs.Io.BufRead.{drop_through, take_through}
@@ -11,7 +12,8 @@ use Rattle.fare_texts.specs.LedgerLines.{head_text}
 use Rattle.tap_views.specs.declared.token.Token.{Token}
 use Rattle.tap_views.proofs.Lists.{each-back}
 use Rattle.part_reports.specs.Faults.{IsOfTaps, IsOfTexts}
-use Rattle.part_reports.specs.Ledgers.{GoesWrongAt, IsFirstSharedAt, IsLedgerEntryLine, IsPartLedger}
+use Rattle.part_reports.specs.Ledgers.{GoesWrongAt, IsFirstSharedAt, IsLedgerEntryLine}
+use Rattle.part_reports.specs.Ledgers.{IsPartLedger}
 use Rattle.part_reports.specs.Ledgers.{NamesFirstWrongLine, ledger_text}
 use Rattle.part_reports.specs.TokenLines.{HaveOtherTokens, TokenLine, text_of}
 use Rattle.part_reports.specs.inside.BegunLedgers.{AreBegunLedgers, IsBegunLedger, IsOfFirstLines}
@@ -266,7 +268,8 @@ pub merged_first : (files : List (List ℕ)) (known : List (Option (List ℕ))) 
 merged_first files known ats numbers (Line named number wrong) same are numbered no_taps first =
     let behind = lefts_of files known ats same are in
     let texts : List (LineKind × List ℕ) = map (λ (left : List ℕ). (Entries, left)) behind.lefts in
-    let (place, there, at) = first texts files behind.sources (begun_counted files known ats same are)
+    let (place, there, at) =
+    first texts files behind.sources (begun_counted files known ats same are)
     in
     names_first files behind.lefts place number behind.shown at named (numbered place named there)
 merged_first files known ats numbers (Taps reports uploads) same are numbered no_taps first =
@@ -301,7 +304,8 @@ pub second_wrong : (file : List ℕ) (now : Option (List ℕ)) (lines : ℕ) (fa
 second_wrong file now lines (Line named number wrong) left whole first is =
     let rest = drop_through 10 file in
     let wrong : IsWrongLine Entries None (take_through 10 rest) =
-    MatchOption-at_some (Unit {0}) (λ left. IsWrongLine Entries None (take_through 10 left)) rest left
+    MatchOption-at_some (Unit {0}) (λ left. IsWrongLine Entries None (take_through 10 left)) rest
+    left
     is.1 in
     inr (record {
       lines = [];
@@ -312,7 +316,8 @@ second_wrong file now lines (Line named number wrong) left whole first is =
       number_is = let number_is = is.0 in omega (arith, number_is, first);
       wrong = λ line text ledger.
           let each = recursion_from_All IsLedgerEntryLine (line ∷ []) ledger.each in
-          subst (IsWrongLine Entries None) (sym text) wrong Entries (Some line.token) (each.0, tt) tt;
+          subst (IsWrongLine Entries None) (sym text) wrong Entries (Some line.token) (each.0, tt)
+          tt;
     })
 second_wrong file now lines (Taps reports uploads) left whole first is = tt
 second_wrong file now lines (Unread named) left whole first is = tt
@@ -329,7 +334,8 @@ first_lines front back file files text (Line named number wrong) are place of fi
     inl (
       known,
       subst (λ text. slice_get files text ≡ Some known) (sym (of ∙ place)) there,
-      MatchOption-at_some (Unit {0}) (λ file. IsOfFirstLines file (Line named number wrong)) known is
+      MatchOption-at_some (Unit {0}) (λ file. IsOfFirstLines file (Line named number wrong)) known
+          is
           first,
     )
 first_lines front back file files text (Taps reports uploads) are place of first = absurd of
