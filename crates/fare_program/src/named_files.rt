@@ -1,8 +1,8 @@
 //! Named files that are read while their taps are settled.
-ghost use Rattle.std.specs.Prelude.{◌≡◌, None, IfErr, IfOk, IfSome, length};
+ghost use Rattle.std.specs.Prelude.{◌≡◌, None, IfErr, IfOk, IfSome, OnErr, length};
 ghost use Rattle.std.specs.Io.KnownBytes.{Keeps};
 ghost use Rattle.fare_program.specs.inside.Options.{asked_of};
-ghost use Rattle.fare_program.specs.inside.ChargedAhead.{IsChargedAhead};
+ghost use Rattle.fare_program.specs.inside.ChargedAhead.{IsBegunAhead, IsChargedAhead};
 
 use crate::fault::Fault;
 use crate::files_ahead::{Amount, Disk};
@@ -107,6 +107,8 @@ pub(crate) fn charge_ahead<'a, R: Threads + RandomSource + Sync, D: Disk + Sync,
     ensures none { IfOk result (λ done. done ≡ None
         → Keeps (W.contents out.old) (W.contents out.new)) }
     ensures fault { IfErr result (λ fault. fault ≡ Fault.Write) }
+    ensures begun { OnErr result (IsBegunAhead (asked_of options.now) keeps_loads table.now token
+        (W.contents out.old) (W.contents out.new)) }
 {
     if !options.settle || options.list || keeps_loads || options.files.is_empty() {
         return Ok(None);
