@@ -1,5 +1,8 @@
 pub mod Corrections
 pub mod Fault
 pub mod Merge
+pub mod MergeLedgers
+pub mod Names
+pub mod Output
 pub mod Source
 pub mod inside
