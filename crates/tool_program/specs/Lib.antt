@@ -3,6 +3,5 @@ pub mod Fault
 pub mod Merge
 pub mod MergeLedgers
 pub mod Names
-pub mod Output
 pub mod Source
 pub mod inside

@@ -1,6 +1,6 @@
 //! Where a text goes, and why it cannot go there.
-ghost use Rattle.std.specs.Prelude.{◌≡◌, None, Some};
-ghost use Rattle.tool_program.specs.Output.{IsNoted};
+ghost use Rattle.std.specs.Prelude.{◌≡◌, ◌↔◌, None, Some};
+ghost use Rattle.std.specs.IoError.{error_kind};
 
 use std::io;
 use std::io::{ErrorKind, Write};
@@ -17,7 +17,8 @@ pub enum WriteEnd {
 impl WriteEnd {
     /// Why a write failed with this error.
     fn of(error: &io::Error) -> WriteEnd
-        ensures { IsNoted error.now (Some result) }
+        ensures { (error_kind error.now ≡ ErrorKind.BrokenPipe)
+            ↔ (Some result ≡ Some WriteEnd.Closed) }
     {
         if error.kind() == ErrorKind::BrokenPipe {
             WriteEnd::Closed
@@ -53,10 +54,10 @@ impl<W: Write + Drop> Output<W> {
 }
 
 impl<W: Write + Drop> Write for Output<W> {
-    ghost use Rattle.std.specs.Prelude.{◌≡◌, IfErr, IfOk};
+    ghost use Rattle.std.specs.Prelude.{◌≡◌, ◌≢◌, ◌↔◌, IfErr, IfOk, None, Some};
     ghost use Rattle.std.specs.Io.KnownBytes.{Keeps, WriteAppends};
     ghost use Rattle.std.specs.Io.{WritesAtMost};
-    ghost use Rattle.tool_program.specs.Output.{IsNoted};
+    ghost use Rattle.std.specs.IoError.{error_kind};
 
     ghost contents = { λ out. W.contents out.inner };
 
@@ -66,7 +67,9 @@ impl<W: Write + Drop> Write for Output<W> {
             bytes.now }
         // That a write failed is noted only of one that did.
         ensures well { IfOk result (λ _. self.new.end ≡ self.old.end) }
-        ensures failed { IfErr result (λ error. IsNoted error self.new.end) }
+        ensures noted { IfErr result (λ _. self.new.end ≢ None) }
+        ensures failed { IfErr result (λ error. (error_kind error ≡ ErrorKind.BrokenPipe)
+            ↔ (self.new.end ≡ Some WriteEnd.Closed)) }
     {
         match self.inner.write(bytes) {
             Ok(count) => Ok(count),
@@ -80,7 +83,9 @@ impl<W: Write + Drop> Write for Output<W> {
     fn flush(&mut self) -> io::Result<()>
         ensures bytes { Keeps (W.contents self.old.inner) (W.contents self.new.inner) }
         ensures well { IfOk result (λ _. self.new.end ≡ self.old.end) }
-        ensures failed { IfErr result (λ error. IsNoted error self.new.end) }
+        ensures noted { IfErr result (λ _. self.new.end ≢ None) }
+        ensures failed { IfErr result (λ error. (error_kind error ≡ ErrorKind.BrokenPipe)
+            ↔ (self.new.end ≡ Some WriteEnd.Closed)) }
     {
         match self.inner.flush() {
             Ok(()) => Ok(()),
