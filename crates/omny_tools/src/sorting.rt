@@ -209,7 +209,11 @@ fn make_ends<'a>(
 }
 
 /// Tells the layout fault of each upload that has one. Says whether none has.
-fn tell_refused<E: Write>(words: &SortWords<'_>, ends: &[UploadEnd], err: &mut Complaints<E>) -> bool {
+fn tell_refused<E: Write>(
+    words: &SortWords<'_>,
+    ends: &[UploadEnd],
+    err: &mut Complaints<E>,
+) -> bool {
     let mut is_well = true;
     for (number, end) in ends.iter().enumerate() {
         if let UploadEnd::Refused { offset, fault, .. } = end {

@@ -6,8 +6,8 @@ use crate::encode_words::{EncodeMistake, EncodeWords, RowsWords, encode_command,
 use crate::list_words::has_input_twice;
 use crate::look_words::{LookMistake, LookWords, asks_for_look, look_words, uploads_command};
 use crate::part_words::{
-    LedgerWords, MergeWords, merge_command, merge_ledgers_command, merge_ledgers_words, merge_words,
-    split_command, split_words,
+    LedgerWords, MergeWords, merge_command, merge_ledgers_command, merge_ledgers_words,
+    merge_words, split_command, split_words,
 };
 use crate::sorting::{SortWords, sort_command, sort_words};
 use crate::splitting::SplitWords;

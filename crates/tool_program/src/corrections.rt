@@ -150,9 +150,7 @@ fn warn<E: Write>(ledgers: &CorrectedLedgers<'_>, removed: u64, err: &mut Compla
     if removed > 0 {
         let old = Name(ledgers.old);
         let new = Name(ledgers.new);
-        err.tell_line(format_args!(
-            "warning: {new}: missing lines of {old}: {removed}"
-        ));
+        err.tell_line(format_args!("warning: {new}: missing lines of {old}: {removed}"));
     }
 }
 
