@@ -19,7 +19,7 @@
 //! | `making` | files that are made whole |
 //! | `part_words` | the command lines of `split`, `merge` and `merge-ledgers` |
 //! | `correcting` | the command line of `corrections` |
-//! | `texts` | texts of the system, for `merge`, `merge-ledgers` and `corrections` of `tool_program` |
+//! | `texts` | texts of the system, for the subcommands of `tool_program` |
 //! | `table` | `table` |
 //! | `tasks` | the whole, from the words to the status |
 #![tactic(auto)]

@@ -33,8 +33,8 @@ pub record MergesReports (ends reports : List (List ℕ)) (told told' : Option (
   pub opened : OpensBoth ends reports told told' end_texts report_texts
   pub writes : WritesReport end_texts report_texts out out' are_posted
 
--- The fault is the right one of texts that were opened under these words, those of the ends first: a
--- line of a text that is wrong, at the place of the word that is named; the taps of the texts; a
+-- The fault is the right one of texts that were opened under these words, those of the ends first:
+-- a line of a text that is wrong, at the place of the word that is named; the taps of the texts; a
 -- text that could not be read to its end; a write that failed, as the writer remembers it. Memory
 -- may be refused at any time.
 abbrev pub IsRightMergeFault : List (List ℕ) → List (List ℕ) → List (List ℕ) → Option WriteEnd

@@ -15,8 +15,8 @@ use Rattle.tool_program.specs.declared.fault.Fault.TheVariants.{Write}
 use Rattle.tool_program.specs.declared.output.WriteEnd.{WriteEnd}
 use Rattle.tool_program.specs.declared.output.WriteEnd.TheVariants as writes
 
--- The text is the ledger of the whole, of these ledgers of parts. If there is a report for each, the
--- lines of each ledger add up to its report.
+-- The text is the ledger of the whole, of these ledgers of parts. If there is a report for each,
+-- the lines of each ledger add up to its report.
 abbrev pub IsWholeLedger : List (List ℕ) → List (List ℕ) → List ℕ → Type 0
 IsWholeLedger ledgers reports text = MatchBool (nat_eq (length reports) (length ledgers))
     (IsMergedWithReports ledgers reports text) (IsMergedLedger ledgers text)
@@ -44,13 +44,15 @@ NamesWrongText false words ledger_texts word =
     (place : ℕ) × (slice_get words place ≡ Some word) × IsWrongLedgerAt ledger_texts place
 
 -- The fault is the right one of texts that were opened under these words, those of the ledgers
--- first: a line is refused only if no text is the ledger of the whole; a text that could not be read
--- to its end; a write that failed, as the writer remembers it. Memory may be refused at any time.
+-- first: a line is refused only if no text is the ledger of the whole; a text that could not be
+-- read to its end; a write that failed, as the writer remembers it. Memory may be refused at any
+-- time.
 abbrev pub IsRightLedgersFault : List (List ℕ) → List (List ℕ) → List (List ℕ)
     → Option WriteEnd → Fault → Type 0
 IsRightLedgersFault words ledger_texts report_texts end (Line word number why) =
     ((text : List ℕ) → ¬ (IsWholeLedger ledger_texts report_texts text))
-    × NamesWrongText (nat_eq (length report_texts) (length ledger_texts)) words ledger_texts word.now
+    × NamesWrongText (nat_eq (length report_texts) (length ledger_texts)) words ledger_texts
+    word.now
 IsRightLedgersFault words ledger_texts report_texts end (Unread word) =
     (place : ℕ) × (slice_get words place ≡ Some word.now)
 IsRightLedgersFault words ledger_texts report_texts end Write = end ≡ Some writes.Refused

@@ -156,8 +156,8 @@ fn warn<E: Write>(ledgers: &CorrectedLedgers<'_>, removed: u64, err: &mut Compla
 
 /// Writes the corrections from the old ledger to the new one, or their sums by token: opens both,
 /// `-` being standard input, and writes the text to `out`. Then says on `err` how many lines are
-/// removed, if there are such: the old ledger has them, and the new one does not. A fault is said on
-/// `err`, too. Gives the status: 0 if all is written, 1 after a fault.
+/// removed, if there are such: the old ledger has them, and the new one does not. A fault is said
+/// on `err`, too. Gives the status: 0 if all is written, 1 after a fault.
 pub fn corrections_over<S: Source, W: Write + Drop, E: Write>(
     alloc: Global,
     ledgers: &CorrectedLedgers<'_>,

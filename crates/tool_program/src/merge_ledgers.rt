@@ -114,8 +114,8 @@ fn merge_ledgers<'a, S: Source, W: Write + Drop>(
 
 /// Merges the ledgers of parts: opens the ledgers and then the reports that the words name, `-`
 /// being standard input. Writes the ledger of the whole to `out`, and a fault to `err`. If there is
-/// a report for each ledger, each ledger is compared with its own. Gives the status: 0 if the ledger
-/// is written, 1 after a fault.
+/// a report for each ledger, each ledger is compared with its own. Gives the status: 0 if the
+/// ledger is written, 1 after a fault.
 pub fn merge_ledgers_over<S: Source, W: Write + Drop, E: Write>(
     alloc: Global,
     ledgers: &[&str],

@@ -35,7 +35,8 @@ word_of old new New = new
 
 -- The second fault is the first one, with the word of the bill's ledger in place of the bill. Of a
 -- write it is what the writer remembers.
-abbrev pub IsCorrectionsFault : List ℕ → List ℕ → Option WriteEnd → CorrectionsFault → Fault → Type 0
+abbrev pub IsCorrectionsFault : List ℕ → List ℕ → Option WriteEnd → CorrectionsFault → Fault
+    → Type 0
 IsCorrectionsFault old new end (changes.Form bill number) (Line word line why) =
     (word.now ≡ word_of old new bill) × (why ≡ wrong.Form)
 IsCorrectionsFault old new end (changes.Order bill number) (Unsettled word line) =
