@@ -2,18 +2,19 @@
 
 use crate::fault::{Fault, say};
 use crate::input::{load, load_upload, plain_bytes, watch};
-use crate::names::Name;
-use crate::output::Output;
+use crate::output::failed;
 use crate::progress::Progress;
+use program_manners::Complaints;
 use std::alloc::Global;
 use std::io::{BufRead, Write};
 use tap_rows::RowsFault;
+use tool_program::{Name, Output};
 
 /// Why the file of this name was not turned into the other form.
 fn fault_of<'a, W: Write + Drop>(name: Name<'a>, fault: RowsFault, out: &Output<W>) -> Fault<'a> {
     match fault {
-        RowsFault::Write => out.failed(),
-        RowsFault::NoMemory => Fault::NoMemory,
+        RowsFault::Write => failed(out),
+        RowsFault::NoMemory => Fault::no_memory(),
         fault => Fault::TapTable(name, fault),
     }
 }
@@ -74,10 +75,10 @@ pub(crate) fn decode<'a, W: Write + Drop, E: Write>(
     rt: &HostRuntime,
     names: &[Name<'a>],
     out: &mut Output<W>,
-    err: &mut E,
+    err: &mut Complaints<E>,
 ) -> Result<bool, Fault<'a>> {
     if tap_rows::write_head(out).is_err() {
-        return Err(out.failed());
+        return Err(failed(out));
     }
     let mut progress = Progress::beside_text(rt);
     let mut is_well = true;

@@ -1,14 +1,8 @@
-//! `corrections`.
+//! The command line of `corrections`.
 
-use crate::fault::Fault;
-use crate::names::Name;
-use crate::output::Output;
-use crate::texts::{Texts, told_fault};
-use crate::words::subcommand;
-use clap::{ArgAction, ArgMatches, Command};
-use program_manners::{flag_arg, positional_arg};
+use crate::arguments::{Row, subcommand};
+use clap::{ArgMatches, Command};
 use std::alloc::{AllocError, Global};
-use std::io::Write;
 use tool_program::CorrectedLedgers;
 
 /// What the exit status of `corrections` says.
@@ -38,66 +32,27 @@ const NEW_HELP: &str = "The ledger of the bill that takes its place; - stands fo
 /// The help of `--tokens`.
 const TOKENS_HELP: &str = "Write the sums of each token's corrections in place of their lines";
 
-/// The two ledgers that corrections lead from and to, and what is written of them.
-#[derive(Drop)]
-pub(crate) struct CorrectionsWords<'a> {
-    /// The ledger of the bill that was issued.
-    pub(crate) old: Name<'a>,
-    /// The ledger of the bill that takes its place.
-    pub(crate) new: Name<'a>,
-    /// Whether the corrections are summed by token.
-    pub(crate) is_by_token: bool,
-}
-
 /// `corrections [--tokens] OLD NEW`
 pub(crate) fn corrections_command<'a>(alloc: Global) -> Result<Command<'a>, AllocError> {
-    let tokens = flag_arg(alloc, "tokens", TOKENS_HELP);
-    let old = positional_arg(alloc, "OLD", ArgAction::Set, OLD_HELP).required(true);
-    let new = positional_arg(alloc, "NEW", ArgAction::Set, NEW_HELP).required(true);
-    subcommand(alloc, "corrections", CORRECTIONS_ABOUT, CORRECTIONS_STATUS)
-        .arg(tokens)?
-        .arg(old)?
-        .arg(new)
+    let rows = [
+        Row::flag("tokens", TOKENS_HELP),
+        Row::word("OLD", OLD_HELP).needed(),
+        Row::word("NEW", NEW_HELP).needed(),
+    ];
+    subcommand(
+        alloc,
+        "corrections",
+        CORRECTIONS_ABOUT,
+        CORRECTIONS_STATUS,
+        &rows,
+    )
 }
 
 /// What `corrections` is asked for.
-pub(crate) fn corrections_words<'a>(matches: &ArgMatches<'a>) -> CorrectionsWords<'a> {
-    CorrectionsWords {
-        old: matches
-            .get_str("OLD")
-            .map_or(Name::input(), |word| Name(word)),
-        new: matches
-            .get_str("NEW")
-            .map_or(Name::input(), |word| Name(word)),
+pub(crate) fn corrections_words<'a>(matches: &ArgMatches<'a>) -> CorrectedLedgers<'a> {
+    CorrectedLedgers {
+        old: matches.get_str("OLD").unwrap_or("-"),
+        new: matches.get_str("NEW").unwrap_or("-"),
         is_by_token: matches.get_flag("tokens"),
     }
-}
-
-/// Writes the corrections from the old ledger to the new one, or their sums by token. Where lines
-/// are removed, tells how many on `err`.
-pub(crate) fn correct<'a, W: Write + Drop, E: Write>(
-    rt: &HostRuntime,
-    words: &CorrectionsWords<'a>,
-    out: &mut Output<W>,
-    err: &mut E,
-) -> Result<(), Fault<'a>> {
-    let ledgers = CorrectedLedgers {
-        old: words.old.0,
-        new: words.new.0,
-        is_by_token: words.is_by_token,
-    };
-    let removed = match tool_program::corrections_over(
-        rt.alloc(),
-        &ledgers,
-        &mut Texts::new(rt),
-        out,
-    ) {
-        Ok(removed) => removed,
-        Err(fault) => return Err(told_fault(fault, out)),
-    };
-    if removed > 0 {
-        let (old, new) = (words.old, words.new);
-        let _ = write!(err, "warning: {new}: missing lines of {old}: {removed}\n");
-    }
-    Ok(())
 }

@@ -1,11 +1,10 @@
 //! The command line of `encode`.
 
-use crate::names::Name;
-use crate::words::subcommand;
-use clap::{Arg, ArgAction, ArgMatches, Command};
-use program_manners::{option_arg, positional_arg};
+use crate::arguments::{Row, subcommand};
+use clap::{ArgMatches, Command};
 use std::alloc::{AllocError, Global};
 use tap_rows::{Choice, Condition, DeviceTable, Separator};
+use tool_program::Name;
 
 /// What the exit status of `encode` says.
 const ENCODE_STATUS: &str = "Exit status:
@@ -145,27 +144,18 @@ pub(crate) enum EncodeWords<'a> {
     Mistake(EncodeMistake),
 }
 
-/// An option that may be there more than once: `--NAME VALUE`.
-fn repeated_arg<'a>(alloc: Global, name: &'a str, value: &'a str, help: &'a str) -> Arg<'a> {
-    option_arg(alloc, name, value, help).action(ArgAction::Append)
-}
-
 /// `encode [--columns NAMES [--validators DEVICES] [--only COLUMN=VALUE]... [--separator S]
 /// [--refused OUT]] [FILE]`
 pub(crate) fn encode_command<'a>(alloc: Global) -> Result<Command<'a>, AllocError> {
-    let columns = option_arg(alloc, "columns", "NAMES", COLUMNS_HELP);
-    let validators = option_arg(alloc, "validators", "DEVICES", VALIDATORS_HELP);
-    let only = repeated_arg(alloc, "only", "COLUMN=VALUE", ONLY_HELP);
-    let separator = option_arg(alloc, "separator", "SEPARATOR", SEPARATOR_HELP);
-    let refused = option_arg(alloc, "refused", "OUT", REFUSED_HELP);
-    let file = positional_arg(alloc, "FILE", ArgAction::Set, ENCODE_HELP);
-    subcommand(alloc, "encode", ENCODE_ABOUT, ENCODE_STATUS)
-        .arg(columns)?
-        .arg(validators)?
-        .arg(only)?
-        .arg(separator)?
-        .arg(refused)?
-        .arg(file)
+    let rows = [
+        Row::option("columns", "NAMES", COLUMNS_HELP),
+        Row::option("validators", "DEVICES", VALIDATORS_HELP),
+        Row::repeated("only", "COLUMN=VALUE", ONLY_HELP),
+        Row::option("separator", "SEPARATOR", SEPARATOR_HELP),
+        Row::option("refused", "OUT", REFUSED_HELP),
+        Row::word("FILE", ENCODE_HELP),
+    ];
+    subcommand(alloc, "encode", ENCODE_ABOUT, ENCODE_STATUS, &rows)
 }
 
 /// The name that `--columns` gives a column.

@@ -1,11 +1,9 @@
 //! Why a task is given up.
 
 use crate::layout::{Cause, Remedy};
-use crate::names::Name;
 use crate::row_coding::{WrongDevices, WrongRows};
 use fare_table::TableFault;
-use part_reports::Wrong;
-use program_manners::LoadFault;
+use program_manners::{Complaints, LoadFault};
 use std::alloc::{AllocError, AllocFailed};
 use std::fmt;
 use std::io::Write;
@@ -13,14 +11,13 @@ use table_report::ReportFault;
 use tap_rows::{Column, RowsFault};
 use tap_views::{LayoutFault, NoMemory};
 use toml::de::Error as TomlError;
+use tool_program::{Fault as Common, Name};
 
 /// Why a task is given up. Its `Display` is the line on the standard error without its line feed.
 #[derive(Clone, Copy, Debug)]
 pub(crate) enum Fault<'a> {
-    /// The file could not be read.
-    Unread(Name<'a>),
-    /// The file is longer than an upload may be.
-    TooLong(Name<'a>),
+    /// Why a subcommand of `tool_program` may be given up, too.
+    Common(Common<'a>),
     /// The file is no tap table.
     TapTable(Name<'a>, RowsFault),
     /// The file is no CSV of the columns that are wanted, or one of its rows is no tap.
@@ -47,30 +44,29 @@ pub(crate) enum Fault<'a> {
     Exists(Name<'a>),
     /// The file could not be made.
     Unmade(Name<'a>),
-    /// The line of this number, in this text of a part, is wrong.
-    Line(Name<'a>, u64, Wrong),
-    /// The line of this number, in this ledger, belongs before the line before it.
-    Unsettled(Name<'a>, u64),
-    /// The reports of the parts have other taps than the uploads.
-    Taps(u128, u128),
     /// The file of this part, in this folder, could not be made.
     UnmadePart(Name<'a>, u32),
-    /// A write failed.
-    Write,
-    /// The reader of standard output is gone: nothing is said of it.
-    Closed,
-    /// A growth of memory was refused.
-    NoMemory,
 }
 
 impl<'a> Fault<'a> {
+    /// The file could not be read.
+    pub(crate) fn unread(name: Name<'a>) -> Fault<'a> {
+        Fault::Common(Common::Unread(name.0))
+    }
+
+    /// A growth of memory was refused.
+    pub(crate) fn no_memory() -> Fault<'a> {
+        Fault::Common(Common::NoMemory)
+    }
+
+    /// A write failed.
+    pub(crate) fn unwritten() -> Fault<'a> {
+        Fault::Common(Common::Write)
+    }
+
     /// Why the file of this name was not loaded.
     pub(crate) fn of_load(name: Name<'a>, fault: LoadFault) -> Fault<'a> {
-        match fault {
-            LoadFault::Unread => Fault::Unread(name),
-            LoadFault::TooLong => Fault::TooLong(name),
-            LoadFault::NoMemory => Fault::NoMemory,
-        }
+        Fault::Common(Common::of_load(name.0, fault))
     }
 
     /// Whether it is a layout fault of an upload: the next upload can follow.
@@ -79,28 +75,35 @@ impl<'a> Fault<'a> {
     }
 }
 
+impl<'a> From<Common<'a>> for Fault<'a> {
+    fn from(fault: Common<'a>) -> Self {
+        Fault::Common(fault)
+    }
+}
+
 impl From<AllocError> for Fault<'_> {
     fn from(_refused: AllocError) -> Self {
-        Fault::NoMemory
+        Fault::no_memory()
     }
 }
 
 impl<T: Drop> From<AllocFailed<T>> for Fault<'_> {
     fn from(_refused: AllocFailed<T>) -> Self {
-        Fault::NoMemory
+        Fault::no_memory()
     }
 }
 
 impl From<NoMemory> for Fault<'_> {
     fn from(_refused: NoMemory) -> Self {
-        Fault::NoMemory
+        Fault::no_memory()
     }
 }
 
-/// Writes the line of a fault. Where that fails too, nothing more can be said.
-pub(crate) fn say<E: Write>(err: &mut E, fault: &Fault<'_>) {
-    if !matches!(fault, Fault::Closed) {
-        let _ = write!(err, "{fault}\n");
+/// Writes the line of a fault, unless the reader of the text is gone.
+pub(crate) fn say<E: Write>(err: &mut Complaints<E>, fault: &Fault<'_>) {
+    match fault {
+        Fault::Common(fault) => tool_program::say(err, fault),
+        fault => err.tell_line(*fault),
     }
 }
 
@@ -119,34 +122,10 @@ impl fmt::Display for WrongRow {
     }
 }
 
-/// What is wrong with a line of a part's text.
-#[derive(Clone, Copy)]
-struct WrongLine(Wrong);
-
-impl fmt::Display for WrongLine {
-    fn fmt<W: fmt::Write>(&self, f: &mut fmt::Formatter<W>) -> fmt::Result {
-        f.write_str(match self.0 {
-            Wrong::Form => "no such line stands there",
-            Wrong::NotPosted => "the upload of a part was not posted",
-            Wrong::Order => "it does not come after the line before it",
-            Wrong::Twice => "its token is in two parts",
-            Wrong::Sums => "the sums are too large",
-            Wrong::Validators => "the validators do not add up to the totals",
-            Wrong::Tokens => "the tokens do not add up to the totals",
-            Wrong::MoreThanReport => "its token has more, up to it, than in the report",
-            Wrong::LessThanReport => "the token before it has less than in the report",
-            Wrong::OtherToken => "its token is not the next one of the report",
-            Wrong::MissingToken => "the ledger ends, and the report has one more token",
-            Wrong::OtherValidators => "the validators have other sums than in the report",
-        })
-    }
-}
-
 impl fmt::Display for Fault<'_> {
     fn fmt<W: fmt::Write>(&self, f: &mut fmt::Formatter<W>) -> fmt::Result {
         match self {
-            Fault::Unread(name) => write!(f, "fault: cannot read {name}"),
-            Fault::TooLong(name) => write!(f, "fault: {name} is too long"),
+            Fault::Common(fault) => fault.fmt(f),
             Fault::TapTable(name, fault) => match fault {
                 RowsFault::Head => {
                     write!(f, "fault: {name} line 1: it is not token,validator,moment")
@@ -181,28 +160,9 @@ impl fmt::Display for Fault<'_> {
             }
             Fault::Exists(name) => write!(f, "fault: {name} is there already"),
             Fault::Unmade(name) => write!(f, "fault: cannot make {name}"),
-            Fault::Line(name, number, wrong) => {
-                let wrong = WrongLine(*wrong);
-                write!(f, "fault: {name} line {number}: {wrong}")
-            }
-            Fault::Unsettled(name, number) => {
-                write!(
-                    f,
-                    "fault: {name} line {number}: out of order; is the ledger settled?"
-                )
-            }
-            Fault::Taps(reports, uploads) => {
-                write!(
-                    f,
-                    "fault: the reports have {reports} taps, the uploads {uploads}"
-                )
-            }
             Fault::UnmadePart(folder, part) => {
                 write!(f, "fault: cannot make {folder}/{part}.tap")
             }
-            Fault::Write => f.write_str("fault: cannot write"),
-            Fault::Closed => Ok(()),
-            Fault::NoMemory => f.write_str("fault: out of memory"),
         }
     }
 }

@@ -1,12 +1,12 @@
 //! Files and standard input.
 
 use crate::fault::Fault;
-use crate::names::Name;
 use crate::progress::{Progress, Watched};
 use program_manners::{Opened, load_file, load_from, open_file};
 use std::alloc::Global;
 use std::io::{BufReader, Input, Read};
 use std::{fs, io};
+use tool_program::Name;
 
 /// How many bytes one read of a file asks for.
 const READ_BYTES: usize = 65_536;
@@ -20,8 +20,8 @@ fn read_whole<'a, R: Read>(
     let mut bytes = Vec::new(alloc);
     match from.read_to_end(&mut bytes) {
         Ok(_) => Ok(bytes),
-        Err(error) if error.kind() == io::ErrorKind::OutOfMemory => Err(Fault::NoMemory),
-        Err(_) => Err(Fault::Unread(name)),
+        Err(error) if error.kind() == io::ErrorKind::OutOfMemory => Err(Fault::no_memory()),
+        Err(_) => Err(Fault::unread(name)),
     }
 }
 
@@ -42,7 +42,7 @@ pub(crate) fn open_placed<'a>(rt: &HostRuntime, name: Name<'a>) -> Result<fs::Fi
         Ok(file) => Ok(file),
         Err(error) => match error.raw_os_error() {
             Some(number) if TOO_MANY_OPEN.contains(&number) => Err(Fault::TooManyOpen(name)),
-            _ => Err(Fault::Unread(name)),
+            _ => Err(Fault::unread(name)),
         },
     }
 }
@@ -59,7 +59,7 @@ pub(crate) fn open_in_pieces<'a>(
     };
     match BufReader::with_capacity(rt.alloc(), READ_BYTES, opened) {
         Ok(reader) => Ok(reader),
-        Err(_) => Err(Fault::NoMemory),
+        Err(_) => Err(Fault::no_memory()),
     }
 }
 
@@ -75,7 +75,7 @@ pub(crate) fn watch<'a, 'r>(
     let watched = Watched::new(open(rt, name)?, progress, Some(bytes), verb);
     match BufReader::with_capacity(rt.alloc(), READ_BYTES, watched) {
         Ok(reader) => Ok(reader),
-        Err(_) => Err(Fault::NoMemory),
+        Err(_) => Err(Fault::no_memory()),
     }
 }
 

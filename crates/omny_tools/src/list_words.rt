@@ -1,21 +1,12 @@
 //! The list of files that the words name.
 
-use crate::names::{Escaped, Name};
 use crate::words::command;
+use clap::ArgMatches;
 use clap::error::ErrorKind;
-use clap::{Arg, ArgAction, ArgMatches};
-use program_manners::{ListFault, ListLine, ListWords, positional_arg};
-use std::alloc::{AllocError, Global};
+use program_manners::{Complaints, ListFault, ListLine, ListWords};
+use std::alloc::Global;
 use std::io::Write;
-
-/// Files as positional arguments, of which there is one at least, unless a list names files.
-pub(crate) fn files_or_list_arg<'a>(
-    alloc: Global,
-    name: &'a str,
-    help: &'a str,
-) -> Result<Arg<'a>, AllocError> {
-    positional_arg(alloc, name, ArgAction::Append, help).required_unless_present("files-from")
-}
+use tool_program::{Escaped, Name};
 
 /// Whether one of the names at these arguments stands for standard input.
 fn names_input(matches: &ArgMatches<'_>) -> bool {
@@ -69,14 +60,11 @@ fn list_words<'a>(
 }
 
 /// Says why the names of a list are not had, and gives the status.
-fn tell<E: Write>(alloc: Global, err: &mut E, line: ListLine<'_>) -> u8 {
-    let _ = match format!(in alloc; "{line}") {
-        Ok(text) => {
-            let shown = Escaped(&text);
-            write!(err, "{shown}\n")
-        }
-        Err(_) => write!(err, "fault: out of memory\n"),
-    };
+fn tell<E: Write>(alloc: Global, err: &mut Complaints<E>, line: ListLine<'_>) -> u8 {
+    match format!(in alloc; "{line}") {
+        Ok(text) => err.tell_line(Escaped(&text)),
+        Err(_) => err.tell_line("fault: out of memory"),
+    }
     line.status()
 }
 
@@ -85,7 +73,7 @@ fn tell<E: Write>(alloc: Global, err: &mut E, line: ListLine<'_>) -> u8 {
 pub(crate) fn words_with_list<E: Write>(
     rt: &HostRuntime,
     words: &[String],
-    err: &mut E,
+    err: &mut Complaints<E>,
 ) -> Result<Option<Vec<String>>, u8> {
     let (list, option) = match list_words(rt.alloc(), words) {
         Ok(None) => return Ok(None),

@@ -1,15 +1,37 @@
-//! The words of `uploads` that ask for a look at what an auditor fears.
+//! The command line of `uploads`, and the words that ask for a look at what an auditor fears.
 
-use crate::names::Name;
+use crate::arguments::{Row, subcommand};
 use crate::words::names_at;
-use clap::{Arg, ArgMatches, Command, value_parser};
+use clap::{ArgMatches, Command};
 use jiff::Timestamp;
-use program_manners::{flag_arg, option_arg};
 use std::alloc::{AllocError, Global};
 use tap_views::MomentSpan;
+use tool_program::Name;
 
 /// How many seconds at most a near double is later than the tap before it, if none are given.
 const WITHIN_SECONDS: u32 = 5;
+
+/// What `uploads` does.
+const UPLOADS_ABOUT: &str =
+    "Prints what uploads have: batches, taps, first and last moment, and the layout fault, if any,
+with its batch, its tap (both from 0), the offset of its batch in bytes, and what to do.
+
+Of an upload with a layout fault the part before it is printed, and the status is 1.
+
+With --look, or an option that says what to look for, the uploads are also searched for what an
+auditor fears. How much of each kind is found is printed, with the first of it. Nothing is
+changed or left out, and the status does not depend on what is found. All taps are in memory.";
+
+/// The help of `--tokens`.
+const TOKENS_HELP: &str =
+    "Print how many tokens each upload has, and how many of these another FILE has, too";
+
+/// The help of the uploads.
+const UPLOADS_HELP: &str = "Uploads of at most 67108864 bytes; - stands for standard input";
+
+/// The help of `--good-part`.
+const GOOD_PART_HELP: &str =
+    "Make the file OUT of the batches before the layout fault; it must not be there; needs one FILE";
 
 /// The help of `--look`.
 const LOOK_HELP: &str =
@@ -63,31 +85,26 @@ impl LookWords<'_> {
     }
 }
 
-/// An option that goes without `--good-part`.
-fn apart(arg: Arg<'_>) -> Result<Arg<'_>, AllocError> {
-    arg.conflicts_with("good-part")
-}
-
-/// `[--look] [--within S] [--from MOMENT] [--until MOMENT] [--table F] [--list]`
-pub(crate) fn add_look_args<'a>(
+/// `uploads [--good-part OUT] [--tokens] [LOOK]... [--files-from LIST [-0]] FILE...`, where LOOK is
+/// `--look`, `--within S`, `--from MOMENT`, `--until MOMENT`, `--table F` or `--list`. A look goes
+/// without `--good-part`.
+pub(crate) fn uploads_command<'a>(
     alloc: Global,
-    command: Command<'a>,
+    status: &'a str,
 ) -> Result<Command<'a>, AllocError> {
-    let look = apart(flag_arg(alloc, "look", LOOK_HELP))?;
-    let seconds = value_parser!(u32).range(0..=4_294_967);
-    let within = option_arg(alloc, "within", "S", WITHIN_HELP).value_parser(seconds);
-    let within = apart(within)?;
-    let from = apart(option_arg(alloc, "from", "MOMENT", FROM_HELP))?;
-    let until = apart(option_arg(alloc, "until", "MOMENT", UNTIL_HELP))?;
-    let table = apart(option_arg(alloc, "table", "F", TABLE_HELP))?;
-    let list = apart(flag_arg(alloc, "list", LIST_HELP))?.conflicts_with("tokens")?;
-    command
-        .arg(look)?
-        .arg(within)?
-        .arg(from)?
-        .arg(until)?
-        .arg(table)?
-        .arg(list)
+    let rows = [
+        Row::option("good-part", "OUT", GOOD_PART_HELP),
+        Row::flag("tokens", TOKENS_HELP),
+        Row::flag("look", LOOK_HELP).apart_from(&["good-part"]),
+        Row::number("within", "S", 0, 4_294_967, WITHIN_HELP).apart_from(&["good-part"]),
+        Row::option("from", "MOMENT", FROM_HELP).apart_from(&["good-part"]),
+        Row::option("until", "MOMENT", UNTIL_HELP).apart_from(&["good-part"]),
+        Row::option("table", "F", TABLE_HELP).apart_from(&["good-part"]),
+        Row::flag("list", LIST_HELP).apart_from(&["good-part", "tokens"]),
+        Row::list(),
+        Row::words("FILE", UPLOADS_HELP).needed_without_list(),
+    ];
+    subcommand(alloc, "uploads", UPLOADS_ABOUT, status, &rows)
 }
 
 /// Whether the words ask for a look: by `--look`, or by an option that says what for.

@@ -4,17 +4,18 @@ use crate::common_tokens::CommonTokens;
 use crate::fault::{Fault, say};
 use crate::input::load_upload;
 use crate::look_words::LookWords;
-use crate::names::Name;
-use crate::output::Output;
+use crate::output::put;
 use crate::progress::Progress;
 use crate::telling::{add_tokens, lines_of, no_tokens_yet, tell_tokens};
 use fare_table::{FareTable, TableFault};
 use fare_texts::{Digits, write_moment};
+use program_manners::Complaints;
 use std::alloc::{AllocError, Global};
 use std::io::Write;
 use std::marker::Sync;
 use std::thread::Threads;
 use tap_views::{TapFields, Token, facts_of};
+use tool_program::{Name, Output};
 use upload_checks::{Findings, SilentDay, find_silent_days, look};
 
 /// How many threads order taps.
@@ -34,7 +35,7 @@ fn table_of<'a>(rt: &HostRuntime, words: &LookWords<'a>) -> Result<Option<FareTa
     let bytes = load_upload(rt, name)?;
     match FareTable::read(rt.alloc(), &bytes) {
         Ok(table) => Ok(Some(table)),
-        Err(TableFault::NoMemory) => Err(Fault::NoMemory),
+        Err(TableFault::NoMemory) => Err(Fault::no_memory()),
         Err(fault) => Err(Fault::Table(name, fault)),
     }
 }
@@ -48,12 +49,12 @@ fn tell_upload<'a, W: Write + Drop, E: Write>(
     name: Name<'a>,
     upload: &[u8],
     out: &mut Output<W>,
-    err: &mut E,
+    err: &mut Complaints<E>,
 ) -> Result<bool, Fault<'a>> {
     let facts = facts_of(upload);
     if !words.has_list {
         let text = lines_of(alloc, number, name, &facts)?;
-        out.put(text.as_str())?;
+        put(out, text.as_str())?;
     } else if let Some((offset, fault)) = facts.fault {
         say(err, &Fault::Layout(name, offset, fault));
     }
@@ -70,7 +71,7 @@ fn load_each<'a, W: Write + Drop, E: Write>(
     common: &mut Option<CommonTokens>,
     progress: &mut Progress<'_>,
     out: &mut Output<W>,
-    err: &mut E,
+    err: &mut Complaints<E>,
 ) -> Result<Loaded, Fault<'a>> {
     let alloc = rt.alloc();
     let mut uploads = Vec::new(alloc);
@@ -208,7 +209,7 @@ fn list_outside<'a, W: Write + Drop>(
     for tap in taps {
         let mut text = String::new(alloc);
         push_found(&mut text, check, tap, None)?;
-        out.put(text.as_str())?;
+        put(out, text.as_str())?;
     }
     Ok(())
 }
@@ -222,7 +223,7 @@ fn list_taps<'a, W: Write + Drop>(
     for double in &found.doubles {
         let mut text = String::new(alloc);
         push_found(&mut text, "double", &double.tap, Some(double.earlier))?;
-        out.put(text.as_str())?;
+        put(out, text.as_str())?;
     }
     list_outside(alloc, "before", &found.before, out)?;
     list_outside(alloc, "after", &found.after, out)
@@ -236,7 +237,7 @@ fn list_all<'a, W: Write + Drop>(
     silent: Option<&[SilentDay]>,
     out: &mut Output<W>,
 ) -> Result<(), Fault<'a>> {
-    out.put(HEAD_LINE)?;
+    put(out, HEAD_LINE)?;
     list_taps(alloc, found, out)?;
     for repeat in &found.repeated {
         let mut text = String::new(alloc);
@@ -249,7 +250,7 @@ fn list_all<'a, W: Write + Drop>(
             push_name(&mut text, alloc, *name)?;
         }
         text.push_str("\n")?;
-        out.put(text.as_str())?;
+        put(out, text.as_str())?;
     }
     if let Some(silent) = silent {
         for one in silent {
@@ -257,7 +258,7 @@ fn list_all<'a, W: Write + Drop>(
             let mut text = format!(in alloc; "silent,,,{validator},,")?;
             push_day(&mut text, alloc, one.day)?;
             text.push_str(",,\n")?;
-            out.put(text.as_str())?;
+            put(out, text.as_str())?;
         }
     }
     Ok(())
@@ -270,7 +271,7 @@ pub(crate) fn look_at<'a, R: Threads + Sync, W: Write + Drop, E: Write>(
     rt: &HostRuntime,
     words: &LookWords<'a>,
     out: &mut Output<W>,
-    err: &mut E,
+    err: &mut Complaints<E>,
 ) -> Result<bool, Fault<'a>> {
     let alloc = rt.alloc();
     let table = table_of(rt, words)?;
@@ -294,7 +295,7 @@ pub(crate) fn look_at<'a, R: Threads + Sync, W: Write + Drop, E: Write>(
         list_all(alloc, words, &found, silent, out)?;
     } else {
         let text = counts_of(alloc, words, &found, silent)?;
-        out.put(text.as_str())?;
+        put(out, text.as_str())?;
     }
     Ok(is_well)
 }

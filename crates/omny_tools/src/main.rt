@@ -5,7 +5,7 @@
 //! |---|---|
 //! | `words` | the command line, as `clap` reads it |
 //! | `list_words` | the list of files that the words name |
-//! | `names` | the names of files, as they are shown and opened |
+//! | `arguments` | the arguments of a subcommand, as rows of a table |
 //! | `input`, `output` | files and standard input; standard output |
 //! | `progress` | how far a long run is, on a terminal |
 //! | `fault` | why a task is given up, and the line that says so |
@@ -13,18 +13,18 @@
 //! | `coding` | `encode` and `decode` |
 //! | `encode_words`, `row_coding` | `encode` of an agency's own CSV |
 //! | `telling`, `common_tokens` | `uploads` |
-//! | `look_words`, `looking` | what `uploads` looks for |
+//! | `look_words`, `looking` | the words of `uploads`, and what it looks for |
 //! | `splitting` | `split` |
 //! | `sorting` | `sort` |
 //! | `making` | files that are made whole |
-//! | `merging` | `merge` and `merge-ledgers` |
 //! | `part_words` | the command lines of `split`, `merge` and `merge-ledgers` |
-//! | `correcting` | `corrections` |
-//! | `texts` | texts of the system, for the subcommands that are in `tool_program` |
+//! | `correcting` | the command line of `corrections` |
+//! | `texts` | texts of the system, for the subcommands of `tool_program` |
 //! | `table` | `table` |
 //! | `tasks` | the whole, from the words to the status |
 #![tactic(auto)]
 
+mod arguments;
 mod coding;
 mod common_tokens;
 mod correcting;
@@ -36,8 +36,6 @@ mod list_words;
 mod look_words;
 mod looking;
 mod making;
-mod merging;
-mod names;
 mod output;
 mod part_words;
 mod progress;
@@ -57,10 +55,10 @@ use tasks::run;
 
 /// The program.
 fn main(rt: HostRuntime) -> ExitCode {
-    let mut err = rt.stderr();
+    let mut err = Complaints::new(rt.stderr());
     let words = match words_of(&rt) {
         Ok(words) => words,
-        Err(fault) => return ExitCode::from(unread_words(&fault, &mut Complaints::new(err))),
+        Err(fault) => return ExitCode::from(unread_words(&fault, &mut err)),
     };
     let status = match words_with_list(&rt, &words, &mut err) {
         Ok(more) => run(&rt, &rt, &more.unwrap_or(words), &mut err),

@@ -1,9 +1,9 @@
 //! Files that are made whole.
 
 use crate::fault::Fault;
-use crate::names::Name;
 use std::io::Write;
 use std::{fs, io};
+use tool_program::Name;
 
 /// A file that is being made under another name, so that a file of its own name is whole.
 #[derive(Drop)]

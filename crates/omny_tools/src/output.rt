@@ -1,78 +1,32 @@
 //! Standard output.
 
 use crate::fault::Fault;
-use std::alloc::Global;
-use std::io;
-use std::io::{BufWriter, ErrorKind, Write};
+use std::io::{BufWriter, Write};
+use tool_program::{Fault as Common, Output};
 
 /// How many bytes are collected before they are written.
 const WRITE_BYTES: usize = 65_536;
 
-/// A writer that remembers whether a write failed because the reader is gone.
-#[derive(Drop)]
-pub(crate) struct Output<W: Write + Drop> {
-    /// What is collected, and the writer that it goes to.
-    inner: BufWriter<W>,
-    /// Whether the reader is gone.
-    is_closed: bool,
-}
-
-impl<W: Write + Drop> Output<W> {
-    /// Collects what is written to this writer.
-    pub(crate) fn new<'a>(alloc: Global, inner: W) -> Result<Output<W>, Fault<'a>> {
-        match BufWriter::with_capacity(alloc, WRITE_BYTES, inner) {
-            Ok(inner) => Ok(Output {
-                inner,
-                is_closed: false,
-            }),
-            Err(_) => Err(Fault::NoMemory),
-        }
-    }
-
-    /// Collects a text, and writes what was collected where that is much.
-    pub(crate) fn put<'a>(&mut self, text: &str) -> Result<(), Fault<'a>> {
-        match self.write_all(text.as_bytes()) {
-            Ok(()) => Ok(()),
-            Err(_) => Err(self.failed()),
-        }
-    }
-
-    /// Writes and flushes what was collected. Returns why this write or an earlier one failed.
-    pub(crate) fn finish<'a>(&mut self) -> Result<(), Fault<'a>> {
-        match self.flush() {
-            Ok(()) => Ok(()),
-            Err(_) => Err(self.failed()),
-        }
-    }
-
-    /// Why a write failed.
-    pub(crate) fn failed<'a>(&self) -> Fault<'a> {
-        if self.is_closed {
-            Fault::Closed
-        } else {
-            Fault::Write
-        }
+/// Collects what is written to this writer.
+pub(crate) fn collect<'a, W: Write + Drop>(
+    rt: &HostRuntime,
+    to: W,
+) -> Result<Output<BufWriter<W>>, Fault<'a>> {
+    match BufWriter::with_capacity(rt.alloc(), WRITE_BYTES, to) {
+        Ok(collected) => Ok(Output::new(collected)),
+        Err(_) => Err(Fault::Common(Common::NoMemory)),
     }
 }
 
-impl<W: Write + Drop> Write for Output<W> {
-    fn write(&mut self, bytes: &[u8]) -> io::Result<usize> {
-        match self.inner.write(bytes) {
-            Ok(count) => Ok(count),
-            Err(error) => {
-                self.is_closed = error.kind() == ErrorKind::BrokenPipe;
-                Err(error)
-            }
-        }
-    }
+/// Why a write failed.
+pub(crate) fn failed<'a, W: Write + Drop>(out: &Output<W>) -> Fault<'a> {
+    Fault::Common(Common::of_write(out.end()))
+}
 
-    fn flush(&mut self) -> io::Result<()> {
-        match self.inner.flush() {
-            Ok(()) => Ok(()),
-            Err(error) => {
-                self.is_closed = error.kind() == ErrorKind::BrokenPipe;
-                Err(error)
-            }
-        }
+/// Writes a text.
+pub(crate) fn put<'a, W: Write + Drop>(out: &mut Output<W>, text: &str) -> Result<(), Fault<'a>> {
+    match out.write_all(text.as_bytes()) {
+        Ok(()) => Ok(()),
+        Err(_) => Err(failed(out)),
     }
 }

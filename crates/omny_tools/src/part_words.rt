@@ -1,13 +1,12 @@
 //! The command lines of `split`, `merge` and `merge-ledgers`.
 
-use crate::list_words::files_or_list_arg;
-use crate::merging::{LedgerWords, MergeWords};
-use crate::names::Name;
-use crate::splitting::SplitWords;
-use crate::words::{names_at, subcommand};
-use clap::{ArgMatches, Command, value_parser};
-use program_manners::{add_list_args, files_arg, option_arg};
+use crate::arguments::{Row, subcommand};
+use crate::splitting::{MAX_PARTS, SplitWords};
+use crate::words::names_at;
+use clap::{ArgMatches, Command};
+use program_manners::names_in;
 use std::alloc::{AllocError, Global};
+use tool_program::Name;
 
 /// What the exit status of `split` says.
 const SPLIT_STATUS: &str = "Exit status:
@@ -87,19 +86,14 @@ const LEDGER_REPORTS_HELP: &str =
 
 /// `split --parts N --part-files DIR [--first K] [--files-from LIST [-0]] FILE...`
 pub(crate) fn split_command<'a>(alloc: Global) -> Result<Command<'a>, AllocError> {
-    let parts = option_arg(alloc, "parts", "N", PARTS_HELP)
-        .value_parser(value_parser!(u32).range(1..=65_535))
-        .required(true);
-    let folder = option_arg(alloc, "part-files", "DIR", PART_FILES_HELP).required(true);
-    let first = option_arg(alloc, "first", "K", FIRST_HELP)
-        .value_parser(value_parser!(u32))
-        .default_value("0");
-    let file = files_or_list_arg(alloc, "FILE", UPLOADS_HELP)?;
-    let command = subcommand(alloc, "split", SPLIT_ABOUT, SPLIT_STATUS)
-        .arg(parts)?
-        .arg(folder)?
-        .arg(first)?;
-    add_list_args(alloc, command)?.arg(file)
+    let rows = [
+        Row::number("parts", "N", 1, MAX_PARTS, PARTS_HELP).needed(),
+        Row::option("part-files", "DIR", PART_FILES_HELP).needed(),
+        Row::number("first", "K", 0, u32::MAX, FIRST_HELP).or_default("0"),
+        Row::list(),
+        Row::words("FILE", UPLOADS_HELP).needed_without_list(),
+    ];
+    subcommand(alloc, "split", SPLIT_ABOUT, SPLIT_STATUS, &rows)
 }
 
 /// What `split` is asked for.
@@ -111,7 +105,7 @@ pub(crate) fn split_words<'a>(
         parts: matches.get_one("parts").unwrap_or(1),
         folder: matches
             .get_str("part-files")
-            .map_or(Name::here(), |word| Name(word)),
+            .map_or(Name("."), |word| Name(word)),
         first: matches.get_one("first").unwrap_or(0),
         uploads: names_at(alloc, matches, "FILE")?,
     })
@@ -119,26 +113,46 @@ pub(crate) fn split_words<'a>(
 
 /// `merge --ends FILE... --reports FILE... [--files-from LIST [-0]]`
 pub(crate) fn merge_command<'a>(alloc: Global) -> Result<Command<'a>, AllocError> {
-    let ends = files_arg(alloc, "ends", ENDS_HELP).required(true);
-    let reports = files_arg(alloc, "reports", REPORTS_HELP).required_unless_present("files-from")?;
-    let command = subcommand(alloc, "merge", MERGE_ABOUT, MERGE_STATUS)
-        .arg(ends)?
-        .arg(reports)?;
-    add_list_args(alloc, command)
+    let rows = [
+        Row::files("ends", ENDS_HELP).needed(),
+        Row::files("reports", REPORTS_HELP).needed_without_list(),
+        Row::list(),
+    ];
+    subcommand(alloc, "merge", MERGE_ABOUT, MERGE_STATUS, &rows)
 }
 
 /// `merge-ledgers [--files-from LIST [-0]] FILE... [--reports FILE...]`
 pub(crate) fn merge_ledgers_command<'a>(alloc: Global) -> Result<Command<'a>, AllocError> {
-    let reports = files_arg(alloc, "reports", LEDGER_REPORTS_HELP);
-    let file = files_or_list_arg(alloc, "FILE", LEDGERS_HELP)?;
-    let command = subcommand(
+    let rows = [
+        Row::files("reports", LEDGER_REPORTS_HELP),
+        Row::list(),
+        Row::words("FILE", LEDGERS_HELP).needed_without_list(),
+    ];
+    subcommand(
         alloc,
         "merge-ledgers",
         MERGE_LEDGERS_ABOUT,
         MERGE_LEDGERS_STATUS,
+        &rows,
     )
-    .arg(reports)?;
-    add_list_args(alloc, command)?.arg(file)
+}
+
+/// The files of the uploads' ends, and the reports of the parts.
+#[derive(Drop)]
+pub(crate) struct MergeWords<'a> {
+    /// The files of the uploads' ends.
+    pub(crate) ends: Vec<&'a str>,
+    /// The reports of the parts.
+    pub(crate) reports: Vec<&'a str>,
+}
+
+/// The ledgers of the parts, and their reports.
+#[derive(Drop)]
+pub(crate) struct LedgerWords<'a> {
+    /// The ledgers of the parts.
+    pub(crate) ledgers: Vec<&'a str>,
+    /// The report of each part, in the order of the ledgers; none if nothing is compared.
+    pub(crate) reports: Vec<&'a str>,
 }
 
 /// What `merge` is asked for.
@@ -147,8 +161,8 @@ pub(crate) fn merge_words<'a>(
     matches: &ArgMatches<'a>,
 ) -> Result<MergeWords<'a>, AllocError> {
     Ok(MergeWords {
-        ends: names_at(alloc, matches, "ends")?,
-        reports: names_at(alloc, matches, "reports")?,
+        ends: names_in(alloc, matches, "ends")?,
+        reports: names_in(alloc, matches, "reports")?,
     })
 }
 
@@ -158,7 +172,7 @@ pub(crate) fn merge_ledgers_words<'a>(
     matches: &ArgMatches<'a>,
 ) -> Result<LedgerWords<'a>, AllocError> {
     Ok(LedgerWords {
-        ledgers: names_at(alloc, matches, "FILE")?,
-        reports: names_at(alloc, matches, "reports")?,
+        ledgers: names_in(alloc, matches, "FILE")?,
+        reports: names_in(alloc, matches, "reports")?,
     })
 }

@@ -3,9 +3,9 @@
 use crate::encode_words::RowsWords;
 use crate::fault::Fault;
 use crate::input::{load, load_upload, open_in_pieces, plain_bytes, watch};
-use crate::names::{Escaped, Name};
-use crate::output::Output;
+use crate::output::failed;
 use crate::telling::push_moment;
+use program_manners::Complaints;
 use std::alloc::{AllocError, Global};
 use std::hash::RandomState;
 use std::io::{BufWriter, ErrorKind, Write};
@@ -14,6 +14,7 @@ use tap_rows::{
     AgencyFault, Choice, DeviceTable, DevicesFault, Reason, Separator, Summary, Wanted,
     WrongDevice, encode_rows, encode_some_rows, read_devices,
 };
+use tool_program::{Escaped, Name, Output, finish};
 
 /// What is wrong with an agency's CSV.
 #[derive(Clone, Copy, Debug)]
@@ -90,7 +91,7 @@ fn load_devices<'a>(
 ) -> Result<DeviceTable, Fault<'a>> {
     let text = load_upload(rt, name)?;
     let Ok(seed) = RandomState::new(rt) else {
-        return Err(Fault::NoMemory);
+        return Err(Fault::no_memory());
     };
     match read_devices(rt.alloc(), seed, separator, &text) {
         Ok(devices) => Ok(devices),
@@ -98,7 +99,7 @@ fn load_devices<'a>(
         Err(DevicesFault::Row { number, wrong }) => {
             Err(Fault::Devices(name, WrongDevices::Row(number, wrong)))
         }
-        Err(DevicesFault::NoMemory) => Err(Fault::NoMemory),
+        Err(DevicesFault::NoMemory) => Err(Fault::no_memory()),
     }
 }
 
@@ -124,11 +125,11 @@ fn fault_of<'a, W: Write + Drop>(
             Fault::Rows(name, WrongRows::Column(name_of(words, wanted)))
         }
         AgencyFault::Row { number, reason } => Fault::Rows(name, WrongRows::Row(number, reason)),
-        AgencyFault::Unread => Fault::Unread(name),
+        AgencyFault::Unread => Fault::unread(name),
         AgencyFault::Changed => Fault::Changed,
-        AgencyFault::Write => out.failed(),
-        AgencyFault::RefusedWrite => Fault::Write,
-        AgencyFault::NoMemory => Fault::NoMemory,
+        AgencyFault::Write => failed(out),
+        AgencyFault::RefusedWrite => Fault::unwritten(),
+        AgencyFault::NoMemory => Fault::no_memory(),
     }
 }
 
@@ -191,7 +192,7 @@ fn create<'a>(rt: &HostRuntime, name: Name<'a>) -> Result<BufWriter<fs::File>, F
     match fs::File::create_new(rt, name.0) {
         Ok(file) => match BufWriter::with_capacity(rt.alloc(), WRITE_BYTES, file) {
             Ok(file) => Ok(file),
-            Err(_) => Err(Fault::NoMemory),
+            Err(_) => Err(Fault::no_memory()),
         },
         Err(error) if error.kind() == ErrorKind::AlreadyExists => Err(Fault::Exists(name)),
         Err(_) => Err(Fault::Unmade(name)),
@@ -212,7 +213,7 @@ fn encode_and_refuse<'a, W: Write + Drop>(
     let encoded = match encode_some(rt, name, words, choice, out, &mut file) {
         Ok(summary) => match file.flush() {
             Ok(()) => Ok(summary),
-            Err(_) => Err(Fault::Write),
+            Err(_) => Err(Fault::unwritten()),
         },
         Err(fault) => Err(fault),
     };
@@ -245,7 +246,7 @@ pub(crate) fn encode_columns<'a, W: Write + Drop, E: Write>(
     name: Name<'a>,
     words: &RowsWords<'a>,
     out: &mut Output<W>,
-    err: &mut E,
+    err: &mut Complaints<E>,
 ) -> Result<(), Fault<'a>> {
     let devices = match words.devices {
         Some(devices) => Some(load_devices(rt, devices, words.separator)?),
@@ -256,8 +257,8 @@ pub(crate) fn encode_columns<'a, W: Write + Drop, E: Write>(
         Some(refused) => encode_and_refuse(rt, name, words, &choice, refused, out)?,
         None => encode_all(rt, name, words, &choice, out)?,
     };
-    out.finish()?;
+    finish(out)?;
     let line = summary_line(rt.alloc(), &summary)?;
-    let _ = err.write_all(line.as_bytes());
+    err.tell(line.as_str());
     Ok(())
 }

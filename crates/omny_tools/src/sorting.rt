@@ -1,14 +1,13 @@
 //! `sort`.
 
+use crate::arguments::{Row, subcommand};
 use crate::fault::{Fault, say};
 use crate::input::{load_upload, open_placed};
-use crate::list_words::files_or_list_arg;
 use crate::making::{NewFile, make_file};
-use crate::names::Name;
 use crate::progress::Progress;
-use crate::words::{names_at, subcommand};
+use crate::words::names_at;
 use clap::{ArgMatches, Command};
-use program_manners::{add_list_args, flag_arg, option_arg};
+use program_manners::Complaints;
 use report_texts::{UploadEnd, write_upload};
 use sorted_taps::{FileFault, MergeFault, SortedFault, WriteFault, merge_sorted};
 use sorted_uploads::sort_uploads;
@@ -17,6 +16,7 @@ use std::io::Write;
 use std::marker::Sync;
 use std::thread::Threads;
 use std::{fs, process};
+use tool_program::Name;
 
 /// How many threads put taps into order.
 const WORKERS: u32 = 4;
@@ -66,15 +66,14 @@ pub(crate) struct SortWords<'a> {
 
 /// `sort [--merge] --out OUT [--ends ENDS] [--files-from LIST [-0]] UPLOAD...`
 pub(crate) fn sort_command<'a>(alloc: Global) -> Result<Command<'a>, AllocError> {
-    let merge = flag_arg(alloc, "merge", MERGE_HELP);
-    let out = option_arg(alloc, "out", "OUT", OUT_HELP).required(true);
-    let ends = option_arg(alloc, "ends", "ENDS", ENDS_HELP);
-    let upload = files_or_list_arg(alloc, "UPLOAD", UPLOADS_HELP)?;
-    let command = subcommand(alloc, "sort", SORT_ABOUT, SORT_STATUS)
-        .arg(merge)?
-        .arg(out)?
-        .arg(ends)?;
-    add_list_args(alloc, command)?.arg(upload)
+    let rows = [
+        Row::flag("merge", MERGE_HELP),
+        Row::option("out", "OUT", OUT_HELP).needed(),
+        Row::option("ends", "ENDS", ENDS_HELP),
+        Row::list(),
+        Row::words("UPLOAD", UPLOADS_HELP).needed_without_list(),
+    ];
+    subcommand(alloc, "sort", SORT_ABOUT, SORT_STATUS, &rows)
 }
 
 /// What `sort` is asked for.
@@ -114,8 +113,8 @@ fn fault_of_file<'a>(name: Name<'a>, fault: SortedFault) -> Fault<'a> {
     match fault {
         SortedFault::OutOfOrder { tap } => Fault::OutOfOrder(name, tap),
         SortedFault::Layout { offset, fault } => Fault::Layout(name, offset, fault),
-        SortedFault::Unread => Fault::Unread(name),
-        SortedFault::NoMemory => Fault::NoMemory,
+        SortedFault::Unread => Fault::unread(name),
+        SortedFault::NoMemory => Fault::no_memory(),
     }
 }
 
@@ -128,7 +127,7 @@ fn fault_of_merge<'a>(words: &SortWords<'a>, fault: MergeFault) -> Fault<'a> {
         },
         MergeFault::Changed => Fault::Changed,
         MergeFault::Write => Fault::Unmade(words.out),
-        MergeFault::NoMemory => Fault::NoMemory,
+        MergeFault::NoMemory => Fault::no_memory(),
     }
 }
 
@@ -170,7 +169,7 @@ fn sort_loaded<'a, R: Threads + Sync>(
     match sort_uploads(threads, rt.alloc(), uploads, WORKERS, file) {
         Ok(ends) => Ok(ends),
         Err(WriteFault::Write) => Err(Fault::Unmade(words.out)),
-        Err(WriteFault::NoMemory) => Err(Fault::NoMemory),
+        Err(WriteFault::NoMemory) => Err(Fault::no_memory()),
     }
 }
 
@@ -210,7 +209,11 @@ fn make_ends<'a>(
 }
 
 /// Tells the layout fault of each upload that has one. Says whether none has.
-fn tell_refused<E: Write>(words: &SortWords<'_>, ends: &[UploadEnd], err: &mut E) -> bool {
+fn tell_refused<E: Write>(
+    words: &SortWords<'_>,
+    ends: &[UploadEnd],
+    err: &mut Complaints<E>,
+) -> bool {
     let mut is_well = true;
     for (number, end) in ends.iter().enumerate() {
         if let UploadEnd::Refused { offset, fault, .. } = end {
@@ -229,7 +232,7 @@ pub(crate) fn sort<'a, R: Threads + Sync, E: Write>(
     threads: &R,
     rt: &HostRuntime,
     words: &SortWords<'a>,
-    err: &mut E,
+    err: &mut Complaints<E>,
 ) -> Result<bool, Fault<'a>> {
     if !can_be_made(rt, words.out) {
         return Err(Fault::Unmade(words.out));

@@ -5,8 +5,7 @@ ghost use Rattle.std.specs.Prelude.{◌<◌};
 use crate::fault::Fault;
 use crate::input::{load_upload, plain_bytes};
 use crate::making::NewFile;
-use crate::names::Name;
-use crate::output::Output;
+use crate::output::put;
 use crate::progress::Progress;
 use report_texts::{UploadEnd, write_upload};
 use sorted_taps::WriteFault;
@@ -15,6 +14,7 @@ use std::alloc::{AllocError, Global};
 use std::io::Write;
 use tap_parts::UploadTaps;
 use tap_views::{TAP1_TAP_BYTES, push_sample};
+use tool_program::{Name, Output};
 
 /// The most parts.
 pub(crate) const MAX_PARTS: u32 = 65_535;
@@ -112,7 +112,7 @@ fn make_part<'a>(
         Err(fault) => {
             file.remove(rt);
             match fault {
-                WriteFault::NoMemory => Err(Fault::NoMemory),
+                WriteFault::NoMemory => Err(Fault::no_memory()),
                 WriteFault::Write => Err(Fault::UnmadePart(folder, part)),
             }
         }
@@ -155,5 +155,5 @@ pub(crate) fn split<'a, W: Write + Drop>(
     let made = split_and_make(rt, words, &mut progress);
     progress.end();
     let ends = made?;
-    out.put(ends.as_str())
+    put(out, ends.as_str())
 }

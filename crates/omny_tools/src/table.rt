@@ -2,13 +2,14 @@
 
 use crate::fault::{Fault, say};
 use crate::input::load_upload;
-use crate::names::Name;
-use crate::output::Output;
+use crate::output::failed;
 use crate::progress::Progress;
 use jiff::Timestamp;
+use program_manners::Complaints;
 use std::io::Write;
 use table_report::{Refusal, ReportFault, SeenValidators, TableText, Wanted};
 use tap_views::facts_of;
+use tool_program::{Name, Output};
 
 /// What `table` is asked for.
 #[derive(Drop)]
@@ -34,7 +35,7 @@ fn add_upload<'a, E: Write>(
     name: Name<'a>,
     seen: &mut SeenValidators,
     progress: &mut Progress<'_>,
-    err: &mut E,
+    err: &mut Complaints<E>,
 ) -> Result<bool, Fault<'a>> {
     let upload = load_upload(rt, name)?;
     seen.add(&upload)?;
@@ -54,7 +55,7 @@ fn add_uploads<'a, E: Write>(
     names: &[Name<'a>],
     seen: &mut SeenValidators,
     progress: &mut Progress<'_>,
-    err: &mut E,
+    err: &mut Complaints<E>,
 ) -> Result<bool, Fault<'a>> {
     let mut is_well = true;
     for (number, name) in names.iter().enumerate() {
@@ -68,7 +69,7 @@ fn add_uploads<'a, E: Write>(
 fn seen_in<'a, E: Write>(
     rt: &HostRuntime,
     names: &[Name<'a>],
-    err: &mut E,
+    err: &mut Complaints<E>,
 ) -> Result<(Option<SeenValidators>, bool), Fault<'a>> {
     if names.is_empty() {
         return Ok((None, true));
@@ -88,7 +89,7 @@ fn understood<'a, W: Write + Drop, E: Write>(
     shown: &str,
     table: &TableText<'_>,
     out: &mut Output<W>,
-    err: &mut E,
+    err: &mut Complaints<E>,
 ) -> Result<bool, Fault<'a>> {
     let from = match question.from {
         Some(from) => from,
@@ -103,11 +104,11 @@ fn understood<'a, W: Write + Drop, E: Write>(
     };
     let warnings = match table.write(rt.alloc(), &wanted, seen.as_ref(), out) {
         Ok(warnings) => warnings,
-        Err(ReportFault::Write) => return Err(out.failed()),
-        Err(ReportFault::NoMemory) => return Err(Fault::NoMemory),
+        Err(ReportFault::Write) => return Err(failed(out)),
+        Err(ReportFault::NoMemory) => return Err(Fault::no_memory()),
         Err(ReportFault::Name) => return Err(Fault::Sql(question.table, ReportFault::Name)),
     };
-    let _ = err.write_all(warnings.lines.as_bytes());
+    err.tell(warnings.lines.as_str());
     Ok(is_well && (warnings.count == 0 || !question.is_strict))
 }
 
@@ -116,7 +117,7 @@ pub(crate) fn tell_table<'a, W: Write + Drop, E: Write>(
     rt: &HostRuntime,
     question: &Question<'a>,
     out: &mut Output<W>,
-    err: &mut E,
+    err: &mut Complaints<E>,
 ) -> Result<bool, Fault<'a>> {
     let name = question.table;
     let bytes = load_upload(rt, name)?;
@@ -124,7 +125,7 @@ pub(crate) fn tell_table<'a, W: Write + Drop, E: Write>(
     match TableText::read(rt.alloc(), &shown, &bytes) {
         Ok(table) => understood(rt, question, &shown, &table, out, err),
         Err(Refusal::WrongValues(lines)) => {
-            let _ = err.write_all(lines.as_bytes());
+            err.tell(lines.as_str());
             Ok(false)
         }
         Err(Refusal::Fault(fault)) => Err(Fault::Table(name, fault)),
@@ -132,6 +133,6 @@ pub(crate) fn tell_table<'a, W: Write + Drop, E: Write>(
         Err(Refusal::NotToml(line, column, error)) => {
             Err(Fault::NotToml(name, line, column, error))
         }
-        Err(Refusal::NoMemory) => Err(Fault::NoMemory),
+        Err(Refusal::NoMemory) => Err(Fault::no_memory()),
     }
 }

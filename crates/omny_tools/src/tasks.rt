@@ -3,56 +3,54 @@
 ghost use Rattle.std.specs.Prelude.{◌≡◌};
 
 use crate::coding::{decode, encode};
-use crate::correcting::correct;
 use crate::fault::{Fault, say};
 use crate::looking::look_at;
-use crate::merging::{merge, merge_ledgers};
-use crate::names::Escaped;
-use crate::output::Output;
+use crate::output::{collect, put};
 use crate::progress::{Progress, Watching};
 use crate::row_coding::encode_columns;
 use crate::sorting::sort;
 use crate::splitting::split;
 use crate::table::tell_table;
 use crate::telling::{tell, tell_and_keep};
+use crate::texts::Texts;
 use crate::words::{Task, task_of};
 use clap::Error;
 use clap::error::ErrorKind;
+use program_manners::Complaints;
 use std::io;
 use std::io::Write;
 use std::marker::Sync;
 use std::thread::Threads;
+use tool_program::{Escaped, Output, corrections_over, finish, merge_ledgers_over, merge_over};
 
 /// Says that the command line is wrong, and gives the status.
-fn mistake<E: Write>(err: &mut E, line: &str) -> u8
+fn mistake<E: Write>(err: &mut Complaints<E>, line: &str) -> u8
     ensures { result ≡ 2 }
 {
-    let _ = write!(err, "error: {line}\n");
+    err.tell_line(format_args!("error: {line}"));
     2
 }
 
 /// Writes a text of several lines to `err`, with its other control characters escaped, since it may
 /// have words of the command line.
-fn write_safely<E: Write>(err: &mut E, text: &str) {
+fn write_safely<E: Write>(err: &mut Complaints<E>, text: &str) {
     for line in text.split_inclusive("\n") {
-        let (line, end) = match line.strip_suffix("\n") {
-            Some(line) => (line, "\n"),
-            None => (line, ""),
-        };
-        let line = Escaped(line);
-        let _ = write!(err, "{line}{end}");
+        match line.strip_suffix("\n") {
+            Some(line) => err.tell_line(Escaped(line)),
+            None => err.tell(Escaped(line)),
+        }
     }
 }
 
 /// Shows what clap answers when there is nothing to do: help and the version on standard output, a
 /// mistake on `err`.
-fn show<E: Write>(rt: &HostRuntime, error: &Error, err: &mut E) -> u8 {
+fn show<E: Write>(rt: &HostRuntime, error: &Error, err: &mut Complaints<E>) -> u8 {
     if error.kind() == ErrorKind::OutOfMemory {
-        say(err, &Fault::NoMemory);
+        say(err, &Fault::no_memory());
         return 1;
     }
     let Ok(text) = format!(in rt.alloc(); "{error}") else {
-        say(err, &Fault::NoMemory);
+        say(err, &Fault::no_memory());
         return 1;
     };
     if error.use_stderr() {
@@ -70,18 +68,20 @@ fn show<E: Write>(rt: &HostRuntime, error: &Error, err: &mut E) -> u8 {
 
 /// Writes a text to standard output.
 fn print<'a>(rt: &HostRuntime, text: &str) -> Result<(), Fault<'a>> {
-    let mut out = Output::new(rt.alloc(), io::writer(rt))?;
-    out.put(text)?;
-    out.finish()
+    let mut out = collect(rt, io::writer(rt))?;
+    put(&mut out, text)?;
+    finish(&mut out)?;
+    Ok(())
 }
 
-/// Does what is asked for, with threads where they help. Says whether all is well.
+/// Does a task of which no status is known yet, with threads where they help. Says whether all is
+/// well.
 fn perform<'a, R: Threads + Sync, W: Write + Drop, E: Write>(
     threads: &R,
     rt: &HostRuntime,
     task: &Task<'a>,
     out: &mut Output<W>,
-    err: &mut E,
+    err: &mut Complaints<E>,
 ) -> Result<bool, Fault<'a>> {
     match task {
         Task::Encode(name) => {
@@ -104,36 +104,92 @@ fn perform<'a, R: Threads + Sync, W: Write + Drop, E: Write>(
             split(rt, words, out)?;
             Ok(true)
         }
-        Task::Merge(words) => merge(rt, words, out),
-        Task::MergeLedgers(words) => {
-            merge_ledgers(rt, words, out)?;
-            Ok(true)
-        }
-        Task::Corrections(words) => {
-            correct(rt, words, out, err)?;
-            Ok(true)
-        }
+        Task::Merge(_) | Task::MergeLedgers(_) | Task::Corrections(_) => Ok(false),
         Task::NotOneUpload | Task::InputTwice | Task::InputMerged => Ok(false),
         Task::NotEachReport => Ok(false),
         Task::NoMoment | Task::WrongRows(_) | Task::WrongLook(_) | Task::Nothing => Ok(false),
     }
 }
 
-/// Does what is asked for, and brings what is written through.
-fn finish<'a, R: Threads + Sync, E: Write>(
+/// Does what is asked for, and brings what is written through. Says whether all is well.
+fn perform_through<'a, R: Threads + Sync, W: Write + Drop, E: Write>(
     threads: &R,
     rt: &HostRuntime,
     task: &Task<'a>,
-    err: &mut E,
+    out: &mut Output<W>,
+    err: &mut Complaints<E>,
 ) -> Result<bool, Fault<'a>> {
+    let done = perform(threads, rt, task, out, err);
+    finish(out)?;
+    done
+}
+
+/// Does what is asked for, and gives the status.
+fn status_of<'a, R: Threads + Sync, W: Write + Drop, E: Write>(
+    threads: &R,
+    rt: &HostRuntime,
+    task: &Task<'a>,
+    out: &mut Output<W>,
+    err: &mut Complaints<E>,
+) -> u8 {
+    let alloc = rt.alloc();
+    let done = match task {
+        Task::Merge(words) => {
+            return merge_over(
+                alloc,
+                &words.ends,
+                &words.reports,
+                &mut Texts::new(rt),
+                out,
+                err,
+            );
+        }
+        Task::MergeLedgers(words) => {
+            return merge_ledgers_over(
+                alloc,
+                &words.ledgers,
+                &words.reports,
+                &mut Texts::new(rt),
+                out,
+                err,
+            );
+        }
+        Task::Corrections(words) => {
+            return corrections_over(alloc, words, &mut Texts::new(rt), out, err);
+        }
+        task => perform_through(threads, rt, task, out, err),
+    };
+    match done {
+        Ok(true) => 0,
+        Ok(false) => match task {
+            Task::Sort(_) => 3,
+            _ => 1,
+        },
+        Err(fault) => {
+            say(err, &fault);
+            1
+        }
+    }
+}
+
+/// Does what is asked for over standard output, and gives the status.
+fn run_task<'a, R: Threads + Sync, E: Write>(
+    threads: &R,
+    rt: &HostRuntime,
+    task: &Task<'a>,
+    err: &mut Complaints<E>,
+) -> u8 {
     let progress = match task {
         Task::Merge(_) | Task::MergeLedgers(_) | Task::Corrections(_) => Progress::beside_text(rt),
         _ => Progress::hidden(rt),
     };
-    let mut out = Output::new(rt.alloc(), Watching::new(io::writer(rt), progress))?;
-    let done = perform(threads, rt, task, &mut out, err);
-    out.finish()?;
-    done
+    match collect(rt, Watching::new(io::writer(rt), progress)) {
+        Ok(mut out) => status_of(threads, rt, task, &mut out, err),
+        Err(fault) => {
+            say(err, &fault);
+            1
+        }
+    }
 }
 
 /// The whole program: reads the words, of which the first is the program's name, does what they ask
@@ -143,7 +199,7 @@ pub(crate) fn run<R: Threads + Sync, E: Write>(
     threads: &R,
     rt: &HostRuntime,
     words: &[String],
-    err: &mut E,
+    err: &mut Complaints<E>,
 ) -> u8 {
     let task = match task_of(rt.alloc(), words) {
         Ok(Task::NotOneUpload) => return mistake(err, "--good-part needs one FILE"),
@@ -166,15 +222,5 @@ pub(crate) fn run<R: Threads + Sync, E: Write>(
         Ok(task) => task,
         Err(error) => return show(rt, &error, err),
     };
-    match finish(threads, rt, &task, err) {
-        Ok(true) => 0,
-        Ok(false) => match task {
-            Task::Merge(_) | Task::Sort(_) => 3,
-            _ => 1,
-        },
-        Err(fault) => {
-            say(err, &fault);
-            1
-        }
-    }
+    run_task(threads, rt, &task, err)
 }

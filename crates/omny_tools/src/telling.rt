@@ -4,14 +4,14 @@ use crate::common_tokens::CommonTokens;
 use crate::fault::Fault;
 use crate::input::load_upload;
 use crate::layout::{AtTap, Cause, Remedy};
-use crate::names::Name;
-use crate::output::Output;
+use crate::output::put;
 use crate::progress::Progress;
 use fare_texts::write_moment;
 use std::alloc::{AllocError, Global};
 use std::fs;
 use std::io::{ErrorKind, Write};
 use tap_views::{Facts, facts_of, good_part};
+use tool_program::{Name, Output};
 
 /// Appends a moment, or `-` where there is none.
 pub(crate) fn push_moment(text: &mut String, moment: Option<u64>) -> Result<(), AllocError> {
@@ -57,7 +57,7 @@ fn tell_one<'a, W: Write + Drop>(
     let upload = load_upload(rt, name)?;
     let facts = facts_of(&upload);
     let text = lines_of(rt.alloc(), number, name, &facts)?;
-    out.put(text.as_str())?;
+    put(out, text.as_str())?;
     Ok((upload, facts.fault.is_none()))
 }
 
@@ -100,7 +100,7 @@ pub(crate) fn tell_tokens<'a, W: Write + Drop>(
 ) -> Result<(), Fault<'a>> {
     if let Some(common) = common {
         let text = token_lines(alloc, common)?;
-        out.put(text.as_str())?;
+        put(out, text.as_str())?;
     }
     Ok(())
 }
@@ -148,7 +148,7 @@ fn make<'a>(rt: &HostRuntime, name: Name<'a>, bytes: &[u8]) -> Result<(), Fault<
             Ok(()) => Ok(()),
             Err(_) => {
                 let _ = fs::remove_file(rt, name.0);
-                Err(Fault::Write)
+                Err(Fault::unwritten())
             }
         },
         Err(error) if error.kind() == ErrorKind::AlreadyExists => Err(Fault::Exists(name)),

@@ -1,22 +1,22 @@
 //! The command line.
 
-use crate::correcting::{CorrectionsWords, corrections_command, corrections_words};
+use crate::arguments::{Row, subcommand};
+use crate::correcting::{corrections_command, corrections_words};
 use crate::encode_words::{EncodeMistake, EncodeWords, RowsWords, encode_command, encode_words};
-use crate::list_words::{files_or_list_arg, has_input_twice};
-use crate::look_words::{LookMistake, LookWords, add_look_args, asks_for_look, look_words};
-use crate::merging::{LedgerWords, MergeWords};
-use crate::names::Name;
+use crate::list_words::has_input_twice;
+use crate::look_words::{LookMistake, LookWords, asks_for_look, look_words, uploads_command};
 use crate::part_words::{
-    merge_command, merge_ledgers_command, merge_ledgers_words, merge_words, split_command,
-    split_words,
+    LedgerWords, MergeWords, merge_command, merge_ledgers_command, merge_ledgers_words,
+    merge_words, split_command, split_words,
 };
 use crate::sorting::{SortWords, sort_command, sort_words};
 use crate::splitting::SplitWords;
 use crate::table::Question;
-use clap::{ArgAction, ArgMatches, Command, Error};
+use clap::{ArgMatches, Command, Error};
 use jiff::Timestamp;
-use program_manners::{add_list_args, flag_arg, new_command, option_arg, positional_arg};
+use program_manners::new_command;
 use std::alloc::{AllocError, Global};
+use tool_program::{CorrectedLedgers, Name};
 
 /// What the program is for, as the help says it first.
 const ABOUT: &str =
@@ -39,28 +39,6 @@ before it are written, and the fault is reported.";
 /// The help of `decode`'s uploads.
 const DECODE_HELP: &str =
     "Uploads of at most 67108864 bytes; - stands for standard input [default: standard input]";
-
-/// What `uploads` does.
-const UPLOADS_ABOUT: &str =
-    "Prints what uploads have: batches, taps, first and last moment, and the layout fault, if any,
-with its batch, its tap (both from 0), the offset of its batch in bytes, and what to do.
-
-Of an upload with a layout fault the part before it is printed, and the status is 1.
-
-With --look, or an option that says what to look for, the uploads are also searched for what an
-auditor fears. How much of each kind is found is printed, with the first of it. Nothing is
-changed or left out, and the status does not depend on what is found. All taps are in memory.";
-
-/// The help of `--tokens`.
-const TOKENS_HELP: &str =
-    "Print how many tokens each upload has, and how many of these another FILE has, too";
-
-/// The help of the uploads.
-const UPLOADS_HELP: &str = "Uploads of at most 67108864 bytes; - stands for standard input";
-
-/// The help of `--good-part`.
-const GOOD_PART_HELP: &str =
-    "Make the file OUT of the batches before the layout fault; it must not be there; needs one FILE";
 
 /// What `table` does.
 const TABLE_ABOUT: &str =
@@ -122,7 +100,7 @@ pub(crate) enum Task<'a> {
     /// Merge the ledgers of parts.
     MergeLedgers(LedgerWords<'a>),
     /// Write the corrections from one ledger to another.
-    Corrections(CorrectionsWords<'a>),
+    Corrections(CorrectedLedgers<'a>),
     /// A good part is asked for, and not one upload.
     NotOneUpload,
     /// Two texts that are to be read side by side are standard input.
@@ -141,77 +119,49 @@ pub(crate) enum Task<'a> {
     Nothing,
 }
 
-/// A subcommand of this name, with what its exit status says, and no options yet.
-pub(crate) fn subcommand<'a>(
-    alloc: Global,
-    name: &'a str,
-    about: &'a str,
-    status: &'a str,
-) -> Command<'a> {
-    Command::new(alloc, name).about(about).after_help(status)
-}
-
 /// `decode [--files-from LIST [-0]] [FILE]...`
 fn decode_command<'a>(alloc: Global) -> Result<Command<'a>, AllocError> {
-    let file = positional_arg(alloc, "FILE", ArgAction::Append, DECODE_HELP);
-    let command = subcommand(alloc, "decode", DECODE_ABOUT, STATUS);
-    add_list_args(alloc, command)?.arg(file)
-}
-
-/// `uploads [--good-part OUT] [--tokens] [LOOK]... [--files-from LIST [-0]] FILE...`
-fn uploads_command<'a>(alloc: Global) -> Result<Command<'a>, AllocError> {
-    let good = option_arg(alloc, "good-part", "OUT", GOOD_PART_HELP);
-    let tokens = flag_arg(alloc, "tokens", TOKENS_HELP);
-    let file = files_or_list_arg(alloc, "FILE", UPLOADS_HELP)?;
-    let command = subcommand(alloc, "uploads", UPLOADS_ABOUT, STATUS)
-        .arg(good)?
-        .arg(tokens)?;
-    let command = add_look_args(alloc, command)?;
-    add_list_args(alloc, command)?.arg(file)
+    let rows = [Row::list(), Row::words("FILE", DECODE_HELP)];
+    subcommand(alloc, "decode", DECODE_ABOUT, STATUS, &rows)
 }
 
 /// `table [--strict] [--riders] [--from MOMENT] [--sql] F [UPLOAD]...`
 fn table_command<'a>(alloc: Global) -> Result<Command<'a>, AllocError> {
-    let strict = flag_arg(alloc, "strict", STRICT_HELP);
-    let riders = flag_arg(alloc, "riders", RIDERS_HELP);
-    let from = option_arg(alloc, "from", "MOMENT", FROM_HELP);
-    let sql = flag_arg(alloc, "sql", SQL_HELP)
-        .conflicts_with("riders")?
-        .conflicts_with("from")?;
-    let table = positional_arg(alloc, "F", ArgAction::Set, TABLE_HELP).required(true);
-    let uploads = positional_arg(alloc, "UPLOAD", ArgAction::Append, TABLE_UPLOADS_HELP);
-    subcommand(alloc, "table", TABLE_ABOUT, STATUS)
-        .arg(strict)?
-        .arg(riders)?
-        .arg(from)?
-        .arg(sql)?
-        .arg(table)?
-        .arg(uploads)
+    let rows = [
+        Row::flag("strict", STRICT_HELP),
+        Row::flag("riders", RIDERS_HELP),
+        Row::option("from", "MOMENT", FROM_HELP),
+        Row::flag("sql", SQL_HELP).apart_from(&["riders", "from"]),
+        Row::word("F", TABLE_HELP).needed(),
+        Row::words("UPLOAD", TABLE_UPLOADS_HELP),
+    ];
+    subcommand(alloc, "table", TABLE_ABOUT, STATUS, &rows)
+}
+
+/// The subcommands, in the order in which the help has them.
+fn subcommands<'a>(alloc: Global) -> Result<Vec<Command<'a>>, AllocError> {
+    let mut all = Vec::new(alloc);
+    all.push(encode_command(alloc)?)?;
+    all.push(decode_command(alloc)?)?;
+    all.push(uploads_command(alloc, STATUS)?)?;
+    all.push(table_command(alloc)?)?;
+    all.push(sort_command(alloc)?)?;
+    all.push(split_command(alloc)?)?;
+    all.push(merge_command(alloc)?)?;
+    all.push(merge_ledgers_command(alloc)?)?;
+    all.push(corrections_command(alloc)?)?;
+    Ok(all)
 }
 
 /// The command line, as clap reads it.
 pub(crate) fn command<'a>(alloc: Global) -> Result<Command<'a>, AllocError> {
-    let encode = encode_command(alloc)?;
-    let decode = decode_command(alloc)?;
-    let uploads = uploads_command(alloc)?;
-    let table = table_command(alloc)?;
-    let sort = sort_command(alloc)?;
-    let split = split_command(alloc)?;
-    let merge = merge_command(alloc)?;
-    let merge_ledgers = merge_ledgers_command(alloc)?;
-    let corrections = corrections_command(alloc)?;
-    new_command(alloc, "omny_tools", ABOUT, STATUS)
+    let mut command = new_command(alloc, "omny_tools", ABOUT, STATUS)
         .subcommand_required(true)
-        .arg_required_else_help(true)
-        .subcommand(encode)?
-        .subcommand(decode)?
-        .subcommand(uploads)?
-        .subcommand(table)?
-        .subcommand(sort)?
-        .subcommand(split)?
-        .subcommand(merge)?
-        .subcommand(merge_ledgers)?
-        .subcommand(corrections)
+        .arg_required_else_help(true);
+    for subcommand in subcommands(alloc)? {
+        command = command.subcommand(subcommand)?;
+    }
+    Ok(command)
 }
 
 /// The names at an argument.
@@ -299,9 +249,14 @@ fn look_task<'a>(words: Result<LookWords<'a>, LookMistake>) -> Task<'a> {
     Task::Look(words)
 }
 
+/// How many of the words stand for standard input.
+fn inputs_among(words: &[&str]) -> usize {
+    words.iter().filter(|word| Name(word).is_input()).count()
+}
+
 /// What `merge` is asked for.
 fn merge_task<'a>(words: MergeWords<'a>) -> Task<'a> {
-    if inputs_in(&words.ends).saturating_add(inputs_in(&words.reports)) > 1 {
+    if inputs_among(&words.ends).saturating_add(inputs_among(&words.reports)) > 1 {
         return Task::InputTwice;
     }
     Task::Merge(words)
@@ -309,7 +264,7 @@ fn merge_task<'a>(words: MergeWords<'a>) -> Task<'a> {
 
 /// What `merge-ledgers` is asked for.
 fn merge_ledgers_task<'a>(words: LedgerWords<'a>) -> Task<'a> {
-    if inputs_in(&words.ledgers).saturating_add(inputs_in(&words.reports)) > 1 {
+    if inputs_among(&words.ledgers).saturating_add(inputs_among(&words.reports)) > 1 {
         return Task::InputTwice;
     }
     if !words.reports.is_empty() && words.reports.len() != words.ledgers.len() {
@@ -338,8 +293,8 @@ fn encode_task<'a>(words: EncodeWords<'a>) -> Task<'a> {
 }
 
 /// What `corrections` is asked for.
-fn corrections_task<'a>(words: CorrectionsWords<'a>) -> Task<'a> {
-    if words.old.is_input() && words.new.is_input() {
+fn corrections_task<'a>(words: CorrectedLedgers<'a>) -> Task<'a> {
+    if Name(words.old).is_input() && Name(words.new).is_input() {
         return Task::InputTwice;
     }
     Task::Corrections(words)

@@ -1,30 +1,43 @@
 -- Faults of ledgers that were opened.
-use Rattle.std.proofs.Common.{ℕ, List, refl, inl, inr}
+use Rattle.std.proofs.Common.{◌≡◌, ℕ, List, None, Option, Some, refl, inl, inr, subst, sym}
 use Rattle.ledger_changes.specs.Faults.{IsOfLedger}
 use Rattle.ledger_changes.specs.declared.fault.Bill.TheVariants.{New, Old}
 use Rattle.ledger_changes.specs.declared.fault.CorrectionsFault.{CorrectionsFault}
 use Rattle.ledger_changes.specs.declared.fault.CorrectionsFault.TheVariants as changes
 use Rattle.tool_program.specs.Corrections.{IsRightCorrectionsFault, IsUnsettled}
+use Rattle.tool_program.specs.Fault.{failed_as}
 use Rattle.tool_program.specs.declared.fault.Fault.{Fault}
 use Rattle.tool_program.specs.declared.fault.Fault.TheVariants.{Line, NoMemory, Unread, Unsettled}
-use Rattle.tool_program.specs.declared.fault.Fault.TheVariants.{Write}
+use Rattle.tool_program.specs.declared.output.WriteEnd.{WriteEnd}
+use Rattle.tool_program.specs.declared.output.WriteEnd.TheVariants as writes
 use Rattle.tool_program.specs.inside.Fault.{IsCorrectionsFault}
 
+-- a write that failed is told as its writer remembers it
+pub right_corrections_write : (old new a b : List ℕ) (end : Option WriteEnd) (told : Fault)
+    → told ≡ failed_as end → IsRightCorrectionsFault old new a b end told
+right_corrections_write old new a b None told is =
+    subst (λ (f : Fault). IsRightCorrectionsFault old new a b None f) (sym is) tt
+right_corrections_write old new a b (Some writes.Closed) told is =
+    subst (λ (f : Fault). IsRightCorrectionsFault old new a b (Some writes.Closed) f) (sym is) refl
+right_corrections_write old new a b (Some writes.Refused) told is =
+    subst (λ (f : Fault). IsRightCorrectionsFault old new a b (Some writes.Refused) f) (sym is) refl
+
 -- the fault of ledgers that were opened is the right one
-pub right_corrections : (old new a b : List ℕ) (fault : CorrectionsFault) (told : Fault)
-    → IsCorrectionsFault old new fault told
+pub right_corrections : (old new a b : List ℕ) (end : Option WriteEnd)
+    (fault : CorrectionsFault) (told : Fault) → IsCorrectionsFault old new end fault told
     → (IsOfLedger Old fault → IsUnsettled a) → (IsOfLedger New fault → IsUnsettled b)
-    → IsRightCorrectionsFault old new a b told
-right_corrections old new a b (changes.Form Old number) (Line word line why) is of_a of_b =
+    → IsRightCorrectionsFault old new a b end told
+right_corrections old new a b end (changes.Form Old number) (Line word line why) is of_a of_b =
     (inl (is.0, of_a refl), is.1)
-right_corrections old new a b (changes.Form New number) (Line word line why) is of_a of_b =
+right_corrections old new a b end (changes.Form New number) (Line word line why) is of_a of_b =
     (inr (is.0, of_b refl), is.1)
-right_corrections old new a b (changes.Order Old number) (Unsettled word line) is of_a of_b =
+right_corrections old new a b end (changes.Order Old number) (Unsettled word line) is of_a of_b =
     inl (is, of_a refl)
-right_corrections old new a b (changes.Order New number) (Unsettled word line) is of_a of_b =
+right_corrections old new a b end (changes.Order New number) (Unsettled word line) is of_a of_b =
     inr (is, of_b refl)
-right_corrections old new a b (changes.Unread Old) (Unread word) is of_a of_b = inl is
-right_corrections old new a b (changes.Unread New) (Unread word) is of_a of_b = inr (inl is)
-right_corrections old new a b changes.Write Write is of_a of_b = tt
-right_corrections old new a b changes.NoMemory NoMemory is of_a of_b = tt
-right_corrections old new a b fault told is of_a of_b = absurd is
+right_corrections old new a b end (changes.Unread Old) (Unread word) is of_a of_b = inl is
+right_corrections old new a b end (changes.Unread New) (Unread word) is of_a of_b = inr (inl is)
+right_corrections old new a b end changes.Write told is of_a of_b =
+    right_corrections_write old new a b end told is
+right_corrections old new a b end changes.NoMemory NoMemory is of_a of_b = tt
+right_corrections old new a b end fault told is of_a of_b = absurd is

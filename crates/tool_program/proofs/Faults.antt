@@ -1,17 +1,19 @@
 -- Faults of texts that were not opened, or that were.
 use Rattle.std.proofs.Common.{◌≡◌, ◌∙◌, ◌<◌, ◌+◌, ◌^◌, ◌⊎◌, ℕ, List, [], ◌∷◌, ◌++◌, length}
-use Rattle.std.proofs.Common.{arith, inl, inr, refl, subst, sym, Some}
+use Rattle.std.proofs.Common.{arith, inl, inr, refl, subst, sym, None, Option, Some}
 use Rattle.std.proofs.lemmas.Option.{slice_get_within}
-use Rattle.std.specs.Prelude.{IfSome, slice_get}
-use Rattle.part_reports.specs.Faults.{NamesAmong, number_from, text_named}
+use Rattle.std.specs.Prelude.{slice_get}
+use Rattle.part_reports.specs.Faults.{number_from}
 use Rattle.part_reports.specs.Reports.{HaveTaps, NamesWrongText}
 use Rattle.part_reports.specs.declared.fault.MergeFault.{MergeFault}
 use Rattle.part_reports.specs.declared.fault.MergeFault.TheVariants as merge
 use Rattle.program_manners.specs.Refusals.{IsOneOf}
+use Rattle.tool_program.specs.Fault.{failed_as}
 use Rattle.tool_program.specs.Merge.{IsRightMergeFault}
 use Rattle.tool_program.specs.declared.fault.Fault.{Fault}
 use Rattle.tool_program.specs.declared.fault.Fault.TheVariants.{Line, NoMemory, Taps, Unread}
-use Rattle.tool_program.specs.declared.fault.Fault.TheVariants.{Write}
+use Rattle.tool_program.specs.declared.output.WriteEnd.{WriteEnd}
+use Rattle.tool_program.specs.declared.output.WriteEnd.TheVariants as writes
 use Rattle.tool_program.specs.inside.Fault.{IsNamedAs}
 
 -- a word of one of two lists
@@ -28,26 +30,27 @@ pub few_from : (count first place : ℕ) → count < 2 ^ 64 → number_from firs
     → number_from first place ≡ first + place
 few_from count first place few within = omega (arith, few, within)
 
--- the number that a fault names, of texts of two lists
-pub number_within : (first second : ℕ) (fault : MergeFault)
-    → NamesAmong 0 first fault ⊎ NamesAmong first second fault
-    → IfSome (text_named fault) (λ text. text < first + second)
-number_within first second (merge.Line text number why) (inl is) = omega (arith, is.1, is.2)
-number_within first second (merge.Line text number why) (inr is) = omega (arith, is.1, is.2)
-number_within first second (merge.Unread text) (inl is) = omega (arith, is.1, is.2)
-number_within first second (merge.Unread text) (inr is) = omega (arith, is.1, is.2)
-number_within first second (merge.Taps reports uploads) is = tt
-number_within first second merge.Write is = tt
-number_within first second merge.NoMemory is = tt
+-- a write that failed is told as its writer remembers it
+pub right_write : (words ends reports : List (List ℕ)) (end : Option WriteEnd) (told : Fault)
+    → told ≡ failed_as end → IsRightMergeFault words ends reports end told
+right_write words ends reports None told is =
+    subst (λ (f : Fault). IsRightMergeFault words ends reports None f) (sym is) tt
+right_write words ends reports (Some writes.Closed) told is =
+    subst (λ (f : Fault). IsRightMergeFault words ends reports (Some writes.Closed) f) (sym is) refl
+right_write words ends reports (Some writes.Refused) told is =
+    subst (λ (f : Fault). IsRightMergeFault words ends reports (Some writes.Refused) f) (sym is)
+    refl
 
 -- the fault of texts that were opened is the right one
-pub right_merge : (words ends reports : List (List ℕ)) (fault : MergeFault) (told : Fault)
-    → length words < 2 ^ 64 → IsNamedAs words fault told → NamesWrongText ends reports fault
+pub right_merge : (words ends reports : List (List ℕ)) (end : Option WriteEnd) (fault : MergeFault)
+    (told : Fault) → length words < 2 ^ 64 → IsNamedAs words end fault told
+    → NamesWrongText ends reports fault
     → ((a b : ℕ) → fault ≡ merge.Taps a b → HaveTaps ends reports a b)
-    → IsRightMergeFault words ends reports told
-right_merge words ends reports (merge.Line text number why) (Line word line wrong) few is of taps =
+    → IsRightMergeFault words ends reports end told
+right_merge words ends reports end (merge.Line text number why) (Line word line wrong) few is of
+    taps =
     elim of [
-      | inl end ↦ inl (end.0, first_at text end.0 end.1 is.0, end.2)
+      | inl ends_at ↦ inl (ends_at.0, first_at text ends_at.0 ends_at.1 is.0, ends_at.2)
       | inr report ↦ inr (report.0, at text (length ends) report.0 report.1 is.0, report.2)
     ]
   where
@@ -65,10 +68,13 @@ right_merge words ends reports (merge.Line text number why) (Line word line wron
         let own : text ≡ place =
         omega (arith, few, same, slice_get_within words text word.now there) in
         subst (λ (k : ℕ). slice_get words k ≡ Some word.now) own there
-right_merge words ends reports (merge.Unread text) (Unread word) few is of taps = (text, is)
-right_merge words ends reports (merge.Taps a b) (Taps r u) few is of taps =
+right_merge words ends reports end (merge.Line text number why) NoMemory few is of taps = tt
+right_merge words ends reports end (merge.Unread text) (Unread word) few is of taps = (text, is)
+right_merge words ends reports end (merge.Unread text) NoMemory few is of taps = tt
+right_merge words ends reports end (merge.Taps a b) (Taps r u) few is of taps =
     subst (λ (n : ℕ). HaveTaps ends reports n u) (sym is.0)
     (subst (λ (n : ℕ). HaveTaps ends reports a n) (sym is.1) (taps a b refl))
-right_merge words ends reports merge.Write Write few is of taps = tt
-right_merge words ends reports merge.NoMemory NoMemory few is of taps = tt
-right_merge words ends reports fault told few is of taps = absurd is
+right_merge words ends reports end merge.Write told few is of taps =
+    right_write words ends reports end told is
+right_merge words ends reports end merge.NoMemory NoMemory few is of taps = tt
+right_merge words ends reports end fault told few is of taps = absurd is

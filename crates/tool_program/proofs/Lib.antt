@@ -1,3 +1,4 @@
 pub mod Corrected
 pub mod Faults
+pub mod LedgerFaults
 pub mod Opened

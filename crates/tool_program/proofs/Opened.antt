@@ -2,10 +2,11 @@
 use Rattle.std.proofs.Common.{◌≡◌, ◌∙◌, ◌<◌, ◌+◌, ℕ, List, [], ◌∷◌, ◌++◌, Bor, length, map}
 use Rattle.std.proofs.Common.{append-nil, append_assoc, ap, get_or, refl, subst, sym, take}
 use Rattle.std.proofs.Common.{Option, Some, None}
-use Rattle.std.proofs.lemmas.List.{length-map, map-append, take_more}
+use Rattle.std.proofs.lemmas.List.{map-append, take_more}
 use Rattle.part_reports.specs.Texts.{AreLeft}
 use Rattle.program_manners.specs.Loads.{Loaded, Tells}
-use Rattle.tool_program.specs.Source.{HasOpened, OpensOne, file_named}
+use Rattle.tool_program.specs.Names.{file_named}
+use Rattle.tool_program.specs.Source.{HasOpened, OpensOne}
 
 -- nothing was opened yet
 pub opened_none : (told : Option (List Loaded)) → HasOpened [] told told []
@@ -92,18 +93,3 @@ opened_word words k d kept told told' told'' texts left within is all one =
       subst (λ (ws : List (List ℕ)). HasOpened ws told told'' (texts ++ more.0 ∷ []))
           (sym (words_more words k d within)) more.2,
     )
-
--- as many texts as words were opened
-pub opened_count : (words : List (List ℕ)) (told told' : Option (List Loaded))
-    (texts : List (List ℕ)) → HasOpened words told told' texts → length texts ≡ length words
-opened_count words told told' texts all =
-    sym (ap length all.bytes) ∙ length-map all.loads (λ (load : Loaded). load.bytes)
-    ∙ sym (length-map all.loads (λ (load : Loaded). load.name)) ∙ ap length all.named
-    ∙ length-map words file_named
-
--- and as many readers
-pub left_count : {R : Type 0} (remaining : R → Option (List ℕ)) (readers : List R)
-    (texts : List (List ℕ)) → AreLeft remaining readers texts → length readers ≡ length texts
-left_count remaining readers texts are =
-    sym (length-map readers remaining) ∙ ap length are
-    ∙ length-map texts (λ (file : List ℕ). Some file)

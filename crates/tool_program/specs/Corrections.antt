@@ -1,19 +1,24 @@
 -- What `corrections` does: of the words of the old ledger and of the new one.
-use Rattle.std.specs.Prelude.{◌≡◌, ◌⊎◌, ⊤, ℕ, Bool, true, false, List, [], ◌∷◌, Option}
+use Rattle.std.specs.Prelude.{◌≡◌, ◌⊎◌, ⊤, ℕ, Bool, true, false, List, [], ◌∷◌, ◌++◌, Option, Some}
+use Rattle.std.specs.Prelude.{MatchBool, codes, decimal, nat_eq}
 use Rattle.std.specs.Io.KnownBytes.{Appends, Keeps}
 use Rattle.ledger_changes.specs.Ledgers.{IsSettledLedger}
 use Rattle.ledger_changes.specs.Rows.{Row}
 use Rattle.ledger_changes.specs.Texts.{IsCorrectionsText}
 use Rattle.ledger_changes.specs.Tokens.{IsCorrectionsByTokenText}
 use Rattle.part_reports.specs.declared.fault.Wrong.TheVariants as wrong
+use Rattle.program_manners.specs.LineWritten.{LineWritten}
 use Rattle.program_manners.specs.Loads.{Loaded}
 use Rattle.program_manners.specs.Refusals.{IsOneOf}
 use Rattle.program_manners.specs.declared.loading.LoadFault.{LoadFault}
 use Rattle.tool_program.specs.Fault.{IsRefusal}
+use Rattle.tool_program.specs.Names.{called}
 use Rattle.tool_program.specs.Source.{HasOpened}
 use Rattle.tool_program.specs.declared.fault.Fault.{Fault}
-use Rattle.tool_program.specs.declared.fault.Fault.TheVariants.{Line, NoMemory, Unread, Unsettled}
-use Rattle.tool_program.specs.declared.fault.Fault.TheVariants.{Write}
+use Rattle.tool_program.specs.declared.fault.Fault.TheVariants.{Closed, Line, NoMemory}
+use Rattle.tool_program.specs.declared.fault.Fault.TheVariants.{Unread, Unsettled, Write}
+use Rattle.tool_program.specs.declared.output.WriteEnd.{WriteEnd}
+use Rattle.tool_program.specs.declared.output.WriteEnd.TheVariants as writes
 
 -- the text is that of the corrections from the one ledger to the other, or of their sums by token,
 -- and so many lines are removed
@@ -41,31 +46,43 @@ pub record Corrects (by_token : Bool) (old new : List ℕ) (told told' : Option 
   pub corrections : IsTextOfCorrections by_token old_text new_text text removed
   pub written : Appends out out' text
 
+-- That lines are removed was told, with their number, unless a write of it failed. If none is,
+-- this holds: `Silent`.
+abbrev pub IsWarned : List ℕ → List ℕ → ℕ → Option (List ℕ) → Option (List ℕ) → Bool → Type 0
+    → Type 0
+IsWarned old new removed said said' failed Silent = MatchBool (nat_eq removed 0) Silent
+    (LineWritten said said' failed (codes "warning: " ++ (called new
+    ++ (codes ": missing lines of " ++ (called old ++ (codes ": " ++ decimal removed))))))
+
 -- The fault is the right one of ledgers that were opened: it names one that is no settled ledger,
--- or that could not be read to its end. A write and want of memory may fail at any time.
-abbrev pub IsRightCorrectionsFault : List ℕ → List ℕ → List ℕ → List ℕ → Fault → Type 0
-IsRightCorrectionsFault old new old_text new_text (Line word number why) =
+-- or that could not be read to its end; or a write failed, as the writer remembers it. Memory may
+-- be refused at any time.
+abbrev pub IsRightCorrectionsFault : List ℕ → List ℕ → List ℕ → List ℕ → Option WriteEnd → Fault
+    → Type 0
+IsRightCorrectionsFault old new old_text new_text end (Line word number why) =
     NamesUnsettled old new old_text new_text word.now × (why ≡ wrong.Form)
-IsRightCorrectionsFault old new old_text new_text (Unsettled word number) =
+IsRightCorrectionsFault old new old_text new_text end (Unsettled word number) =
     NamesUnsettled old new old_text new_text word.now
-IsRightCorrectionsFault old new old_text new_text (Unread word) =
+IsRightCorrectionsFault old new old_text new_text end (Unread word) =
     IsOneOf word.now (old ∷ new ∷ [])
-IsRightCorrectionsFault old new old_text new_text Write = ⊤
-IsRightCorrectionsFault old new old_text new_text NoMemory = ⊤
-IsRightCorrectionsFault old new old_text new_text fault = ⊥
+IsRightCorrectionsFault old new old_text new_text end Write = end ≡ Some writes.Refused
+IsRightCorrectionsFault old new old_text new_text end Closed = end ≡ Some writes.Closed
+IsRightCorrectionsFault old new old_text new_text end NoMemory = ⊤
+IsRightCorrectionsFault old new old_text new_text end fault = ⊥
 
 -- both ledgers were opened, and the fault is the right one
 pub record BreaksOffCorrections (old new : List ℕ) (told told' : Option (List Loaded))
-    (fault : Fault) : Type 0 where
+    (end : Option WriteEnd) (fault : Fault) : Type 0 where
   pub old_text : List ℕ
   pub new_text : List ℕ
   pub opened : HasOpened (old ∷ new ∷ []) told told' (old_text ∷ new_text ∷ [])
-  pub right : IsRightCorrectionsFault old new old_text new_text fault
+  pub right : IsRightCorrectionsFault old new old_text new_text end fault
 
 -- The corrections were given up: a ledger was not opened, or memory was refused before, and nothing
 -- was written; or both were opened, and the fault is the right one.
 abbrev pub GivesUpCorrections : List ℕ → List ℕ → Option (List Loaded) → Option (List Loaded)
-    → Option (Option (List ℕ) × LoadFault) → Fault → Option (List ℕ) → Option (List ℕ) → Type 0
-GivesUpCorrections old new told told' refused fault out out' =
+    → Option (Option (List ℕ) × LoadFault) → Option WriteEnd → Fault → Option (List ℕ)
+    → Option (List ℕ) → Type 0
+GivesUpCorrections old new told told' refused end fault out out' =
     (IsRefusal refused (old ∷ new ∷ []) fault × Keeps out out')
-    ⊎ BreaksOffCorrections old new told told' fault
+    ⊎ BreaksOffCorrections old new told told' end fault

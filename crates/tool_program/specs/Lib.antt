@@ -1,5 +1,7 @@
 pub mod Corrections
 pub mod Fault
 pub mod Merge
+pub mod MergeLedgers
+pub mod Names
 pub mod Source
 pub mod inside

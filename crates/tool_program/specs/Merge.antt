@@ -9,63 +9,70 @@ use Rattle.program_manners.specs.Loads.{Loaded}
 use Rattle.program_manners.specs.declared.loading.LoadFault.{LoadFault}
 use Rattle.report_texts.specs.UploadEnds.{is_posted}
 use Rattle.tool_program.specs.Fault.{IsRefusal}
-use Rattle.tool_program.specs.Source.{HasOpened}
+use Rattle.tool_program.specs.Source.{OpensBoth}
 use Rattle.tool_program.specs.declared.fault.Fault.{Fault}
-use Rattle.tool_program.specs.declared.fault.Fault.TheVariants.{Line, NoMemory, Taps, Unread}
-use Rattle.tool_program.specs.declared.fault.Fault.TheVariants.{Write}
+use Rattle.tool_program.specs.declared.fault.Fault.TheVariants.{Closed, Line, NoMemory, Taps}
+use Rattle.tool_program.specs.declared.fault.Fault.TheVariants.{Unread, Write}
+use Rattle.tool_program.specs.declared.output.WriteEnd.{WriteEnd}
+use Rattle.tool_program.specs.declared.output.WriteEnd.TheVariants as writes
 
--- the texts of the first words were opened, in order, and then those of the second ones
-pub record OpensBoth (first second : List (List ℕ)) (told told' : Option (List Loaded))
-    (first_texts second_texts : List (List ℕ)) : Type 0 where
-  pub between : Option (List Loaded)
-  pub opens_first : HasOpened first told between first_texts
-  pub opens_second : HasOpened second between told' second_texts
-
--- The ends were opened and then the reports, and what was written is, whole, the report that they
--- are merged into. Each upload was posted, or not.
-pub record MergesReports (ends reports : List (List ℕ)) (told told' : Option (List Loaded))
-    (out out' : Option (List ℕ)) (are_posted : Bool) : Type 0 where
-  pub end_texts : List (List ℕ)
-  pub report_texts : List (List ℕ)
-  pub opened : OpensBoth ends reports told told' end_texts report_texts
+-- what was written is, whole, the report that the texts are merged into; each upload was posted, or
+-- not
+pub record WritesReport (end_texts report_texts : List (List ℕ)) (out out' : Option (List ℕ))
+    (are_posted : Bool) : Type 0 where
   pub text : List ℕ
   pub merged : IsMerged end_texts report_texts text
   pub posted : IsTrue are_posted ↔ All (λ end. IsTrue (is_posted end)) (all_ends merged.ends)
   pub written : Appends out out' text
 
--- The fault is the right one of texts that were opened under these words, those of the ends first:
--- a line of a text that is wrong, at the place of the word that is named; the taps of the texts; a
--- text that could not be read to its end. A write and want of memory may fail at any time.
-abbrev pub IsRightMergeFault : List (List ℕ) → List (List ℕ) → List (List ℕ) → Fault → Type 0
-IsRightMergeFault words end_texts report_texts (Line word number why) =
-    ((place : ℕ) × (slice_get words place ≡ Some word.now) × AreWrongEndsAt end_texts place)
-    ⊎ ((place : ℕ) × (slice_get words (length end_texts + place) ≡ Some word.now)
-    × IsWrongReportAt report_texts place)
-IsRightMergeFault words end_texts report_texts (Taps of_reports of_uploads) =
-    HaveTaps end_texts report_texts of_reports of_uploads
-IsRightMergeFault words end_texts report_texts (Unread word) =
-    (place : ℕ) × (slice_get words place ≡ Some word.now)
-IsRightMergeFault words end_texts report_texts Write = ⊤
-IsRightMergeFault words end_texts report_texts NoMemory = ⊤
-IsRightMergeFault words end_texts report_texts fault = ⊥
-
--- All texts were opened, and the fault is the right one, if they are fewer than 2^64. What was
--- written is a beginning of a report that they are merged into, if there is one.
-pub record BreaksOffMerge (ends reports : List (List ℕ)) (told told' : Option (List Loaded))
-    (fault : Fault) (out out' : Option (List ℕ)) : Type 0 where
+-- The ends were opened and then the reports, and their report was written whole.
+pub record MergesReports (ends reports : List (List ℕ)) (told told' : Option (List Loaded))
+    (out out' : Option (List ℕ)) (are_posted : Bool) : Type 0 where
   pub end_texts : List (List ℕ)
   pub report_texts : List (List ℕ)
   pub opened : OpensBoth ends reports told told' end_texts report_texts
-  pub right : length (ends ++ reports) < 2 ^ 64
-      → IsRightMergeFault (ends ++ reports) end_texts report_texts fault
+  pub writes : WritesReport end_texts report_texts out out' are_posted
+
+-- The fault is the right one of texts that were opened under these words, those of the ends first:
+-- a line of a text that is wrong, at the place of the word that is named; the taps of the texts; a
+-- text that could not be read to its end; a write that failed, as the writer remembers it. Memory
+-- may be refused at any time.
+abbrev pub IsRightMergeFault : List (List ℕ) → List (List ℕ) → List (List ℕ) → Option WriteEnd
+    → Fault → Type 0
+IsRightMergeFault words end_texts report_texts end (Line word number why) =
+    ((place : ℕ) × (slice_get words place ≡ Some word.now) × AreWrongEndsAt end_texts place)
+    ⊎ ((place : ℕ) × (slice_get words (length end_texts + place) ≡ Some word.now)
+    × IsWrongReportAt report_texts place)
+IsRightMergeFault words end_texts report_texts end (Taps of_reports of_uploads) =
+    HaveTaps end_texts report_texts of_reports of_uploads
+IsRightMergeFault words end_texts report_texts end (Unread word) =
+    (place : ℕ) × (slice_get words place ≡ Some word.now)
+IsRightMergeFault words end_texts report_texts end Write = end ≡ Some writes.Refused
+IsRightMergeFault words end_texts report_texts end Closed = end ≡ Some writes.Closed
+IsRightMergeFault words end_texts report_texts end NoMemory = ⊤
+IsRightMergeFault words end_texts report_texts end fault = ⊥
+
+-- The fault is the right one of texts that were opened under these words, if they are fewer than
+-- 2^64. What was written is a beginning of a report that they are merged into, if there is one.
+pub record StopsMerge (words end_texts report_texts : List (List ℕ)) (end : Option WriteEnd)
+    (fault : Fault) (out out' : Option (List ℕ)) : Type 0 where
+  pub right : length words < 2 ^ 64 → IsRightMergeFault words end_texts report_texts end fault
   pub begun : (some : List ℕ) → IsMerged end_texts report_texts some
       → (text : List ℕ) × IsMerged end_texts report_texts text × Begins out out' text
+
+-- all texts were opened, and the merge was broken off
+pub record BreaksOffMerge (ends reports : List (List ℕ)) (told told' : Option (List Loaded))
+    (end : Option WriteEnd) (fault : Fault) (out out' : Option (List ℕ)) : Type 0 where
+  pub end_texts : List (List ℕ)
+  pub report_texts : List (List ℕ)
+  pub opened : OpensBoth ends reports told told' end_texts report_texts
+  pub stops : StopsMerge (ends ++ reports) end_texts report_texts end fault out out'
 
 -- The merge was given up: a file was not opened, or memory was refused before, and nothing was
 -- written; or all were opened, and the merge was broken off.
 abbrev pub GivesUpMerge : List (List ℕ) → List (List ℕ) → Option (List Loaded)
-    → Option (List Loaded) → Option (Option (List ℕ) × LoadFault) → Fault
+    → Option (List Loaded) → Option (Option (List ℕ) × LoadFault) → Option WriteEnd → Fault
     → Option (List ℕ) → Option (List ℕ) → Type 0
-GivesUpMerge ends reports told told' refused fault out out' =
+GivesUpMerge ends reports told told' refused end fault out out' =
     (IsRefusal refused (ends ++ reports) fault × Keeps out out')
-    ⊎ BreaksOffMerge ends reports told told' fault out out'
+    ⊎ BreaksOffMerge ends reports told told' end fault out out'

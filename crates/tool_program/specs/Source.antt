@@ -1,11 +1,7 @@
 -- What a source tells of what it opened.
-use Rattle.std.specs.Prelude.{◌≡◌, ⊤, ℕ, if◌then◌else◌, List, codes, map, Option, None, Some}
-use Rattle.std.specs.Str.{bytes_eq}
+use Rattle.std.specs.Prelude.{◌≡◌, ⊤, ℕ, List, map, Option, None, Some}
 use Rattle.program_manners.specs.Loads.{Loaded, Tells, TellsOne}
-
--- the name of the file that a word names; none of standard input, for which `-` stands
-abbrev pub file_named : List ℕ → Option (List ℕ)
-file_named word = if bytes_eq word (codes "-") then None else Some word
+use Rattle.tool_program.specs.Names.{file_named}
 
 -- One load under this name, of all that a reader that was opened has left. Where the source keeps a
 -- list, it is known what the reader has.
@@ -22,3 +18,10 @@ pub record HasOpened (words : List (List ℕ)) (told told' : Option (List Loaded
   pub named : map (λ load. load.name) loads ≡ map file_named words
   pub bytes : map (λ load. load.bytes) loads ≡ texts
   pub told_is : Tells told told' loads
+
+-- the texts of the first words were opened, in order, and then those of the second ones
+pub record OpensBoth (first second : List (List ℕ)) (told told' : Option (List Loaded))
+    (first_texts second_texts : List (List ℕ)) : Type 0 where
+  pub between : Option (List Loaded)
+  pub opens_first : HasOpened first told between first_texts
+  pub opens_second : HasOpened second between told' second_texts

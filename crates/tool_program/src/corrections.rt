@@ -1,18 +1,23 @@
 //! `corrections`.
-
-ghost use Rattle.std.specs.Prelude.{◌≡◌, ℕ, List, IfErr, IfOk, Some};
+ghost use Rattle.std.specs.Prelude.{◌≡◌, ◌≤◌, ℕ, List, IfErr, IfOk, Some};
 ghost use Rattle.std.specs.Io.KnownBytes.{Appends};
 ghost use Rattle.ledger_changes.specs.Faults.{IsOfLedger};
 ghost use Rattle.ledger_changes.specs.declared.fault.Bill.TheVariants.{New, Old};
 ghost use Rattle.program_manners.specs.Loads.{Loaded};
 ghost use Rattle.tool_program.specs.Corrections.{Corrects, GivesUpCorrections};
-ghost use Rattle.tool_program.specs.Corrections.{IsTextOfCorrections, IsUnsettled};
+ghost use Rattle.tool_program.specs.Corrections.{IsRightCorrectionsFault, IsTextOfCorrections};
+ghost use Rattle.tool_program.specs.Corrections.{IsUnsettled, IsWarned};
+ghost use Rattle.tool_program.specs.Fault.{IsFaultTold};
+ghost use Rattle.tool_program.specs.declared.fault.Fault.{Fault as AFault};
 ghost use Rattle.tool_program.specs.inside.Fault.{IsCorrectionsFault, word_of};
 
-use crate::fault::Fault;
+use crate::fault::{Fault, finish, say};
+use crate::names::Name;
+use crate::output::{Output, WriteEnd};
 use crate::source::{Source, open_text};
 use ledger_changes::{Bill, CorrectionsFault};
 use part_reports::Wrong;
+use program_manners::Complaints;
 use std::alloc::Global;
 use std::io::{BufRead, Write};
 
@@ -39,9 +44,13 @@ impl<'a> CorrectedLedgers<'a> {
     }
 }
 
-/// Why the corrections were not written.
-fn fault_of<'a>(ledgers: &CorrectedLedgers<'a>, fault: CorrectionsFault) -> Fault<'a>
-    ensures { IsCorrectionsFault ledgers.now.old.now ledgers.now.new.now fault result }
+/// Why the corrections were not written. The writer remembers `end`.
+fn fault_of<'a>(
+    ledgers: &CorrectedLedgers<'a>,
+    fault: CorrectionsFault,
+    end: Option<WriteEnd>,
+) -> Fault<'a>
+    ensures { IsCorrectionsFault ledgers.now.old.now ledgers.now.new.now end fault result }
 {
     match fault {
         CorrectionsFault::Form(bill, number) => {
@@ -49,7 +58,7 @@ fn fault_of<'a>(ledgers: &CorrectedLedgers<'a>, fault: CorrectionsFault) -> Faul
         }
         CorrectionsFault::Order(bill, number) => Fault::Unsettled(ledgers.word_of(bill), number),
         CorrectionsFault::Unread(bill) => Fault::Unread(ledgers.word_of(bill)),
-        CorrectionsFault::Write => Fault::Write,
+        CorrectionsFault::Write => Fault::of_write(end),
         CorrectionsFault::NoMemory => Fault::NoMemory,
     }
 }
@@ -77,32 +86,110 @@ fn write_corrections<R: BufRead + Drop, W: Write>(
     ledger_changes::corrections(alloc, old, new, out)
 }
 
-/// Writes the corrections from the old ledger to the new one, or their sums by token. Both are
-/// opened first, `-` being standard input. Gives how many lines are removed: the old ledger has
-/// them, and the new one does not.
-pub fn corrections_over<'a, S: Source, W: Write>(
+/// Writes the corrections between the ledgers, and lets all that was written go out. Gives how many
+/// lines are removed.
+fn correct_texts<'a, R: BufRead + Drop, W: Write + Drop>(
+    alloc: Global,
+    ledgers: &CorrectedLedgers<'a>,
+    old: R,
+    new: R,
+    out: &mut Output<W>,
+) -> Result<u64, Fault<'a>>
+    ensures written { IfOk result (λ removed. (old_text new_text : List ℕ)
+        → R.remaining old ≡ Some old_text → R.remaining new ≡ Some new_text
+        → (text : List ℕ)
+        × IsTextOfCorrections ledgers.now.is_by_token old_text new_text text removed
+        × Appends (W.contents out.old.inner) (W.contents out.new.inner) text) }
+    ensures right { IfErr result (λ fault. (old_text new_text : List ℕ)
+        → R.remaining old ≡ Some old_text → R.remaining new ≡ Some new_text
+        → IsRightCorrectionsFault ledgers.now.old.now ledgers.now.new.now old_text new_text
+        out.new.end fault) }
+{
+    match write_corrections(alloc, ledgers.is_by_token, old, new, out) {
+        Ok(removed) => match finish(out) {
+            Ok(()) => Ok(removed),
+            Err(unwritten) => Err(unwritten),
+        },
+        Err(fault) => match finish(out) {
+            Ok(()) => Err(fault_of(ledgers, fault, out.end())),
+            Err(unwritten) => Err(unwritten),
+        },
+    }
+}
+
+/// Opens both ledgers and writes the corrections between them. Gives how many lines are removed:
+/// the old ledger has them, and the new one does not.
+fn correct<'a, S: Source, W: Write + Drop>(
     alloc: Global,
     ledgers: &CorrectedLedgers<'a>,
     source: &mut S,
-    out: &mut W,
+    out: &mut Output<W>,
 ) -> Result<u64, Fault<'a>>
-    // Of a source that keeps what it opened: the whole text was written.
     ensures done { IfOk result (λ removed. (kept : List Loaded)
         → S.loaded source.old ≡ Some kept
         → Corrects ledgers.now.is_by_token ledgers.now.old.now ledgers.now.new.now
-        (S.loaded source.old) (S.loaded source.new) (W.contents out.old) (W.contents out.new)
-        removed) }
-    // Or the fault is the right one.
+        (S.loaded source.old) (S.loaded source.new) (W.contents out.old.inner)
+        (W.contents out.new.inner) removed) }
     ensures fault { IfErr result (λ fault. (kept : List Loaded)
         → S.loaded source.old ≡ Some kept
         → GivesUpCorrections ledgers.now.old.now ledgers.now.new.now (S.loaded source.old)
-        (S.loaded source.new) (S.refused source.new) fault (W.contents out.old)
-        (W.contents out.new)) }
+        (S.loaded source.new) (S.refused source.new) out.new.end fault
+        (W.contents out.old.inner) (W.contents out.new.inner)) }
 {
     let old = open_text(source, ledgers.old)?;
     let new = open_text(source, ledgers.new)?;
-    match write_corrections(alloc, ledgers.is_by_token, old, new, out) {
-        Ok(removed) => Ok(removed),
-        Err(fault) => Err(fault_of(ledgers, fault)),
+    correct_texts(alloc, ledgers, old, new, out)
+}
+
+/// Says how many lines are removed, if there are such.
+fn warn<E: Write>(ledgers: &CorrectedLedgers<'_>, removed: u64, err: &mut Complaints<E>)
+    ensures { IsWarned ledgers.now.old.now ledgers.now.new.now removed
+        (E.contents err.old.writer) (E.contents err.new.writer) err.new.failed
+        (err.new ≡ err.old) }
+{
+    if removed > 0 {
+        let old = Name(ledgers.old);
+        let new = Name(ledgers.new);
+        err.tell_line(format_args!("warning: {new}: missing lines of {old}: {removed}"));
+    }
+}
+
+/// Writes the corrections from the old ledger to the new one, or their sums by token: opens both,
+/// `-` being standard input, and writes the text to `out`. Then says on `err` how many lines are
+/// removed, if there are such: the old ledger has them, and the new one does not. A fault is said
+/// on `err`, too. Gives the status: 0 if all is written, 1 after a fault.
+pub fn corrections_over<S: Source, W: Write + Drop, E: Write>(
+    alloc: Global,
+    ledgers: &CorrectedLedgers<'_>,
+    source: &mut S,
+    out: &mut Output<W>,
+    err: &mut Complaints<E>,
+) -> u8
+    // Of a source that keeps what it opened: with status 0 the whole text was written, and it was
+    // told how many lines are removed, if there are such.
+    ensures done { (kept : List Loaded) → S.loaded source.old ≡ Some kept → result ≡ 0
+        → (removed : ℕ) × Corrects ledgers.now.is_by_token ledgers.now.old.now
+        ledgers.now.new.now (S.loaded source.old) (S.loaded source.new)
+        (W.contents out.old.inner) (W.contents out.new.inner) removed
+        × IsWarned ledgers.now.old.now ledgers.now.new.now removed (E.contents err.old.writer)
+        (E.contents err.new.writer) err.new.failed (err.new ≡ err.old) }
+    // With status 1 the line of a fault was told, which is the right one.
+    ensures faults { result ≡ 1 → (fault : AFault) × IsFaultTold fault
+        (E.contents err.old.writer) (E.contents err.new.writer) err.new.failed
+        × ((kept : List Loaded) → S.loaded source.old ≡ Some kept
+        → GivesUpCorrections ledgers.now.old.now ledgers.now.new.now (S.loaded source.old)
+        (S.loaded source.new) (S.refused source.new) out.new.end fault
+        (W.contents out.old.inner) (W.contents out.new.inner)) }
+    ensures status { result ≤ 1 }
+{
+    match correct(alloc, ledgers, source, out) {
+        Ok(removed) => {
+            warn(ledgers, removed, err);
+            0
+        }
+        Err(fault) => {
+            say(err, &fault);
+            1
+        }
     }
 }

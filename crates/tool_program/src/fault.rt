@@ -1,15 +1,22 @@
-//! Why a subcommand is given up.
-ghost use Rattle.std.specs.Prelude.{◌≡◌, ℕ, List, Option};
+//! Why a subcommand is given up, and the line that says so.
+ghost use Rattle.std.specs.Prelude.{◌≡◌, ℕ, IfErr, List, Option, Some};
+ghost use Rattle.std.specs.Io.KnownBytes.{Keeps};
 ghost use Rattle.program_manners.specs.Refusals.{IsOneOf, Refuses};
 ghost use Rattle.program_manners.specs.declared.loading.LoadFault.{LoadFault as ALoadFault};
-ghost use Rattle.tool_program.specs.Fault.{IsRefusal};
-ghost use Rattle.tool_program.specs.Source.{file_named};
+ghost use Rattle.tool_program.specs.Fault.{IsFaultTold, IsRefusal, failed_as, fault_text};
+ghost use Rattle.tool_program.specs.Fault.{is_quiet, wrong_text};
+ghost use Rattle.tool_program.specs.Names.{file_named};
 
+use crate::names::Name;
+use crate::output::{Output, WriteEnd};
 use part_reports::Wrong;
-use program_manners::LoadFault;
+use program_manners::{Complaints, LoadFault};
 use std::alloc::{AllocError, AllocFailed};
+use std::fmt;
+use std::io::Write;
 
-/// Why a subcommand is given up. A file is named by its word of the command line.
+/// Why a subcommand is given up. A file is named by its word of the command line. Its `Display` is
+/// the fault line without its line feed.
 #[derive(Clone, Copy, Debug, PartialEq, Eq)]
 pub enum Fault<'a> {
     /// The file could not be opened, or not be read to its end.
@@ -24,13 +31,15 @@ pub enum Fault<'a> {
     Taps(u128, u128),
     /// A write failed.
     Write,
+    /// A write failed since the reader is gone: nothing is said of it.
+    Closed,
     /// A growth of memory was refused.
     NoMemory,
 }
 
 impl<'a> Fault<'a> {
     /// Why the file that the word names was not opened.
-    pub(crate) fn of_load(word: &'a str, fault: LoadFault) -> Fault<'a>
+    pub fn of_load(word: &'a str, fault: LoadFault) -> Fault<'a>
         ensures { (refused : Option (Option (List ℕ) × ALoadFault)) (words : List (List ℕ))
             → IsOneOf word.entry.now words → Refuses refused (file_named word.entry.now) fault
             → IsRefusal refused words result }
@@ -39,6 +48,30 @@ impl<'a> Fault<'a> {
             LoadFault::Unread => Fault::Unread(word),
             LoadFault::TooLong => Fault::TooLong(word),
             LoadFault::NoMemory => Fault::NoMemory,
+        }
+    }
+
+    /// Why a text was not written, as its writer remembers it. Of one that remembers nothing it is
+    /// said that memory was refused.
+    pub fn of_write(end: Option<WriteEnd>) -> Fault<'a>
+        ensures { result ≡ failed_as end }
+    {
+        match end {
+            Some(WriteEnd::Closed) => Fault::Closed,
+            Some(WriteEnd::Refused) => Fault::Write,
+            None => Fault::NoMemory,
+        }
+    }
+
+    /// Whether nothing is said of it.
+    fn is_quiet(&self) -> bool
+        ensures { result ≡ is_quiet self.now }
+    {
+        match self {
+            Fault::Closed => true,
+            Fault::Unread(_) | Fault::TooLong(_) | Fault::Line(_, _, _) => false,
+            Fault::Unsettled(_, _) | Fault::Taps(_, _) => false,
+            Fault::Write | Fault::NoMemory => false,
         }
     }
 }
@@ -60,5 +93,83 @@ impl<T: Drop> From<AllocFailed<T>> for Fault<'_> {
 
     fn from(_refused: AllocFailed<T>) -> Self {
         Fault::NoMemory
+    }
+}
+
+/// What is wrong with a line of a part's text.
+fn wrong_text(wrong: Wrong) -> &'static str
+    ensures { result.now ≡ wrong_text wrong }
+{
+    match wrong {
+        Wrong::Form => "no such line stands there",
+        Wrong::NotPosted => "the upload of a part was not posted",
+        Wrong::Order => "it does not come after the line before it",
+        Wrong::Twice => "its token is in two parts",
+        Wrong::Sums => "the sums are too large",
+        Wrong::Validators => "the validators do not add up to the totals",
+        Wrong::Tokens => "the tokens do not add up to the totals",
+        Wrong::MoreThanReport => "its token has more, up to it, than in the report",
+        Wrong::LessThanReport => "the token before it has less than in the report",
+        Wrong::OtherToken => "its token is not the next one of the report",
+        Wrong::MissingToken => "the ledger ends, and the report has one more token",
+        Wrong::OtherValidators => "the validators have other sums than in the report",
+    }
+}
+
+impl fmt::Display for Fault<'_> {
+    ghost output = { λ fault. Some (fault_text fault) };
+
+    fn fmt<W: fmt::Write>(&self, f: &mut fmt::Formatter<W>) -> fmt::Result {
+        match self {
+            Fault::Unread(word) => {
+                let name = Name(word);
+                write!(f, "fault: cannot read {name}")
+            }
+            Fault::TooLong(word) => {
+                let name = Name(word);
+                write!(f, "fault: {name} is too long")
+            }
+            Fault::Line(word, number, wrong) => {
+                let name = Name(word);
+                let why = wrong_text(*wrong);
+                write!(f, "fault: {name} line {number}: {why}")
+            }
+            Fault::Unsettled(word, number) => {
+                let name = Name(word);
+                write!(
+                    f,
+                    "fault: {name} line {number}: out of order; is the ledger settled?"
+                )
+            }
+            Fault::Taps(reports, uploads) => {
+                write!(
+                    f,
+                    "fault: the reports have {reports} taps, the uploads {uploads}"
+                )
+            }
+            Fault::Write | Fault::Closed => f.write_str("fault: cannot write"),
+            Fault::NoMemory => f.write_str("fault: out of memory"),
+        }
+    }
+}
+
+/// Writes the line of a fault, unless the reader of the text is gone.
+pub fn say<E: Write>(err: &mut Complaints<E>, fault: &Fault<'_>)
+    ensures { IsFaultTold fault.now (E.contents err.old.writer) (E.contents err.new.writer)
+        err.new.failed }
+{
+    if !fault.is_quiet() {
+        err.tell_line(*fault);
+    }
+}
+
+/// Lets all that was written go out.
+pub fn finish<'a, W: Write + Drop>(out: &mut Output<W>) -> Result<(), Fault<'a>>
+    ensures kept { Keeps (W.contents out.old.inner) (W.contents out.new.inner) }
+    ensures fault { IfErr result (λ fault. fault ≡ failed_as out.new.end) }
+{
+    match out.flush() {
+        Ok(()) => Ok(()),
+        Err(_) => Err(Fault::of_write(out.end())),
     }
 }

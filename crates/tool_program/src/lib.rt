@@ -1,20 +1,29 @@
-//! Subcommands of the tools over any source of bytes and any writer: to merge the reports of parts,
-//! and to write the corrections from one ledger to another.
+//! Subcommands of the tools over any source of bytes and any writers: each from the words that name
+//! its files to the status, with its text and its fault line.
 //!
 //! | module | what it does |
 //! |---|---|
+//! | `names` | words that name files, as they are opened and shown |
 //! | `source` | where texts come from |
-//! | `fault` | why a subcommand is given up |
+//! | `output` | where a text goes |
+//! | `fault` | why a subcommand is given up, and the line that says so |
 //! | `merge` | `merge` |
+//! | `merge_ledgers` | `merge-ledgers` |
 //! | `corrections` | `corrections` |
 #![tactic(auto)]
 
 mod corrections;
 mod fault;
 mod merge;
+mod merge_ledgers;
+mod names;
+mod output;
 mod source;
 
 pub use corrections::{CorrectedLedgers, corrections_over};
-pub use fault::Fault;
+pub use fault::{Fault, finish, say};
 pub use merge::merge_over;
+pub use merge_ledgers::merge_ledgers_over;
+pub use names::{Escaped, Name};
+pub use output::{Output, WriteEnd};
 pub use source::Source;

@@ -1,21 +1,25 @@
 //! `merge`, and the texts of parts.
-
-ghost use Rattle.std.specs.Prelude.{◌≡◌, ◌+◌, ◌<◌, ◌++◌, List, IfErr, IfOk, IfSome, Some, length};
-ghost use Rattle.std.specs.Prelude.{map, option_map, slice_get};
-ghost use Rattle.part_reports.specs.Faults.{text_named};
+ghost use Rattle.std.specs.Prelude.{◌≡◌, ◌≢◌, ◌⊎◌, ◌++◌, ℕ, List, IfErr, IfOk, Some, false, map};
+ghost use Rattle.std.specs.Prelude.{option_map, slice_get, true};
+ghost use Rattle.part_reports.specs.Texts.{AreLeft};
 ghost use Rattle.program_manners.specs.Loads.{Loaded};
-ghost use Rattle.tool_program.specs.Merge.{GivesUpMerge, MergesReports};
+ghost use Rattle.tool_program.specs.Fault.{IsFaultTold};
+ghost use Rattle.tool_program.specs.Merge.{GivesUpMerge, MergesReports, StopsMerge};
+ghost use Rattle.tool_program.specs.Merge.{WritesReport};
+ghost use Rattle.tool_program.specs.declared.fault.Fault.{Fault as AFault};
 ghost use Rattle.tool_program.specs.inside.Fault.{IsNamedAs};
 
-use crate::fault::Fault;
-use crate::source::{Source, open_all};
+use crate::fault::{Fault, finish, say};
+use crate::output::{Output, WriteEnd};
+use crate::source::{Both, Source, open_both};
 use part_reports::MergeFault;
+use program_manners::Complaints;
 use std::alloc::Global;
-use std::io::Write;
+use std::io::{BufRead, Write};
 
 /// The word of the text of this number. Texts are numbered through both lists.
 fn word_of<'a>(first: &[&'a str], second: &[&'a str], text: usize) -> Option<&'a str>
-    ensures { text < length first.now + length second.now → option_map (λ w. w.now) result
+    ensures { option_map (λ w. w.now) result
         ≡ slice_get (map (λ w. w.now) first.now ++ map (λ w. w.now) second.now) text }
 {
     if text < first.len() {
@@ -28,10 +32,15 @@ fn word_of<'a>(first: &[&'a str], second: &[&'a str], text: usize) -> Option<&'a
     None
 }
 
-/// Why the texts that these words name were not merged.
-pub(crate) fn fault_of<'a>(first: &[&'a str], second: &[&'a str], fault: MergeFault) -> Fault<'a>
-    ensures { IfSome (text_named fault) (λ text. text < length first.now + length second.now)
-        → IsNamedAs (map (λ w. w.now) first.now ++ map (λ w. w.now) second.now) fault result }
+/// Why the texts that these words name were not merged. The writer remembers `end`.
+pub(crate) fn fault_of<'a>(
+    first: &[&'a str],
+    second: &[&'a str],
+    fault: MergeFault,
+    end: Option<WriteEnd>,
+) -> Fault<'a>
+    ensures { IsNamedAs (map (λ w. w.now) first.now ++ map (λ w. w.now) second.now) end fault
+        result }
 {
     match fault {
         MergeFault::Line {
@@ -47,38 +56,108 @@ pub(crate) fn fault_of<'a>(first: &[&'a str], second: &[&'a str], fault: MergeFa
             Some(word) => Fault::Unread(word),
             None => Fault::NoMemory,
         },
-        MergeFault::Write => Fault::Write,
+        MergeFault::Write => Fault::of_write(end),
         MergeFault::NoMemory => Fault::NoMemory,
     }
 }
 
-/// Merges the reports of parts: opens the texts of the uploads' ends and the reports that the words
-/// name, `-` being standard input, and writes the report of the whole. Says whether no upload has a
-/// layout fault.
-pub fn merge_over<'a, S: Source, W: Write>(
+/// Merges the texts of the uploads' ends and the reports, which these words name. Says whether no
+/// upload has a layout fault.
+fn merge_texts<'a, R: BufRead + Drop, W: Write + Drop>(
+    alloc: Global,
+    ends: &[&'a str],
+    reports: &[&'a str],
+    end_texts: Vec<R>,
+    report_texts: Vec<R>,
+    out: &mut Output<W>,
+) -> Result<bool, Fault<'a>>
+    ensures done { IfOk result (λ are_posted. (end_files report_files : List (List ℕ))
+        → AreLeft R.remaining end_texts.items end_files
+        → AreLeft R.remaining report_texts.items report_files
+        → WritesReport end_files report_files (W.contents out.old.inner)
+        (W.contents out.new.inner) are_posted) }
+    ensures fault { IfErr result (λ fault. (end_files report_files : List (List ℕ))
+        → AreLeft R.remaining end_texts.items end_files
+        → AreLeft R.remaining report_texts.items report_files
+        → StopsMerge (map (λ w. w.now) ends.now ++ map (λ w. w.now) reports.now) end_files
+        report_files out.new.end fault (W.contents out.old.inner) (W.contents out.new.inner)) }
+{
+    match part_reports::merge(alloc, end_texts, report_texts, out) {
+        Ok(are_posted) => match finish(out) {
+            Ok(()) => Ok(are_posted),
+            Err(unwritten) => Err(unwritten),
+        },
+        Err(fault) => match finish(out) {
+            Ok(()) => Err(fault_of(ends, reports, fault, out.end())),
+            Err(unwritten) => Err(unwritten),
+        },
+    }
+}
+
+/// Merges the reports of parts. Says whether no upload has a layout fault.
+fn merge<'a, S: Source, W: Write + Drop>(
     alloc: Global,
     ends: &[&'a str],
     reports: &[&'a str],
     source: &mut S,
-    out: &mut W,
+    out: &mut Output<W>,
 ) -> Result<bool, Fault<'a>>
-    // Of a source that keeps what it opened: the whole report was written.
     ensures done { IfOk result (λ are_posted. (kept : List Loaded)
         → S.loaded source.old ≡ Some kept
         → MergesReports (map (λ w. w.now) ends.now) (map (λ w. w.now) reports.now)
-        (S.loaded source.old) (S.loaded source.new) (W.contents out.old) (W.contents out.new)
-        are_posted) }
-    // Or the fault is the right one, and a beginning of the report was written, or nothing.
+        (S.loaded source.old) (S.loaded source.new) (W.contents out.old.inner)
+        (W.contents out.new.inner) are_posted) }
     ensures fault { IfErr result (λ fault. (kept : List Loaded)
         → S.loaded source.old ≡ Some kept
         → GivesUpMerge (map (λ w. w.now) ends.now) (map (λ w. w.now) reports.now)
-        (S.loaded source.old) (S.loaded source.new) (S.refused source.new) fault
-        (W.contents out.old) (W.contents out.new)) }
+        (S.loaded source.old) (S.loaded source.new) (S.refused source.new) out.new.end fault
+        (W.contents out.old.inner) (W.contents out.new.inner)) }
 {
-    let end_texts = open_all(alloc, source, ends)?;
-    let report_texts = open_all(alloc, source, reports)?;
-    match part_reports::merge(alloc, end_texts, report_texts, out) {
-        Ok(are_posted) => Ok(are_posted),
-        Err(fault) => Err(fault_of(ends, reports, fault)),
+    match open_both(alloc, source, ends, reports) {
+        Ok(Both { first, second }) => merge_texts(alloc, ends, reports, first, second, out),
+        Err(fault) => Err(fault),
+    }
+}
+
+/// Merges the reports of parts: opens the texts of the uploads' ends and then the reports that the
+/// words name, `-` being standard input. Writes the report of the whole to `out`, and a fault to
+/// `err`. Gives the status: 0 if each upload was posted, 3 if one was refused, 1 after a fault.
+pub fn merge_over<S: Source, W: Write + Drop, E: Write>(
+    alloc: Global,
+    ends: &[&str],
+    reports: &[&str],
+    source: &mut S,
+    out: &mut Output<W>,
+    err: &mut Complaints<E>,
+) -> u8
+    // Of a source that keeps what it opened: with status 0 the whole report was written, and each
+    // upload was posted.
+    ensures done { (kept : List Loaded) → S.loaded source.old ≡ Some kept → result ≡ 0
+        → MergesReports (map (λ w. w.now) ends.now) (map (λ w. w.now) reports.now)
+        (S.loaded source.old) (S.loaded source.new) (W.contents out.old.inner)
+        (W.contents out.new.inner) true }
+    // With status 3 it was written, and an upload was refused.
+    ensures unposted { (kept : List Loaded) → S.loaded source.old ≡ Some kept → result ≡ 3
+        → MergesReports (map (λ w. w.now) ends.now) (map (λ w. w.now) reports.now)
+        (S.loaded source.old) (S.loaded source.new) (W.contents out.old.inner)
+        (W.contents out.new.inner) false }
+    // With status 1 the line of a fault was told, which is the right one.
+    ensures faults { result ≡ 1 → (fault : AFault) × IsFaultTold fault
+        (E.contents err.old.writer) (E.contents err.new.writer) err.new.failed
+        × ((kept : List Loaded) → S.loaded source.old ≡ Some kept
+        → GivesUpMerge (map (λ w. w.now) ends.now) (map (λ w. w.now) reports.now)
+        (S.loaded source.old) (S.loaded source.new) (S.refused source.new) out.new.end fault
+        (W.contents out.old.inner) (W.contents out.new.inner)) }
+    // Nothing is said beside a whole report.
+    ensures quiet { result ≢ 1 → err.new ≡ err.old }
+    ensures status { (result ≡ 0) ⊎ ((result ≡ 1) ⊎ (result ≡ 3)) }
+{
+    match merge(alloc, ends, reports, source, out) {
+        Ok(true) => 0,
+        Ok(false) => 3,
+        Err(fault) => {
+            say(err, &fault);
+            1
+        }
     }
 }

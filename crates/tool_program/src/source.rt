@@ -1,19 +1,17 @@
 //! Where texts come from.
-ghost use Rattle.std.specs.Prelude.{◌≡◌, ℕ, List, IfErr, IfOk, Some, codes, map, option_map};
-ghost use Rattle.std.specs.Str.{bytes_eq};
+ghost use Rattle.std.specs.Prelude.{◌≡◌, ◌++◌, ℕ, List, IfErr, IfOk, Some, map};
 ghost use Rattle.part_reports.specs.Texts.{AreLeft};
 ghost use Rattle.program_manners.specs.Loads.{Loaded};
 ghost use Rattle.program_manners.specs.Refusals.{IsOneOf};
 ghost use Rattle.tool_program.specs.Fault.{IsRefusal};
-ghost use Rattle.tool_program.specs.Source.{HasOpened, OpensOne, file_named};
+ghost use Rattle.tool_program.specs.Names.{file_named};
+ghost use Rattle.tool_program.specs.Source.{HasOpened, OpensBoth, OpensOne};
 
 use crate::fault::Fault;
+use crate::names::file_of;
 use program_manners::LoadFault;
 use std::alloc::Global;
 use std::io::BufRead;
-
-/// The word that stands for standard input.
-const INPUT_WORD: &str = "-";
 
 /// Where texts come from. A file has a name, and standard input has none.
 pub trait Source {
@@ -39,13 +37,6 @@ pub trait Source {
             (option_map (λ n. n.now) name.entry) (Self.Text.remaining text)) }
         ensures fault { IfErr result (λ fault. Refuses (refused self.new)
             (option_map (λ n. n.now) name.entry) fault) };
-}
-
-/// The name of the file; none of standard input.
-fn file_of<'a>(word: &'a str) -> Option<&'a str>
-    ensures { option_map (λ n. n.now) result ≡ file_named word.entry.now }
-{
-    if word == INPUT_WORD { None } else { Some(word) }
 }
 
 /// Opens the file that the word names, or standard input.
@@ -81,4 +72,33 @@ pub(crate) fn open_all<'a, S: Source>(
         texts.push(text)?;
     }
     Ok(texts)
+}
+
+/// Two lists of texts that were opened.
+pub(crate) struct Both<T> {
+    /// Those of the first words.
+    pub(crate) first: Vec<T>,
+    /// Those of the second ones.
+    pub(crate) second: Vec<T>,
+}
+
+/// Opens what each word of two lists names, in their order.
+pub(crate) fn open_both<'a, S: Source>(
+    alloc: Global,
+    source: &mut S,
+    first: &[&'a str],
+    second: &[&'a str],
+) -> Result<Both<S::Text>, Fault<'a>>
+    ensures opened { IfOk result (λ both. (kept : List Loaded)
+        → S.loaded source.old ≡ Some kept → (first_texts second_texts : List (List ℕ))
+        × OpensBoth (map (λ w. w.now) first.now) (map (λ w. w.now) second.now)
+        (S.loaded source.old) (S.loaded source.new) first_texts second_texts
+        × AreLeft S.Text.remaining both.first.items first_texts
+        × AreLeft S.Text.remaining both.second.items second_texts) }
+    ensures refusal { IfErr result (λ fault. IsRefusal (S.refused source.new)
+        (map (λ w. w.now) first.now ++ map (λ w. w.now) second.now) fault) }
+{
+    let first = open_all(alloc, source, first)?;
+    let second = open_all(alloc, source, second)?;
+    Ok(Both { first, second })
 }

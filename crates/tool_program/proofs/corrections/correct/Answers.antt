@@ -1,9 +1,8 @@
 use Rattle.std.proofs.Common.{[], ◌∷◌, inl, inr, refl}
 use Rattle.std.proofs.KnownBytes.{Keeps-refl}
-use Rattle.std.proofs.lemmas.Result.{err_from_is_err_and}
-use Rattle.tool_program.proofs.Corrected.{right_corrections}
+use Rattle.std.proofs.lemmas.Result.{IfErr-weaker, IfOk-weaker, err_from_is_err_and}
 use Rattle.tool_program.proofs.Opened.{opened_none, opened_push}
-use Rattle.tool_program.proofs.corrections.corrections_over.Goals as goal
+use Rattle.tool_program.proofs.corrections.correct.Goals as goal
 
 pub returns-in_err-old-clause-fault : goal.returns-in_err-old-clause-fault
 returns-in_err-old-clause-fault g c =
@@ -11,7 +10,7 @@ returns-in_err-old-clause-fault g c =
     let p = err_from_is_err_and c.from_residual.result c.from_residual.ensures.1 in
     rw (p.1, p.2) (λ kept is. inl (
       c.in_err-old.ensures.refusal (ledgers.old.now ∷ ledgers.new.now ∷ []) (inl refl),
-      Keeps-refl (g.W.Write.contents c.args.out.now),
+      Keeps-refl (g.W.Write.contents c.args.out.now.inner),
     ))
 
 pub returns-in_err-new-clause-fault : goal.returns-in_err-new-clause-fault
@@ -21,11 +20,12 @@ returns-in_err-new-clause-fault g c =
     c.from_residual-in_err-new.ensures.1 in
     rw (p.1, p.2) (λ kept is. inl (
       c.in_err-new.ensures.refusal (ledgers.old.now ∷ ledgers.new.now ∷ []) (inr (inl refl)),
-      Keeps-refl (g.W.Write.contents c.args.out.now),
+      Keeps-refl (g.W.Write.contents c.args.out.now.inner),
     ))
 
-pub returns-in-Ok-clause-done : goal.returns-in-Ok-clause-done
-returns-in-Ok-clause-done g c = λ kept is.
+pub returns-clause-done : goal.returns-clause-done
+returns-clause-done g c =
+    IfOk-weaker c.correct_texts.result _ _ (λ removed written kept is.
     let old = c.args.ledgers.now.old.now in
     let new = c.args.ledgers.now.new.now in
     let told = g.S.Source.loaded c.args.source.now in
@@ -36,7 +36,7 @@ returns-in-Ok-clause-done g c = λ kept is.
     (opened_none told) c.in_ok-old.ensures.told in
     let second = opened_push (old ∷ []) new kept told mid end (first.0 ∷ [])
     (remaining c.in_ok-new.new) is first.2 c.in_ok-new.ensures.told in
-    let whole = c.in-Ok.ensures.written first.0 second.0 first.1 second.1 in
+    let whole = written first.0 second.0 first.1 second.1 in
     record {
       old_text = first.0;
       new_text = second.0;
@@ -44,10 +44,11 @@ returns-in-Ok-clause-done g c = λ kept is.
       text = whole.0;
       corrections = whole.1;
       written = whole.2;
-    }
+    }) c.correct_texts.ensures.written
 
-pub returns-in-Err-clause-fault : goal.returns-in-Err-clause-fault
-returns-in-Err-clause-fault g c = λ kept is.
+pub returns-clause-fault : goal.returns-clause-fault
+returns-clause-fault g c =
+    IfErr-weaker c.correct_texts.result _ _ (λ fault right kept is.
     let old = c.args.ledgers.now.old.now in
     let new = c.args.ledgers.now.new.now in
     let told = g.S.Source.loaded c.args.source.now in
@@ -62,7 +63,5 @@ returns-in-Err-clause-fault g c = λ kept is.
       old_text = first.0;
       new_text = second.0;
       opened = second.2;
-      right = right_corrections old new first.0 second.0 c.in-Err.fault c.fault_of.result
-          c.fault_of.ensures (λ of. c.in-Err.ensures.refused_old of first.0 first.1)
-          (λ of. c.in-Err.ensures.refused_new of second.0 second.1);
-    })
+      right = right first.0 second.0 first.1 second.1;
+    })) c.correct_texts.ensures.right
