@@ -1,5 +1,6 @@
 mod Balanced
 pub mod CheckerLemmas
+pub mod ColumnLemmas
 pub mod EndLemmas
 pub mod EntryLists
 pub mod FeedLemmas

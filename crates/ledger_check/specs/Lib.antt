@@ -1,4 +1,5 @@
 pub mod Balances
+pub mod Columns
 pub mod FullBalances
 pub mod Ledger
 pub mod Lines
@@ -6,5 +7,6 @@ pub mod RecountStates
 pub mod Recounts
 pub mod Replays
 pub mod Struck
+pub mod Taps
 pub mod Verdicts
 pub mod inside

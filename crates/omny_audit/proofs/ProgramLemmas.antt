@@ -1,22 +1,27 @@
 -- What was loaded, one more each time, and what the program compares.
 use Rattle.std.proofs.Common.{◌≡◌, ◌∙◌, ℕ, Bool, true, false, not, List, [], ◌∷◌, ◌++◌, length, map}
 use Rattle.std.proofs.Common.{refl, sym, ap, subst, append-nil, append_assoc, nat_eq, Option, Some}
-use Rattle.std.proofs.Common.{None, if◌then◌else◌, Bor, ◌<◌, suc, get_or, inl, inr, arith, codes}
+use Rattle.std.proofs.Common.{None, if◌then◌else◌, Bor, ◌<◌, ◌≤◌, ◌⊎◌, ⊎_elim, zero, suc, get_or}
+use Rattle.std.proofs.Common.{inl, inr, arith, codes}
 use Rattle.std.specs.Prelude.{IfErr, IfSome, Result, Ok, Err, option_map, unwrap_or}
-use Rattle.std.specs.Io.KnownBytes.{Keeps}
-use Rattle.std.specs.Result.{IsErrAnd}
+use Rattle.std.specs.Io.KnownBytes.{Consumes, IsAtEnd, Keeps}
+use Rattle.std.specs.Fmt.{option_append}
+use Rattle.std.specs.Str.{bytes_eq}
+use Rattle.ledger_check.specs.Columns.{has_traced_head, traced_head}
+use Rattle.std.specs.Result.{IsErrAnd, IsErrOf}
+use Rattle.fare_table.specs.declared.fault.TableFault.{TableFault}
 use Rattle.std.proofs.lemmas.Bool.Decides.{nat_tests}
-use Rattle.std.proofs.lemmas.List.{map-append}
+use Rattle.std.proofs.lemmas.List.{map-append, take-append-le}
 use Rattle.clap.specs.Words.{Text}
 use Rattle.ledger_check.specs.Balances.{AreGoodFields}
 use Rattle.tap_views.specs.declared.encoder.TapFields.{TapFields}
 use Rattle.omny_audit.specs.Fault.{IsRightFault, NamesOneOf, is_unwritten, named_by}
 use Rattle.omny_audit.specs.Options.{AuditAsked, files_of, named_file}
 use Rattle.omny_audit.specs.declared.fault.Fault.{Fault}
-use Rattle.omny_audit.specs.declared.fault.Fault.TheVariants.{File, Ledger, Table, Write, Closed}
-use Rattle.omny_audit.specs.declared.fault.Fault.TheVariants.{NoMemory}
-use Rattle.omny_audit.specs.Program.{AreGoodFieldsOfAll, IsRightAuditFault, LoadsNamedFiles}
-use Rattle.omny_audit.specs.Program.{compared}
+use Rattle.omny_audit.specs.declared.fault.Fault.TheVariants.{ClassName, File, Ledger, Table, Write}
+use Rattle.omny_audit.specs.declared.fault.Fault.TheVariants.{Closed, NoMemory}
+use Rattle.omny_audit.specs.Program.{AreClasses, AreGoodFieldsOfAll, IsRightAuditFault, IsTracedAs}
+use Rattle.omny_audit.specs.Program.{LoadsNamedFiles, compared}
 use Rattle.omny_audit.specs.Source.{OpensOne}
 use Rattle.program_manners.specs.Refusals.{IsOneOf}
 use Rattle.program_manners.proofs.Refusals.{is_one_at}
@@ -182,6 +187,7 @@ pub right_later : (table : Text) (told told' : Option (List Loaded))
 right_later table told told' refused (File file) later = absurd (cc)
 right_later table told told' refused Ledger later = tt
 right_later table told told' refused (Table fault) later = absurd (cc)
+right_later table told told' refused ClassName later = tt
 right_later table told told' refused Write later = tt
 right_later table told told' refused Closed later = tt
 right_later table told told' refused NoMemory later = tt
@@ -223,3 +229,56 @@ pub kept_all : {A : Type 0} (r : Result A Fault) (o : Option (List ℕ))
 kept_all (Ok x) o = tt
 kept_all (Err e) None = λ un. tt
 kept_all (Err e) (Some xs) = λ un. refl
+
+-- bytes that were read before the rest of what a reader had
+pub chained : (left left' : Option (List ℕ)) (head file : List ℕ) → Consumes left left' head
+    → IsAllOf (option_append (Some head) left') file → IsAllOf left file
+chained None left' head file reads all = tt
+chained (Some xs) None head file reads all = absurd reads
+chained (Some xs) (Some ys) head file reads all = reads ∙ all
+
+-- a file is a traced ledger exactly if its first bytes say so
+still_head : (head rest : List ℕ) → length traced_head ≤ length head
+    → has_traced_head head ≡ has_traced_head (head ++ rest)
+still_head head rest long = ap (λ (t : List ℕ). bytes_eq t traced_head)
+    (sym (take-append-le (length traced_head) head rest long))
+
+pub headed : (before after : Option (List Loaded)) (name : Option Text)
+    (left left' : Option (List ℕ)) (head file : List ℕ)
+    → OpensOne before after name left → Consumes left left' head
+        → IsAtEnd left' ⊎ (length traced_head ≤ length head)
+    → IsAllOf (option_append (Some head) left') file → IsTracedAs before file (has_traced_head head)
+headed None after name left left' head file opens reads enough all = tt
+headed (Some before) after name None left' head file opens reads enough all = absurd opens
+headed (Some before) after name (Some xs) None head file opens reads enough all = absurd reads
+headed (Some before) after name (Some xs) (Some ys) head file opens reads enough all = ⊎_elim
+    (λ end. ap has_traced_head (sym (append-nil head) ∙ ap (λ (t : List ℕ). head ++ t) (sym end)
+        ∙ all))
+    (λ long. still_head head ys long ∙ ap has_traced_head all)
+    enough
+
+-- a ledger that was opened, whose first bytes were read first
+pub record ReadsLedger (before after : Option (List Loaded)) (name : Option Text) (table : List ℕ)
+    (classes : Option (List ℕ → List ℕ)) (file : List ℕ) : Type 0 where
+  pub told : TellsOne before after name file
+  pub traced : Bool
+  pub is_traced : IsTracedAs before file traced
+  pub are_classes : AreClasses table traced classes
+
+pub reads_ledger : (before after : Option (List Loaded)) (name : Option Text)
+    (left left' whole : Option (List ℕ)) (head begun table lent file : List ℕ)
+    (classes : Option (List ℕ → List ℕ)) → OpensOne before after name left
+        → Consumes left left' head → IsAtEnd left' ⊎ (length traced_head ≤ length head)
+    → begun ≡ head → lent ≡ table → whole ≡ option_append (Some head) left' → IsAllOf whole file
+        → AreClasses lent (has_traced_head begun) classes
+    → ReadsLedger before after name table classes file
+reads_ledger before after name left left' whole head begun table lent file classes opens reads
+    enough same_head same_table is all named =
+    let rest = subst (λ (w : Option (List ℕ)). IsAllOf w file) is all in
+    record {
+      told = opened before after name left file opens (chained left left' head file reads rest);
+      traced = has_traced_head head;
+      is_traced = headed before after name left left' head file opens reads enough rest;
+      are_classes = subst (λ (t : List ℕ). AreClasses t (has_traced_head head) classes) same_table
+          (subst (λ (h : List ℕ). AreClasses lent (has_traced_head h) classes) same_head named);
+    }

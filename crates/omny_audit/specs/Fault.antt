@@ -6,7 +6,7 @@ use Rattle.program_manners.specs.Loads.{Loaded}
 use Rattle.program_manners.specs.declared.loading.LoadFault.{LoadFault}
 use Rattle.program_manners.specs.Refusals.{IsOneOf, RefusesTable, TellsRefusal}
 use Rattle.omny_audit.specs.declared.fault.Fault.{Fault}
-use Rattle.omny_audit.specs.declared.fault.Fault.TheVariants.{File, Ledger, Table}
+use Rattle.omny_audit.specs.declared.fault.Fault.TheVariants.{ClassName, File, Ledger, Table}
 use Rattle.omny_audit.specs.declared.fault.Fault.TheVariants.{Write, Closed, NoMemory}
 
 -- the line that the program writes of a fault
@@ -14,6 +14,7 @@ abbrev pub audit_fault_text : Fault → List ℕ
 audit_fault_text (File file) = load_text file.name.now file.fault
 audit_fault_text Ledger = codes "fault: cannot read the ledger"
 audit_fault_text (Table fault) = table_text fault
+audit_fault_text ClassName = codes "fault: table has a class name that no ledger can have"
 audit_fault_text Write = codes "fault: cannot write"
 audit_fault_text Closed = codes "fault: cannot write"
 audit_fault_text NoMemory = codes "fault: out of memory"
@@ -46,6 +47,7 @@ IsRightFault table told told' refused (File file) =
     TellsRefusal refused file.name.now file.fault
 IsRightFault table told told' refused Ledger = Unit {0}
 IsRightFault table told told' refused (Table fault) = RefusesTable table told told' fault
+IsRightFault table told told' refused ClassName = Unit {0}
 IsRightFault table told told' refused Write = Unit {0}
 IsRightFault table told told' refused Closed = Unit {0}
 IsRightFault table told told' refused NoMemory = Unit {0}

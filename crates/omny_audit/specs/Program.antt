@@ -1,16 +1,21 @@
 -- What a run of the program does.
-use Rattle.std.specs.Prelude.{◌≡◌, ◌↔◌, ℕ, Bool, true, false, List, [], ◌∷◌, ◌++◌, map, Option, None, Some}
+use Rattle.std.specs.Prelude.{◌≡◌, ◌↔◌, ⊤, ℕ, Bool, true, false, List, [], ◌∷◌, ◌++◌, map, Option, None, Some}
 use Rattle.std.specs.Prelude.{MatchBool}
 use Rattle.std.specs.Io.KnownBytes.{Appends, Keeps}
 use Rattle.clap.specs.Words.{Text}
 use Rattle.fare_table.specs.Fares.{Fares}
 use Rattle.fare_table.specs.Meaning.{Means}
 use Rattle.ledger_check.specs.Balances.{AreGoodFields}
+use Rattle.ledger_check.specs.Columns.{has_traced_head}
+use Rattle.settled_texts.specs.Classes.{class_of_token}
+use Rattle.toml.specs.Data.{Members}
+use Rattle.toml.specs.Parse.{parse_document}
 use Rattle.tap_views.specs.declared.encoder.TapFields.{TapFields}
 use Rattle.omny_audit.specs.Reports.{IsAudit, IsRightAudit}
 use Rattle.omny_audit.specs.Fault.{IsRightFault, audit_fault_text, is_quiet, is_unwritten}
 use Rattle.omny_audit.specs.Options.{AuditAsked}
 use Rattle.fare_texts.specs.WrittenOut.{Begins}
+use Rattle.omny_audit.specs.Traced.{ReadLine}
 use Rattle.program_manners.specs.Loads.{Loaded, Tells, TellsOne}
 use Rattle.program_manners.specs.LineWritten.{LineWritten}
 use Rattle.program_manners.specs.declared.loading.LoadFault.{LoadFault}
@@ -50,6 +55,18 @@ LoadsReport None told told' report = (told' ≡ told) × (report ≡ None)
 LoadsReport (Some name) told told' report =
     (text : List ℕ) × TellsOne told told' (Some name) text × (report ≡ Some text)
 
+-- Whether the ledger is a traced one. Where the source keeps no list, it is not known what was read.
+abbrev pub IsTracedAs : Option (List Loaded) → List ℕ → Bool → Type 0
+IsTracedAs None ledger traced = ⊤
+IsTracedAs (Some loads) ledger traced = traced ≡ has_traced_head ledger
+
+-- these are the classes that the text of the table names for tokens, if the ledger is traced
+abbrev pub AreClasses : List ℕ → Bool → Option (List ℕ → List ℕ) → Type 0
+AreClasses table false classes = classes ≡ None
+AreClasses table true None = ⊥
+AreClasses table true (Some classes) = (tree : Members) × (parse_document table ≡ Some tree)
+    × ((token : List ℕ) → class_of_token tree token ≡ Some (classes token))
+
 -- The table was loaded, then the uploads, then the report, if it is named, and then all of the
 -- ledger. The text is what is told of the ledger beside the good taps of the uploads, if uploads are
 -- named, and of the report. It says that all is well, or not.
@@ -68,10 +85,18 @@ pub record HasFound (asked : AuditAsked) (told told' : Option (List Loaded)) (te
   pub loads_report : LoadsReport asked.report after_uploads after_report report
   pub ledger : List ℕ
   pub loads_ledger : TellsOne after_report told' asked.ledger ledger
-  pub audit : IsAudit asked.all fares ledger (compared asked.uploads good) report text well
+  -- a traced ledger's columns are held against the classes that the table's text names
+  pub traced : Bool
+  pub is_traced : IsTracedAs after_report ledger traced
+  pub classes : Option (List ℕ → List ℕ)
+  pub are_classes : AreClasses loads_table.bytes traced classes
+  pub read : List ReadLine
+  pub audit : IsAudit asked.all fares classes ledger read (compared asked.uploads good) report text
+      well
   -- well exactly if the text is, whole, a ledger of legal histories, with the taps of the uploads,
-  -- and the report is its own
-  pub right : (well ≡ true) ↔ IsRightAudit fares ledger (compared asked.uploads good) report
+  -- and the columns of a traced one are right, and the report is its own
+  pub right : (well ≡ true)
+      ↔ IsRightAudit fares classes ledger read (compared asked.uploads good) report
 
 -- what was appended to the writer is the text of what was found
 pub record Audits (asked : AuditAsked) (told told' : Option (List Loaded))

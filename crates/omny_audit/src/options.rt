@@ -41,6 +41,10 @@ tell, and then, in place of `legal N lines`:
   wrong N of M lines, of K tokens; cents C, wanted D
                              C is what the lines ask for, and D what the rules give their taps
 With --uploads each missing and each surplus tap follows.
+A traced ledger, known by its head line, is checked without its last three columns. Behind these lines
+comes, if it is legal or with --all:
+  all classes of the table                   each line has the class that the table names for its token
+  line N has another class than CLASS        the first line that has not
 With --report a last line follows, if the ledger is legal:
   report of the ledger                       each line is that of the sums of the ledger
   wrong report line N: wants LINE            the first line that is not, and the one that should be
