@@ -3,6 +3,7 @@ pub mod Columns
 pub mod FullBalances
 pub mod Ledger
 pub mod Lines
+pub mod Places
 pub mod RecountStates
 pub mod Recounts
 pub mod Replays
