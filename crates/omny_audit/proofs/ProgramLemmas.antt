@@ -21,11 +21,11 @@ use Rattle.omny_audit.specs.declared.fault.Fault.{Fault}
 use Rattle.omny_audit.specs.declared.fault.Fault.TheVariants.{ClassName, File, Ledger, Table, Write}
 use Rattle.omny_audit.specs.declared.fault.Fault.TheVariants.{Closed, NoMemory}
 use Rattle.omny_audit.specs.Program.{AreClasses, AreGoodFieldsOfAll, IsRightAuditFault, IsTracedAs}
-use Rattle.omny_audit.specs.Program.{LoadsNamedFiles, compared}
+use Rattle.omny_audit.specs.Program.{LoadsNamedFiles, LoadsReport, compared}
 use Rattle.omny_audit.specs.Source.{OpensOne}
 use Rattle.program_manners.specs.Refusals.{IsOneOf}
 use Rattle.program_manners.proofs.Refusals.{is_one_at}
-use Rattle.omny_audit.specs.inside.Fault.{is_of_loading}
+use Rattle.omny_audit.specs.inside.Fault.{IsRightOfNames, is_of_loading}
 use Rattle.omny_audit.specs.inside.Source.{IsAllOf}
 use Rattle.program_manners.specs.Loads.{Loaded, Tells, TellsOne}
 use Rattle.program_manners.specs.declared.loading.LoadFault.{LoadFault}
@@ -187,7 +187,7 @@ pub right_later : (table : Text) (told told' : Option (List Loaded))
 right_later table told told' refused (File file) later = absurd (cc)
 right_later table told told' refused Ledger later = tt
 right_later table told told' refused (Table fault) later = absurd (cc)
-right_later table told told' refused ClassName later = tt
+right_later table told told' refused ClassName later = absurd (cc)
 right_later table told told' refused Write later = tt
 right_later table told told' refused Closed later = tt
 right_later table told told' refused NoMemory later = tt
@@ -282,3 +282,39 @@ reads_ledger before after name left left' whole head begun table lent file class
       are_classes = subst (λ (t : List ℕ). AreClasses t (has_traced_head head) classes) same_table
           (subst (λ (h : List ℕ). AreClasses lent (has_traced_head h) classes) same_head named);
     }
+
+-- what was loaded after the table, where the ledger was opened
+pub loaded_report : (name : Option Text) (told told' : Option (List Loaded))
+    (report : Option (List ℕ)) → LoadsReport name told told' report
+    → (more : List Loaded) × Tells told told' more
+loaded_report None told told' report is =
+    ([], subst (λ (t : Option (List Loaded)). Tells told t []) (sym is.0) (tells_none told))
+loaded_report (Some name) told told' report is = (_, is.1)
+
+pub loaded_ledger : (before after : Option (List Loaded)) (name : Option Text)
+    (left : Option (List ℕ)) → OpensOne before after name left
+    → (more : List Loaded) × Tells before after more
+loaded_ledger None after name left opens = ([], tt)
+loaded_ledger (Some before) after name None opens = absurd opens
+loaded_ledger (Some before) after name (Some text) opens = (_, opens)
+
+-- the names of the classes are not had, for the right reason
+pub right_of_names : (asked : AuditAsked) (text : List ℕ) (later : List Loaded)
+    (told told' : Option (List Loaded)) (refused : Option (Option (List ℕ) × LoadFault))
+    (fault : Fault) (out out' : Option (List ℕ))
+    → Tells told told' (record { name = Some asked.table; bytes = text } ∷ later)
+    → IsRightOfNames text fault → is_unwritten fault ≡ false
+    → IsRightAuditFault asked told told' refused fault out out'
+right_of_names asked text later told told' refused fault out out' loads right written =
+    written_first asked told told' refused fault out out' written (by_fault fault right)
+  where
+    by_fault : (fault : Fault) → IsRightOfNames text fault
+        → IsRightFault asked.table told told' refused fault
+    by_fault (File file) right = absurd right
+    by_fault Ledger right = tt
+    by_fault (Table fault) right = absurd right
+    by_fault ClassName right =
+        record { bytes = text; later = later; told_is = loads; names = right }
+    by_fault Write right = tt
+    by_fault Closed right = tt
+    by_fault NoMemory right = tt

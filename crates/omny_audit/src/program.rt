@@ -9,7 +9,8 @@ ghost use Rattle.fare_table.specs.Meaning.{Means};
 ghost use Rattle.ledger_check.specs.Balances.{IsBalance};
 ghost use Rattle.ledger_check.specs.Columns.{has_traced_head, traced_head};
 ghost use Rattle.tap_views.specs.declared.encoder.TapFields.{TapFields};
-ghost use Rattle.omny_audit.specs.Fault.{IsRightFault, NamesOneOf, is_unwritten, named_by};
+ghost use Rattle.omny_audit.specs.Fault.{IsRightFault, NamesOneOf, NamesUnplainClass};
+ghost use Rattle.omny_audit.specs.Fault.{is_unwritten, named_by};
 ghost use Rattle.omny_audit.specs.Options.{AsksForAuditText, ParsesForAudit, audit_asked_by};
 ghost use Rattle.omny_audit.specs.inside.Options.{audit_asked_of};
 ghost use Rattle.omny_audit.specs.inside.Reports.{HasSummedFor, text_of};
@@ -17,7 +18,7 @@ ghost use Rattle.omny_audit.specs.Options.{files_of, named_file};
 ghost use Rattle.omny_audit.specs.Program.{AreClasses, AreGoodFieldsOfAll, AuditGaveUp, Audits};
 ghost use Rattle.omny_audit.specs.Program.{LoadsNamedFiles};
 ghost use Rattle.omny_audit.specs.Program.{LoadsReport};
-ghost use Rattle.omny_audit.specs.inside.Fault.{is_of_loading};
+ghost use Rattle.omny_audit.specs.inside.Fault.{IsRightOfNames, is_of_loading};
 ghost use Rattle.omny_audit.specs.inside.Traced.{HasReadAs, classes_of};
 ghost use Rattle.omny_audit.specs.Program.{IsFaultTold, IsRightAuditFault};
 ghost use Rattle.omny_audit.specs.Source.{OpensOne};
@@ -172,15 +173,17 @@ fn read_head<R: Read>(alloc: Global, ledger: &mut R) -> Result<Vec<u8>, Fault<'s
     Err(Fault::Ledger)
 }
 
-/// Why the names of the classes are not had. The text was read as a fare table before.
+/// Why the names of the classes are not had. The text was read as a fare table before, so that it is
+/// TOML and names a default class.
 fn of_names(fault: ClassFault) -> Fault<'static>
+    ensures right { (text : List ℕ) → (fault ≡ ClassFault.Name → NamesUnplainClass text)
+        → IsRightOfNames text result }
     ensures fault { is_unwritten result ≡ false }
     ensures named { named_by result ≡ None }
-    ensures later { is_of_loading result ≡ false }
 {
     match fault {
-        ClassFault::Text | ClassFault::Name => Fault::ClassName,
-        ClassFault::NoMemory => Fault::NoMemory,
+        ClassFault::Name => Fault::ClassName,
+        ClassFault::Text | ClassFault::NoMemory => Fault::NoMemory,
     }
 }
 
@@ -190,9 +193,9 @@ fn trace_of(alloc: Global, head: &[u8], table: &[u8]) -> Result<Option<Trace>, F
     ensures classes { IfOk result (λ trace.
         AreClasses table.now (has_traced_head head.now) (classes_of trace)) }
     ensures read { IfOk result (λ trace. HasReadAs trace [] []) }
+    ensures right { IfErr result (IsRightOfNames table.now) }
     ensures fault { IfErr result (λ fault. is_unwritten fault ≡ false) }
     ensures named { IfErr result (λ fault. named_by fault ≡ None) }
-    ensures later { IfErr result (λ fault. is_of_loading fault ≡ false) }
 {
     if !has_traced_head(head) {
         return Ok(None);

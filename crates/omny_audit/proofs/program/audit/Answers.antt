@@ -12,7 +12,10 @@ use Rattle.omny_audit.specs.inside.Traced.{classes_of}
 use Rattle.omny_audit.specs.Program.{IsRightAuditFault, compared}
 use Rattle.omny_audit.proofs.ProgramLemmas.{at_ledger, at_report, at_uploads, both_err, compared_is}
 use Rattle.omny_audit.proofs.ProgramLemmas.{kept_all, loads_same, names_none, names_same}
-use Rattle.omny_audit.proofs.ProgramLemmas.{reads_ledger, right_later, written_first}
+use Rattle.omny_audit.proofs.ProgramLemmas.{loaded_ledger, loaded_report, reads_ledger, right_later}
+use Rattle.omny_audit.proofs.ProgramLemmas.{right_of_names, written_first}
+use Rattle.omny_audit.specs.inside.Fault.{IsRightOfNames}
+use Rattle.program_manners.proofs.LoadsOn.{tells_on}
 use Rattle.omny_audit.proofs.ProgramLemmas.{handed_on}
 use Rattle.omny_audit.proofs.program.audit.Goals as goal
 
@@ -279,14 +282,22 @@ returns-in_err-head-clause-right g c =
     (written_first asked _ _ _ fault _ _ c.in_err-head.ensures.fault
     (right_later asked.table _ _ _ fault c.in_err-head.ensures.later))
 
+-- the table was loaded first, and then the uploads, the report and the ledger
 pub returns-in_err-trace-clause-right : goal.returns-in_err-trace-clause-right
 returns-in_err-trace-clause-right g c =
     let fault = c.in_err-trace.field-0.0 in
     let asked = audit_asked_of c.args.options.now in
+    let text = c.in_ok-table.table_text.items in
+    let report = loaded_report _ _ _ _ c.in_ok-report.ensures.ok in
+    let ledger = loaded_ledger _ _ _ _ c.in_ok-ledger.ensures.ok in
+    let uploads = c.in_ok-balance.ensures.ok.2 in
+    let behind = tells_on _ _ _ _ _ uploads.told_is (tells_on _ _ _ _ _ report.1 ledger.1) in
     handed_on c.from_residual-in_err-trace.result fault (λ f. IsRightAuditFault asked _ _ _ f _ _)
     c.from_residual-in_err-trace.ensures.1
-    (written_first asked _ _ _ fault _ _ c.in_err-trace.ensures.fault
-    (right_later asked.table _ _ _ fault c.in_err-trace.ensures.later))
+    (right_of_names asked text _ _ _ _ fault _ _
+    (tells_on _ _ _ _ _ c.in_ok-table.ensures.ok.0 behind)
+    (subst (λ (t : List ℕ). IsRightOfNames t fault) c.as_slice-2.ensures.value
+    c.in_err-trace.ensures.right) c.in_err-trace.ensures.fault)
 
 pub returns-in_err-head-clause-fault : goal.returns-in_err-head-clause-fault
 returns-in_err-head-clause-fault g c = λ all. kept_all c.from_residual-in_err-head.result
