@@ -259,7 +259,7 @@ headed (Some before) after name (Some xs) (Some ys) head file opens reads enough
 
 -- a ledger that was opened, whose first bytes were read first
 pub record ReadsLedger (before after : Option (List Loaded)) (name : Option Text) (table : List ℕ)
-    (classes : Option (List ℕ → List ℕ)) (file : List ℕ) : Type 0 where
+    (classes : Option Wanted) (file : List ℕ) : Type 0 where
   pub told : TellsOne before after name file
   pub traced : Bool
   pub is_traced : IsTracedAs before file traced
@@ -267,7 +267,7 @@ pub record ReadsLedger (before after : Option (List Loaded)) (name : Option Text
 
 pub reads_ledger : (before after : Option (List Loaded)) (name : Option Text)
     (left left' whole : Option (List ℕ)) (head begun table lent file : List ℕ)
-    (classes : Option (List ℕ → List ℕ)) → OpensOne before after name left
+    (classes : Option Wanted) → OpensOne before after name left
         → Consumes left left' head → IsAtEnd left' ⊎ (length traced_head ≤ length head)
     → begun ≡ head → lent ≡ table → whole ≡ option_append (Some head) left' → IsAllOf whole file
         → AreClasses lent (has_traced_head begun) classes

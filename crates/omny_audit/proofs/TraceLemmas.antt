@@ -3,7 +3,7 @@ use Rattle.std.proofs.Common.{◌≡◌, ◌≢◌, ◌∙◌, ◌⊎◌, inl, i
 use Rattle.std.proofs.Common.{true, false, List, [], ◌∷◌, ◌++◌, append_assoc, append-nil, codes}
 use Rattle.std.proofs.Common.{length, length-append, Option, None, Some, refl, sym, ap, subst}
 use Rattle.std.proofs.Common.{arith, if◌then◌else◌}
-use Rattle.std.specs.Prelude.{is_some, option_map}
+use Rattle.std.specs.Prelude.{◌||◌, is_some, option_map}
 use Rattle.std.specs.Option.{option_or}
 use Rattle.std.specs.Str.{bytes_eq}
 use Rattle.std.proofs.lemmas.Slice.Eq.{bytes_eq-Decides}
@@ -17,10 +17,20 @@ use Rattle.ledger_check.specs.Lines.{IsLine, Lacks, lines_of}
 use Rattle.ledger_check.proofs.ColumnLemmas.{cut_fits, cut_long, untraced-append}
 use Rattle.ledger_check.proofs.LineLemmas.{lacks-append, lines-part}
 use Rattle.ledger_check.proofs.RecountLemmas.{split_line_at, split_part}
-use Rattle.omny_audit.specs.Traced.{AreColumnsTold, AreLinesOf, AreRead, ReadLine, TellsTracedTap}
-use Rattle.omny_audit.specs.Traced.{TracedTap, class_fault, lines_read, traced_by, wrong_class}
-use Rattle.omny_audit.specs.inside.Traced.{HasLines, HasReadAll, HasReadAs, HasTraced, IsKeptOf}
-use Rattle.omny_audit.specs.inside.Traced.{classes_of}
+use Rattle.ledger_check.specs.Places.{IsFirstUnnamed, IsUnnamed, is_named, is_place, place_finding}
+use Rattle.ledger_check.specs.Places.{tap_at, uploads_of}
+use Rattle.ledger_check.specs.declared.places.PlaceFinding.{PlaceFinding}
+use Rattle.ledger_check.specs.declared.places.PlaceFinding.TheVariants.{Right, Another, Again}
+use Rattle.ledger_check.specs.declared.places.Places.{Places}
+use Rattle.omny_audit.specs.Traced.{AreLinesOf, AreRead, IsFaultBehind, IsPlaceFault, ReadLine}
+use Rattle.omny_audit.specs.Traced.{TellsTracedTap, TracedTap, Wanted, class_fault, fault_by}
+use Rattle.omny_audit.specs.Traced.{have_place, lines_read, place_fault, traced_by, wrong_class}
+use Rattle.omny_audit.specs.Traced.{wrong_place}
+use Rattle.omny_audit.specs.inside.Traced.{HasColumns, HasLines, HasPlaces, HasReadAll, HasReadAs}
+use Rattle.omny_audit.specs.inside.Traced.{HasTraced, HaveNamed, IsKeptOf, uploads_in, wanted_by}
+use Rattle.omny_audit.specs.inside.Traced.{wanted_of, wrong_place_in}
+use Rattle.omny_audit.specs.declared.traced.PlaceFault.{PlaceFault}
+use Rattle.omny_audit.specs.declared.traced.PlaceFault.TheVariants.{NoLine, OtherTap, Repeated}
 use Rattle.omny_audit.specs.declared.traced.LinesRead.{LinesRead}
 use Rattle.omny_audit.specs.declared.traced.Trace.{Trace}
 use Rattle.omny_audit.specs.declared.traced.WrongClass.{WrongClass}
@@ -71,18 +81,145 @@ or_none : (wrong : Option WrongClass) → option_or wrong None ≡ wrong
 or_none None = refl
 or_none (Some wrong) = refl
 
+-- places, where a line tells no tap, or no uploads are named
+or_no_fault : (fault : Option PlaceFault) → option_or fault None ≡ fault
+or_no_fault None = refl
+or_no_fault (Some fault) = refl
+
+or_false : (b : Bool) → (b || false) ≡ b
+or_false true = refl
+or_false false = refl
+
+pub none_wrong : (uploads : Option (List (List TapFields))) → None ≡ wrong_place_in uploads []
+none_wrong None = refl
+none_wrong (Some uploads) = refl
+
+pub no_tap_placed : (places : Option Places) (wrong : Option PlaceFault) (line : List ℕ)
+    (read : List ReadLine) → HasPlaces places wrong read
+    → HasPlaces places wrong (record { line = line; traced = None } ∷ read)
+no_tap_placed None wrong line read has =
+    record { wrong_is = has.wrong_is; named = λ none. tt }
+no_tap_placed (Some places) wrong line read has = record {
+  wrong_is = has.wrong_is ∙ sym (or_no_fault (wrong_place (uploads_of places) read));
+  named = λ none upload place.
+      has.named none upload place ∙ sym (or_false (have_place read upload place));
+}
+
+-- behind a wrong place the places stay as they were
+pub wrong_stays : (places : Option Places) (wrong : PlaceFault) (line : List ℕ)
+    (traced : Option TracedTap) (read : List ReadLine) → HasPlaces places (Some wrong) read
+    → HasPlaces places (Some wrong) (record { line = line; traced = traced } ∷ read)
+wrong_stays None wrong line traced read has = record { wrong_is = has.wrong_is; named = λ none. absurd (apart none) }
+  where
+    apart : ◌≡◌ {A = Option PlaceFault} (Some wrong) None → ⊥
+    apart none = cc
+wrong_stays (Some places) wrong line traced read has = record {
+  wrong_is = ap (λ (w : Option PlaceFault). option_or w
+      (place_fault (uploads_of places) read (length read + 1) traced)) has.wrong_is;
+  named = λ none. absurd (apart none);
+}
+  where
+    apart : ◌≡◌ {A = Option PlaceFault} (Some wrong) None → ⊥
+    apart none = cc
+
+-- without uploads nothing is looked at
+pub no_uploads_placed : (line : List ℕ) (traced : Option TracedTap) (read : List ReadLine)
+    → HasPlaces None None read
+    → HasPlaces None None (record { line = line; traced = traced } ∷ read)
+no_uploads_placed line traced read has = record { wrong_is = refl; named = λ none. tt }
+
+-- a place was named, and what was found of the tap there
+pub place_named : (places after : Places) (line : List ℕ) (traced : TracedTap)
+    (read : List ReadLine) (number : ℕ) (finding : PlaceFinding)
+    → HasPlaces (Some places) None read → number ≡ length read + 1
+    → finding ≡ place_finding (tap_at (uploads_of places) traced.upload traced.place)
+        (is_named places traced.upload traced.place) traced.tap
+    → uploads_of after ≡ uploads_of places
+    → (finding ≡ Right → (upload place : ℕ) → is_named after upload place
+        ≡ (is_named places upload place || is_place upload place traced.upload traced.place))
+    → HasPlaces (Some after) (fault_by number traced.upload traced.place finding)
+        (record { line = line; traced = Some traced } ∷ read)
+place_named places after line traced read number finding has counted found same named = record {
+  wrong_is = ap (λ (n : ℕ). fault_by n traced.upload traced.place finding) counted
+      ∙ ap (fault_by (length read + 1) traced.upload traced.place) (found
+      ∙ ap (λ (b : Bool). place_finding (tap_at (uploads_of places) traced.upload traced.place) b
+          traced.tap) (has.named refl traced.upload traced.place))
+      ∙ ap (λ (w : Option PlaceFault). option_or w (place_fault (uploads_of places) read
+          (length read + 1) (Some traced))) has.wrong_is
+      ∙ ap (λ (u : List (List TapFields)). wrong_place u
+          (record { line = line; traced = Some traced } ∷ read)) (sym same);
+  named = λ none upload place.
+      named (right_of finding none) upload place
+      ∙ ap (λ (b : Bool). b || is_place upload place traced.upload traced.place)
+          (has.named refl upload place);
+}
+  where
+    right_of : (f : PlaceFinding) → fault_by number traced.upload traced.place f ≡ None → f ≡ Right
+    right_of Right none = refl
+    right_of Another none = absurd (cc)
+    right_of Again none = absurd (cc)
+
+-- what the columns are held against stays the same
+pub wanted_same : (a b : LinesRead) → a.names ≡ b.names → uploads_in a.places ≡ uploads_in b.places
+    → wanted_of a ≡ wanted_of b
+wanted_same a b names uploads =
+    ap (λ (n : ClassNames). wanted_with (class_by n) (uploads_in a.places)) names
+    ∙ ap (wanted_with (class_by b.names)) uploads
+  where
+    wanted_with : (List ℕ → List ℕ) → Option (List (List TapFields)) → Wanted
+    wanted_with classes uploads = record { classes = classes; uploads = uploads }
+
+-- places that are the same
+pub placed_same : (places after : Option Places) (wrong wrong' : Option PlaceFault)
+    (read : List ReadLine) → after ≡ places → wrong' ≡ wrong → HasPlaces places wrong read
+    → HasPlaces after wrong' read
+placed_same places after wrong wrong' read same same' has =
+    subst (λ (p : Option Places). HasPlaces p wrong' read) (sym same)
+    (subst (λ (w : Option PlaceFault). HasPlaces places w read) (sym same') has)
+
+-- the fault behind lines, by the places that they have
+pub fault_behind : (uploads : List (List TapFields)) (named named' : ℕ → ℕ → Bool)
+    (wrong fault : Option PlaceFault)
+    → (wrong ≡ None → (upload place : ℕ) → named upload place ≡ named' upload place)
+    → IsFaultBehind uploads named wrong fault → IsFaultBehind uploads named' wrong fault
+fault_behind uploads named named' (Some wrong) fault same is = is
+fault_behind uploads named named' None None same is = λ upload place left.
+    is upload place (record { some = left.some; not_named = same refl upload place
+    ∙ left.not_named })
+fault_behind uploads named named' None (Some (OtherTap line upload place)) same is = is
+fault_behind uploads named named' None (Some (Repeated line upload place)) same is = is
+fault_behind uploads named named' None (Some (NoLine upload place)) same is = record {
+  is = record { some = is.is.some; not_named = sym (same refl upload place) ∙ is.is.not_named };
+  first = λ upload' place' before left. is.first upload' place' before
+      (record { some = left.some; not_named = same refl upload' place' ∙ left.not_named });
+}
+
+pub place_fault_of : (places : Places) (wrong fault : Option PlaceFault) (read : List ReadLine)
+    → HasPlaces (Some places) wrong read
+    → IsFaultBehind (uploads_of places) (is_named places) wrong fault
+    → IsPlaceFault (Some (uploads_of places)) read fault
+place_fault_of places wrong fault read has is =
+    subst (λ (w : Option PlaceFault). IsFaultBehind (uploads_of places) (have_place read) w fault)
+    has.wrong_is
+    (fault_behind (uploads_of places) (is_named places) (have_place read) wrong fault has.named is)
+
 -- one line more
 pub took_other : (so_far after : LinesRead) (kept whole : List ℕ) (read : List ReadLine)
     → HasLines so_far read
     → IsKeptOf kept whole → cut_line kept ≡ None → after.lines ≡ so_far.lines + 1
         → after.wrong_class ≡ so_far.wrong_class
-    → after.names ≡ so_far.names → HasLines after (record { line = whole; traced = None } ∷ read)
-took_other so_far after kept whole read has same none count class names = record {
+    → after.names ≡ so_far.names → HasPlaces after.places after.wrong_place read
+    → HasLines after (record { line = whole; traced = None } ∷ read)
+took_other so_far after kept whole read has same none count class names places = record {
   are = (has.are, subst (λ (c : Option TracedLine). TellsTracedTap c None)
       (sym (kept_cut kept whole None same none)) refl);
   count = let before = has.count in omega (arith, before, count);
-  class = class ∙ has.class ∙ ap (λ (n : ClassNames). wrong_class (class_by n) read) (sym names)
-      ∙ sym (or_none (wrong_class (class_by after.names) read));
+  columns = record {
+    class = class ∙ has.columns.class
+        ∙ ap (λ (n : ClassNames). wrong_class (class_by n) read) (sym names)
+        ∙ sym (or_none (wrong_class (class_by after.names) read));
+    places = no_tap_placed after.places after.wrong_place whole read places;
+  };
 }
 
 pub took_cut : (so_far after : LinesRead) (kept whole : List ℕ) (cut : TracedLine)
@@ -92,18 +229,22 @@ pub took_cut : (so_far after : LinesRead) (kept whole : List ℕ) (cut : TracedL
     → after.wrong_class ≡ option_or so_far.wrong_class
         (class_fault (class_by so_far.names) (so_far.lines + 1) traced)
     → after.names ≡ so_far.names → TellsTracedTap (Some cut) traced
+    → HasPlaces after.places after.wrong_place (record { line = whole; traced = traced } ∷ read)
     → HasLines after (record { line = whole; traced = traced } ∷ read)
-took_cut so_far after kept whole cut traced read has same is count class names tells = record {
+took_cut so_far after kept whole cut traced read has same is count class names tells places = record {
   are = (has.are, subst (λ (c : Option TracedLine). TellsTracedTap c traced)
       (sym (kept_cut kept whole (Some cut) same is)) tells);
   count = let before = has.count in omega (arith, before, count);
-  class = class
-      ∙ ap (λ (w : Option WrongClass). option_or w
-      (class_fault (class_by so_far.names) (so_far.lines + 1) traced)) has.class
-      ∙ ap (λ (n : ℕ). option_or (wrong_class (class_by so_far.names) read)
-          (class_fault (class_by so_far.names) (n + 1) traced)) has.count
-      ∙ ap (λ (n : ClassNames). option_or (wrong_class (class_by n) read)
-          (class_fault (class_by n) (length read + 1) traced)) (sym names);
+  columns = record {
+    class = class
+        ∙ ap (λ (w : Option WrongClass). option_or w
+            (class_fault (class_by so_far.names) (so_far.lines + 1) traced)) has.columns.class
+        ∙ ap (λ (n : ℕ). option_or (wrong_class (class_by so_far.names) read)
+            (class_fault (class_by so_far.names) (n + 1) traced)) has.count
+        ∙ ap (λ (n : ClassNames). option_or (wrong_class (class_by n) read)
+            (class_fault (class_by n) (length read + 1) traced)) (sym names);
+    places = places;
+  };
 }
 
 -- a text that was read, and more of it
@@ -189,8 +330,7 @@ abbrev pub Ended : Trace → List ℕ → List ℕ → List ℕ → List ℕ →
 Ended trace file told text text' =
     (more : List ℕ) × (read : List ReadLine) × (text' ≡ text ++ more) ×
         (told ++ more ≡ untraced_lines (lines_of file))
-    × AreLinesOf file read × (trace.so_far.wrong_class ≡ wrong_class (class_by trace.so_far.names)
-        read)
+    × AreLinesOf file read × HasColumns trace.so_far read
 
 pub ended_whole : (trace : Trace) (file told text : List ℕ) (read : List ReadLine)
     → HasTraced trace file told read
@@ -206,7 +346,7 @@ ended_whole trace file told text read is none =
       sym (append-nil text),
       append-nil told ∙ is.told ∙ ap untraced_lines (sym all),
       record { split = sym all; are = is.lines.are },
-      is.lines.class,
+      is.lines.columns,
     )
   where
     nothing : lines_read read ++ lines_of [] ≡ lines_read read
@@ -232,7 +372,7 @@ ended_cut trace after file told text text' read is some (next, same, has) writte
           ∙ sym (untraced-append (lines_read read) (is.begun ∷ [])) ∙ ap untraced_lines (sym all),
       record { split = ap (λ (l : List ℕ). lines_read read ++ l ∷ []) same
           ∙ sym all; are = has.are },
-      has.class,
+      has.columns,
     )
   where
     some_begun : (kept begun : List ℕ) → IsKeptOf kept begun → 0 < length kept → 0 < length begun
@@ -242,7 +382,7 @@ ended_cut trace after file told text text' read is some (next, same, has) writte
 -- what is read of a file that goes on
 pub reads_more : (trace : Option Trace) (file told : List ℕ) → HasReadAs trace file told
     → (more : List ℕ)
-    → (rest : List ℕ) × (read_as (is_some (classes_of trace)) (file ++ more) ≡ told ++ rest)
+    → (rest : List ℕ) × (read_as (is_some (wanted_by trace)) (file ++ more) ≡ told ++ rest)
 reads_more None file told is more = (more, ap (λ (t : List ℕ). t ++ more) (sym is))
 reads_more (Some trace) file told (read, is) more = (
   untraced_lines (lines_of (is.begun ++ more)),

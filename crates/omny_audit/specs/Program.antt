@@ -61,7 +61,7 @@ IsTracedAs None ledger traced = ⊤
 IsTracedAs (Some loads) ledger traced = traced ≡ has_traced_head ledger
 
 -- these are the classes that the text of the table names for tokens, if the ledger is traced
-abbrev pub AreClasses : List ℕ → Bool → Option (List ℕ → List ℕ) → Type 0
+abbrev pub AreClasses : List ℕ → Bool → Option Wanted → Type 0
 AreClasses table false classes = classes ≡ None
 AreClasses table true None = ⊥
 AreClasses table true (Some classes) = (tree : Members) × (parse_document table ≡ Some tree)
@@ -88,7 +88,7 @@ pub record HasFound (asked : AuditAsked) (told told' : Option (List Loaded)) (te
   -- a traced ledger's columns are held against the classes that the table's text names
   pub traced : Bool
   pub is_traced : IsTracedAs after_report ledger traced
-  pub classes : Option (List ℕ → List ℕ)
+  pub classes : Option Wanted
   pub are_classes : AreClasses loads_table.bytes traced classes
   pub read : List ReadLine
   pub audit : IsAudit asked.all fares classes ledger read (compared asked.uploads good) report text

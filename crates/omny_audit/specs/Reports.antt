@@ -46,7 +46,7 @@ IsReportLine fares ledger (Some report) true rest fits =
 -- the ledger that is read of it, beside the good taps of the uploads, if there are uploads; behind it
 -- what is found of the columns, if the ledger is traced, and legal or asked for all its lines; and
 -- behind it what is found of the report, if there is one. All is well if all of this is.
-pub record IsAudit (all : Bool) (fares : Fares) (classes : Option (List ℕ → List ℕ)) (file : List ℕ)
+pub record IsAudit (all : Bool) (fares : Fares) (classes : Option Wanted) (file : List ℕ)
     (read : List ReadLine) (good : Option (List TapFields)) (report : Option (List ℕ))
     (text : List ℕ) (well : Bool) : Type 0 where
   pub found : List ℕ
@@ -71,7 +71,7 @@ HasOwnReport (Some report) entries = IsReportOfLedger entries report
 
 -- what is read of the file is, whole, a ledger of legal histories, has the taps of the uploads, and
 -- the columns of the classes, if it is traced, and the report is its own
-abbrev pub IsRightAudit : Fares → Option (List ℕ → List ℕ) → List ℕ → List ReadLine
+abbrev pub IsRightAudit : Fares → Option Wanted → List ℕ → List ReadLine
     → Option (List TapFields) → Option (List ℕ) → Type 0
 IsRightAudit fares classes file read good report =
     (entries : List Entry) × IsLedgerOf fares entries (read_as (is_some classes) file)
@@ -80,7 +80,7 @@ IsRightAudit fares classes file read good report =
 -- all is well exactly where all is right
 abbrev pub AuditsDecide : Type 0
 AuditsDecide =
-    (all : Bool) (fares : Fares) (classes : Option (List ℕ → List ℕ)) (file : List ℕ)
+    (all : Bool) (fares : Fares) (classes : Option Wanted) (file : List ℕ)
     (read : List ReadLine) (good : Option (List TapFields)) (report : Option (List ℕ))
     (text : List ℕ) (well : Bool)
     → IsAudit all fares classes file read good report text well

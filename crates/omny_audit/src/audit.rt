@@ -19,7 +19,7 @@ ghost use Rattle.omny_audit.specs.Fault.{is_unwritten, named_by};
 ghost use Rattle.omny_audit.specs.inside.Fault.{is_of_loading};
 ghost use Rattle.fare_texts.specs.WrittenOut.{Begins};
 ghost use Rattle.omny_audit.specs.Traced.{ReadLine};
-ghost use Rattle.omny_audit.specs.inside.Traced.{HasReadAll, HasReadAs, classes_of};
+ghost use Rattle.omny_audit.specs.inside.Traced.{HasReadAll, HasReadAs, wanted_by};
 ghost use Rattle.omny_audit.specs.inside.Source.{IsAllOf};
 
 use crate::fault::Fault;
@@ -55,19 +55,19 @@ fn end_verdict(
     // Of all that was read so far.
     ensures verdict { IfOk result (λ verdict. (file told : List ℕ) → HasReadAs trace.old file told
         → HasFed table.now checker.old told
-        → IsVerdict table.now (read_as (is_some (classes_of trace.new)) file) verdict) }
+        → IsVerdict table.now (read_as (is_some (wanted_by trace.new)) file) verdict) }
     ensures struck { IfOk result (λ verdict. (file told : List ℕ) (good : List TapFields)
         → HasReadAs trace.old file told → HasStruck table.now checker.old balance.old told good
         → IsTrue (is_legal verdict) → (entries : List Entry)
-        → IsLedgerOf table.now entries (read_as (is_some (classes_of trace.new)) file)
+        → IsLedgerOf table.now entries (read_as (is_some (wanted_by trace.new)) file)
         → IsBalance balance.new good (map tap_of_entry entries)) }
     ensures sums { IfOk result (λ verdict. (file told : List ℕ) → HasReadAs trace.old file told
         → HasSummedFor table.now report.old told → IsTrue (is_legal verdict)
         → (good : List TapFields) → HasStruck table.now checker.old balance.old told good
-        → HasSummedFor table.now report.new (read_as (is_some (classes_of trace.new)) file)) }
+        → HasSummedFor table.now report.new (read_as (is_some (wanted_by trace.new)) file)) }
     ensures all { IfOk result (λ verdict. (file told : List ℕ) → HasReadAs trace.old file told
         → HasReadAll trace.new file) }
-    ensures classes { classes_of trace.new ≡ classes_of trace.old }
+    ensures wanted { wanted_by trace.new ≡ wanted_by trace.old }
     ensures report { text_of report.new ≡ text_of report.old }
     ensures named { IfErr result (λ fault. named_by fault ≡ None) }
     ensures fault { IfErr result (λ fault. is_unwritten fault ≡ false) }
@@ -100,13 +100,13 @@ pub(crate) fn verdict_of<R: Read>(
     requires sums { HasSummedFor table.now report.old [] }
     ensures told { IfOk result (λ verdict. (file : List ℕ)
         × IsAllOf (R.remaining reader.old) file
-        × IsVerdict table.now (read_as (is_some (classes_of trace.new)) file) verdict
-        × StrikesOut table.now (read_as (is_some (classes_of trace.new)) file) balance.old
+        × IsVerdict table.now (read_as (is_some (wanted_by trace.new)) file) verdict
+        × StrikesOut table.now (read_as (is_some (wanted_by trace.new)) file) balance.old
         balance.new verdict
         × (IsTrue (is_legal verdict) → HasSummedFor table.now report.new
-        (read_as (is_some (classes_of trace.new)) file))
+        (read_as (is_some (wanted_by trace.new)) file))
         × (IsTrue (is_legal verdict) → HasReadAll trace.new file)) }
-    ensures classes { classes_of trace.new ≡ classes_of trace.old }
+    ensures wanted { wanted_by trace.new ≡ wanted_by trace.old }
     ensures report { text_of report.new ≡ text_of report.old }
     ensures fault { IfErr result (λ fault. is_unwritten fault ≡ false) }
     ensures named { IfErr result (λ fault. named_by fault ≡ None) }
@@ -202,17 +202,17 @@ fn audit_text(
     requires { is_legal verdict.now ≡ true → (fares : Fares) × (text : List ℕ)
         × HasSummedFor fares report text × IsLedger fares text }
     ensures { IfOk result (λ told. (fares : Fares) (file : List ℕ) (good : List TapFields)
-        → IsVerdict fares (read_as (is_some (classes_of trace.now)) file) verdict.now
+        → IsVerdict fares (read_as (is_some (wanted_by trace.now)) file) verdict.now
         → ((is_legal verdict.now ≡ true)
-        ↔ IsLedger fares (read_as (is_some (classes_of trace.now)) file))
+        ↔ IsLedger fares (read_as (is_some (wanted_by trace.now)) file))
         → (IsTrue (is_legal verdict.now) → (entries : List Entry)
-        → IsLedgerOf fares entries (read_as (is_some (classes_of trace.now)) file)
+        → IsLedgerOf fares entries (read_as (is_some (wanted_by trace.now)) file)
         → IsBalance balance.now good (map tap_of_entry entries))
         → (is_legal verdict.now ≡ true
-        → HasSummedFor fares report (read_as (is_some (classes_of trace.now)) file))
+        → HasSummedFor fares report (read_as (is_some (wanted_by trace.now)) file))
         → (is_legal verdict.now ≡ true → HasReadAll trace.now file)
         → (read : List ReadLine)
-        × IsAudit false fares (classes_of trace.now) file read
+        × IsAudit false fares (wanted_by trace.now) file read
         (if has_uploads then Some good else None) (text_of report) told.0.items told.1) }
 {
     let found = finding_text(alloc, verdict, balance, has_uploads)?;
@@ -245,7 +245,7 @@ pub(crate) fn audit_over<R: Read, W: Write>(
     requires sums { HasSummedFor table.now report [] }
     ensures told { IfOk result (λ well. (file : List ℕ) × IsAllOf (R.remaining reader.old) file
         × ((good : List TapFields) → IsBalance balance good [] → (told : List ℕ)
-        × (read : List ReadLine) × IsAudit false table.now (classes_of trace) file read
+        × (read : List ReadLine) × IsAudit false table.now (wanted_by trace) file read
         (if has_uploads then Some good else None) (text_of report) told well
         × Appends (W.contents out.old) (W.contents out.new) told)) }
 
@@ -256,7 +256,7 @@ pub(crate) fn audit_over<R: Read, W: Write>(
     ensures begun { IfErr result (λ fault. is_unwritten fault ≡ true → (file : List ℕ)
         × IsAllOf (R.remaining reader.old) file
         × ((good : List TapFields) → IsBalance balance good [] → (told : List ℕ) × (well : Bool)
-        × (read : List ReadLine) × IsAudit false table.now (classes_of trace) file read
+        × (read : List ReadLine) × IsAudit false table.now (wanted_by trace) file read
         (if has_uploads then Some good else None) (text_of report) told well
         × Begins (W.contents out.old) (W.contents out.new) told)) }
     ensures named { IfErr result (λ fault. named_by fault ≡ None) }

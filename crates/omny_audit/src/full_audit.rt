@@ -20,7 +20,7 @@ ghost use Rattle.omny_audit.specs.inside.Reports.{HasSummedFor, text_of};
 ghost use Rattle.omny_audit.specs.inside.Findings.{HasRecountedAll};
 ghost use Rattle.omny_audit.specs.inside.Source.{IsAllOf};
 ghost use Rattle.omny_audit.specs.Traced.{AreColumnsTold, ReadLine};
-ghost use Rattle.omny_audit.specs.inside.Traced.{HasReadAll, HasReadAs, classes_of};
+ghost use Rattle.omny_audit.specs.inside.Traced.{HasReadAll, HasReadAs, wanted_by};
 
 use crate::fault::Fault;
 use crate::output::{write_piece, write_text};
@@ -61,17 +61,17 @@ fn end_recount(
         → HasReadAs trace.old file before
         → HasRecounted table.now recount.old has_uploads full.old before written good
         → (taken : List TakenLine)
-        × IsRecount table.now (read_as (is_some (classes_of trace.new)) file) taken
+        × IsRecount table.now (read_as (is_some (wanted_by trace.new)) file) taken
         × (legal ≡ nat_eq (wrong_count taken) 0)
         × (has_uploads ≡ true → IsFullBalance full.new good (taps_from taken))
         × (more : List ℕ) × (string_bytes told.new ≡ string_bytes told.old ++ more)
         × (written ++ more ≡ recount_text taken)) }
     ensures sums { IfOk result (λ legal. (file before : List ℕ) → HasReadAs trace.old file before
         → HasSummedFor table.now report.old before
-        → HasSummedFor table.now report.new (read_as (is_some (classes_of trace.new)) file)) }
+        → HasSummedFor table.now report.new (read_as (is_some (wanted_by trace.new)) file)) }
     ensures all { IfOk result (λ legal. (file before : List ℕ) → HasReadAs trace.old file before
         → HasReadAll trace.new file) }
-    ensures classes { classes_of trace.new ≡ classes_of trace.old }
+    ensures wanted { wanted_by trace.new ≡ wanted_by trace.old }
     ensures report { text_of report.new ≡ text_of report.old }
     ensures named { IfErr result (λ fault. named_by fault ≡ None) }
     ensures later { IfErr result (λ fault. is_of_loading fault ≡ false) }
@@ -108,11 +108,11 @@ fn recount_all<R: Read, W: Write>(
     ensures told { IfOk result (λ legal. (file : List ℕ) × IsAllOf (R.remaining reader.old) file
         × ((good : List TapFields) → (has_uploads ≡ true → IsFullBalance full.old good [])
         → HasRecountedAll table.now has_uploads full.new
-        (read_as (is_some (classes_of trace.new)) file) good legal (W.contents out.old)
+        (read_as (is_some (wanted_by trace.new)) file) good legal (W.contents out.old)
         (W.contents out.new))
-        × HasSummedFor table.now report.new (read_as (is_some (classes_of trace.new)) file)
+        × HasSummedFor table.now report.new (read_as (is_some (wanted_by trace.new)) file)
         × HasReadAll trace.new file) }
-    ensures classes { classes_of trace.new ≡ classes_of trace.old }
+    ensures wanted { wanted_by trace.new ≡ wanted_by trace.old }
     ensures report { text_of report.new ≡ text_of report.old }
     ensures named { IfErr result (λ fault. named_by fault ≡ None) }
     ensures later { IfErr result (λ fault. is_of_loading fault ≡ false) }
@@ -196,7 +196,7 @@ fn end_text(
         → (has_uploads ≡ true → IsFullBalance full.now good taps)
         → IsDifferencesEnd (if has_uploads then Some good else None) taps legal ending sound)
         × ((file : List ℕ) → HasReadAll trace.now file → (read : List ReadLine)
-        × AreColumnsTold (classes_of trace.now) true file read columns right)
+        × AreColumnsTold (wanted_by trace.now) true file read columns right)
         × ((fares : Fares) (text : List ℕ) → (legal ≡ true → HasSummedFor fares report text)
         → IsReportLine fares text (text_of report) (legal && right) rest fits)
         × (told.0.items ≡ (ending ++ columns) ++ rest)
@@ -234,7 +234,7 @@ pub(crate) fn full_audit_over<R: Read, W: Write>(
     // Of all good taps that the balance can have.
     ensures told { IfOk result (λ well. (file : List ℕ) × IsAllOf (R.remaining reader.old) file
         × ((good : List TapFields) → IsBalance balance good [] → (told : List ℕ)
-        × (read : List ReadLine) × IsAudit true table.now (classes_of trace) file read
+        × (read : List ReadLine) × IsAudit true table.now (wanted_by trace) file read
         (if has_uploads then Some good else None) (text_of report) told well
         × Appends (W.contents out.old) (W.contents out.new) told)) }
     ensures named { IfErr result (λ fault. named_by fault ≡ None) }

@@ -19,7 +19,7 @@ ghost use Rattle.omny_audit.specs.Program.{AreClasses, AreGoodFieldsOfAll, Audit
 ghost use Rattle.omny_audit.specs.Program.{LoadsNamedFiles};
 ghost use Rattle.omny_audit.specs.Program.{LoadsReport};
 ghost use Rattle.omny_audit.specs.inside.Fault.{IsRightOfNames, is_of_loading};
-ghost use Rattle.omny_audit.specs.inside.Traced.{HasReadAs, classes_of};
+ghost use Rattle.omny_audit.specs.inside.Traced.{HasReadAs, wanted_by};
 ghost use Rattle.omny_audit.specs.Program.{IsFaultTold, IsRightAuditFault};
 ghost use Rattle.omny_audit.specs.Source.{OpensOne};
 ghost use Rattle.program_manners.specs.Loads.{Loaded, TellsOne};
@@ -191,7 +191,7 @@ fn of_names(fault: ClassFault) -> Fault<'static>
 /// of this text.
 fn trace_of(alloc: Global, head: &[u8], table: &[u8]) -> Result<Option<Trace>, Fault<'static>>
     ensures classes { IfOk result (λ trace.
-        AreClasses table.now (has_traced_head head.now) (classes_of trace)) }
+        AreClasses table.now (has_traced_head head.now) (wanted_by trace)) }
     ensures read { IfOk result (λ trace. HasReadAs trace [] []) }
     ensures right { IfErr result (IsRightOfNames table.now) }
     ensures fault { IfErr result (λ fault. is_unwritten fault ≡ false) }

@@ -6,7 +6,7 @@ use Rattle.ledger_check.specs.Columns.{read_as}
 use Rattle.omny_audit.specs.Reports.{IsReportLine}
 use Rattle.omny_audit.specs.Traced.{AreColumnsTold}
 use Rattle.omny_audit.specs.inside.Reports.{text_of}
-use Rattle.omny_audit.specs.inside.Traced.{classes_of}
+use Rattle.omny_audit.specs.inside.Traced.{wanted_by}
 use Rattle.ledger_check.specs.Verdicts.{is_legal}
 use Rattle.omny_audit.proofs.audit.audit_text.Goals as goal
 
@@ -25,7 +25,7 @@ returns c = λ fares file good is decide balance sums all.
     let same = c.tells_legal-is_legal.ensures in
     let whole = c.are_both-is_whole.ensures in
     let trace = c.args.trace.now in
-    let ledger = read_as (is_some (classes_of trace)) file in
+    let ledger = read_as (is_some (wanted_by trace)) file in
     let told = columns.2 file (λ yes. all (sym same ∙ yes)) in (
       told.0,
       record {
@@ -36,7 +36,7 @@ returns c = λ fares file good is decide balance sums all.
         is_legal = decide;
         columns = columns.0;
         right = right;
-        are_columns = subst (λ (b : Bool). AreColumnsTold (classes_of trace) b file told.0 columns.0
+        are_columns = subst (λ (b : Bool). AreColumnsTold (wanted_by trace) b file told.0 columns.0
             right) same told.1;
         rest = wrote.0;
         fits = c.in_ok-fits.fits;

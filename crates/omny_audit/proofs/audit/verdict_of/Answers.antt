@@ -7,7 +7,7 @@ use Rattle.ledger_check.specs.Struck.{HasStruck}
 use Rattle.ledger_check.specs.Verdicts.{HasFed, IsVerdict, is_legal}
 use Rattle.omny_audit.specs.inside.Findings.{StrikesOut}
 use Rattle.omny_audit.specs.inside.Reports.{HasSummedFor}
-use Rattle.omny_audit.specs.inside.Traced.{HasReadAll, HasReadAs, classes_of}
+use Rattle.omny_audit.specs.inside.Traced.{HasReadAll, HasReadAs, wanted_by}
 use Rattle.std.proofs.KnownBytes.{Consumes-trans, Consumes-nil}
 use Rattle.omny_audit.proofs.ReadLemmas.{at_end, whatever_follows}
 use Rattle.omny_audit.proofs.TraceLemmas.{reads_more}
@@ -18,7 +18,7 @@ loop-piece-init g c = record {
   file = [];
   told = [];
   as_told = c.requires.trace;
-  classes = refl;
+  wanted = refl;
   fed = c.new-checker.ensures.fed c.args.table.now;
   struck = λ good is. c.new-checker.ensures.struck c.args.table.now c.args.balance.now good is;
   read = Consumes-nil _;
@@ -40,7 +40,7 @@ returns-then-count-eq0-clause-told g c =
     let got = c.in-Ok.ensures.bytes in
     let last = c.in_ok-last.last in
     let ended = c.in_ok-last.ensures in
-    let traced = is_some (classes_of c.end_verdict.new.trace) in
+    let traced = is_some (wanted_by c.end_verdict.new.trace) in
     let given = c.requires.good in
     let none = ap (λ (n : ℕ). before.file ++ take n c.read.new.buf) c.if-count-eq0.true
     ∙ append-nil before.file in
@@ -73,7 +73,7 @@ returns-in-Some-clause-told g c =
     let as_told = c.in_ok-read_piece.ensures.read before.file before.told before.as_told in
     let fed = rw c.in-Some.is at (c.in_ok-verdict.ensures.fed before.told before.fed) in
     let trace = c.read_piece.new.trace in
-    let traced = is_some (classes_of trace) in
+    let traced = is_some (wanted_by trace) in
     let Is : List ℕ → Type 0 = λ file. IsVerdict fares (read_as traced file) c.in-Some.verdict
     × StrikesOut fares (read_as traced file) c.args.balance.now c.feed.new.balance c.in-Some.verdict
     × (IsTrue (is_legal c.in-Some.verdict) → HasSummedFor fares c.loop-piece.report
@@ -100,15 +100,15 @@ pub returns-then-count-eq0-clause-report : goal.returns-then-count-eq0-clause-re
 returns-then-count-eq0-clause-report g c = c.end_verdict.ensures.report
     ∙ c.loop-piece.invariant.report
 
-pub returns-then-count-eq0-clause-classes : goal.returns-then-count-eq0-clause-classes
-returns-then-count-eq0-clause-classes g c = c.end_verdict.ensures.classes
-    ∙ c.loop-piece.invariant.classes
+pub returns-then-count-eq0-clause-wanted : goal.returns-then-count-eq0-clause-wanted
+returns-then-count-eq0-clause-wanted g c = c.end_verdict.ensures.wanted
+    ∙ c.loop-piece.invariant.wanted
 
 pub returns-in-Some-clause-report : goal.returns-in-Some-clause-report
 returns-in-Some-clause-report g c = c.loop-piece.invariant.report
 
-pub returns-in-Some-clause-classes : goal.returns-in-Some-clause-classes
-returns-in-Some-clause-classes g c = c.read_piece.ensures.classes ∙ c.loop-piece.invariant.classes
+pub returns-in-Some-clause-wanted : goal.returns-in-Some-clause-wanted
+returns-in-Some-clause-wanted g c = c.read_piece.ensures.wanted ∙ c.loop-piece.invariant.wanted
 
 pub add_piece-requires : goal.add_piece-requires
 add_piece-requires g c = (c.loop-piece.invariant.told, c.loop-piece.invariant.sums)
@@ -121,7 +121,7 @@ loop-piece-preserved g c =
       file = before.file ++ take c.in-Ok.count c.read.new.buf;
       told = before.told ++ c.read_piece.new.text.items;
       as_told = c.in_ok-read_piece.ensures.read before.file before.told before.as_told;
-      classes = c.read_piece.ensures.classes ∙ before.classes;
+      wanted = c.read_piece.ensures.wanted ∙ before.wanted;
       fed = subst (λ (t : List ℕ). HasFed c.args.table.now c.feed.new.self (before.told ++ t))
           c.as_slice-part.ensures.value
           (rw c.in_default-2.is at (c.in_ok-verdict.ensures.fed before.told before.fed));

@@ -5,7 +5,7 @@ use Rattle.tap_views.specs.declared.encoder.TapFields.{TapFields}
 use Rattle.ledger_check.specs.Struck.{HasStruck}
 use Rattle.ledger_check.specs.Verdicts.{HasFed}
 use Rattle.omny_audit.specs.inside.Reports.{HasSummedFor, text_of}
-use Rattle.omny_audit.specs.inside.Traced.{HasReadAs, classes_of}
+use Rattle.omny_audit.specs.inside.Traced.{HasReadAs, wanted_by}
 use Rattle.omny_audit.proofs.audit.verdict_of.Given as goal
 
 -- the checker has read what is read of what the reader has lost, and so have the sums
@@ -14,7 +14,7 @@ invariant-loop-piece g l = record {
   file : List ℕ;
   told : List ℕ;
   as_told : HasReadAs l.trace file told;
-  classes : classes_of l.trace ≡ classes_of l.fn.trace;
+  wanted : wanted_by l.trace ≡ wanted_by l.fn.trace;
   fed : HasFed l.table l.checker told;
   struck : (good : List TapFields) → IsBalance l.fn.balance good []
   → HasStruck l.table l.checker l.balance told good;

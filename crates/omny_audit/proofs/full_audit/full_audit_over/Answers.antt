@@ -6,7 +6,7 @@ use Rattle.ledger_check.specs.Ledger.{IsLedger}
 use Rattle.ledger_check.specs.Recounts.{recount_text, taps_from, wrong_count}
 use Rattle.omny_audit.specs.Findings.{IsDifferencesEnd}
 use Rattle.omny_audit.specs.Reports.{IsAudit, IsReportLine}
-use Rattle.omny_audit.specs.inside.Traced.{classes_of}
+use Rattle.omny_audit.specs.inside.Traced.{wanted_by}
 use Rattle.ledger_check.specs.Columns.{read_as}
 use Rattle.std.proofs.KnownBytes.{Appends-trans}
 use Rattle.omny_audit.proofs.FullFindingLemmas.{recount_legal}
@@ -21,7 +21,7 @@ pub end_text-requires : goal.end_text-requires
 end_text-requires g c = λ yes.
     let found = c.in_ok-legal.ensures.told in
     let good = c.requires.good in
-    let ledger = read_as (is_some (classes_of c.recount_all.new.trace)) found.0 in
+    let ledger = read_as (is_some (wanted_by c.recount_all.new.trace)) found.0 in
     let all = found.2 good.0 (λ has. c.of-full.ensures good.0 good.1) in
     let decide = recount_legal c.recounts_decide.ensures c.args.table.now ledger all.taken
     all.recount in
@@ -32,7 +32,7 @@ returns-clause-told g c =
     let fares = c.args.table.now in
     let found = c.in_ok-legal.ensures.told in
     let told = c.in_ok-told.told in
-    let classes = classes_of c.recount_all.new.trace in
+    let classes = wanted_by c.recount_all.new.trace in
     let ledger = read_as (is_some classes) found.0 in
     let parts = c.in_ok-told.ensures in (
       found.0,
@@ -45,10 +45,10 @@ returns-clause-told g c =
           let line = parts.8 fares ledger (λ yes. found.3) in (
             recount_text all.taken ++ told.0.items,
             columns.0,
-            subst (λ (cs : Option (List ℕ → List ℕ)). IsAudit true fares cs found.0 columns.0
+            subst (λ (cs : Option Wanted). IsAudit true fares cs found.0 columns.0
             (if c.args.has_uploads then Some good else None) _
             (recount_text all.taken ++ told.0.items) told.1)
-                c.recount_all.ensures.classes
+                c.recount_all.ensures.wanted
                 (record {
                   found = recount_text all.taken ++ parts.0;
                   sound = parts.3;

@@ -9,7 +9,7 @@ use Rattle.ledger_check.specs.RecountStates.{HasRecounted}
 use Rattle.tap_views.specs.declared.encoder.TapFields.{TapFields}
 use Rattle.omny_audit.specs.inside.Findings.{HasRecountedAll}
 use Rattle.omny_audit.specs.inside.Reports.{HasSummedFor}
-use Rattle.omny_audit.specs.inside.Traced.{HasReadAll, classes_of}
+use Rattle.omny_audit.specs.inside.Traced.{HasReadAll, wanted_by}
 use Rattle.std.proofs.KnownBytes.{Consumes-trans, Consumes-nil, Appends-trans, Appends-nil}
 use Rattle.omny_audit.proofs.ReadLemmas.{at_end}
 use Rattle.omny_audit.proofs.full_audit.recount_all.Goals as goal
@@ -19,7 +19,7 @@ loop-piece-init g c = record {
   file = [];
   text = [];
   as_text = c.requires.trace;
-  classes = refl;
+  wanted = refl;
   read = Consumes-nil _;
   known = λ good struck. ([], c.new-recount.ensures c.args.table.now c.args.has_uploads
       c.args.full.now good struck, Appends-nil _);
@@ -45,7 +45,7 @@ returns-then-count-eq0-clause-told g c =
     let fares = c.args.table.now in
     let got = c.in-Ok.ensures.bytes in
     let legal = c.in_ok-legal.legal in
-    let traced = is_some (classes_of c.end_recount.new.trace) in
+    let traced = is_some (wanted_by c.end_recount.new.trace) in
     let none = ap (λ (n : ℕ). before.file ++ take n c.read.new.buf) c.if-count-eq0.true
     ∙ append-nil before.file in
     let Is : List ℕ
@@ -86,9 +86,9 @@ pub returns-then-count-eq0-clause-report : goal.returns-then-count-eq0-clause-re
 returns-then-count-eq0-clause-report g c = c.end_recount.ensures.report
     ∙ c.loop-piece.invariant.report
 
-pub returns-then-count-eq0-clause-classes : goal.returns-then-count-eq0-clause-classes
-returns-then-count-eq0-clause-classes g c = c.end_recount.ensures.classes
-    ∙ c.loop-piece.invariant.classes
+pub returns-then-count-eq0-clause-wanted : goal.returns-then-count-eq0-clause-wanted
+returns-then-count-eq0-clause-wanted g c = c.end_recount.ensures.wanted
+    ∙ c.loop-piece.invariant.wanted
 
 pub add_piece-requires : goal.add_piece-requires
 add_piece-requires g c = (c.loop-piece.invariant.text, c.loop-piece.invariant.sums)
@@ -103,7 +103,7 @@ loop-piece-preserved g c =
       file = before.file ++ take c.in-Ok.count c.read.new.buf;
       text = before.text ++ c.read_piece.new.text.items;
       as_text = c.in_ok-read_piece.ensures.read before.file before.text before.as_text;
-      classes = c.read_piece.ensures.classes ∙ before.classes;
+      wanted = c.read_piece.ensures.wanted ∙ before.wanted;
       read = Consumes-trans _ _ _ before.file (take c.in-Ok.count c.read.new.buf) before.read got.0;
       known = λ good struck.
           let now = before.known good struck in

@@ -4,7 +4,7 @@ use Rattle.ledger_check.specs.FullBalances.{IsFullBalance}
 use Rattle.tap_views.specs.declared.encoder.TapFields.{TapFields}
 use Rattle.ledger_check.specs.RecountStates.{HasRecounted}
 use Rattle.omny_audit.specs.inside.Reports.{HasSummedFor, text_of}
-use Rattle.omny_audit.specs.inside.Traced.{HasReadAs, classes_of}
+use Rattle.omny_audit.specs.inside.Traced.{HasReadAs, wanted_by}
 use Rattle.omny_audit.proofs.full_audit.recount_all.Given as goal
 
 -- the recount has read what is read of what the reader has lost, and what it told was written
@@ -13,7 +13,7 @@ invariant-loop-piece g l = record {
   file : List ℕ;
   text : List ℕ;
   as_text : HasReadAs l.trace file text;
-  classes : classes_of l.trace ≡ classes_of l.fn.trace;
+  wanted : wanted_by l.trace ≡ wanted_by l.fn.trace;
   read : Consumes (g.R.Read.remaining l.fn.reader) (g.R.Read.remaining l.reader) file;
   known : (good : List TapFields) → (l.has_uploads ≡ true → IsFullBalance l.fn.full good [])
       → (written : List ℕ) × HasRecounted l.table l.recount l.has_uploads l.full text written good

@@ -8,7 +8,7 @@ use Rattle.omny_audit.specs.Options.{files_of}
 use Rattle.omny_audit.specs.Reports.{IsAudit}
 use Rattle.omny_audit.specs.inside.Options.{audit_asked_of}
 use Rattle.omny_audit.specs.inside.Reports.{text_of}
-use Rattle.omny_audit.specs.inside.Traced.{classes_of}
+use Rattle.omny_audit.specs.inside.Traced.{wanted_by}
 use Rattle.omny_audit.specs.Program.{IsRightAuditFault, compared}
 use Rattle.omny_audit.proofs.ProgramLemmas.{at_ledger, at_report, at_uploads, both_err, compared_is}
 use Rattle.omny_audit.proofs.ProgramLemmas.{kept_all, loads_same, names_none, names_same}
@@ -46,14 +46,14 @@ returns-clause-ok g c =
     ∙ ap (λ (ns : List (Bor (List ℕ))). compared (map (λ n. n.now) ns) loaded.1) names in
     let reported = text_of c.in_ok-report.report in
     let found = subst (λ (good : Option (List TapFields)). IsAudit false c.in_ok-table.table
-    (classes_of c.in_ok-trace.trace) told.0 finding.1 good reported finding.0 well) same
+    (wanted_by c.in_ok-trace.trace) told.0 finding.1 good reported finding.0 well) same
     finding.2 in
     let ledger = reads_ledger _ _ _ _ _ _ c.in_ok-head.head.items c.as_slice.result.now
-    c.in_ok-table.table_text.items c.as_slice-2.result.now told.0 (classes_of c.in_ok-trace.trace)
+    c.in_ok-table.table_text.items c.as_slice-2.result.now told.0 (wanted_by c.in_ok-trace.trace)
     c.in_ok-ledger.ensures.ok c.in_ok-head.ensures.read c.in_ok-head.ensures.enough
     c.as_slice.ensures.value c.as_slice-2.ensures.value (c.chain-whole.ensures.bytes
     ∙ ap (λ (h : List ℕ). option_append (Some h) _) c.from.ensures.0) told.1
-    c.in_ok-trace.ensures.classes in
+    c.in_ok-trace.ensures.wanted in
     record {
       text = finding.0;
       found = record {
@@ -75,10 +75,10 @@ returns-clause-ok g c =
         loads_ledger = ledger.told;
         traced = ledger.traced;
         is_traced = ledger.is_traced;
-        classes = classes_of c.in_ok-trace.trace;
+        classes = wanted_by c.in_ok-trace.trace;
         are_classes = ledger.are_classes;
         read = finding.1;
-        audit = subst (λ (b : Bool). IsAudit b c.in_ok-table.table (classes_of c.in_ok-trace.trace)
+        audit = subst (λ (b : Bool). IsAudit b c.in_ok-table.table (wanted_by c.in_ok-trace.trace)
             told.0 finding.1 (compared (map (λ n. n.now) c.args.options.now.uploads.items) loaded.1)
             reported finding.0 well) (sym c.if-options.false) found;
         right = c.audits_decide.ensures _ _ _ _ _ _ _ _ _ found;
@@ -98,14 +98,14 @@ returns-then-options-clause-ok g c =
     ∙ ap (λ (ns : List (Bor (List ℕ))). compared (map (λ n. n.now) ns) loaded.1) names in
     let reported = text_of c.in_ok-report.report in
     let found = subst (λ (good : Option (List TapFields)). IsAudit true c.in_ok-table.table
-    (classes_of c.in_ok-trace.trace) told.0 finding.1 good reported finding.0 well) same
+    (wanted_by c.in_ok-trace.trace) told.0 finding.1 good reported finding.0 well) same
     finding.2 in
     let ledger = reads_ledger _ _ _ _ _ _ c.in_ok-head.head.items c.as_slice.result.now
-    c.in_ok-table.table_text.items c.as_slice-2.result.now told.0 (classes_of c.in_ok-trace.trace)
+    c.in_ok-table.table_text.items c.as_slice-2.result.now told.0 (wanted_by c.in_ok-trace.trace)
     c.in_ok-ledger.ensures.ok c.in_ok-head.ensures.read c.in_ok-head.ensures.enough
     c.as_slice.ensures.value c.as_slice-2.ensures.value (c.chain-whole.ensures.bytes
     ∙ ap (λ (h : List ℕ). option_append (Some h) _) c.from.ensures.0) told.1
-    c.in_ok-trace.ensures.classes in
+    c.in_ok-trace.ensures.wanted in
     record {
       text = finding.0;
       found = record {
@@ -127,10 +127,10 @@ returns-then-options-clause-ok g c =
         loads_ledger = ledger.told;
         traced = ledger.traced;
         is_traced = ledger.is_traced;
-        classes = classes_of c.in_ok-trace.trace;
+        classes = wanted_by c.in_ok-trace.trace;
         are_classes = ledger.are_classes;
         read = finding.1;
-        audit = subst (λ (b : Bool). IsAudit b c.in_ok-table.table (classes_of c.in_ok-trace.trace)
+        audit = subst (λ (b : Bool). IsAudit b c.in_ok-table.table (wanted_by c.in_ok-trace.trace)
             told.0 finding.1 (compared (map (λ n. n.now) c.args.options.now.uploads.items) loaded.1)
             reported finding.0 well) (sym c.if-options.true) found;
         right = c.audits_decide.ensures _ _ _ _ _ _ _ _ _ found;
@@ -208,15 +208,15 @@ returns-clause-right g c =
           ∙ ap (λ (ns : List (Bor (List ℕ))). compared (map (λ n. n.now) ns) loaded.1) names in
           let reported = text_of c.in_ok-report.report in
           let found = subst (λ (good : Option (List TapFields)). IsAudit false c.in_ok-table.table
-          (classes_of c.in_ok-trace.trace) told.0 finding.2 good reported finding.0 finding.1) same
+          (wanted_by c.in_ok-trace.trace) told.0 finding.2 good reported finding.0 finding.1) same
           finding.3 in
           let ledger = reads_ledger _ _ _ _ _ _ c.in_ok-head.head.items c.as_slice.result.now
           c.in_ok-table.table_text.items c.as_slice-2.result.now told.0
-          (classes_of c.in_ok-trace.trace)
+          (wanted_by c.in_ok-trace.trace)
     c.in_ok-ledger.ensures.ok c.in_ok-head.ensures.read c.in_ok-head.ensures.enough
     c.as_slice.ensures.value c.as_slice-2.ensures.value (c.chain-whole.ensures.bytes
     ∙ ap (λ (h : List ℕ). option_append (Some h) _) c.from.ensures.0) told.1
-    c.in_ok-trace.ensures.classes in
+    c.in_ok-trace.ensures.wanted in
           record {
             text = finding.0;
             well = finding.1;
@@ -239,11 +239,11 @@ returns-clause-right g c =
               loads_ledger = ledger.told;
               traced = ledger.traced;
               is_traced = ledger.is_traced;
-              classes = classes_of c.in_ok-trace.trace;
+              classes = wanted_by c.in_ok-trace.trace;
               are_classes = ledger.are_classes;
               read = finding.2;
               audit = subst (λ (b : Bool). IsAudit b c.in_ok-table.table
-                  (classes_of c.in_ok-trace.trace) told.0 finding.2
+                  (wanted_by c.in_ok-trace.trace) told.0 finding.2
                   (compared (map (λ n. n.now) c.args.options.now.uploads.items) loaded.1) reported
                   finding.0 finding.1) (sym c.if-options.false) found;
               right = c.audits_decide.ensures _ _ _ _ _ _ _ _ _ found;

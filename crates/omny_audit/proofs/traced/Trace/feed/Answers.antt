@@ -10,7 +10,7 @@ pub loop-rest-init : goal.loop-rest-init
 loop-rest-init c = record {
   consumed = [];
   whole = refl;
-  names = refl;
+  wanted = refl;
   read = λ file told read is. traced_none c.args.self.now file told c.args.text.now.items read is;
 }
 
@@ -23,7 +23,7 @@ loop-rest-preserved c =
       consumed = before.consumed ++ line;
       whole = before.whole ∙ ap (λ (r : List ℕ). before.consumed ++ r) c.in-Some.ensures.some.1
           ∙ sym (append_assoc before.consumed line behind);
-      names = c.end_line.ensures.names ∙ before.names;
+      wanted = c.end_line.ensures.wanted ∙ before.wanted;
       read = λ file told read is.
           let now = before.read file told read is in
           traced_on c.loop-rest.self c.end_line.new.self file before.consumed line told

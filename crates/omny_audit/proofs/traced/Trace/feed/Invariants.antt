@@ -9,7 +9,7 @@ abbrev pub invariant-loop-rest : goal.invariant-loop-rest
 invariant-loop-rest l = record {
   consumed : List ℕ;
   whole : l.piece ≡ consumed ++ l.rest;
-  names : l.self.so_far.names ≡ l.fn.self.so_far.names;
+  wanted : wanted_of l.self.so_far ≡ wanted_of l.fn.self.so_far;
   read : (file told : List ℕ) (read : List ReadLine) → HasTraced l.fn.self file told read
       → Traced l.self (file ++ consumed) told l.fn.text.items l.text.items;
 }
