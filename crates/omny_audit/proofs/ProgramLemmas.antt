@@ -20,9 +20,11 @@ use Rattle.omny_audit.specs.Options.{AuditAsked, files_of, named_file}
 use Rattle.omny_audit.specs.declared.fault.Fault.{Fault}
 use Rattle.omny_audit.specs.declared.fault.Fault.TheVariants.{ClassName, File, Ledger, Table, Write}
 use Rattle.omny_audit.specs.declared.fault.Fault.TheVariants.{Closed, NoMemory}
-use Rattle.omny_audit.specs.Program.{AreClasses, AreGoodFieldsOfAll, IsRightAuditFault, IsTracedAs}
+use Rattle.omny_audit.specs.Program.{AreGoodFieldsOfAll, AreGoodFieldsOfEach, AreWanted}
+use Rattle.omny_audit.specs.Program.{IsRightAuditFault, IsTracedAs}
 use Rattle.omny_audit.specs.Program.{LoadsNamedFiles, LoadsReport, compared}
 use Rattle.omny_audit.specs.Source.{OpensOne}
+use Rattle.omny_audit.specs.Traced.{Wanted}
 use Rattle.program_manners.specs.Refusals.{IsOneOf}
 use Rattle.program_manners.proofs.Refusals.{is_one_at}
 use Rattle.omny_audit.specs.inside.Fault.{IsRightOfNames, is_of_loading}
@@ -73,11 +75,22 @@ opened (Some before) after name None text opens all = absurd opens
 opened (Some before) after name (Some known) text opens all =
     subst (λ (t : List ℕ). TellsOne (Some before) after name t) all opens
 
+-- the taps of each upload, one more
+pub each_push : (uploads : List (List ℕ)) (lists : List (List TapFields)) (upload : List ℕ)
+    (taps : List TapFields) → AreGoodFieldsOfEach uploads lists → AreGoodFields upload taps
+    → AreGoodFieldsOfEach (uploads ++ upload ∷ []) (lists ++ taps ∷ [])
+each_push [] [] upload taps all one = (one, refl)
+each_push [] (list ∷ lists) upload taps all one =
+    let bad : list ∷ lists ≡ [] = all in absurd (cc)
+each_push (first ∷ uploads) [] upload taps all one = absurd all
+each_push (first ∷ uploads) (list ∷ lists) upload taps all one =
+    (all.0, each_push uploads lists upload taps all.1 one)
+
 not_zero : (n : ℕ) → nat_eq (suc n) 0 ≡ false
 not_zero n = grind (arith, nat_tests)
 
 -- taps are compared where uploads are named
-pub compared_is : (names : List (Bor Text)) (good : List TapFields) (has : Bool)
+pub compared_is : {A : Type 0} (names : List (Bor Text)) (good : A) (has : Bool)
     → has ≡ not (nat_eq (length names) 0)
     → (if has then Some good else None) ≡ compared (map (λ n. n.now) names) good
 compared_is [] good has is = rw is refl
@@ -259,28 +272,32 @@ headed (Some before) after name (Some xs) (Some ys) head file opens reads enough
 
 -- a ledger that was opened, whose first bytes were read first
 pub record ReadsLedger (before after : Option (List Loaded)) (name : Option Text) (table : List ℕ)
-    (classes : Option Wanted) (file : List ℕ) : Type 0 where
+    (uploads : Option (List (List TapFields))) (wanted : Option Wanted) (file : List ℕ)
+    : Type 0 where
   pub told : TellsOne before after name file
   pub traced : Bool
   pub is_traced : IsTracedAs before file traced
-  pub are_classes : AreClasses table traced classes
+  pub are_wanted : AreWanted table traced uploads wanted
 
 pub reads_ledger : (before after : Option (List Loaded)) (name : Option Text)
     (left left' whole : Option (List ℕ)) (head begun table lent file : List ℕ)
-    (classes : Option Wanted) → OpensOne before after name left
+    (kept uploads : Option (List (List TapFields))) (wanted : Option Wanted)
+        → OpensOne before after name left
         → Consumes left left' head → IsAtEnd left' ⊎ (length traced_head ≤ length head)
-    → begun ≡ head → lent ≡ table → whole ≡ option_append (Some head) left' → IsAllOf whole file
-        → AreClasses lent (has_traced_head begun) classes
-    → ReadsLedger before after name table classes file
-reads_ledger before after name left left' whole head begun table lent file classes opens reads
-    enough same_head same_table is all named =
+    → begun ≡ head → lent ≡ table → kept ≡ uploads → whole ≡ option_append (Some head) left'
+        → IsAllOf whole file → AreWanted lent (has_traced_head begun) kept wanted
+    → ReadsLedger before after name table uploads wanted file
+reads_ledger before after name left left' whole head begun table lent file kept uploads wanted opens
+    reads enough same_head same_table same_uploads is all named =
     let rest = subst (λ (w : Option (List ℕ)). IsAllOf w file) is all in
     record {
       told = opened before after name left file opens (chained left left' head file reads rest);
       traced = has_traced_head head;
       is_traced = headed before after name left left' head file opens reads enough rest;
-      are_classes = subst (λ (t : List ℕ). AreClasses t (has_traced_head head) classes) same_table
-          (subst (λ (h : List ℕ). AreClasses lent (has_traced_head h) classes) same_head named);
+      are_wanted = subst (λ (u : Option (List (List TapFields))). AreWanted table
+          (has_traced_head head) u wanted) same_uploads
+          (subst (λ (t : List ℕ). AreWanted t (has_traced_head head) kept wanted) same_table
+          (subst (λ (h : List ℕ). AreWanted lent (has_traced_head h) kept wanted) same_head named));
     }
 
 -- what was loaded after the table, where the ledger was opened
@@ -318,3 +335,13 @@ right_of_names asked text later told told' refused fault out out' loads right wr
     by_fault Write right = tt
     by_fault Closed right = tt
     by_fault NoMemory right = tt
+
+-- the places that are kept are those of the uploads that are named
+pub kept_lists : (names same : List (Bor Text)) (kept : Option (List (List TapFields))) (has : Bool)
+    (uploads lists : List (List TapFields)) → kept ≡ (if has then Some uploads else None)
+    → uploads ≡ lists → has ≡ not (nat_eq (length names) 0) → names ≡ same
+    → kept ≡ compared (map (λ n. n.now) same) lists
+kept_lists names same kept has uploads lists is are named lent =
+    is ∙ ap (λ (u : List (List TapFields)). if has then Some u else None) are
+    ∙ compared_is names lists has named
+    ∙ ap (λ (ns : List (Bor Text)). compared (map (λ n. n.now) ns) lists) lent

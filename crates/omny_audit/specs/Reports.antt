@@ -6,7 +6,7 @@ use Rattle.fare_table.specs.Fares.{Fares}
 use Rattle.ledger_check.specs.Columns.{read_as}
 use Rattle.ledger_check.specs.Ledger.{IsLedger, IsLedgerOf}
 use Rattle.omny_audit.specs.Findings.{HasGoodTaps, IsFindingOf}
-use Rattle.omny_audit.specs.Traced.{AreColumnsTold, HasRightColumns, ReadLine}
+use Rattle.omny_audit.specs.Traced.{AreColumnsTold, HasRightColumns, ReadLine, Wanted}
 use Rattle.report_check.specs.Reports.{IsReportOfLedger, IsReportVerdict, is_of_ledger}
 use Rattle.report_check.specs.declared.verdict.ReportVerdict.{ReportVerdict}
 use Rattle.report_check.specs.declared.verdict.ReportVerdict.TheVariants.{OfLedger, Wants, NoLine}
@@ -46,20 +46,20 @@ IsReportLine fares ledger (Some report) true rest fits =
 -- the ledger that is read of it, beside the good taps of the uploads, if there are uploads; behind it
 -- what is found of the columns, if the ledger is traced, and legal or asked for all its lines; and
 -- behind it what is found of the report, if there is one. All is well if all of this is.
-pub record IsAudit (all : Bool) (fares : Fares) (classes : Option Wanted) (file : List ℕ)
+pub record IsAudit (all : Bool) (fares : Fares) (wanted : Option Wanted) (file : List ℕ)
     (read : List ReadLine) (good : Option (List TapFields)) (report : Option (List ℕ))
     (text : List ℕ) (well : Bool) : Type 0 where
   pub found : List ℕ
   pub sound : Bool
-  pub finding : IsFindingOf all fares (read_as (is_some classes) file) good found sound
+  pub finding : IsFindingOf all fares (read_as (is_some wanted) file) good found sound
   pub legal : Bool
-  pub is_legal : (legal ≡ true) ↔ IsLedger fares (read_as (is_some classes) file)
+  pub is_legal : (legal ≡ true) ↔ IsLedger fares (read_as (is_some wanted) file)
   pub columns : List ℕ
   pub right : Bool
-  pub are_columns : AreColumnsTold classes (all || legal) file read columns right
+  pub are_columns : AreColumnsTold wanted (all || legal) file read columns right
   pub rest : List ℕ
   pub fits : Bool
-  pub report_line : IsReportLine fares (read_as (is_some classes) file) report (legal && right)
+  pub report_line : IsReportLine fares (read_as (is_some wanted) file) report (legal && right)
       rest fits
   pub shown : text ≡ found ++ (columns ++ rest)
   pub both : well ≡ (sound && (right && fits))
@@ -70,18 +70,18 @@ HasOwnReport None entries = Unit {0}
 HasOwnReport (Some report) entries = IsReportOfLedger entries report
 
 -- what is read of the file is, whole, a ledger of legal histories, has the taps of the uploads, and
--- the columns of the classes, if it is traced, and the report is its own
+-- right columns, if it is traced, and the report is its own
 abbrev pub IsRightAudit : Fares → Option Wanted → List ℕ → List ReadLine
     → Option (List TapFields) → Option (List ℕ) → Type 0
-IsRightAudit fares classes file read good report =
-    (entries : List Entry) × IsLedgerOf fares entries (read_as (is_some classes) file)
-    × HasGoodTaps good entries × HasRightColumns classes file read × HasOwnReport report entries
+IsRightAudit fares wanted file read good report =
+    (entries : List Entry) × IsLedgerOf fares entries (read_as (is_some wanted) file)
+    × HasGoodTaps good entries × HasRightColumns wanted file read × HasOwnReport report entries
 
 -- all is well exactly where all is right
 abbrev pub AuditsDecide : Type 0
 AuditsDecide =
-    (all : Bool) (fares : Fares) (classes : Option Wanted) (file : List ℕ)
+    (all : Bool) (fares : Fares) (wanted : Option Wanted) (file : List ℕ)
     (read : List ReadLine) (good : Option (List TapFields)) (report : Option (List ℕ))
     (text : List ℕ) (well : Bool)
-    → IsAudit all fares classes file read good report text well
-    → (well ≡ true) ↔ IsRightAudit fares classes file read good report
+    → IsAudit all fares wanted file read good report text well
+    → (well ≡ true) ↔ IsRightAudit fares wanted file read good report

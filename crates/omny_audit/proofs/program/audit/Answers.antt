@@ -8,10 +8,10 @@ use Rattle.omny_audit.specs.Options.{files_of}
 use Rattle.omny_audit.specs.Reports.{IsAudit}
 use Rattle.omny_audit.specs.inside.Options.{audit_asked_of}
 use Rattle.omny_audit.specs.inside.Reports.{text_of}
-use Rattle.omny_audit.specs.inside.Traced.{wanted_by}
+use Rattle.omny_audit.specs.inside.Traced.{uploads_in, wanted_by}
 use Rattle.omny_audit.specs.Program.{IsRightAuditFault, compared}
 use Rattle.omny_audit.proofs.ProgramLemmas.{at_ledger, at_report, at_uploads, both_err, compared_is}
-use Rattle.omny_audit.proofs.ProgramLemmas.{kept_all, loads_same, names_none, names_same}
+use Rattle.omny_audit.proofs.ProgramLemmas.{kept_all, kept_lists, loads_same, names_none, names_same}
 use Rattle.omny_audit.proofs.ProgramLemmas.{loaded_ledger, loaded_report, reads_ledger, right_later}
 use Rattle.omny_audit.proofs.ProgramLemmas.{right_of_names, written_first}
 use Rattle.omny_audit.specs.inside.Fault.{IsRightOfNames}
@@ -20,14 +20,14 @@ use Rattle.omny_audit.proofs.ProgramLemmas.{handed_on}
 use Rattle.omny_audit.proofs.program.audit.Goals as goal
 
 pub full_audit_over-requires-clause-good : goal.full_audit_over-requires-clause-good
-full_audit_over-requires-clause-good g c = let loaded = c.in_ok-balance.ensures.ok in
+full_audit_over-requires-clause-good g c = let loaded = c.in_ok-load_uploads.ensures.ok in
     (loaded.1, loaded.4)
 
 pub full_audit_over-requires-clause-sums : goal.full_audit_over-requires-clause-sums
 full_audit_over-requires-clause-sums g c = c.in_ok-report.ensures.sums c.in_ok-table.table
 
 pub audit_over-requires-clause-good : goal.audit_over-requires-clause-good
-audit_over-requires-clause-good g c = let loaded = c.in_ok-balance.ensures.ok in
+audit_over-requires-clause-good g c = let loaded = c.in_ok-load_uploads.ensures.ok in
     (loaded.1, loaded.4)
 
 pub audit_over-requires-clause-sums : goal.audit_over-requires-clause-sums
@@ -37,7 +37,7 @@ audit_over-requires-clause-sums g c = c.in_ok-report.ensures.sums c.in_ok-table.
 -- on
 pub returns-clause-ok : goal.returns-clause-ok
 returns-clause-ok g c =
-    let loaded = c.in_ok-balance.ensures.ok in
+    let loaded = c.in_ok-load_uploads.ensures.ok in
     IfOk-weaker c.audit_over.result _ _ (λ well told.
     let finding = told.2 loaded.1 loaded.4 in
     let names = c.as_slice-names.ensures.value in
@@ -49,9 +49,14 @@ returns-clause-ok g c =
     (wanted_by c.in_ok-trace.trace) told.0 finding.1 good reported finding.0 well) same
     finding.2 in
     let ledger = reads_ledger _ _ _ _ _ _ c.in_ok-head.head.items c.as_slice.result.now
-    c.in_ok-table.table_text.items c.as_slice-2.result.now told.0 (wanted_by c.in_ok-trace.trace)
+    c.in_ok-table.table_text.items c.as_slice-2.result.now told.0
+    (uploads_in c.kept_if-kept.result) (compared (map (λ n. n.now) c.args.options.now.uploads.items) loaded.5)
+    (wanted_by c.in_ok-trace.trace)
     c.in_ok-ledger.ensures.ok c.in_ok-head.ensures.read c.in_ok-head.ensures.enough
-    c.as_slice.ensures.value c.as_slice-2.ensures.value (c.chain-whole.ensures.bytes
+    c.as_slice.ensures.value c.as_slice-2.ensures.value
+    (kept_lists c.as_slice-names.result.now c.args.options.now.uploads.items _ _ _ loaded.5
+    c.kept_if-kept.ensures.uploads loaded.7.taps (ap not c.is_empty-has_uploads.ensures) names)
+    (c.chain-whole.ensures.bytes
     ∙ ap (λ (h : List ℕ). option_append (Some h) _) c.from.ensures.0) told.1
     c.in_ok-trace.ensures.wanted in
     record {
@@ -69,14 +74,16 @@ returns-clause-ok g c =
             loaded.0 names loaded.2;
         good = loaded.1;
         are_good = loaded.3;
+        lists = loaded.5;
+        are_lists = loaded.6;
         report = reported;
         loads_report = c.in_ok-report.ensures.ok;
         ledger = told.0;
         loads_ledger = ledger.told;
         traced = ledger.traced;
         is_traced = ledger.is_traced;
-        classes = wanted_by c.in_ok-trace.trace;
-        are_classes = ledger.are_classes;
+        wanted = wanted_by c.in_ok-trace.trace;
+        are_wanted = ledger.are_wanted;
         read = finding.1;
         audit = subst (λ (b : Bool). IsAudit b c.in_ok-table.table (wanted_by c.in_ok-trace.trace)
             told.0 finding.1 (compared (map (λ n. n.now) c.args.options.now.uploads.items) loaded.1)
@@ -89,7 +96,7 @@ returns-clause-ok g c =
 
 pub returns-then-options-clause-ok : goal.returns-then-options-clause-ok
 returns-then-options-clause-ok g c =
-    let loaded = c.in_ok-balance.ensures.ok in
+    let loaded = c.in_ok-load_uploads.ensures.ok in
     IfOk-weaker c.full_audit_over.result _ _ (λ well told.
     let finding = told.2 loaded.1 loaded.4 in
     let names = c.as_slice-names.ensures.value in
@@ -101,9 +108,14 @@ returns-then-options-clause-ok g c =
     (wanted_by c.in_ok-trace.trace) told.0 finding.1 good reported finding.0 well) same
     finding.2 in
     let ledger = reads_ledger _ _ _ _ _ _ c.in_ok-head.head.items c.as_slice.result.now
-    c.in_ok-table.table_text.items c.as_slice-2.result.now told.0 (wanted_by c.in_ok-trace.trace)
+    c.in_ok-table.table_text.items c.as_slice-2.result.now told.0
+    (uploads_in c.kept_if-kept.result) (compared (map (λ n. n.now) c.args.options.now.uploads.items) loaded.5)
+    (wanted_by c.in_ok-trace.trace)
     c.in_ok-ledger.ensures.ok c.in_ok-head.ensures.read c.in_ok-head.ensures.enough
-    c.as_slice.ensures.value c.as_slice-2.ensures.value (c.chain-whole.ensures.bytes
+    c.as_slice.ensures.value c.as_slice-2.ensures.value
+    (kept_lists c.as_slice-names.result.now c.args.options.now.uploads.items _ _ _ loaded.5
+    c.kept_if-kept.ensures.uploads loaded.7.taps (ap not c.is_empty-has_uploads.ensures) names)
+    (c.chain-whole.ensures.bytes
     ∙ ap (λ (h : List ℕ). option_append (Some h) _) c.from.ensures.0) told.1
     c.in_ok-trace.ensures.wanted in
     record {
@@ -121,14 +133,16 @@ returns-then-options-clause-ok g c =
             loaded.0 names loaded.2;
         good = loaded.1;
         are_good = loaded.3;
+        lists = loaded.5;
+        are_lists = loaded.6;
         report = reported;
         loads_report = c.in_ok-report.ensures.ok;
         ledger = told.0;
         loads_ledger = ledger.told;
         traced = ledger.traced;
         is_traced = ledger.is_traced;
-        classes = wanted_by c.in_ok-trace.trace;
-        are_classes = ledger.are_classes;
+        wanted = wanted_by c.in_ok-trace.trace;
+        are_wanted = ledger.are_wanted;
         read = finding.1;
         audit = subst (λ (b : Bool). IsAudit b c.in_ok-table.table (wanted_by c.in_ok-trace.trace)
             told.0 finding.1 (compared (map (λ n. n.now) c.args.options.now.uploads.items) loaded.1)
@@ -139,15 +153,15 @@ returns-then-options-clause-ok g c =
     })
     c.full_audit_over.ensures.told
 
-pub returns-in_err-balance-clause-named : goal.returns-in_err-balance-clause-named
-returns-in_err-balance-clause-named g c =
-    let fault = c.in_err-balance.field-0.0 in
+pub returns-in_err-load_uploads-clause-named : goal.returns-in_err-load_uploads-clause-named
+returns-in_err-load_uploads-clause-named g c =
+    let fault = c.in_err-load_uploads.field-0.0 in
     let asked = audit_asked_of c.args.options.now in
-    handed_on c.from_residual-in_err-balance.result fault (λ f. NamesOneOf (files_of asked) f)
-    c.from_residual-in_err-balance.ensures.1
+    handed_on c.from_residual-in_err-load_uploads.result fault (λ f. NamesOneOf (files_of asked) f)
+    c.from_residual-in_err-load_uploads.ensures.1
     (at_uploads asked fault
     (names_same c.as_slice-names.result.now c.args.options.now.uploads.items fault
-    c.as_slice-names.ensures.value c.in_err-balance.ensures.named))
+    c.as_slice-names.ensures.value c.in_err-load_uploads.ensures.named))
 
 pub returns-in_err-report-clause-named : goal.returns-in_err-report-clause-named
 returns-in_err-report-clause-named g c =
@@ -165,14 +179,14 @@ returns-in_err-ledger-clause-named g c =
     c.from_residual-in_err-ledger.ensures.1
     (at_ledger asked fault c.in_err-ledger.ensures.named)
 
-pub returns-in_err-balance-clause-right : goal.returns-in_err-balance-clause-right
-returns-in_err-balance-clause-right g c =
-    let fault = c.in_err-balance.field-0.0 in
+pub returns-in_err-load_uploads-clause-right : goal.returns-in_err-load_uploads-clause-right
+returns-in_err-load_uploads-clause-right g c =
+    let fault = c.in_err-load_uploads.field-0.0 in
     let asked = audit_asked_of c.args.options.now in
-    handed_on c.from_residual-in_err-balance.result fault (λ f. IsRightAuditFault asked _ _ _ f _ _)
-    c.from_residual-in_err-balance.ensures.1
-    (written_first asked _ _ _ fault _ _ c.in_err-balance.ensures.fault
-    (c.in_err-balance.ensures.right asked.table _ _))
+    handed_on c.from_residual-in_err-load_uploads.result fault (λ f. IsRightAuditFault asked _ _ _ f _ _)
+    c.from_residual-in_err-load_uploads.ensures.1
+    (written_first asked _ _ _ fault _ _ c.in_err-load_uploads.ensures.fault
+    (c.in_err-load_uploads.ensures.right asked.table _ _))
 
 pub returns-in_err-report-clause-right : goal.returns-in_err-report-clause-right
 returns-in_err-report-clause-right g c =
@@ -195,7 +209,7 @@ returns-in_err-ledger-clause-right g c =
 -- the ledger was read, and what a write that failed left is a beginning of the right text
 pub returns-clause-right : goal.returns-clause-right
 returns-clause-right g c =
-    let loaded = c.in_ok-balance.ensures.ok in
+    let loaded = c.in_ok-load_uploads.ensures.ok in
     both_err c.audit_over.result _ _ _ (λ fault later begun.
     record {
       right = right_later _ _ _ _ fault later;
@@ -212,9 +226,13 @@ returns-clause-right g c =
           finding.3 in
           let ledger = reads_ledger _ _ _ _ _ _ c.in_ok-head.head.items c.as_slice.result.now
           c.in_ok-table.table_text.items c.as_slice-2.result.now told.0
-          (wanted_by c.in_ok-trace.trace)
+    (uploads_in c.kept_if-kept.result) (compared (map (λ n. n.now) c.args.options.now.uploads.items) loaded.5)
+    (wanted_by c.in_ok-trace.trace)
     c.in_ok-ledger.ensures.ok c.in_ok-head.ensures.read c.in_ok-head.ensures.enough
-    c.as_slice.ensures.value c.as_slice-2.ensures.value (c.chain-whole.ensures.bytes
+    c.as_slice.ensures.value c.as_slice-2.ensures.value
+    (kept_lists c.as_slice-names.result.now c.args.options.now.uploads.items _ _ _ loaded.5
+    c.kept_if-kept.ensures.uploads loaded.7.taps (ap not c.is_empty-has_uploads.ensures) names)
+    (c.chain-whole.ensures.bytes
     ∙ ap (λ (h : List ℕ). option_append (Some h) _) c.from.ensures.0) told.1
     c.in_ok-trace.ensures.wanted in
           record {
@@ -233,14 +251,16 @@ returns-clause-right g c =
                   c.args.options.now.uploads.items _ _ loaded.0 names loaded.2;
               good = loaded.1;
               are_good = loaded.3;
+        lists = loaded.5;
+        are_lists = loaded.6;
               report = reported;
               loads_report = c.in_ok-report.ensures.ok;
               ledger = told.0;
               loads_ledger = ledger.told;
               traced = ledger.traced;
               is_traced = ledger.is_traced;
-              classes = wanted_by c.in_ok-trace.trace;
-              are_classes = ledger.are_classes;
+              wanted = wanted_by c.in_ok-trace.trace;
+              are_wanted = ledger.are_wanted;
               read = finding.2;
               audit = subst (λ (b : Bool). IsAudit b c.in_ok-table.table
                   (wanted_by c.in_ok-trace.trace) told.0 finding.2
@@ -290,7 +310,7 @@ returns-in_err-trace-clause-right g c =
     let text = c.in_ok-table.table_text.items in
     let report = loaded_report _ _ _ _ c.in_ok-report.ensures.ok in
     let ledger = loaded_ledger _ _ _ _ c.in_ok-ledger.ensures.ok in
-    let uploads = c.in_ok-balance.ensures.ok.2 in
+    let uploads = c.in_ok-load_uploads.ensures.ok.2 in
     let behind = tells_on _ _ _ _ _ uploads.told_is (tells_on _ _ _ _ _ report.1 ledger.1) in
     handed_on c.from_residual-in_err-trace.result fault (λ f. IsRightAuditFault asked _ _ _ f _ _)
     c.from_residual-in_err-trace.ensures.1
@@ -306,3 +326,6 @@ returns-in_err-head-clause-fault g c = λ all. kept_all c.from_residual-in_err-h
 pub returns-in_err-trace-clause-fault : goal.returns-in_err-trace-clause-fault
 returns-in_err-trace-clause-fault g c = λ all. kept_all c.from_residual-in_err-trace.result
     (g.W.Write.contents c.args.out.now)
+
+pub kept_if-requires : goal.kept_if-requires
+kept_if-requires g c = let loaded = c.in_ok-load_uploads.ensures.ok in (loaded.5, loaded.7)
