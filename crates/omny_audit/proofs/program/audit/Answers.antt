@@ -20,14 +20,14 @@ use Rattle.omny_audit.proofs.ProgramLemmas.{handed_on}
 use Rattle.omny_audit.proofs.program.audit.Goals as goal
 
 pub full_audit_over-requires-clause-good : goal.full_audit_over-requires-clause-good
-full_audit_over-requires-clause-good g c = let loaded = c.in_ok-load_uploads.ensures.ok in
+full_audit_over-requires-clause-good g c = let loaded = c.in_ok-balance.ensures.ok in
     (loaded.1, loaded.4)
 
 pub full_audit_over-requires-clause-sums : goal.full_audit_over-requires-clause-sums
 full_audit_over-requires-clause-sums g c = c.in_ok-report.ensures.sums c.in_ok-table.table
 
 pub audit_over-requires-clause-good : goal.audit_over-requires-clause-good
-audit_over-requires-clause-good g c = let loaded = c.in_ok-load_uploads.ensures.ok in
+audit_over-requires-clause-good g c = let loaded = c.in_ok-balance.ensures.ok in
     (loaded.1, loaded.4)
 
 pub audit_over-requires-clause-sums : goal.audit_over-requires-clause-sums
@@ -37,7 +37,7 @@ audit_over-requires-clause-sums g c = c.in_ok-report.ensures.sums c.in_ok-table.
 -- on
 pub returns-clause-ok : goal.returns-clause-ok
 returns-clause-ok g c =
-    let loaded = c.in_ok-load_uploads.ensures.ok in
+    let loaded = c.in_ok-balance.ensures.ok in
     IfOk-weaker c.audit_over.result _ _ (λ well told.
     let finding = told.2 loaded.1 loaded.4 in
     let names = c.as_slice-names.ensures.value in
@@ -96,7 +96,7 @@ returns-clause-ok g c =
 
 pub returns-then-options-clause-ok : goal.returns-then-options-clause-ok
 returns-then-options-clause-ok g c =
-    let loaded = c.in_ok-load_uploads.ensures.ok in
+    let loaded = c.in_ok-balance.ensures.ok in
     IfOk-weaker c.full_audit_over.result _ _ (λ well told.
     let finding = told.2 loaded.1 loaded.4 in
     let names = c.as_slice-names.ensures.value in
@@ -153,15 +153,15 @@ returns-then-options-clause-ok g c =
     })
     c.full_audit_over.ensures.told
 
-pub returns-in_err-load_uploads-clause-named : goal.returns-in_err-load_uploads-clause-named
-returns-in_err-load_uploads-clause-named g c =
-    let fault = c.in_err-load_uploads.field-0.0 in
+pub returns-in_err-balance-clause-named : goal.returns-in_err-balance-clause-named
+returns-in_err-balance-clause-named g c =
+    let fault = c.in_err-balance.field-0.0 in
     let asked = audit_asked_of c.args.options.now in
-    handed_on c.from_residual-in_err-load_uploads.result fault (λ f. NamesOneOf (files_of asked) f)
-    c.from_residual-in_err-load_uploads.ensures.1
+    handed_on c.from_residual-in_err-balance.result fault (λ f. NamesOneOf (files_of asked) f)
+    c.from_residual-in_err-balance.ensures.1
     (at_uploads asked fault
     (names_same c.as_slice-names.result.now c.args.options.now.uploads.items fault
-    c.as_slice-names.ensures.value c.in_err-load_uploads.ensures.named))
+    c.as_slice-names.ensures.value c.in_err-balance.ensures.named))
 
 pub returns-in_err-report-clause-named : goal.returns-in_err-report-clause-named
 returns-in_err-report-clause-named g c =
@@ -179,14 +179,14 @@ returns-in_err-ledger-clause-named g c =
     c.from_residual-in_err-ledger.ensures.1
     (at_ledger asked fault c.in_err-ledger.ensures.named)
 
-pub returns-in_err-load_uploads-clause-right : goal.returns-in_err-load_uploads-clause-right
-returns-in_err-load_uploads-clause-right g c =
-    let fault = c.in_err-load_uploads.field-0.0 in
+pub returns-in_err-balance-clause-right : goal.returns-in_err-balance-clause-right
+returns-in_err-balance-clause-right g c =
+    let fault = c.in_err-balance.field-0.0 in
     let asked = audit_asked_of c.args.options.now in
-    handed_on c.from_residual-in_err-load_uploads.result fault (λ f. IsRightAuditFault asked _ _ _ f _ _)
-    c.from_residual-in_err-load_uploads.ensures.1
-    (written_first asked _ _ _ fault _ _ c.in_err-load_uploads.ensures.fault
-    (c.in_err-load_uploads.ensures.right asked.table _ _))
+    handed_on c.from_residual-in_err-balance.result fault (λ f. IsRightAuditFault asked _ _ _ f _ _)
+    c.from_residual-in_err-balance.ensures.1
+    (written_first asked _ _ _ fault _ _ c.in_err-balance.ensures.fault
+    (c.in_err-balance.ensures.right asked.table _ _))
 
 pub returns-in_err-report-clause-right : goal.returns-in_err-report-clause-right
 returns-in_err-report-clause-right g c =
@@ -209,7 +209,7 @@ returns-in_err-ledger-clause-right g c =
 -- the ledger was read, and what a write that failed left is a beginning of the right text
 pub returns-clause-right : goal.returns-clause-right
 returns-clause-right g c =
-    let loaded = c.in_ok-load_uploads.ensures.ok in
+    let loaded = c.in_ok-balance.ensures.ok in
     both_err c.audit_over.result _ _ _ (λ fault later begun.
     record {
       right = right_later _ _ _ _ fault later;
@@ -310,7 +310,7 @@ returns-in_err-trace-clause-right g c =
     let text = c.in_ok-table.table_text.items in
     let report = loaded_report _ _ _ _ c.in_ok-report.ensures.ok in
     let ledger = loaded_ledger _ _ _ _ c.in_ok-ledger.ensures.ok in
-    let uploads = c.in_ok-load_uploads.ensures.ok.2 in
+    let uploads = c.in_ok-balance.ensures.ok.2 in
     let behind = tells_on _ _ _ _ _ uploads.told_is (tells_on _ _ _ _ _ report.1 ledger.1) in
     handed_on c.from_residual-in_err-trace.result fault (λ f. IsRightAuditFault asked _ _ _ f _ _)
     c.from_residual-in_err-trace.ensures.1
@@ -328,4 +328,4 @@ returns-in_err-trace-clause-fault g c = λ all. kept_all c.from_residual-in_err-
     (g.W.Write.contents c.args.out.now)
 
 pub kept_if-requires : goal.kept_if-requires
-kept_if-requires g c = let loaded = c.in_ok-load_uploads.ensures.ok in (loaded.5, loaded.7)
+kept_if-requires g c = let loaded = c.in_ok-balance.ensures.ok in (loaded.5, loaded.7)
