@@ -3,7 +3,7 @@ use Rattle.std.proofs.Common.{◌≡◌, ◌≢◌, ◌∙◌, ◌⊎◌, inl, i
 use Rattle.std.proofs.Common.{true, false, List, [], ◌∷◌, ◌++◌, append_assoc, append-nil, codes}
 use Rattle.std.proofs.Common.{length, length-append, Option, None, Some, refl, sym, ap, subst}
 use Rattle.std.proofs.Common.{arith, if◌then◌else◌}
-use Rattle.std.specs.Prelude.{◌||◌, is_some, option_map}
+use Rattle.std.specs.Prelude.{◌&&◌, ◌||◌, is_some, not, option_map}
 use Rattle.std.specs.Option.{option_or}
 use Rattle.std.specs.Str.{bytes_eq}
 use Rattle.std.proofs.lemmas.Slice.Eq.{bytes_eq-Decides}
@@ -22,7 +22,8 @@ use Rattle.ledger_check.specs.Places.{tap_at, uploads_of}
 use Rattle.ledger_check.specs.declared.places.PlaceFinding.{PlaceFinding}
 use Rattle.ledger_check.specs.declared.places.PlaceFinding.TheVariants.{Right, Another, Again}
 use Rattle.ledger_check.specs.declared.places.Places.{Places}
-use Rattle.omny_audit.specs.Traced.{AreLinesOf, AreRead, IsFaultBehind, IsPlaceFault, ReadLine}
+use Rattle.omny_audit.specs.Traced.{AreColumnsTold, AreLinesOf, AreRead, IsFaultBehind, IsPlaceFault}
+use Rattle.omny_audit.specs.Traced.{ReadLine, class_text, place_text}
 use Rattle.omny_audit.specs.Traced.{TellsTracedTap, TracedTap, Wanted, class_fault, fault_by}
 use Rattle.omny_audit.specs.Traced.{have_place, lines_read, place_fault, traced_by, wrong_class}
 use Rattle.omny_audit.specs.Traced.{wrong_place}
@@ -414,3 +415,35 @@ fault_some classes line cut tap other = by_test (bytes_eq (classes tap.token) cu
         → class_fault classes line (Some (traced_by cut tap)) ≡ Some (fault_at line tap.token)
     by_test true same = absurd (other ((bytes_eq-Decides (classes tap.token) cut.class).0 same))
     by_test false same = ap (λ (b : Bool). if b then None else Some (fault_at line tap.token)) same
+
+-- what is told of the columns, and whether they are right
+pub columns_told : (trace : Trace) (looked : Bool) (o : Option Trace) (file : List ℕ)
+    (fault : Option PlaceFault) (right classes places : Bool) → o ≡ Some trace → looked ≡ true
+    → classes ≡ not (is_some trace.so_far.wrong_class) → places ≡ not (is_some fault)
+    → right ≡ (classes && places)
+    → ((read : List ReadLine) → HasPlaces trace.so_far.places trace.so_far.wrong_place read
+        → IsPlaceFault (uploads_in trace.so_far.places) read fault)
+    → (looked ≡ true → HasReadAll o file)
+    → (read : List ReadLine) × AreColumnsTold (wanted_by o) looked file read
+        (class_text (class_by trace.so_far.names) trace.so_far.wrong_class
+        ++ place_text (uploads_in trace.so_far.places) fault) right
+columns_told trace looked o file fault right classes places is look of_classes of_places both found
+    all = subst (λ (o : Option Trace). Told o looked) (sym is)
+    (subst (λ (l : Bool). Told (Some trace) l) (sym look)
+    (let known = subst (λ (o : Option Trace). HasReadAll o file) is (all look) in (
+      known.0,
+      known.1,
+      fault,
+      found known.0 known.2.places,
+      ap (λ (w : Option WrongClass). class_text (class_by trace.so_far.names) w
+          ++ place_text (uploads_in trace.so_far.places) fault) known.2.class,
+      both ∙ ap (λ (b : Bool). b && places) (of_classes
+          ∙ ap (λ (w : Option WrongClass). not (is_some w)) known.2.class)
+          ∙ ap (λ (b : Bool). not (is_some (wrong_class (class_by trace.so_far.names) known.0))
+          && b) of_places,
+    )))
+  where
+    abbrev Told : Option Trace → Bool → Type 0
+    Told o looked = (read : List ReadLine) × AreColumnsTold (wanted_by o) looked file read
+        (class_text (class_by trace.so_far.names) trace.so_far.wrong_class
+        ++ place_text (uploads_in trace.so_far.places) fault) right

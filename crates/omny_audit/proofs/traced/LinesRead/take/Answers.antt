@@ -51,7 +51,7 @@ returns-clause-read c = λ whole read kept has.
 
 pub returns-clause-wanted : goal.returns-clause-wanted
 returns-clause-wanted c =
-    wanted_same _ c.args.self.now
+    wanted_same (record c.look_at_place.new.self { lines = c.in-Some.number }) c.args.self.now
     (c.look_at_place.ensures.names ∙ c.look_at_class.ensures.names)
     (c.look_at_place.ensures.uploads ∙ ap uploads_in c.look_at_class.ensures.places)
 

@@ -1,6 +1,6 @@
 use Rattle.std.proofs.Common.{◌≡◌, List, ℕ, ◌++◌, length}
 use Rattle.omny_audit.specs.Traced.{ReadLine}
-use Rattle.omny_audit.specs.inside.Traced.{HasTraced}
+use Rattle.omny_audit.specs.inside.Traced.{HasTraced, wanted_of}
 use Rattle.omny_audit.proofs.TraceLemmas.{Traced}
 use Rattle.omny_audit.proofs.traced.Trace.feed.Given as goal
 

@@ -17,6 +17,6 @@ returns-clause-read c = λ file told read is.
     let trace = c.args.self.now in
     let some : 0 < length trace.begun.items = grind (arith, nat_tests, trace.begun.ok.0) in
     let kept = subst (λ (k : List ℕ). IsKeptOf k is.begun) (sym c.as_slice.ensures.value) is.kept in
-    ended_cut trace _ file told c.args.text.now.items _ read is some
+    ended_cut trace (record trace { so_far = c.take.new.self }) file told c.args.text.now.items _ read is some
     (c.in_ok-take.ensures.read is.begun read kept is.lines)
     (c.in_ok-take.ensures.text is.begun kept)
