@@ -10,7 +10,8 @@ use Rattle.std.specs.Option.{option_and_then}
 use Rattle.std.specs.Prelude.{option_map, Vec}
 use Rattle.std.specs.declared.alloc.Global.{Global}
 use Rattle.tap_views.specs.declared.encoder.TapFields.{TapFields}
-use Rattle.ledger_check.specs.Places.{HasUploads, at_place, named_of, taps_of, unnamed}
+use Rattle.ledger_check.specs.Places.{HasUploads, at_place, named_of, taps_of}
+use Rattle.ledger_check.specs.inside.Places.{unnamed}
 use Rattle.ledger_check.specs.declared.places.PlacedTap.{PlacedTap}
 use Rattle.ledger_check.specs.declared.places.Places.{Places}
 
@@ -37,7 +38,7 @@ at_place-next xs place at is =
     let less : place - 1 ≡ at = omega arith in
     ap (λ (b : Bool). if b then None else slice_get xs (place - 1)) some ∙ ap (slice_get xs) less
 
-or_nothing : (b : Bool) → b ≡ (b || false)
+pub or_nothing : (b : Bool) → b ≡ (b || false)
 or_nothing true = refl
 or_nothing false = refl
 

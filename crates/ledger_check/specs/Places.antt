@@ -73,10 +73,6 @@ named_of (Some placed) = placed.is_named
 abbrev pub is_named : Places → ℕ → ℕ → Bool
 is_named places upload place = named_of (placed_at places upload place)
 
--- a tap whose place was not named
-abbrev pub unnamed : TapFields → PlacedTap
-unnamed tap = record { tap = tap; is_named = false }
-
 -- these are the taps of the uploads, and no place was named
 pub record HasUploads (places : Places) (uploads : List (List TapFields)) : Type 0 where
   pub taps : uploads_of places ≡ uploads

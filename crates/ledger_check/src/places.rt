@@ -7,7 +7,8 @@ ghost use Rattle.tap_views.specs.declared.encoder.TapFields.{TapFields as ATap};
 ghost use Rattle.ledger_check.specs.Balances.{AreGoodFields, is_same};
 ghost use Rattle.ledger_check.specs.Places.{HasUploads, IsFirstUnnamed, IsUnnamed, at_place};
 ghost use Rattle.ledger_check.specs.Places.{is_named, is_place, named_of, place_finding, tap_at};
-ghost use Rattle.ledger_check.specs.Places.{taps_of, unnamed, uploads_of};
+ghost use Rattle.ledger_check.specs.Places.{taps_of, uploads_of};
+ghost use Rattle.ledger_check.specs.inside.Places.{unnamed};
 
 use std::alloc::{AllocError, Global};
 use tap_views::{Batch, TapFields, good_batches};

@@ -16,6 +16,7 @@ use Rattle.ledger_check.specs.Columns.{untraced_line, untraced_lines}
 use Rattle.ledger_check.specs.Lines.{IsLine, Lacks, lines_of}
 use Rattle.ledger_check.proofs.ColumnLemmas.{cut_fits, cut_long, untraced-append}
 use Rattle.ledger_check.proofs.LineLemmas.{lacks-append, lines-part}
+use Rattle.ledger_check.proofs.PlaceLemmas.{or_nothing}
 use Rattle.ledger_check.proofs.RecountLemmas.{split_line_at, split_part}
 use Rattle.ledger_check.specs.Places.{IsFirstUnnamed, IsUnnamed, is_named, is_place, place_finding}
 use Rattle.ledger_check.specs.Places.{tap_at, uploads_of}
@@ -87,10 +88,6 @@ or_no_fault : (fault : Option PlaceFault) → option_or fault None ≡ fault
 or_no_fault None = refl
 or_no_fault (Some fault) = refl
 
-or_false : (b : Bool) → (b || false) ≡ b
-or_false true = refl
-or_false false = refl
-
 pub none_wrong : (uploads : Option (List (List TapFields))) → None ≡ wrong_place_in uploads []
 none_wrong None = refl
 none_wrong (Some uploads) = refl
@@ -103,7 +100,7 @@ no_tap_placed None wrong line read has =
 no_tap_placed (Some places) wrong line read has = record {
   wrong_is = has.wrong_is ∙ sym (or_no_fault (wrong_place (uploads_of places) read));
   named = λ none upload place.
-      has.named none upload place ∙ sym (or_false (have_place read upload place));
+      has.named none upload place ∙ or_nothing (have_place read upload place);
 }
 
 -- behind a wrong place the places stay as they were

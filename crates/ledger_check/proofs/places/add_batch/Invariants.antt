@@ -1,6 +1,6 @@
 use Rattle.std.proofs.Common.{◌≡◌, ◌++◌, map}
 use Rattle.tap_views.specs.Encoding.{fields_of}
-use Rattle.ledger_check.specs.Places.{unnamed}
+use Rattle.ledger_check.specs.inside.Places.{unnamed}
 use Rattle.ledger_check.proofs.places.add_batch.Given as goal
 
 abbrev pub invariant-loop-tap : goal.invariant-loop-tap
