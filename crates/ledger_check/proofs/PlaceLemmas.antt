@@ -2,6 +2,7 @@
 use Rattle.std.proofs.Common.{◌≡◌, ◌≢◌, ◌∙◌, ℕ, ◌+◌, ◌-◌, ◌<◌, ◌≤◌, ◌||◌, ◌&&◌, Bool, true, false, List, []}
 use Rattle.std.proofs.Common.{◌∷◌, ◌++◌, ap, arith, eqb-true, get_or, length, map, nat_eq, None, Option, refl}
 use Rattle.std.proofs.Common.{set, slice_get, Some, suc, sym, zero, if◌then◌else◌}
+use Rattle.std.proofs.Math.Bool.{and-true, or-false, or-true}
 use Rattle.std.proofs.lemmas.Bool.{eqb-false}
 use Rattle.std.proofs.lemmas.Bool.Decides.{nat_tests}
 use Rattle.std.proofs.lemmas.List.{map-append}
@@ -38,14 +39,6 @@ at_place-next xs place at is =
     let less : place - 1 ≡ at = omega arith in
     ap (λ (b : Bool). if b then None else slice_get xs (place - 1)) some ∙ ap (slice_get xs) less
 
-pub or_nothing : (b : Bool) → b ≡ (b || false)
-or_nothing true = refl
-or_nothing false = refl
-
-or_all : (b : Bool) → true ≡ (b || true)
-or_all true = refl
-or_all false = refl
-
 -- what is written at an index is read there, and nowhere else
 pub read_written : {X : Type 0} (n : Option X → Bool) (xs : List X) (at other : ℕ) (v old : X)
     (b : Bool) → at < length xs → slice_get xs at ≡ Some old → n (Some v) ≡ (n (Some old) || b)
@@ -61,7 +54,7 @@ read_written {X = X} n xs at other v old b within was is = by_test (nat_eq other
         ∙ ap (λ (t : Bool). n (slice_get xs other) || (t && b)) (sym same)
     by_test false apart =
         ap n (slice_get-set_other xs at other v (eqb-false other at apart))
-        ∙ or_nothing (n (slice_get xs other))
+        ∙ sym (or-false (n (slice_get xs other)))
         ∙ ap (λ (t : Bool). n (slice_get xs other) || (t && b)) (sym apart)
 
 -- the place that is written is named, and no other one is
@@ -78,15 +71,12 @@ named_written xs place at there is within was (suc other) =
     let tests : nat_eq other at ≡ nat_eq (suc other) place = grind (arith, nat_tests) in
     ap named_of here
     ∙ read_written named_of xs at other _ there true within
-    (slice_get_read xs (length xs) at there refl within was) (or_all there.is_named)
+    (slice_get_read xs (length xs) at there refl within was) (sym (or-true there.is_named))
     ∙ ap (λ (o : Option PlacedTap). named_of o || (nat_eq other at && true)) (sym before)
-    ∙ ap (λ (t : Bool). named_of (at_place xs (suc other)) || t) (and_all (nat_eq other at) ∙ tests)
+    ∙ ap (λ (t : Bool). named_of (at_place xs (suc other)) || t) (and-true (nat_eq other at) ∙ tests)
   where
     after : List PlacedTap
     after = set xs at (record { tap = there.tap; is_named = true })
-    and_all : (b : Bool) → (b && true) ≡ b
-    and_all true = refl
-    and_all false = refl
 
 -- one list more, of which no place was named
 taps_unnamed : (taps : List TapFields) → taps_of (map unnamed taps) ≡ taps

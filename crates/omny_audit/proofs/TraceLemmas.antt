@@ -6,6 +6,7 @@ use Rattle.std.proofs.Common.{arith, if◌then◌else◌}
 use Rattle.std.specs.Prelude.{◌&&◌, ◌||◌, is_some, not, option_map}
 use Rattle.std.specs.Option.{option_or}
 use Rattle.std.specs.Str.{bytes_eq}
+use Rattle.std.proofs.Math.Bool.{or-false}
 use Rattle.std.proofs.lemmas.Slice.Eq.{bytes_eq-Decides}
 use Rattle.tap_views.specs.declared.encoder.TapFields.{TapFields}
 use Rattle.settled_texts.specs.Names.{class_by}
@@ -16,7 +17,6 @@ use Rattle.ledger_check.specs.Columns.{untraced_line, untraced_lines}
 use Rattle.ledger_check.specs.Lines.{IsLine, Lacks, lines_of}
 use Rattle.ledger_check.proofs.ColumnLemmas.{cut_fits, cut_long, untraced-append}
 use Rattle.ledger_check.proofs.LineLemmas.{lacks-append, lines-part}
-use Rattle.ledger_check.proofs.PlaceLemmas.{or_nothing}
 use Rattle.ledger_check.proofs.RecountLemmas.{split_line_at, split_part}
 use Rattle.ledger_check.specs.Places.{IsFirstUnnamed, IsUnnamed, is_named, is_place, place_finding}
 use Rattle.ledger_check.specs.Places.{tap_at, uploads_of}
@@ -100,7 +100,7 @@ no_tap_placed None wrong line read has =
 no_tap_placed (Some places) wrong line read has = record {
   wrong_is = has.wrong_is ∙ sym (or_no_fault (wrong_place (uploads_of places) read));
   named = λ none upload place.
-      has.named none upload place ∙ or_nothing (have_place read upload place);
+      has.named none upload place ∙ sym (or-false (have_place read upload place));
 }
 
 -- behind a wrong place the places stay as they were
