@@ -15,6 +15,7 @@ ghost use Rattle.omny_audit.specs.Traced.{AreColumnsTold, AreLinesOf, IsFaultBeh
 ghost use Rattle.omny_audit.specs.Traced.{ReadLine, Wanted, class_fault, class_text, fault_by};
 ghost use Rattle.omny_audit.specs.Traced.{place_fault_text, place_text, traced_by};
 ghost use Rattle.omny_audit.specs.declared.traced.PlaceFault.{PlaceFault as AFault};
+ghost use Rattle.omny_audit.specs.declared.traced.PlaceFault.TheVariants.{NoLine, OtherTap, Repeated};
 ghost use Rattle.omny_audit.specs.inside.Traced.{HasColumns, HasLines, HasPlaces, HasReadAll};
 ghost use Rattle.omny_audit.specs.inside.Traced.{HasReadAs, HasTraced, HaveNamed, IsKeptOf};
 ghost use Rattle.omny_audit.specs.inside.Traced.{uploads_in, wanted_by, wanted_of, wrong_place_in};
@@ -414,30 +415,51 @@ fn class_line(
     }
 }
 
+/// The line of a tap that does not stand at its place.
+#[tactic(auto, unfolding(crate::specs::Traced::place_fault_text))]
+fn other_tap_line(alloc: Global, line: u64, upload: u32, place: u64) -> Result<String, AllocError>
+    ensures { IfOk result (λ told. string_bytes told
+        ≡ place_fault_text (Some (OtherTap line upload place))) }
+{
+    format!(in alloc; "line {line} has another tap than upload {upload} has at place {place}\n")
+}
+
+/// The line of a place that an earlier line has.
+#[tactic(auto, unfolding(crate::specs::Traced::place_fault_text))]
+fn repeated_line(alloc: Global, line: u64, upload: u32, place: u64) -> Result<String, AllocError>
+    ensures { IfOk result (λ told. string_bytes told
+        ≡ place_fault_text (Some (Repeated line upload place))) }
+{
+    format!(in alloc; "line {line} has upload {upload} place {place} again\n")
+}
+
+/// The line of a place that no line has.
+#[tactic(auto, unfolding(crate::specs::Traced::place_fault_text))]
+fn no_line_line(alloc: Global, upload: u64, place: u64) -> Result<String, AllocError>
+    ensures { IfOk result (λ told. string_bytes told
+        ≡ place_fault_text (Some (NoLine upload place))) }
+{
+    format!(in alloc; "no line has upload {upload} place {place}\n")
+}
+
 /// The line that tells what is found of the places.
 #[tactic(auto, unfolding(crate::specs::Traced::place_fault_text))]
 fn place_line(alloc: Global, fault: &Option<PlaceFault>) -> Result<String, AllocError>
     ensures { IfOk result (λ told. string_bytes told ≡ place_fault_text fault.now) }
 {
-    match fault {
+    match *fault {
         None => format!(in alloc; "all places of the uploads\n"),
         Some(PlaceFault::OtherTap {
             line,
             upload,
             place,
-        }) => {
-            format!(in alloc;
-                "line {line} has another tap than upload {upload} has at place {place}\n"
-            )
-        }
+        }) => other_tap_line(alloc, line, upload, place),
         Some(PlaceFault::Repeated {
             line,
             upload,
             place,
-        }) => format!(in alloc; "line {line} has upload {upload} place {place} again\n"),
-        Some(PlaceFault::NoLine { upload, place }) => {
-            format!(in alloc; "no line has upload {upload} place {place}\n")
-        }
+        }) => repeated_line(alloc, line, upload, place),
+        Some(PlaceFault::NoLine { upload, place }) => no_line_line(alloc, upload, place),
     }
 }
 
