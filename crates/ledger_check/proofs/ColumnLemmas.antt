@@ -38,7 +38,7 @@ last_is (byte ∷ front) back lacks = ap (with_byte byte (front ++ 44 ∷ back))
 -- what stands behind the last such byte lacks it
 pub behind_lacks : (byte : ℕ) (text : List ℕ) (at : ℕ)
     → ((k : ℕ) → at < k → k < length text → get_or text k 0 ≢ byte)
-        → Lacks byte (drop (suc at) text)
+    → Lacks byte (drop (suc at) text)
 behind_lacks byte [] at none = tt
 behind_lacks byte (x ∷ text) zero none = lacks-reads byte text
     (λ k within. none (suc k) (omega arith) (omega arith))
@@ -49,7 +49,7 @@ pub number_yes : (limit number : ℕ) (text written : List ℕ) → number < lim
     → number_if limit number text written ≡ Some number
 number_yes limit number text written small same =
     ap (λ (b : Bool). if b && bytes_eq text written then Some number else None)
-        (lt-ltb number limit small)
+    (lt-ltb number limit small)
     ∙ ap (λ (b : Bool). if b then Some number else None) ((bytes_eq-Decides text written).1 same)
 
 pub number_no : (limit number : ℕ) (text written : List ℕ) → (number < limit → text ≡ written → ⊥)
@@ -67,22 +67,22 @@ number_no limit number text written none = by_test (nat_lt number limit && bytes
 -- the number that digits write
 pub below_is : (limit : ℕ) (digits : List ℕ) (read : Option ℕ) → limit ≤ 2 ^ 64
     → MatchOption read ((number : ℕ) → number < limit → ¬ (digits ≡ decimal number))
-        (λ number. (number < limit) × (digits ≡ decimal number))
+    (λ number. (number < limit) × (digits ≡ decimal number))
     → read ≡ number_below limit digits
 unfolding number_below
 below_is limit digits None fits none =
     sym (number_no limit (digits_value 10 digits) digits (decimal (digits_value 10 digits))
-        (λ small same. none (digits_value 10 digits) small same))
+    (λ small same. none (digits_value 10 digits) small same))
 below_is limit digits (Some number) fits (small, same) =
     let value : digits_value 10 digits ≡ number = ap (λ (t : List ℕ). digits_value 10 t) same
-        ∙ (decimal_is_IsNumeral number (omega (arith, fits, small))).1 in
+    ∙ (decimal_is_IsNumeral number (omega (arith, fits, small))).1 in
     sym (subst (λ (v : ℕ). number_if limit v digits (decimal v) ≡ Some number) (sym value)
-        (number_yes limit number digits (decimal number) small same))
+    (number_yes limit number digits (decimal number) small same))
 
 pub but_last_is : (text : List ℕ) (byte : ℕ) → but_last (text ++ byte ∷ []) ≡ text
 but_last_is text byte =
     let size : length (text ++ byte ∷ []) - 1 ≡ length text = omega
-        (arith, length-append text (byte ∷ [])) in
+    (arith, length-append text (byte ∷ [])) in
     ap (λ (n : ℕ). take n (text ++ byte ∷ [])) size ∙ front text
   where
     front : (text : List ℕ) → take (length text) (text ++ byte ∷ []) ≡ text
@@ -96,7 +96,7 @@ unfolding number_and_feed
 feed_is limit number text fits small same =
     let value : digits_value 10 (but_last text) ≡ number =
     ap (λ (t : List ℕ). digits_value 10 (but_last t)) same ∙ ap (λ (t : List ℕ). digits_value 10 t)
-        (but_last_is (decimal number) 10)
+    (but_last_is (decimal number) 10)
     ∙ (decimal_is_IsNumeral number (omega (arith, fits, small))).1 in
     subst (λ (v : ℕ). number_if limit v text (decimal v ++ 10 ∷ []) ≡ Some number) (sym value)
     (number_yes limit number text (decimal number ++ 10 ∷ []) small same)
@@ -130,38 +130,38 @@ pub feed_inside : (text digits behind : List ℕ) → Lacks 10 digits → text �
 feed_inside text digits behind lacks split some =
     feed_none (2 ^ 64) text (λ number small same.
     let cut = same_cut 10 digits behind (decimal number) [] lacks (decimal_lacks_feed number small)
-        (sym split ∙ same) in
+    (sym split ∙ same) in
     let none : length behind ≡ 0 = ap (λ (b : List ℕ). length b) cut.1 in
     absurd (omega (arith, some, none)))
 
 -- the number that digits write, with a line feed behind them
 pub feed_by : (text digits : List ℕ) (read : Option ℕ) → text ≡ digits ++ 10 ∷ []
     → MatchOption read ((number : ℕ) → number < 2 ^ 64 → ¬ (digits ≡ decimal number))
-        (λ number. (number < 2 ^ 64) × (digits ≡ decimal number))
+    (λ number. (number < 2 ^ 64) × (digits ≡ decimal number))
     → read ≡ number_and_feed (2 ^ 64) text
 feed_by text digits None is none =
     sym (feed_none (2 ^ 64) text (λ number small same.
     none number small (sym (but_last_is digits 10) ∙ ap (λ (t : List ℕ). but_last t) (sym is ∙ same)
-        ∙ but_last_is (decimal number) 10)))
+    ∙ but_last_is (decimal number) 10)))
 feed_by text digits (Some number) is (small, same) =
     sym (feed_is (2 ^ 64) number text (omega arith) small
-        (is ∙ ap (λ (d : List ℕ). d ++ 10 ∷ []) same))
+    (is ∙ ap (λ (d : List ℕ). d ++ 10 ∷ []) same))
 
 -- the place that ends a line
 pub place_none : (line : List ℕ) → None ≡ last_field line → place_of line ≡ None
 unfolding place_of
 place_none line is =
     ap (λ (o : Option (List ℕ × List ℕ)). option_and_then
-        (λ parts. option_map (λ place. (parts.0, place)) (number_and_feed (2 ^ 64) parts.1)) o)
-        (sym is)
+    (λ parts. option_map (λ place. (parts.0, place)) (number_and_feed (2 ^ 64) parts.1)) o)
+    (sym is)
 
 pub place_by : (line text end : List ℕ) (place : Option ℕ) → Some (text, end) ≡ last_field line
     → place ≡ number_and_feed (2 ^ 64) end → place_of line ≡ option_map (λ p. (text, p)) place
 unfolding place_of
 place_by line text end place is read =
     ap (λ (o : Option (List ℕ × List ℕ)). option_and_then
-        (λ parts. option_map (λ place. (parts.0, place)) (number_and_feed (2 ^ 64) parts.1)) o)
-        (sym is)
+    (λ parts. option_map (λ place. (parts.0, place)) (number_and_feed (2 ^ 64) parts.1)) o)
+    (sym is)
     ∙ ap (λ (o : Option ℕ). option_map (λ p. (text, p)) o) (sym read)
 
 -- the upload's number that ends a text
@@ -169,21 +169,21 @@ pub upload_none : (text : List ℕ) → None ≡ last_field text → upload_of t
 unfolding upload_of
 upload_none text is =
     ap (λ (o : Option (List ℕ × List ℕ)). option_and_then
-        (λ parts. option_map (λ upload. (parts.0, upload)) (number_below (2 ^ 32) parts.1)) o)
-        (sym is)
+    (λ parts. option_map (λ upload. (parts.0, upload)) (number_below (2 ^ 32) parts.1)) o)
+    (sym is)
 
 pub upload_by : (text front digits : List ℕ) (upload : Option ℕ)
     → Some (front, digits) ≡ last_field text
     → MatchOption upload ((number : ℕ) → number < 2 ^ 32 → ¬ (digits ≡ decimal number))
-        (λ number. (number < 2 ^ 32) × (digits ≡ decimal number))
+    (λ number. (number < 2 ^ 32) × (digits ≡ decimal number))
     → upload_of text ≡ option_map (λ u. (front, u)) upload
 unfolding upload_of
 upload_by text front digits upload is read =
     ap (λ (o : Option (List ℕ × List ℕ)). option_and_then
-        (λ parts. option_map (λ upload. (parts.0, upload)) (number_below (2 ^ 32) parts.1)) o)
-        (sym is)
+    (λ parts. option_map (λ upload. (parts.0, upload)) (number_below (2 ^ 32) parts.1)) o)
+    (sym is)
     ∙ ap (λ (o : Option ℕ). option_map (λ u. (front, u)) o)
-        (sym (below_is (2 ^ 32) digits upload (omega arith) read))
+    (sym (below_is (2 ^ 32) digits upload (omega arith) read))
 
 -- the class that ends a text
 pub class_none : (text : List ℕ) → None ≡ last_field text → class_of text ≡ None
@@ -193,7 +193,7 @@ class_none text is = ap (λ (o : Option (List ℕ × List ℕ)). option_and_then
 
 pub class_by : (text fields class : List ℕ) (fit : Bool) → Some (fields, class) ≡ last_field text
     → fit ≡ (nat_lt (length fields) 255 && is_class_name class)
-        → class_of text ≡ (if fit then Some (fields, class) else None)
+    → class_of text ≡ (if fit then Some (fields, class) else None)
 unfolding class_of
 class_by text fields class fit is fits =
     ap (λ (o : Option (List ℕ × List ℕ)). option_and_then fields_and_class o) (sym is)
@@ -204,21 +204,21 @@ pub cut_long : (line : List ℕ) → 352 < length line → cut_line line ≡ Non
 unfolding cut_line
 cut_long line long =
     ap (λ (b : Bool). if b then None else option_and_then (λ parts. cut_upload parts.1 parts.0)
-        (place_of line)) (lt-ltb 352 (length line) long)
+    (place_of line)) (lt-ltb 352 (length line) long)
 
 cut_short : (line : List ℕ) → length line ≤ 352
     → cut_line line ≡ option_and_then (λ parts. cut_upload parts.1 parts.0) (place_of line)
 unfolding cut_line
 cut_short line short =
     ap (λ (b : Bool). if b then None else option_and_then (λ parts. cut_upload parts.1 parts.0)
-        (place_of line)) (le-ltb 352 (length line) short)
+    (place_of line)) (le-ltb 352 (length line) short)
 
 cut_from : (line : List ℕ) (place : Option (List ℕ × ℕ)) → length line ≤ 352 → place ≡ place_of line
     → cut_line line ≡ option_and_then (λ parts. cut_upload parts.1 parts.0) place
 cut_from line place short is =
     cut_short line short
-        ∙ ap (λ (o : Option (List ℕ × ℕ)). option_and_then (λ parts. cut_upload parts.1 parts.0) o)
-        (sym is)
+    ∙ ap (λ (o : Option (List ℕ × ℕ)). option_and_then (λ parts. cut_upload parts.1 parts.0) o)
+    (sym is)
 
 pub cut_no_place : (line : List ℕ) → length line ≤ 352 → None ≡ place_of line → cut_line line ≡ None
 cut_no_place line short is = cut_from line None short is
@@ -229,19 +229,19 @@ pub cut_no_upload : (line text : List ℕ) (place : ℕ) → length line ≤ 352
 cut_no_upload line text place short is none =
     cut_from line (Some (text, place)) short is
     ∙ ap (λ (o : Option (List ℕ × ℕ)). option_and_then (λ parts. cut_class place parts.1 parts.0) o)
-        (sym none)
+    (sym none)
 
 pub cut_by_class : (line text front : List ℕ) (place upload : ℕ) (class : Option (List ℕ × List ℕ))
     → length line ≤ 352
     → Some (text, place) ≡ place_of line → Some (front, upload) ≡ upload_of text
-        → class ≡ class_of front
+    → class ≡ class_of front
     → cut_line line ≡ option_map
-        (λ parts. record { fields = parts.0; class = parts.1; upload = upload; place = place })
-        class
+    (λ parts. record { fields = parts.0; class = parts.1; upload = upload; place = place })
+    class
 cut_by_class line text front place upload class short is has named =
     cut_from line (Some (text, place)) short is
     ∙ ap (λ (o : Option (List ℕ × ℕ)). option_and_then (λ parts. cut_class place parts.1 parts.0) o)
-        (sym has)
+    (sym has)
     ∙ ap (λ (o : Option (List ℕ × List ℕ)). to_line o) (sym named)
   where
     to_line : Option (List ℕ × List ℕ) → Option TracedLine

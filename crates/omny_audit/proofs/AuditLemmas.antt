@@ -87,7 +87,7 @@ right_places (Some uploads) read fault is has =
 columns_right : (wanted : Option Wanted) (looked : Bool) (file : List ℕ)
     (read : List ReadLine) (told : List ℕ) (right : Bool)
     → AreColumnsTold wanted looked file read told right → right ≡ true
-        → HasRightColumns wanted file read
+    → HasRightColumns wanted file read
 columns_right None looked file read told right is holds = tt
 columns_right (Some wanted) false file read told right is holds = absurd
     (false_true (sym is.1 ∙ holds))
@@ -103,13 +103,13 @@ columns_right (Some wanted) true file read told right is holds =
 right_columns : (wanted : Option Wanted) (looked : Bool) (file : List ℕ)
     (read : List ReadLine) (told : List ℕ) (right : Bool)
     → looked ≡ true → AreColumnsTold wanted looked file read told right
-        → HasRightColumns wanted file read → right ≡ true
+    → HasRightColumns wanted file read → right ≡ true
 right_columns None looked file read told right look is has = is.1
 right_columns (Some wanted) false file read told right look is has = absurd (false_true look)
 right_columns (Some wanted) true file read told right look is has =
     is.4 ∙ ap (λ (w : Option WrongClass). not (is_some w) && not (is_some is.1)) has.1
     ∙ ap (λ (f : Option PlaceFault). not (is_some f)) (right_places wanted.uploads read is.1 is.2
-        has.2)
+    has.2)
 
 looked_at : (all legal : Bool) → legal ≡ true → (all || legal) ≡ true
 looked_at true legal is = refl
@@ -140,12 +140,12 @@ decides some full verdicts all fares wanted file read good report text well audi
       λ right.
           let legal = audit.is_legal.1 (right.0, right.1) in
           let columns = right_columns wanted looked file read audit.columns audit.right
-              (looked_at all audit.legal legal) audit.are_columns right.3 in
+          (looked_at all audit.legal legal) audit.are_columns right.3 in
           let both : (audit.legal && audit.right) ≡ true = ap (λ (x : Bool). x && audit.right) legal
-              ∙ columns in
+          ∙ columns in
           audit.both ∙ ap (λ (x : Bool). x && (audit.right && audit.fits))
-              (sound.1 (right.0, right.1, right.2))
+          (sound.1 (right.0, right.1, right.2))
           ∙ ap (λ (x : Bool). x && audit.fits) columns
           ∙ (fits_of verdicts fares ledger report (audit.legal && audit.right) audit.rest audit.fits
-              right.0 both audit.report_line right.1 right.4),
+          right.0 both audit.report_line right.1 right.4),
     )

@@ -259,14 +259,14 @@ still_head head rest long = ap (λ (t : List ℕ). bytes_eq t traced_head)
 pub headed : (before after : Option (List Loaded)) (name : Option Text)
     (left left' : Option (List ℕ)) (head file : List ℕ)
     → OpensOne before after name left → Consumes left left' head
-        → IsAtEnd left' ⊎ (length traced_head ≤ length head)
+    → IsAtEnd left' ⊎ (length traced_head ≤ length head)
     → IsAllOf (option_append (Some head) left') file → IsTracedAs before file (has_traced_head head)
 headed None after name left left' head file opens reads enough all = tt
 headed (Some before) after name None left' head file opens reads enough all = absurd opens
 headed (Some before) after name (Some xs) None head file opens reads enough all = absurd reads
 headed (Some before) after name (Some xs) (Some ys) head file opens reads enough all = ⊎_elim
     (λ end. ap has_traced_head (sym (append-nil head) ∙ ap (λ (t : List ℕ). head ++ t) (sym end)
-        ∙ all))
+    ∙ all))
     (λ long. still_head head ys long ∙ ap has_traced_head all)
     enough
 
@@ -282,10 +282,10 @@ pub record ReadsLedger (before after : Option (List Loaded)) (name : Option Text
 pub reads_ledger : (before after : Option (List Loaded)) (name : Option Text)
     (left left' whole : Option (List ℕ)) (head begun table lent file : List ℕ)
     (kept uploads : Option (List (List TapFields))) (wanted : Option Wanted)
-        → OpensOne before after name left
-        → Consumes left left' head → IsAtEnd left' ⊎ (length traced_head ≤ length head)
+    → OpensOne before after name left
+    → Consumes left left' head → IsAtEnd left' ⊎ (length traced_head ≤ length head)
     → begun ≡ head → lent ≡ table → kept ≡ uploads → whole ≡ option_append (Some head) left'
-        → IsAllOf whole file → AreWanted lent (has_traced_head begun) kept wanted
+    → IsAllOf whole file → AreWanted lent (has_traced_head begun) kept wanted
     → ReadsLedger before after name table uploads wanted file
 reads_ledger before after name left left' whole head begun table lent file kept uploads wanted opens
     reads enough same_head same_table same_uploads is all named =

@@ -22,8 +22,9 @@ ghost use Rattle.omny_audit.specs.inside.Traced.{uploads_in, wanted_by, wanted_o
 
 use crate::report::are_both;
 use fare_texts::head_line;
-use ledger_check::{CutLine, PlaceFinding, Places, cut_line, same_bytes, split_line, tap_of_line};
-use ledger_check::traced_head_line;
+use ledger_check::{
+    CutLine, PlaceFinding, Places, cut_line, same_bytes, split_line, tap_of_line, traced_head_line,
+};
 use settled_texts::ClassNames;
 use std::alloc::{AllocError, Global};
 use tap_views::TapFields;
@@ -156,8 +157,10 @@ fn name_place(
 
     // Behind lines of which none is wrong.
     ensures place { (read : List ReadLine) (line : List ℕ) → HasPlaces places.old None read
-        → number ≡ length read + 1 → HasPlaces places.new result (record { line = line;
-        traced = option_map (traced_by (cut_of cut.now)) tap.now } ∷ read) }
+        → number ≡ length read + 1 → HasPlaces places.new result (record {
+          line = line;
+          traced = option_map (traced_by (cut_of cut.now)) tap.now;
+        } ∷ read) }
 {
     let Some(tap) = tap else {
         return None;
@@ -221,8 +224,10 @@ impl LinesRead {
     fn look_at_place(&mut self, number: u64, cut: &CutLine<'_>, tap: &Option<TapFields>)
         ensures places { (read : List ReadLine) (line : List ℕ)
             → HasPlaces self.old.places self.old.wrong_place read → number ≡ length read + 1
-            → HasPlaces self.new.places self.new.wrong_place (record { line = line;
-            traced = option_map (traced_by (cut_of cut.now)) tap.now } ∷ read) }
+            → HasPlaces self.new.places self.new.wrong_place (record {
+              line = line;
+              traced = option_map (traced_by (cut_of cut.now)) tap.now;
+            } ∷ read) }
         ensures uploads { uploads_in self.new.places ≡ uploads_in self.old.places }
         ensures class { self.new.wrong_class ≡ self.old.wrong_class }
         ensures names { self.new.names ≡ self.old.names }
@@ -449,16 +454,20 @@ fn place_line(alloc: Global, fault: &Option<PlaceFault>) -> Result<String, Alloc
 {
     match *fault {
         None => format!(in alloc; "all places of the uploads\n"),
-        Some(PlaceFault::OtherTap {
-            line,
-            upload,
-            place,
-        }) => other_tap_line(alloc, line, upload, place),
-        Some(PlaceFault::Repeated {
-            line,
-            upload,
-            place,
-        }) => repeated_line(alloc, line, upload, place),
+        Some(
+            PlaceFault::OtherTap {
+                line,
+                upload,
+                place,
+            },
+        ) => other_tap_line(alloc, line, upload, place),
+        Some(
+            PlaceFault::Repeated {
+                line,
+                upload,
+                place,
+            },
+        ) => repeated_line(alloc, line, upload, place),
         Some(PlaceFault::NoLine { upload, place }) => no_line_line(alloc, upload, place),
     }
 }

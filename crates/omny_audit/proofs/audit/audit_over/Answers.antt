@@ -34,7 +34,7 @@ returns-clause-told g c =
             told.0.items,
             audit.0,
             subst (λ (cs : Option Wanted). IsAudit false fares cs found.0 audit.0
-            (if c.args.has_uploads then Some good else None) _ told.0.items told.1)
+                (if c.args.has_uploads then Some good else None) _ told.0.items told.1)
                 c.verdict_of.ensures.wanted
                 (subst (λ (r : Option (List ℕ)). IsAudit false fares
                 (wanted_by c.verdict_of.new.trace) found.0 audit.0
@@ -62,14 +62,14 @@ returns-in_err-write_text-clause-begun g c =
             told.1,
             audit.0,
             subst (λ (cs : Option Wanted). IsAudit false fares cs found.0 audit.0
-            (if c.args.has_uploads then Some good else None) _ told.0.items told.1)
+                (if c.args.has_uploads then Some good else None) _ told.0.items told.1)
                 c.verdict_of.ensures.wanted
                 (subst (λ (r : Option (List ℕ)). IsAudit false fares
                 (wanted_by c.verdict_of.new.trace) found.0 audit.0
                 (if c.args.has_uploads then Some good else None) r told.0.items told.1)
                 c.verdict_of.ensures.report audit.1),
             subst (λ (t : List ℕ). Begins (g.W.Write.contents c.args.out.now)
-            (g.W.Write.contents c.write_text.new.out) t) c.as_slice.ensures.value
-            c.in_err-write_text.ensures.begun,
+                (g.W.Write.contents c.write_text.new.out) t) c.as_slice.ensures.value
+                c.in_err-write_text.ensures.begun,
           ),
     )

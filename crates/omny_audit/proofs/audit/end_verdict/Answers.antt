@@ -18,9 +18,14 @@ pub add_piece-requires : goal.add_piece-requires
 add_piece-requires c = (c.requires.fed.0, c.requires.fed.2)
 
 pub finish-requires : goal.finish-requires
-finish-requires c = record
-    { fed = (c.args.table.now, c.requires.fed.0 ++ c.as_slice-left.result.now, rw c.in_default.is at
-    (c.in_ok-verdict.ensures.fed c.requires.fed.0 c.requires.fed.1)) }
+finish-requires c = record {
+  fed = (
+    c.args.table.now,
+    c.requires.fed.0 ++ c.as_slice-left.result.now,
+    rw c.in_default.is at
+        (c.in_ok-verdict.ensures.fed c.requires.fed.0 c.requires.fed.1),
+  );
+}
 
 pub returns-in-Some-clause-verdict : goal.returns-in-Some-clause-verdict
 returns-in-Some-clause-verdict c = λ file told known fed.

@@ -27,8 +27,11 @@ loop-piece-init g c = record {
 }
 
 pub end_verdict-requires-clause-fed : goal.end_verdict-requires-clause-fed
-end_verdict-requires-clause-fed g c = (c.loop-piece.invariant.told, c.loop-piece.invariant.fed,
-    c.loop-piece.invariant.sums)
+end_verdict-requires-clause-fed g c = (
+  c.loop-piece.invariant.told,
+  c.loop-piece.invariant.fed,
+  c.loop-piece.invariant.sums,
+)
 
 pub feed-requires-clause-fed : goal.feed-requires-clause-fed
 feed-requires-clause-fed g c = (c.loop-piece.invariant.told, c.loop-piece.invariant.fed)
@@ -54,9 +57,9 @@ returns-then-count-eq0-clause-told g c =
     (subst Is (sym none) (
       ended.verdict before.file before.told before.as_told before.fed,
       λ good is legal entries ledger. ended.struck before.file before.told good before.as_told
-      (before.struck good is) legal entries ledger,
+          (before.struck good is) legal entries ledger,
       λ legal. ended.sums before.file before.told before.as_told before.sums legal given.0
-      (before.struck given.0 given.1),
+          (before.struck given.0 given.1),
       λ legal. ended.all before.file before.told before.as_told,
     )) in
     (told.0, told.1, told.2.0, told.2.1, told.2.2, told.2.3)

@@ -17,7 +17,7 @@ invariant-loop-piece g l = record {
   wanted : wanted_by l.trace ≡ wanted_by l.fn.trace;
   fed : HasFed l.table l.checker told;
   struck : (good : List TapFields) → IsBalance l.fn.balance good []
-  → HasStruck l.table l.checker l.balance told good;
+      → HasStruck l.table l.checker l.balance told good;
   read : Consumes (g.R.Read.remaining l.fn.reader) (g.R.Read.remaining l.reader) file;
   sums : HasSummedFor l.table l.report told;
   report : text_of l.report ≡ text_of l.fn.report;

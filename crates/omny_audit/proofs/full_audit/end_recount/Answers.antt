@@ -25,7 +25,7 @@ returns-clause-told c = λ file before written good known has.
       ended.3,
       fed.0 ++ ended.4,
       ended.5 ∙ ap (λ (t : List ℕ). t ++ ended.4) fed.1
-      ∙ append_assoc (string_bytes c.args.told.now) fed.0 ended.4,
+          ∙ append_assoc (string_bytes c.args.told.now) fed.0 ended.4,
       sym (append_assoc written fed.0 ended.4) ∙ ended.6,
     )
 

@@ -26,7 +26,7 @@ returns c =
       c.in_ok-ending.ensures,
       λ file all. columns.2 file (λ yes. all),
       λ fares text sums. subst (λ (b : Bool). IsReportLine fares text (text_of c.args.report) b
-      wrote.0 c.in_ok-fits.fits) whole
+          wrote.0 c.in_ok-fits.fits) whole
           (wrote.2 fares text (λ yes. sums (and_parts c.args.legal right (sym whole ∙ yes)).0)),
       wrote.1 ∙ ap (λ (t : List ℕ). t ++ wrote.0) (rw c.into_bytes-text.ensures.value at columns.1),
       c.are_both.ensures ∙ ap (λ (b : Bool). ending.1 && b) c.are_both-is_behind.ensures,

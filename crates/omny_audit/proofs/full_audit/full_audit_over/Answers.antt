@@ -46,8 +46,8 @@ returns-clause-told g c =
             recount_text all.taken ++ told.0.items,
             columns.0,
             subst (λ (cs : Option Wanted). IsAudit true fares cs found.0 columns.0
-            (if c.args.has_uploads then Some good else None) _
-            (recount_text all.taken ++ told.0.items) told.1)
+                (if c.args.has_uploads then Some good else None) _
+                (recount_text all.taken ++ told.0.items) told.1)
                 c.recount_all.ensures.wanted
                 (record {
                   found = recount_text all.taken ++ parts.0;

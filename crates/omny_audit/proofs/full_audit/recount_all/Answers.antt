@@ -21,8 +21,12 @@ loop-piece-init g c = record {
   as_text = c.requires.trace;
   wanted = refl;
   read = Consumes-nil _;
-  known = λ good struck. ([], c.new-recount.ensures c.args.table.now c.args.has_uploads
-      c.args.full.now good struck, Appends-nil _);
+  known = λ good struck. (
+    [],
+    c.new-recount.ensures c.args.table.now c.args.has_uploads
+        c.args.full.now good struck,
+    Appends-nil _,
+  );
   sums = c.requires.sums;
   report = refl;
 }
@@ -111,7 +115,7 @@ loop-piece-preserved g c =
           let more = fed.1 ∙ ap (λ (t : List ℕ). t ++ fed.0) c.clear.ensures.bytes in (
             now.0 ++ fed.0,
             subst (λ (t : List ℕ). HasRecounted fares c.feed.new.self c.args.has_uploads
-            c.feed.new.full (before.text ++ t) (now.0 ++ fed.0) good) part fed.2,
+                c.feed.new.full (before.text ++ t) (now.0 ++ fed.0) good) part fed.2,
             Appends-trans _ _ _ now.0 fed.0 now.2
                 (subst (λ (t : List ℕ). Appends (g.W.Write.contents c.loop-piece.out)
                 (g.W.Write.contents c.write_piece-in-loop-piece.new.out) t)

@@ -66,9 +66,11 @@ returns-clause-ok g c =
         after_uploads = _;
         after_report = _;
         fares = c.in_ok-table.table;
-        loads_table = record
-            { bytes = c.in_ok-table.table_text.items; told_is = c.in_ok-table.ensures.ok.0;
-            means = c.in_ok-table.ensures.ok.1 };
+        loads_table = record {
+          bytes = c.in_ok-table.table_text.items;
+          told_is = c.in_ok-table.ensures.ok.0;
+          means = c.in_ok-table.ensures.ok.1;
+        };
         uploads = loaded.0;
         loads_uploads = loads_same c.as_slice-names.result.now c.args.options.now.uploads.items _ _
             loaded.0 names loaded.2;
@@ -125,9 +127,11 @@ returns-then-options-clause-ok g c =
         after_uploads = _;
         after_report = _;
         fares = c.in_ok-table.table;
-        loads_table = record
-            { bytes = c.in_ok-table.table_text.items; told_is = c.in_ok-table.ensures.ok.0;
-            means = c.in_ok-table.ensures.ok.1 };
+        loads_table = record {
+          bytes = c.in_ok-table.table_text.items;
+          told_is = c.in_ok-table.ensures.ok.0;
+          means = c.in_ok-table.ensures.ok.1;
+        };
         uploads = loaded.0;
         loads_uploads = loads_same c.as_slice-names.result.now c.args.options.now.uploads.items _ _
             loaded.0 names loaded.2;
@@ -226,15 +230,15 @@ returns-clause-right g c =
           finding.3 in
           let ledger = reads_ledger _ _ _ _ _ _ c.in_ok-head.head.items c.as_slice.result.now
           c.in_ok-table.table_text.items c.as_slice-2.result.now told.0
-    (uploads_in c.kept_if-kept.result) (compared (map (λ n. n.now) c.args.options.now.uploads.items) loaded.5)
-    (wanted_by c.in_ok-trace.trace)
-    c.in_ok-ledger.ensures.ok c.in_ok-head.ensures.read c.in_ok-head.ensures.enough
-    c.as_slice.ensures.value c.as_slice-2.ensures.value
-    (kept_lists c.as_slice-names.result.now c.args.options.now.uploads.items _ _ _ loaded.5
-    c.kept_if-kept.ensures.uploads loaded.7.taps (ap not c.is_empty-has_uploads.ensures) names)
-    (c.chain-whole.ensures.bytes
-    ∙ ap (λ (h : List ℕ). option_append (Some h) _) c.from.ensures.0) told.1
-    c.in_ok-trace.ensures.wanted in
+          (uploads_in c.kept_if-kept.result) (compared (map (λ n. n.now) c.args.options.now.uploads.items) loaded.5)
+          (wanted_by c.in_ok-trace.trace)
+          c.in_ok-ledger.ensures.ok c.in_ok-head.ensures.read c.in_ok-head.ensures.enough
+          c.as_slice.ensures.value c.as_slice-2.ensures.value
+          (kept_lists c.as_slice-names.result.now c.args.options.now.uploads.items _ _ _ loaded.5
+          c.kept_if-kept.ensures.uploads loaded.7.taps (ap not c.is_empty-has_uploads.ensures) names)
+          (c.chain-whole.ensures.bytes
+          ∙ ap (λ (h : List ℕ). option_append (Some h) _) c.from.ensures.0) told.1
+          c.in_ok-trace.ensures.wanted in
           record {
             text = finding.0;
             well = finding.1;
@@ -243,16 +247,18 @@ returns-clause-right g c =
               after_uploads = _;
               after_report = _;
               fares = c.in_ok-table.table;
-              loads_table = record
-                  { bytes = c.in_ok-table.table_text.items; told_is = c.in_ok-table.ensures.ok.0;
-                  means = c.in_ok-table.ensures.ok.1 };
+              loads_table = record {
+                bytes = c.in_ok-table.table_text.items;
+                told_is = c.in_ok-table.ensures.ok.0;
+                means = c.in_ok-table.ensures.ok.1;
+              };
               uploads = loaded.0;
               loads_uploads = loads_same c.as_slice-names.result.now
                   c.args.options.now.uploads.items _ _ loaded.0 names loaded.2;
               good = loaded.1;
               are_good = loaded.3;
-        lists = loaded.5;
-        are_lists = loaded.6;
+              lists = loaded.5;
+              are_lists = loaded.6;
               report = reported;
               loads_report = c.in_ok-report.ensures.ok;
               ledger = told.0;

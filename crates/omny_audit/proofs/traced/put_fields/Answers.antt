@@ -17,10 +17,12 @@ is_short fields whole short is =
     omega (arith, short, size)
 
 pub tap_of_line-requires-clause-line : goal.tap_of_line-requires-clause-line
-tap_of_line-requires-clause-line c =
-    (c.args.fields.now, line_is _ c.args.fields.now _ _ _ c.clear.ensures.items
-    c.in_ok-extend_from_slice.ensures.items c.in_ok-push.ensures.items
-    c.as_slice-whole.ensures.value)
+tap_of_line-requires-clause-line c = (
+  c.args.fields.now,
+  line_is _ c.args.fields.now _ _ _ c.clear.ensures.items
+      c.in_ok-extend_from_slice.ensures.items c.in_ok-push.ensures.items
+      c.as_slice-whole.ensures.value,
+)
 
 pub tap_of_line-requires-clause-short : goal.tap_of_line-requires-clause-short
 tap_of_line-requires-clause-short c =

@@ -16,9 +16,12 @@ returns-in_default-cut_line-clause-read c = λ whole read kept has.
     let none : cut_line line ≡ None = sym c.cut_line.ensures.cut
     ∙ ap (λ (o : Option CutLine). option_map cut_of o) c.in_default-cut_line.is in
     let count : c.in-Some.number ≡ c.args.self.now.lines + 1 = first_of
-    (omega arith, grind (arith, nat_tests), search (rules, tests)) in
-    (record { line = whole; traced = None }, refl, took_other c.args.self.now _ line whole read has
-    kept none count refl refl has.columns.places)
+    (omega arith, grind (arith, nat_tests), search (rules, tests)) in (
+      record { line = whole; traced = None },
+      refl,
+      took_other c.args.self.now _ line whole read has
+          kept none count refl refl has.columns.places,
+    )
 
 pub returns-in_default-cut_line-clause-text : goal.returns-in_default-cut_line-clause-text
 returns-in_default-cut_line-clause-text c = λ whole kept.
@@ -38,16 +41,18 @@ returns-clause-read c = λ whole read kept has.
     ∙ ap (λ (o : Option CutLine). option_map cut_of o) c.in-Some-cut_line.is in
     let count : c.in-Some.number ≡ c.args.self.now.lines + 1 = first_of
     (omega arith, grind (arith, nat_tests), search (rules, tests)) in
-    let traced = option_map (traced_by cut) c.in_ok-tap.tap in
-    (record { line = whole; traced = traced }, refl,
-    took_cut c.args.self.now _ line whole cut traced read has kept is count
-    (c.look_at_place.ensures.class ∙ (rw count at c.look_at_class.ensures.class))
-    (c.look_at_place.ensures.names ∙ c.look_at_class.ensures.names)
-    (c.in_ok-tap.tap, c.in_ok-tap.ensures.tap, refl)
-    (c.look_at_place.ensures.places read whole
-    (placed_same _ _ _ _ read c.look_at_class.ensures.places c.look_at_class.ensures.place
-    has.columns.places)
-    (count ∙ ap (λ (n : ℕ). n + 1) has.count)))
+    let traced = option_map (traced_by cut) c.in_ok-tap.tap in (
+      record { line = whole; traced = traced },
+      refl,
+      took_cut c.args.self.now _ line whole cut traced read has kept is count
+          (c.look_at_place.ensures.class ∙ (rw count at c.look_at_class.ensures.class))
+          (c.look_at_place.ensures.names ∙ c.look_at_class.ensures.names)
+          (c.in_ok-tap.tap, c.in_ok-tap.ensures.tap, refl)
+          (c.look_at_place.ensures.places read whole
+          (placed_same _ _ _ _ read c.look_at_class.ensures.places c.look_at_class.ensures.place
+          has.columns.places)
+          (count ∙ ap (λ (n : ℕ). n + 1) has.count)),
+    )
 
 pub returns-clause-wanted : goal.returns-clause-wanted
 returns-clause-wanted c =
