@@ -46,7 +46,7 @@ loop-name-preserved g c =
       added.2 before.1 before.4,
       before.5 ++ placed.0 ∷ [],
       each_push _ before.5 _ placed.0 before.6
-          (subst (λ (u : List ℕ). AreGoodFields u placed.0) c.deref-2.ensures.value placed.1),
+          (subst (λ (u : List ℕ). AreGoodFields u placed.0) c.deref-in-loop-name.ensures.value placed.1),
       placed.2 before.5 before.7,
     )
 
