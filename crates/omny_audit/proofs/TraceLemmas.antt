@@ -413,6 +413,13 @@ fault_some classes line cut tap other = by_test (bytes_eq (classes tap.token) cu
     by_test true same = absurd (other ((bytes_eq-Decides (classes tap.token) cut.class).0 same))
     by_test false same = ap (λ (b : Bool). if b then None else Some (fault_at line tap.token)) same
 
+-- this is told of the columns, for some lines of the file
+abbrev ToldOf : Trace → Option PlaceFault → List ℕ → Bool → Option Trace → Bool → Type 0
+ToldOf trace fault file right o looked =
+    (read : List ReadLine) × AreColumnsTold (wanted_by o) looked file read
+        (class_text (class_by trace.so_far.names) trace.so_far.wrong_class
+        ++ place_text (uploads_in trace.so_far.places) fault) right
+
 -- what is told of the columns, and whether they are right
 pub columns_told : (trace : Trace) (looked : Bool) (o : Option Trace) (file : List ℕ)
     (fault : Option PlaceFault) (right classes places : Bool) → o ≡ Some trace → looked ≡ true
@@ -425,8 +432,9 @@ pub columns_told : (trace : Trace) (looked : Bool) (o : Option Trace) (file : Li
         (class_text (class_by trace.so_far.names) trace.so_far.wrong_class
         ++ place_text (uploads_in trace.so_far.places) fault) right
 columns_told trace looked o file fault right classes places is look of_classes of_places both found
-    all = subst (λ (o : Option Trace). Told o looked) (sym is)
-    (subst (λ (l : Bool). Told (Some trace) l) (sym look)
+    all = subst (λ (o : Option Trace). ToldOf trace fault file right o looked)
+    (sym is)
+    (subst (λ (l : Bool). ToldOf trace fault file right (Some trace) l) (sym look)
     (let known = subst (λ (o : Option Trace). HasReadAll o file) is (all look) in (
       known.0,
       known.1,
@@ -439,8 +447,3 @@ columns_told trace looked o file fault right classes places is look of_classes o
           ∙ ap (λ (b : Bool). not (is_some (wrong_class (class_by trace.so_far.names) known.0))
           && b) of_places,
     )))
-  where
-    abbrev Told : Option Trace → Bool → Type 0
-    Told o looked = (read : List ReadLine) × AreColumnsTold (wanted_by o) looked file read
-        (class_text (class_by trace.so_far.names) trace.so_far.wrong_class
-        ++ place_text (uploads_in trace.so_far.places) fault) right
