@@ -437,13 +437,15 @@ columns_told trace looked o file fault right classes places is look of_classes o
     (subst (λ (l : Bool). ToldOf trace fault file right (Some trace) l) (sym look)
     (let known = subst (λ (o : Option Trace). HasReadAll o file) is (all look) in (
       known.0,
-      known.1,
-      fault,
-      found known.0 known.2.places,
-      ap (λ (w : Option WrongClass). class_text (class_by trace.so_far.names) w
-          ++ place_text (uploads_in trace.so_far.places) fault) known.2.class,
-      both ∙ ap (λ (b : Bool). b && places) (of_classes
-          ∙ ap (λ (w : Option WrongClass). not (is_some w)) known.2.class)
-          ∙ ap (λ (b : Bool). not (is_some (wrong_class (class_by trace.so_far.names) known.0))
-          && b) of_places,
+      (
+        known.1,
+        fault,
+        found known.0 known.2.places,
+        ap (λ (w : Option WrongClass). class_text (class_by trace.so_far.names) w
+            ++ place_text (uploads_in trace.so_far.places) fault) known.2.class,
+        both ∙ ap (λ (b : Bool). b && places) (of_classes
+            ∙ ap (λ (w : Option WrongClass). not (is_some w)) known.2.class)
+            ∙ ap (λ (b : Bool). not (is_some (wrong_class (class_by trace.so_far.names) known.0))
+            && b) of_places,
+      ),
     )))

@@ -7,7 +7,7 @@ use Rattle.omny_audit.proofs.traced.write_columns.Goals as goal
 
 pub returns : goal.returns
 returns c =
-    let trace = c.in-Some.trace.now in
+    let trace = c.in-Some.trace in
     let looked : c.args.is_looked_at ≡ true = first_of (cc, search (rules, tests)) in
     let classes = c.in_ok-are_classes.ensures in
     let places = c.in_ok-are_places.ensures in
