@@ -4,6 +4,7 @@ use Rattle.std.specs.Io.KnownBytes.{Appends}
 use Rattle.ledger_check.specs.Columns.{read_as}
 use Rattle.omny_audit.specs.Reports.{IsAudit}
 use Rattle.fare_texts.specs.WrittenOut.{Begins}
+use Rattle.omny_audit.specs.Traced.{Wanted}
 use Rattle.omny_audit.specs.inside.Traced.{wanted_by}
 use Rattle.omny_audit.proofs.ProgramLemmas.{unwritten_on}
 use Rattle.omny_audit.proofs.audit.audit_over.Goals as goal

@@ -6,6 +6,7 @@ use Rattle.ledger_check.specs.Ledger.{IsLedger}
 use Rattle.ledger_check.specs.Recounts.{recount_text, taps_from, wrong_count}
 use Rattle.omny_audit.specs.Findings.{IsDifferencesEnd}
 use Rattle.omny_audit.specs.Reports.{IsAudit, IsReportLine}
+use Rattle.omny_audit.specs.Traced.{Wanted}
 use Rattle.omny_audit.specs.inside.Traced.{wanted_by}
 use Rattle.ledger_check.specs.Columns.{read_as}
 use Rattle.std.proofs.KnownBytes.{Appends-trans}

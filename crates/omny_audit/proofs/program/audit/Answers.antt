@@ -57,7 +57,8 @@ returns-clause-ok g c =
     (kept_lists c.as_slice-names.result.now c.args.options.now.uploads.items _ _ _ loaded.5
     c.kept_if-kept.ensures.uploads loaded.7.taps (ap not c.is_empty-has_uploads.ensures) names)
     (c.chain-whole.ensures.bytes
-    ∙ ap (λ (h : List ℕ). option_append (Some h) _) c.from.ensures.0) told.1
+    ∙ ap (λ (h : List ℕ). option_append (Some h)
+    (g.S.Ledger.Read.remaining c.read_head.new.ledger)) c.from.ensures.0) told.1
     c.in_ok-trace.ensures.wanted in
     record {
       text = finding.0;
@@ -118,7 +119,8 @@ returns-then-options-clause-ok g c =
     (kept_lists c.as_slice-names.result.now c.args.options.now.uploads.items _ _ _ loaded.5
     c.kept_if-kept.ensures.uploads loaded.7.taps (ap not c.is_empty-has_uploads.ensures) names)
     (c.chain-whole.ensures.bytes
-    ∙ ap (λ (h : List ℕ). option_append (Some h) _) c.from.ensures.0) told.1
+    ∙ ap (λ (h : List ℕ). option_append (Some h)
+    (g.S.Ledger.Read.remaining c.read_head.new.ledger)) c.from.ensures.0) told.1
     c.in_ok-trace.ensures.wanted in
     record {
       text = finding.0;
@@ -237,7 +239,8 @@ returns-clause-right g c =
           (kept_lists c.as_slice-names.result.now c.args.options.now.uploads.items _ _ _ loaded.5
           c.kept_if-kept.ensures.uploads loaded.7.taps (ap not c.is_empty-has_uploads.ensures) names)
           (c.chain-whole.ensures.bytes
-          ∙ ap (λ (h : List ℕ). option_append (Some h) _) c.from.ensures.0) told.1
+          ∙ ap (λ (h : List ℕ). option_append (Some h)
+    (g.S.Ledger.Read.remaining c.read_head.new.ledger)) c.from.ensures.0) told.1
           c.in_ok-trace.ensures.wanted in
           record {
             text = finding.0;
@@ -333,5 +336,5 @@ pub returns-in_err-trace-clause-fault : goal.returns-in_err-trace-clause-fault
 returns-in_err-trace-clause-fault g c = λ all. kept_all c.from_residual-in_err-trace.result
     (g.W.Write.contents c.args.out.now)
 
-pub kept_if-requires : goal.kept_if-requires
-kept_if-requires g c = let loaded = c.in_ok-balance.ensures.ok in (loaded.5, loaded.7)
+pub kept_if-kept-requires : goal.kept_if-kept-requires
+kept_if-kept-requires g c = let loaded = c.in_ok-balance.ensures.ok in (loaded.5, loaded.7)

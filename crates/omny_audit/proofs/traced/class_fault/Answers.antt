@@ -11,12 +11,12 @@ returns-then-same_bytes c =
     let same = sym (c.as_bytes.ensures.value ∙ c.class_of.ensures)
     ∙ c.same_bytes.ensures.0 c.if-same_bytes.true in
     sym (fault_none (class_by c.args.names.now) c.args.line (cut_of c.args.cut.now)
-    c.in-Some.tap.now same)
+    c.in-Some.tap same)
 
 pub returns : goal.returns
 returns c =
-    let other : class_by c.args.names.now c.in-Some.tap.now.token ≡ c.args.cut.now.class.now → ⊥ =
+    let other : class_by c.args.names.now c.in-Some.tap.token ≡ c.args.cut.now.class.now → ⊥ =
     λ is. false≢true (sym c.if-same_bytes.false
     ∙ c.same_bytes.ensures.1 (c.as_bytes.ensures.value ∙ c.class_of.ensures ∙ is)) in
     sym (fault_some (class_by c.args.names.now) c.args.line (cut_of c.args.cut.now)
-    c.in-Some.tap.now other)
+    c.in-Some.tap other)
