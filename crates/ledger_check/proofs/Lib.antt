@@ -1,5 +1,6 @@
 mod Balanced
 pub mod CheckerLemmas
+pub mod ColumnLemmas
 pub mod EndLemmas
 pub mod EntryLists
 pub mod FeedLemmas
@@ -9,6 +10,7 @@ pub mod FrontLemmas
 mod FullyBalanced
 pub mod LineLemmas
 pub mod MomentLemmas
+pub mod PlaceLemmas
 pub mod RecountLaw
 pub mod RecountLemmas
 pub mod ReplayLemmas

@@ -175,9 +175,7 @@ none_kept kept begun (inr (left, right)) none =
     absurd (omega (arith, right, ap (λ (l : List ℕ). length l) none))
 
 -- a piece without a newline
-split_part : (lines : List (List ℕ)) (text begun piece : List ℕ)
-    → ((more : List ℕ) → lines_of (text ++ more) ≡ lines ++ lines_of (begun ++ more))
-    → (more : List ℕ)
+pub split_part : (lines : List (List ℕ)) (text begun piece : List ℕ) → ((more : List ℕ) → lines_of (text ++ more) ≡ lines ++ lines_of (begun ++ more)) → (more : List ℕ)
     → lines_of ((text ++ piece) ++ more) ≡ lines ++ lines_of ((begun ++ piece) ++ more)
 split_part lines text begun piece split more =
     ap lines_of (append_assoc text piece more) ∙ split (piece ++ more)
@@ -201,11 +199,8 @@ kept_piece fares recount after strikes full text piece written good is lacks sam
 }
 
 -- a piece that ends a line
-split_line_at : (lines : List (List ℕ)) (text begun line : List ℕ)
-    → ((more : List ℕ) → lines_of (text ++ more) ≡ lines ++ lines_of (begun ++ more))
-    → Lacks 10 begun → IsLine line
-    → (more : List ℕ) → lines_of ((text ++ line) ++ more)
-    ≡ (lines ++ (begun ++ line) ∷ []) ++ lines_of more
+pub split_line_at : (lines : List (List ℕ)) (text begun line : List ℕ) → ((more : List ℕ) → lines_of (text ++ more) ≡ lines ++ lines_of (begun ++ more)) → Lacks 10 begun → IsLine line
+    → (more : List ℕ) → lines_of ((text ++ line) ++ more) ≡ (lines ++ (begun ++ line) ∷ []) ++ lines_of more
 split_line_at lines text begun line split lacks is more =
     let whole : begun ++ line ≡ (begun ++ is.front) ++ 10 ∷ [] =
     ap (λ (l : List ℕ). begun ++ l) is.shown ∙ sym (append_assoc begun is.front (10 ∷ [])) in

@@ -1,10 +1,13 @@
 pub mod Balances
+pub mod Columns
 pub mod FullBalances
 pub mod Ledger
 pub mod Lines
+pub mod Places
 pub mod RecountStates
 pub mod Recounts
 pub mod Replays
 pub mod Struck
+pub mod Taps
 pub mod Verdicts
 pub mod inside

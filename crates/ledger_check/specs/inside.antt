@@ -1,5 +1,6 @@
 -- What only private functions cite. Who reads the contracts of public calls need not read it.
 pub mod Fronts
+pub mod Places
 pub mod Recounts
 pub mod Replays
 pub mod Taps

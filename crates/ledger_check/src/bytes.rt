@@ -8,7 +8,7 @@ ghost use Rattle.ledger_check.specs.Lines.{IsLine, Lacks};
 use memchr::memchr;
 
 /// What stands before the first such byte of the text, and what stands behind it.
-fn split_at_byte(text: &[u8], byte: u8) -> Option<(&[u8], &[u8])>
+pub(crate) fn split_at_byte(text: &[u8], byte: u8) -> Option<(&[u8], &[u8])>
     ensures some { IfSome result (λ parts. Lacks byte parts.0.now
         × (text.now ≡ parts.0.now ++ byte ∷ parts.1.now)) }
     ensures none { IfNone result (Lacks byte text.now) }

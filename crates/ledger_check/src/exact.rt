@@ -1,23 +1,24 @@
 //! The tap that a line tells, whatever it says of the tap's reply.
 
-ghost use Rattle.std.specs.Prelude.{◌≡◌, ◌<◌, ◌≤◌, ◌^◌, ◌∷◌, ◌++◌, ℕ, List, IfNone, IfOk, IfSome};
+ghost use Rattle.std.specs.Prelude.{◌≡◌, ◌<◌, ◌≤◌, ◌^◌, ◌∷◌, ◌++◌, [], ℕ, List, IfNone, IfOk, IfSome};
 ghost use Rattle.std.specs.Prelude.{IsTrue, ◌↔◌, MatchOption, length};
 ghost use Rattle.std.specs.Fmt.{decimal};
 ghost use Rattle.hex.specs.Hex.{encode_lower};
 ghost use Rattle.fare_texts.specs.Moments.{IsMomentText};
 ghost use Rattle.tap_views.specs.Token.{Fits, bytes_of};
 ghost use Rattle.tap_views.specs.declared.token.Token.{Token as AToken};
-ghost use Rattle.ledger_check.specs.Lines.{IsLine, Lacks};
+ghost use Rattle.ledger_check.specs.Lines.{Lacks};
 ghost use Rattle.ledger_check.specs.Recounts.{IsCentsField, IsLineOfTap};
+ghost use Rattle.ledger_check.specs.Taps.{IsTapOfLine};
 ghost use Rattle.ledger_check.specs.inside.Fronts.{HasFront, IsFrontOf};
 
 use crate::bytes::{field, same_bytes};
 use crate::moment::read_moment;
-use crate::tap::{Tap, read_small_number, read_token};
+use crate::tap::{Tap, read_long_number, read_small_number, read_token};
 use fare_texts::write_moment;
 use itoa::Buffer;
 use std::alloc::AllocError;
-use tap_views::Token;
+use tap_views::{TapFields, Token};
 
 /// The first four fields of a line, and what stands behind them.
 #[derive(Clone, Copy)]
@@ -76,7 +77,7 @@ fn exact_token(digits: &[u8]) -> Option<Token>
 }
 
 /// The number of at most 32 bits that the digits write, if they are written as the number is.
-fn exact_number(digits: &[u8]) -> Option<u32>
+pub(crate) fn exact_number(digits: &[u8]) -> Option<u32>
     ensures { MatchOption result
         ((number : ℕ) → number < 2 ^ 32 → ¬ (digits.now ≡ decimal number))
         (λ number. (number < 2 ^ 32) × (digits.now ≡ decimal number)) }
@@ -84,6 +85,21 @@ fn exact_number(digits: &[u8]) -> Option<u32>
     let number = read_small_number(digits)?;
     let mut buffer = Buffer::new();
     if buffer.format(number).as_bytes() == digits {
+        Some(number)
+    } else {
+        None
+    }
+}
+
+/// The number of at most 64 bits that the digits write, if they are written as the number is.
+pub(crate) fn exact_long_number(digits: &[u8]) -> Option<u64>
+    ensures { MatchOption result
+        ((number : ℕ) → number < 2 ^ 64 → ¬ (digits.now ≡ decimal number))
+        (λ number. (number < 2 ^ 64) × (digits.now ≡ decimal number)) }
+{
+    let number = read_long_number(digits)?;
+    let mut buffer = Buffer::new();
+    if digits == buffer.format(number).as_bytes() {
         Some(number)
     } else {
         None
@@ -105,7 +121,7 @@ pub(crate) fn exact_tap<'a>(
     line: &'a [u8],
     again: &mut String,
 ) -> Result<Option<(Tap, &'a [u8])>, AllocError>
-    requires line { IsLine line.now }
+    requires line { (front : List ℕ) × (line.now ≡ front ++ 10 ∷ []) }
     requires short { length line.now ≤ 255 }
     ensures { IfOk result (λ read. MatchOption read
         ((token : AToken) (validator moment : ℕ) (rest : List ℕ)
@@ -135,6 +151,18 @@ pub(crate) fn exact_tap<'a>(
         moment,
     };
     Ok(Some((tap, front.rest)))
+}
+
+/// The tap that the line tells, if it tells one. The text in `again` is replaced.
+pub fn tap_of_line(line: &[u8], again: &mut String) -> Result<Option<TapFields>, AllocError>
+    requires line { (front : List ℕ) × (line.now ≡ front ++ 10 ∷ []) }
+    requires short { length line.now ≤ 255 }
+    ensures { IfOk result (IsTapOfLine line.now) }
+{
+    match exact_tap(line, again)? {
+        Some((tap, _rest)) => Ok(Some(tap.fields())),
+        None => Ok(None),
+    }
 }
 
 /// The cents that a line asks for, from what stands behind its validator.

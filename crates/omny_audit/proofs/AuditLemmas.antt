@@ -1,15 +1,22 @@
 -- What is told of a ledger and of a report, by its parts.
 use Rattle.std.proofs.Common.{◌≡◌, ◌∙◌, ℕ, Bool, true, false, List, [], Option, Some, None, refl}
-use Rattle.std.proofs.Common.{sym, ap}
-use Rattle.std.specs.Prelude.{◌↔◌, ◌&&◌}
+use Rattle.std.proofs.Common.{sym, ap, subst}
+use Rattle.std.specs.Prelude.{◌↔◌, ◌&&◌, ◌||◌, is_some, not}
 use Rattle.std.proofs.lemmas.Bool.{and_parts}
 use Rattle.fare_table.specs.Fares.{Fares}
 use Rattle.shard_book.specs.declared.entry.Entry.{Entry}
 use Rattle.tap_views.specs.declared.encoder.TapFields.{TapFields}
+use Rattle.ledger_check.specs.Columns.{read_as}
 use Rattle.ledger_check.specs.Ledger.{IsLedgerOf}
 use Rattle.omny_audit.specs.Findings.{FindingsDecide, FullFindingsDecide, IsFindingOf}
 use Rattle.omny_audit.specs.Findings.{IsRightLedger}
 use Rattle.omny_audit.specs.Reports.{HasOwnReport, IsAudit, IsReportLine, IsRightAudit}
+use Rattle.omny_audit.specs.Traced.{AreColumnsTold, HasRightColumns, HasRightPlaces, IsFaultBehind}
+use Rattle.omny_audit.specs.Traced.{IsPlaceFault, ReadLine, Wanted, have_place, wrong_class}
+use Rattle.omny_audit.specs.Traced.{wrong_place}
+use Rattle.omny_audit.specs.declared.traced.PlaceFault.{PlaceFault}
+use Rattle.omny_audit.specs.declared.traced.PlaceFault.TheVariants.{NoLine, OtherTap, Repeated}
+use Rattle.omny_audit.specs.declared.traced.WrongClass.{WrongClass}
 use Rattle.report_check.specs.Reports.{ReportVerdictsDecide, is_of_ledger}
 
 false_true : false ≡ true → ⊥
@@ -45,25 +52,100 @@ fits_of verdicts fares ledger (Some report) false rest fits entries told line of
 fits_of verdicts fares ledger (Some report) true rest fits entries told line of own =
     line.told ∙ (verdicts entries report line.verdict (line.true_of entries of)).1 own
 
+-- columns that are right
+none_of : {A : Type 0} (wrong : Option A) → not (is_some wrong) ≡ true → wrong ≡ None
+none_of None holds = refl
+none_of (Some wrong) holds = absurd (false_true holds)
+
+places_right : (uploads : Option (List (List TapFields))) (read : List ReadLine)
+    → IsPlaceFault uploads read None → HasRightPlaces uploads read
+places_right None read is = tt
+places_right (Some uploads) read is = by_wrong (wrong_place uploads read) refl is
+  where
+    by_wrong : (wrong : Option PlaceFault) → wrong_place uploads read ≡ wrong
+        → IsFaultBehind uploads (have_place read) wrong None
+        → HasRightPlaces (Some uploads) read
+    by_wrong None none is = (none, is)
+    by_wrong (Some wrong) some is =
+        let bad : ◌≡◌ {A = Option PlaceFault} None (Some wrong) = is in absurd (cc)
+
+right_places : (uploads : Option (List (List TapFields))) (read : List ReadLine)
+    (fault : Option PlaceFault) → IsPlaceFault uploads read fault → HasRightPlaces uploads read
+    → fault ≡ None
+right_places None read fault is has = is
+right_places (Some uploads) read fault is has =
+    by_fault fault (subst (λ (w : Option PlaceFault). IsFaultBehind uploads (have_place read) w
+    fault) has.0 is)
+  where
+    by_fault : (fault : Option PlaceFault) → IsFaultBehind uploads (have_place read) None fault
+        → fault ≡ None
+    by_fault None is = refl
+    by_fault (Some (OtherTap line upload place)) is = absurd is
+    by_fault (Some (Repeated line upload place)) is = absurd is
+    by_fault (Some (NoLine upload place)) is = absurd (has.1 upload place is.is)
+
+columns_right : (wanted : Option Wanted) (looked : Bool) (file : List ℕ)
+    (read : List ReadLine) (told : List ℕ) (right : Bool)
+    → AreColumnsTold wanted looked file read told right → right ≡ true
+    → HasRightColumns wanted file read
+columns_right None looked file read told right is holds = tt
+columns_right (Some wanted) false file read told right is holds = absurd
+    (false_true (sym is.1 ∙ holds))
+columns_right (Some wanted) true file read told right is holds =
+    let parts = and_parts (not (is_some (wrong_class wanted.classes read))) (not (is_some is.1))
+    (sym is.4 ∙ holds) in (
+      is.0,
+      none_of (wrong_class wanted.classes read) parts.0,
+      places_right wanted.uploads read (subst (IsPlaceFault wanted.uploads read)
+          (none_of is.1 parts.1) is.2),
+    )
+
+right_columns : (wanted : Option Wanted) (looked : Bool) (file : List ℕ)
+    (read : List ReadLine) (told : List ℕ) (right : Bool)
+    → looked ≡ true → AreColumnsTold wanted looked file read told right
+    → HasRightColumns wanted file read → right ≡ true
+right_columns None looked file read told right look is has = is.1
+right_columns (Some wanted) false file read told right look is has = absurd (false_true look)
+right_columns (Some wanted) true file read told right look is has =
+    is.4 ∙ ap (λ (w : Option WrongClass). not (is_some w) && not (is_some is.1)) has.1
+    ∙ ap (λ (f : Option PlaceFault). not (is_some f)) (right_places wanted.uploads read is.1 is.2
+    has.2)
+
+looked_at : (all legal : Bool) → legal ≡ true → (all || legal) ≡ true
+looked_at true legal is = refl
+looked_at false legal is = is
+
 pub decides : FindingsDecide → FullFindingsDecide → ReportVerdictsDecide
     → (all : Bool) (fares : Fares)
-    (ledger : List ℕ) (good : Option (List TapFields)) (report : Option (List ℕ)) (text : List ℕ)
-    (well : Bool) → IsAudit all fares ledger good report text well
-    → (well ≡ true) ↔ IsRightAudit fares ledger good report
-decides some full verdicts all fares ledger good report text well audit =
-    let sound = sound_is some full all fares ledger good audit.found audit.sound audit.finding in (
+    (wanted : Option Wanted) (file : List ℕ) (read : List ReadLine)
+    (good : Option (List TapFields)) (report : Option (List ℕ)) (text : List ℕ)
+    (well : Bool) → IsAudit all fares wanted file read good report text well
+    → (well ≡ true) ↔ IsRightAudit fares wanted file read good report
+decides some full verdicts all fares wanted file read good report text well audit =
+    let ledger = read_as (is_some wanted) file in
+    let sound = sound_is some full all fares ledger good audit.found audit.sound audit.finding in
+    let looked = all || audit.legal in (
       λ is.
-          let parts = and_parts audit.sound audit.fits (sym audit.both ∙ is) in
+          let parts = and_parts audit.sound (audit.right && audit.fits) (sym audit.both ∙ is) in
+          let ends = and_parts audit.right audit.fits parts.1 in
           let right = sound.0 parts.0 in (
             right.0,
             right.1,
             right.2,
-            own_of verdicts fares ledger report audit.legal audit.rest audit.fits right.0
-                audit.report_line parts.1 right.1,
+            columns_right wanted looked file read audit.columns audit.right audit.are_columns
+                ends.0,
+            own_of verdicts fares ledger report (audit.legal && audit.right) audit.rest audit.fits
+                right.0 audit.report_line ends.1 right.1,
           ),
       λ right.
           let legal = audit.is_legal.1 (right.0, right.1) in
-          audit.both ∙ ap (λ (x : Bool). x && audit.fits) (sound.1 (right.0, right.1, right.2))
-          ∙ (fits_of verdicts fares ledger report audit.legal audit.rest audit.fits right.0 legal
-          audit.report_line right.1 right.3),
+          let columns = right_columns wanted looked file read audit.columns audit.right
+          (looked_at all audit.legal legal) audit.are_columns right.3 in
+          let both : (audit.legal && audit.right) ≡ true = ap (λ (x : Bool). x && audit.right) legal
+          ∙ columns in
+          audit.both ∙ ap (λ (x : Bool). x && (audit.right && audit.fits))
+          (sound.1 (right.0, right.1, right.2))
+          ∙ ap (λ (x : Bool). x && audit.fits) columns
+          ∙ (fits_of verdicts fares ledger report (audit.legal && audit.right) audit.rest audit.fits
+          right.0 both audit.report_line right.1 right.4),
     )

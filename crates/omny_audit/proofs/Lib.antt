@@ -4,4 +4,5 @@ pub mod FullFindingLemmas
 pub mod ProgramLemmas
 pub mod ReadLemmas
 pub mod TapLines
+pub mod TraceLemmas
 pub mod Written

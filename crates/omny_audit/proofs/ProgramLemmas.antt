@@ -1,26 +1,33 @@
 -- What was loaded, one more each time, and what the program compares.
 use Rattle.std.proofs.Common.{◌≡◌, ◌∙◌, ℕ, Bool, true, false, not, List, [], ◌∷◌, ◌++◌, length, map}
 use Rattle.std.proofs.Common.{refl, sym, ap, subst, append-nil, append_assoc, nat_eq, Option, Some}
-use Rattle.std.proofs.Common.{None, if◌then◌else◌, Bor, ◌<◌, suc, get_or, inl, inr, arith, codes}
+use Rattle.std.proofs.Common.{None, if◌then◌else◌, Bor, ◌<◌, ◌≤◌, ◌⊎◌, ⊎_elim, zero, suc, get_or}
+use Rattle.std.proofs.Common.{inl, inr, arith, codes}
 use Rattle.std.specs.Prelude.{IfErr, IfSome, Result, Ok, Err, option_map, unwrap_or}
-use Rattle.std.specs.Io.KnownBytes.{Keeps}
-use Rattle.std.specs.Result.{IsErrAnd}
+use Rattle.std.specs.Io.KnownBytes.{Consumes, IsAtEnd, Keeps}
+use Rattle.std.specs.Fmt.{option_append}
+use Rattle.std.specs.Str.{bytes_eq}
+use Rattle.ledger_check.specs.Columns.{has_traced_head, traced_head}
+use Rattle.std.specs.Result.{IsErrAnd, IsErrOf}
+use Rattle.fare_table.specs.declared.fault.TableFault.{TableFault}
 use Rattle.std.proofs.lemmas.Bool.Decides.{nat_tests}
-use Rattle.std.proofs.lemmas.List.{map-append}
+use Rattle.std.proofs.lemmas.List.{map-append, take-append-le}
 use Rattle.clap.specs.Words.{Text}
 use Rattle.ledger_check.specs.Balances.{AreGoodFields}
 use Rattle.tap_views.specs.declared.encoder.TapFields.{TapFields}
 use Rattle.omny_audit.specs.Fault.{IsRightFault, NamesOneOf, is_unwritten, named_by}
 use Rattle.omny_audit.specs.Options.{AuditAsked, files_of, named_file}
 use Rattle.omny_audit.specs.declared.fault.Fault.{Fault}
-use Rattle.omny_audit.specs.declared.fault.Fault.TheVariants.{File, Ledger, Table, Write, Closed}
-use Rattle.omny_audit.specs.declared.fault.Fault.TheVariants.{NoMemory}
-use Rattle.omny_audit.specs.Program.{AreGoodFieldsOfAll, IsRightAuditFault, LoadsNamedFiles}
-use Rattle.omny_audit.specs.Program.{compared}
+use Rattle.omny_audit.specs.declared.fault.Fault.TheVariants.{ClassName, File, Ledger, Table, Write}
+use Rattle.omny_audit.specs.declared.fault.Fault.TheVariants.{Closed, NoMemory}
+use Rattle.omny_audit.specs.Program.{AreGoodFieldsOfAll, AreGoodFieldsOfEach, AreWanted}
+use Rattle.omny_audit.specs.Program.{IsRightAuditFault, IsTracedAs}
+use Rattle.omny_audit.specs.Program.{LoadsNamedFiles, LoadsReport, compared}
 use Rattle.omny_audit.specs.Source.{OpensOne}
+use Rattle.omny_audit.specs.Traced.{Wanted}
 use Rattle.program_manners.specs.Refusals.{IsOneOf}
 use Rattle.program_manners.proofs.Refusals.{is_one_at}
-use Rattle.omny_audit.specs.inside.Fault.{is_of_loading}
+use Rattle.omny_audit.specs.inside.Fault.{IsRightOfNames, is_of_loading}
 use Rattle.omny_audit.specs.inside.Source.{IsAllOf}
 use Rattle.program_manners.specs.Loads.{Loaded, Tells, TellsOne}
 use Rattle.program_manners.specs.declared.loading.LoadFault.{LoadFault}
@@ -68,11 +75,22 @@ opened (Some before) after name None text opens all = absurd opens
 opened (Some before) after name (Some known) text opens all =
     subst (λ (t : List ℕ). TellsOne (Some before) after name t) all opens
 
+-- the taps of each upload, one more
+pub each_push : (uploads : List (List ℕ)) (lists : List (List TapFields)) (upload : List ℕ)
+    (taps : List TapFields) → AreGoodFieldsOfEach uploads lists → AreGoodFields upload taps
+    → AreGoodFieldsOfEach (uploads ++ upload ∷ []) (lists ++ taps ∷ [])
+each_push [] [] upload taps all one = (one, refl)
+each_push [] (list ∷ lists) upload taps all one =
+    let bad : list ∷ lists ≡ [] = all in absurd (cc)
+each_push (first ∷ uploads) [] upload taps all one = absurd all
+each_push (first ∷ uploads) (list ∷ lists) upload taps all one =
+    (all.0, each_push uploads lists upload taps all.1 one)
+
 not_zero : (n : ℕ) → nat_eq (suc n) 0 ≡ false
 not_zero n = grind (arith, nat_tests)
 
 -- taps are compared where uploads are named
-pub compared_is : (names : List (Bor Text)) (good : List TapFields) (has : Bool)
+pub compared_is : {A : Type 0} (names : List (Bor Text)) (good : A) (has : Bool)
     → has ≡ not (nat_eq (length names) 0)
     → (if has then Some good else None) ≡ compared (map (λ n. n.now) names) good
 compared_is [] good has is = rw is refl
@@ -182,6 +200,7 @@ pub right_later : (table : Text) (told told' : Option (List Loaded))
 right_later table told told' refused (File file) later = absurd (cc)
 right_later table told told' refused Ledger later = tt
 right_later table told told' refused (Table fault) later = absurd (cc)
+right_later table told told' refused ClassName later = absurd (cc)
 right_later table told told' refused Write later = tt
 right_later table told told' refused Closed later = tt
 right_later table told told' refused NoMemory later = tt
@@ -223,3 +242,106 @@ pub kept_all : {A : Type 0} (r : Result A Fault) (o : Option (List ℕ))
 kept_all (Ok x) o = tt
 kept_all (Err e) None = λ un. tt
 kept_all (Err e) (Some xs) = λ un. refl
+
+-- bytes that were read before the rest of what a reader had
+pub chained : (left left' : Option (List ℕ)) (head file : List ℕ) → Consumes left left' head
+    → IsAllOf (option_append (Some head) left') file → IsAllOf left file
+chained None left' head file reads all = tt
+chained (Some xs) None head file reads all = absurd reads
+chained (Some xs) (Some ys) head file reads all = reads ∙ all
+
+-- a file is a traced ledger exactly if its first bytes say so
+still_head : (head rest : List ℕ) → length traced_head ≤ length head
+    → has_traced_head head ≡ has_traced_head (head ++ rest)
+still_head head rest long = ap (λ (t : List ℕ). bytes_eq t traced_head)
+    (sym (take-append-le (length traced_head) head rest long))
+
+pub headed : (before after : Option (List Loaded)) (name : Option Text)
+    (left left' : Option (List ℕ)) (head file : List ℕ)
+    → OpensOne before after name left → Consumes left left' head
+    → IsAtEnd left' ⊎ (length traced_head ≤ length head)
+    → IsAllOf (option_append (Some head) left') file → IsTracedAs before file (has_traced_head head)
+headed None after name left left' head file opens reads enough all = tt
+headed (Some before) after name None left' head file opens reads enough all = absurd opens
+headed (Some before) after name (Some xs) None head file opens reads enough all = absurd reads
+headed (Some before) after name (Some xs) (Some ys) head file opens reads enough all = ⊎_elim
+    (λ end. ap has_traced_head (sym (append-nil head) ∙ ap (λ (t : List ℕ). head ++ t) (sym end)
+    ∙ all))
+    (λ long. still_head head ys long ∙ ap has_traced_head all)
+    enough
+
+-- a ledger that was opened, whose first bytes were read first
+pub record ReadsLedger (before after : Option (List Loaded)) (name : Option Text) (table : List ℕ)
+    (uploads : Option (List (List TapFields))) (wanted : Option Wanted) (file : List ℕ)
+    : Type 0 where
+  pub told : TellsOne before after name file
+  pub traced : Bool
+  pub is_traced : IsTracedAs before file traced
+  pub are_wanted : AreWanted table traced uploads wanted
+
+pub reads_ledger : (before after : Option (List Loaded)) (name : Option Text)
+    (left left' whole : Option (List ℕ)) (head begun table lent file : List ℕ)
+    (kept uploads : Option (List (List TapFields))) (wanted : Option Wanted)
+    → OpensOne before after name left
+    → Consumes left left' head → IsAtEnd left' ⊎ (length traced_head ≤ length head)
+    → begun ≡ head → lent ≡ table → kept ≡ uploads → whole ≡ option_append (Some head) left'
+    → IsAllOf whole file → AreWanted lent (has_traced_head begun) kept wanted
+    → ReadsLedger before after name table uploads wanted file
+reads_ledger before after name left left' whole head begun table lent file kept uploads wanted opens
+    reads enough same_head same_table same_uploads is all named =
+    let rest = subst (λ (w : Option (List ℕ)). IsAllOf w file) is all in
+    record {
+      told = opened before after name left file opens (chained left left' head file reads rest);
+      traced = has_traced_head head;
+      is_traced = headed before after name left left' head file opens reads enough rest;
+      are_wanted = subst (λ (u : Option (List (List TapFields))). AreWanted table
+          (has_traced_head head) u wanted) same_uploads
+          (subst (λ (t : List ℕ). AreWanted t (has_traced_head head) kept wanted) same_table
+          (subst (λ (h : List ℕ). AreWanted lent (has_traced_head h) kept wanted) same_head named));
+    }
+
+-- what was loaded after the table, where the ledger was opened
+pub loaded_report : (name : Option Text) (told told' : Option (List Loaded))
+    (report : Option (List ℕ)) → LoadsReport name told told' report
+    → (more : List Loaded) × Tells told told' more
+loaded_report None told told' report is =
+    ([], subst (λ (t : Option (List Loaded)). Tells told t []) (sym is.0) (tells_none told))
+loaded_report (Some name) told told' report is = (_, is.1)
+
+pub loaded_ledger : (before after : Option (List Loaded)) (name : Option Text)
+    (left : Option (List ℕ)) → OpensOne before after name left
+    → (more : List Loaded) × Tells before after more
+loaded_ledger None after name left opens = ([], tt)
+loaded_ledger (Some before) after name None opens = absurd opens
+loaded_ledger (Some before) after name (Some text) opens = (_, opens)
+
+-- the names of the classes are not had, for the right reason
+pub right_of_names : (asked : AuditAsked) (text : List ℕ) (later : List Loaded)
+    (told told' : Option (List Loaded)) (refused : Option (Option (List ℕ) × LoadFault))
+    (fault : Fault) (out out' : Option (List ℕ))
+    → Tells told told' (record { name = Some asked.table; bytes = text } ∷ later)
+    → IsRightOfNames text fault → is_unwritten fault ≡ false
+    → IsRightAuditFault asked told told' refused fault out out'
+right_of_names asked text later told told' refused fault out out' loads right written =
+    written_first asked told told' refused fault out out' written (by_fault fault right)
+  where
+    by_fault : (fault : Fault) → IsRightOfNames text fault
+        → IsRightFault asked.table told told' refused fault
+    by_fault (File file) right = absurd right
+    by_fault Ledger right = tt
+    by_fault (Table fault) right = absurd right
+    by_fault ClassName right =
+        record { bytes = text; later = later; told_is = loads; names = right }
+    by_fault Write right = tt
+    by_fault Closed right = tt
+    by_fault NoMemory right = tt
+
+-- the places that are kept are those of the uploads that are named
+pub kept_lists : (names same : List (Bor Text)) (kept : Option (List (List TapFields))) (has : Bool)
+    (uploads lists : List (List TapFields)) → kept ≡ (if has then Some uploads else None)
+    → uploads ≡ lists → has ≡ not (nat_eq (length names) 0) → names ≡ same
+    → kept ≡ compared (map (λ n. n.now) same) lists
+kept_lists names same kept has uploads lists is are named lent =
+    is ∙ ap (λ (u : List (List TapFields)). if has then Some u else None) are
+    ∙ compared_is names lists has named
+    ∙ ap (λ (ns : List (Bor Text)). compared (map (λ n. n.now) ns) lists) lent

@@ -5,4 +5,5 @@ pub mod Program
 pub mod Reports
 pub mod Source
 pub mod Text
+pub mod Traced
 pub mod inside

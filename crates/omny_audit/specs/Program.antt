@@ -1,16 +1,21 @@
 -- What a run of the program does.
-use Rattle.std.specs.Prelude.{◌≡◌, ◌↔◌, ℕ, Bool, true, false, List, [], ◌∷◌, ◌++◌, map, Option, None, Some}
-use Rattle.std.specs.Prelude.{MatchBool}
+use Rattle.std.specs.Prelude.{◌≡◌, ◌↔◌, ⊤, ℕ, Bool, true, false, List, [], ◌∷◌, ◌++◌, map}
+use Rattle.std.specs.Prelude.{MatchBool, Option, None, Some}
 use Rattle.std.specs.Io.KnownBytes.{Appends, Keeps}
 use Rattle.clap.specs.Words.{Text}
 use Rattle.fare_table.specs.Fares.{Fares}
 use Rattle.fare_table.specs.Meaning.{Means}
 use Rattle.ledger_check.specs.Balances.{AreGoodFields}
+use Rattle.ledger_check.specs.Columns.{has_traced_head}
+use Rattle.settled_texts.specs.Classes.{class_of_token}
+use Rattle.toml.specs.Data.{Members}
+use Rattle.toml.specs.Parse.{parse_document}
 use Rattle.tap_views.specs.declared.encoder.TapFields.{TapFields}
 use Rattle.omny_audit.specs.Reports.{IsAudit, IsRightAudit}
 use Rattle.omny_audit.specs.Fault.{IsRightFault, audit_fault_text, is_quiet, is_unwritten}
 use Rattle.omny_audit.specs.Options.{AuditAsked}
 use Rattle.fare_texts.specs.WrittenOut.{Begins}
+use Rattle.omny_audit.specs.Traced.{ReadLine, Wanted}
 use Rattle.program_manners.specs.Loads.{Loaded, Tells, TellsOne}
 use Rattle.program_manners.specs.LineWritten.{LineWritten}
 use Rattle.program_manners.specs.declared.loading.LoadFault.{LoadFault}
@@ -38,8 +43,15 @@ AreGoodFieldsOfAll (upload ∷ uploads) taps =
     (first : List TapFields) × (rest : List TapFields) × AreGoodFields upload first
     × AreGoodFieldsOfAll uploads rest × (taps ≡ first ++ rest)
 
--- the taps with which a ledger's are compared, where uploads are named
-abbrev pub compared : List Text → List TapFields → Option (List TapFields)
+-- the fields of the good taps of each upload
+abbrev pub AreGoodFieldsOfEach : List (List ℕ) → List (List TapFields) → Type 0
+AreGoodFieldsOfEach [] lists = lists ≡ []
+AreGoodFieldsOfEach (upload ∷ uploads) [] = ⊥
+AreGoodFieldsOfEach (upload ∷ uploads) (taps ∷ lists) =
+    AreGoodFields upload taps × AreGoodFieldsOfEach uploads lists
+
+-- what a ledger is compared with, where uploads are named
+abbrev pub compared : {A : Type 0} → List Text → A → Option A
 compared [] good = None
 compared (name ∷ names) good = Some good
 
@@ -49,6 +61,21 @@ abbrev pub LoadsReport : Option Text → Option (List Loaded) → Option (List L
 LoadsReport None told told' report = (told' ≡ told) × (report ≡ None)
 LoadsReport (Some name) told told' report =
     (text : List ℕ) × TellsOne told told' (Some name) text × (report ≡ Some text)
+
+-- Whether the ledger is a traced one. Where the source keeps no list, it is not known what was read.
+abbrev pub IsTracedAs : Option (List Loaded) → List ℕ → Bool → Type 0
+IsTracedAs None ledger traced = ⊤
+IsTracedAs (Some loads) ledger traced = traced ≡ has_traced_head ledger
+
+-- If the ledger is traced, these are the classes that the text of the table names for tokens, and
+-- these uploads.
+abbrev pub AreWanted : List ℕ → Bool → Option (List (List TapFields)) → Option Wanted → Type 0
+AreWanted table false uploads wanted = wanted ≡ None
+AreWanted table true uploads None = ⊥
+AreWanted table true uploads (Some wanted) =
+    (tree : Members) × (parse_document table ≡ Some tree)
+    × ((token : List ℕ) → class_of_token tree token ≡ Some (wanted.classes token))
+    × (wanted.uploads ≡ uploads)
 
 -- The table was loaded, then the uploads, then the report, if it is named, and then all of the
 -- ledger. The text is what is told of the ledger beside the good taps of the uploads, if uploads are
@@ -64,14 +91,25 @@ pub record HasFound (asked : AuditAsked) (told told' : Option (List Loaded)) (te
   pub loads_uploads : LoadsNamedFiles asked.uploads after_table after_uploads uploads
   pub good : List TapFields
   pub are_good : AreGoodFieldsOfAll uploads good
+  pub lists : List (List TapFields)
+  pub are_lists : AreGoodFieldsOfEach uploads lists
   pub report : Option (List ℕ)
   pub loads_report : LoadsReport asked.report after_uploads after_report report
   pub ledger : List ℕ
   pub loads_ledger : TellsOne after_report told' asked.ledger ledger
-  pub audit : IsAudit asked.all fares ledger (compared asked.uploads good) report text well
+  -- a traced ledger's columns are held against the classes that the table's text names, and against
+  -- the places of the uploads' taps, if uploads are named
+  pub traced : Bool
+  pub is_traced : IsTracedAs after_report ledger traced
+  pub wanted : Option Wanted
+  pub are_wanted : AreWanted loads_table.bytes traced (compared asked.uploads lists) wanted
+  pub read : List ReadLine
+  pub audit : IsAudit asked.all fares wanted ledger read (compared asked.uploads good) report text
+      well
   -- well exactly if the text is, whole, a ledger of legal histories, with the taps of the uploads,
-  -- and the report is its own
-  pub right : (well ≡ true) ↔ IsRightAudit fares ledger (compared asked.uploads good) report
+  -- and the columns of a traced one are right, and the report is its own
+  pub right : (well ≡ true)
+      ↔ IsRightAudit fares wanted ledger read (compared asked.uploads good) report
 
 -- what was appended to the writer is the text of what was found
 pub record Audits (asked : AuditAsked) (told told' : Option (List Loaded))

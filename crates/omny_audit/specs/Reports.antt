@@ -1,9 +1,12 @@
 -- What is told of a ledger and of the report that is held beside it.
-use Rattle.std.specs.Prelude.{◌≡◌, ◌↔◌, ◌&&◌, ℕ, Bool, true, false, List, [], ◌++◌, codes, Option, None, Some}
+use Rattle.std.specs.Prelude.{◌≡◌, ◌↔◌, ◌&&◌, ◌||◌, ℕ, Bool, true, false, List, [], ◌++◌, codes}
+use Rattle.std.specs.Prelude.{is_some, Option, None, Some}
 use Rattle.std.specs.Fmt.{decimal}
 use Rattle.fare_table.specs.Fares.{Fares}
+use Rattle.ledger_check.specs.Columns.{read_as}
 use Rattle.ledger_check.specs.Ledger.{IsLedger, IsLedgerOf}
 use Rattle.omny_audit.specs.Findings.{HasGoodTaps, IsFindingOf}
+use Rattle.omny_audit.specs.Traced.{AreColumnsTold, HasRightColumns, ReadLine, Wanted}
 use Rattle.report_check.specs.Reports.{IsReportOfLedger, IsReportVerdict, is_of_ledger}
 use Rattle.report_check.specs.declared.verdict.ReportVerdict.{ReportVerdict}
 use Rattle.report_check.specs.declared.verdict.ReportVerdict.TheVariants.{OfLedger, Wants, NoLine}
@@ -39,37 +42,46 @@ IsReportLine fares ledger (Some report) false rest fits = (rest ≡ []) × (fits
 IsReportLine fares ledger (Some report) true rest fits =
     IsReportFinding fares ledger report rest fits
 
--- what is told of the ledger's text beside the good taps of the uploads, if there are uploads, and
--- behind it of the report, if there is one: all is well if both are
-pub record IsAudit (all : Bool) (fares : Fares) (ledger : List ℕ) (good : Option (List TapFields))
-    (report : Option (List ℕ)) (text : List ℕ) (well : Bool) : Type 0 where
+-- What is told of a ledger's file, of which these lines were read, if it is traced: what is found of
+-- the ledger that is read of it, beside the good taps of the uploads, if there are uploads; behind it
+-- what is found of the columns, if the ledger is traced, and legal or asked for all its lines; and
+-- behind it what is found of the report, if there is one. All is well if all of this is.
+pub record IsAudit (all : Bool) (fares : Fares) (wanted : Option Wanted) (file : List ℕ)
+    (read : List ReadLine) (good : Option (List TapFields)) (report : Option (List ℕ))
+    (text : List ℕ) (well : Bool) : Type 0 where
   pub found : List ℕ
   pub sound : Bool
-  pub finding : IsFindingOf all fares ledger good found sound
+  pub finding : IsFindingOf all fares (read_as (is_some wanted) file) good found sound
   pub legal : Bool
-  pub is_legal : (legal ≡ true) ↔ IsLedger fares ledger
+  pub is_legal : (legal ≡ true) ↔ IsLedger fares (read_as (is_some wanted) file)
+  pub columns : List ℕ
+  pub right : Bool
+  pub are_columns : AreColumnsTold wanted (all || legal) file read columns right
   pub rest : List ℕ
   pub fits : Bool
-  pub report_line : IsReportLine fares ledger report legal rest fits
-  pub shown : text ≡ found ++ rest
-  pub both : well ≡ (sound && fits)
+  pub report_line : IsReportLine fares (read_as (is_some wanted) file) report (legal && right)
+      rest fits
+  pub shown : text ≡ found ++ (columns ++ rest)
+  pub both : well ≡ (sound && (right && fits))
 
 -- the report is that of the ledger's entries, if there is a report
 abbrev pub HasOwnReport : Option (List ℕ) → List Entry → Type 0
 HasOwnReport None entries = Unit {0}
 HasOwnReport (Some report) entries = IsReportOfLedger entries report
 
--- the text is, whole, a ledger of legal histories, has the taps of the uploads, and the report is its
--- own
-abbrev pub IsRightAudit : Fares → List ℕ → Option (List TapFields) → Option (List ℕ) → Type 0
-IsRightAudit fares ledger good report =
-    (entries : List Entry) × IsLedgerOf fares entries ledger × HasGoodTaps good entries
-    × HasOwnReport report entries
+-- what is read of the file is, whole, a ledger of legal histories, has the taps of the uploads, and
+-- right columns, if it is traced, and the report is its own
+abbrev pub IsRightAudit : Fares → Option Wanted → List ℕ → List ReadLine
+    → Option (List TapFields) → Option (List ℕ) → Type 0
+IsRightAudit fares wanted file read good report =
+    (entries : List Entry) × IsLedgerOf fares entries (read_as (is_some wanted) file)
+    × HasGoodTaps good entries × HasRightColumns wanted file read × HasOwnReport report entries
 
 -- all is well exactly where all is right
 abbrev pub AuditsDecide : Type 0
 AuditsDecide =
-    (all : Bool) (fares : Fares) (ledger : List ℕ) (good : Option (List TapFields))
-    (report : Option (List ℕ)) (text : List ℕ) (well : Bool)
-    → IsAudit all fares ledger good report text well
-    → (well ≡ true) ↔ IsRightAudit fares ledger good report
+    (all : Bool) (fares : Fares) (wanted : Option Wanted) (file : List ℕ)
+    (read : List ReadLine) (good : Option (List TapFields)) (report : Option (List ℕ))
+    (text : List ℕ) (well : Bool)
+    → IsAudit all fares wanted file read good report text well
+    → (well ≡ true) ↔ IsRightAudit fares wanted file read good report

@@ -4,3 +4,4 @@ pub mod Findings
 pub mod Options
 pub mod Reports
 pub mod Source
+pub mod Traced

@@ -1,15 +1,16 @@
 //! The finding on all that a reader gives.
 
 ghost use Rattle.std.specs.Prelude.{◌≡◌, ℕ, List, [], IfErr, IfOk, IsTrue, None, Some, false, map};
-ghost use Rattle.std.specs.Prelude.{Bool, ◌↔◌, if◌then◌else◌, string_bytes, true};
+ghost use Rattle.std.specs.Prelude.{Bool, ◌↔◌, if◌then◌else◌, is_some, string_bytes, true};
 ghost use Rattle.std.specs.Io.KnownBytes.{Appends, Keeps};
 ghost use Rattle.fare_table.specs.Fares.{Fares};
 ghost use Rattle.shard_book.specs.declared.entry.Entry.{Entry};
 ghost use Rattle.ledger_check.specs.Balances.{IsBalance};
 ghost use Rattle.tap_views.specs.declared.encoder.TapFields.{TapFields};
+ghost use Rattle.ledger_check.specs.Columns.{read_as};
 ghost use Rattle.ledger_check.specs.Ledger.{IsLedger, IsLedgerOf};
-ghost use Rattle.ledger_check.specs.Struck.{tap_of_entry};
-ghost use Rattle.ledger_check.specs.Verdicts.{IsVerdict, is_legal};
+ghost use Rattle.ledger_check.specs.Struck.{HasStruck, tap_of_entry};
+ghost use Rattle.ledger_check.specs.Verdicts.{HasFed, IsVerdict, is_legal};
 ghost use Rattle.omny_audit.specs.Findings.{IsFinding, agrees};
 ghost use Rattle.omny_audit.specs.Reports.{IsAudit};
 ghost use Rattle.omny_audit.specs.inside.Findings.{StrikesOut};
@@ -17,12 +18,15 @@ ghost use Rattle.omny_audit.specs.inside.Reports.{HasSummedFor, text_of};
 ghost use Rattle.omny_audit.specs.Fault.{is_unwritten, named_by};
 ghost use Rattle.omny_audit.specs.inside.Fault.{is_of_loading};
 ghost use Rattle.fare_texts.specs.WrittenOut.{Begins};
+ghost use Rattle.omny_audit.specs.Traced.{ReadLine};
+ghost use Rattle.omny_audit.specs.inside.Traced.{HasReadAll, HasReadAs, wanted_by};
 ghost use Rattle.omny_audit.specs.inside.Source.{IsAllOf};
 
 use crate::fault::Fault;
 use crate::output::write_text;
 use crate::report::{ReportWithSums, add_piece, are_both, write_report_line};
 use crate::text::{verdict_line, write_difference};
+use crate::traced::{Trace, read_end, read_piece, write_columns};
 use fare_table::{Clock, FareTable};
 use ledger_check::laws::verdicts_decide;
 use ledger_check::{Balance, Checker, Difference, Verdict};
@@ -33,42 +37,107 @@ use tap_views::NoMemory;
 /// How many bytes one read asks for.
 const PIECE_BYTES: usize = 65_536;
 
+/// Reads what the end of the file leaves, and gives the verdict. The text is replaced.
+fn end_verdict(
+    alloc: Global,
+    table: &FareTable,
+    clock: &Clock,
+    checker: &mut Checker,
+    balance: &mut Balance,
+    trace: &mut Option<Trace>,
+    report: &mut Option<ReportWithSums>,
+    text: &mut Vec<u8>,
+) -> Result<Verdict, Fault<'static>>
+    requires clock { clock.now ≡ table.now.zone }
+    requires fed { (told : List ℕ) × HasFed table.now checker.old told
+        × HasSummedFor table.now report.old told }
+
+    // Of all that was read so far.
+    ensures verdict { IfOk result (λ verdict. (file told : List ℕ) → HasReadAs trace.old file told
+        → HasFed table.now checker.old told
+        → IsVerdict table.now (read_as (is_some (wanted_by trace.new)) file) verdict) }
+    ensures struck { IfOk result (λ verdict. (file told : List ℕ) (good : List TapFields)
+        → HasReadAs trace.old file told → HasStruck table.now checker.old balance.old told good
+        → IsTrue (is_legal verdict) → (entries : List Entry)
+        → IsLedgerOf table.now entries (read_as (is_some (wanted_by trace.new)) file)
+        → IsBalance balance.new good (map tap_of_entry entries)) }
+    ensures sums { IfOk result (λ verdict. (file told : List ℕ) → HasReadAs trace.old file told
+        → HasSummedFor table.now report.old told → IsTrue (is_legal verdict)
+        → (good : List TapFields) → HasStruck table.now checker.old balance.old told good
+        → HasSummedFor table.now report.new (read_as (is_some (wanted_by trace.new)) file)) }
+    ensures all { IfOk result (λ verdict. (file told : List ℕ) → HasReadAs trace.old file told
+        → HasReadAll trace.new file) }
+    ensures wanted { wanted_by trace.new ≡ wanted_by trace.old }
+    ensures report { text_of report.new ≡ text_of report.old }
+    ensures named { IfErr result (λ fault. named_by fault ≡ None) }
+    ensures fault { IfErr result (λ fault. is_unwritten fault ≡ false) }
+    ensures later { IfErr result (λ fault. is_of_loading fault ≡ false) }
+{
+    read_end(trace, text)?;
+    let left = text.as_slice();
+    if let Some(verdict) = checker.feed(table, clock, left, balance)? {
+        return Ok(verdict);
+    }
+    add_piece(alloc, table, left, report)?;
+    Ok(checker.finish())
+}
+
 /// The verdict on all that the reader has left, whose taps are struck out, and added to the sums that
-/// a report is compared with, if there is a report. It keeps no more of it than one read gives, and
-/// reads no further than to the first wrong line.
+/// a report is compared with, if there is a report. Of a traced ledger the columns are looked at. It
+/// keeps no more of it than one read gives, and reads no further than to the first wrong line.
 pub(crate) fn verdict_of<R: Read>(
     alloc: Global,
     table: &FareTable,
     clock: &Clock,
     reader: &mut R,
     balance: &mut Balance,
+    trace: &mut Option<Trace>,
     report: &mut Option<ReportWithSums>,
 ) -> Result<Verdict, Fault<'static>>
     requires clock { clock.now ≡ table.now.zone }
     requires good { (good : List TapFields) × IsBalance balance.old good [] }
+    requires trace { HasReadAs trace.old [] [] }
     requires sums { HasSummedFor table.now report.old [] }
-    ensures told { IfOk result (λ verdict. (text : List ℕ)
-        × IsAllOf (R.remaining reader.old) text × IsVerdict table.now text verdict
-        × StrikesOut table.now text balance.old balance.new verdict
-        × (IsTrue (is_legal verdict) → HasSummedFor table.now report.new text)) }
+    ensures told { IfOk result (λ verdict. (file : List ℕ)
+        × IsAllOf (R.remaining reader.old) file
+        × IsVerdict table.now (read_as (is_some (wanted_by trace.new)) file) verdict
+        × StrikesOut table.now (read_as (is_some (wanted_by trace.new)) file) balance.old
+        balance.new verdict
+        × (IsTrue (is_legal verdict) → HasSummedFor table.now report.new
+        (read_as (is_some (wanted_by trace.new)) file))
+        × (IsTrue (is_legal verdict) → HasReadAll trace.new file)) }
+    ensures wanted { wanted_by trace.new ≡ wanted_by trace.old }
     ensures report { text_of report.new ≡ text_of report.old }
     ensures fault { IfErr result (λ fault. is_unwritten fault ≡ false) }
     ensures named { IfErr result (λ fault. named_by fault ≡ None) }
     ensures later { IfErr result (λ fault. is_of_loading fault ≡ false) }
 {
     let mut checker = Checker::new(alloc);
+    let mut text = Vec::new(alloc);
     let mut step = [0u8; PIECE_BYTES];
     for _piece in 0..u64::MAX {
         let Ok(count) = reader.read(&mut step) else {
             return Err(Fault::Ledger);
         };
         if count == 0 {
-            return Ok(checker.finish());
+            let last = end_verdict(
+                alloc,
+                table,
+                clock,
+                &mut checker,
+                balance,
+                trace,
+                report,
+                &mut text,
+            )?;
+            return Ok(last);
         }
-        if let Some(verdict) = checker.feed(table, clock, &step[..count], balance)? {
+        read_piece(trace, &step[..count], &mut text)?;
+        let part = text.as_slice();
+        if let Some(verdict) = checker.feed(table, clock, part, balance)? {
             return Ok(verdict);
         }
-        add_piece(alloc, table, &step[..count], report)?;
+        add_piece(alloc, table, part, report)?;
     }
     Err(Fault::Ledger)
 }
@@ -120,31 +189,41 @@ fn finding_text(
     Ok((text, is_even(&told)))
 }
 
-/// What is told of the verdict, of the taps and, where it is legal and there is a report, of the
-/// report; and whether all is well.
+/// What is told of the verdict, of the taps and, where it is legal, of the columns of a traced ledger
+/// and of the report, if there is one; and whether all is well.
 fn audit_text(
     alloc: Global,
     verdict: &Verdict,
     balance: &Balance,
     has_uploads: bool,
+    trace: &Option<Trace>,
     report: Option<ReportWithSums>,
 ) -> Result<(Vec<u8>, bool), NoMemory>
     requires { is_legal verdict.now ≡ true → (fares : Fares) × (text : List ℕ)
         × HasSummedFor fares report text × IsLedger fares text }
-    ensures { IfOk result (λ told. (fares : Fares) (text : List ℕ) (good : List TapFields)
-        → IsVerdict fares text verdict.now
-        → ((is_legal verdict.now ≡ true) ↔ IsLedger fares text)
-        → (IsTrue (is_legal verdict.now) → (entries : List Entry) → IsLedgerOf fares entries text
+    ensures { IfOk result (λ told. (fares : Fares) (file : List ℕ) (good : List TapFields)
+        → IsVerdict fares (read_as (is_some (wanted_by trace.now)) file) verdict.now
+        → ((is_legal verdict.now ≡ true)
+        ↔ IsLedger fares (read_as (is_some (wanted_by trace.now)) file))
+        → (IsTrue (is_legal verdict.now) → (entries : List Entry)
+        → IsLedgerOf fares entries (read_as (is_some (wanted_by trace.now)) file)
         → IsBalance balance.now good (map tap_of_entry entries))
-        → (is_legal verdict.now ≡ true → HasSummedFor fares report text)
-        → IsAudit false fares text (if has_uploads then Some good else None) (text_of report)
-        told.0.items told.1) }
+        → (is_legal verdict.now ≡ true
+        → HasSummedFor fares report (read_as (is_some (wanted_by trace.now)) file))
+        → (is_legal verdict.now ≡ true → HasReadAll trace.now file)
+        → (read : List ReadLine)
+        × IsAudit false fares (wanted_by trace.now) file read
+        (if has_uploads then Some good else None) (text_of report) told.0.items told.1) }
 {
     let found = finding_text(alloc, verdict, balance, has_uploads)?;
     let is_sound = found.1;
     let mut text = found.0.into_bytes();
-    let fits = write_report_line(alloc, &mut text, tells_legal(verdict), report)?;
-    Ok((text, are_both(is_sound, fits)))
+    let is_legal = tells_legal(verdict);
+    let is_right = write_columns(alloc, &mut text, is_legal, trace)?;
+    let is_whole = are_both(is_legal, is_right);
+    let fits = write_report_line(alloc, &mut text, is_whole, report)?;
+    let is_behind = are_both(is_right, fits);
+    Ok((text, are_both(is_sound, is_behind)))
 }
 
 /// Checks the ledger that the reader has left, beside the taps of uploads that the balance has and
@@ -156,35 +235,45 @@ pub(crate) fn audit_over<R: Read, W: Write>(
     reader: &mut R,
     mut balance: Balance,
     has_uploads: bool,
+    mut trace: Option<Trace>,
     mut report: Option<ReportWithSums>,
     out: &mut W,
 ) -> Result<bool, Fault<'static>>
     requires clock { clock.now ≡ table.now.zone }
     requires good { (good : List TapFields) × IsBalance balance good [] }
+    requires trace { HasReadAs trace [] [] }
     requires sums { HasSummedFor table.now report [] }
-    ensures told { IfOk result (λ well. (text : List ℕ) × IsAllOf (R.remaining reader.old) text
+    ensures told { IfOk result (λ well. (file : List ℕ) × IsAllOf (R.remaining reader.old) file
         × ((good : List TapFields) → IsBalance balance good [] → (told : List ℕ)
-        × IsAudit false table.now text (if has_uploads then Some good else None)
-        (text_of report) told well
+        × (read : List ReadLine) × IsAudit false table.now (wanted_by trace) file read
+        (if has_uploads then Some good else None) (text_of report) told well
         × Appends (W.contents out.old) (W.contents out.new) told)) }
 
     // Only a write that fails leaves something of a text behind.
     ensures fault { IfErr result (λ fault. is_unwritten fault ≡ false
         → Keeps (W.contents out.old) (W.contents out.new)) }
     // And what it leaves is a beginning of the right text.
-    ensures begun { IfErr result (λ fault. is_unwritten fault ≡ true → (text : List ℕ)
-        × IsAllOf (R.remaining reader.old) text
+    ensures begun { IfErr result (λ fault. is_unwritten fault ≡ true → (file : List ℕ)
+        × IsAllOf (R.remaining reader.old) file
         × ((good : List TapFields) → IsBalance balance good [] → (told : List ℕ) × (well : Bool)
-        × IsAudit false table.now text (if has_uploads then Some good else None)
-        (text_of report) told well
+        × (read : List ReadLine) × IsAudit false table.now (wanted_by trace) file read
+        (if has_uploads then Some good else None) (text_of report) told well
         × Begins (W.contents out.old) (W.contents out.new) told)) }
     ensures named { IfErr result (λ fault. named_by fault ≡ None) }
     ensures later { IfErr result (λ fault. is_of_loading fault ≡ false) }
 {
     // proof: the verdict is `legal` exactly if the text is a ledger
     verdicts_decide();
-    let verdict = verdict_of(alloc, table, clock, reader, &mut balance, &mut report)?;
-    let told = audit_text(alloc, &verdict, &balance, has_uploads, report)?;
+    let verdict = verdict_of(
+        alloc,
+        table,
+        clock,
+        reader,
+        &mut balance,
+        &mut trace,
+        &mut report,
+    )?;
+    let told = audit_text(alloc, &verdict, &balance, has_uploads, &trace, report)?;
     write_text(out, told.0.as_slice())?;
     Ok(told.1)
 }

@@ -22,6 +22,8 @@ pub(crate) enum Fault<'a> {
     Ledger,
     /// The fare table's text is no table.
     Table(TableFault),
+    /// The fare table's text names a class that no traced ledger can have.
+    ClassName,
     /// A write failed.
     Write,
     /// Who reads the text has closed it.
@@ -51,7 +53,7 @@ impl<'a> Fault<'a> {
         match self {
             Fault::Closed => true,
             Fault::File(_) | Fault::Ledger | Fault::Table(_) => false,
-            Fault::Write | Fault::NoMemory => false,
+            Fault::ClassName | Fault::Write | Fault::NoMemory => false,
         }
     }
 }
@@ -94,6 +96,9 @@ impl fmt::Display for Fault<'_> {
             Fault::File(fault) => fault.fmt(f),
             Fault::Ledger => f.write_str("fault: cannot read the ledger"),
             Fault::Table(fault) => TableLine(*fault).fmt(f),
+            Fault::ClassName => {
+                f.write_str("fault: table has a class name that no ledger can have")
+            }
             Fault::Write | Fault::Closed => f.write_str("fault: cannot write"),
             Fault::NoMemory => f.write_str("fault: out of memory"),
         }

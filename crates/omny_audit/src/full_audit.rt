@@ -1,7 +1,7 @@
 //! The finding on all lines that a reader gives.
 
 ghost use Rattle.std.specs.Prelude.{◌≡◌, ◌++◌, ℕ, List, [], Bool, IfErr, IfOk, None, Some, nat_eq};
-ghost use Rattle.std.specs.Prelude.{◌&&◌, false, if◌then◌else◌, string_bytes, true};
+ghost use Rattle.std.specs.Prelude.{◌&&◌, false, if◌then◌else◌, is_some, string_bytes, true};
 ghost use Rattle.std.specs.Io.KnownBytes.{Appends};
 ghost use Rattle.fare_table.specs.Fares.{Fares};
 ghost use Rattle.ledger_check.specs.Balances.{IsBalance};
@@ -9,17 +9,24 @@ ghost use Rattle.ledger_check.specs.FullBalances.{IsFullBalance};
 ghost use Rattle.tap_views.specs.declared.encoder.TapFields.{TapFields};
 ghost use Rattle.omny_audit.specs.Fault.{named_by};
 ghost use Rattle.omny_audit.specs.inside.Fault.{is_of_loading};
+ghost use Rattle.ledger_check.specs.Columns.{read_as};
 ghost use Rattle.ledger_check.specs.Ledger.{IsLedger};
+ghost use Rattle.ledger_check.specs.Recounts.{IsRecount, TakenLine, recount_text, taps_from};
+ghost use Rattle.ledger_check.specs.Recounts.{wrong_count};
+ghost use Rattle.ledger_check.specs.RecountStates.{HasRecounted};
 ghost use Rattle.omny_audit.specs.Findings.{IsDifferencesEnd};
 ghost use Rattle.omny_audit.specs.Reports.{IsAudit, IsReportLine};
 ghost use Rattle.omny_audit.specs.inside.Reports.{HasSummedFor, text_of};
 ghost use Rattle.omny_audit.specs.inside.Findings.{HasRecountedAll};
 ghost use Rattle.omny_audit.specs.inside.Source.{IsAllOf};
+ghost use Rattle.omny_audit.specs.Traced.{AreColumnsTold, ReadLine};
+ghost use Rattle.omny_audit.specs.inside.Traced.{HasReadAll, HasReadAs, wanted_by};
 
 use crate::fault::Fault;
 use crate::output::{write_piece, write_text};
 use crate::report::{ReportWithSums, add_piece, are_both, write_report_line};
 use crate::text::{are_none, write_differences};
+use crate::traced::{Trace, read_end, read_piece, write_columns};
 use fare_table::{Clock, FareTable};
 use ledger_check::laws::recounts_decide;
 use ledger_check::{Balance, FullBalance, Recount};
@@ -29,6 +36,53 @@ use tap_views::{NoMemory, TapFields};
 
 /// How many bytes one read asks for.
 const PIECE_BYTES: usize = 65_536;
+
+/// Reads what the end of the file leaves, and appends the rest of what is told. The text is replaced.
+/// Says whether no line is wrong.
+fn end_recount(
+    alloc: Global,
+    table: &FareTable,
+    clock: &Clock,
+    recount: &mut Recount,
+    has_uploads: bool,
+    full: &mut FullBalance,
+    trace: &mut Option<Trace>,
+    report: &mut Option<ReportWithSums>,
+    text: &mut Vec<u8>,
+    told: &mut String,
+) -> Result<bool, Fault<'static>>
+    requires clock { clock.now ≡ table.now.zone }
+    requires fed { (before written : List ℕ) × (good : List TapFields)
+        × HasRecounted table.now recount.old has_uploads full.old before written good
+        × HasSummedFor table.now report.old before }
+
+    // Of all that was read so far.
+    ensures told { IfOk result (λ legal. (file before written : List ℕ) (good : List TapFields)
+        → HasReadAs trace.old file before
+        → HasRecounted table.now recount.old has_uploads full.old before written good
+        → (taken : List TakenLine)
+        × IsRecount table.now (read_as (is_some (wanted_by trace.new)) file) taken
+        × (legal ≡ nat_eq (wrong_count taken) 0)
+        × (has_uploads ≡ true → IsFullBalance full.new good (taps_from taken))
+        × (more : List ℕ) × (string_bytes told.new ≡ string_bytes told.old ++ more)
+        × (written ++ more ≡ recount_text taken)) }
+    ensures sums { IfOk result (λ legal. (file before : List ℕ) → HasReadAs trace.old file before
+        → HasSummedFor table.now report.old before
+        → HasSummedFor table.now report.new (read_as (is_some (wanted_by trace.new)) file)) }
+    ensures all { IfOk result (λ legal. (file before : List ℕ) → HasReadAs trace.old file before
+        → HasReadAll trace.new file) }
+    ensures wanted { wanted_by trace.new ≡ wanted_by trace.old }
+    ensures report { text_of report.new ≡ text_of report.old }
+    ensures named { IfErr result (λ fault. named_by fault ≡ None) }
+    ensures later { IfErr result (λ fault. is_of_loading fault ≡ false) }
+{
+    read_end(trace, text)?;
+    let left = text.as_slice();
+    recount.feed(table, clock, left, has_uploads, full, told)?;
+    add_piece(alloc, table, left, report)?;
+    let legal = recount.finish(told)?;
+    Ok(legal)
+}
 
 /// Recounts all that the reader has left, and writes what is told of its lines as they come. The
 /// taps that they tell are struck out, if there are uploads. It keeps no more of the text than one
@@ -40,26 +94,32 @@ fn recount_all<R: Read, W: Write>(
     reader: &mut R,
     has_uploads: bool,
     full: &mut FullBalance,
+    trace: &mut Option<Trace>,
     report: &mut Option<ReportWithSums>,
     out: &mut W,
 ) -> Result<bool, Fault<'static>>
     requires clock { clock.now ≡ table.now.zone }
+    requires trace { HasReadAs trace.old [] [] }
     requires sums { HasSummedFor table.now report.old [] }
     requires good { (good : List TapFields)
         × (has_uploads ≡ true → IsFullBalance full.old good []) }
 
     // Of all good taps that the balance can have.
-    ensures told { IfOk result (λ legal. (text : List ℕ) × IsAllOf (R.remaining reader.old) text
+    ensures told { IfOk result (λ legal. (file : List ℕ) × IsAllOf (R.remaining reader.old) file
         × ((good : List TapFields) → (has_uploads ≡ true → IsFullBalance full.old good [])
-        → HasRecountedAll table.now has_uploads full.new text good legal (W.contents out.old)
+        → HasRecountedAll table.now has_uploads full.new
+        (read_as (is_some (wanted_by trace.new)) file) good legal (W.contents out.old)
         (W.contents out.new))
-        × HasSummedFor table.now report.new text) }
+        × HasSummedFor table.now report.new (read_as (is_some (wanted_by trace.new)) file)
+        × HasReadAll trace.new file) }
+    ensures wanted { wanted_by trace.new ≡ wanted_by trace.old }
     ensures report { text_of report.new ≡ text_of report.old }
     ensures named { IfErr result (λ fault. named_by fault ≡ None) }
     ensures later { IfErr result (λ fault. is_of_loading fault ≡ false) }
 {
     let mut recount = Recount::new(alloc);
     let mut told = String::new(alloc);
+    let mut text = Vec::new(alloc);
     let mut step = [0u8; PIECE_BYTES];
     for _piece in 0..u64::MAX {
         let Ok(count) = reader.read(&mut step) else {
@@ -67,12 +127,25 @@ fn recount_all<R: Read, W: Write>(
         };
         told.clear();
         if count == 0 {
-            let legal = recount.finish(&mut told)?;
+            let legal = end_recount(
+                alloc,
+                table,
+                clock,
+                &mut recount,
+                has_uploads,
+                full,
+                trace,
+                report,
+                &mut text,
+                &mut told,
+            )?;
             write_piece(out, told.as_str())?;
             return Ok(legal);
         }
-        recount.feed(table, clock, &step[..count], has_uploads, full, &mut told)?;
-        add_piece(alloc, table, &step[..count], report)?;
+        read_piece(trace, &step[..count], &mut text)?;
+        let part = text.as_slice();
+        recount.feed(table, clock, part, has_uploads, full, &mut told)?;
+        add_piece(alloc, table, part, report)?;
         write_piece(out, told.as_str())?;
     }
     Err(Fault::Ledger)
@@ -106,30 +179,37 @@ fn differences_text(
     Ok((text, is_even))
 }
 
-/// What is told of the taps behind a recount, if there are uploads, and of the report, if there is
-/// one and no line is wrong; and whether all is well.
+/// What is told of the taps behind a recount, if there are uploads, of the columns of a traced ledger,
+/// and of the report, if there is one and nothing of the ledger is wrong; and whether all is well.
 fn end_text(
     alloc: Global,
     full: &FullBalance,
     has_uploads: bool,
     legal: bool,
+    trace: &Option<Trace>,
     report: Option<ReportWithSums>,
 ) -> Result<(Vec<u8>, bool), NoMemory>
     requires { legal ≡ true → (fares : Fares) × (text : List ℕ)
         × HasSummedFor fares report text × IsLedger fares text }
-    ensures { IfOk result (λ told. (ending rest : List ℕ) × (sound fits : Bool)
+    ensures { IfOk result (λ told. (ending columns rest : List ℕ) × (sound right fits : Bool)
         × ((good taps : List TapFields)
         → (has_uploads ≡ true → IsFullBalance full.now good taps)
         → IsDifferencesEnd (if has_uploads then Some good else None) taps legal ending sound)
+        × ((file : List ℕ) → HasReadAll trace.now file → (read : List ReadLine)
+        × AreColumnsTold (wanted_by trace.now) true file read columns right)
         × ((fares : Fares) (text : List ℕ) → (legal ≡ true → HasSummedFor fares report text)
-        → IsReportLine fares text (text_of report) legal rest fits)
-        × (told.0.items ≡ ending ++ rest) × (told.1 ≡ (sound && fits))) }
+        → IsReportLine fares text (text_of report) (legal && right) rest fits)
+        × (told.0.items ≡ (ending ++ columns) ++ rest)
+        × (told.1 ≡ (sound && (right && fits)))) }
 {
     let ending = differences_text(alloc, full, has_uploads, legal)?;
     let is_sound = ending.1;
     let mut text = ending.0.into_bytes();
-    let fits = write_report_line(alloc, &mut text, legal, report)?;
-    Ok((text, are_both(is_sound, fits)))
+    let is_right = write_columns(alloc, &mut text, true, trace)?;
+    let is_whole = are_both(legal, is_right);
+    let fits = write_report_line(alloc, &mut text, is_whole, report)?;
+    let is_behind = are_both(is_right, fits);
+    Ok((text, are_both(is_sound, is_behind)))
 }
 
 /// Checks all lines of the ledger that the reader has left, beside the taps of uploads that the
@@ -142,18 +222,20 @@ pub(crate) fn full_audit_over<R: Read, W: Write>(
     reader: &mut R,
     balance: Balance,
     has_uploads: bool,
+    mut trace: Option<Trace>,
     mut report: Option<ReportWithSums>,
     out: &mut W,
 ) -> Result<bool, Fault<'static>>
     requires clock { clock.now ≡ table.now.zone }
     requires good { (good : List TapFields) × IsBalance balance good [] }
+    requires trace { HasReadAs trace [] [] }
     requires sums { HasSummedFor table.now report [] }
 
     // Of all good taps that the balance can have.
-    ensures told { IfOk result (λ well. (text : List ℕ) × IsAllOf (R.remaining reader.old) text
+    ensures told { IfOk result (λ well. (file : List ℕ) × IsAllOf (R.remaining reader.old) file
         × ((good : List TapFields) → IsBalance balance good [] → (told : List ℕ)
-        × IsAudit true table.now text (if has_uploads then Some good else None)
-        (text_of report) told well
+        × (read : List ReadLine) × IsAudit true table.now (wanted_by trace) file read
+        (if has_uploads then Some good else None) (text_of report) told well
         × Appends (W.contents out.old) (W.contents out.new) told)) }
     ensures named { IfErr result (λ fault. named_by fault ≡ None) }
     ensures later { IfErr result (λ fault. is_of_loading fault ≡ false) }
@@ -168,10 +250,11 @@ pub(crate) fn full_audit_over<R: Read, W: Write>(
         reader,
         has_uploads,
         &mut full,
+        &mut trace,
         &mut report,
         out,
     )?;
-    let told = end_text(alloc, &full, has_uploads, legal, report)?;
+    let told = end_text(alloc, &full, has_uploads, legal, &trace, report)?;
     write_text(out, told.0.as_slice())?;
     Ok(told.1)
 }

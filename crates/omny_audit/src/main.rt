@@ -12,6 +12,7 @@
 //! | `files` | the files and the standard input of the system as a source |
 //! | `options` | the words of the command line, as `clap` reads them |
 //! | `text` | the lines of a finding |
+//! | `traced` | a traced ledger, read as a ledger, and its columns |
 //! | `output` | texts, written out |
 //! | `fault` | why the program gives up, and the line that says so |
 //! | `escaping` | the control characters of mistakes and faults |
@@ -30,6 +31,7 @@ mod program;
 mod report;
 mod source;
 mod text;
+mod traced;
 
 use escaping::Escaping;
 use files::Host;

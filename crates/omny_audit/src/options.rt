@@ -23,7 +23,8 @@ A ledger has a head line, and for each token, rising, a line for each of its tap
 why. It is legal where each line is the one that the fare rules give its tap after those before it.
 With --uploads its taps must be those of the uploads before their layout faults, each as often as
 there, in whatever order. With --report the report must be that of its sums. With --all it goes on
-after the first wrong line.";
+after the first wrong line. Of a traced ledger the classes are checked too, and with --uploads the
+places of the taps.";
 
 /// What the help says last: what is printed, and the exit status.
 const NOTES: &str = "What is printed:
@@ -41,7 +42,17 @@ tell, and then, in place of `legal N lines`:
   wrong N of M lines, of K tokens; cents C, wanted D
                              C is what the lines ask for, and D what the rules give their taps
 With --uploads each missing and each surplus tap follows.
-With --report a last line follows, if the ledger is legal:
+A traced ledger, known by its head line, is checked without its last three columns. Behind these lines
+comes, if it is legal or with --all:
+  all classes of the table                   each line has the class that the table names for its token
+  line N has another class than CLASS        the first line that has not
+and with --uploads, where uploads count from 0 and places from 1:
+  all places of the uploads                  each line has the tap at its place, and each tap a line
+  line N has another tap than upload U has at place P
+                                             the first line that has not
+  line N has upload U place P again          the first line whose place an earlier line has
+  no line has upload U place P               no line has a wrong place, and none has this tap
+With --report a last line follows, if the ledger is legal and its columns are right:
   report of the ledger                       each line is that of the sums of the ledger
   wrong report line N: wants LINE            the first line that is not, and the one that should be
   wrong report line N: no report has it      the first line that no report has there
@@ -57,7 +68,8 @@ Examples:
   omny_cli --table table.toml --ledger a.tap b.tap | omny_audit --table table.toml --uploads a.tap b.tap
 
 Exit status:
-  0  the ledger is legal and, with --uploads, has their taps, and, with --report, the report is its own
+  0  the ledger is legal, has right columns, if it is traced, and, with --uploads, has their taps, and,
+     with --report, the report is its own
   1  it is not, or has not; or a file, the table, memory or writing failed, as a line `fault: ..` on
      the standard error tells
   2  the command line is wrong";

@@ -1,20 +1,26 @@
 //! The whole program, over any source of bytes and any two writers.
 ghost use Rattle.std.specs.Prelude.{◌≡◌, ◌≢◌, ◌≤◌, ◌⊎◌, ◌++◌, ◌∷◌, [], List, ℕ, IfErr, IfOk};
-ghost use Rattle.std.specs.Prelude.{IfSome, None, Some, codes, false, map, option_map};
-ghost use Rattle.std.specs.Prelude.{Option, string_bytes, true, unwrap_or};
-ghost use Rattle.std.specs.Io.KnownBytes.{Appends, Keeps};
+ghost use Rattle.std.specs.Prelude.{IfSome, None, Some, codes, false, length, map, option_map};
+ghost use Rattle.std.specs.Prelude.{Option, if◌then◌else◌, string_bytes, true, unwrap_or};
+ghost use Rattle.std.specs.Io.KnownBytes.{Appends, Consumes, IsAtEnd, Keeps};
 ghost use Rattle.clap.specs.Words.{kind_of};
 ghost use Rattle.fare_table.specs.Fares.{Fares};
+ghost use Rattle.fare_table.specs.Meaning.{Means};
 ghost use Rattle.ledger_check.specs.Balances.{IsBalance};
+ghost use Rattle.ledger_check.specs.Columns.{has_traced_head, traced_head};
+ghost use Rattle.ledger_check.specs.Places.{HasUploads, uploads_of};
 ghost use Rattle.tap_views.specs.declared.encoder.TapFields.{TapFields};
-ghost use Rattle.omny_audit.specs.Fault.{IsRightFault, NamesOneOf, is_unwritten, named_by};
+ghost use Rattle.omny_audit.specs.Fault.{IsRightFault, NamesOneOf, NamesUnplainClass};
+ghost use Rattle.omny_audit.specs.Fault.{is_unwritten, named_by};
 ghost use Rattle.omny_audit.specs.Options.{AsksForAuditText, ParsesForAudit, audit_asked_by};
 ghost use Rattle.omny_audit.specs.inside.Options.{audit_asked_of};
 ghost use Rattle.omny_audit.specs.inside.Reports.{HasSummedFor, text_of};
 ghost use Rattle.omny_audit.specs.Options.{files_of, named_file};
-ghost use Rattle.omny_audit.specs.Program.{AreGoodFieldsOfAll, AuditGaveUp, Audits};
-ghost use Rattle.omny_audit.specs.Program.{LoadsNamedFiles};
-ghost use Rattle.omny_audit.specs.Program.{LoadsReport, LoadsRequiredTable};
+ghost use Rattle.omny_audit.specs.Program.{AreGoodFieldsOfAll, AreGoodFieldsOfEach, AreWanted};
+ghost use Rattle.omny_audit.specs.Program.{AuditGaveUp, Audits, LoadsNamedFiles};
+ghost use Rattle.omny_audit.specs.Program.{LoadsReport};
+ghost use Rattle.omny_audit.specs.inside.Fault.{IsRightOfNames, is_of_loading};
+ghost use Rattle.omny_audit.specs.inside.Traced.{HasReadAs, HaveNamed, uploads_in, wanted_by};
 ghost use Rattle.omny_audit.specs.Program.{IsFaultTold, IsRightAuditFault};
 ghost use Rattle.omny_audit.specs.Source.{OpensOne};
 ghost use Rattle.program_manners.specs.Loads.{Loaded, TellsOne};
@@ -28,15 +34,21 @@ use crate::options::Options;
 use crate::output::unwritten;
 use crate::report::ReportWithSums;
 use crate::source::Source;
+use crate::traced::Trace;
 use clap::Error;
 use clap::error::ErrorKind;
 use fare_table::FareTable;
-use ledger_check::Balance;
+use ledger_check::{Balance, Places, has_traced_head, traced_head_line};
 use program_manners::{Complaints, STANDARD_INPUT, show_answer};
+use settled_texts::{ClassFault, ClassNames};
 use shard_book::HashSeed;
 use std::alloc::Global;
-use std::io::Write;
+use std::collections::VecDeque;
+use std::io::{Read, Write};
 use std::random::RandomSource;
+
+/// How many bytes one read asks for.
+const PIECE_BYTES: usize = 65_536;
 
 /// All bytes of the file of this name.
 fn load_named<'a, S: Source>(source: &mut S, name: &'a str) -> Result<Vec<u8>, Fault<'a>>
@@ -54,14 +66,14 @@ fn load_named<'a, S: Source>(source: &mut S, name: &'a str) -> Result<Vec<u8>, F
     }
 }
 
-/// The fare table of the file of this name.
+/// The fare table of the file of this name, and its text.
 fn load_table<'a, S: Source>(
     alloc: Global,
     name: &'a str,
     source: &mut S,
-) -> Result<FareTable, Fault<'a>>
-    ensures ok { IfOk result (λ table.
-        LoadsRequiredTable name.entry.now (S.loaded source.old) (S.loaded source.new) table) }
+) -> Result<(FareTable, Vec<u8>), Fault<'a>>
+    ensures ok { IfOk result (λ loaded. TellsOne (S.loaded source.old) (S.loaded source.new)
+        (Some name.entry.now) loaded.1.items × Means loaded.1.items loaded.0) }
     ensures fault { IfErr result (λ fault. is_unwritten fault ≡ false) }
     ensures named { IfErr result (λ fault. IfSome (named_by fault)
         (λ told. told ≡ name.entry.now)) }
@@ -70,30 +82,45 @@ fn load_table<'a, S: Source>(
 {
     let text = load_named(source, name)?;
     let table = FareTable::read(alloc, &text)?;
-    Ok(table)
+    Ok((table, text))
 }
 
-/// The good taps of the uploads of these names. It holds one upload at a time.
-fn load_balance<'a, S: Source>(
+/// The good taps of the uploads of these names: how often each is there, and by their places. It
+/// holds one upload at a time.
+fn load_uploads<'a, S: Source>(
     alloc: Global,
     names: &[&'a str],
     source: &mut S,
-) -> Result<Balance, Fault<'a>>
-    ensures ok { IfOk result (λ balance. (files : List (List ℕ)) × (good : List TapFields)
+) -> Result<(Balance, Places), Fault<'a>>
+    ensures ok { IfOk result (λ loaded. (files : List (List ℕ)) × (good : List TapFields)
         × LoadsNamedFiles (map (λ n. n.now) names.now)
         (S.loaded source.old) (S.loaded source.new) files
-        × AreGoodFieldsOfAll files good × IsBalance balance good []) }
+        × AreGoodFieldsOfAll files good × IsBalance loaded.0 good []
+        × (lists : List (List TapFields)) × AreGoodFieldsOfEach files lists
+        × HasUploads loaded.1 lists) }
     ensures fault { IfErr result (λ fault. is_unwritten fault ≡ false) }
     ensures named { IfErr result (λ fault. NamesOneOf (map (λ n. n.now) names.now) fault) }
     ensures right { IfErr result (λ fault. (table : List ℕ) (told after : Option (List Loaded))
         → IsRightFault table told after (S.refused source.new) fault) }
 {
     let mut balance = Balance::new(alloc);
+    let mut places = Places::new(alloc);
     for name in names {
         let upload = load_named(source, name)?;
         balance.add_upload(&upload)?;
+        places.add_upload(alloc, &upload)?;
     }
-    Ok(balance)
+    Ok((balance, places))
+}
+
+/// The places, if uploads are named.
+fn kept_if(has_uploads: bool, places: Places) -> Option<Places>
+    requires { (lists : List (List TapFields)) × HasUploads places lists }
+    ensures uploads { uploads_in result
+        ≡ (if has_uploads then Some (uploads_of places) else None) }
+    ensures named { HaveNamed result [] }
+{
+    if has_uploads { Some(places) } else { None }
 }
 
 /// The ledger of this name, or standard input where none is named.
@@ -137,6 +164,70 @@ fn load_report<'a, R: RandomSource, S: Source>(
     Ok(Some(held))
 }
 
+/// The first bytes of the ledger, which show whether it is a traced one.
+fn read_head<R: Read>(alloc: Global, ledger: &mut R) -> Result<Vec<u8>, Fault<'static>>
+    ensures read { IfOk result (λ head.
+        Consumes (R.remaining ledger.old) (R.remaining ledger.new) head.items) }
+    ensures enough { IfOk result (λ head. IsAtEnd (R.remaining ledger.new)
+        ⊎ (length traced_head ≤ length head.items)) }
+    ensures fault { IfErr result (λ fault. is_unwritten fault ≡ false) }
+    ensures named { IfErr result (λ fault. named_by fault ≡ None) }
+    ensures later { IfErr result (λ fault. is_of_loading fault ≡ false) }
+{
+    let needed = traced_head_line().len();
+    let mut head = Vec::new(alloc);
+    let mut step = [0u8; PIECE_BYTES];
+    for _piece in 0..u64::MAX {
+        let Ok(count) = ledger.read(&mut step) else {
+            return Err(Fault::Ledger);
+        };
+        head.extend_from_slice(&step[..count])?;
+        if count == 0 || head.len() >= needed {
+            return Ok(head);
+        }
+    }
+    Err(Fault::Ledger)
+}
+
+/// Why the names of the classes are not had. The text was read as a fare table before, so that it is
+/// TOML and names a default class.
+fn of_names(fault: ClassFault) -> Fault<'static>
+    ensures right { (text : List ℕ) → (fault ≡ ClassFault.Name → NamesUnplainClass text)
+        → IsRightOfNames text result }
+    ensures fault { is_unwritten result ≡ false }
+    ensures named { named_by result ≡ None }
+{
+    match fault {
+        ClassFault::Name => Fault::ClassName,
+        ClassFault::Text | ClassFault::NoMemory => Fault::NoMemory,
+    }
+}
+
+/// What reads the columns of the ledger that begins so, if it is a traced one, under the fare table
+/// of this text, and beside the places of the uploads' taps, if there are uploads.
+fn trace_of(
+    alloc: Global,
+    head: &[u8],
+    table: &[u8],
+    places: Option<Places>,
+) -> Result<Option<Trace>, Fault<'static>>
+    requires { HaveNamed places [] }
+    ensures wanted { IfOk result (λ trace. AreWanted table.now (has_traced_head head.now)
+        (uploads_in places) (wanted_by trace)) }
+    ensures read { IfOk result (λ trace. HasReadAs trace [] []) }
+    ensures right { IfErr result (IsRightOfNames table.now) }
+    ensures fault { IfErr result (λ fault. is_unwritten fault ≡ false) }
+    ensures named { IfErr result (λ fault. named_by fault ≡ None) }
+{
+    if !has_traced_head(head) {
+        return Ok(None);
+    }
+    match ClassNames::read(alloc, table) {
+        Ok(names) => Ok(Some(Trace::new(alloc, names, places))),
+        Err(fault) => Err(of_names(fault)),
+    }
+}
+
 /// Checks the ledger and writes the finding. Says whether all is well. The table is loaded first,
 /// then the uploads and the report, and then the ledger is read.
 fn audit<'a, R: RandomSource, S: Source, W: Write>(
@@ -160,13 +251,17 @@ fn audit<'a, R: RandomSource, S: Source, W: Write>(
         (S.loaded source.old) (S.loaded source.new) (S.refused source.new) fault
         (W.contents out.old) (W.contents out.new)) }
 {
-    let table = load_table(alloc, options.table, source)?;
+    let (table, table_text) = load_table(alloc, options.table, source)?;
     let clock = table.clock(alloc)?;
     let names = options.uploads.as_slice();
-    let balance = load_balance(alloc, names, source)?;
+    let (balance, places) = load_uploads(alloc, names, source)?;
     let has_uploads = !names.is_empty();
     let report = load_report(rt, alloc, options.report, source)?;
     let mut ledger = open_ledger(options.ledger, source)?;
+    let head = read_head(alloc, &mut ledger)?;
+    let kept = kept_if(has_uploads, places);
+    let trace = trace_of(alloc, head.as_slice(), table_text.as_slice(), kept)?;
+    let mut whole = VecDeque::from(head).chain(ledger);
     // proof: all is well exactly if the ledger is right, and the report its own
     audits_decide();
     if options.all {
@@ -174,9 +269,10 @@ fn audit<'a, R: RandomSource, S: Source, W: Write>(
             alloc,
             &table,
             &clock,
-            &mut ledger,
+            &mut whole,
             balance,
             has_uploads,
+            trace,
             report,
             out,
         );
@@ -185,9 +281,10 @@ fn audit<'a, R: RandomSource, S: Source, W: Write>(
         alloc,
         &table,
         &clock,
-        &mut ledger,
+        &mut whole,
         balance,
         has_uploads,
+        trace,
         report,
         out,
     )

@@ -4,12 +4,10 @@ use Rattle.std.proofs.Common.{◌≡◌, ◌∙◌, ℕ, ◌+◌, ◌<◌, ◌^�
 use Rattle.std.proofs.Common.{append_assoc, codes, refl, sym, ap, arith, get_or, subst, suc}
 use Rattle.std.specs.Fmt.{decimal}
 use Rattle.std.specs.List.{AllByRecursion}
-use Rattle.std.proofs.lemmas.Bool.Decides.{nat_tests}
-use Rattle.std.proofs.lemmas.Fmt.{decimal_is_IsNumeral}
 use Rattle.std.proofs.lemmas.List.{append_cancel_left}
 use Rattle.std.proofs.lemmas.List.Elements.{recursion_from_All}
-use Rattle.std.specs.Str.Parse.{AllDigits}
 use Rattle.fare_texts.specs.ReportLines.{number_line}
+use Rattle.ledger_check.proofs.ColumnLemmas.{decimal_lacks_feed}
 use Rattle.ledger_check.proofs.LineLemmas.{lacks-tested}
 use Rattle.ledger_check.proofs.RecountLemmas.{line_ends}
 use Rattle.ledger_check.specs.Lines.{IsLine, Lacks}
@@ -190,22 +188,13 @@ next_end uploads ps qs text x y fewer small small_too fit fit_too is is_too =
     }
 
 -- ---- each line is one
-digits_lack : (text : List ℕ) → AllDigits 10 text → Lacks 10 text
-digits_lack [] digits = tt
-digits_lack (c ∷ text) digits =
-    let first = digits.0 in
-    (λ is. absurd (grind (arith, nat_tests)), digits_lack text digits.1)
-
-decimal_lacks : (n : ℕ) → n < 2 ^ 64 → Lacks 10 (decimal n)
-decimal_lacks n small = digits_lack (decimal n) (decimal_is_IsNumeral n small).0.1
-
 feed : IsLine (codes "\n")
 feed = record { front = []; lacks = tt; shown = refl }
 
 pub number_line_is : (word : List ℕ) (number : ℕ) → Lacks 10 word → number < 2 ^ 64
     → IsLine (number_line word number)
 number_line_is word number lacks small =
-    line_ends word _ lacks (line_ends (decimal number) _ (decimal_lacks number small) feed)
+    line_ends word _ lacks (line_ends (decimal number) _ (decimal_lacks_feed number small) feed)
 
 words_are : (end : UploadEnd) → IsReportEnd end → IsLine (end_words end)
 words_are (Posted taps) fits =
@@ -213,9 +202,9 @@ words_are (Posted taps) fits =
 words_are (Refused taps offset fault) fits =
     subst_line (sym (refused_spelt taps offset fault))
     (line_ends (codes " refused ") _ (lacks-tested 10 (codes " refused ") refl)
-    (line_ends (decimal taps) _ (decimal_lacks taps fits.0)
+    (line_ends (decimal taps) _ (decimal_lacks_feed taps fits.0)
     (line_ends (codes " at ") _ (lacks-tested 10 (codes " at ") refl)
-    (line_ends (decimal offset) _ (decimal_lacks offset fits.1)
+    (line_ends (decimal offset) _ (decimal_lacks_feed offset fits.1)
     (number_line_is (codes " L") (fault_number fault) (lacks-tested 10 (codes " L") refl)
     (small_number fault))))))
   where
@@ -234,4 +223,4 @@ pub upload_line_is : (number : ℕ) (end : UploadEnd) → number < 2 ^ 64 → Is
 upload_line_is number end small fits =
     subst IsLine (sym (line_words number end))
     (line_ends (codes "upload ") _ (lacks-tested 10 (codes "upload ") refl)
-    (line_ends (decimal number) _ (decimal_lacks number small) (words_are end fits)))
+    (line_ends (decimal number) _ (decimal_lacks_feed number small) (words_are end fits)))

@@ -1,38 +1,48 @@
 use Rattle.std.proofs.Common.{◌∙◌, ℕ, List, Option, Some, None, false, if◌then◌else◌, subst}
+use Rattle.std.specs.Prelude.{is_some}
 use Rattle.std.specs.Io.KnownBytes.{Appends}
+use Rattle.ledger_check.specs.Columns.{read_as}
 use Rattle.omny_audit.specs.Reports.{IsAudit}
 use Rattle.fare_texts.specs.WrittenOut.{Begins}
+use Rattle.omny_audit.specs.Traced.{Wanted}
+use Rattle.omny_audit.specs.inside.Traced.{wanted_by}
 use Rattle.omny_audit.proofs.ProgramLemmas.{unwritten_on}
 use Rattle.omny_audit.proofs.audit.audit_over.Goals as goal
 
 pub audit_text-requires : goal.audit_text-requires
 audit_text-requires g c = λ yes.
     let found = c.in_ok-verdict.ensures.told in
-    let decide = c.verdicts_decide.ensures c.args.table.now found.0 c.in_ok-verdict.verdict
+    let ledger = read_as (is_some (wanted_by c.verdict_of.new.trace)) found.0 in
+    let decide = c.verdicts_decide.ensures c.args.table.now ledger c.in_ok-verdict.verdict
     found.2 in
-    (c.args.table.now, found.0, found.4 yes, decide.0 yes)
+    (c.args.table.now, ledger, found.4 yes, decide.0 yes)
 
 pub returns-clause-told : goal.returns-clause-told
 returns-clause-told g c =
     let found = c.in_ok-verdict.ensures.told in
     let fares = c.args.table.now in
     let told = c.in_ok-told.told in
-    let decide = c.verdicts_decide.ensures fares found.0 c.in_ok-verdict.verdict found.2 in
-    let wrote = subst
-    (λ (t : List ℕ). Appends (g.W.Write.contents c.args.out.now)
+    let ledger = read_as (is_some (wanted_by c.verdict_of.new.trace)) found.0 in
+    let decide = c.verdicts_decide.ensures fares ledger c.in_ok-verdict.verdict found.2 in
+    let wrote = subst (λ (t : List ℕ). Appends (g.W.Write.contents c.args.out.now)
     (g.W.Write.contents c.write_text.new.out) t) c.as_slice.ensures.value
     c.in_ok-write_text.ensures.text in (
       found.0,
       found.1,
-      λ good balanced. (
-        told.0.items,
-        subst (λ (r : Option (List ℕ)). IsAudit false fares found.0
-            (if c.args.has_uploads then Some good else None) r told.0.items told.1)
-            c.verdict_of.ensures.report
-            (c.in_ok-told.ensures fares found.0 good found.2 decide (found.3 good balanced)
-            found.4),
-        wrote,
-      ),
+      λ good balanced.
+          let audit = c.in_ok-told.ensures fares found.0 good found.2 decide (found.3 good balanced)
+          found.4 found.5 in (
+            told.0.items,
+            audit.0,
+            subst (λ (cs : Option Wanted). IsAudit false fares cs found.0 audit.0
+                (if c.args.has_uploads then Some good else None) _ told.0.items told.1)
+                c.verdict_of.ensures.wanted
+                (subst (λ (r : Option (List ℕ)). IsAudit false fares
+                (wanted_by c.verdict_of.new.trace) found.0 audit.0
+                (if c.args.has_uploads then Some good else None) r told.0.items told.1)
+                c.verdict_of.ensures.report audit.1),
+            wrote,
+          ),
     )
 
 -- a beginning of what was to be told
@@ -41,20 +51,26 @@ returns-in_err-write_text-clause-begun g c =
     let found = c.in_ok-verdict.ensures.told in
     let fares = c.args.table.now in
     let told = c.in_ok-told.told in
-    let decide = c.verdicts_decide.ensures fares found.0 c.in_ok-verdict.verdict found.2 in
+    let ledger = read_as (is_some (wanted_by c.verdict_of.new.trace)) found.0 in
+    let decide = c.verdicts_decide.ensures fares ledger c.in_ok-verdict.verdict found.2 in
     unwritten_on c.from_residual-in_err-write_text.result _ (
       found.0,
       found.1,
-      λ good balanced. (
-        told.0.items,
-        told.1,
-        subst (λ (r : Option (List ℕ)). IsAudit false fares found.0
-            (if c.args.has_uploads then Some good else None) r told.0.items told.1)
-            c.verdict_of.ensures.report
-            (c.in_ok-told.ensures fares found.0 good found.2 decide (found.3 good balanced)
-            found.4),
-        subst (λ (t : List ℕ). Begins (g.W.Write.contents c.args.out.now)
-            (g.W.Write.contents c.write_text.new.out) t) c.as_slice.ensures.value
-            c.in_err-write_text.ensures.begun,
-      ),
+      λ good balanced.
+          let audit = c.in_ok-told.ensures fares found.0 good found.2 decide (found.3 good balanced)
+          found.4 found.5 in (
+            told.0.items,
+            told.1,
+            audit.0,
+            subst (λ (cs : Option Wanted). IsAudit false fares cs found.0 audit.0
+                (if c.args.has_uploads then Some good else None) _ told.0.items told.1)
+                c.verdict_of.ensures.wanted
+                (subst (λ (r : Option (List ℕ)). IsAudit false fares
+                (wanted_by c.verdict_of.new.trace) found.0 audit.0
+                (if c.args.has_uploads then Some good else None) r told.0.items told.1)
+                c.verdict_of.ensures.report audit.1),
+            subst (λ (t : List ℕ). Begins (g.W.Write.contents c.args.out.now)
+                (g.W.Write.contents c.write_text.new.out) t) c.as_slice.ensures.value
+                c.in_err-write_text.ensures.begun,
+          ),
     )

@@ -1,17 +1,24 @@
--- What was read so far is what the checker was fed.
+-- What is read of what was read so far is what the checker was fed.
 use Rattle.std.proofs.Common.{◌≡◌, ◌++◌, ℕ, List, [], true, false, refl, take, sym, ap, subst, ◌∙◌}
 use Rattle.std.proofs.Common.{append-nil, arith}
-use Rattle.std.proofs.KnownBytes.{Consumes-trans, Consumes-nil}
-use Rattle.std.specs.Prelude.{IsTrue}
-use Rattle.ledger_check.specs.Verdicts.{IsVerdict, is_legal}
+use Rattle.std.specs.Prelude.{IsTrue, is_some}
+use Rattle.ledger_check.specs.Columns.{read_as}
+use Rattle.ledger_check.specs.Struck.{HasStruck}
+use Rattle.ledger_check.specs.Verdicts.{HasFed, IsVerdict, is_legal}
 use Rattle.omny_audit.specs.inside.Findings.{StrikesOut}
 use Rattle.omny_audit.specs.inside.Reports.{HasSummedFor}
+use Rattle.omny_audit.specs.inside.Traced.{HasReadAll, HasReadAs, wanted_by}
+use Rattle.std.proofs.KnownBytes.{Consumes-trans, Consumes-nil}
 use Rattle.omny_audit.proofs.ReadLemmas.{at_end, whatever_follows}
+use Rattle.omny_audit.proofs.TraceLemmas.{reads_more}
 use Rattle.omny_audit.proofs.audit.verdict_of.Goals as goal
 
 pub loop-piece-init : goal.loop-piece-init
 loop-piece-init g c = record {
-  text = [];
+  file = [];
+  told = [];
+  as_told = c.requires.trace;
+  wanted = refl;
   fed = c.new-checker.ensures.fed c.args.table.now;
   struck = λ good is. c.new-checker.ensures.struck c.args.table.now c.args.balance.now good is;
   read = Consumes-nil _;
@@ -19,33 +26,43 @@ loop-piece-init g c = record {
   report = refl;
 }
 
-pub finish-requires : goal.finish-requires
-finish-requires g c =
-    record { fed = (c.args.table.now, c.loop-piece.invariant.text, c.loop-piece.invariant.fed) }
+pub end_verdict-requires-clause-fed : goal.end_verdict-requires-clause-fed
+end_verdict-requires-clause-fed g c = (
+  c.loop-piece.invariant.told,
+  c.loop-piece.invariant.fed,
+  c.loop-piece.invariant.sums,
+)
 
 pub feed-requires-clause-fed : goal.feed-requires-clause-fed
-feed-requires-clause-fed g c = (c.loop-piece.invariant.text, c.loop-piece.invariant.fed)
+feed-requires-clause-fed g c = (c.loop-piece.invariant.told, c.loop-piece.invariant.fed)
 
 pub returns-then-count-eq0-clause-told : goal.returns-then-count-eq0-clause-told
 returns-then-count-eq0-clause-told g c =
     let before = c.loop-piece.invariant in
+    let fares = c.args.table.now in
     let got = c.in-Ok.ensures.bytes in
-    let none = ap (λ (n : ℕ). before.text ++ take n c.read.new.buf) c.if-count-eq0.true
-    ∙ append-nil before.text in
-    let Is : List ℕ → Type 0 = λ text. IsVerdict c.args.table.now text c.finish.result
-    × StrikesOut c.args.table.now text c.args.balance.now c.loop-piece.balance c.finish.result
-    × (IsTrue (is_legal c.finish.result)
-    → HasSummedFor c.args.table.now c.loop-piece.report text) in
+    let last = c.in_ok-last.last in
+    let ended = c.in_ok-last.ensures in
+    let traced = is_some (wanted_by c.end_verdict.new.trace) in
+    let given = c.requires.good in
+    let none = ap (λ (n : ℕ). before.file ++ take n c.read.new.buf) c.if-count-eq0.true
+    ∙ append-nil before.file in
+    let Is : List ℕ → Type 0 = λ file. IsVerdict fares (read_as traced file) last
+    × StrikesOut fares (read_as traced file) c.args.balance.now c.end_verdict.new.balance last
+    × (IsTrue (is_legal last) → HasSummedFor fares c.end_verdict.new.report (read_as traced file))
+    × (IsTrue (is_legal last) → HasReadAll c.end_verdict.new.trace file) in
     let told = at_end Is _ _ _
-    (Consumes-trans _ _ _ before.text (take c.in-Ok.count c.read.new.buf) before.read got.0)
+    (Consumes-trans _ _ _ before.file (take c.in-Ok.count c.read.new.buf) before.read got.0)
     (got.1 c.if-count-eq0.true (omega arith))
     (subst Is (sym none) (
-      c.finish.ensures.verdict c.args.table.now before.text before.fed,
-      λ good is legal entries ledger. c.finish.ensures.struck c.args.table.now before.text
-          c.loop-piece.balance good (before.struck good is) legal entries ledger,
-      λ legal. before.sums,
+      ended.verdict before.file before.told before.as_told before.fed,
+      λ good is legal entries ledger. ended.struck before.file before.told good before.as_told
+          (before.struck good is) legal entries ledger,
+      λ legal. ended.sums before.file before.told before.as_told before.sums legal given.0
+          (before.struck given.0 given.1),
+      λ legal. ended.all before.file before.told before.as_told,
     )) in
-    (told.0, told.1, told.2.0, told.2.1, told.2.2)
+    (told.0, told.1, told.2.0, told.2.1, told.2.2, told.2.3)
 
 false_true : false ≡ true → ⊥
 false_true h = cc
@@ -53,44 +70,71 @@ false_true h = cc
 pub returns-in-Some-clause-told : goal.returns-in-Some-clause-told
 returns-in-Some-clause-told g c =
     let before = c.loop-piece.invariant in
+    let fares = c.args.table.now in
     let got = c.in-Ok.ensures.bytes in
-    let fed = rw c.in-Some.is at (c.in_ok-verdict.ensures.fed before.text before.fed) in
-    let Is : List ℕ → Type 0 = λ text. IsVerdict c.args.table.now text c.in-Some.verdict
-    × StrikesOut c.args.table.now text c.args.balance.now c.feed.new.balance c.in-Some.verdict
-    × (IsTrue (is_legal c.in-Some.verdict)
-    → HasSummedFor c.args.table.now c.loop-piece.report text) in
+    let piece = take c.in-Ok.count c.read.new.buf in
+    let as_told = c.in_ok-read_piece.ensures.read before.file before.told before.as_told in
+    let fed = rw c.in-Some.is at (c.in_ok-verdict.ensures.fed before.told before.fed) in
+    let trace = c.read_piece.new.trace in
+    let traced = is_some (wanted_by trace) in
+    let Is : List ℕ → Type 0 = λ file. IsVerdict fares (read_as traced file) c.in-Some.verdict
+    × StrikesOut fares (read_as traced file) c.args.balance.now c.feed.new.balance c.in-Some.verdict
+    × (IsTrue (is_legal c.in-Some.verdict) → HasSummedFor fares c.loop-piece.report
+    (read_as traced file))
+    × (IsTrue (is_legal c.in-Some.verdict) → HasReadAll trace file) in
     let given = c.requires.good in
-    let no : is_legal c.in-Some.verdict ≡ false =
-    rw c.in-Some.is at
-    (c.in_ok-verdict.ensures.struck before.text given.0 (before.struck given.0 given.1)) in
+    let no : is_legal c.in-Some.verdict ≡ false = rw c.in-Some.is at
+    (c.in_ok-verdict.ensures.struck before.told given.0 (before.struck given.0 given.1)) in
     let told = whatever_follows Is _ _ _
-    (Consumes-trans _ _ _ before.text (take c.in-Ok.count c.read.new.buf) before.read got.0)
-    (λ more. (
-      fed more,
+    (Consumes-trans _ _ _ before.file piece before.read got.0)
+    (λ more.
+    let rest = reads_more trace (before.file ++ piece) (before.told ++ c.read_piece.new.text.items)
+    as_told more in (
+      subst (λ (t : List ℕ). IsVerdict fares t c.in-Some.verdict)
+          (ap (λ (t : List ℕ). (before.told ++ t) ++ rest.0) c.as_slice-part.ensures.value
+          ∙ sym rest.1) (fed rest.0),
       λ good is legal. absurd (false_true (sym no ∙ legal)),
       λ legal. absurd (false_true (sym no ∙ legal)),
+      λ legal. absurd (false_true (sym no ∙ legal)),
     )) in
-    (told.0, told.1, told.2.0, told.2.1, told.2.2)
+    (told.0, told.1, told.2.0, told.2.1, told.2.2, told.2.3)
 
 pub returns-then-count-eq0-clause-report : goal.returns-then-count-eq0-clause-report
-returns-then-count-eq0-clause-report g c = c.loop-piece.invariant.report
+returns-then-count-eq0-clause-report g c = c.end_verdict.ensures.report
+    ∙ c.loop-piece.invariant.report
+
+pub returns-then-count-eq0-clause-wanted : goal.returns-then-count-eq0-clause-wanted
+returns-then-count-eq0-clause-wanted g c = c.end_verdict.ensures.wanted
+    ∙ c.loop-piece.invariant.wanted
 
 pub returns-in-Some-clause-report : goal.returns-in-Some-clause-report
 returns-in-Some-clause-report g c = c.loop-piece.invariant.report
 
+pub returns-in-Some-clause-wanted : goal.returns-in-Some-clause-wanted
+returns-in-Some-clause-wanted g c = c.read_piece.ensures.wanted ∙ c.loop-piece.invariant.wanted
+
 pub add_piece-requires : goal.add_piece-requires
-add_piece-requires g c = (c.loop-piece.invariant.text, c.loop-piece.invariant.sums)
+add_piece-requires g c = (c.loop-piece.invariant.told, c.loop-piece.invariant.sums)
 
 pub loop-piece-preserved : goal.loop-piece-preserved
 loop-piece-preserved g c =
     let before = c.loop-piece.invariant in
     let got = c.in-Ok.ensures.bytes in
     record {
-      text = before.text ++ take c.in-Ok.count c.read.new.buf;
-      fed = rw c.in_default-2.is at (c.in_ok-verdict.ensures.fed before.text before.fed);
-      struck = λ good is. rw c.in_default-2.is at
-          (c.in_ok-verdict.ensures.struck before.text good (before.struck good is));
-      read = Consumes-trans _ _ _ before.text (take c.in-Ok.count c.read.new.buf) before.read got.0;
-      sums = c.in_ok-add_piece.ensures.sums before.text before.sums;
+      file = before.file ++ take c.in-Ok.count c.read.new.buf;
+      told = before.told ++ c.read_piece.new.text.items;
+      as_told = c.in_ok-read_piece.ensures.read before.file before.told before.as_told;
+      wanted = c.read_piece.ensures.wanted ∙ before.wanted;
+      fed = subst (λ (t : List ℕ). HasFed c.args.table.now c.feed.new.self (before.told ++ t))
+          c.as_slice-part.ensures.value
+          (rw c.in_default-2.is at (c.in_ok-verdict.ensures.fed before.told before.fed));
+      struck = λ good is. subst (λ (t : List ℕ). HasStruck c.args.table.now c.feed.new.self
+          c.feed.new.balance (before.told ++ t) good) c.as_slice-part.ensures.value
+          (rw c.in_default-2.is at (c.in_ok-verdict.ensures.struck before.told good
+          (before.struck good is)));
+      read = Consumes-trans _ _ _ before.file (take c.in-Ok.count c.read.new.buf) before.read got.0;
+      sums = subst (λ (t : List ℕ). HasSummedFor c.args.table.now c.add_piece.new.report
+          (before.told ++ t)) c.as_slice-part.ensures.value
+          (c.in_ok-add_piece.ensures.sums before.told before.sums);
       report = c.add_piece.ensures.text ∙ before.report;
     }

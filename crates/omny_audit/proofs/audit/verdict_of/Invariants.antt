@@ -5,16 +5,20 @@ use Rattle.tap_views.specs.declared.encoder.TapFields.{TapFields}
 use Rattle.ledger_check.specs.Struck.{HasStruck}
 use Rattle.ledger_check.specs.Verdicts.{HasFed}
 use Rattle.omny_audit.specs.inside.Reports.{HasSummedFor, text_of}
+use Rattle.omny_audit.specs.inside.Traced.{HasReadAs, wanted_by}
 use Rattle.omny_audit.proofs.audit.verdict_of.Given as goal
 
--- the checker has read what the reader has lost, and so have the sums
+-- the checker has read what is read of what the reader has lost, and so have the sums
 abbrev pub invariant-loop-piece : goal.invariant-loop-piece
 invariant-loop-piece g l = record {
-  text : List ℕ;
-  fed : HasFed l.table l.checker text;
+  file : List ℕ;
+  told : List ℕ;
+  as_told : HasReadAs l.trace file told;
+  wanted : wanted_by l.trace ≡ wanted_by l.fn.trace;
+  fed : HasFed l.table l.checker told;
   struck : (good : List TapFields) → IsBalance l.fn.balance good []
-      → HasStruck l.table l.checker l.balance text good;
-  read : Consumes (g.R.Read.remaining l.fn.reader) (g.R.Read.remaining l.reader) text;
-  sums : HasSummedFor l.table l.report text;
+      → HasStruck l.table l.checker l.balance told good;
+  read : Consumes (g.R.Read.remaining l.fn.reader) (g.R.Read.remaining l.reader) file;
+  sums : HasSummedFor l.table l.report told;
   report : text_of l.report ≡ text_of l.fn.report;
 }

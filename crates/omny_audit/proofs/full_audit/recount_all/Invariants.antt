@@ -4,13 +4,17 @@ use Rattle.ledger_check.specs.FullBalances.{IsFullBalance}
 use Rattle.tap_views.specs.declared.encoder.TapFields.{TapFields}
 use Rattle.ledger_check.specs.RecountStates.{HasRecounted}
 use Rattle.omny_audit.specs.inside.Reports.{HasSummedFor, text_of}
+use Rattle.omny_audit.specs.inside.Traced.{HasReadAs, wanted_by}
 use Rattle.omny_audit.proofs.full_audit.recount_all.Given as goal
 
--- the recount has read what the reader has lost, and what it told was written
+-- the recount has read what is read of what the reader has lost, and what it told was written
 abbrev pub invariant-loop-piece : goal.invariant-loop-piece
 invariant-loop-piece g l = record {
+  file : List ℕ;
   text : List ℕ;
-  read : Consumes (g.R.Read.remaining l.fn.reader) (g.R.Read.remaining l.reader) text;
+  as_text : HasReadAs l.trace file text;
+  wanted : wanted_by l.trace ≡ wanted_by l.fn.trace;
+  read : Consumes (g.R.Read.remaining l.fn.reader) (g.R.Read.remaining l.reader) file;
   known : (good : List TapFields) → (l.has_uploads ≡ true → IsFullBalance l.fn.full good [])
       → (written : List ℕ) × HasRecounted l.table l.recount l.has_uploads l.full text written good
       × Appends (g.W.Write.contents l.fn.out) (g.W.Write.contents l.out) written;

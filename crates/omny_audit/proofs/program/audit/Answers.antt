@@ -1,16 +1,22 @@
-use Rattle.std.proofs.Common.{◌∙◌, ℕ, Bool, Bor, Option, List, ap, false, map, not, subst, sym}
-use Rattle.std.proofs.Common.{true}
+use Rattle.std.proofs.Common.{◌∙◌, ℕ, Bool, Bor, Option, Some, List, ap, false, map, not, subst}
+use Rattle.std.proofs.Common.{sym, true}
 use Rattle.std.proofs.lemmas.Result.{IfOk-weaker}
+use Rattle.std.specs.Fmt.{option_append}
 use Rattle.tap_views.specs.declared.encoder.TapFields.{TapFields}
 use Rattle.omny_audit.specs.Fault.{NamesOneOf}
 use Rattle.omny_audit.specs.Options.{files_of}
 use Rattle.omny_audit.specs.Reports.{IsAudit}
 use Rattle.omny_audit.specs.inside.Options.{audit_asked_of}
 use Rattle.omny_audit.specs.inside.Reports.{text_of}
+use Rattle.omny_audit.specs.inside.Traced.{uploads_in, wanted_by}
 use Rattle.omny_audit.specs.Program.{IsRightAuditFault, compared}
 use Rattle.omny_audit.proofs.ProgramLemmas.{at_ledger, at_report, at_uploads, both_err, compared_is}
-use Rattle.omny_audit.proofs.ProgramLemmas.{kept_all, loads_same, names_same, opened, right_later}
-use Rattle.omny_audit.proofs.ProgramLemmas.{written_first, handed_on}
+use Rattle.omny_audit.proofs.ProgramLemmas.{kept_all, kept_lists, loads_same, names_none, names_same}
+use Rattle.omny_audit.proofs.ProgramLemmas.{loaded_ledger, loaded_report, reads_ledger, right_later}
+use Rattle.omny_audit.proofs.ProgramLemmas.{right_of_names, written_first}
+use Rattle.omny_audit.specs.inside.Fault.{IsRightOfNames}
+use Rattle.program_manners.proofs.LoadsOn.{tells_on}
+use Rattle.omny_audit.proofs.ProgramLemmas.{handed_on}
 use Rattle.omny_audit.proofs.program.audit.Goals as goal
 
 pub full_audit_over-requires-clause-good : goal.full_audit_over-requires-clause-good
@@ -39,9 +45,21 @@ returns-clause-ok g c =
     (ap not c.is_empty-has_uploads.ensures)
     ∙ ap (λ (ns : List (Bor (List ℕ))). compared (map (λ n. n.now) ns) loaded.1) names in
     let reported = text_of c.in_ok-report.report in
-    let found = subst
-    (λ (good : Option (List TapFields)). IsAudit false c.in_ok-table.table told.0 good reported
-    finding.0 well) same finding.1 in
+    let found = subst (λ (good : Option (List TapFields)). IsAudit false c.in_ok-table.table
+    (wanted_by c.in_ok-trace.trace) told.0 finding.1 good reported finding.0 well) same
+    finding.2 in
+    let ledger = reads_ledger _ _ _ _ _ _ c.in_ok-head.head.items c.as_slice.result.now
+    c.in_ok-table.table_text.items c.as_slice-2.result.now told.0
+    (uploads_in c.kept_if-kept.result) (compared (map (λ n. n.now) c.args.options.now.uploads.items) loaded.5)
+    (wanted_by c.in_ok-trace.trace)
+    c.in_ok-ledger.ensures.ok c.in_ok-head.ensures.read c.in_ok-head.ensures.enough
+    c.as_slice.ensures.value c.as_slice-2.ensures.value
+    (kept_lists c.as_slice-names.result.now c.args.options.now.uploads.items _ _ _ loaded.5
+    c.kept_if-kept.ensures.uploads loaded.7.taps (ap not c.is_empty-has_uploads.ensures) names)
+    (c.chain-whole.ensures.bytes
+    ∙ ap (λ (h : List ℕ). option_append (Some h)
+    (g.S.Ledger.Read.remaining c.read_head.new.ledger)) c.from.ensures.0) told.1
+    c.in_ok-trace.ensures.wanted in
     record {
       text = finding.0;
       found = record {
@@ -49,23 +67,33 @@ returns-clause-ok g c =
         after_uploads = _;
         after_report = _;
         fares = c.in_ok-table.table;
-        loads_table = c.in_ok-table.ensures.ok;
+        loads_table = record {
+          bytes = c.in_ok-table.table_text.items;
+          told_is = c.in_ok-table.ensures.ok.0;
+          means = c.in_ok-table.ensures.ok.1;
+        };
         uploads = loaded.0;
         loads_uploads = loads_same c.as_slice-names.result.now c.args.options.now.uploads.items _ _
             loaded.0 names loaded.2;
         good = loaded.1;
         are_good = loaded.3;
+        lists = loaded.5;
+        are_lists = loaded.6;
         report = reported;
         loads_report = c.in_ok-report.ensures.ok;
         ledger = told.0;
-        loads_ledger = opened _ _ _ _ told.0 c.in_ok-ledger.ensures.ok told.1;
-        audit = subst
-            (λ (b : Bool). IsAudit b c.in_ok-table.table told.0
-            (compared (map (λ n. n.now) c.args.options.now.uploads.items) loaded.1) reported
-            finding.0 well) (sym c.if-options.false) found;
-        right = c.audits_decide.ensures _ _ _ _ _ _ _ found;
+        loads_ledger = ledger.told;
+        traced = ledger.traced;
+        is_traced = ledger.is_traced;
+        wanted = wanted_by c.in_ok-trace.trace;
+        are_wanted = ledger.are_wanted;
+        read = finding.1;
+        audit = subst (λ (b : Bool). IsAudit b c.in_ok-table.table (wanted_by c.in_ok-trace.trace)
+            told.0 finding.1 (compared (map (λ n. n.now) c.args.options.now.uploads.items) loaded.1)
+            reported finding.0 well) (sym c.if-options.false) found;
+        right = c.audits_decide.ensures _ _ _ _ _ _ _ _ _ found;
       };
-      written = finding.2;
+      written = finding.3;
     })
     c.audit_over.ensures.told
 
@@ -79,9 +107,21 @@ returns-then-options-clause-ok g c =
     (ap not c.is_empty-has_uploads.ensures)
     ∙ ap (λ (ns : List (Bor (List ℕ))). compared (map (λ n. n.now) ns) loaded.1) names in
     let reported = text_of c.in_ok-report.report in
-    let found = subst
-    (λ (good : Option (List TapFields)). IsAudit true c.in_ok-table.table told.0 good reported
-    finding.0 well) same finding.1 in
+    let found = subst (λ (good : Option (List TapFields)). IsAudit true c.in_ok-table.table
+    (wanted_by c.in_ok-trace.trace) told.0 finding.1 good reported finding.0 well) same
+    finding.2 in
+    let ledger = reads_ledger _ _ _ _ _ _ c.in_ok-head.head.items c.as_slice.result.now
+    c.in_ok-table.table_text.items c.as_slice-2.result.now told.0
+    (uploads_in c.kept_if-kept.result) (compared (map (λ n. n.now) c.args.options.now.uploads.items) loaded.5)
+    (wanted_by c.in_ok-trace.trace)
+    c.in_ok-ledger.ensures.ok c.in_ok-head.ensures.read c.in_ok-head.ensures.enough
+    c.as_slice.ensures.value c.as_slice-2.ensures.value
+    (kept_lists c.as_slice-names.result.now c.args.options.now.uploads.items _ _ _ loaded.5
+    c.kept_if-kept.ensures.uploads loaded.7.taps (ap not c.is_empty-has_uploads.ensures) names)
+    (c.chain-whole.ensures.bytes
+    ∙ ap (λ (h : List ℕ). option_append (Some h)
+    (g.S.Ledger.Read.remaining c.read_head.new.ledger)) c.from.ensures.0) told.1
+    c.in_ok-trace.ensures.wanted in
     record {
       text = finding.0;
       found = record {
@@ -89,23 +129,33 @@ returns-then-options-clause-ok g c =
         after_uploads = _;
         after_report = _;
         fares = c.in_ok-table.table;
-        loads_table = c.in_ok-table.ensures.ok;
+        loads_table = record {
+          bytes = c.in_ok-table.table_text.items;
+          told_is = c.in_ok-table.ensures.ok.0;
+          means = c.in_ok-table.ensures.ok.1;
+        };
         uploads = loaded.0;
         loads_uploads = loads_same c.as_slice-names.result.now c.args.options.now.uploads.items _ _
             loaded.0 names loaded.2;
         good = loaded.1;
         are_good = loaded.3;
+        lists = loaded.5;
+        are_lists = loaded.6;
         report = reported;
         loads_report = c.in_ok-report.ensures.ok;
         ledger = told.0;
-        loads_ledger = opened _ _ _ _ told.0 c.in_ok-ledger.ensures.ok told.1;
-        audit = subst
-            (λ (b : Bool). IsAudit b c.in_ok-table.table told.0
-            (compared (map (λ n. n.now) c.args.options.now.uploads.items) loaded.1) reported
-            finding.0 well) (sym c.if-options.true) found;
-        right = c.audits_decide.ensures _ _ _ _ _ _ _ found;
+        loads_ledger = ledger.told;
+        traced = ledger.traced;
+        is_traced = ledger.is_traced;
+        wanted = wanted_by c.in_ok-trace.trace;
+        are_wanted = ledger.are_wanted;
+        read = finding.1;
+        audit = subst (λ (b : Bool). IsAudit b c.in_ok-table.table (wanted_by c.in_ok-trace.trace)
+            told.0 finding.1 (compared (map (λ n. n.now) c.args.options.now.uploads.items) loaded.1)
+            reported finding.0 well) (sym c.if-options.true) found;
+        right = c.audits_decide.ensures _ _ _ _ _ _ _ _ _ found;
       };
-      written = finding.2;
+      written = finding.3;
     })
     c.full_audit_over.ensures.told
 
@@ -177,9 +227,21 @@ returns-clause-right g c =
           (ap not c.is_empty-has_uploads.ensures)
           ∙ ap (λ (ns : List (Bor (List ℕ))). compared (map (λ n. n.now) ns) loaded.1) names in
           let reported = text_of c.in_ok-report.report in
-          let found = subst
-          (λ (good : Option (List TapFields)). IsAudit false c.in_ok-table.table told.0 good
-          reported finding.0 finding.1) same finding.2 in
+          let found = subst (λ (good : Option (List TapFields)). IsAudit false c.in_ok-table.table
+          (wanted_by c.in_ok-trace.trace) told.0 finding.2 good reported finding.0 finding.1) same
+          finding.3 in
+          let ledger = reads_ledger _ _ _ _ _ _ c.in_ok-head.head.items c.as_slice.result.now
+          c.in_ok-table.table_text.items c.as_slice-2.result.now told.0
+          (uploads_in c.kept_if-kept.result) (compared (map (λ n. n.now) c.args.options.now.uploads.items) loaded.5)
+          (wanted_by c.in_ok-trace.trace)
+          c.in_ok-ledger.ensures.ok c.in_ok-head.ensures.read c.in_ok-head.ensures.enough
+          c.as_slice.ensures.value c.as_slice-2.ensures.value
+          (kept_lists c.as_slice-names.result.now c.args.options.now.uploads.items _ _ _ loaded.5
+          c.kept_if-kept.ensures.uploads loaded.7.taps (ap not c.is_empty-has_uploads.ensures) names)
+          (c.chain-whole.ensures.bytes
+          ∙ ap (λ (h : List ℕ). option_append (Some h)
+    (g.S.Ledger.Read.remaining c.read_head.new.ledger)) c.from.ensures.0) told.1
+          c.in_ok-trace.ensures.wanted in
           record {
             text = finding.0;
             well = finding.1;
@@ -188,27 +250,91 @@ returns-clause-right g c =
               after_uploads = _;
               after_report = _;
               fares = c.in_ok-table.table;
-              loads_table = c.in_ok-table.ensures.ok;
+              loads_table = record {
+                bytes = c.in_ok-table.table_text.items;
+                told_is = c.in_ok-table.ensures.ok.0;
+                means = c.in_ok-table.ensures.ok.1;
+              };
               uploads = loaded.0;
               loads_uploads = loads_same c.as_slice-names.result.now
                   c.args.options.now.uploads.items _ _ loaded.0 names loaded.2;
               good = loaded.1;
               are_good = loaded.3;
+              lists = loaded.5;
+              are_lists = loaded.6;
               report = reported;
               loads_report = c.in_ok-report.ensures.ok;
               ledger = told.0;
-              loads_ledger = opened _ _ _ _ told.0 c.in_ok-ledger.ensures.ok told.1;
-              audit = subst
-                  (λ (b : Bool). IsAudit b c.in_ok-table.table told.0
+              loads_ledger = ledger.told;
+              traced = ledger.traced;
+              is_traced = ledger.is_traced;
+              wanted = wanted_by c.in_ok-trace.trace;
+              are_wanted = ledger.are_wanted;
+              read = finding.2;
+              audit = subst (λ (b : Bool). IsAudit b c.in_ok-table.table
+                  (wanted_by c.in_ok-trace.trace) told.0 finding.2
                   (compared (map (λ n. n.now) c.args.options.now.uploads.items) loaded.1) reported
                   finding.0 finding.1) (sym c.if-options.false) found;
-              right = c.audits_decide.ensures _ _ _ _ _ _ _ found;
+              right = c.audits_decide.ensures _ _ _ _ _ _ _ _ _ found;
             };
-            begun = finding.3;
+            begun = finding.4;
           };
     })
     c.audit_over.ensures.later c.audit_over.ensures.begun
 
 pub returns-in_err-ledger-clause-fault : goal.returns-in_err-ledger-clause-fault
-returns-in_err-ledger-clause-fault g c =
-    λ all. kept_all c.from_residual-in_err-ledger.result (g.W.Write.contents c.args.out.now)
+returns-in_err-ledger-clause-fault g c = λ all. kept_all c.from_residual-in_err-ledger.result
+    (g.W.Write.contents c.args.out.now)
+
+pub returns-in_err-head-clause-named : goal.returns-in_err-head-clause-named
+returns-in_err-head-clause-named g c =
+    let fault = c.in_err-head.field-0.0 in
+    let asked = audit_asked_of c.args.options.now in
+    handed_on c.from_residual-in_err-head.result fault (λ f. NamesOneOf (files_of asked) f)
+    c.from_residual-in_err-head.ensures.1
+    (names_none (files_of asked) fault c.in_err-head.ensures.named)
+
+pub returns-in_err-trace-clause-named : goal.returns-in_err-trace-clause-named
+returns-in_err-trace-clause-named g c =
+    let fault = c.in_err-trace.field-0.0 in
+    let asked = audit_asked_of c.args.options.now in
+    handed_on c.from_residual-in_err-trace.result fault (λ f. NamesOneOf (files_of asked) f)
+    c.from_residual-in_err-trace.ensures.1
+    (names_none (files_of asked) fault c.in_err-trace.ensures.named)
+
+pub returns-in_err-head-clause-right : goal.returns-in_err-head-clause-right
+returns-in_err-head-clause-right g c =
+    let fault = c.in_err-head.field-0.0 in
+    let asked = audit_asked_of c.args.options.now in
+    handed_on c.from_residual-in_err-head.result fault (λ f. IsRightAuditFault asked _ _ _ f _ _)
+    c.from_residual-in_err-head.ensures.1
+    (written_first asked _ _ _ fault _ _ c.in_err-head.ensures.fault
+    (right_later asked.table _ _ _ fault c.in_err-head.ensures.later))
+
+-- the table was loaded first, and then the uploads, the report and the ledger
+pub returns-in_err-trace-clause-right : goal.returns-in_err-trace-clause-right
+returns-in_err-trace-clause-right g c =
+    let fault = c.in_err-trace.field-0.0 in
+    let asked = audit_asked_of c.args.options.now in
+    let text = c.in_ok-table.table_text.items in
+    let report = loaded_report _ _ _ _ c.in_ok-report.ensures.ok in
+    let ledger = loaded_ledger _ _ _ _ c.in_ok-ledger.ensures.ok in
+    let uploads = c.in_ok-balance.ensures.ok.2 in
+    let behind = tells_on _ _ _ _ _ uploads.told_is (tells_on _ _ _ _ _ report.1 ledger.1) in
+    handed_on c.from_residual-in_err-trace.result fault (λ f. IsRightAuditFault asked _ _ _ f _ _)
+    c.from_residual-in_err-trace.ensures.1
+    (right_of_names asked text _ _ _ _ fault _ _
+    (tells_on _ _ _ _ _ c.in_ok-table.ensures.ok.0 behind)
+    (subst (λ (t : List ℕ). IsRightOfNames t fault) c.as_slice-2.ensures.value
+    c.in_err-trace.ensures.right) c.in_err-trace.ensures.fault)
+
+pub returns-in_err-head-clause-fault : goal.returns-in_err-head-clause-fault
+returns-in_err-head-clause-fault g c = λ all. kept_all c.from_residual-in_err-head.result
+    (g.W.Write.contents c.args.out.now)
+
+pub returns-in_err-trace-clause-fault : goal.returns-in_err-trace-clause-fault
+returns-in_err-trace-clause-fault g c = λ all. kept_all c.from_residual-in_err-trace.result
+    (g.W.Write.contents c.args.out.now)
+
+pub kept_if-kept-requires : goal.kept_if-kept-requires
+kept_if-kept-requires g c = let loaded = c.in_ok-balance.ensures.ok in (loaded.5, loaded.7)

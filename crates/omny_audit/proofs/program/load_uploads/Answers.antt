@@ -3,9 +3,9 @@ use Rattle.std.proofs.Common.{ap, get_or, Bor, ◌+◌}
 use Rattle.std.proofs.lemmas.List.{map-append, take_all, take_more}
 use Rattle.ledger_check.specs.Balances.{AreGoodFields}
 use Rattle.omny_audit.specs.Fault.{NamesOneOf}
-use Rattle.omny_audit.proofs.ProgramLemmas.{handed_on}
-use Rattle.omny_audit.proofs.ProgramLemmas.{loads_push, names_at, posted_push, tells_none}
-use Rattle.omny_audit.proofs.program.load_balance.Goals as goal
+use Rattle.omny_audit.proofs.ProgramLemmas.{each_push, handed_on, loads_push, names_at}
+use Rattle.omny_audit.proofs.ProgramLemmas.{posted_push, tells_none}
+use Rattle.omny_audit.proofs.program.load_uploads.Goals as goal
 
 pub loop-name-init : goal.loop-name-init
 loop-name-init g c = (
@@ -20,6 +20,9 @@ loop-name-init g c = (
   },
   refl,
   c.new-balance.ensures,
+  [],
+  refl,
+  c.new-places.ensures,
 )
 
 pub loop-name-preserved : goal.loop-name-preserved
@@ -33,13 +36,18 @@ loop-name-preserved g c =
     ++ (get_or names c.loop-name.name-index no_name).now ∷ [] =
     ap (map (λ n. n.now)) (take_more names c.loop-name.name-index no_name within)
     ∙ map-append (λ n. n.now) (take c.loop-name.name-index names) _ in
-    let added = c.in_ok-add_upload.ensures in (
+    let added = c.in_ok-add_upload.ensures in
+    let placed = c.in_ok-add_upload-2.ensures in (
       before.0 ++ c.in_ok-upload.upload.items ∷ [],
       before.1 ++ added.0,
       rw more (loads_push _ _ _ _ _ _ _ before.2 c.in_ok-upload.ensures.ok),
       posted_push _ _ _ _ before.3
           (subst (λ (u : List ℕ). AreGoodFields u added.0) c.deref.ensures.value added.1),
       added.2 before.1 before.4,
+      before.5 ++ placed.0 ∷ [],
+      each_push _ before.5 _ placed.0 before.6
+          (subst (λ (u : List ℕ). AreGoodFields u placed.0) c.deref-in-loop-name.ensures.value placed.1),
+      placed.2 before.5 before.7,
     )
 
 pub returns-clause-ok : goal.returns-clause-ok

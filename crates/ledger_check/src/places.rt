@@ -1,0 +1,183 @@
+//! Where the taps of uploads stand, and whether somebody else names each place once.
+
+ghost use Rattle.std.specs.Prelude.{◌≡◌, ◌+◌, ◌<◌, ◌≤◌, ◌⊎◌, ◌++◌, ◌∷◌, ◌||◌, [], ℕ, List, MatchOption};
+ghost use Rattle.std.specs.Prelude.{IfNone, IfOk, IfSome, OnOk, false, length, map, nat_eq, true};
+ghost use Rattle.tap_views.specs.Encoding.{fields_of};
+ghost use Rattle.tap_views.specs.declared.encoder.TapFields.{TapFields as ATap};
+ghost use Rattle.ledger_check.specs.Balances.{AreGoodFields, is_same};
+ghost use Rattle.ledger_check.specs.Places.{HasUploads, IsFirstUnnamed, IsUnnamed, at_place};
+ghost use Rattle.ledger_check.specs.Places.{is_named, is_place, named_of, place_finding, tap_at};
+ghost use Rattle.ledger_check.specs.Places.{taps_of, uploads_of};
+ghost use Rattle.ledger_check.specs.inside.Places.{unnamed};
+
+use std::alloc::{AllocError, Global};
+use tap_views::{Batch, TapFields, good_batches};
+
+/// A good tap of an upload.
+#[derive(Clone, Copy)]
+pub(crate) struct PlacedTap {
+    /// The tap.
+    tap: TapFields,
+    /// Whether its place was named.
+    is_named: bool,
+}
+
+/// What is found of a tap that is said to stand at a place of an upload.
+#[derive(Clone, Copy, Debug, PartialEq, Eq)]
+pub enum PlaceFinding {
+    /// It stands there, and its place was not named before.
+    Right,
+    /// Another tap stands there, or none.
+    Another,
+    /// It stands there, and its place was named before.
+    Again,
+}
+
+/// The index of a place in a list of this length, if the list has it.
+fn index_of(place: u64, len: usize) -> Option<usize>
+    ensures { MatchOption result ((place ≡ 0) ⊎ (len < place))
+        (λ at. (place ≡ at + 1) × (at < len)) }
+{
+    if place == 0 || place > len as u64 {
+        return None;
+    }
+    Some((place - 1) as usize)
+}
+
+/// Adds the taps of a batch, whose places were not named.
+fn add_batch(placed: &mut Vec<PlacedTap>, batch: &Batch<'_>) -> Result<(), AllocError>
+    ensures { OnOk result (placed.new.items
+        ≡ placed.old.items ++ map unnamed (map fields_of batch.now)) }
+{
+    for tap in batch.taps() {
+        placed.push(PlacedTap {
+            tap: TapFields::of(&tap),
+            is_named: false,
+        })?;
+    }
+    Ok(())
+}
+
+/// The good taps of an upload: those before its first layout fault.
+fn placed_taps(alloc: Global, upload: &[u8]) -> Result<Vec<PlacedTap>, AllocError>
+    ensures { IfOk result (λ placed. (taps : List ATap) × AreGoodFields upload.now taps
+        × (placed.items ≡ map unnamed taps)) }
+{
+    let mut placed = Vec::new(alloc);
+    for batch in good_batches(upload) {
+        add_batch(&mut placed, &batch)?;
+    }
+    Ok(placed)
+}
+
+/// Whether both are taps of one token, at one moment and one validator.
+fn is_same(tap: &TapFields, other: &TapFields) -> bool
+    ensures { result ≡ is_same tap.now other.now }
+{
+    tap.cmp(other).is_eq()
+}
+
+/// Names a place of these taps, and says what is found of the tap that is said to stand there.
+fn name_in(placed: &mut Vec<PlacedTap>, place: u64, tap: &TapFields) -> PlaceFinding
+    ensures finding { result ≡ place_finding (at_place (taps_of placed.old.items) place)
+        (named_of (at_place placed.old.items place)) tap.now }
+    ensures taps { taps_of placed.new.items ≡ taps_of placed.old.items }
+    ensures named { result ≡ PlaceFinding.Right → (other : ℕ)
+        → named_of (at_place placed.new.items other)
+        ≡ (named_of (at_place placed.old.items other) || nat_eq other place) }
+{
+    let Some(at) = index_of(place, placed.len()) else {
+        return PlaceFinding::Another;
+    };
+    let there = placed[at];
+    if !is_same(&there.tap, tap) {
+        return PlaceFinding::Another;
+    }
+    if there.is_named {
+        return PlaceFinding::Again;
+    }
+    placed[at] = PlacedTap {
+        tap: there.tap,
+        is_named: true,
+    };
+    PlaceFinding::Right
+}
+
+/// The first place of these taps that was not named.
+fn first_in(placed: &[PlacedTap]) -> Option<u64>
+    ensures found { IfSome result (λ place. (0 < place) × (place ≤ length placed.now)
+        × (named_of (at_place placed.now place) ≡ false)) }
+    ensures first { IfSome result (λ place. (other : ℕ) → 0 < other → other < place
+        → named_of (at_place placed.now other) ≡ true) }
+    ensures none { IfNone result ((other : ℕ) → 0 < other → other ≤ length placed.now
+        → named_of (at_place placed.now other) ≡ true) }
+{
+    for (index, there) in placed.iter().enumerate() {
+        if !there.is_named {
+            return Some(index as u64 + 1);
+        }
+    }
+    None
+}
+
+/// The good taps of uploads by their places, and which places were named.
+#[derive(Drop)]
+pub struct Places {
+    /// The good taps of each upload.
+    uploads: Vec<Vec<PlacedTap>>,
+}
+
+impl Places {
+    /// No upload was added.
+    pub fn new(alloc: Global) -> Places
+        ensures { HasUploads result [] }
+    {
+        Places {
+            uploads: Vec::new(alloc),
+        }
+    }
+
+    /// Adds the good taps of the next upload: those before its first layout fault. All uploads are
+    /// added before a place is named. Its one error is want of memory, and after it the places are of
+    /// no use.
+    pub fn add_upload(&mut self, alloc: Global, upload: &[u8]) -> Result<(), AllocError>
+        ensures { OnOk result ((taps : List ATap) × AreGoodFields upload.now taps
+            × ((uploads : List (List ATap)) → HasUploads self.old uploads
+            → HasUploads self.new (uploads ++ taps ∷ []))) }
+    {
+        let placed = placed_taps(alloc, upload)?;
+        self.uploads.push(placed)?;
+        Ok(())
+    }
+
+    /// Names a place of an upload, and says what is found of the tap that is said to stand there.
+    pub fn name(&mut self, upload: u32, place: u64, tap: &TapFields) -> PlaceFinding
+        ensures finding { result ≡ place_finding (tap_at (uploads_of self.old) upload place)
+            (is_named self.old upload place) tap.now }
+        ensures taps { uploads_of self.new ≡ uploads_of self.old }
+        ensures named { result ≡ PlaceFinding.Right → (upload' place' : ℕ)
+            → is_named self.new upload' place'
+            ≡ (is_named self.old upload' place' || is_place upload' place' upload place) }
+    {
+        let at = upload as usize;
+        if at >= self.uploads.len() {
+            return PlaceFinding::Another;
+        }
+        name_in(&mut self.uploads[at], place, tap)
+    }
+
+    /// The first place that was not named, by the number of its upload and then by the place.
+    pub fn first_unnamed(&self) -> Option<(u64, u64)>
+        ensures found { IfSome result
+            (λ at. IsFirstUnnamed (uploads_of self.now) (is_named self.now) at.0 at.1) }
+        ensures none { IfNone result ((upload place : ℕ)
+            → ¬ (IsUnnamed (uploads_of self.now) (is_named self.now) upload place)) }
+    {
+        for (number, placed) in self.uploads.iter().enumerate() {
+            if let Some(place) = first_in(placed.as_slice()) {
+                return Some((number as u64, place));
+            }
+        }
+        None
+    }
+}

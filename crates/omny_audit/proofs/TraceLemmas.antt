@@ -1,0 +1,451 @@
+-- A traced ledger, read piece by piece.
+use Rattle.std.proofs.Common.{◌≡◌, ◌≢◌, ◌∙◌, ◌⊎◌, inl, inr, ⊎_elim, ℕ, ◌+◌, ◌-◌, ◌<◌, ◌≤◌, Bool}
+use Rattle.std.proofs.Common.{true, false, List, [], ◌∷◌, ◌++◌, append_assoc, append-nil, codes}
+use Rattle.std.proofs.Common.{length, length-append, Option, None, Some, refl, sym, ap, subst}
+use Rattle.std.proofs.Common.{arith, if◌then◌else◌}
+use Rattle.std.specs.Prelude.{◌&&◌, ◌||◌, is_some, not, option_map}
+use Rattle.std.specs.Option.{option_or}
+use Rattle.std.specs.Str.{bytes_eq}
+use Rattle.std.proofs.Math.Bool.{or-false}
+use Rattle.std.proofs.lemmas.Slice.Eq.{bytes_eq-Decides}
+use Rattle.tap_views.specs.declared.encoder.TapFields.{TapFields}
+use Rattle.settled_texts.specs.Names.{class_by}
+use Rattle.settled_texts.specs.declared.class_names.ClassNames.{ClassNames}
+use Rattle.fare_texts.specs.LedgerLines.{head_text}
+use Rattle.ledger_check.specs.Columns.{TracedLine, cut_line, read_as, traced_head, untraced_by}
+use Rattle.ledger_check.specs.Columns.{untraced_line, untraced_lines}
+use Rattle.ledger_check.specs.Lines.{IsLine, Lacks, lines_of}
+use Rattle.ledger_check.proofs.ColumnLemmas.{cut_fits, cut_long, untraced-append}
+use Rattle.ledger_check.proofs.LineLemmas.{lacks-append, lines-part}
+use Rattle.ledger_check.proofs.RecountLemmas.{split_line_at, split_part}
+use Rattle.ledger_check.specs.Places.{IsFirstUnnamed, IsUnnamed, is_named, is_place, place_finding}
+use Rattle.ledger_check.specs.Places.{tap_at, uploads_of}
+use Rattle.ledger_check.specs.declared.places.PlaceFinding.{PlaceFinding}
+use Rattle.ledger_check.specs.declared.places.PlaceFinding.TheVariants.{Right, Another, Again}
+use Rattle.ledger_check.specs.declared.places.Places.{Places}
+use Rattle.omny_audit.specs.Traced.{AreColumnsTold, AreLinesOf, AreRead, IsFaultBehind, IsPlaceFault}
+use Rattle.omny_audit.specs.Traced.{ReadLine, class_text, place_text}
+use Rattle.omny_audit.specs.Traced.{TellsTracedTap, TracedTap, Wanted, class_fault, fault_by}
+use Rattle.omny_audit.specs.Traced.{have_place, lines_read, place_fault, traced_by, wrong_class}
+use Rattle.omny_audit.specs.Traced.{wrong_place}
+use Rattle.omny_audit.specs.inside.Traced.{HasColumns, HasLines, HasPlaces, HasReadAll, HasReadAs}
+use Rattle.omny_audit.specs.inside.Traced.{HasTraced, HaveNamed, IsKeptOf, uploads_in, wanted_by}
+use Rattle.omny_audit.specs.inside.Traced.{wanted_of, wrong_place_in}
+use Rattle.omny_audit.specs.declared.traced.PlaceFault.{PlaceFault}
+use Rattle.omny_audit.specs.declared.traced.PlaceFault.TheVariants.{NoLine, OtherTap, Repeated}
+use Rattle.omny_audit.specs.declared.traced.LinesRead.{LinesRead}
+use Rattle.omny_audit.specs.declared.traced.Trace.{Trace}
+use Rattle.omny_audit.specs.declared.traced.WrongClass.{WrongClass}
+
+-- what is read in place of a line that is not cut
+pub other_head : (line : List ℕ) → line ≡ traced_head → untraced_by line None ≡ head_text
+other_head line is = ap (λ (b : Bool). if b then head_text else 10 ∷ [])
+    ((bytes_eq-Decides line traced_head).1 is)
+
+pub other_line : (line : List ℕ) → (line ≡ traced_head → ⊥) → untraced_by line None ≡ 10 ∷ []
+other_line line other = by_test (bytes_eq line traced_head) refl
+  where
+    by_test : (b : Bool) → bytes_eq line traced_head ≡ b → untraced_by line None ≡ 10 ∷ []
+    by_test true same = absurd (other ((bytes_eq-Decides line traced_head).0 same))
+    by_test false same = ap (λ (b : Bool). if b then head_text else 10 ∷ []) same
+
+head_short : length traced_head ≤ 352
+unfolding traced_head
+head_short = omega arith
+
+long_other : (line : List ℕ) → 352 < length line → untraced_by line None ≡ 10 ∷ []
+long_other line long =
+    other_line line (λ is. let size = ap (λ (t : List ℕ). length t) is in let short = head_short in
+        omega (arith, long, size, short))
+
+-- what a line tells, of which this was kept
+kept_long : (kept whole : List ℕ) → IsKeptOf kept whole → 352 < length kept → 352 < length whole
+kept_long kept whole (inl same) long = subst (λ (l : List ℕ). 352 < length l) same long
+kept_long kept whole (inr (left, right)) long = right
+
+pub kept_short : (kept whole : List ℕ) → IsKeptOf kept whole → length kept ≤ 352 → kept ≡ whole
+kept_short kept whole (inl same) short = same
+kept_short kept whole (inr (left, right)) short = absurd (omega (arith, left, short))
+
+pub kept_cut : (kept whole : List ℕ) (cut : Option TracedLine) → IsKeptOf kept whole
+    → cut_line kept ≡ cut
+    → cut_line whole ≡ cut
+kept_cut kept whole cut (inl same) is = ap cut_line (sym same) ∙ is
+kept_cut kept whole cut (inr (left, right)) is = cut_long whole right ∙ sym (cut_long kept left)
+    ∙ is
+
+pub kept_other : (kept whole : List ℕ) → IsKeptOf kept whole
+    → untraced_by whole None ≡ untraced_by kept None
+kept_other kept whole (inl same) = ap (λ (l : List ℕ). untraced_by l None) (sym same)
+kept_other kept whole (inr (left, right)) = long_other whole right ∙ sym (long_other kept left)
+
+or_none : (wrong : Option WrongClass) → option_or wrong None ≡ wrong
+or_none None = refl
+or_none (Some wrong) = refl
+
+-- places, where a line tells no tap, or no uploads are named
+or_no_fault : (fault : Option PlaceFault) → option_or fault None ≡ fault
+or_no_fault None = refl
+or_no_fault (Some fault) = refl
+
+pub none_wrong : (uploads : Option (List (List TapFields))) → None ≡ wrong_place_in uploads []
+none_wrong None = refl
+none_wrong (Some uploads) = refl
+
+pub no_tap_placed : (places : Option Places) (wrong : Option PlaceFault) (line : List ℕ)
+    (read : List ReadLine) → HasPlaces places wrong read
+    → HasPlaces places wrong (record { line = line; traced = None } ∷ read)
+no_tap_placed None wrong line read has =
+    record { wrong_is = has.wrong_is; named = λ none. tt }
+no_tap_placed (Some places) wrong line read has = record {
+  wrong_is = has.wrong_is ∙ sym (or_no_fault (wrong_place (uploads_of places) read));
+  named = λ none upload place.
+      has.named none upload place ∙ sym (or-false (have_place read upload place));
+}
+
+-- behind a wrong place the places stay as they were
+pub wrong_stays : (places : Option Places) (wrong : PlaceFault) (line : List ℕ)
+    (traced : Option TracedTap) (read : List ReadLine) → HasPlaces places (Some wrong) read
+    → HasPlaces places (Some wrong) (record { line = line; traced = traced } ∷ read)
+wrong_stays None wrong line traced read has = record { wrong_is = has.wrong_is; named = λ none. absurd (apart none) }
+  where
+    apart : ◌≡◌ {A = Option PlaceFault} (Some wrong) None → ⊥
+    apart none = cc
+wrong_stays (Some places) wrong line traced read has = record {
+  wrong_is = ap (λ (w : Option PlaceFault). option_or w
+      (place_fault (uploads_of places) read (length read + 1) traced)) has.wrong_is;
+  named = λ none. absurd (apart none);
+}
+  where
+    apart : ◌≡◌ {A = Option PlaceFault} (Some wrong) None → ⊥
+    apart none = cc
+
+-- without uploads nothing is looked at
+pub no_uploads_placed : (line : List ℕ) (traced : Option TracedTap) (read : List ReadLine)
+    → HasPlaces None None read
+    → HasPlaces None None (record { line = line; traced = traced } ∷ read)
+no_uploads_placed line traced read has = record { wrong_is = refl; named = λ none. tt }
+
+-- a place was named, and what was found of the tap there
+pub place_named : (places after : Places) (line : List ℕ) (traced : TracedTap)
+    (read : List ReadLine) (number : ℕ) (finding : PlaceFinding)
+    → HasPlaces (Some places) None read → number ≡ length read + 1
+    → finding ≡ place_finding (tap_at (uploads_of places) traced.upload traced.place)
+        (is_named places traced.upload traced.place) traced.tap
+    → uploads_of after ≡ uploads_of places
+    → (finding ≡ Right → (upload place : ℕ) → is_named after upload place
+        ≡ (is_named places upload place || is_place upload place traced.upload traced.place))
+    → HasPlaces (Some after) (fault_by number traced.upload traced.place finding)
+        (record { line = line; traced = Some traced } ∷ read)
+place_named places after line traced read number finding has counted found same named = record {
+  wrong_is = ap (λ (n : ℕ). fault_by n traced.upload traced.place finding) counted
+      ∙ ap (fault_by (length read + 1) traced.upload traced.place) (found
+      ∙ ap (λ (b : Bool). place_finding (tap_at (uploads_of places) traced.upload traced.place) b
+          traced.tap) (has.named refl traced.upload traced.place))
+      ∙ ap (λ (w : Option PlaceFault). option_or w (place_fault (uploads_of places) read
+          (length read + 1) (Some traced))) has.wrong_is
+      ∙ ap (λ (u : List (List TapFields)). wrong_place u
+          (record { line = line; traced = Some traced } ∷ read)) (sym same);
+  named = λ none upload place.
+      named (right_of finding none) upload place
+      ∙ ap (λ (b : Bool). b || is_place upload place traced.upload traced.place)
+          (has.named refl upload place);
+}
+  where
+    right_of : (f : PlaceFinding) → fault_by number traced.upload traced.place f ≡ None → f ≡ Right
+    right_of Right none = refl
+    right_of Another none = absurd (cc)
+    right_of Again none = absurd (cc)
+
+-- what the columns are held against stays the same
+pub wanted_same : (a b : LinesRead) → a.names ≡ b.names → uploads_in a.places ≡ uploads_in b.places
+    → wanted_of a ≡ wanted_of b
+wanted_same a b names uploads =
+    ap (λ (n : ClassNames). wanted_with (class_by n) (uploads_in a.places)) names
+    ∙ ap (wanted_with (class_by b.names)) uploads
+  where
+    wanted_with : (List ℕ → List ℕ) → Option (List (List TapFields)) → Wanted
+    wanted_with classes uploads = record { classes = classes; uploads = uploads }
+
+-- places that are the same
+pub placed_same : (places after : Option Places) (wrong wrong' : Option PlaceFault)
+    (read : List ReadLine) → after ≡ places → wrong' ≡ wrong → HasPlaces places wrong read
+    → HasPlaces after wrong' read
+placed_same places after wrong wrong' read same same' has =
+    subst (λ (p : Option Places). HasPlaces p wrong' read) (sym same)
+    (subst (λ (w : Option PlaceFault). HasPlaces places w read) (sym same') has)
+
+-- the fault behind lines, by the places that they have
+pub fault_behind : (uploads : List (List TapFields)) (named named' : ℕ → ℕ → Bool)
+    (wrong fault : Option PlaceFault)
+    → (wrong ≡ None → (upload place : ℕ) → named upload place ≡ named' upload place)
+    → IsFaultBehind uploads named wrong fault → IsFaultBehind uploads named' wrong fault
+fault_behind uploads named named' (Some wrong) fault same is = is
+fault_behind uploads named named' None None same is = λ upload place left.
+    is upload place (record { some = left.some; not_named = same refl upload place
+    ∙ left.not_named })
+fault_behind uploads named named' None (Some (OtherTap line upload place)) same is = is
+fault_behind uploads named named' None (Some (Repeated line upload place)) same is = is
+fault_behind uploads named named' None (Some (NoLine upload place)) same is = record {
+  is = record { some = is.is.some; not_named = sym (same refl upload place) ∙ is.is.not_named };
+  first = λ upload' place' before left. is.first upload' place' before
+      (record { some = left.some; not_named = same refl upload' place' ∙ left.not_named });
+}
+
+pub place_fault_of : (places : Places) (wrong fault : Option PlaceFault) (read : List ReadLine)
+    → HasPlaces (Some places) wrong read
+    → IsFaultBehind (uploads_of places) (is_named places) wrong fault
+    → IsPlaceFault (Some (uploads_of places)) read fault
+place_fault_of places wrong fault read has is =
+    subst (λ (w : Option PlaceFault). IsFaultBehind (uploads_of places) (have_place read) w fault)
+    has.wrong_is
+    (fault_behind (uploads_of places) (is_named places) (have_place read) wrong fault has.named is)
+
+-- one line more
+pub took_other : (so_far after : LinesRead) (kept whole : List ℕ) (read : List ReadLine)
+    → HasLines so_far read
+    → IsKeptOf kept whole → cut_line kept ≡ None → after.lines ≡ so_far.lines + 1
+        → after.wrong_class ≡ so_far.wrong_class
+    → after.names ≡ so_far.names → HasPlaces after.places after.wrong_place read
+    → HasLines after (record { line = whole; traced = None } ∷ read)
+took_other so_far after kept whole read has same none count class names places = record {
+  are = (has.are, subst (λ (c : Option TracedLine). TellsTracedTap c None)
+      (sym (kept_cut kept whole None same none)) refl);
+  count = let before = has.count in omega (arith, before, count);
+  columns = record {
+    class = class ∙ has.columns.class
+        ∙ ap (λ (n : ClassNames). wrong_class (class_by n) read) (sym names)
+        ∙ sym (or_none (wrong_class (class_by after.names) read));
+    places = no_tap_placed after.places after.wrong_place whole read places;
+  };
+}
+
+pub took_cut : (so_far after : LinesRead) (kept whole : List ℕ) (cut : TracedLine)
+    (traced : Option TracedTap) (read : List ReadLine)
+    → HasLines so_far read → IsKeptOf kept whole → cut_line kept ≡ Some cut
+        → after.lines ≡ so_far.lines + 1
+    → after.wrong_class ≡ option_or so_far.wrong_class
+        (class_fault (class_by so_far.names) (so_far.lines + 1) traced)
+    → after.names ≡ so_far.names → TellsTracedTap (Some cut) traced
+    → HasPlaces after.places after.wrong_place (record { line = whole; traced = traced } ∷ read)
+    → HasLines after (record { line = whole; traced = traced } ∷ read)
+took_cut so_far after kept whole cut traced read has same is count class names tells places = record {
+  are = (has.are, subst (λ (c : Option TracedLine). TellsTracedTap c traced)
+      (sym (kept_cut kept whole (Some cut) same is)) tells);
+  count = let before = has.count in omega (arith, before, count);
+  columns = record {
+    class = class
+        ∙ ap (λ (w : Option WrongClass). option_or w
+            (class_fault (class_by so_far.names) (so_far.lines + 1) traced)) has.columns.class
+        ∙ ap (λ (n : ℕ). option_or (wrong_class (class_by so_far.names) read)
+            (class_fault (class_by so_far.names) (n + 1) traced)) has.count
+        ∙ ap (λ (n : ClassNames). option_or (wrong_class (class_by n) read)
+            (class_fault (class_by n) (length read + 1) traced)) (sym names);
+    places = places;
+  };
+}
+
+-- a text that was read, and more of it
+abbrev pub Traced : Trace → List ℕ → List ℕ → List ℕ → List ℕ → Type 0
+Traced trace file told text text' =
+    (more : List ℕ) × (read : List ReadLine) × (text' ≡ text ++ more) × HasTraced trace file
+        (told ++ more) read
+
+pub traced_none : (trace : Trace) (file told text : List ℕ) (read : List ReadLine)
+    → HasTraced trace file told read
+    → Traced trace (file ++ []) told text text
+traced_none trace file told text read is = (
+  [],
+  read,
+  sym (append-nil text),
+  subst (λ (f : List ℕ). HasTraced trace f (told ++ []) read) (sym (append-nil file))
+      (subst (λ (t : List ℕ). HasTraced trace file t read) (sym (append-nil told)) is),
+)
+
+pub traced_on : (middle after : Trace) (file front piece told text text' text'' : List ℕ)
+    → (before : Traced middle (file ++ front) told text text')
+    → Traced after ((file ++ front) ++ piece) (told ++ before.0) text' text''
+    → Traced after (file ++ (front ++ piece)) told text text''
+traced_on middle after file front piece told text text' text'' before next = (
+  before.0 ++ next.0,
+  next.1,
+  next.2 ∙ ap (λ (t : List ℕ). t ++ next.0) before.2 ∙ append_assoc text before.0 next.0,
+  subst (λ (f : List ℕ). HasTraced after f (told ++ (before.0 ++ next.0)) next.1)
+      (append_assoc file front piece)
+      (subst (λ (t : List ℕ). HasTraced after ((file ++ front) ++ piece) t next.1)
+          (append_assoc told before.0 next.0) next.3),
+)
+
+-- a piece that ends no line
+pub traced_part : (trace after : Trace) (file piece told text : List ℕ) (read : List ReadLine)
+    → (is : HasTraced trace file told read) → Lacks 10 piece → after.so_far ≡ trace.so_far
+    → IsKeptOf after.begun.items (is.begun ++ piece) → Traced after (file ++ piece) told text text
+traced_part trace after file piece told text read is lacks same kept = (
+  [],
+  read,
+  sym (append-nil text),
+  record {
+    lines = subst (λ (s : LinesRead). HasLines s read) (sym same) is.lines;
+    begun = is.begun ++ piece;
+    kept = kept;
+    lacks = lacks-append 10 is.begun piece is.lacks lacks;
+    split = split_part (lines_read read) file is.begun piece is.split;
+    told = append-nil told ∙ is.told;
+  },
+)
+
+-- one line more was read, and what is read in its place
+pub took_line : (trace after : Trace) (file line told text text' : List ℕ) (read : List ReadLine)
+    → (is : HasTraced trace file told read) → IsLine line → after.begun.items ≡ []
+    → ((next : ReadLine) × (next.line ≡ is.begun ++ line) × HasLines after.so_far (next ∷ read))
+    → text' ≡ text ++ untraced_line (is.begun ++ line) → Traced after (file ++ line) told text text'
+took_line trace after file line told text text' read is ends none (next, same, has) written = (
+  untraced_line (is.begun ++ line),
+  next ∷ read,
+  written,
+  record {
+    lines = has;
+    begun = [];
+    kept = inl none;
+    lacks = tt;
+    split = λ more. split_line_at (lines_read read) file is.begun line is.split is.lacks ends more
+        ∙ ap (λ (l : List ℕ). (lines_read read ++ l ∷ []) ++ lines_of more) (sym same);
+    told = ap (λ (t : List ℕ). t ++ untraced_line (is.begun ++ line)) is.told
+        ∙ ap (λ (t : List ℕ). untraced_lines (lines_read read) ++ t)
+            (sym (append-nil (untraced_line (is.begun ++ line))))
+        ∙ sym (untraced-append (lines_read read) ((is.begun ++ line) ∷ []))
+        ∙ ap (λ (l : List ℕ). untraced_lines (lines_read read ++ l ∷ [])) (sym same);
+  },
+)
+
+pub kept_none : (kept begun : List ℕ) → IsKeptOf kept begun → kept ≡ [] → begun ≡ []
+kept_none kept begun (inl same) none = sym same ∙ none
+kept_none kept begun (inr (left, right)) none = absurd
+    (omega (arith, left, ap (λ (l : List ℕ). length l) none))
+
+-- all that there was, read
+abbrev pub Ended : Trace → List ℕ → List ℕ → List ℕ → List ℕ → Type 0
+Ended trace file told text text' =
+    (more : List ℕ) × (read : List ReadLine) × (text' ≡ text ++ more) ×
+        (told ++ more ≡ untraced_lines (lines_of file))
+    × AreLinesOf file read × HasColumns trace.so_far read
+
+pub ended_whole : (trace : Trace) (file told text : List ℕ) (read : List ReadLine)
+    → HasTraced trace file told read
+    → trace.begun.items ≡ [] → Ended trace file told text text
+unfolding lines_of
+ended_whole trace file told text read is none =
+    let begun : is.begun ≡ [] = kept_none trace.begun.items is.begun is.kept none in
+    let all : lines_of file ≡ lines_read read =
+    ap lines_of (sym (append-nil file)) ∙ is.split []
+        ∙ ap (λ (b : List ℕ). lines_read read ++ lines_of (b ++ [])) begun ∙ nothing in (
+      [],
+      read,
+      sym (append-nil text),
+      append-nil told ∙ is.told ∙ ap untraced_lines (sym all),
+      record { split = sym all; are = is.lines.are },
+      is.lines.columns,
+    )
+  where
+    nothing : lines_read read ++ lines_of [] ≡ lines_read read
+    nothing = append-nil (lines_read read)
+
+-- the line that its end cuts was read too
+pub ended_cut : (trace after : Trace) (file told text text' : List ℕ) (read : List ReadLine)
+    → (is : HasTraced trace file told read) → 0 < length trace.begun.items
+    → ((next : ReadLine) × (next.line ≡ is.begun) × HasLines after.so_far (next ∷ read))
+    → text' ≡ text ++ untraced_line is.begun → Ended after file told text text'
+ended_cut trace after file told text text' read is some (next, same, has) written =
+    let all : lines_of file ≡ lines_read read ++ is.begun ∷ [] =
+    ap lines_of (sym (append-nil file)) ∙ is.split []
+    ∙ ap (λ (b : List ℕ). lines_read read ++ lines_of b) (append-nil is.begun)
+    ∙ ap (λ (ls : List (List ℕ)). lines_read read ++ ls)
+        (lines-part is.begun is.lacks (some_begun trace.begun.items is.begun is.kept some)) in (
+      untraced_line is.begun,
+      next ∷ read,
+      written,
+      ap (λ (t : List ℕ). t ++ untraced_line is.begun) is.told
+          ∙ ap (λ (t : List ℕ). untraced_lines (lines_read read) ++ t)
+              (sym (append-nil (untraced_line is.begun)))
+          ∙ sym (untraced-append (lines_read read) (is.begun ∷ [])) ∙ ap untraced_lines (sym all),
+      record { split = ap (λ (l : List ℕ). lines_read read ++ l ∷ []) same
+          ∙ sym all; are = has.are },
+      has.columns,
+    )
+  where
+    some_begun : (kept begun : List ℕ) → IsKeptOf kept begun → 0 < length kept → 0 < length begun
+    some_begun kept begun (inl same) some = subst (λ (l : List ℕ). 0 < length l) same some
+    some_begun kept begun (inr (left, right)) some = omega (arith, right)
+
+-- what is read of a file that goes on
+pub reads_more : (trace : Option Trace) (file told : List ℕ) → HasReadAs trace file told
+    → (more : List ℕ)
+    → (rest : List ℕ) × (read_as (is_some (wanted_by trace)) (file ++ more) ≡ told ++ rest)
+reads_more None file told is more = (more, ap (λ (t : List ℕ). t ++ more) (sym is))
+reads_more (Some trace) file told (read, is) more = (
+  untraced_lines (lines_of (is.begun ++ more)),
+  ap untraced_lines (is.split more)
+      ∙ untraced-append (lines_read read) (lines_of (is.begun ++ more))
+      ∙ ap (λ (t : List ℕ). t ++ untraced_lines (lines_of (is.begun ++ more))) (sym is.told),
+)
+
+-- the fault of a line, by its class
+fault_at : ℕ → List ℕ → WrongClass
+fault_at line token = record { line = line; token = token }
+
+pub fault_none : (classes : List ℕ → List ℕ) (line : ℕ) (cut : TracedLine) (tap : TapFields)
+    → classes tap.token ≡ cut.class
+    → class_fault classes line (Some (traced_by cut tap)) ≡ None
+unfolding fault_at
+fault_none classes line cut tap same =
+    ap (λ (b : Bool). if b then None else Some (fault_at line tap.token))
+        ((bytes_eq-Decides (classes tap.token) cut.class).1 same)
+
+pub fault_some : (classes : List ℕ → List ℕ) (line : ℕ) (cut : TracedLine) (tap : TapFields)
+    → (classes tap.token ≡ cut.class → ⊥)
+    → class_fault classes line (Some (traced_by cut tap)) ≡ Some
+        (record { line = line; token = tap.token })
+unfolding fault_at
+fault_some classes line cut tap other = by_test (bytes_eq (classes tap.token) cut.class) refl
+  where
+    by_test : (b : Bool) → bytes_eq (classes tap.token) cut.class ≡ b
+        → class_fault classes line (Some (traced_by cut tap)) ≡ Some (fault_at line tap.token)
+    by_test true same = absurd (other ((bytes_eq-Decides (classes tap.token) cut.class).0 same))
+    by_test false same = ap (λ (b : Bool). if b then None else Some (fault_at line tap.token)) same
+
+-- this is told of the columns, for some lines of the file
+abbrev ToldOf : Trace → Option PlaceFault → List ℕ → Bool → Option Trace → Bool → Type 0
+ToldOf trace fault file right o looked =
+    (read : List ReadLine) × AreColumnsTold (wanted_by o) looked file read
+        (class_text (class_by trace.so_far.names) trace.so_far.wrong_class
+        ++ place_text (uploads_in trace.so_far.places) fault) right
+
+-- what is told of the columns, and whether they are right
+pub columns_told : (trace : Trace) (looked : Bool) (o : Option Trace) (file : List ℕ)
+    (fault : Option PlaceFault) (right classes places : Bool) → o ≡ Some trace → looked ≡ true
+    → classes ≡ not (is_some trace.so_far.wrong_class) → places ≡ not (is_some fault)
+    → right ≡ (classes && places)
+    → ((read : List ReadLine) → HasPlaces trace.so_far.places trace.so_far.wrong_place read
+        → IsPlaceFault (uploads_in trace.so_far.places) read fault)
+    → (looked ≡ true → HasReadAll o file)
+    → (read : List ReadLine) × AreColumnsTold (wanted_by o) looked file read
+        (class_text (class_by trace.so_far.names) trace.so_far.wrong_class
+        ++ place_text (uploads_in trace.so_far.places) fault) right
+columns_told trace looked o file fault right classes places is look of_classes of_places both found
+    all = subst (λ (o : Option Trace). ToldOf trace fault file right o looked)
+    (sym is)
+    (subst (λ (l : Bool). ToldOf trace fault file right (Some trace) l) (sym look)
+    (let known = subst (λ (o : Option Trace). HasReadAll o file) is (all look) in (
+      known.0,
+      (
+        known.1,
+        fault,
+        found known.0 known.2.places,
+        ap (λ (w : Option WrongClass). class_text (class_by trace.so_far.names) w
+            ++ place_text (uploads_in trace.so_far.places) fault) known.2.class,
+        both ∙ ap (λ (b : Bool). b && places) (of_classes
+            ∙ ap (λ (w : Option WrongClass). not (is_some w)) known.2.class)
+            ∙ ap (λ (b : Bool). not (is_some (wrong_class (class_by trace.so_far.names) known.0))
+            && b) of_places,
+      ),
+    )))

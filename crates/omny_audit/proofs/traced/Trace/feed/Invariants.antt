@@ -1,0 +1,18 @@
+use Rattle.std.proofs.Common.{◌≡◌, List, ℕ, ◌++◌, length}
+use Rattle.omny_audit.specs.Traced.{ReadLine}
+use Rattle.omny_audit.specs.inside.Traced.{HasTraced, wanted_of}
+use Rattle.omny_audit.proofs.TraceLemmas.{Traced}
+use Rattle.omny_audit.proofs.traced.Trace.feed.Given as goal
+
+-- a front of the piece was read
+abbrev pub invariant-loop-rest : goal.invariant-loop-rest
+invariant-loop-rest l = record {
+  consumed : List ℕ;
+  whole : l.piece ≡ consumed ++ l.rest;
+  wanted : wanted_of l.self.so_far ≡ wanted_of l.fn.self.so_far;
+  read : (file told : List ℕ) (read : List ReadLine) → HasTraced l.fn.self file told read
+      → Traced l.self (file ++ consumed) told l.fn.text.items l.text.items;
+}
+
+abbrev pub decreases-loop-rest : goal.decreases-loop-rest
+decreases-loop-rest l = length l.rest

@@ -1,0 +1,24 @@
+use Rattle.std.proofs.Common.{[], inl, refl}
+use Rattle.omny_audit.specs.inside.Traced.{uploads_in}
+use Rattle.omny_audit.proofs.TraceLemmas.{none_wrong}
+use Rattle.omny_audit.proofs.traced.Trace.new.Goals as goal
+
+pub returns-clause-read : goal.returns-clause-read
+returns-clause-read c = record {
+  lines = record {
+    are = tt;
+    count = refl;
+    columns = record {
+      class = refl;
+      places = record {
+        wrong_is = none_wrong (uploads_in c.args.places);
+        named = λ none. c.requires;
+      };
+    };
+  };
+  begun = [];
+  kept = inl c.new-3.ensures.items;
+  lacks = tt;
+  split = λ more. refl;
+  told = refl;
+}

@@ -1,0 +1,79 @@
+-- Traced ledgers: what private functions alone cite.
+use Rattle.std.specs.Prelude.{◌≡◌, ◌⊎◌, ℕ, ◌<◌, List, ◌++◌, length, Option, None, Some, option_map}
+use Rattle.settled_texts.specs.Names.{class_by}
+use Rattle.tap_views.specs.declared.encoder.TapFields.{TapFields}
+use Rattle.ledger_check.specs.Columns.{untraced_lines}
+use Rattle.ledger_check.specs.Lines.{Lacks, lines_of}
+use Rattle.ledger_check.specs.Places.{is_named, uploads_of}
+use Rattle.ledger_check.specs.declared.places.Places.{Places}
+use Rattle.omny_audit.specs.Traced.{AreLinesOf, AreRead, ReadLine, Wanted, have_place, lines_read}
+use Rattle.omny_audit.specs.Traced.{wrong_class, wrong_place}
+use Rattle.omny_audit.specs.declared.traced.LinesRead.{LinesRead}
+use Rattle.omny_audit.specs.declared.traced.PlaceFault.{PlaceFault}
+use Rattle.omny_audit.specs.declared.traced.Trace.{Trace}
+
+-- the good taps of the uploads whose places are kept
+abbrev pub uploads_in : Option Places → Option (List (List TapFields))
+uploads_in places = option_map uploads_of places
+
+-- the first line that has a wrong place, if there are uploads
+abbrev pub wrong_place_in : Option (List (List TapFields)) → List ReadLine → Option PlaceFault
+wrong_place_in None read = None
+wrong_place_in (Some uploads) read = wrong_place uploads read
+
+-- the places that were named are those of the lines
+abbrev pub HaveNamed : Option Places → List ReadLine → Type 0
+HaveNamed None read = Unit {0}
+HaveNamed (Some places) read =
+    (upload place : ℕ) → is_named places upload place ≡ have_place read upload place
+
+-- the places of the lines were looked at
+pub record HasPlaces (places : Option Places) (wrong : Option PlaceFault) (read : List ReadLine)
+    : Type 0 where
+  pub wrong_is : wrong ≡ wrong_place_in (uploads_in places) read
+  pub named : wrong ≡ None → HaveNamed places read
+
+-- the columns of the lines were looked at
+pub record HasColumns (so_far : LinesRead) (read : List ReadLine) : Type 0 where
+  pub class : so_far.wrong_class ≡ wrong_class (class_by so_far.names) read
+  pub places : HasPlaces so_far.places so_far.wrong_place read
+
+-- these lines were read
+pub record HasLines (so_far : LinesRead) (read : List ReadLine) : Type 0 where
+  pub are : AreRead read
+  pub count : so_far.lines ≡ length read
+  pub columns : HasColumns so_far read
+
+-- of the text all is kept, or more than the longest line has
+abbrev pub IsKeptOf : List ℕ → List ℕ → Type 0
+IsKeptOf kept text = (kept ≡ text) ⊎ ((352 < length kept) × (352 < length text))
+
+-- the trace has read this file: these whole lines, and some of the next one; and this was read in
+-- their place
+pub record HasTraced (trace : Trace) (file text : List ℕ) (read : List ReadLine) : Type 0 where
+  pub lines : HasLines trace.so_far read
+  pub begun : List ℕ
+  pub kept : IsKeptOf trace.begun.items begun
+  pub lacks : Lacks 10 begun
+  pub split : (more : List ℕ) → lines_of (file ++ more) ≡ lines_read read ++ lines_of (begun ++ more)
+  pub told : text ≡ untraced_lines (lines_read read)
+
+-- the file was read so far, and this in its place
+abbrev pub HasReadAs : Option Trace → List ℕ → List ℕ → Type 0
+HasReadAs None file text = text ≡ file
+HasReadAs (Some trace) file text = (read : List ReadLine) × HasTraced trace file text read
+
+-- the file was read whole
+abbrev pub HasReadAll : Option Trace → List ℕ → Type 0
+HasReadAll None file = Unit {0}
+HasReadAll (Some trace) file =
+    (read : List ReadLine) × AreLinesOf file read × HasColumns trace.so_far read
+
+-- what the columns are held against
+abbrev pub wanted_of : LinesRead → Wanted
+wanted_of so_far =
+    record { classes = class_by so_far.names; uploads = uploads_in so_far.places }
+
+-- what the columns are held against, if the ledger is traced
+abbrev pub wanted_by : Option Trace → Option Wanted
+wanted_by trace = option_map (λ t. wanted_of t.so_far) trace

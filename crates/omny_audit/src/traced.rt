@@ -1,0 +1,538 @@
+//! A traced ledger, read as a ledger, and what is wrong with its columns.
+
+ghost use Rattle.std.specs.Prelude.{◌≡◌, ◌+◌, ◌&&◌, ◌<◌, ◌++◌, ◌∷◌, [], ℕ, List, IfOk, IfSome, None};
+ghost use Rattle.std.specs.Prelude.{OnOk, Option, Some, false, is_some, length, not, option_map};
+ghost use Rattle.std.specs.Prelude.{string_bytes, true};
+ghost use Rattle.std.specs.Option.{option_or};
+ghost use Rattle.tap_views.specs.declared.encoder.TapFields.{TapFields as ATap};
+ghost use Rattle.settled_texts.specs.Names.{class_by};
+ghost use Rattle.ledger_check.specs.Columns.{TracedLine, cut_of, read_as, untraced_by, untraced_line};
+ghost use Rattle.ledger_check.specs.Columns.{untraced_lines};
+ghost use Rattle.ledger_check.specs.Lines.{IsLine, lines_of};
+ghost use Rattle.ledger_check.specs.Places.{HasUploads, is_named, uploads_of};
+ghost use Rattle.ledger_check.specs.Taps.{IsTapOfLine};
+ghost use Rattle.omny_audit.specs.Traced.{AreColumnsTold, AreLinesOf, IsFaultBehind, IsPlaceFault};
+ghost use Rattle.omny_audit.specs.Traced.{ReadLine, Wanted, class_fault, class_text, fault_by};
+ghost use Rattle.omny_audit.specs.Traced.{place_fault_text, place_text, traced_by};
+ghost use Rattle.omny_audit.specs.declared.traced.PlaceFault.{PlaceFault as AFault};
+ghost use Rattle.omny_audit.specs.declared.traced.PlaceFault.TheVariants.{NoLine, OtherTap, Repeated};
+ghost use Rattle.omny_audit.specs.inside.Traced.{HasColumns, HasLines, HasPlaces, HasReadAll};
+ghost use Rattle.omny_audit.specs.inside.Traced.{HasReadAs, HasTraced, HaveNamed, IsKeptOf};
+ghost use Rattle.omny_audit.specs.inside.Traced.{uploads_in, wanted_by, wanted_of, wrong_place_in};
+
+use crate::report::are_both;
+use fare_texts::head_line;
+use ledger_check::{
+    CutLine, PlaceFinding, Places, cut_line, same_bytes, split_line, tap_of_line, traced_head_line,
+};
+use settled_texts::ClassNames;
+use std::alloc::{AllocError, Global};
+use tap_views::TapFields;
+
+/// The most bytes of a traced ledger's line, with its line feed.
+const MAX_LINE_BYTES: usize = 352;
+
+/// The first line that has another class than the one of its token.
+#[derive(Clone, Copy)]
+pub(crate) struct WrongClass {
+    /// The number of the line, from 1.
+    line: u64,
+    /// The token.
+    token: [u8; 16],
+}
+
+/// What is wrong with the places of the lines.
+#[derive(Clone, Copy)]
+pub(crate) enum PlaceFault {
+    /// The line of this number has another tap than stands at its place.
+    OtherTap {
+        /// The number of the line, from 1.
+        line: u64,
+        /// The number of the upload, from 0.
+        upload: u32,
+        /// The place in the upload, from 1.
+        place: u64,
+    },
+    /// The line of this number has the place of an earlier line.
+    Repeated {
+        /// The number of the line, from 1.
+        line: u64,
+        /// The number of the upload, from 0.
+        upload: u32,
+        /// The place in the upload, from 1.
+        place: u64,
+    },
+    /// No line has this place, where a tap stands.
+    NoLine {
+        /// The number of the upload, from 0.
+        upload: u64,
+        /// The place in the upload, from 1.
+        place: u64,
+    },
+}
+
+/// Appends what is read in place of a line that has not the form of a traced one.
+fn put_other(text: &mut Vec<u8>, line: &[u8]) -> Result<(), AllocError>
+    ensures { OnOk result (text.new.items ≡ text.old.items ++ untraced_by line.now None) }
+{
+    if same_bytes(line, traced_head_line()) {
+        text.extend_from_slice(head_line().as_bytes())?;
+        return Ok(());
+    }
+    text.push(b'\n')?;
+    Ok(())
+}
+
+/// Appends the fields as a line, and gives the tap that it tells, if it tells one. The line replaces
+/// what is in `line`, and the text in `again` is replaced.
+fn put_fields(
+    text: &mut Vec<u8>,
+    fields: &[u8],
+    line: &mut Vec<u8>,
+    again: &mut String,
+) -> Result<Option<TapFields>, AllocError>
+    requires { length fields.now < 255 }
+    ensures text { OnOk result (text.new.items ≡ text.old.items ++ (fields.now ++ 10 ∷ [])) }
+    ensures tap { IfOk result (IsTapOfLine (fields.now ++ 10 ∷ [])) }
+{
+    line.clear();
+    line.extend_from_slice(fields)?;
+    line.push(b'\n')?;
+    let whole = line.as_slice();
+    text.extend_from_slice(whole)?;
+    let tap = tap_of_line(whole, again)?;
+    Ok(tap)
+}
+
+/// The fault of a line with this tap and this class, if it has one.
+fn class_fault(
+    names: &ClassNames,
+    line: u64,
+    cut: &CutLine<'_>,
+    tap: &Option<TapFields>,
+) -> Option<WrongClass>
+    ensures { result ≡ class_fault (class_by names.now) line
+        (option_map (traced_by (cut_of cut.now)) tap.now) }
+{
+    let Some(tap) = tap else {
+        return None;
+    };
+    if same_bytes(names.class_of(&tap.token).as_bytes(), cut.class) {
+        return None;
+    }
+    Some(WrongClass {
+        line,
+        token: tap.token,
+    })
+}
+
+/// The fault of a line by what is found of its tap at its place.
+fn fault_by(line: u64, upload: u32, place: u64, finding: PlaceFinding) -> Option<PlaceFault>
+    ensures { result ≡ fault_by line upload place finding }
+{
+    match finding {
+        PlaceFinding::Right => None,
+        PlaceFinding::Another => Some(PlaceFault::OtherTap {
+            line,
+            upload,
+            place,
+        }),
+        PlaceFinding::Again => Some(PlaceFault::Repeated {
+            line,
+            upload,
+            place,
+        }),
+    }
+}
+
+/// Names the place of a line with this number and this tap, if there are uploads, and gives its
+/// fault, if it has one.
+fn name_place(
+    places: &mut Option<Places>,
+    number: u64,
+    cut: &CutLine<'_>,
+    tap: &Option<TapFields>,
+) -> Option<PlaceFault>
+    ensures uploads { uploads_in places.new ≡ uploads_in places.old }
+
+    // Behind lines of which none is wrong.
+    ensures place { (read : List ReadLine) (line : List ℕ) → HasPlaces places.old None read
+        → number ≡ length read + 1 → HasPlaces places.new result (record {
+          line = line;
+          traced = option_map (traced_by (cut_of cut.now)) tap.now;
+        } ∷ read) }
+{
+    let Some(tap) = tap else {
+        return None;
+    };
+    let Some(places) = places else {
+        return None;
+    };
+    let finding = places.name(cut.upload, cut.place, tap);
+    fault_by(number, cut.upload, cut.place, finding)
+}
+
+/// What is wrong first with the places: the fault of the lines, or else the first place that no line
+/// has.
+fn first_fault(places: &Places, wrong: &Option<PlaceFault>) -> Option<PlaceFault>
+    ensures { IsFaultBehind (uploads_of places.now) (is_named places.now) wrong.now result }
+{
+    if let Some(wrong) = wrong {
+        return Some(*wrong);
+    }
+    match places.first_unnamed() {
+        Some((upload, place)) => Some(PlaceFault::NoLine { upload, place }),
+        None => None,
+    }
+}
+
+/// The lines that were read.
+#[derive(Drop)]
+pub(crate) struct LinesRead {
+    /// The classes of the fare table.
+    names: ClassNames,
+    /// The good taps of the uploads, if there are uploads.
+    places: Option<Places>,
+    /// The last of them, without its columns.
+    line: Vec<u8>,
+    /// A moment, printed again.
+    again: String,
+    /// How many lines these are.
+    lines: u64,
+    /// The first of them that has another class than the one of its token.
+    wrong_class: Option<WrongClass>,
+    /// What is wrong with the place of the first line that has a wrong one.
+    wrong_place: Option<PlaceFault>,
+}
+
+impl LinesRead {
+    /// Looks at the class of a line with this number and this tap.
+    fn look_at_class(&mut self, number: u64, cut: &CutLine<'_>, tap: &Option<TapFields>)
+        ensures class { self.new.wrong_class ≡ option_or self.old.wrong_class
+            (class_fault (class_by self.old.names) number
+            (option_map (traced_by (cut_of cut.now)) tap.now)) }
+        ensures names { self.new.names ≡ self.old.names }
+        ensures places { self.new.places ≡ self.old.places }
+        ensures place { self.new.wrong_place ≡ self.old.wrong_place }
+        ensures lines { self.new.lines ≡ self.old.lines }
+    {
+        let fault = class_fault(&self.names, number, cut, tap);
+        self.wrong_class = self.wrong_class.or(fault);
+    }
+
+    /// Looks at the place of a line with this number and this tap, if no earlier one has a wrong one.
+    fn look_at_place(&mut self, number: u64, cut: &CutLine<'_>, tap: &Option<TapFields>)
+        ensures places { (read : List ReadLine) (line : List ℕ)
+            → HasPlaces self.old.places self.old.wrong_place read → number ≡ length read + 1
+            → HasPlaces self.new.places self.new.wrong_place (record {
+              line = line;
+              traced = option_map (traced_by (cut_of cut.now)) tap.now;
+            } ∷ read) }
+        ensures uploads { uploads_in self.new.places ≡ uploads_in self.old.places }
+        ensures class { self.new.wrong_class ≡ self.old.wrong_class }
+        ensures names { self.new.names ≡ self.old.names }
+        ensures lines { self.new.lines ≡ self.old.lines }
+    {
+        if self.wrong_place.is_some() {
+            return;
+        }
+        let fault = name_place(&mut self.places, number, cut, tap);
+        self.wrong_place = fault;
+    }
+
+    /// Reads the next line, of which as much was kept as tells its form, and appends what is read in
+    /// its place. 2^64 lines are taken for want of memory.
+    fn take(&mut self, line: &[u8], text: &mut Vec<u8>) -> Result<(), AllocError>
+        ensures wanted { wanted_of self.new ≡ wanted_of self.old }
+        ensures read { OnOk result ((whole : List ℕ) (read : List ReadLine)
+            → IsKeptOf line.now whole → HasLines self.old read → (next : ReadLine)
+            × (next.line ≡ whole) × HasLines self.new (next ∷ read)) }
+        ensures text { OnOk result ((whole : List ℕ) → IsKeptOf line.now whole
+            → text.new.items ≡ text.old.items ++ untraced_line whole) }
+    {
+        let Some(number) = self.lines.checked_add(1) else {
+            return Err(AllocError);
+        };
+        let Some(cut) = cut_line(line) else {
+            put_other(text, line)?;
+            self.lines = number;
+            return Ok(());
+        };
+        let tap = put_fields(text, cut.fields, &mut self.line, &mut self.again)?;
+        self.look_at_class(number, &cut, &tap);
+        self.look_at_place(number, &cut, &tap);
+        self.lines = number;
+        Ok(())
+    }
+}
+
+/// Appends the text to what is kept of a line, but no more than tells that the line is too long.
+fn keep(kept: &mut Vec<u8>, text: &[u8]) -> Result<(), AllocError>
+    ensures { OnOk result ((before : List ℕ) → IsKeptOf kept.old.items before
+        → IsKeptOf kept.new.items (before ++ text.now)) }
+{
+    if kept.len() > MAX_LINE_BYTES {
+        return Ok(());
+    }
+    let room = MAX_LINE_BYTES + 1 - kept.len();
+    if text.len() <= room {
+        kept.extend_from_slice(text)
+    } else {
+        kept.extend_from_slice(&text[..room])
+    }
+}
+
+/// A traced ledger that comes in pieces. It keeps no more of it than the beginning of a line.
+#[derive(Drop)]
+pub(crate) struct Trace {
+    /// The whole lines.
+    so_far: LinesRead,
+    /// The beginning of the line whose end has not come yet.
+    begun: Vec<u8>,
+}
+
+impl Trace {
+    /// Nothing was read. The places, if there are uploads, are theirs, and none was named.
+    pub(crate) fn new(alloc: Global, names: ClassNames, places: Option<Places>) -> Trace
+        requires { HaveNamed places [] }
+        ensures read { HasTraced result [] [] [] }
+        ensures wanted { wanted_of result.so_far
+            ≡ record { classes = class_by names; uploads = uploads_in places } }
+    {
+        Trace {
+            so_far: LinesRead {
+                names,
+                places,
+                line: Vec::new(alloc),
+                again: String::new(alloc),
+                lines: 0,
+                wrong_class: None,
+                wrong_place: None,
+            },
+            begun: Vec::new(alloc),
+        }
+    }
+
+    /// Reads the next piece of the file, and appends what is read in place of its lines.
+    fn feed(&mut self, piece: &[u8], text: &mut Vec<u8>) -> Result<(), AllocError>
+        ensures wanted { wanted_of self.new.so_far ≡ wanted_of self.old.so_far }
+
+        // After all that was read so far.
+        ensures read { OnOk result ((file told : List ℕ) (read : List ReadLine)
+            → HasTraced self.old file told read → (more : List ℕ) × (read' : List ReadLine)
+            × (text.new.items ≡ text.old.items ++ more)
+            × HasTraced self.new (file ++ piece.now) (told ++ more) read') }
+    {
+        let mut rest = piece;
+        while !rest.is_empty() {
+            let Some((line, behind)) = split_line(rest) else {
+                keep(&mut self.begun, rest)?;
+                return Ok(());
+            };
+            self.end_line(line, text)?;
+            rest = behind;
+        }
+        Ok(())
+    }
+
+    /// Reads the rest of a line, with its line feed.
+    fn end_line(&mut self, line: &[u8], text: &mut Vec<u8>) -> Result<(), AllocError>
+        requires line { IsLine line.now }
+        ensures wanted { wanted_of self.new.so_far ≡ wanted_of self.old.so_far }
+        ensures read { OnOk result ((file told : List ℕ) (read : List ReadLine)
+            → HasTraced self.old file told read → (more : List ℕ) × (read' : List ReadLine)
+            × (text.new.items ≡ text.old.items ++ more)
+            × HasTraced self.new (file ++ line.now) (told ++ more) read') }
+    {
+        if self.begun.is_empty() {
+            self.so_far.take(line, text)?;
+            return Ok(());
+        }
+        keep(&mut self.begun, line)?;
+        self.so_far.take(self.begun.as_slice(), text)?;
+        self.begun.clear();
+        Ok(())
+    }
+
+    /// Ends the file, and appends what is read in place of the line that its end cuts.
+    fn finish(&mut self, text: &mut Vec<u8>) -> Result<(), AllocError>
+        ensures wanted { wanted_of self.new.so_far ≡ wanted_of self.old.so_far }
+        ensures read { OnOk result ((file told : List ℕ) (read : List ReadLine)
+            → HasTraced self.old file told read → (more : List ℕ) × (read' : List ReadLine)
+            × (text.new.items ≡ text.old.items ++ more)
+            × (told ++ more ≡ untraced_lines (lines_of file)) × AreLinesOf file read'
+            × HasColumns self.new.so_far read') }
+    {
+        if self.begun.is_empty() {
+            return Ok(());
+        }
+        self.so_far.take(self.begun.as_slice(), text)?;
+        Ok(())
+    }
+
+    /// Appends what is found of the classes. Says whether all are right.
+    fn write_classes(&self, alloc: Global, text: &mut Vec<u8>) -> Result<bool, AllocError>
+        ensures text { OnOk result (text.new.items ≡ text.old.items
+            ++ class_text (class_by self.now.so_far.names) self.now.so_far.wrong_class) }
+        ensures right { IfOk result (λ right. right ≡ not (is_some self.now.so_far.wrong_class)) }
+    {
+        let told = class_line(alloc, &self.so_far.names, &self.so_far.wrong_class)?;
+        text.extend_from_slice(told.as_bytes())?;
+        Ok(self.so_far.wrong_class.is_none())
+    }
+
+    /// Appends what is found of the places, if there are uploads. Says whether all are right.
+    fn write_places(&self, alloc: Global, text: &mut Vec<u8>) -> Result<bool, AllocError>
+        ensures { IfOk result (λ right. (fault : Option AFault)
+            × (text.new.items ≡ text.old.items ++ place_text (uploads_in self.now.so_far.places) fault)
+            × (right ≡ not (is_some fault))
+            × ((read : List ReadLine)
+            → HasPlaces self.now.so_far.places self.now.so_far.wrong_place read
+            → IsPlaceFault (uploads_in self.now.so_far.places) read fault)) }
+    {
+        let Some(places) = &self.so_far.places else {
+            return Ok(true);
+        };
+        let fault = first_fault(places, &self.so_far.wrong_place);
+        let told = place_line(alloc, &fault)?;
+        text.extend_from_slice(told.as_bytes())?;
+        Ok(fault.is_none())
+    }
+}
+
+/// The line that tells what is found of the classes.
+#[tactic(auto, unfolding(crate::specs::Traced::class_text))]
+fn class_line(
+    alloc: Global,
+    names: &ClassNames,
+    wrong: &Option<WrongClass>,
+) -> Result<String, AllocError>
+    ensures { IfOk result (λ told. string_bytes told
+        ≡ class_text (class_by names.now) wrong.now) }
+{
+    match wrong {
+        None => format!(in alloc; "all classes of the table\n"),
+        Some(wrong) => {
+            let line = wrong.line;
+            let class = names.class_of(&wrong.token);
+            format!(in alloc; "line {line} has another class than {class}\n")
+        }
+    }
+}
+
+/// The line of a tap that does not stand at its place.
+#[tactic(auto, unfolding(crate::specs::Traced::place_fault_text))]
+fn other_tap_line(alloc: Global, line: u64, upload: u32, place: u64) -> Result<String, AllocError>
+    ensures { IfOk result (λ told. string_bytes told
+        ≡ place_fault_text (Some (OtherTap line upload place))) }
+{
+    format!(in alloc; "line {line} has another tap than upload {upload} has at place {place}\n")
+}
+
+/// The line of a place that an earlier line has.
+#[tactic(auto, unfolding(crate::specs::Traced::place_fault_text))]
+fn repeated_line(alloc: Global, line: u64, upload: u32, place: u64) -> Result<String, AllocError>
+    ensures { IfOk result (λ told. string_bytes told
+        ≡ place_fault_text (Some (Repeated line upload place))) }
+{
+    format!(in alloc; "line {line} has upload {upload} place {place} again\n")
+}
+
+/// The line of a place that no line has.
+#[tactic(auto, unfolding(crate::specs::Traced::place_fault_text))]
+fn no_line_line(alloc: Global, upload: u64, place: u64) -> Result<String, AllocError>
+    ensures { IfOk result (λ told. string_bytes told
+        ≡ place_fault_text (Some (NoLine upload place))) }
+{
+    format!(in alloc; "no line has upload {upload} place {place}\n")
+}
+
+/// The line that tells what is found of the places.
+#[tactic(auto, unfolding(crate::specs::Traced::place_fault_text))]
+fn place_line(alloc: Global, fault: &Option<PlaceFault>) -> Result<String, AllocError>
+    ensures { IfOk result (λ told. string_bytes told ≡ place_fault_text fault.now) }
+{
+    match *fault {
+        None => format!(in alloc; "all places of the uploads\n"),
+        Some(
+            PlaceFault::OtherTap {
+                line,
+                upload,
+                place,
+            },
+        ) => other_tap_line(alloc, line, upload, place),
+        Some(
+            PlaceFault::Repeated {
+                line,
+                upload,
+                place,
+            },
+        ) => repeated_line(alloc, line, upload, place),
+        Some(PlaceFault::NoLine { upload, place }) => no_line_line(alloc, upload, place),
+    }
+}
+
+/// Reads the next piece of the ledger, and puts what is checked of it in place of the text: the
+/// piece, or without its columns what it ends of the lines of a traced ledger.
+pub(crate) fn read_piece(
+    trace: &mut Option<Trace>,
+    piece: &[u8],
+    text: &mut Vec<u8>,
+) -> Result<(), AllocError>
+    ensures wanted { wanted_by trace.new ≡ wanted_by trace.old }
+    ensures read { OnOk result ((file told : List ℕ) → HasReadAs trace.old file told
+        → HasReadAs trace.new (file ++ piece.now) (told ++ text.new.items)) }
+{
+    text.clear();
+    match trace {
+        Some(trace) => {
+            trace.feed(piece, text)?;
+            Ok(())
+        }
+        None => {
+            text.extend_from_slice(piece)?;
+            Ok(())
+        }
+    }
+}
+
+/// Ends the ledger, and puts what is left to be checked of it in place of the text.
+pub(crate) fn read_end(trace: &mut Option<Trace>, text: &mut Vec<u8>) -> Result<(), AllocError>
+    ensures wanted { wanted_by trace.new ≡ wanted_by trace.old }
+    ensures read { OnOk result ((file told : List ℕ) → HasReadAs trace.old file told
+        → (told ++ text.new.items ≡ read_as (is_some (wanted_by trace.new)) file)
+        × HasReadAll trace.new file) }
+{
+    text.clear();
+    match trace {
+        Some(trace) => {
+            trace.finish(text)?;
+            Ok(())
+        }
+        None => Ok(()),
+    }
+}
+
+/// Appends what is found of the columns, if the ledger is traced and they are looked at. Says
+/// whether they are right: those of a ledger that is not traced are.
+pub(crate) fn write_columns(
+    alloc: Global,
+    text: &mut Vec<u8>,
+    is_looked_at: bool,
+    trace: &Option<Trace>,
+) -> Result<bool, AllocError>
+    ensures { IfOk result (λ right. (told : List ℕ) × (text.new.items ≡ text.old.items ++ told)
+        × ((file : List ℕ) → (is_looked_at ≡ true → HasReadAll trace.now file)
+        → (read : List ReadLine)
+        × AreColumnsTold (wanted_by trace.now) is_looked_at file read told right)) }
+{
+    let Some(trace) = trace else {
+        return Ok(true);
+    };
+    if !is_looked_at {
+        return Ok(false);
+    }
+    let are_classes = trace.write_classes(alloc, text)?;
+    let are_places = trace.write_places(alloc, text)?;
+    Ok(are_both(are_classes, are_places))
+}
