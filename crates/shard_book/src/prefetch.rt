@@ -28,14 +28,11 @@ impl Counts {
 
 impl KeptAccount {
     /// Prefetch: reads the account and its counts, so that both cache lines are loaded when the tap
-    /// is posted. False only costs a second look-up.
+    /// is posted. True unless no cent more can be counted for an account without a window. False
+    /// only costs a second look-up.
     #[inline(always)]
     fn prefetch(&self) -> bool {
-        let is_open = match self.account.window() {
-            Some(window) => window.start < window.until,
-            None => true,
-        };
-        is_open & self.counts.prefetch()
+        self.account.window().is_some() | self.counts.prefetch()
     }
 }
 
@@ -50,7 +47,11 @@ impl Accounts {
         ensures counting { self.new.counting ≡ self.old.counting }
         ensures places { KeepPlaces (tokens_of self.old) (tokens_of self.new) }
     {
-        self.place(token, known)
+        if self.is_at(known, token) {
+            Ok(known)
+        } else {
+            self.open(token)
+        }
     }
 
     /// Prefetch: reads what is kept at the place, and returns the place, or `NO_PLACE`.
@@ -91,6 +92,9 @@ impl ShardBook {
     }
 
     /// Looks up the accounts of the next taps, and opens those that are missing. Nothing is posted.
+    ///
+    /// Kept out of the posting, so that the registers of either loop are its own.
+    #[inline(never)]
     fn prefetch(&mut self, ahead: &mut RunTaps, places: &mut [u32; AT_ONCE]) -> Result<(), NoMemory>
         ensures { self.new ≡ self.old }
     {
