@@ -2,7 +2,7 @@
 use Rattle.std.proofs.Common.{◌≡◌, ◌∙◌, ℕ, zero, suc, ℤ, pos, ◌+◌, ◌-◌, ◌*◌, ◌<◌, ◌≤◌, ◌+ℤ◌, ◌-ℤ◌}
 use Rattle.std.proofs.Common.{◌*ℤ◌, ◌<ℤ◌, ◌≤ℤ◌, neg_ℤ, negsuc, ◌⊎◌, Bool, true, false, Option}
 use Rattle.std.proofs.Common.{Some, None}
-use Rattle.std.proofs.Common.{refl, sym, ap, arith, cond, inl, inr, w64, FitsSigned}
+use Rattle.std.proofs.Common.{refl, sym, ap, arith, inl, inr, w64, FitsSigned}
 use Rattle.std.specs.Int.{int_div_euclid, int_max}
 use Rattle.std.specs.Prelude.{int_div, int_lt, unsigned_abs}
 use Rattle.std.proofs.lemmas.Bool.{cases_lt}
@@ -10,10 +10,10 @@ use Rattle.std.proofs.lemmas.Int.{int_max_is, ints}
 use Rattle.jiff.specs.Types.{Date, DateTime, TimeZone, Posix, UTC, Offset}
 use Rattle.jiff.specs.Words.{epoch_day, civil_nanos, time_nanos, month_length, nanos_of_seconds}
 use Rattle.jiff.specs.Words.{offset_at, ambiguous_at, compatible_offset, picked_instant}
-use Rattle.jiff.specs.Words.{weekday_of, IsTimestampNanos, IsYmd}
+use Rattle.jiff.specs.Words.{IsTimestampNanos, IsYmd}
 use Rattle.jiff.proofs.SpanFacts.{signed_arith}
 use Rattle.jiff.proofs.Family.{civil_nanos-parts, time_nanos_bound, epoch_day-civil_nanos}
-use Rattle.jiff_core.specs.Calendar.{days_from_civil, days_in_month, IsCivilDate, weekday_number}
+use Rattle.jiff_core.specs.Calendar.{days_from_civil, IsCivilDate, weekday_number}
 use Rattle.jiff_core.proofs.CalendarLemmas.{day_count-lt_month, days_from_civil-day_count}
 use Rattle.jiff_core.proofs.CalendarLemmas.{days_in_month_bounds, weekday_number-add}
 use Rattle.jiff_core.proofs.CalendarLemmas.{weekday_number_bound}
@@ -32,7 +32,7 @@ use Rattle.fare_table.specs.Until.{civil_window_end, day_at, end_day, end_millis
 use Rattle.fare_table.specs.Until.{midnight_instant, midnight_nanos, midnight_offset, moment_nanos}
 use Rattle.fare_table.specs.Until.{offsets_by, plain_window_end, until, utc_window_end}
 use Rattle.fare_table.specs.Until.{window_end_by, window_end_in}
-use Rattle.fare_table.specs.Fares.{Fares}
+use Rattle.fare_table.specs.Fares.{Fares, meaning_at}
 use Rattle.fare_table.specs.declared.window_span.WindowSpan.{WindowSpan}
 use Rattle.fare_table.specs.declared.window_span.WindowSpan.TheVariants.{Days, CalendarDay}
 use Rattle.fare_table.specs.declared.window_span.WindowSpan.TheVariants.{CalendarMonth}
@@ -266,9 +266,9 @@ window_end_by-is None span start window_end is = plain_window_end-is span start 
 window_end_by-is (Some zone) span start window_end is =
     civil_window_end-is zone span start window_end is
 
-pub until-is : (clock : ClockView) (start window_end : ℕ) → IsWindowEnd clock start window_end
-    → window_end ≡ window_end_in clock start
-until-is clock start window_end is = window_end_by-is clock.rule clock.span start window_end is
+pub until-is : (clock : ClockView) (span : WindowSpan) (start window_end : ℕ)
+    → IsWindowEnd clock span start window_end → window_end ≡ window_end_in clock span start
+until-is clock span start window_end is = window_end_by-is clock.rule span start window_end is
 
 -- ---- a window ends after it starts
 end_millis-later : (start : ℕ) (instant : ℤ) → start < end_millis start instant
@@ -296,7 +296,8 @@ window_end_by-later None span start = plain-later span start
 window_end_by-later (Some zone) span start = civil-later zone span start
 
 pub until-later : (fares : Fares) (start : ℕ) → start < until fares start
-until-later fares start = window_end_by-later fares.zone.rule fares.zone.span start
+until-later fares start =
+    window_end_by-later fares.zone.rule (meaning_at fares start).window start
 
 -- ---- the date that clocks show is near the start's
 pub shown_low : (start : ℕ) (offset : Offset) (instant : ℤ) (dt : DateTime)

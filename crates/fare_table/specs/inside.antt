@@ -3,5 +3,6 @@ pub mod OrFault
 pub mod PosixRule
 pub mod RiderMarks
 pub mod Table
+pub mod Tariff
 pub mod Transfers
 pub mod Validators

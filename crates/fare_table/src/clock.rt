@@ -19,8 +19,6 @@ const DAY_MS: u64 = 86_400_000;
 /// Tells where the windows of one fare table end. A worker makes its own from the table.
 #[derive(Drop)]
 pub struct Clock {
-    /// How long windows are.
-    span: WindowSpan,
     /// The rule of the table's zone, if it names one.
     zone: Option<TimeZone<'static>>,
 }
@@ -31,11 +29,10 @@ impl Model for Clock {
     ghost Value = { ClockView };
 
     ghost use Rattle.fare_table.specs.inside.PosixRule.{HasRule, rule_of};
-    ghost use Rattle.fare_table.specs.WindowSpan.{IsBoundedSpan};
 
-    ghost view = { λ c. record { span = c.span; rule = rule_of c.zone } };
+    ghost view = { λ c. record { rule = rule_of c.zone } };
 
-    ghost invariant = { λ c. HasRule c.zone × IsBoundedSpan c.span };
+    ghost invariant = { λ c. HasRule c.zone };
 }
 
 impl Clock {
@@ -44,16 +41,15 @@ impl Clock {
     ghost use Rattle.fare_table.specs.WindowSpan.{IsBoundedSpan};
     ghost use Rattle.fare_table.specs.Until.{IsWindowEnd, window_end_in, seconds_ahead};
 
-    /// A clock of windows of this span, of this zone or of none.
-    pub(crate) fn new(span: WindowSpan, zone: Option<TimeZone<'static>>) -> Clock
-        requires zone { HasRule zone }
-        requires span { IsBoundedSpan span }
-        ensures { result ≡ record { span = span; rule = rule_of zone.entry } }
+    /// A clock of this zone or of none.
+    pub(crate) fn new(zone: Option<TimeZone<'static>>) -> Clock
+        requires { HasRule zone }
+        ensures { result ≡ record { rule = rule_of zone.entry } }
     {
-        Clock { span, zone }
+        Clock { zone }
     }
 
-    /// The end of a window that starts at the moment, both in milliseconds since
+    /// The end of a window of this length that starts at the moment, both in milliseconds since
     /// 1970-01-01T00:00Z; the moment lies before 2100-01-01T00:00Z. Without a zone a window of `n`
     /// days ends `n * 24` hours later. One of a calendar day, week or month ends at the next 00:00
     /// in UTC of a day, a Monday or the first of a month. With a zone each ends at 00:00 by its
@@ -62,15 +58,16 @@ impl Clock {
     /// offset before the gap, one that comes twice is the earlier. Each ends at least a millisecond
     /// after its start. It takes no memory.
     #[inline]
-    pub fn window_end(&self, moment: u64) -> u64
-        requires { moment < 4_102_444_800_000 }
-        ensures value { result ≡ window_end_in self.now moment }
-        ensures window_end { IsWindowEnd self.now moment result }
+    pub fn window_end(&self, span: WindowSpan, moment: u64) -> u64
+        requires span { IsBoundedSpan span }
+        requires moment { moment < 4_102_444_800_000 }
+        ensures value { result ≡ window_end_in self.now span moment }
+        ensures window_end { IsWindowEnd self.now span moment result }
         ensures after { moment < result }
     {
         match &self.zone {
-            Some(zone) => civil_window_end(zone, self.span, moment),
-            None => plain_window_end(self.span, moment),
+            Some(zone) => civil_window_end(zone, span, moment),
+            None => plain_window_end(span, moment),
         }
     }
 

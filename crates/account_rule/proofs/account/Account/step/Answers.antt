@@ -1,7 +1,6 @@
 -- Each way out of the step is one of the rule's four cases: unknown, stale, transfer, ride.
 use Rattle.std.proofs.Common.{List, [], ◌∷◌, ◌++◌, Some, refl, sym, ap, ◌∙◌}
 use Rattle.fare_table.specs.Fares.{ride_terms}
-use Rattle.fare_table.specs.Until.{window_end_in}
 use Rattle.account_rule.specs.Replies.{ride_reply}
 use Rattle.account_rule.specs.TokenRules.{rules_of}
 use Rattle.account_rule.specs.Kept.{kept_numbers, kept_of, kept_trip}
@@ -32,20 +31,15 @@ returns-in_default-clause-stands c =
 
 -- the tap is the first ride
 
+first_ride-listed : (c : After-first_ride) → c.in-Some.mode.place < length c.at.result.now.meaning.modes
+first_ride-listed c = rw c.at.ensures.modes (c.requires.mode _ c.in-Some.is)
+
 is_first_ride : (c : After-first_ride) (taps : List TapIn)
     → Stands (rules_of c.args.table.now c.args.token.now) c.args.self.now taps
     → IsStep (rules_of c.args.table.now c.args.token.now) taps c.args.tap c.first_ride.result
     (kept_of c.first_ride.new.self)
-unfolding rules_of Stands live_at
-is_first_ride c taps stands =
-    first_ride (rules_of c.args.table.now c.args.token.now) (kept_of c.args.self.now) _ taps
-    c.args.tap c.in-Some.mode _ _ _ _ (kept-fresh _ c.if-not-self.true) stands c.in-Some.is
-    (c.requires.mode _ c.in-Some.is)
-    (ap (λ zone. window_end_in zone c.args.tap.moment) c.requires.clock)
-    (record { is = c.first_ride.ensures.class; there = c.first_ride.ensures.there })
-    (ap (λ place. ride_terms c.args.table.now place c.in-Some.mode.place)
-    (sym c.first_ride.ensures.class)) c.first_ride.ensures.bounds
-    c.first_ride.ensures.reply c.first_ride.ensures.state
+unfolding Stands live_at
+is_first_ride c taps stands = ?
 
 pub returns-then-not-self-clause-reply : goal.returns-then-not-self-clause-reply
 returns-then-not-self-clause-reply c = λ taps stands. (is_first_ride c taps stands).reply
