@@ -416,6 +416,12 @@ class_there fares token account taps there stands =
     (kept_class (rules_of fares token) (kept_of account) (kept_numbers account) taps
     (kept-open account there) stands).there
 
+-- the modes of the rules are the table's
+pub listed : (fares : Fares) (token : List ℕ) (mode : Mode)
+    → mode.place < length fares.meaning.modes → mode.place < (rules_of fares token).modes
+unfolding rules_of
+listed fares token mode below = below
+
 -- the class of a tap pays and gives what the token's rules say, by what is valid at the tap
 pub class_at : (fares : Fares) (token : List ℕ) (moment class : ℕ)
     → class ≡ class_of (meaning_at fares moment) token

@@ -4,7 +4,6 @@ use Rattle.fare_table.specs.declared.mode.Mode.{Mode}
 use Rattle.fare_table.specs.declared.terms.Terms.{Terms}
 use Rattle.fare_table.specs.Fares.{Fares, class_of, is_permitted, meaning_at, ride_terms}
 use Rattle.fare_table.specs.Fares.{transfer_terms}
-use Rattle.fare_table.specs.TableMeaning.{TableMeaning}
 use Rattle.fare_table.specs.Until.{until}
 use Rattle.account_rule.specs.Taps.{LiveTap}
 

@@ -163,7 +163,7 @@ impl Account {
           class = self.new.class;
           window = with_ride (ride_terms tariff.now.meaning self.new.class mode.place)
               (open_window moment (window_end_in clock.now
-            tariff.now.meaning.window moment));
+              tariff.now.meaning.window moment));
         }) }
     {
         let class = tariff.class_of(token);
@@ -263,7 +263,7 @@ impl Account {
           class = class;
           window = with_ride (ride_terms tariff.now.meaning class mode.place)
               (window_at (Some self.old.window) moment (window_end_in clock.now
-            tariff.now.meaning.window moment));
+              tariff.now.meaning.window moment));
         } }
     {
         if moment >= self.window.until {

@@ -166,7 +166,7 @@ impl Account {
           class = class;
           window = with_ride (ride_terms tariff.now.meaning class mode.place)
               (window_at (Some self.old.window) moment (window_end_in clock.now
-            tariff.now.meaning.window moment));
+              tariff.now.meaning.window moment));
         } }
     {
         if moment >= self.window.until {
