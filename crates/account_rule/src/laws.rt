@@ -4,7 +4,8 @@
 ghost use Rattle.account_rule.specs.Reasons.{GiversAreRides, RepliesFollow};
 ghost use Rattle.account_rule.specs.Laws.{EqualFaresAreChargedByPlaces, HigherTermsAreNeverCheaper};
 ghost use Rattle.account_rule.specs.Laws.{TripsAreTheOnlyBlocks, WindowsAreTheOnlyBlocks};
-ghost use Rattle.account_rule.specs.Laws.{WindowsKeepTheCeiling, WindowsKeepTheRideLimit};
+ghost use Rattle.account_rule.specs.Laws.{WindowsGrowWithinLimits, WindowsKeepTheCeiling};
+ghost use Rattle.account_rule.specs.Laws.{WindowsKeepTheRideLimit};
 ghost use Rattle.account_rule.specs.Laws.{WindowsShareTheCents, WindowsShareThePaidRides};
 ghost use Rattle.account_rule.specs.Laws.{WindowsShareTheRides};
 ghost use Rattle.account_rule.specs.NoTransfers.{RidesLackTransfers};
@@ -22,6 +23,12 @@ pub fn only_blocks()
 pub fn windows_keep_limits()
     ensures rides { WindowsKeepTheRideLimit }
     ensures ceiling { WindowsKeepTheCeiling }
+{}
+
+/// With each ride of a window its paid rides stay as many as they were or within the ride's limit, and
+/// its cents stay as they were or within the ride's ceiling, also where the terms of its rides differ.
+pub fn windows_grow_within_limits()
+    ensures { WindowsGrowWithinLimits }
 {}
 
 /// What was charged is shared out among the windows: each reply to a ride is that of its charge in
