@@ -1,6 +1,7 @@
 //! What holds of every list of taps: laws over the definitions of `specs/`, each the contract of
 //! a function that does nothing.
 
+ghost use Rattle.account_rule.specs.Agreement.{AgreeingRulesReplyAlike, TablesWaitForTheirDate};
 ghost use Rattle.account_rule.specs.Reasons.{GiversAreRides, RepliesFollow};
 ghost use Rattle.account_rule.specs.Laws.{EqualFaresAreChargedByPlaces, HigherTermsAreNeverCheaper};
 ghost use Rattle.account_rule.specs.Laws.{TripsAreTheOnlyBlocks, WindowsAreTheOnlyBlocks};
@@ -65,4 +66,14 @@ pub fn rides_lack_transfers()
 pub fn replies_follow_reasons()
     ensures replies { RepliesFollow }
     ensures givers { GiversAreRides }
+{}
+
+/// Rules that say the same of each tap of a list give it the same replies.
+pub fn agreeing_rules_reply_alike()
+    ensures { AgreeingRulesReplyAlike }
+{}
+
+/// Taps that are all before the date of a table are charged as by the tables before it alone.
+pub fn tables_wait_for_their_date()
+    ensures { TablesWaitForTheirDate }
 {}

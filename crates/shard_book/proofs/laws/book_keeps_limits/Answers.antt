@@ -9,16 +9,21 @@ use Rattle.tap_views.specs.Token.{bytes_of}
 use Rattle.shard_book.proofs.WindowsLemmas.{replies-own, paid-own, cents-own}
 use Rattle.shard_book.proofs.laws.book_keeps_limits.Goals as goal
 
+valid_alone : (table : Fares) (moment : ℕ) → table.later ≡ []
+    → meaning_at table moment ≡ table.meaning
+unfolding meaning_at valid_at
+valid_alone table moment alone = ap (λ later. valid_at table.meaning later moment) alone
+
 -- under one table the token has one class, whose limits are those of each ride
 one_ride_limit : (table : Fares) (token : List ℕ) (ride : LiveTap) → table.later ≡ []
     → ((rules_of table token).terms ride).rides ≤ (terms_at table.meaning token).rides
-unfolding rules_of token_class meaning_at valid_at
-one_ride_limit table token ride alone = ?
+unfolding rules_of token_class
+one_ride_limit table token ride alone = rw (valid_alone table ride.moment alone) (omega arith)
 
 one_ceiling : (table : Fares) (token : List ℕ) (ride : LiveTap) → table.later ≡ []
     → ((rules_of table token).terms ride).ceiling ≤ (terms_at table.meaning token).ceiling
-unfolding rules_of token_class meaning_at valid_at
-one_ceiling table token ride alone = ?
+unfolding rules_of token_class
+one_ceiling table token ride alone = rw (valid_alone table ride.moment alone) (omega arith)
 
 pub returns : goal.returns
 returns c = λ token.
