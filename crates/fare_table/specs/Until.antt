@@ -53,6 +53,14 @@ pub record IsCivilWindowEnd (zone : TimeZone) (span : WindowSpan) (start window_
   pub at : moment_nanos window_end
       ≡ int_max (moment_nanos (start + 1)) (picked_instant zone midnight)
 
+-- The date begins at the instant by the clocks of the zone. A midnight that is skipped takes the offset
+-- before the gap, and of one that comes twice the earlier counts.
+pub record IsMidnight (zone : TimeZone) (date : Date) (instant : ℤ) : Type 0 where
+  pub midnight : DateTime
+  pub is_date : midnight.date ≡ date
+  pub time : time_nanos midnight.time ≡ 0
+  pub at : instant ≡ picked_instant zone midnight
+
 -- a day in milliseconds
 abbrev pub day_millis : ℕ
 day_millis = 86_400_000
@@ -117,6 +125,11 @@ midnight_offset zone day =
 abbrev pub midnight_instant : PosixRule → ℤ → ℤ
 midnight_instant zone day =
     midnight_nanos day -ℤ nanos_of_seconds (midnight_offset zone day).seconds
+
+-- the instant at which a day begins, in the zone or without one in UTC
+abbrev pub midnight_by : Option PosixRule → ℤ → ℤ
+midnight_by None day = midnight_nanos day
+midnight_by (Some zone) day = midnight_instant zone day
 
 -- the day that clocks of the zone show at an instant
 abbrev pub day_at : PosixRule → ℤ → ℤ
