@@ -28,8 +28,12 @@ returns-in-Some c =
 pub returns-in-None : goal.returns-in-None
 returns-in-None c =
     let fits : FitsSigned w64 c.midnight_millis-in-None.result =
-    omega (arith, signed_arith, c.midnight_millis-in-None.ensures.low,
-    c.midnight_millis-in-None.ensures.high) in
+    omega (
+      arith,
+      signed_arith,
+      c.midnight_millis-in-None.ensures.low,
+      c.midnight_millis-in-None.ensures.high,
+    ) in
     simp to_z-of_z
     (midnight-utc c.args.date _ c.midnight_millis-in-None.ensures.at
     ∙ ap (λ (z : Option PosixRule). midnight_by z (epoch_day c.args.date))

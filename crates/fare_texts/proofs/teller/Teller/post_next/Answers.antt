@@ -47,7 +47,9 @@ same_tap : (fares : Fares) (entry : Entry) (mode : Option Mode) (validator momen
     → entry.validator ≡ validator → entry.moment ≡ moment
     → record { moment = moment; mode = mode } ≡ tap_of fares entry
 same_tap fares entry mode validator moment known at when =
-    sym (tap_of-post fares entry mode (known ∙ (λ i. mode_at fares (when (~ i)) (at (~ i))))
+    let moved = sym when in
+    let known_at = sym at in
+    sym (tap_of-post fares entry mode (known ∙ (λ i. mode_at fares (moved i) (known_at i)))
     ∙ ap (λ (m : ℕ). record { moment = m; mode = mode }) when)
 
 pub explain_step-reason-requires-clause-stands : goal.explain_step-reason-requires-clause-stands
