@@ -30,5 +30,6 @@ pub use balance::{Balance, Difference};
 pub use bytes::{field, same_bytes, split_line};
 pub use checker::{Checker, Verdict};
 pub use full_balance::FullBalance;
+pub use moment::read_moment;
 pub use recount::Recount;
 pub use tap::read_small_number;
