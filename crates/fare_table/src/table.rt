@@ -258,7 +258,8 @@ impl FareTable {
 
     /// How long windows are.
     pub fn window_span(&self) -> WindowSpan
-        ensures { result ≡ self.now.meaning.window }
+        ensures window { result ≡ self.now.meaning.window }
+        ensures bounds { IsBoundedSpan result }
     {
         self.first.window_span()
     }
