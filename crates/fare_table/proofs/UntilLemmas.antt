@@ -30,7 +30,8 @@ use Rattle.jiff_tz.specs.Year.{year_of_day}
 use Rattle.jiff_tz.specs.declared.posix.Dst.{Dst}
 use Rattle.jiff_tz.specs.declared.posix.TimeZone.{TimeZone as PosixRule}
 use Rattle.fare_table.specs.ClockView.{ClockView}
-use Rattle.fare_table.specs.Until.{IsCivilWindowEnd, IsEndDate, IsMidnight, IsPlainWindowEnd}
+use Rattle.fare_table.specs.Until.{IsCivilWindowEnd, IsEndDate, IsPlainWindowEnd}
+use Rattle.fare_table.specs.inside.Midnight.{IsMidnight}
 use Rattle.fare_table.specs.Until.{IsWindowEnd}
 use Rattle.fare_table.specs.PosixRule.{posix_rule}
 use Rattle.fare_table.specs.Until.{IsWindowEndBy}

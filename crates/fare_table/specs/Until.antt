@@ -53,14 +53,6 @@ pub record IsCivilWindowEnd (zone : TimeZone) (span : WindowSpan) (start window_
   pub at : moment_nanos window_end
       ≡ int_max (moment_nanos (start + 1)) (picked_instant zone midnight)
 
--- The date begins at the instant by the clocks of the zone. A midnight that is skipped takes the offset
--- before the gap, and of one that comes twice the earlier counts.
-pub record IsMidnight (zone : TimeZone) (date : Date) (instant : ℤ) : Type 0 where
-  pub midnight : DateTime
-  pub is_date : midnight.date ≡ date
-  pub time : time_nanos midnight.time ≡ 0
-  pub at : instant ≡ picked_instant zone midnight
-
 -- a day in milliseconds
 abbrev pub day_millis : ℕ
 day_millis = 86_400_000

@@ -4,7 +4,8 @@ ghost use Rattle.std.specs.Int.{int_max};
 ghost use Rattle.jiff.specs.Words.{epoch_day};
 ghost use Rattle.jiff.specs.ZoneView.{plain_zone};
 ghost use Rattle.fare_table.specs.WindowSpan.{IsBoundedSpan};
-ghost use Rattle.fare_table.specs.Until.{IsCivilWindowEnd, IsEndDate, IsMidnight, IsPlainWindowEnd};
+ghost use Rattle.fare_table.specs.Until.{IsCivilWindowEnd, IsEndDate, IsPlainWindowEnd};
+ghost use Rattle.fare_table.specs.inside.Midnight.{IsMidnight};
 ghost use Rattle.fare_table.specs.Until.{moment_nanos};
 
 use crate::window_span::WindowSpan;
