@@ -1,6 +1,6 @@
 -- What the rides of a window cost, one after the other, and that no window exceeds its limits.
 use Rattle.std.proofs.Common.{◌≡◌, ℕ, suc, ◌+◌, ◌-◌, ◌<◌, ◌≤◌, true, false, ◌⊎◌, cond, List}
-use Rattle.std.proofs.Common.{[], ◌∷◌, ◌++◌, length, min, leb, Some, None, refl, sym, ap, ◌∙◌, inl}
+use Rattle.std.proofs.Common.{[], ◌∷◌, ◌++◌, length, max, min, leb, Some, None, refl, sym, ap, ◌∙◌, inl}
 use Rattle.std.proofs.Common.{inr, arith, All, sum_by, Option}
 use Rattle.std.specs.Prelude.{count_by}
 use Rattle.std.specs.List.{last_or}
@@ -230,3 +230,53 @@ pub window_cents-le : (terms : LiveTap → Terms) (ceiling : ℕ) (window : List
 unfolding window_cents charges
 window_cents-le terms ceiling window all =
     omega (arith, cents_from terms 0 0 ceiling window (omega arith) all)
+
+-- ---- one more ride, whatever the terms of those before it
+
+paid_count : (terms : LiveTap → Terms) (rides cents : ℕ) (window : List LiveTap)
+    → count_by is_paid (charges_after terms rides cents window) ≤ length window
+unfolding charges_after
+paid_count terms rides cents [] = omega arith
+paid_count terms rides cents (first ∷ window) =
+    let next = cents + charged_by (charge (terms first) rides cents) in
+    let rest = paid_count terms (suc rides) next window in
+    elim (charged (terms first) rides cents) [
+      | inl free ↦ omega (
+        arith,
+        rest,
+        count-free (charge (terms first) rides cents)
+            (charges_after terms (suc rides) next window) free.paid,
+      )
+      | inr paid ↦ omega (
+        arith,
+        rest,
+        count-paid (charge (terms first) rides cents)
+            (charges_after terms (suc rides) next window) paid.paid,
+      )
+    ]
+
+few_paid : (terms : LiveTap → Terms) (before : List LiveTap)
+    → paid_rides terms before ≤ length before
+unfolding paid_rides charges
+few_paid terms before = paid_count terms 0 0 before
+
+pub paid-grow : (terms : LiveTap → Terms) (before : List LiveTap) (ride : LiveTap)
+    → paid_rides terms (before ++ ride ∷ [])
+    ≤ max (paid_rides terms before) (terms ride).rides
+paid-grow terms before ride =
+    let few : paid_rides terms before ≤ length before = few_paid terms before in
+    elim (charged (terms ride) (length before) (window_cents terms before)) [
+      | inl free ↦ rw (paid-push terms before ride, free.paid) (omega arith)
+      | inr paid ↦ rw (paid-push terms before ride, paid.paid)
+          (omega (arith, few, paid.below_rides))
+    ]
+
+pub cents-grow : (terms : LiveTap → Terms) (before : List LiveTap) (ride : LiveTap)
+    → window_cents terms (before ++ ride ∷ [])
+    ≤ max (window_cents terms before) (terms ride).ceiling
+cents-grow terms before ride =
+    elim (charged (terms ride) (length before) (window_cents terms before)) [
+      | inl free ↦ rw (cents-push terms before ride, free.cost) (omega arith)
+      | inr paid ↦ rw (cents-push terms before ride, paid.cost)
+          (omega (arith, paid.below_ceiling))
+    ]

@@ -8,7 +8,10 @@ use Rattle.std.specs.List.{last_or}
 use Rattle.std.specs.Option.{option_and_then}
 use Rattle.std.proofs.lemmas.Bool.{ltb-true, lt-ltb, le-ltb}
 use Rattle.std.proofs.Math.Bool.{and-true}
-use Rattle.fare_table.specs.Fares.{Fares, class_of, ride_terms}
+use Rattle.fare_table.specs.ClockView.{ClockView}
+use Rattle.fare_table.specs.Fares.{Fares, class_of, meaning_at, ride_terms}
+use Rattle.fare_table.specs.TableMeaning.{TableMeaning}
+use Rattle.fare_table.specs.Until.{window_end_in}
 use Rattle.fare_table.specs.declared.mode.Mode.{Mode}
 use Rattle.fare_table.specs.Terms.{AreRideTerms}
 use Rattle.fare_table.specs.declared.terms.Terms.{Terms}
@@ -20,10 +23,12 @@ use Rattle.account_rule.specs.declared.window.Window.{Window}
 use Rattle.account_rule.specs.Trips.{TripEnd, ends_in_transfer, last_trip}
 use Rattle.account_rule.specs.Blocks.{last_block}
 use Rattle.account_rule.specs.Replies.{live_reply, reply, reply_with, ride_reply}
-use Rattle.account_rule.specs.TokenRules.{TokenRules, TransferRules, rules_of, transfers_of}
+use Rattle.account_rule.specs.TokenRules.{TokenRules, TransferRules, permits_of, rules_of}
+use Rattle.account_rule.specs.TokenRules.{token_class, transfers_of}
+use Rattle.account_rule.specs.NoTransfers.{no_transfer_from}
 use Rattle.account_rule.specs.Kept.{IsClass, IsRoomy, Kept, kept_numbers, is_after, kept_of}
 use Rattle.account_rule.specs.Kept.{kept_trip, kept_window}
-use Rattle.account_rule.specs.inside.Kept.{gives, open_window, window_at, with_ride}
+use Rattle.account_rule.specs.inside.Kept.{gives, open_window, transfers_in, window_at, with_ride}
 use Rattle.account_rule.specs.Stands.{KeepsOf, Stands, window_of}
 use Rattle.account_rule.specs.Taps.{LiveTap, is_later, live_at, live_tap}
 use Rattle.account_rule.specs.Windows.{charge, charges, paid_by, windows}
@@ -205,17 +210,18 @@ later_live state taps tap mode moment last known later =
     ∙ rw (known, ← last moment) (both state tap.moment moment later))
 
 keeps_class : (rules : TokenRules) (state next : Kept) → Some state ≡ Some next
-    → IsClass rules state.class → IsClass rules next.class
+    → IsClass rules state.last.moment state.class → IsClass rules next.last.moment next.class
 keeps_class rules state next some keeps =
-    let same : state ≡ next = cc in subst (λ (k : Kept). IsClass rules k.class) same keeps
+    let same : state ≡ next = cc in
+    subst (λ (k : Kept). IsClass rules k.last.moment k.class) same keeps
 
 -- the state after a transfer
-abbrev pub after_transfer : Kept → LiveTap → Kept
-after_transfer state tap = record {
+abbrev pub after_transfer : Kept → LiveTap → ℕ → Kept
+after_transfer state tap class = record {
   last = tap;
   ride = state.ride;
   given = state.given + 1;
-  class = state.class;
+  class = class;
   window = state.window;
 }
 
@@ -248,13 +254,14 @@ ride_mode_of_trip rules trip tap is listed =
 
 -- a live tap to which the last trip gives a transfer
 transfer_at : (rules : TokenRules) (state : Kept) (taps : List TapIn) (tap : TapIn) (mode : Mode)
-    → KeepsOf rules (Some state) taps
+    (class : ℕ) → KeepsOf rules (Some state) taps
     → tap.mode ≡ Some mode → mode.place < rules.modes → state.last.moment < tap.moment
     → gives rules.transfers (kept_trip (Some state)) (live_at tap.moment mode) ≡ true
+    → IsClass rules tap.moment class
     → IsStep rules taps tap (reply_with Transfer 0)
-    (Some (after_transfer state (live_at tap.moment mode)))
+    (Some (after_transfer state (live_at tap.moment mode) class))
 unfolding is_after kept_trip kept_window live_at
-transfer_at rules state taps tap mode stands known listed after given =
+transfer_at rules state taps tap mode class stands known listed after given its =
     let later : is_later taps tap.moment ≡ true =
     sym (stands.last tap.moment) ∙ lt-ltb state.last.moment tap.moment after in
     let shown : live_tap taps tap ≡ Some (live_at tap.moment mode) =
@@ -271,7 +278,7 @@ transfer_at rules state taps tap mode stands known listed after given =
             (lt-ltb state.last.moment tap.moment after);
         trip = rw (trip-push rules taps tap _ shown, gives_it, ← stands.trip) refl;
         window = rw (windows-transfer rules taps tap _ shown ends) stands.window;
-        class = λ next some. keeps_class rules _ next some (stands.class state refl);
+        class = λ next some. keeps_class rules _ next some its;
         mode = λ trip some. let same : tap_of_trip (Some trip) ≡ Some (live_at tap.moment mode) =
             ap tap_of_trip (sym some) in
             mode_of_trip rules trip (live_at tap.moment mode) same listed;
@@ -283,16 +290,18 @@ transfer_at rules state taps tap mode stands known listed after given =
     }
 
 pub transfer : (rules : TokenRules) (account : Option Kept) (state next : Kept) (taps : List TapIn)
-    (tap : TapIn) (mode : Mode)
+    (tap : TapIn) (mode : Mode) (class : ℕ)
     → account ≡ Some state → KeepsOf rules account taps → tap.mode ≡ Some mode
     → mode.place < rules.modes → state.last.moment < tap.moment
     → gives rules.transfers (kept_trip (Some state)) (live_at tap.moment mode) ≡ true
-    → next ≡ after_transfer state (live_at tap.moment mode)
+    → IsClass rules tap.moment class
+    → next ≡ after_transfer state (live_at tap.moment mode) class
     → IsStep rules taps tap (reply_with Transfer 0) (Some next)
-transfer rules account state next taps tap mode same stands known listed after given is_next =
+transfer rules account state next taps tap mode class same stands known listed after given its
+    is_next =
     subst (λ s. IsStep rules taps tap (reply_with Transfer 0) (Some s)) (sym is_next)
-    (transfer_at rules state taps tap mode (at_state rules account state taps same stands) known
-    listed after given)
+    (transfer_at rules state taps tap mode class (at_state rules account state taps same stands)
+    known listed after given its)
 
 -- a live tap to which no transfer is given
 ride_at : (rules : TokenRules) (state : Option Kept) (taps : List TapIn) (tap : TapIn) (mode : Mode)
@@ -301,7 +310,7 @@ ride_at : (rules : TokenRules) (state : Option Kept) (taps : List TapIn) (tap : 
     → tap.mode ≡ Some mode → mode.place < rules.modes → is_after state tap.moment ≡ true
     → gives rules.transfers (kept_trip state) (live_at tap.moment mode) ≡ false
     → window ≡ window_at (kept_window state) tap.moment (rules.until tap.moment)
-    → IsRoomy window → IsClass rules class
+    → IsRoomy window → IsClass rules tap.moment class
     → rules.terms (live_at tap.moment mode) ≡ terms → AreRideTerms terms
     → IsStep rules taps tap (ride_reply (paid_by (charge terms window.rides window.cents)))
     (Some (after_trip (live_at tap.moment mode) class (with_ride terms window)))
@@ -384,45 +393,97 @@ kept_room rules account state taps same stands =
     let kept : KeepsOf rules (Some state) taps = at_state rules account state taps same stands in
     kept.room state.window refl
 
--- what an account keeps has the token's class
+-- what an account keeps has the token's class at the last live tap
 pub kept_class : (rules : TokenRules) (account : Option Kept) (state : Kept) (taps : List TapIn)
-    → account ≡ Some state → KeepsOf rules account taps → IsClass rules state.class
+    → account ≡ Some state → KeepsOf rules account taps
+    → IsClass rules state.last.moment state.class
 kept_class rules account state taps same stands = stands.class state same
 
--- the class that an account with a window keeps is the token's, there is one, and it pays and gives
--- what the token's class does
+-- the class that an account with a window keeps is the token's, and there is one
 pub class_is : (fares : Fares) (token : List ℕ) (account : Account) (taps : List TapIn)
     → account.has_window ≡ true → Stands (rules_of fares token) account taps
-    → account.class ≡ class_of fares token
-unfolding rules_of Stands
+    → account.class ≡ class_of (meaning_at fares account.last) token
+unfolding rules_of token_class Stands live_at
 class_is fares token account taps there stands =
     (kept_class (rules_of fares token) (kept_of account) (kept_numbers account) taps
     (kept-open account there) stands).is
 
 pub class_there : (fares : Fares) (token : List ℕ) (account : Account) (taps : List TapIn)
     → account.has_window ≡ true → Stands (rules_of fares token) account taps
-    → account.class < length fares.meaning.classes
-unfolding rules_of Stands
+    → account.class < length (meaning_at fares account.last).classes
+unfolding rules_of Stands live_at
 class_there fares token account taps there stands =
     (kept_class (rules_of fares token) (kept_of account) (kept_numbers account) taps
     (kept-open account there) stands).there
 
-pub terms_same : (fares : Fares) (token : List ℕ) (account : Account) (taps : List TapIn) (mode : ℕ)
-    → account.has_window ≡ true → Stands (rules_of fares token) account taps
-    → ride_terms fares (class_of fares token) mode ≡ ride_terms fares account.class mode
-terms_same fares token account taps mode there stands =
-    ap (λ place. ride_terms fares place mode) (sym (class_is fares token account taps there stands))
+-- the modes of the rules are the table's
+pub listed : (fares : Fares) (token : List ℕ) (mode : Mode)
+    → mode.place < length fares.meaning.modes → mode.place < (rules_of fares token).modes
+unfolding rules_of
+listed fares token mode below = below
 
-pub gives_same : (fares : Fares) (token : List ℕ) (account : Account) (taps : List TapIn)
-    (tap : LiveTap) (given : Bool)
-    → account.has_window ≡ true → Stands (rules_of fares token) account taps
-    → given ≡ gives (transfers_of fares account.class) (kept_trip (Some (kept_numbers account))) tap
-    → gives (transfers_of fares (class_of fares token)) (kept_trip (Some (kept_numbers account)))
-    tap
-    ≡ given
-gives_same fares token account taps tap given there stands is =
-    ap (λ place. gives (transfers_of fares place) (kept_trip (Some (kept_numbers account))) tap)
-    (sym (class_is fares token account taps there stands)) ∙ sym is
+-- the class of a tap pays and gives what the token's rules say, by what is valid at the tap
+pub class_at : (fares : Fares) (token : List ℕ) (moment class : ℕ)
+    → class ≡ class_of (meaning_at fares moment) token
+    → class < length (meaning_at fares moment).classes → IsClass (rules_of fares token) moment class
+unfolding rules_of token_class
+class_at fares token moment class is there = record { is = is; there = there }
+
+pub terms_same : (fares : Fares) (token : List ℕ) (meaning : TableMeaning) (moment class : ℕ)
+    (mode : Mode)
+    → meaning ≡ meaning_at fares moment → class ≡ class_of (meaning_at fares moment) token
+    → (rules_of fares token).terms (live_at moment mode) ≡ ride_terms meaning class mode.place
+unfolding rules_of token_class live_at
+terms_same fares token meaning moment class mode valid is =
+    ap (λ place. ride_terms (meaning_at fares moment) place mode.place) (sym is)
+    ∙ ap (λ m. ride_terms m class mode.place) (sym valid)
+
+gives_valid : (fares : Fares) (token : List ℕ) (moment : ℕ) (mode : Mode) (trip : Option TripEnd)
+    → gives (transfers_of fares token) trip (live_at moment mode)
+    ≡ gives (transfers_in (meaning_at fares moment) (class_of (meaning_at fares moment) token)) trip
+    (live_at moment mode)
+unfolding gives transfers_of transfers_in permits_of token_class live_at
+gives_valid fares token moment mode None = refl
+gives_valid fares token moment mode (Some trip) = refl
+
+pub gives_same : (fares : Fares) (token : List ℕ) (meaning : TableMeaning) (moment class : ℕ)
+    (mode : Mode) (trip : Option TripEnd) (given : Bool)
+    → meaning ≡ meaning_at fares moment → class ≡ class_of (meaning_at fares moment) token
+    → given ≡ gives (transfers_in meaning class) trip (live_at moment mode)
+    → gives (transfers_of fares token) trip (live_at moment mode) ≡ given
+gives_same fares token meaning moment class mode trip given valid is answered =
+    gives_valid fares token moment mode trip
+    ∙ ap (λ place. gives (transfers_in (meaning_at fares moment) place) trip (live_at moment mode))
+    (sym is)
+    ∙ ap (λ m. gives (transfers_in m class) trip (live_at moment mode)) (sym valid)
+    ∙ sym answered
+
+lacks_valid : (fares : Fares) (token : List ℕ) (moment : ℕ) (mode : Mode) (trip : Option TripEnd)
+    → no_transfer_from (transfers_of fares token) trip (live_at moment mode)
+    ≡ no_transfer_from (transfers_in (meaning_at fares moment)
+    (class_of (meaning_at fares moment) token)) trip (live_at moment mode)
+unfolding no_transfer_from transfers_of transfers_in permits_of token_class live_at
+lacks_valid fares token moment mode None = refl
+lacks_valid fares token moment mode (Some trip) = refl
+
+pub lacks_same : (fares : Fares) (token : List ℕ) (meaning : TableMeaning) (moment class : ℕ)
+    (mode : Mode) (trip : Option TripEnd)
+    → meaning ≡ meaning_at fares moment → class ≡ class_of meaning token
+    → no_transfer_from (transfers_in meaning class) trip (live_at moment mode)
+    ≡ no_transfer_from (transfers_of fares token) trip (live_at moment mode)
+lacks_same fares token meaning moment class mode trip valid is =
+    ap (λ place. no_transfer_from (transfers_in meaning place) trip (live_at moment mode)) is
+    ∙ ap (λ m. no_transfer_from (transfers_in m (class_of m token)) trip (live_at moment mode)) valid
+    ∙ sym (lacks_valid fares token moment mode trip)
+
+-- the end of a window is as long after its start as what is valid then says
+pub until_same : (fares : Fares) (token : List ℕ) (clock : ClockView) (meaning : TableMeaning)
+    (moment : ℕ) → clock ≡ fares.zone → meaning ≡ meaning_at fares moment
+    → window_end_in clock meaning.window moment ≡ (rules_of fares token).until moment
+unfolding rules_of
+until_same fares token clock meaning moment zone valid =
+    ap (λ c. window_end_in c meaning.window moment) zone
+    ∙ ap (λ m. window_end_in fares.zone m.window moment) valid
 
 -- the window of a ride in an account that has a window, and of a first ride
 pub at_kept : (account : Option Kept) (state : Kept) (start until : ℕ) → account ≡ Some state
@@ -437,35 +498,35 @@ at_fresh account start until fresh = rw fresh refl
 
 -- a ride of an account that has a window
 pub next_ride : (rules : TokenRules) (account : Option Kept) (state next : Kept) (taps : List TapIn)
-    (tap : TapIn) (mode : Mode) (until : ℕ) (terms : Terms)
+    (tap : TapIn) (mode : Mode) (until class : ℕ) (terms : Terms)
     → account ≡ Some state → KeepsOf rules account taps
     → tap.mode ≡ Some mode → mode.place < rules.modes → until ≡ rules.until tap.moment
     → GivesNone rules.transfers account tap mode
+    → IsClass rules tap.moment class
     → rules.terms (live_at tap.moment mode) ≡ terms → AreRideTerms terms
-    → next ≡ after_trip (live_at tap.moment mode) state.class
+    → next ≡ after_trip (live_at tap.moment mode) class
     (with_ride terms (window_at (Some state.window) tap.moment until))
     → IsStep rules taps tap (ride_reply (paid_by (charge terms
     (window_at (Some state.window) tap.moment until).rides
     (window_at (Some state.window) tap.moment until).cents))) (Some next)
-next_ride rules account state next taps tap mode until terms same stands known listed limit none its
-    bounds is_next =
-    let class = kept_class rules account state taps same stands in
+next_ride rules account state next taps tap mode until class terms same stands known listed limit
+    none own its bounds is_next =
     let room = kept_room rules account state taps same stands in
     subst (λ s. IsStep rules taps tap (ride_reply (paid_by (charge terms
     (window_at (Some state.window) tap.moment until).rides
     (window_at (Some state.window) tap.moment until).cents))) (Some s)) (sym is_next)
-    (ride_at rules account taps tap mode state.class terms
+    (ride_at rules account taps tap mode class terms
     (window_at (Some state.window) tap.moment until) stands known listed none.after none.none
     (at_kept account state tap.moment until same
     ∙ ap (λ u. window_at (kept_window account) tap.moment u) limit)
-    (room-at state.window tap.moment until room) class its bounds)
+    (room-at state.window tap.moment until room) own its bounds)
 
 -- the first ride of an account
 pub first_ride : (rules : TokenRules) (account next : Option Kept) (taps : List TapIn) (tap : TapIn)
     (mode : Mode) (until class : ℕ) (terms : Terms) (answered : Reply)
     → account ≡ None → KeepsOf rules account taps
     → tap.mode ≡ Some mode → mode.place < rules.modes → until ≡ rules.until tap.moment
-    → IsClass rules class → rules.terms (live_at tap.moment mode) ≡ terms → AreRideTerms terms
+    → IsClass rules tap.moment class → rules.terms (live_at tap.moment mode) ≡ terms → AreRideTerms terms
     → answered ≡ ride_reply (paid_by (charge terms (open_window tap.moment until).rides
     (open_window tap.moment until).cents))
     → next ≡ Some (after_trip (live_at tap.moment mode) class

@@ -15,7 +15,7 @@ pub record Kept : Type 0 where
   pub ride : LiveTap
   -- how many transfers followed it
   pub given : ℕ
-  -- the place of the token's class
+  -- the place of the token's class at the last live tap
   pub class : ℕ
   pub window : Window
 
@@ -49,10 +49,10 @@ kept_trip (Some state) =
 unfoldable pub kept_window : Option Kept → Option Window
 kept_window state = option_map (λ s. s.window) state
 
--- the class at the place is the token's, and there is one
-pub record IsClass (rules : TokenRules) (class : ℕ) : Type 0 where
-  pub is : class ≡ rules.class
-  pub there : class < rules.classes
+-- the class at the place is the token's at the moment, and there is one
+pub record IsClass (rules : TokenRules) (moment class : ℕ) : Type 0 where
+  pub is : class ≡ rules.class moment
+  pub there : class < rules.classes moment
 
 -- the numbers of the window leave room for one more ride
 pub record IsRoomy (window : Window) : Type 0 where

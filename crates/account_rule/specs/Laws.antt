@@ -1,7 +1,7 @@
 -- What holds of the trips and the windows of every list of taps.
-use Rattle.std.specs.Prelude.{◌≡◌, ◌↔◌, ℕ, ◌-◌, ◌*◌, ◌≤◌, Bool, true, false, ◌||◌, List, Some, min}
+use Rattle.std.specs.Prelude.{◌≡◌, ◌↔◌, ℕ, ◌-◌, ◌*◌, ◌≤◌, Bool, true, false, ◌||◌, List, [], ◌∷◌, ◌++◌}
 use Rattle.std.specs.Prelude.{nat_le, nat_lt, if◌then◌else◌, filter, map, All, sum_by, count_by}
-use Rattle.std.specs.Prelude.{slice_get}
+use Rattle.std.specs.Prelude.{max, min, slice_get, Some}
 use Rattle.std.specs.List.{flat_map}
 use Rattle.fare_table.specs.declared.terms.Terms.{Terms}
 use Rattle.account_rule.specs.declared.reason.Charge.{Charge}
@@ -43,6 +43,21 @@ WindowsKeepTheCeiling =
     (rules : TokenRules) (taps : List TapIn) (ceiling : ℕ)
     → All (λ window. All (λ ride. (rules.terms ride).ceiling ≤ ceiling) window
     → window_cents rules.terms window ≤ ceiling) (windows rules taps)
+
+-- With each ride the paid rides of a window stay as many as they were, or are at most as many as the
+-- ride's limit, and what the window costs stays as it was, or is at most the ride's ceiling.
+abbrev pub GrowsWithinLimits : (LiveTap → Terms) → List LiveTap → Type 0
+GrowsWithinLimits terms window =
+    (before after : List LiveTap) (ride : LiveTap) → window ≡ before ++ ride ∷ after
+    → (paid_rides terms (before ++ ride ∷ []) ≤ max (paid_rides terms before) (terms ride).rides)
+    × (window_cents terms (before ++ ride ∷ [])
+    ≤ max (window_cents terms before) (terms ride).ceiling)
+
+-- each window grows within the limits of its rides, also where these differ
+abbrev pub WindowsGrowWithinLimits : Type 0
+WindowsGrowWithinLimits =
+    (rules : TokenRules) (taps : List TapIn)
+    → All (GrowsWithinLimits rules.terms) (windows rules taps)
 
 -- whether the reply is to a ride that is paid
 abbrev pub is_paid_reply : Reply → Bool

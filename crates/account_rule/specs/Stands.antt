@@ -30,8 +30,8 @@ pub record KeepsOf (rules : TokenRules) (kept : Option Kept) (taps : List TapIn)
   pub trip : kept_trip kept ≡ last_trip rules taps
   -- its window is the last one
   pub window : kept_window kept ≡ window_of rules (last_block (windows rules taps))
-  -- its class is the token's
-  pub class : ForSome kept (λ state. IsClass rules state.class)
+  -- its class is the token's at the last live tap
+  pub class : ForSome kept (λ state. IsClass rules state.last.moment state.class)
   -- the modes that it keeps are the table's
   pub mode : ForSome (kept_trip kept) (λ trip. trip.last.mode.place < rules.modes)
   pub ride_mode : ForSome (kept_trip kept) (λ trip. trip.ride.mode.place < rules.modes)

@@ -2,7 +2,8 @@
 use Rattle.std.specs.Prelude.{ℕ, Bool, List, length}
 use Rattle.fare_table.specs.declared.mode.Mode.{Mode}
 use Rattle.fare_table.specs.declared.terms.Terms.{Terms}
-use Rattle.fare_table.specs.Fares.{Fares, class_of, is_permitted, ride_terms, transfer_terms}
+use Rattle.fare_table.specs.Fares.{Fares, class_of, is_permitted, meaning_at, ride_terms}
+use Rattle.fare_table.specs.Fares.{transfer_terms}
 use Rattle.fare_table.specs.Until.{until}
 use Rattle.account_rule.specs.Taps.{LiveTap}
 
@@ -16,15 +17,15 @@ pub record TransferRules : Type 0 where
   -- whether there is a transfer from the mode to the tap
   pub permits : Mode → LiveTap → Bool
 
--- What the rule takes from a table for the taps of one token. What it says of a tap
--- may depend on the tap's moment and mode.
+-- What the rule takes from a table for the taps of one token. What it says of a tap may depend on the
+-- tap's moment and mode.
 pub record TokenRules : Type 0 where
   -- how many modes there are
   pub modes : ℕ
-  -- how many rider classes there are
-  pub classes : ℕ
-  -- the place of the token's class
-  pub class : ℕ
+  -- how many rider classes there are at a moment
+  pub classes : ℕ → ℕ
+  -- the place of the token's class at a moment
+  pub class : ℕ → ℕ
   -- the terms of the class for a ride
   pub terms : LiveTap → Terms
   -- which taps are transfers
@@ -32,25 +33,34 @@ pub record TokenRules : Type 0 where
   -- the end of a window whose first ride is at the moment
   pub until : ℕ → ℕ
 
--- whether the table permits a transfer from the mode to the tap's
+-- whether what is valid at the tap permits a transfer from the mode to the tap's
 unfoldable pub permits_of : Fares → Mode → LiveTap → Bool
-permits_of fares from tap = is_permitted fares from.place tap.mode.place
+permits_of fares from tap = is_permitted (meaning_at fares tap.moment) from.place tap.mode.place
 
--- as many transfers as the rides of the class give, within their time, where the table permits them
-unfoldable pub transfers_of : Fares → ℕ → TransferRules
-transfers_of fares class = record {
-  count = λ tap. (transfer_terms fares class).taps;
-  time = λ tap. (transfer_terms fares class).time;
+-- the place of the token's class at the moment
+unfoldable pub token_class : Fares → List ℕ → ℕ → ℕ
+token_class fares token moment = class_of (meaning_at fares moment) token
+
+-- As many transfers as the rides of the token's class give, within their time, where the table permits
+-- them: all of this by what is valid at the tap that is asked of.
+unfoldable pub transfers_of : Fares → List ℕ → TransferRules
+transfers_of fares token = record {
+  count = λ tap. (transfer_terms (meaning_at fares tap.moment)
+      (token_class fares token tap.moment)).taps;
+  time = λ tap. (transfer_terms (meaning_at fares tap.moment)
+      (token_class fares token tap.moment)).time;
   permits = permits_of fares;
 }
 
--- the rules of the token
+-- The rules of the token. What is asked of a tap is asked of what is valid at the tap's moment, and how
+-- long a window is at the moment of its first ride.
 unfoldable pub rules_of : Fares → List ℕ → TokenRules
 rules_of fares token = record {
   modes = length fares.meaning.modes;
-  classes = length fares.meaning.classes;
-  class = class_of fares token;
-  terms = λ ride. ride_terms fares (class_of fares token) ride.mode.place;
-  transfers = transfers_of fares (class_of fares token);
+  classes = λ moment. length (meaning_at fares moment).classes;
+  class = token_class fares token;
+  terms = λ ride. ride_terms (meaning_at fares ride.moment) (token_class fares token ride.moment)
+      ride.mode.place;
+  transfers = transfers_of fares token;
   until = until fares;
 }

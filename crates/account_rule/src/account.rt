@@ -4,13 +4,14 @@ ghost use Rattle.std.specs.Prelude.{◌≡◌, ℕ, ◌+◌, ◌<◌, ◌≤◌,
 ghost use Rattle.std.specs.Prelude.{IsTrue, Some};
 ghost use Rattle.std.specs.Option.{ForSome};
 ghost use Rattle.fare_table.specs.Terms.{AreRideTerms};
-ghost use Rattle.fare_table.specs.Fares.{class_of, ride_terms};
+ghost use Rattle.fare_table.specs.Fares.{class_of, meaning_at, ride_terms};
 ghost use Rattle.fare_table.specs.Until.{window_end_in};
 ghost use Rattle.account_rule.specs.declared.tap.TapIn.{TapIn};
 ghost use Rattle.account_rule.specs.Replies.{reply, ride_reply};
-ghost use Rattle.account_rule.specs.TokenRules.{TokenRules, rules_of, transfers_of};
+ghost use Rattle.account_rule.specs.TokenRules.{TokenRules, rules_of};
 ghost use Rattle.account_rule.specs.Kept.{IsRoomy, kept_numbers, kept_of, kept_trip};
-ghost use Rattle.account_rule.specs.inside.Kept.{gives, open_window, window_at, with_ride};
+ghost use Rattle.account_rule.specs.inside.Kept.{gives, open_window, transfers_in, window_at};
+ghost use Rattle.account_rule.specs.inside.Kept.{with_ride};
 ghost use Rattle.account_rule.specs.Stands.{Stands, StandsForSome};
 ghost use Rattle.account_rule.specs.Blocks.{last_block};
 ghost use Rattle.account_rule.specs.Taps.{live_at};
@@ -21,9 +22,9 @@ mod explain;
 use crate::reply::{Answer, Reply};
 use crate::tap::TapIn;
 use crate::window::{Window, WindowView};
-use fare_table::{Clock, FareTable, Mode};
+use fare_table::{Clock, FareTable, Mode, Tariff};
 
-/// The account of one token under one table.
+/// The account of one token under one fare table.
 ///
 /// It stands for the list of all taps of the token, and keeps of them a few numbers that decide
 /// every later reply.
@@ -42,7 +43,8 @@ pub struct Account {
     mode: Mode,
     /// The mode of the last ride.
     ride_mode: Mode,
-    /// The place of the token's class, so that the table is asked for it once.
+    /// The place of the token's class in the tariff that is valid at the last live tap, so that
+    /// each tariff is asked for it once.
     class: u32,
     /// The last window.
     window: Window,
@@ -71,8 +73,8 @@ impl Account {
     /// The table and the token are the same in all calls on an account, the clock is the table's,
     /// the tap's mode is one of the table's, and its moment lies before 2100-01-01T00:00Z. There is
     /// no order of moments to keep: a tap that comes too late is stale. The step takes no memory.
-    /// It asks the table for the token's class at the first ride alone, and the clock for the
-    /// window's end where a ride opens a window. No reply costs more than the greatest fare of a
+    /// It asks a tariff for the token's class at the first live tap under it alone, and the clock
+    /// for the window's end where a ride opens a window. No reply costs more than the greatest fare of a
     /// table.
     #[inline(always)]
     pub fn step(&mut self, table: &FareTable, clock: &Clock, token: &[u8], tap: TapIn) -> Reply
@@ -94,16 +96,18 @@ impl Account {
             return Reply::free(Answer::Unknown);
         };
         if !self.has_window {
-            return self.first_ride(table, clock, token, mode, tap.moment);
+            return self.first_ride(table.at(tap.moment), clock, token, mode, tap.moment);
         }
         if tap.moment <= self.last {
             return Reply::free(Answer::Stale);
         }
-        if self.gives_transfer(table, tap.moment, mode) {
-            self.take_transfer(mode, tap.moment);
+        let tariff = table.at(tap.moment);
+        let class = self.class_at(table, token, tap.moment);
+        if self.gives_transfer(tariff, class, tap.moment, mode) {
+            self.take_transfer(class, mode, tap.moment);
             return Reply::free(Answer::Transfer);
         }
-        Reply::to_ride(self.take_ride(table, clock, mode, tap.moment))
+        Reply::to_ride(self.take_ride(tariff, clock, class, mode, tap.moment))
     }
 
     /// The last window, or `None` before the first ride: its paid rides and its cents are within
@@ -136,33 +140,35 @@ impl Account {
     #[tactic(auto, unfolding(crate::specs::Kept::kept_of, crate::specs::inside::Kept::open_window, crate::specs::TokenRules::rules_of))]
     fn first_ride(
         &mut self,
-        table: &FareTable,
+        tariff: &Tariff,
         clock: &Clock,
         token: &[u8],
         mode: Mode,
         moment: u64,
     ) -> Reply
         requires token { length token.now ≡ 16 }
-        requires mode { mode.place < length table.now.meaning.modes }
+        requires mode { mode.place < length tariff.now.meaning.modes }
         requires early { moment < 4_102_444_800_000 }
-        ensures class { self.new.class ≡ class_of table.now token.now }
-        ensures there { self.new.class < length table.now.meaning.classes }
-        ensures bounds { AreRideTerms (ride_terms table.now self.new.class mode.place) }
-        ensures reply { let window = open_window moment (window_end_in clock.now moment) in
-            result ≡ ride_reply (paid_by (charge (ride_terms table.now self.new.class mode.place)
+        ensures class { self.new.class ≡ class_of tariff.now.meaning token.now }
+        ensures there { self.new.class < length tariff.now.meaning.classes }
+        ensures bounds { AreRideTerms (ride_terms tariff.now.meaning self.new.class mode.place) }
+        ensures reply { let window = open_window moment (window_end_in clock.now
+            tariff.now.meaning.window moment) in
+            result ≡ ride_reply (paid_by (charge (ride_terms tariff.now.meaning self.new.class mode.place)
             window.rides window.cents)) }
         ensures state { kept_of self.new ≡ Some (record {
           last = live_at moment mode;
           ride = live_at moment mode;
           given = 0;
           class = self.new.class;
-          window = with_ride (ride_terms table.now self.new.class mode.place)
-              (open_window moment (window_end_in clock.now moment));
+          window = with_ride (ride_terms tariff.now.meaning self.new.class mode.place)
+              (open_window moment (window_end_in clock.now
+              tariff.now.meaning.window moment));
         }) }
     {
-        let class = table.class_of(token);
-        let terms = table.ride_terms(class, mode);
-        let mut window = Window::opened(clock, moment);
+        let class = tariff.class_of(token);
+        let terms = tariff.ride_terms(class, mode);
+        let mut window = Window::opened(tariff, clock, moment);
         let cents = window.add_ride(terms);
         *self = Account {
             last: moment,
@@ -177,36 +183,56 @@ impl Account {
         Reply::to_ride(cents)
     }
 
-    /// Whether the last ride gives a transfer to a live tap at the moment, on the mode.
-    #[tactic(auto, unfolding(crate::specs::TokenRules::transfers_of, crate::specs::TokenRules::permits_of, crate::specs::inside::Kept::gives, crate::specs::Kept::kept_trip, crate::specs::Taps::live_at))]
-    fn gives_transfer(&self, table: &FareTable, moment: u64, mode: Mode) -> bool
-        requires class { self.now.class < length table.now.meaning.classes }
-        requires from { self.now.mode.place < length table.now.meaning.modes }
-        requires mode { mode.place < length table.now.meaning.modes }
-        ensures gives { result ≡ gives (transfers_of table.now self.now.class)
+    /// The place of the token's class in the tariff that is valid at the moment, which is no
+    /// earlier than the last live tap: the one that is kept, unless another tariff is valid now.
+    #[inline(always)]
+    fn class_at(&self, table: &FareTable, token: &[u8], moment: u64) -> u32
+        requires token { length token.now ≡ 16 }
+        requires order { self.now.last ≤ moment }
+        requires class { self.now.class ≡ class_of (meaning_at table.now self.now.last) token.now }
+        requires there { self.now.class < length (meaning_at table.now self.now.last).classes }
+        ensures class { result ≡ class_of (meaning_at table.now moment) token.now }
+        ensures there { result < length (meaning_at table.now moment).classes }
+    {
+        if table.is_one_tariff(self.last, moment) {
+            self.class
+        } else {
+            table.at(moment).class_of(token)
+        }
+    }
+
+    /// Whether the last ride gives a transfer to a live tap at the moment, on the mode, where the
+    /// tariff is valid then and the class is the token's in it.
+    #[tactic(auto, unfolding(crate::specs::inside::Kept::transfers_in, crate::specs::inside::Kept::gives, crate::specs::Kept::kept_trip, crate::specs::Taps::live_at))]
+    fn gives_transfer(&self, tariff: &Tariff, class: u32, moment: u64, mode: Mode) -> bool
+        requires class { class < length tariff.now.meaning.classes }
+        requires from { self.now.mode.place < length tariff.now.meaning.modes }
+        requires mode { mode.place < length tariff.now.meaning.modes }
+        ensures gives { result ≡ gives (transfers_in tariff.now.meaning class)
             (kept_trip (Some (kept_numbers self.now))) (live_at moment mode) }
         ensures few { IsTrue result → self.now.given < 9 }
     {
-        let gives = table.transfer_terms(self.class);
+        let gives = tariff.transfer_terms(class);
         u32::from(self.given) < gives.taps
             && moment.saturating_sub(self.ride) <= u64::from(gives.time)
-            && table.permits(self.mode, mode)
+            && tariff.permits(self.mode, mode)
     }
 
     /// Takes a live tap at the moment, on the mode, as a transfer.
-    fn take_transfer(&mut self, mode: Mode, moment: u64)
+    fn take_transfer(&mut self, class: u32, mode: Mode, moment: u64)
         requires few { self.old.given < 9 }
         ensures has_window { self.new.has_window ≡ self.old.has_window }
         ensures state { kept_numbers self.new ≡ record {
           last = live_at moment mode;
           ride = live_at self.old.ride self.old.ride_mode;
           given = self.old.given + 1;
-          class = self.old.class;
+          class = class;
           window = self.old.window;
         } }
     {
         self.last = moment;
         self.mode = mode;
+        self.class = class;
         self.given += 1;
     }
 
@@ -214,51 +240,55 @@ impl Account {
     #[tactic(auto, unfolding(crate::specs::inside::Kept::window_at, crate::specs::inside::Kept::open_window))]
     fn take_ride(
         &mut self,
-        table: &FareTable,
+        tariff: &Tariff,
         clock: &Clock,
+        class: u32,
         mode: Mode,
         moment: u64,
     ) -> Option<u32>
-        requires class { self.old.class < length table.now.meaning.classes }
-        requires mode { mode.place < length table.now.meaning.modes }
+        requires class { class < length tariff.now.meaning.classes }
+        requires mode { mode.place < length tariff.now.meaning.modes }
         requires early { moment < 4_102_444_800_000 }
         requires room { IsRoomy self.old.window }
-        ensures bounds { AreRideTerms (ride_terms table.now self.old.class mode.place) }
-        ensures cost { let window = window_at (Some self.old.window) moment (window_end_in clock.now moment) in
-            result ≡ paid_by (charge (ride_terms table.now self.old.class mode.place) window.rides
+        ensures bounds { AreRideTerms (ride_terms tariff.now.meaning class mode.place) }
+        ensures cost { let window = window_at (Some self.old.window) moment (window_end_in clock.now
+            tariff.now.meaning.window moment) in
+            result ≡ paid_by (charge (ride_terms tariff.now.meaning class mode.place) window.rides
             window.cents) }
         ensures has_window { self.new.has_window ≡ self.old.has_window }
         ensures state { kept_numbers self.new ≡ record {
           last = live_at moment mode;
           ride = live_at moment mode;
           given = 0;
-          class = self.old.class;
-          window = with_ride (ride_terms table.now self.old.class mode.place)
-              (window_at (Some self.old.window) moment (window_end_in clock.now moment));
+          class = class;
+          window = with_ride (ride_terms tariff.now.meaning class mode.place)
+              (window_at (Some self.old.window) moment (window_end_in clock.now
+              tariff.now.meaning.window moment));
         } }
     {
         if moment >= self.window.until {
-            self.window = Window::opened(clock, moment);
+            self.window = Window::opened(tariff, clock, moment);
         }
-        let cents = self.window.add_ride(table.ride_terms(self.class, mode));
-        self.begin_trip(mode, moment);
+        let cents = self.window.add_ride(tariff.ride_terms(class, mode));
+        self.begin_trip(class, mode, moment);
         cents
     }
 
     /// Keeps a live tap at the moment, on the mode, as the last ride.
-    fn begin_trip(&mut self, mode: Mode, moment: u64)
+    fn begin_trip(&mut self, class: u32, mode: Mode, moment: u64)
         ensures has_window { self.new.has_window ≡ self.old.has_window }
         ensures state { kept_numbers self.new ≡ record {
           last = live_at moment mode;
           ride = live_at moment mode;
           given = 0;
-          class = self.old.class;
+          class = class;
           window = self.old.window;
         } }
     {
         self.last = moment;
         self.ride = moment;
         self.given = 0;
+        self.class = class;
         self.mode = mode;
         self.ride_mode = mode;
     }

@@ -1,10 +1,12 @@
 //! What holds of every list of taps: laws over the definitions of `specs/`, each the contract of
 //! a function that does nothing.
 
+ghost use Rattle.account_rule.specs.Agreement.{AgreeingRulesReplyAlike, TablesWaitForTheirDate};
 ghost use Rattle.account_rule.specs.Reasons.{GiversAreRides, RepliesFollow};
 ghost use Rattle.account_rule.specs.Laws.{EqualFaresAreChargedByPlaces, HigherTermsAreNeverCheaper};
 ghost use Rattle.account_rule.specs.Laws.{TripsAreTheOnlyBlocks, WindowsAreTheOnlyBlocks};
-ghost use Rattle.account_rule.specs.Laws.{WindowsKeepTheCeiling, WindowsKeepTheRideLimit};
+ghost use Rattle.account_rule.specs.Laws.{WindowsGrowWithinLimits, WindowsKeepTheCeiling};
+ghost use Rattle.account_rule.specs.Laws.{WindowsKeepTheRideLimit};
 ghost use Rattle.account_rule.specs.Laws.{WindowsShareTheCents, WindowsShareThePaidRides};
 ghost use Rattle.account_rule.specs.Laws.{WindowsShareTheRides};
 ghost use Rattle.account_rule.specs.NoTransfers.{RidesLackTransfers};
@@ -22,6 +24,12 @@ pub fn only_blocks()
 pub fn windows_keep_limits()
     ensures rides { WindowsKeepTheRideLimit }
     ensures ceiling { WindowsKeepTheCeiling }
+{}
+
+/// With each ride of a window its paid rides stay as many as they were or within the ride's limit, and
+/// its cents stay as they were or within the ride's ceiling, also where the terms of its rides differ.
+pub fn windows_grow_within_limits()
+    ensures { WindowsGrowWithinLimits }
 {}
 
 /// What was charged is shared out among the windows: each reply to a ride is that of its charge in
@@ -58,4 +66,14 @@ pub fn rides_lack_transfers()
 pub fn replies_follow_reasons()
     ensures replies { RepliesFollow }
     ensures givers { GiversAreRides }
+{}
+
+/// Rules that say the same of each tap of a list give it the same replies.
+pub fn agreeing_rules_reply_alike()
+    ensures { AgreeingRulesReplyAlike }
+{}
+
+/// Taps that are all before the date of a table are charged as by the tables before it alone.
+pub fn tables_wait_for_their_date()
+    ensures { TablesWaitForTheirDate }
 {}

@@ -9,7 +9,7 @@ ghost use Rattle.account_rule.specs.Laws.{place_cents};
 ghost use Rattle.account_rule.specs.Windows.{charge, charged_by, is_paid, paid_by};
 
 use crate::reason::{Charge, Reason};
-use fare_table::{Clock, Terms};
+use fare_table::{Clock, Tariff, Terms};
 
 /// The highest ride limit of a table's classes. A window counts its rides up to it.
 const MAX_RIDES: u16 = 1_000;
@@ -58,16 +58,18 @@ impl Window {
         }
     }
 
-    /// A window with no ride yet, for a first ride at `start`, with its end by the clock.
+    /// A window with no ride yet, for a first ride at `start`, as long as the tariff says that is
+    /// valid then.
     ///
     /// Kept out of its callers: a token opens few windows.
     #[cold]
     #[inline(never)]
-    pub(crate) fn opened(clock: &Clock, start: u64) -> Self
+    pub(crate) fn opened(tariff: &Tariff, clock: &Clock, start: u64) -> Self
         requires { start < 4_102_444_800_000 }
-        ensures { result ≡ open_window start (window_end_in clock.now start) }
+        ensures { result
+            ≡ open_window start (window_end_in clock.now tariff.now.meaning.window start) }
     {
-        Window::open(start, clock.window_end(start))
+        Window::open(start, clock.window_end(tariff.window_span(), start))
     }
 
     /// What its owner sees of it.

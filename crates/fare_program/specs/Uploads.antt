@@ -12,7 +12,7 @@ use Rattle.fare_program.specs.Listing.{Listed, counts_of, listed_of, liveness_of
 -- Without a table every validator is known; with one, those that have a mode.
 abbrev pub is_known : Option Fares → Tap → Bool
 is_known None tap = true
-is_known (Some fares) tap = is_some (mode_at fares (num tap.validator))
+is_known (Some fares) tap = is_some (mode_at fares (num tap.moment) (num tap.validator))
 
 -- a tap as it is listed under this table, if there is one
 abbrev pub listed : Option Fares → Tap → Listed

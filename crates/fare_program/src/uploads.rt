@@ -18,7 +18,9 @@ fn is_known(table: Option<&FareTable>, tap: &TapView) -> bool
 {
     match table {
         None => true,
-        Some(table) => table.mode_of(tap.validator_number()).is_some(),
+        Some(table) => table
+            .mode_of(tap.moment_ms(), tap.validator_number())
+            .is_some(),
     }
 }
 

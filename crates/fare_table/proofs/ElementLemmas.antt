@@ -14,7 +14,7 @@ use Rattle.fare_table.proofs.OverlapLemmas.{free_apart, rest_stands}
 use Rattle.fare_table.proofs.PartLemmas.{bind_ok, parts}
 use Rattle.fare_table.proofs.ReadLemmas.{array-read, is_table, number-read, text-read}
 use Rattle.fare_table.specs.TextRanges.{RangeGives, RangeHas, HasRange, HasValidator, NamesMode}
-use Rattle.fare_table.specs.Fares.{Fares, has_number, mode_at, range_at}
+use Rattle.fare_table.specs.Fares.{has_number, mode_in, range_at}
 use Rattle.fare_table.specs.Members.{are_tables, array_at, number_at, of_kind, text_at}
 use Rattle.fare_table.specs.Modes.{mode_named}
 use Rattle.fare_table.specs.OrFault.{OrFault, ◌>>=◌}
@@ -541,15 +541,15 @@ is_given modes tree ranges validator mode text g =
     let one : f.range.1.mode ≡ mode = cc in
     ap (option_map (λ (range : ℕ × RangeRest). range.1.mode)) f.found ∙ ap (λ (m : ℕ). Some m) one
 
-pub mode-given : (tree : Members) (fares : Fares) (validator mode : ℕ)
-    → meaning_of_tree tree ≡ Ok fares.meaning
-    → (mode_at fares validator ≡ Some mode) ↔ RangeGives fares.meaning.modes tree validator mode
-mode-given tree fares validator mode is =
-    let text = ranges_read fares.meaning.modes tree fares.meaning.ranges
-    (parts tree fares.meaning is).ranges in (
-      λ at. gives fares.meaning.modes tree fares.meaning.ranges validator mode text
-          (maps (range_at fares.meaning.ranges validator) mode at),
-      λ g. is_given fares.meaning.modes tree fares.meaning.ranges validator mode text g,
+pub mode-given : (tree : Members) (meaning : TableMeaning) (validator mode : ℕ)
+    → meaning_of_tree tree ≡ Ok meaning
+    → (mode_in meaning validator ≡ Some mode) ↔ RangeGives meaning.modes tree validator mode
+mode-given tree meaning validator mode is =
+    let text = ranges_read meaning.modes tree meaning.ranges
+    (parts tree meaning is).ranges in (
+      λ at. gives meaning.modes tree meaning.ranges validator mode text
+          (maps (range_at meaning.ranges validator) mode at),
+      λ g. is_given meaning.modes tree meaning.ranges validator mode text g,
     )
 
 none_or_gives : (o : Option ℕ) → ((mode : ℕ) → o ≡ Some mode → ⊥) → o ≡ None
@@ -561,20 +561,20 @@ maps_none : (o : Option (ℕ × RangeRest)) (range : ℕ × RangeRest) → o ≡
 maps_none o range is none = let no : Some range.1.mode ≡ None =
     sym (ap (option_map (λ (range : ℕ × RangeRest). range.1.mode)) is) ∙ none in absurd (cc)
 
-pub mode-none : (tree : Members) (fares : Fares) (validator : ℕ)
-    → meaning_of_tree tree ≡ Ok fares.meaning
-    → (mode_at fares validator ≡ None) ↔ ((place : ℕ) → ¬ RangeHas tree validator place)
-mode-none tree fares validator is =
-    let text = ranges_read fares.meaning.modes tree fares.meaning.ranges
-    (parts tree fares.meaning is).ranges in (
+pub mode-none : (tree : Members) (meaning : TableMeaning) (validator : ℕ)
+    → meaning_of_tree tree ≡ Ok meaning
+    → (mode_in meaning validator ≡ None) ↔ ((place : ℕ) → ¬ RangeHas tree validator place)
+mode-none tree meaning validator is =
+    let text = ranges_read meaning.modes tree meaning.ranges
+    (parts tree meaning is).ranges in (
       λ none place e.
-          let f = is_found fares.meaning.modes tree fares.meaning.ranges validator place e.element
+          let f = is_found meaning.modes tree meaning.ranges validator place e.element
           text
           e.listed e.has in
-          maps_none (range_at fares.meaning.ranges validator) f.range f.found none,
-      λ none. none_or_gives (mode_at fares validator) (λ mode at.
-          let g = gives fares.meaning.modes tree fares.meaning.ranges validator mode text
-          (maps (range_at fares.meaning.ranges validator) mode at) in
+          maps_none (range_at meaning.ranges validator) f.range f.found none,
+      λ none. none_or_gives (mode_in meaning validator) (λ mode at.
+          let g = gives meaning.modes tree meaning.ranges validator mode text
+          (maps (range_at meaning.ranges validator) mode at) in
           none g.place (record { element = g.element; listed = g.listed; has = g.has })),
     )
 

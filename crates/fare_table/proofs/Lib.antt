@@ -1,4 +1,5 @@
 pub mod ApartLemmas
+pub mod DatedLemmas
 pub mod ElementLemmas
 pub mod FaultLemmas
 pub mod KeyLemmas

@@ -18,7 +18,7 @@ use Rattle.fare_table.specs.Classes.{ride_transfers_of}
 use Rattle.fare_table.specs.Modes.{same_name}
 use Rattle.fare_table.specs.declared.class.Class.{Class}
 use Rattle.std.proofs.lemmas.Map.Text.{is_eq-slice_cmp}
-use Rattle.fare_table.specs.Fares.{Fares, class_of as class_of_token, no_class, terms_at}
+use Rattle.fare_table.specs.Fares.{class_of as class_of_token, no_class, terms_at}
 use Rattle.std.proofs.lemmas.Option.{get_or_from_slice_get}
 use Rattle.fare_table.specs.Members.{hold_strings, hold_tables, number_at, of_kind, table_at}
 use Rattle.fare_table.specs.Members.{text_at}
@@ -447,10 +447,9 @@ class_if tree classes meaning token (Some place) standard are at =
     let c = came_from classes tree meaning.riders token place are at in
     record { class = c.1; is = inl (c.0, c.2); named = c.3 }
 
-pays : (tree : Members) (fares : Fares) (token : List ℕ) → meaning_of_tree tree ≡ Ok fares.meaning
-    → Pays tree token (terms_at fares token)
-pays tree fares token is =
-    let meaning = fares.meaning in
+pays : (tree : Members) (meaning : TableMeaning) (token : List ℕ) → meaning_of_tree tree ≡ Ok meaning
+    → Pays tree token (terms_at meaning token)
+pays tree meaning token is =
     let p = parts tree meaning is in
     let h = class_if tree p.table meaning token (Named token meaning.riders) p.standard
     (riders_read p.table tree meaning.riders p.riders) refl in
@@ -458,7 +457,7 @@ pays tree fares token is =
       class = h.class;
       is = h.is;
       has = has_terms meaning.modes tree p.table meaning.classes h.class
-          (class_of_token fares token) p.members p.classes h.named;
+          (class_of_token meaning token) p.members p.classes h.named;
     }
 
 pub one-key : (tree : Members) (meaning : TableMeaning) (token key key' class class' : List ℕ)
@@ -493,14 +492,14 @@ one_class tree meaning token class class' is (inr one) (inl two) = absurd (one.1
 one_class tree meaning token class class' is (inr one) (inr two) =
     text_of (get_member (codes "default_class") tree) class class' one.0 two.0
 
-pub pays-terms : (tree : Members) (fares : Fares) (token : List ℕ) (terms : Terms)
-    → meaning_of_tree tree ≡ Ok fares.meaning
-    → (terms_at fares token ≡ terms) ↔ Pays tree token terms
-pays-terms tree fares token terms is =
-    let p = pays tree fares token is in (
+pub pays-terms : (tree : Members) (meaning : TableMeaning) (token : List ℕ) (terms : Terms)
+    → meaning_of_tree tree ≡ Ok meaning
+    → (terms_at meaning token ≡ terms) ↔ Pays tree token terms
+pays-terms tree meaning token terms is =
+    let p = pays tree meaning token is in (
       λ same. subst (λ (t : Terms). Pays tree token t) same p,
       λ other.
-          let class = one_class tree fares.meaning token p.class other.class is p.is other.is in
-          one_terms tree other.class (terms_at fares token) terms
-          (subst (λ c. HasTerms tree c (terms_at fares token)) class p.has) other.has,
+          let class = one_class tree meaning token p.class other.class is p.is other.is in
+          one_terms tree other.class (terms_at meaning token) terms
+          (subst (λ c. HasTerms tree c (terms_at meaning token)) class p.has) other.has,
     )

@@ -27,14 +27,14 @@ use Rattle.fare_table.proofs.ReadLemmas.{is_number, is_table}
 use Rattle.fare_table.specs.ByteOrder.{in_byte_order}
 use Rattle.fare_table.specs.Classes.{class_of as class_by, fares_from, fares_of, place_of}
 use Rattle.fare_table.specs.Classes.{ride_transfers_of}
-use Rattle.fare_table.specs.Fares.{Fares, class_at, class_of, no_class, ride_terms, transfer_terms}
+use Rattle.fare_table.specs.Fares.{class_at, class_of, no_class, ride_terms, transfer_terms}
 use Rattle.fare_table.specs.Members.{array_at, hold_numbers, number_in, number_or, of_kind}
 use Rattle.fare_table.specs.Modes.{are_distinct, are_mode_names, is_mode_name, mode_named, modes_of}
 use Rattle.fare_table.specs.Modes.{same_name, strings_from}
 use Rattle.fare_table.specs.OrFault.{OrFault, ◌>>=◌}
 use Rattle.fare_table.specs.Paying.{Gives, HasTerms, IsClassOf, IsElementOf, IsFareOn, IsNumberOr}
 use Rattle.fare_table.specs.Paying.{PaysOn}
-use Rattle.fare_table.specs.TableMeaning.{meaning_of_tree}
+use Rattle.fare_table.specs.TableMeaning.{TableMeaning, meaning_of_tree}
 use Rattle.fare_table.specs.declared.class.Class.{Class}
 use Rattle.fare_table.specs.declared.fault.Key.{Key}
 use Rattle.fare_table.specs.declared.fault.Key.TheVariants as the_key
@@ -260,27 +260,26 @@ are_given element given is =
     })
 
 -- ---- the class of a token
-record IsTokenClass (tree : Members) (fares : Fares) (token : List ℕ) : Type 0 where
+record IsTokenClass (tree : Members) (meaning : TableMeaning) (token : List ℕ) : Type 0 where
   class : List ℕ
   is : IsClassOf tree token class
   element : Members
   keys : IsElementOf tree class element
-  reads : AreClassParts fares.meaning.modes element (class_at fares (class_of fares token))
-  has : HasTerms tree class (class_at fares (class_of fares token)).terms
+  reads : AreClassParts meaning.modes element (class_at meaning (class_of meaning token))
+  has : HasTerms tree class (class_at meaning (class_of meaning token)).terms
 
-token_class : (tree : Members) (fares : Fares) (token : List ℕ)
-    → meaning_of_tree tree ≡ Ok fares.meaning → IsTokenClass tree fares token
-token_class tree fares token is =
-    let meaning = fares.meaning in
+token_class : (tree : Members) (meaning : TableMeaning) (token : List ℕ)
+    → meaning_of_tree tree ≡ Ok meaning → IsTokenClass tree meaning token
+token_class tree meaning token is =
     let p = parts tree meaning is in
-    let place = class_of fares token in
+    let place = class_of meaning token in
     let h = class_if tree p.table meaning token (Named token meaning.riders) p.standard
     (riders_read p.table tree meaning.riders p.riders) refl in
     let there = placed meaning.modes [] meaning.classes h.class p.table place place p.classes
     (place_found (place_of h.class p.table) place h.named) (sym (zero-add place)) in
     let element = bind_ok (of_kind the_key.Classes (as_table there.has.value))
     (class_by meaning.modes) there.one there.has.read in
-    let same : there.one ≡ class_at fares place =
+    let same : there.one ≡ class_at meaning place =
     sym (get_or_from_slice_get meaning.classes place there.one no_class there.at) in
     record {
       class = h.class;
@@ -299,16 +298,16 @@ token_class tree fares token is =
     }
 
 -- ---- the laws
-pub pays-on : (text : List ℕ) (tree : Members) (fares : Fares) (token name : List ℕ) (mode : ℕ)
-    → parse_document text ≡ Some tree → meaning_of_tree tree ≡ Ok fares.meaning
-    → position (same_name name) fares.meaning.modes ≡ Some mode
-    → PaysOn tree token name (ride_terms fares (class_of fares token) mode)
-pays-on text tree fares token name mode written is at =
-    let modes = fares.meaning.modes in
-    let t = token_class tree fares token is in
-    let one = class_at fares (class_of fares token) in
+pub pays-on : (text : List ℕ) (tree : Members) (meaning : TableMeaning) (token name : List ℕ) (mode : ℕ)
+    → parse_document text ≡ Some tree → meaning_of_tree tree ≡ Ok meaning
+    → position (same_name name) meaning.modes ≡ Some mode
+    → PaysOn tree token name (ride_terms meaning (class_of meaning token) mode)
+pays-on text tree meaning token name mode written is at =
+    let modes = meaning.modes in
+    let t = token_class tree meaning token is in
+    let one = class_at meaning (class_of meaning token) in
     let first = (is_at (same_name name) modes mode at).below in
-    let few = modes_few tree modes (parts tree fares.meaning is).modes in
+    let few = modes_few tree modes (parts tree meaning is).modes in
     let below : mode < 32 = omega (arith, first, few) in
     record {
       class = t.class;
@@ -325,12 +324,12 @@ pays-on text tree fares token name mode written is at =
       ceiling = refl;
     }
 
-pub rides-give : (tree : Members) (fares : Fares) (token : List ℕ)
-    → meaning_of_tree tree ≡ Ok fares.meaning
-    → Gives tree token (transfer_terms fares (class_of fares token))
-rides-give tree fares token is =
-    let t = token_class tree fares token is in
-    let g = are_given t.element (transfer_terms fares (class_of fares token)) t.reads.transfers in
+pub rides-give : (tree : Members) (meaning : TableMeaning) (token : List ℕ)
+    → meaning_of_tree tree ≡ Ok meaning
+    → Gives tree token (transfer_terms meaning (class_of meaning token))
+rides-give tree meaning token is =
+    let t = token_class tree meaning token is in
+    let g = are_given t.element (transfer_terms meaning (class_of meaning token)) t.reads.transfers in
     record {
       class = t.class;
       is = t.is;

@@ -1,23 +1,27 @@
 -- The window end as a function, and that it is later than the start.
 use Rattle.std.proofs.Common.{◌≡◌, ◌∙◌, ℕ, zero, suc, ℤ, pos, ◌+◌, ◌-◌, ◌*◌, ◌<◌, ◌≤◌, ◌+ℤ◌, ◌-ℤ◌}
 use Rattle.std.proofs.Common.{◌*ℤ◌, ◌<ℤ◌, ◌≤ℤ◌, neg_ℤ, negsuc, ◌⊎◌, Bool, true, false, Option}
-use Rattle.std.proofs.Common.{Some, None}
-use Rattle.std.proofs.Common.{refl, sym, ap, arith, cond, inl, inr, w64, FitsSigned}
+use Rattle.std.proofs.Common.{IsSome, Some, None}
+use Rattle.std.proofs.Common.{refl, sym, ap, arith, inl, inr, w64, FitsSigned}
 use Rattle.std.specs.Int.{int_div_euclid, int_max}
 use Rattle.std.specs.Prelude.{int_div, int_lt, unsigned_abs}
-use Rattle.std.proofs.lemmas.Bool.{cases_lt}
+use Rattle.std.proofs.lemmas.Bool.{cases_lt, false≢true}
 use Rattle.std.proofs.lemmas.Int.{int_max_is, ints}
-use Rattle.jiff.specs.Types.{Date, DateTime, TimeZone, Posix, UTC, Offset}
+use Rattle.jiff.specs.Types.{Date, DateTime, TimeZone, Fixed, Offset, Posix, Tzif, UTC, Unknown}
 use Rattle.jiff.specs.Words.{epoch_day, civil_nanos, time_nanos, month_length, nanos_of_seconds}
 use Rattle.jiff.specs.Words.{offset_at, ambiguous_at, compatible_offset, picked_instant}
-use Rattle.jiff.specs.Words.{weekday_of, IsTimestampNanos, IsYmd}
+use Rattle.jiff.specs.Words.{IsTimestampNanos, IsYmd}
 use Rattle.jiff.proofs.SpanFacts.{signed_arith}
 use Rattle.jiff.proofs.Family.{civil_nanos-parts, time_nanos_bound, epoch_day-civil_nanos}
-use Rattle.jiff_core.specs.Calendar.{days_from_civil, days_in_month, IsCivilDate, weekday_number}
-use Rattle.jiff_core.proofs.CalendarLemmas.{day_count-lt_month, days_from_civil-day_count}
+use Rattle.jiff_core.specs.Calendar.{days_from_civil, IsCivilDate, weekday_number}
+use Rattle.jiff_core.proofs.CalendarLemmas.{day_count-day_of_year, day_count-later_year}
+use Rattle.jiff_core.proofs.CalendarLemmas.{day_count-lt_month, day_count-lt_year}
+use Rattle.jiff_core.proofs.CalendarLemmas.{days_from_civil-day_count, days_in_year_bounds}
+use Rattle.jiff_core.proofs.MarchLemmas.{day_count-early}
+use Rattle.jiff_core.specs.Calendar.{day_count}
 use Rattle.jiff_core.proofs.CalendarLemmas.{days_in_month_bounds, weekday_number-add}
 use Rattle.jiff_core.proofs.CalendarLemmas.{weekday_number_bound}
-use Rattle.jiff_core.proofs.DateLemmas.{days_from_civil-day, days_from_civil-next_month}
+use Rattle.jiff_core.proofs.DateLemmas.{civil, days_from_civil-day, days_from_civil-next_month}
 use Rattle.jiff_core.proofs.DateLemmas.{days_from_civil-next_year}
 use Rattle.jiff_tz.proofs.YearLemmas.{year_of_day-date}
 use Rattle.jiff_tz.specs.PosixRule.{ambiguous_at_by, rule_nanos}
@@ -26,13 +30,16 @@ use Rattle.jiff_tz.specs.Year.{year_of_day}
 use Rattle.jiff_tz.specs.declared.posix.Dst.{Dst}
 use Rattle.jiff_tz.specs.declared.posix.TimeZone.{TimeZone as PosixRule}
 use Rattle.fare_table.specs.ClockView.{ClockView}
-use Rattle.fare_table.specs.Until.{IsCivilWindowEnd, IsEndDate, IsPlainWindowEnd, IsWindowEnd}
+use Rattle.fare_table.specs.Until.{IsCivilWindowEnd, IsEndDate, IsPlainWindowEnd}
+use Rattle.fare_table.specs.inside.Midnight.{IsMidnight}
+use Rattle.fare_table.specs.Until.{IsWindowEnd}
+use Rattle.fare_table.specs.PosixRule.{posix_rule}
 use Rattle.fare_table.specs.Until.{IsWindowEndBy}
 use Rattle.fare_table.specs.Until.{civil_window_end, day_at, end_day, end_millis, next_month}
-use Rattle.fare_table.specs.Until.{midnight_instant, midnight_nanos, midnight_offset, moment_nanos}
+use Rattle.fare_table.specs.Until.{midnight_by, midnight_instant, midnight_nanos, midnight_offset, moment_nanos}
 use Rattle.fare_table.specs.Until.{offsets_by, plain_window_end, until, utc_window_end}
 use Rattle.fare_table.specs.Until.{window_end_by, window_end_in}
-use Rattle.fare_table.specs.Fares.{Fares}
+use Rattle.fare_table.specs.Fares.{Fares, meaning_at}
 use Rattle.fare_table.specs.declared.window_span.WindowSpan.{WindowSpan}
 use Rattle.fare_table.specs.declared.window_span.WindowSpan.TheVariants.{Days, CalendarDay}
 use Rattle.fare_table.specs.declared.window_span.WindowSpan.TheVariants.{CalendarMonth}
@@ -266,9 +273,9 @@ window_end_by-is None span start window_end is = plain_window_end-is span start 
 window_end_by-is (Some zone) span start window_end is =
     civil_window_end-is zone span start window_end is
 
-pub until-is : (clock : ClockView) (start window_end : ℕ) → IsWindowEnd clock start window_end
-    → window_end ≡ window_end_in clock start
-until-is clock start window_end is = window_end_by-is clock.rule clock.span start window_end is
+pub until-is : (clock : ClockView) (span : WindowSpan) (start window_end : ℕ)
+    → IsWindowEnd clock span start window_end → window_end ≡ window_end_in clock span start
+until-is clock span start window_end is = window_end_by-is clock.rule span start window_end is
 
 -- ---- a window ends after it starts
 end_millis-later : (start : ℕ) (instant : ℤ) → start < end_millis start instant
@@ -296,7 +303,8 @@ window_end_by-later None span start = plain-later span start
 window_end_by-later (Some zone) span start = civil-later zone span start
 
 pub until-later : (fares : Fares) (start : ℕ) → start < until fares start
-until-later fares start = window_end_by-later fares.zone.rule fares.zone.span start
+until-later fares start =
+    window_end_by-later fares.zone.rule (meaning_at fares start).window start
 
 -- ---- the date that clocks show is near the start's
 pub shown_low : (start : ℕ) (offset : Offset) (instant : ℤ) (dt : DateTime)
@@ -333,6 +341,51 @@ whole_midnight zone midnight low high time =
       low = omega (arith, signed_arith, offset.in_range);
       high = omega (arith, signed_arith, offset.in_range);
     }
+
+-- a date of these years is near
+pub year_near : (date : Date) → pos 1970 ≤ℤ date.year → date.year ≤ℤ pos 2099
+    → (neg_ℤ (pos 10) ≤ℤ epoch_day date) × (epoch_day date ≤ℤ pos 50_100)
+year_near date low high =
+    let first : day_count (pos 1969) 1 1 ≡ 4_371_588 =
+    day_count-early (pos 1969) 11968 1 1 refl (omega arith) (omega arith) (omega arith) in
+    let last : day_count (pos 2100) 1 1 ≡ 4_419_435 =
+    day_count-early (pos 2100) 12099 1 1 refl (omega arith) (omega arith) (omega arith) in
+    let after = day_count-later_year (pos 1969) date.year (omega (arith, signed_arith))
+    (omega (arith, signed_arith)) in
+    let long = days_in_year_bounds (pos 1969) in
+    let day = day_count-day_of_year date.year date.month date.day date.day_in.0 in
+    let below = day_count-lt_year date.year date.month date.day (pos 2100) 1 1 (civil date)
+    (omega arith) (omega (arith, signed_arith)) in
+    let count = days_from_civil-day_count date.year date.month date.day in (
+      omega (arith, signed_arith),
+      omega (arith, signed_arith),
+    )
+
+pub whole_of_year : (zone : TimeZone) (date : Date) (midnight : DateTime)
+    → pos 1970 ≤ℤ date.year → date.year ≤ℤ pos 2099
+    → (midnight.date ≡ date) × (time_nanos midnight.time ≡ 0)
+    → IsWholeInstant (picked_instant zone midnight) (midnight_millis zone midnight)
+whole_of_year zone date midnight low high is_midnight =
+    let near = year_near date low high in
+    let day : epoch_day midnight.date ≡ epoch_day date = ap epoch_day is_midnight.0 in
+    whole_midnight zone midnight (rw day near.0) (rw day near.1) is_midnight.1
+
+-- the midnight of a date is that of its day
+pub midnight-is : (zone : TimeZone) (date : Date) (instant : ℤ) → IsSome (posix_rule zone)
+    → IsMidnight zone date instant → instant ≡ midnight_by (posix_rule zone) (epoch_day date)
+midnight-is UTC date instant rule is = absurd (false≢true rule)
+midnight-is Unknown date instant rule is = absurd (false≢true rule)
+midnight-is (Fixed offset) date instant rule is = absurd (false≢true rule)
+midnight-is (Posix zone) date instant rule is =
+    is.at ∙ picked-midnight zone is.midnight is.time
+    ∙ ap (λ (d : Date). midnight_instant zone (epoch_day d)) is.is_date
+midnight-is (Tzif zone) date instant rule is = absurd (false≢true rule)
+
+pub midnight-utc : (date : Date) (instant : ℤ) → IsMidnight UTC date instant
+    → instant ≡ midnight_nanos (epoch_day date)
+midnight-utc date instant is =
+    is.at ∙ picked-midnight-utc is.midnight is.time
+    ∙ ap (λ (d : Date). midnight_nanos (epoch_day d)) is.is_date
 
 -- the same of the midnight of an end date
 pub whole_end : (zone : TimeZone) (start : ℕ) (shown : Offset) (instant : ℤ)

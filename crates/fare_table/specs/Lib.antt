@@ -2,6 +2,7 @@ pub mod ByteOrder
 pub mod Classes
 pub mod ClockView
 pub mod Fares
+pub mod Following
 pub mod Faults
 pub mod Key
 pub mod Meaning
@@ -13,6 +14,7 @@ pub mod PosixRule
 pub mod RiderMarks
 pub mod Riders
 pub mod TableMeaning
+pub mod TariffView
 pub mod Terms
 pub mod TextRanges
 pub mod Transfers

@@ -14,7 +14,7 @@ use Rattle.jiff_tz.specs.Year.{year_of_day}
 use Rattle.jiff_tz.specs.declared.posix.Dst.{Dst}
 use Rattle.jiff_tz.specs.declared.posix.TimeZone.{TimeZone as PosixRule}
 use Rattle.fare_table.specs.ClockView.{ClockView}
-use Rattle.fare_table.specs.Fares.{Fares}
+use Rattle.fare_table.specs.Fares.{Fares, meaning_at}
 use Rattle.fare_table.specs.declared.window_span.WindowSpan.{WindowSpan}
 use Rattle.fare_table.specs.declared.window_span.WindowSpan.TheVariants.{Days, CalendarDay}
 use Rattle.fare_table.specs.declared.window_span.WindowSpan.TheVariants.{CalendarMonth}
@@ -74,8 +74,8 @@ IsWindowEndBy (Some zone) span start window_end =
     IsCivilWindowEnd (Posix zone) span start window_end
 
 -- the end of a window by a clock
-abbrev pub IsWindowEnd : ClockView → ℕ → ℕ → Type 0
-IsWindowEnd clock start window_end = IsWindowEndBy clock.rule clock.span start window_end
+abbrev pub IsWindowEnd : ClockView → WindowSpan → ℕ → ℕ → Type 0
+IsWindowEnd clock span start window_end = IsWindowEndBy clock.rule span start window_end
 
 -- ---- the same as a function of the start
 -- the day on which the next month begins: the first of the months of the year, from this one on,
@@ -118,6 +118,11 @@ abbrev pub midnight_instant : PosixRule → ℤ → ℤ
 midnight_instant zone day =
     midnight_nanos day -ℤ nanos_of_seconds (midnight_offset zone day).seconds
 
+-- the instant at which a day begins, in the zone or without one in UTC
+abbrev pub midnight_by : Option PosixRule → ℤ → ℤ
+midnight_by None day = midnight_nanos day
+midnight_by (Some zone) day = midnight_instant zone day
+
 -- the day that clocks of the zone show at an instant
 abbrev pub day_at : PosixRule → ℤ → ℤ
 day_at zone instant =
@@ -147,9 +152,10 @@ window_end_by None span start = plain_window_end span start
 window_end_by (Some zone) span start = civil_window_end zone span start
 
 -- the end of a window that starts at the moment, by a clock
-abbrev pub window_end_in : ClockView → ℕ → ℕ
-window_end_in clock start = window_end_by clock.rule clock.span start
+abbrev pub window_end_in : ClockView → WindowSpan → ℕ → ℕ
+window_end_in clock span start = window_end_by clock.rule span start
 
--- the end of a window that starts at the moment, under the fare table
+-- the end of a window that starts at the moment: windows are as long as the table says that is valid
+-- then
 abbrev pub until : Fares → ℕ → ℕ
-until fares start = window_end_in fares.zone start
+until fares start = window_end_in fares.zone (meaning_at fares start).window start

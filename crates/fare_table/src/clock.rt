@@ -1,10 +1,11 @@
 //! Where windows end.
-ghost use Rattle.std.specs.Prelude.{◌≡◌, ◌<◌, ◌+◌, pos, ◌+ℤ◌, ◌<ℤ◌, ◌≤ℤ◌, neg_ℤ};
+ghost use Rattle.std.specs.Prelude.{◌≡◌, ◌<◌, ◌+◌, pos, ◌+ℤ◌, ◌*ℤ◌, ◌<ℤ◌, ◌≤ℤ◌, neg_ℤ};
 ghost use Rattle.std.specs.Int.{int_max};
 ghost use Rattle.jiff.specs.Words.{epoch_day};
 ghost use Rattle.jiff.specs.ZoneView.{plain_zone};
 ghost use Rattle.fare_table.specs.WindowSpan.{IsBoundedSpan};
 ghost use Rattle.fare_table.specs.Until.{IsCivilWindowEnd, IsEndDate, IsPlainWindowEnd};
+ghost use Rattle.fare_table.specs.inside.Midnight.{IsMidnight};
 ghost use Rattle.fare_table.specs.Until.{moment_nanos};
 
 use crate::window_span::WindowSpan;
@@ -19,8 +20,6 @@ const DAY_MS: u64 = 86_400_000;
 /// Tells where the windows of one fare table end. A worker makes its own from the table.
 #[derive(Drop)]
 pub struct Clock {
-    /// How long windows are.
-    span: WindowSpan,
     /// The rule of the table's zone, if it names one.
     zone: Option<TimeZone<'static>>,
 }
@@ -31,29 +30,29 @@ impl Model for Clock {
     ghost Value = { ClockView };
 
     ghost use Rattle.fare_table.specs.inside.PosixRule.{HasRule, rule_of};
-    ghost use Rattle.fare_table.specs.WindowSpan.{IsBoundedSpan};
 
-    ghost view = { λ c. record { span = c.span; rule = rule_of c.zone } };
+    ghost view = { λ c. record { rule = rule_of c.zone } };
 
-    ghost invariant = { λ c. HasRule c.zone × IsBoundedSpan c.span };
+    ghost invariant = { λ c. HasRule c.zone };
 }
 
 impl Clock {
-    ghost use Rattle.std.specs.Prelude.{◌≡◌, ◌<◌, option_map};
+    ghost use Rattle.std.specs.Prelude.{◌≡◌, ◌<◌, ◌⊎◌, pos, ◌*ℤ◌, ◌<ℤ◌, ◌≤ℤ◌, IfSome, None, option_map};
+    ghost use Rattle.jiff.specs.Words.{epoch_day};
     ghost use Rattle.fare_table.specs.inside.PosixRule.{HasRule, rule_of};
     ghost use Rattle.fare_table.specs.WindowSpan.{IsBoundedSpan};
-    ghost use Rattle.fare_table.specs.Until.{IsWindowEnd, window_end_in, seconds_ahead};
+    ghost use Rattle.fare_table.specs.Until.{IsWindowEnd, midnight_by, moment_nanos, seconds_ahead};
+    ghost use Rattle.fare_table.specs.Until.{window_end_in};
 
-    /// A clock of windows of this span, of this zone or of none.
-    pub(crate) fn new(span: WindowSpan, zone: Option<TimeZone<'static>>) -> Clock
-        requires zone { HasRule zone }
-        requires span { IsBoundedSpan span }
-        ensures { result ≡ record { span = span; rule = rule_of zone.entry } }
+    /// A clock of this zone or of none.
+    pub(crate) fn new(zone: Option<TimeZone<'static>>) -> Clock
+        requires { HasRule zone }
+        ensures { result ≡ record { rule = rule_of zone.entry } }
     {
-        Clock { span, zone }
+        Clock { zone }
     }
 
-    /// The end of a window that starts at the moment, both in milliseconds since
+    /// The end of a window of this length that starts at the moment, both in milliseconds since
     /// 1970-01-01T00:00Z; the moment lies before 2100-01-01T00:00Z. Without a zone a window of `n`
     /// days ends `n * 24` hours later. One of a calendar day, week or month ends at the next 00:00
     /// in UTC of a day, a Monday or the first of a month. With a zone each ends at 00:00 by its
@@ -62,15 +61,51 @@ impl Clock {
     /// offset before the gap, one that comes twice is the earlier. Each ends at least a millisecond
     /// after its start. It takes no memory.
     #[inline]
-    pub fn window_end(&self, moment: u64) -> u64
-        requires { moment < 4_102_444_800_000 }
-        ensures value { result ≡ window_end_in self.now moment }
-        ensures window_end { IsWindowEnd self.now moment result }
+    pub fn window_end(&self, span: WindowSpan, moment: u64) -> u64
+        requires span { IsBoundedSpan span }
+        requires moment { moment < 4_102_444_800_000 }
+        ensures value { result ≡ window_end_in self.now span moment }
+        ensures window_end { IsWindowEnd self.now span moment result }
         ensures after { moment < result }
     {
         match &self.zone {
-            Some(zone) => civil_window_end(zone, self.span, moment),
-            None => plain_window_end(self.span, moment),
+            Some(zone) => civil_window_end(zone, span, moment),
+            None => plain_window_end(span, moment),
+        }
+    }
+
+    /// The moment of 00:00 of a date, by the zone's clocks or in UTC without a zone, in milliseconds
+    /// since 1970-01-01T00:00Z. A midnight that clocks skip takes the offset before the gap, one that
+    /// comes twice is the earlier. `None` for a date before 1970 or after 2099, and for one that
+    /// begins before 1970-01-01T00:00Z.
+    pub fn midnight(&self, date: Date) -> Option<u64>
+        ensures moment { IfSome result (λ moment. moment_nanos moment
+            ≡ midnight_by self.now.rule (epoch_day date)) }
+        ensures years { IfSome result (λ _. (pos 1970 ≤ℤ date.year) × (date.year ≤ℤ pos 2099)) }
+        ensures none { result ≡ None → (date.year <ℤ pos 1970) ⊎ ((pos 2099 <ℤ date.year)
+            ⊎ (midnight_by self.now.rule (epoch_day date) <ℤ pos 0)) }
+    {
+        let year = date.year();
+        if year < 1970 || 2099 < year {
+            return None;
+        }
+        let millis = self.midnight_millis(date);
+        if millis < 0 {
+            None
+        } else {
+            Some(millis as u64)
+        }
+    }
+
+    /// The milliseconds of 00:00 of a date of 1970 to 2099.
+    fn midnight_millis(&self, date: Date) -> i64
+        requires low { pos 1970 ≤ℤ date.year }
+        requires high { date.year ≤ℤ pos 2099 }
+        ensures { result *ℤ pos 1_000_000 ≡ midnight_by self.now.rule (epoch_day date) }
+    {
+        match &self.zone {
+            Some(zone) => midnight_millis(zone, date),
+            None => midnight_millis(&TimeZone::UTC, date),
         }
     }
 
@@ -117,6 +152,19 @@ fn civil_window_end(zone: &TimeZone<'static>, span: WindowSpan, moment: u64) -> 
     let midnight = DateTime::from(end_date(span, shown.date()));
     let window_end = zone.to_timestamp(midnight).unwrap();
     end_after(moment, window_end.as_millisecond())
+}
+
+/// The milliseconds of 00:00 of a date by the clocks of a zone.
+fn midnight_millis(zone: &TimeZone<'static>, date: Date) -> i64
+    requires low { pos 1970 ≤ℤ date.year }
+    requires high { date.year ≤ℤ pos 2099 }
+    ensures at { IsMidnight (plain_zone zone.now) date (result *ℤ pos 1_000_000) }
+    ensures low { neg_ℤ (pos 5_000_000_000_000) ≤ℤ result }
+    ensures high { result ≤ℤ pos 5_000_000_000_000 }
+{
+    let midnight = DateTime::from(date);
+    let instant = zone.to_timestamp(midnight).unwrap();
+    instant.as_millisecond()
 }
 
 /// The later of an instant and of the millisecond after a moment.

@@ -10,8 +10,8 @@ ghost use Rattle.toml.specs.Data.{Members, table, get_member};
 ghost use Rattle.toml.specs.Parse.{parse_document};
 ghost use Rattle.fare_table.specs.ByteOrder.{in_byte_order};
 ghost use Rattle.fare_table.specs.TextRanges.{RangeGives, RangeHas};
-ghost use Rattle.fare_table.specs.Fares.{Fares, class_of, mode_at, ride_terms, terms_at};
-ghost use Rattle.fare_table.specs.Fares.{transfer_terms};
+ghost use Rattle.fare_table.specs.Fares.{Fares, class_of, meaning_at, mode_in, ride_terms};
+ghost use Rattle.fare_table.specs.Fares.{terms_at, transfer_terms};
 ghost use Rattle.fare_table.specs.Faults.{first_fault};
 ghost use Rattle.fare_table.specs.Modes.{same_name};
 ghost use Rattle.fare_table.specs.Paying.{Gives, NamesRider, Pays, PaysOn};
@@ -37,7 +37,8 @@ pub fn windows_end_later()
 /// A window has one end: what is its days after its start, or the midnight of its end date, is that
 /// of the table.
 pub fn windows_have_one_end()
-    ensures { (fares : Fares) (start window_end : ℕ) → IsWindowEnd fares.zone start window_end
+    ensures { (fares : Fares) (start window_end : ℕ)
+        → IsWindowEnd fares.zone (meaning_at fares start).window start window_end
         → window_end ≡ until fares start }
 {}
 
@@ -60,13 +61,13 @@ pub fn permitted_pairs_are_listed()
 /// The mode of a validator is the one that the element of the text's `validators` names which has
 /// it, and none exactly where no element has it. At most one element has it.
 pub fn modes_are_of_ranges()
-    ensures some { (tree : Members) (fares : Fares) (validator mode : ℕ)
-        → meaning_of_tree tree ≡ Ok fares.meaning
-        → (mode_at fares validator ≡ Some mode)
-        ↔ RangeGives fares.meaning.modes tree validator mode }
-    ensures none { (tree : Members) (fares : Fares) (validator : ℕ)
-        → meaning_of_tree tree ≡ Ok fares.meaning
-        → (mode_at fares validator ≡ None) ↔ ((place : ℕ) → ¬ RangeHas tree validator place) }
+    ensures some { (tree : Members) (meaning : TableMeaning) (validator mode : ℕ)
+        → meaning_of_tree tree ≡ Ok meaning
+        → (mode_in meaning validator ≡ Some mode)
+        ↔ RangeGives meaning.modes tree validator mode }
+    ensures none { (tree : Members) (meaning : TableMeaning) (validator : ℕ)
+        → meaning_of_tree tree ≡ Ok meaning
+        → (mode_in meaning validator ≡ None) ↔ ((place : ℕ) → ¬ RangeHas tree validator place) }
     ensures one { (tree : Members) (meaning : TableMeaning) (validator place place' : ℕ)
         → meaning_of_tree tree ≡ Ok meaning → RangeHas tree validator place
         → RangeHas tree validator place' → place ≡ place' }
@@ -75,9 +76,9 @@ pub fn modes_are_of_ranges()
 /// What a token pays are the terms of the class that the key of the text's `riders` has which names
 /// it, else those of the default class. At most one key names it.
 pub fn terms_are_of_classes()
-    ensures terms { (tree : Members) (fares : Fares) (token : List ℕ) (terms : Terms)
-        → meaning_of_tree tree ≡ Ok fares.meaning
-        → (terms_at fares token ≡ terms) ↔ Pays tree token terms }
+    ensures terms { (tree : Members) (meaning : TableMeaning) (token : List ℕ) (terms : Terms)
+        → meaning_of_tree tree ≡ Ok meaning
+        → (terms_at meaning token ≡ terms) ↔ Pays tree token terms }
     ensures one { (tree : Members) (meaning : TableMeaning) (token key key' class class' : List ℕ)
         → meaning_of_tree tree ≡ Ok meaning → NamesRider tree token key class
         → NamesRider tree token key' class' → key ≡ key' }
@@ -87,13 +88,14 @@ pub fn terms_are_of_classes()
 /// else the class's own fare, under the limits of the class. It gives the transfers, for the
 /// minutes, that the class says, else one within two hours.
 pub fn rides_are_of_classes()
-    ensures pays { (text : List ℕ) (tree : Members) (fares : Fares) (token name : List ℕ) (mode : ℕ)
-        → parse_document text ≡ Some tree → meaning_of_tree tree ≡ Ok fares.meaning
-        → position (same_name name) fares.meaning.modes ≡ Some mode
-        → PaysOn tree token name (ride_terms fares (class_of fares token) mode) }
-    ensures gives { (tree : Members) (fares : Fares) (token : List ℕ)
-        → meaning_of_tree tree ≡ Ok fares.meaning
-        → Gives tree token (transfer_terms fares (class_of fares token)) }
+    ensures pays { (text : List ℕ) (tree : Members) (meaning : TableMeaning)
+        (token name : List ℕ) (mode : ℕ)
+        → parse_document text ≡ Some tree → meaning_of_tree tree ≡ Ok meaning
+        → position (same_name name) meaning.modes ≡ Some mode
+        → PaysOn tree token name (ride_terms meaning (class_of meaning token) mode) }
+    ensures gives { (tree : Members) (meaning : TableMeaning) (token : List ℕ)
+        → meaning_of_tree tree ≡ Ok meaning
+        → Gives tree token (transfer_terms meaning (class_of meaning token)) }
 {}
 
 /// The keys of the tables of a text, as of `classes` and `riders`, stand in the byte order in which

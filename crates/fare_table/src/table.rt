@@ -1,40 +1,31 @@
 //! The fare table and its look-ups.
-ghost use Rattle.std.specs.Prelude.{◌≡◌, ◌≢◌, ◌⊎◌, ◌<◌, ◌≤◌, length, option_map, IfSome, IfErr};
-ghost use Rattle.std.specs.Prelude.{IfOk, IsErrOf, IsUtf8, IsOk, Err, Ok, None, Some, map};
-ghost use Rattle.std.specs.Prelude.{All, slice_get, string_bytes};
+ghost use Rattle.std.specs.Prelude.{◌≡◌, ◌≢◌, ◌⊎◌, ◌<◌, ◌≤◌, [], length, option_map, IfSome};
+ghost use Rattle.std.specs.Prelude.{IfErr, IfOk, IsErrOf, IsTrue, IsUtf8, IsOk, Err, Ok, None, Some};
+ghost use Rattle.std.specs.Prelude.{All, map, slice_get, string_bytes};
 ghost use Rattle.toml.specs.Parse.{parse_document};
 ghost use Rattle.toml.specs.View.{table_view};
-ghost use Rattle.fare_table.specs.Fares.{class_of, is_permitted, mode_at, ride_terms, terms_at};
-ghost use Rattle.fare_table.specs.Fares.{transfer_terms};
+ghost use Rattle.fare_table.specs.Fares.{meaning_at, mode_at, terms_at};
+ghost use Rattle.fare_table.specs.Following.{CanFollow, IsFollowFault, with_next};
+ghost use Rattle.fare_table.specs.Following as spec;
 ghost use Rattle.fare_table.specs.inside.OrFault.{Answers};
-ghost use Rattle.fare_table.specs.inside.PosixRule.{HasRule, rule_of};
+ghost use Rattle.fare_table.specs.inside.Table.{begun, dated_meaning, same_names, same_zone};
+ghost use Rattle.std.specs.Arc.{arc_value};
 ghost use Rattle.fare_table.specs.Riders.{by_bytes};
 ghost use Rattle.fare_table.specs.declared.fault.TableFault.{TableFault};
 ghost use Rattle.fare_table.specs.TableMeaning.{meaning_in, meaning_of_tree};
 ghost use Rattle.fare_table.specs.Meaning.{IsClockOf};
-ghost use Rattle.fare_table.specs.Zone.{zone_rule, zone_text};
-ghost use Rattle.fare_table.specs.Terms.{AreBoundedTerms, AreRideTerms, IsBoundedClass};
+ghost use Rattle.fare_table.specs.Terms.{AreBoundedTerms, IsBoundedClass};
+ghost use Rattle.fare_table.specs.WindowSpan.{IsBoundedSpan};
 
 use crate::class::Class;
 use crate::clock::Clock;
 use crate::fault::TableFault;
+use crate::follow_fault::FollowFault;
 use crate::mode::Mode;
-use crate::read::class_names::names_of;
-use crate::read::classes::{classes_from, classes_of, default_of};
-use crate::read::modes::modes_of;
-use crate::read::riders::riders_of;
-use crate::read::transfers::transfers_of;
-use crate::read::validators::ranges_of;
-use crate::read::window::window_of;
-use crate::read::zone::zone_of;
-use crate::riders::Riders;
+use crate::tariff::{Tariff, tariff_of};
 use crate::terms::Terms;
-use crate::transfer_terms::TransferTerms;
-use crate::transfers::Transfers;
-use crate::validators::{RangeRest, Ranges};
+use crate::validators::RangeRest;
 use crate::window_span::WindowSpan;
-use crate::zone::Zone;
-use jiff::tz::TimeZone;
 use std::alloc::Global;
 use std::collections::BTreeMap;
 use std::marker::Model;
@@ -42,12 +33,18 @@ use std::sync::Arc;
 use tap_views::{NoMemory, Token};
 use toml::Table;
 
-/// An agency's fare table. Look-ups take no memory; those of validators and riders are searches by
-/// halves, which a guess or a mark mostly saves, that of a transfer reads one bit.
+/// An agency's fare table: the tariff of one text, and those of texts that follow it, each from a
+/// date on.
 #[derive(Drop)]
 pub struct FareTable {
-    /// One for all clones, since each book has a clone and none changes it.
-    parts: Arc<TableData>,
+    /// The tariff that is valid first. One for all clones, since each book has a clone and none
+    /// changes it.
+    first: Arc<Tariff>,
+    /// The moment from which the next tariff is valid, so that a look-up before it compares once;
+    /// `u64::MAX` where none follows.
+    until: u64,
+    /// The tariffs that follow, in the order of their dates.
+    later: Vec<DatedTariff>,
 }
 
 impl Model for FareTable {
@@ -56,34 +53,22 @@ impl Model for FareTable {
 
     ghost Value = { Fares };
 
-    ghost use Rattle.fare_table.specs.inside.Table.{fares_of, AreSound};
+    ghost use Rattle.std.specs.Prelude.{map};
+    ghost use Rattle.fare_table.specs.inside.Table.{dated_meaning, fares_of, AreDated};
 
-    ghost view = { λ t. fares_of (arc_value t.parts) };
+    ghost view = { λ t. fares_of (arc_value t.first) t.later.items };
 
-    ghost invariant = { λ t. AreSound (arc_value t.parts) };
+    ghost invariant = { λ t. AreDated (arc_value t.first).meaning.modes t.until
+        (map dated_meaning t.later.items) };
 }
 
-/// What a table and its clones share.
+/// A tariff that follows others.
 #[derive(Drop)]
-struct TableData {
-    /// The names of the modes by their places.
-    modes: Vec<String>,
-    /// The permitted transfers.
-    transfers: Transfers,
-    /// The classes by their places.
-    classes: Vec<Class>,
-    /// The names of the classes by their places.
-    names: Vec<String>,
-    /// The place of the default class.
-    standard: u32,
-    /// The ranges of validators and their modes.
-    ranges: Ranges,
-    /// The classes of single riders.
-    riders: Riders,
-    /// The zone, if the table names one.
-    zone: Option<Zone>,
-    /// How long windows are.
-    window: WindowSpan,
+struct DatedTariff {
+    /// The moment from which it is valid, in milliseconds since 1970-01-01T00:00Z.
+    from: u64,
+    /// The tariff.
+    tariff: Arc<Tariff>,
 }
 
 impl FareTable {
@@ -93,6 +78,7 @@ impl FareTable {
     pub fn read(alloc: Global, text: &[u8]) -> Result<FareTable, TableFault>
         ensures ok { IfOk result (λ t. IsUtf8 text.now × (meaning_in text.now ≡ Ok t.meaning)) }
         ensures zone { IfOk result (λ t. IsClockOf t.meaning t.zone) }
+        ensures alone { IfOk result (λ t. t.later ≡ []) }
 
         // A fault is the text's first, and a text with a fault is answered by it or by want of
         // memory.
@@ -124,96 +110,102 @@ impl FareTable {
     pub fn of_tree(alloc: Global, tree: &Table) -> Result<FareTable, TableFault>
         ensures ok { IfOk result (λ t. meaning_of_tree (table_view tree.now) ≡ Ok t.meaning) }
         ensures zone { IfOk result (λ t. IsClockOf t.meaning t.zone) }
+        ensures alone { IfOk result (λ t. t.later ≡ []) }
         ensures fault { IfErr result (λ e. e ≢ TableFault.NoMemory
             → meaning_of_tree (table_view tree.now) ≡ Err e) }
     {
         table_of(alloc, tree)
     }
 
-    /// A clock that tells where this table's windows end. It always answers, since a rule of a zone
-    /// takes no memory.
+    /// These tables, and one that is valid from the moment on, in milliseconds since
+    /// 1970-01-01T00:00Z. It answers why it cannot follow, where it cannot.
+    pub fn followed_by(mut self, from: u64, next: FareTable) -> Result<FareTable, FollowFault>
+        ensures follows { IfOk result (λ _. CanFollow self from next) }
+        ensures tables { IfOk result (λ t. t ≡ with_next self from next.meaning) }
+        ensures fault { IfErr result (IsFollowFault self from next) }
+    {
+        if let Some(fault) = self.follow_fault(from, &next) {
+            return Err(fault);
+        }
+        match self.push(from, next.first) {
+            Ok(()) => Ok(self),
+            Err(NoMemory) => Err(FollowFault::NoMemory),
+        }
+    }
+
+    /// A clock of the zone of all its tariffs, which says where windows end. It always answers,
+    /// since a rule of a zone takes no memory.
     pub fn clock(&self, _alloc: Global) -> Result<Clock, NoMemory>
         ensures answers { IsOk result }
         ensures zone { IfOk result (λ c. c ≡ self.now.zone) }
     {
-        Ok(Clock::new(self.parts.window, rule(&self.parts.zone)))
+        Ok(self.first.clock())
     }
 
-    /// An equal table, which shares this one's memory. `NoMemory` is answered where it is shared
-    /// too often to be counted.
-    pub fn try_clone(&self, _alloc: Global) -> Result<FareTable, NoMemory>
+    /// An equal table, which shares this one's tariffs. `NoMemory` is answered where a growth is
+    /// refused, or where a tariff is shared too often to be counted.
+    pub fn try_clone(&self, alloc: Global) -> Result<FareTable, NoMemory>
         ensures { IfOk result (λ t. t ≡ self.now) }
     {
+        let mut later = Vec::new(alloc);
+        for dated in &self.later {
+            later.push(DatedTariff {
+                from: dated.from,
+                tariff: Arc::try_clone(&dated.tariff)?,
+            })?;
+        }
         Ok(FareTable {
-            parts: Arc::try_clone(&self.parts)?,
+            first: Arc::try_clone(&self.first)?,
+            until: self.until,
+            later,
         })
     }
 
-    /// The mode of a validator, or `None` where no range has it.
-    pub fn mode_of(&self, validator: u32) -> Option<Mode>
-        ensures mode { option_map (λ m. m.place) result ≡ mode_at self.now validator }
+    /// The tariff that is valid at the moment, in milliseconds since 1970-01-01T00:00Z.
+    #[inline]
+    pub fn at(&self, moment: u64) -> &Tariff
+        ensures meaning { result.now.meaning ≡ meaning_at self.now moment }
+        ensures modes { result.now.meaning.modes ≡ self.now.meaning.modes }
+    {
+        if moment < self.until {
+            return &self.first;
+        }
+        self.later_at(moment)
+    }
+
+    /// The tariff that is valid first. The look-ups below that take no moment are its own.
+    pub fn first(&self) -> &Tariff
+        ensures { result.now.meaning ≡ self.now.meaning }
+    {
+        &self.first
+    }
+
+    /// Whether one tariff is valid at both moments: none comes after the earlier one up to the
+    /// later one. That it says no costs its caller a look-up and no more.
+    #[inline]
+    pub fn is_one_tariff(&self, earlier: u64, moment: u64) -> bool
+        requires { earlier ≤ moment }
+        ensures { IsTrue result → meaning_at self.now earlier ≡ meaning_at self.now moment }
+    {
+        moment < self.until || self.none_between(earlier, moment)
+    }
+
+    /// The mode of a validator at the moment, or `None` where no range of the tariff has it that is
+    /// valid then.
+    pub fn mode_of(&self, moment: u64, validator: u32) -> Option<Mode>
+        ensures mode { option_map (λ m. m.place) result ≡ mode_at self.now moment validator }
         ensures within { IfSome result (λ m. m.place < length self.now.meaning.modes) }
         ensures few { length self.now.meaning.modes ≤ 32 }
     {
-        let rest = self.parts.ranges.at(validator)?;
-        Some(Mode { place: rest.mode })
+        self.at(moment).mode_of(validator)
     }
 
-    /// Whether a ride of the one mode includes a transfer to the other: whether the pair stands in
-    /// `transfers`.
-    pub fn permits(&self, from: Mode, to: Mode) -> bool
-        requires from { from.place < length self.now.meaning.modes }
-        requires to { to.place < length self.now.meaning.modes }
-        ensures { result ≡ is_permitted self.now from.place to.place }
-    {
-        self.parts.transfers.permits(from.place, to.place)
-    }
-
-    /// The mode's name.
+    /// The mode's name. All tariffs have the same modes.
     pub fn mode_name(&self, mode: Mode) -> &str
         requires { mode.place < length self.now.meaning.modes }
         ensures { slice_get self.now.meaning.modes mode.place ≡ Some result.now }
     {
-        self.parts.modes[mode.place as usize].as_str()
-    }
-
-    /// The place of the class of a token's rider: of the rider's own class, else of the default
-    /// one. `ride_terms` and `transfer_terms` say what the class pays and gives, so that the token
-    /// is looked up once.
-    pub fn class_of(&self, token: &[u8]) -> u32
-        requires { length token.now ≡ 16 }
-        ensures class { result ≡ class_of self.now token.now }
-        ensures there { result < length self.now.meaning.classes }
-    {
-        match self.parts.riders.class_of(token) {
-            Some(class) => class,
-            None => self.parts.standard,
-        }
-    }
-
-    /// What the class at the place pays for a ride on the mode, in cents.
-    pub fn ride_terms(&self, class: u32, mode: Mode) -> Terms
-        requires class { class < length self.now.meaning.classes }
-        requires mode { mode.place < length self.now.meaning.modes }
-        ensures terms { result ≡ ride_terms self.now class mode.place }
-        ensures bounds { AreRideTerms result }
-    {
-        let class = &self.parts.classes[class as usize];
-        Terms {
-            fare: class.fares[mode.place as usize],
-            rides: class.terms.rides,
-            ceiling: class.terms.ceiling,
-        }
-    }
-
-    /// What the rides of the class at the place give: a number of taps, and a time in milliseconds.
-    pub fn transfer_terms(&self, class: u32) -> TransferTerms
-        requires { class < length self.now.meaning.classes }
-        ensures terms { result ≡ transfer_terms self.now class }
-        ensures taps { result.taps ≤ 9 }
-        ensures time { result.time ≤ 86_400_000 }
-    {
-        self.parts.classes[class as usize].transfers
+        self.first.mode_name(mode)
     }
 
     /// The names of the modes by their places.
@@ -221,7 +213,7 @@ impl FareTable {
         ensures names { map string_bytes result.now ≡ self.now.meaning.modes }
         ensures few { length result.now ≤ 32 }
     {
-        self.parts.modes.as_slice()
+        self.first.mode_names()
     }
 
     /// The classes by their places.
@@ -229,7 +221,7 @@ impl FareTable {
         ensures classes { result.now ≡ self.now.meaning.classes }
         ensures bounds { All IsBoundedClass result.now }
     {
-        self.parts.classes.as_slice()
+        self.first.classes()
     }
 
     /// The names of the classes by their places, in their byte order.
@@ -237,7 +229,7 @@ impl FareTable {
         ensures names { map string_bytes result.now ≡ self.now.meaning.names }
         ensures each { length result.now ≡ length self.now.meaning.classes }
     {
-        self.parts.names.as_slice()
+        self.first.class_names()
     }
 
     /// The place of the class of all riders that have none of their own.
@@ -245,104 +237,167 @@ impl FareTable {
         ensures class { result ≡ self.now.meaning.standard }
         ensures there { result < length self.now.meaning.classes }
     {
-        self.parts.standard
+        self.first.default_class()
     }
 
     /// The pairs of places of modes with a transfer, each once, in the order of the text.
     pub fn pairs(&self) -> &[(u8, u8)]
         ensures { result.now ≡ self.now.meaning.transfers }
     {
-        self.parts.transfers.all()
+        self.first.pairs()
     }
 
     /// The ranges of validators, each by its first number, rising.
     pub fn ranges(&self) -> &[(u32, RangeRest)]
         ensures { result.now ≡ self.now.meaning.ranges }
     {
-        self.parts.ranges.all()
+        self.first.ranges()
     }
 
     /// The places of the classes of riders that have their own, by their tokens, rising.
     pub fn riders(&self) -> &BTreeMap<Token, u32>
         ensures { by_bytes result.now.entries ≡ self.now.meaning.riders }
     {
-        self.parts.riders.all()
+        self.first.riders()
     }
 
-    /// The text of the zone, if the table names one.
+    /// The text of the zone, if the table names one. All tariffs have the same.
     pub fn zone_text(&self) -> Option<&str>
         ensures { option_map (λ text. text.now) result ≡ self.now.meaning.zone }
     {
-        text_of(&self.parts.zone)
+        self.first.zone_text()
     }
 
     /// How long windows are.
     pub fn window_span(&self) -> WindowSpan
-        ensures { result ≡ self.now.meaning.window }
+        ensures window { result ≡ self.now.meaning.window }
+        ensures bounds { IsBoundedSpan result }
     {
-        self.parts.window
+        self.first.window_span()
     }
 
     /// What the rider of a token pays, in cents, on a mode of which the rider's class, else the
     /// default class, names no fare.
     pub fn terms_of(&self, token: &[u8]) -> Terms
         requires { length token.now ≡ 16 }
-        ensures terms { result ≡ terms_at self.now token.now }
+        ensures terms { result ≡ terms_at self.now.meaning token.now }
         ensures bounds { AreBoundedTerms result }
     {
-        self.parts.classes[self.class_of(token) as usize].terms
+        self.first.terms_of(token)
     }
+
+    /// The tariff that is valid at the moment, of those that follow and the first. Kept out of
+    /// `at`, so that a run with one tariff has a compare where it is called and no more.
+    #[cold]
+    #[inline(never)]
+    fn later_at(&self, moment: u64) -> &Tariff
+        ensures meaning { result.now.meaning ≡ meaning_at self.now moment }
+        ensures modes { result.now.meaning.modes ≡ self.now.meaning.modes }
+    {
+        let begun = begun(&self.later, moment);
+        if begun == 0 {
+            &self.first
+        } else {
+            &self.later[begun - 1].tariff
+        }
+    }
+
+    /// Whether no tariff is valid from a moment after the earlier one up to the later one.
+    #[cold]
+    #[inline(never)]
+    fn none_between(&self, earlier: u64, moment: u64) -> bool
+        requires { earlier ≤ moment }
+        ensures { IsTrue result → meaning_at self.now earlier ≡ meaning_at self.now moment }
+    {
+        begun(&self.later, earlier) == begun(&self.later, moment)
+    }
+
+    /// Why the next table cannot follow from the moment on, if it cannot.
+    fn follow_fault(&self, from: u64, next: &FareTable) -> Option<FollowFault>
+        ensures fault { IfSome result (IsFollowFault self.now from next.now) }
+        ensures none { result ≡ None → CanFollow self.now from next.now }
+    {
+        if from <= last_from(&self.later) {
+            return Some(FollowFault::Date);
+        }
+        if !same_zone(self.zone_text(), next.zone_text()) {
+            return Some(FollowFault::Zone);
+        }
+        if !same_names(self.mode_names(), next.mode_names()) {
+            return Some(FollowFault::Modes);
+        }
+        if !next.later.as_slice().is_empty() {
+            return Some(FollowFault::Followed);
+        }
+        None
+    }
+
+    /// Adds a tariff that is valid from the moment on. Unchanged where memory is refused.
+    fn push(&mut self, from: u64, tariff: Arc<Tariff>) -> Result<(), NoMemory>
+        requires { (arc_value tariff).meaning.modes ≡ self.old.meaning.modes }
+        ensures { IfOk result (λ _. self.new ≡ with_next self.old from (arc_value tariff).meaning) }
+    {
+        self.later.push(DatedTariff { from, tariff })?;
+        self.until = self.later[0].from;
+        Ok(())
+    }
+}
+
+/// How many of the tariffs are valid at the moment or were before, up to the first that is not yet.
+fn begun(later: &[DatedTariff], moment: u64) -> usize
+    ensures count { result ≡ begun moment (map dated_meaning later.now) }
+    ensures bound { result ≤ length later.now }
+{
+    let mut count = 0;
+    for dated in later {
+        if moment < dated.from {
+            return count;
+        }
+        count += 1;
+    }
+    count
+}
+
+/// The moment from which the last of the tariffs is valid, and 0 where there is none.
+fn last_from(later: &[DatedTariff]) -> u64
+    ensures { result ≡ spec.last_from 0 (map dated_meaning later.now) }
+{
+    let mut last = 0;
+    for dated in later {
+        last = dated.from;
+    }
+    last
+}
+
+/// Whether both name one zone, or none.
+fn same_zone(text: Option<&str>, other: Option<&str>) -> bool
+    ensures { result ≡ same_zone (option_map (λ t. t.now) text.entry)
+        (option_map (λ t. t.now) other.entry) }
+{
+    match (text, other) {
+        (Some(text), Some(other)) => text == other,
+        (None, None) => true,
+        _ => false,
+    }
+}
+
+/// Whether both have the same names in the same order.
+fn same_names(names: &[String], others: &[String]) -> bool
+    ensures { result ≡ same_names (map string_bytes names.now) (map string_bytes others.now) }
+{
+    names == others
 }
 
 /// Reads each key in its turn, up to the first fault.
-#[tactic(auto, unfolding(crate::specs::TableMeaning::meaning_of_tree))]
 fn table_of(alloc: Global, table: &Table) -> Result<FareTable, TableFault>
     ensures answer { Answers (λ t. t.meaning) result (meaning_of_tree (table_view table.now)) }
     ensures zone { IfOk result (λ t. IsClockOf t.meaning t.zone) }
+    ensures alone { IfOk result (λ t. t.later ≡ []) }
 {
-    let modes = modes_of(alloc, table)?;
-    let transfers = transfers_of(alloc, &modes, table)?;
-    let members = classes_of(table)?;
-    let classes = classes_from(alloc, &modes, members)?;
-    let names = names_of(alloc, members)?;
-    let standard = default_of(members, table)?;
-    let ranges = ranges_of(alloc, &modes, table)?;
-    let riders = riders_of(alloc, members, table)?;
-    let zone = zone_of(alloc, table)?;
-    let window = window_of(table)?;
-    let parts = TableData {
-        modes,
-        transfers,
-        classes,
-        names,
-        standard,
-        ranges,
-        riders,
-        zone,
-        window,
-    };
+    let tariff = tariff_of(alloc, table)?;
     Ok(FareTable {
-        parts: Arc::new(alloc, parts)?,
+        first: Arc::new(alloc, tariff)?,
+        until: u64::MAX,
+        later: Vec::new(alloc),
     })
-}
-
-/// The text of a zone, if there is one.
-fn text_of(zone: &Option<Zone>) -> Option<&str>
-    ensures { option_map (λ text. text.now) result ≡ zone_text zone.now }
-{
-    match zone {
-        Some(zone) => Some(zone.text.as_str()),
-        None => None,
-    }
-}
-
-/// The rule of a zone, if there is one.
-fn rule(zone: &Option<Zone>) -> Option<TimeZone<'static>>
-    ensures rule { rule_of result ≡ zone_rule zone.now }
-    ensures has_rule { HasRule result }
-{
-    match zone {
-        Some(zone) => Some(zone.rule),
-        None => None,
-    }
 }

@@ -117,7 +117,7 @@ pub record IsExplained (fares : Fares) (token : Token) (entries : List Entry) (t
   pub windows : List ℕ
   pub of_windows : AreWindowLines fares.zone (rules_of fares (bytes_of token))
       (map (tap_of fares) entries) windows
-  pub whole : text ≡ statement_head token ++ (terms_line (terms_at fares (bytes_of token))
+  pub whole : text ≡ statement_head token ++ (terms_line (terms_at fares.meaning (bytes_of token))
       ++ (lines ++ (totals_line (sums entries) ++ windows)))
 
 -- the explained statement of a token over a history

@@ -29,9 +29,10 @@ abbrev pub name_or_empty : List (List ℕ) → Option ℕ → List ℕ
 name_or_empty names None = []
 name_or_empty names (Some place) = slice_index_or names place []
 
--- the name of a validator's mode, or nothing where the table does not know the validator
-abbrev pub mode_field : Fares → ℕ → List ℕ
-mode_field fares validator = name_or_empty fares.meaning.modes (mode_at fares validator)
+-- the name of a validator's mode at a moment, or nothing where the table does not know the validator
+abbrev pub mode_field : Fares → ℕ → ℕ → List ℕ
+mode_field fares moment validator =
+    name_or_empty fares.meaning.modes (mode_at fares moment validator)
 
 -- `000000000000000000000000000000a1,1,`
 unfoldable pub line_head : Token → ℕ → List ℕ
@@ -41,7 +42,7 @@ line_head token number =
 -- `,1000,subway,paid,300,`
 unfoldable pub entry_fields : Fares → Entry → List ℕ
 entry_fields fares entry =
-    codes "," ++ (decimal entry.validator ++ (codes "," ++ (mode_field fares entry.validator
+    codes "," ++ (decimal entry.validator ++ (codes "," ++ (mode_field fares entry.moment entry.validator
     ++ (codes "," ++ (answer_text entry.answer
     ++ (codes "," ++ (decimal entry.cents ++ codes ",")))))))
 

@@ -50,17 +50,18 @@ fn write_fields(text: &mut String, table: &FareTable, entry: &Entry) -> Result<(
         ++ entry_fields table.now entry.now) }
 {
     let validator = entry.validator;
-    let mode = mode_field(table, validator);
+    let mode = mode_field(table, entry.moment, validator);
     let answer = answer_name(entry.answer);
     let cents = entry.cents;
     write!(text, ",{validator},{mode},{answer},{cents},")
 }
 
-/// The name of the validator's mode, or nothing where the table does not know the validator.
-fn mode_field(table: &FareTable, validator: u32) -> &str
-    ensures { result.now ≡ mode_field table.now validator }
+/// The name of the validator's mode at the moment, or nothing where the table does not know the
+/// validator.
+fn mode_field(table: &FareTable, moment: u64, validator: u32) -> &str
+    ensures { result.now ≡ mode_field table.now moment validator }
 {
-    match table.mode_of(validator) {
+    match table.mode_of(moment, validator) {
         Some(mode) => table.mode_name(mode),
         None => "",
     }

@@ -75,7 +75,7 @@ pub fn write_entry_words(
     ensures { OnOk result (string_bytes text.new ≡ string_bytes text.old
         ++ entry_words table.now entry.now) }
 {
-    let mode = mode_name(table, entry.validator);
+    let mode = mode_name(table, entry.moment, entry.validator);
     let validator = entry.validator;
     let answer = answer_name(entry.answer);
     let cents = entry.cents;

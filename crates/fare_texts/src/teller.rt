@@ -36,7 +36,7 @@ fn tap_of(table: &FareTable, entry: &Entry) -> Result<TapIn, NoMemory>
     }
     Ok(TapIn {
         moment: entry.moment,
-        mode: table.mode_of(entry.validator),
+        mode: table.mode_of(entry.moment, entry.validator),
     })
 }
 
@@ -84,8 +84,9 @@ impl Teller {
             → result ≡ no_transfer_after table.now self.now.token earlier entry.now }
         ensures modes { ForSome result (HasModesBelow (length table.now.meaning.modes)) }
     {
-        let mode = table.mode_of(entry.validator)?;
-        Some(self.account.no_transfer(table, entry.moment, mode))
+        let mode = table.mode_of(entry.moment, entry.validator)?;
+        let bytes = self.token.bytes();
+        Some(self.account.no_transfer(table, &bytes, entry.moment, mode))
     }
 
     /// Takes the token's next entry, and returns the account rule's reason for it after those told
@@ -149,7 +150,7 @@ impl Teller {
         let bytes = self.token.bytes();
         let tap = TapIn {
             moment,
-            mode: table.mode_of(validator),
+            mode: table.mode_of(moment, validator),
         };
         let reason = self.account.explain_step(table, clock, &bytes, tap);
         self.number += 1;

@@ -55,7 +55,7 @@ fn is_sample(table: &FareTable) -> Case {
         (2999, Some("bus")),
         (3000, None),
     ] {
-        let mode = match table.mode_of(validator) {
+        let mode = match table.mode_of(START, validator) {
             Some(mode) => Some(table.mode_name(mode)),
             None => None,
         };
@@ -106,9 +106,9 @@ pub(crate) fn clone(alloc: Global) -> Case {
 fn window_ends(alloc: Global, table: &FareTable) -> Case {
     let clock = table.clock(alloc)?;
     let ends = [
-        clock.window_end(START),
-        clock.window_end(1_709_873_999_999),
-        clock.window_end(1_730_307_600_000),
+        clock.window_end(table.window_span(), START),
+        clock.window_end(table.window_span(), 1_709_873_999_999),
+        clock.window_end(table.window_span(), 1_730_307_600_000),
     ];
     promise(
         ends == [UNTIL, 1_710_388_800_000, 1_730_869_200_000],

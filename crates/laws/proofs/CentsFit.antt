@@ -6,7 +6,7 @@ use Rattle.std.proofs.lemmas.List.Elements.{All-cons, All-nil}
 use Rattle.tap_views.specs.Layout.{Tap}
 use Rattle.fare_table.specs.Fares.{Fares}
 use Rattle.tap_views.specs.Token.{bytes_of}
-use Rattle.account_rule.specs.TokenRules.{rules_of}
+use Rattle.account_rule.specs.TokenRules.{rules_of, token_class}
 use Rattle.account_rule.specs.Taps.{live_at}
 use Rattle.account_rule.proofs.CentsLemmas.{reply_most}
 use Rattle.shard_book.specs.declared.entry.Entry.{Entry}
@@ -18,14 +18,14 @@ use Rattle.laws.proofs.SumsFit.{CostsFew}
 
 plain_few : (fares : Fares) → HaveBoundedTerms fares → (earlier : List Entry) (taps : List Tap)
     → All CostsFew (plain_after fares earlier taps)
-unfolding plain_after answered rules_of live_at
+unfolding plain_after answered rules_of token_class live_at
 plain_few fares bounds earlier [] = All-nil CostsFew
 plain_few fares bounds earlier (tap ∷ taps) =
     let entry = unanswered tap in
     let made = answered fares earlier entry in
     All-cons CostsFew made (plain_after fares (earlier ++ made ∷ []) taps)
     (reply_most (rules_of fares (bytes_of entry.token)) (taps_of fares entry.token earlier)
-    (tap_of fares entry) (λ mode known. bounds (bytes_of entry.token) mode.place))
+    (tap_of fares entry) (λ mode known. bounds (bytes_of entry.token) entry.moment mode.place))
     (plain_few fares bounds (earlier ++ made ∷ []) taps)
 
 pub entries_few : (fares : Fares) (uploads : List (List ℕ)) (history : List Entry)

@@ -179,8 +179,8 @@ unfolding entry_fields
 fields_free fares entry letters =
     both comma (both (number entry.validator)
     (both comma
-    (both (free (mode_field fares entry.validator)
-    (mode_lacks fares.meaning.modes (mode_at fares entry.validator) letters))
+    (both (free (mode_field fares entry.moment entry.validator)
+    (mode_lacks fares.meaning.modes (mode_at fares entry.moment entry.validator) letters))
     (both comma (both (free (answer_text entry.answer) (answer_lacks entry.answer))
     (both comma (both (number entry.cents) comma)))))))
 

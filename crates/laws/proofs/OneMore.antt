@@ -23,7 +23,7 @@ use Rattle.tap_views.proofs.Lists.{All-split}
 use Rattle.fare_table.specs.Fares.{Fares, mode_at}
 use Rattle.account_rule.specs.Laws.{is_ride}
 use Rattle.account_rule.specs.Replies.{replies}
-use Rattle.account_rule.specs.TokenRules.{rules_of, transfers_of}
+use Rattle.account_rule.specs.TokenRules.{rules_of, token_class, transfers_of}
 use Rattle.account_rule.specs.declared.tap.TapIn.{TapIn}
 use Rattle.shard_book.specs.Entry.{mode_of_place, tap_of, taps_of}
 use Rattle.shard_book.specs.declared.entry.Entry.{Entry}
@@ -49,8 +49,8 @@ use Rattle.laws.proofs.Rides.{GiveOneAtMost, IsBehind, no_fewer_rides}
 -- what the class gives is what the rules of the token give
 gives_one : (fares : Fares) (token : Token) → GivesOneAtMost fares token
     → GiveOneAtMost (rules_of fares (bytes_of token)).transfers
-unfolding rules_of transfers_of
-gives_one fares token few tap = few
+unfolding rules_of transfers_of token_class
+gives_one fares token few tap = few tap.moment
 
 -- the number of rides of a token, by the fields of its taps
 rides_by : Fares → Token → List TapFields → ℕ
@@ -88,7 +88,7 @@ module _ (fares : Fares) (token : Token) (x : TapFields) where
       → IsBehind (tap_in fares x) (tap_in fares f)
   unfolding tap_in tap_of entry_of
   behind_one f named named_too is is_too up apart = λ seen.
-      by_order (apart (sym (mapped_is_some mode_of_place (mode_at fares f.validator)) ∙ seen))
+      by_order (apart (sym (mapped_is_some mode_of_place (mode_at fares f.moment f.validator)) ∙ seen))
       (no_earlier x f up (one_token token x f named named_too is is_too))
       (cases_lt x.moment f.moment)
     where

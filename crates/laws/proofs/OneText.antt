@@ -369,7 +369,7 @@ pub one_explained : (fares : Fares) (token : Token) (entries : List Entry) (a b 
     → IsExplained fares token entries a → IsExplained fares token entries b → a ≡ b
 one_explained fares token entries a b is also =
     let head = statement_head token in
-    let terms = terms_line (terms_at fares (bytes_of token)) in
+    let terms = terms_line (terms_at fares.meaning (bytes_of token)) in
     let totals = totals_line (sums entries) in
     is.whole
     ∙ ap (λ ls. head ++ (terms ++ (ls ++ (totals ++ is.windows))))

@@ -18,13 +18,14 @@ use Rattle.tap_views.specs.declared.encoder.TapFields.{TapFields}
 use Rattle.tap_views.specs.Token.{bytes_of, token_eq}
 use Rattle.tap_views.specs.declared.token.Token.{Token}
 use Rattle.tap_views.proofs.ReadingLemmas.{one_list}
-use Rattle.fare_table.specs.Fares.{Fares, class_of, terms_on}
+use Rattle.fare_table.specs.Fares.{Fares, class_of, meaning_at, terms_on}
 use Rattle.fare_table.specs.declared.class.Class.{Class}
 use Rattle.account_rule.specs.Blocks.{last_block}
 use Rattle.account_rule.specs.Reasons.{given_by, latest, live_reason, reason, ride_of}
 use Rattle.account_rule.specs.Replies.{live_reply, reply}
 use Rattle.account_rule.specs.Taps.{LiveTap, is_later}
-use Rattle.account_rule.specs.TokenRules.{TokenRules, permits_of, rules_of, transfers_of}
+use Rattle.account_rule.specs.TokenRules.{TokenRules, permits_of, rules_of, token_class}
+use Rattle.account_rule.specs.TokenRules.{transfers_of}
 use Rattle.account_rule.specs.Trips.{ends_in_transfer, last_trip, rides, trips}
 use Rattle.account_rule.specs.Windows.{windows}
 use Rattle.account_rule.specs.declared.reason.Reason.{Reason}
@@ -104,16 +105,16 @@ record AnswerAlike (one other : TokenRules) : Type 0 where
   windows : (taps : List TapIn) → windows other taps ≡ windows one taps
 
 -- the place of a class matters to what is kept alone
-of_class : TokenRules → ℕ → TokenRules
+of_class : TokenRules → (ℕ → ℕ) → TokenRules
 of_class rules place = record rules { class = place }
 
-same_ride_of : (rules : TokenRules) (place : ℕ) (window : List LiveTap)
+same_ride_of : (rules : TokenRules) (place : ℕ → ℕ) (window : List LiveTap)
     → ride_of (of_class rules place) window ≡ ride_of rules window
 unfolding ride_of of_class
 same_ride_of rules place [] = refl
 same_ride_of rules place (first ∷ window) = refl
 
-answer_alike : (rules : TokenRules) (place : ℕ) → AnswerAlike rules (of_class rules place)
+answer_alike : (rules : TokenRules) (place : ℕ → ℕ) → AnswerAlike rules (of_class rules place)
 unfolding reply live_reply reason live_reason ends_in_transfer last_trip trips windows rides
     of_class
 answer_alike rules place = record {
@@ -126,25 +127,26 @@ answer_alike rules place = record {
   windows = λ taps. refl;
 }
 
--- the rules of a class, at a place
-rules_by : Fares → ℕ → Class → TokenRules
+-- the rules of the class of each moment, at its place
+rules_by : Fares → (ℕ → ℕ) → (ℕ → Class) → TokenRules
 rules_by fares place class = record (rules_of fares []) {
   class = place;
-  terms = λ ride. terms_on class ride.mode.place;
+  terms = λ ride. terms_on (class ride.moment) ride.mode.place;
   transfers = record {
-    count = λ tap. class.transfers.taps;
-    time = λ tap. class.transfers.time;
+    count = λ tap. (class tap.moment).transfers.taps;
+    time = λ tap. (class tap.moment).transfers.time;
     permits = permits_of fares;
   };
 }
 
 same_rules : (fares : Fares) (token other : Token) → HaveSameTerms fares token other
     → AnswerAlike (rules_of fares (bytes_of token)) (rules_of fares (bytes_of other))
-unfolding rules_of transfers_of rules_by of_class
+unfolding rules_of transfers_of token_class rules_by of_class
 same_rules fares token other same =
-    let place = class_of fares (bytes_of other) in
+    let place = λ (moment : ℕ). class_of (meaning_at fares moment) (bytes_of other) in
+    let back = λ (moment : ℕ). sym (same moment) in
     let is : rules_of fares (bytes_of other) ≡ of_class (rules_of fares (bytes_of token)) place =
-    ap (rules_by fares place) (sym same) in
+    λ i. rules_by fares place (λ moment. back moment i) in
     subst (λ (rules : TokenRules). AnswerAlike (rules_of fares (bytes_of token)) rules) (sym is)
     (answer_alike (rules_of fares (bytes_of token)) place)
 

@@ -1,6 +1,6 @@
 -- What histories charge: their rides and transfers, and the sums of these.
 use Rattle.std.specs.Prelude.{◌≡◌, ℕ, ◌≤◌, Bool, not, ◌||◌, List, count_by, filter, map, nat_lt}
-use Rattle.fare_table.specs.Fares.{Fares, class_at, class_of, transfer_terms}
+use Rattle.fare_table.specs.Fares.{Fares, class_at, class_of, meaning_at, transfer_terms}
 use Rattle.tap_views.specs.Token.{bytes_of}
 use Rattle.tap_views.specs.declared.token.Token.{Token}
 use Rattle.account_rule.specs.Laws.{is_ride}
@@ -51,16 +51,20 @@ abbrev pub bill_before : Token → ℕ → List Entry → List Entry
 bill_before token moment entries =
     filter (λ entry. nat_lt entry.moment moment) (live_entries (own token entries))
 
--- both tokens have the same terms, fares and transfers, as two riders of one class do
+-- both tokens have the same terms, fares and transfers at each moment, as two riders of one class do
 abbrev pub HaveSameTerms : Fares → Token → Token → Type 0
 HaveSameTerms fares token other =
-    class_at fares (class_of fares (bytes_of token))
-    ≡ class_at fares (class_of fares (bytes_of other))
+    (moment : ℕ)
+    → class_at (meaning_at fares moment) (class_of (meaning_at fares moment) (bytes_of token))
+    ≡ class_at (meaning_at fares moment) (class_of (meaning_at fares moment) (bytes_of other))
 
--- a ride of the token gives one transfer at most
+-- a ride of the token gives one transfer at most, at each moment
 abbrev pub GivesOneAtMost : Fares → Token → Type 0
 GivesOneAtMost fares token =
-    (transfer_terms fares (class_of fares (bytes_of token))).taps ≤ 1
+    (moment : ℕ)
+    → (transfer_terms (meaning_at fares moment)
+    (class_of (meaning_at fares moment) (bytes_of token))).taps
+    ≤ 1
 
 -- the entry as one of the token's
 abbrev pub entry_for : Token → Entry → Entry

@@ -1,14 +1,16 @@
 -- What numbers of 64 bits can hold.
 use Rattle.std.specs.Prelude.{ℕ, ◌<◌, ◌^◌, List, length, All}
-use Rattle.fare_table.specs.Fares.{Fares, class_of, ride_terms}
+use Rattle.fare_table.specs.Fares.{Fares, class_of, meaning_at, ride_terms}
 use Rattle.fare_table.specs.Terms.{AreRideTerms}
 use Rattle.laws.specs.Split.{Part}
 
--- the terms of each token are within their bounds on each mode, so that no tap costs more than
--- 100,000 cents
+-- the terms of each token are within their bounds on each mode at each moment, so that no tap costs
+-- more than 100,000 cents
 abbrev pub HaveBoundedTerms : Fares → Type 0
 HaveBoundedTerms fares =
-    (token : List ℕ) (mode : ℕ) → AreRideTerms (ride_terms fares (class_of fares token) mode)
+    (token : List ℕ) (moment mode : ℕ)
+    → AreRideTerms
+    (ride_terms (meaning_at fares moment) (class_of (meaning_at fares moment) token) mode)
 
 -- the file has fewer than 2 ^ 64 bytes
 abbrev pub HasSize : List ℕ → Type 0

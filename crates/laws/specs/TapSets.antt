@@ -92,7 +92,7 @@ pub record HaveTapsAlikeBefore (moment : ℕ) (uploads others : List (List ℕ))
 
 -- whether the table has the tap's validator
 abbrev pub is_known_tap : Fares → TapFields → Bool
-is_known_tap fares tap = is_some (mode_at fares tap.validator)
+is_known_tap fares tap = is_some (mode_at fares tap.moment tap.validator)
 
 -- The others have the token's good taps of the uploads and one more, at a moment at which none of
 -- these is known.

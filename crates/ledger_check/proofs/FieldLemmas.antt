@@ -192,7 +192,7 @@ pub first_fields : (fares : Fares) (token : Token) (number : ℕ) (entry : Entry
     → IsLedgerLine fares token number entry why line → FirstFields token number entry line
 unfolding entry_fields
 first_fields fares token number entry why line is =
-    let tail = mode_field fares
+    let tail = mode_field fares entry.moment
     entry.validator
     ++ (44 ∷ [] ++ (answer_text entry.answer ++ (44 ∷ [] ++ (decimal entry.cents ++ 44 ∷ [])))) in
     let end = is.reason_fields ++ 10 ∷ [] in

@@ -34,6 +34,7 @@ pub use checker::{Checker, Verdict};
 pub use columns::{CutLine, cut_line, has_traced_head, traced_head_line};
 pub use exact::tap_of_line;
 pub use full_balance::FullBalance;
+pub use moment::read_moment;
 pub use places::{PlaceFinding, Places};
 pub use recount::Recount;
 pub use tap::read_small_number;

@@ -3,13 +3,13 @@ use Rattle.std.proofs.Common.{◌≡◌, ℕ, ◌≤◌, List, [], ◌∷◌, �
 use Rattle.std.proofs.Common.{refl, sym, ap, subst, ◌∙◌, append_assoc, option_map}
 use Rattle.std.specs.Fmt.{decimal}
 use Rattle.hex.specs.Hex.{encode_lower}
-use Rattle.fare_table.specs.Fares.{Fares, class_of, mode_at, ride_terms}
+use Rattle.fare_table.specs.Fares.{Fares, class_of, meaning_at, mode_at, ride_terms}
 use Rattle.fare_table.specs.Terms.{AreRideTerms}
 use Rattle.fare_table.specs.declared.mode.Mode.{Mode}
 use Rattle.fare_texts.specs.Moments.{IsMomentText}
 use Rattle.fare_texts.specs.StatementText.{answer_text}
 use Rattle.account_rule.specs.Taps.{live_at}
-use Rattle.account_rule.specs.TokenRules.{rules_of}
+use Rattle.account_rule.specs.TokenRules.{rules_of, token_class}
 use Rattle.account_rule.specs.declared.reason.Reason.{Reason}
 use Rattle.account_rule.specs.declared.reply.Answer.{Answer}
 use Rattle.account_rule.specs.declared.reply.Answer.TheVariants.{Paid, Transfer, Capped, Stale}
@@ -43,7 +43,7 @@ pub record CentsFields (fares : Fares) (token : Token) (number : ℕ) (entry : E
   pub is : IsMomentText entry.moment moment
   pub behind : List ℕ
   pub shown : line ≡ encode_lower (bytes_of token) ++ 44 ∷ (decimal number ++ 44 ∷ (moment
-      ++ 44 ∷ (decimal entry.validator ++ 44 ∷ (mode_field fares entry.validator
+      ++ 44 ∷ (decimal entry.validator ++ 44 ∷ (mode_field fares entry.moment entry.validator
       ++ 44 ∷ (answer_text entry.answer ++ 44 ∷ (decimal entry.cents ++ 44 ∷ behind))))))
 
 spelt : (token number moment validator mode answer cents behind : List ℕ)
@@ -63,28 +63,31 @@ cents_fields fares token number entry why line is = record {
   behind = is.reason_fields ++ 10 ∷ [];
   shown = is.shown
       ∙ spelt (encode_lower (bytes_of token)) (decimal number) is.moment (decimal entry.validator)
-      (mode_field fares entry.validator) (answer_text entry.answer) (decimal entry.cents)
+      (mode_field fares entry.moment entry.validator) (answer_text entry.answer) (decimal entry.cents)
       (is.reason_fields ++ 10 ∷ []);
 }
 
 -- the terms on the mode of an entry
-terms_at_entry : (fares : Fares) (entry : Entry) → HasRideTerms fares entry.token entry.validator
+terms_at_entry : (fares : Fares) (entry : Entry) → HasRideTerms fares entry.token entry.moment entry.validator
     → (mode : Mode) → (tap_of fares entry).mode ≡ Some mode
     → AreRideTerms ((rules_of fares (bytes_of entry.token)).terms (live_at entry.moment mode))
-unfolding tap_of rules_of live_at
-terms_at_entry fares entry bounds mode is = by (mode_at fares entry.validator) refl is
+unfolding tap_of rules_of token_class live_at
+terms_at_entry fares entry bounds mode is = by (mode_at fares entry.moment entry.validator) refl is
   where
-    by : (o : Option ℕ) → mode_at fares entry.validator ≡ o → option_map mode_of_place o ≡ Some mode
-        → AreRideTerms (ride_terms fares (class_of fares (bytes_of entry.token)) mode.place)
+    by : (o : Option ℕ) → mode_at fares entry.moment entry.validator ≡ o
+        → option_map mode_of_place o ≡ Some mode
+        → AreRideTerms (ride_terms (meaning_at fares entry.moment)
+        (class_of (meaning_at fares entry.moment) (bytes_of entry.token)) mode.place)
     by None at none = absurd (cc)
     by (Some place) at one =
         let same : mode_of_place place ≡ mode = cc in
         subst (λ (m : Mode). AreRideTerms
-        (ride_terms fares (class_of fares (bytes_of entry.token)) m.place))
+        (ride_terms (meaning_at fares entry.moment)
+        (class_of (meaning_at fares entry.moment) (bytes_of entry.token)) m.place))
         same (bounds place at)
 
 pub cents_most : (fares : Fares) (earlier : List Entry) (entry : Entry)
-    → HasRideTerms fares entry.token entry.validator → IsReplied fares earlier entry
+    → HasRideTerms fares entry.token entry.moment entry.validator → IsReplied fares earlier entry
     → entry.cents ≤ 100_000
 unfolding IsReplied tap_of
 cents_most fares earlier entry bounds is =

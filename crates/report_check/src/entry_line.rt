@@ -6,6 +6,7 @@ ghost use Rattle.hex.specs.Hex.{encode_lower};
 ghost use Rattle.account_rule.specs.declared.reply.Answer.{Answer as AnAnswer};
 ghost use Rattle.fare_texts.specs.StatementText.{answer_text};
 ghost use Rattle.fare_texts.specs.LedgerLines.{mode_field};
+ghost use Rattle.fare_texts.specs.Moments.{IsMomentText};
 ghost use Rattle.ledger_check.specs.Ledger.{IsNext};
 ghost use Rattle.ledger_check.specs.Lines.{Lacks};
 ghost use Rattle.shard_book.specs.declared.entry.Entry.{Entry as AnEntry};
@@ -16,28 +17,35 @@ ghost use Rattle.report_check.specs.inside.RideTerms.{HasRideTerms};
 
 use account_rule::Answer;
 use fare_table::{FareTable, Terms};
-use ledger_check::{field, read_small_number};
+use ledger_check::{field, read_moment, read_small_number};
 use report_texts::{after_word, token_before};
 use shard_book::Entry;
 use tap_views::Token;
 
-/// The name of the validator's mode, or nothing if the table does not know the validator.
-fn mode_field(table: &FareTable, validator: u32) -> &[u8]
-    ensures { result.now ≡ mode_field table.now validator }
+/// The name of the validator's mode at the moment, or nothing if the table does not know the
+/// validator.
+fn mode_field(table: &FareTable, moment: u64, validator: u32) -> &[u8]
+    ensures { result.now ≡ mode_field table.now moment validator }
 {
-    match table.mode_of(validator) {
+    match table.mode_of(moment, validator) {
         Some(mode) => table.mode_name(mode).as_bytes(),
         None => "".as_bytes(),
     }
 }
 
-/// The terms of the token for a ride at the validator, if the table knows it.
-fn ride_terms_at(table: &FareTable, token: &Token, validator: u32) -> Option<Terms>
-    ensures { HasRideTerms table.now token.now validator }
+/// The terms of the token for a ride at the moment, at the validator, if the table knows it.
+fn ride_terms_at(
+    table: &FareTable,
+    token: &Token,
+    moment: u64,
+    validator: u32,
+) -> Option<Terms>
+    ensures { HasRideTerms table.now token.now moment validator }
 {
-    let mode = table.mode_of(validator)?;
-    let class = table.class_of(&token.bytes());
-    Some(table.ride_terms(class, mode))
+    let mode = table.mode_of(moment, validator)?;
+    let tariff = table.at(moment);
+    let class = tariff.class_of(&token.bytes());
+    Some(tariff.ride_terms(class, mode))
 }
 
 fn answer_by(name: &[u8]) -> Option<Answer>
@@ -65,18 +73,21 @@ fn token_of(line: &[u8]) -> Option<(Token, &[u8])>
     Some((token, behind))
 }
 
-/// The validator, behind the number and the moment, and what stands behind its comma.
-fn validator_of(text: &[u8]) -> Option<(u32, &[u8])>
-    ensures { (number moment behind : List ℕ) (validator : ℕ) → Lacks 44 number → Lacks 44 moment
+/// The moment and the validator, behind the number, and what stands behind the validator's comma.
+fn validator_of(text: &[u8]) -> Option<(u64, u32, &[u8])>
+    ensures { (number shown behind : List ℕ) (moment validator : ℕ) → Lacks 44 number
+        → Lacks 44 shown → moment < 4_102_444_800_000 → IsMomentText moment shown
         → validator < 2 ^ 32
-        → text.now ≡ number ++ 44 ∷ (moment ++ 44 ∷ (decimal validator ++ 44 ∷ behind))
-        → IsSomeAnd result (λ parts. (parts.0 ≡ validator) × (parts.1.now ≡ behind)) }
+        → text.now ≡ number ++ 44 ∷ (shown ++ 44 ∷ (decimal validator ++ 44 ∷ behind))
+        → IsSomeAnd result (λ parts. (parts.0 ≡ moment) × (parts.1 ≡ validator)
+        × (parts.2.now ≡ behind)) }
 {
     let (_number, rest) = field(text)?;
-    let (_moment, rest) = field(rest)?;
+    let (shown, rest) = field(rest)?;
+    let moment = read_moment(shown)?;
     let (digits, rest) = field(rest)?;
     let validator = read_small_number(digits)?;
-    Some((validator, rest))
+    Some((moment, validator, rest))
 }
 
 /// The answer and the cents, behind the mode.
@@ -102,10 +113,10 @@ pub(crate) fn entry_of(table: &FareTable, line: &[u8]) -> Option<Entry>
         → result ≡ Some (without_moment entry) }
 {
     let (token, rest) = token_of(line)?;
-    let (validator, rest) = validator_of(rest)?;
+    let (moment, validator, rest) = validator_of(rest)?;
     // proof: no reply has more cents than the fare on the tap's mode, which 32 bits hold
-    let _terms = ride_terms_at(table, &token, validator);
-    let (answer, cents) = reply_of(rest, mode_field(table, validator))?;
+    let _terms = ride_terms_at(table, &token, moment, validator);
+    let (answer, cents) = reply_of(rest, mode_field(table, moment, validator))?;
     Some(Entry {
         token,
         validator,

@@ -27,7 +27,7 @@ known_place (Some place) known = refl
 
 -- a known tap of the token that is not before the moment
 not_later : (fares : Fares) (moment : ℕ) (before : List Entry) (other : Entry)
-    → Contains before other → is_some (mode_at fares other.validator) ≡ true
+    → Contains before other → is_some (mode_at fares other.moment other.validator) ≡ true
     → moment ≤ other.moment → is_later (taps_of fares other.token before) moment ≡ false
 unfolding is_later taps_of own tap_of
 not_later fares moment before other there known late =
@@ -35,14 +35,14 @@ not_later fares moment before other there known late =
     let of_token = kept_there (is_of other.token) before other (own_entry other) there in
     let taps = mapped_there (tap_of fares) mine other of_token in
     let known_taps = kept_there (λ (tap : TapIn). is_some tap.mode) (map (tap_of fares) mine)
-    (tap_of fares other) (known_place (mode_at fares other.validator) known) taps in
+    (tap_of fares other) (known_place (mode_at fares other.moment other.validator) known) taps in
     not_all (λ (tap : TapIn). nat_lt tap.moment moment)
     (filter (λ (tap : TapIn). is_some tap.mode) (map (tap_of fares) mine)) (tap_of fares other)
     known_taps (le-ltb other.moment moment late)
 
 -- the answer to a known tap that is not later
 stale_answer : (fares : Fares) (earlier : List TapIn) (entry : Entry) (place : Option ℕ)
-    → mode_at fares entry.validator ≡ place → is_some place ≡ true
+    → mode_at fares entry.moment entry.validator ≡ place → is_some place ≡ true
     → is_later earlier entry.moment ≡ false
     → (reply (rules_of fares (bytes_of entry.token)) earlier (tap_of fares entry)).answer ≡ Stale
 unfolding tap_of reply_with
@@ -54,7 +54,7 @@ stale_answer fares earlier entry (Some place) at known not =
 
 pub twin_is_stale : (fares : Fares) (before : List Entry) (entry : Entry) (after : List Entry)
     → IsLegal fares (before ++ entry ∷ after) → HasTwin fares before entry
-    → is_some (mode_at fares entry.validator) ≡ true → entry.answer ≡ Stale
+    → is_some (mode_at fares entry.moment entry.validator) ≡ true → entry.answer ≡ Stale
 unfolding IsReplied
 twin_is_stale fares before entry after legal twin known =
     let not : is_later (taps_of fares entry.token before) entry.moment ≡ false =
@@ -62,5 +62,5 @@ twin_is_stale fares before entry after legal twin known =
     ∙ not_later fares entry.moment before twin.other twin.there twin.known
     (omega (arith, twin.moment)) in
     ap (λ (r : Reply). r.answer) (legal.each before entry after refl)
-    ∙ stale_answer fares (taps_of fares entry.token before) entry (mode_at fares entry.validator)
+    ∙ stale_answer fares (taps_of fares entry.token before) entry (mode_at fares entry.moment entry.validator)
     refl known not

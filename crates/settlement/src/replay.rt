@@ -25,7 +25,7 @@ fn seen(table: &FareTable, tap: &TapFields) -> TapIn
 {
     TapIn {
         moment: tap.moment,
-        mode: table.mode_of(tap.validator),
+        mode: table.mode_of(tap.moment, tap.validator),
     }
 }
 

@@ -109,7 +109,7 @@ kept-push table accounts after entries entry kept own_kept others = λ token.
 
 -- the tap that the account rule is given is the entry's
 pub tap_of-post : (table : Fares) (entry : Entry) (mode : Option Mode)
-    → option_map (λ m. m.place) mode ≡ mode_at table entry.validator
+    → option_map (λ m. m.place) mode ≡ mode_at table entry.moment entry.validator
     → tap_of table entry ≡ record { moment = entry.moment; mode = mode }
 unfolding tap_of
 tap_of-post table entry mode is_mode =

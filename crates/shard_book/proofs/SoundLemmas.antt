@@ -84,7 +84,7 @@ pub sound-post : {table : Fares} {shard shards : ℕ} {accounts after : Accounts
     → IsSound table shard shards accounts entries
     → shard_of_token (bytes_of entry.token) shards ≡ shard
     → Fits entry.token
-    → option_map (λ m. m.place) mode ≡ mode_at table entry.validator
+    → option_map (λ m. m.place) mode ≡ mode_at table entry.moment entry.validator
     → ((taps : List TapIn)
     → IsKept (rules_of table (bytes_of entry.token)) (kept_at accounts entry.token) taps
     → reply_of entry ≡ reply (rules_of table (bytes_of entry.token)) taps

@@ -1,7 +1,7 @@
 -- Sums by token of two lists of entries, if the tokens of the first are below those of the second,
 -- and of entries of one token.
 use Rattle.std.proofs.Common.{◌≡◌, false, ◌||◌, cond, List, ◌∷◌, ◌++◌, map, filter, [], refl, sym}
-use Rattle.std.proofs.Common.{ap, ◌∙◌, append-nil, All, ◌+◌, ◌<◌, length, arith}
+use Rattle.std.proofs.Common.{ap, ◌∙◌, append-nil, All, ◌<◌, length, arith}
 use Rattle.std.specs.List.Sorted.{IsStrictlySortedBy}
 use Rattle.std.specs.declared.cmp.Ordering.TheVariants.{Less}
 use Rattle.std.proofs.lemmas.List.{map-append}

@@ -1,5 +1,5 @@
 -- What one turn appends to a history.
-use Rattle.std.specs.Prelude.{◌≡◌, ℕ, ◌+◌, ◌<◌, List, ◌++◌, length, take, map}
+use Rattle.std.specs.Prelude.{◌≡◌, ◌+◌, ◌<◌, List, ◌++◌, length, take, map}
 use Rattle.std.specs.List.{AllZip}
 use Rattle.tap_views.specs.Layout.{Tap}
 use Rattle.shard_book.specs.declared.entry.Entry.{Entry}

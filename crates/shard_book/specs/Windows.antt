@@ -1,9 +1,10 @@
 -- What holds of the windows of a token's taps.
-use Rattle.std.specs.Prelude.{◌≡◌, ◌≤◌, List, map, filter, flat_map, All, sum_by}
+use Rattle.std.specs.Prelude.{◌≡◌, ◌≤◌, ℕ, List, [], map, filter, flat_map, All, sum_by}
 use Rattle.fare_table.specs.Fares.{Fares, terms_at}
+use Rattle.fare_table.specs.TableMeaning.{TableMeaning}
 use Rattle.fare_table.specs.declared.terms.Terms.{Terms}
 use Rattle.account_rule.specs.declared.reply.Reply.{Reply}
-use Rattle.account_rule.specs.Laws.{charge_reply, is_ride}
+use Rattle.account_rule.specs.Laws.{GrowsWithinLimits, charge_reply, is_ride}
 use Rattle.account_rule.specs.TokenRules.{rules_of}
 use Rattle.account_rule.specs.Taps.{LiveTap}
 use Rattle.account_rule.specs.Windows.{charges, paid_rides, window_cents, windows}
@@ -13,13 +14,20 @@ use Rattle.shard_book.specs.Entry.{own, taps_of, reply_of}
 use Rattle.shard_book.specs.Sums.{sums_of_replies}
 use Rattle.tap_views.specs.Token.{bytes_of}
 
--- No window has more paid rides than the ride limit or costs more than the ceiling. The replies to
--- rides are, window by window, those of its charges, so that the windows' paid rides and cents add up
--- to those of all replies.
-pub record BlocksKeepLimits (terms : LiveTap → Terms) (limits : Terms)
-    (blocks : List (List LiveTap)) (replied : List Reply) : Type 0 where
+-- No window has more paid rides than the ride limit or costs more than the ceiling.
+pub record BlocksKeepLimits (terms : LiveTap → Terms) (limits : Terms) (blocks : List (List LiveTap))
+    : Type 0 where
   pub rides : All (λ window. paid_rides terms window ≤ limits.rides) blocks
   pub ceiling : All (λ window. window_cents terms window ≤ limits.ceiling) blocks
+
+-- The windows of the token's taps keep the limits of its terms, where one table is valid at all times.
+-- Where others follow it, each window grows within the limits of its rides. The replies to rides are,
+-- window by window, those of its charges, so that the windows' paid rides and cents add up to those of
+-- all replies.
+pub record BlocksAreLimited (terms : LiveTap → Terms) (limits : Terms) (later : List (ℕ × TableMeaning))
+    (blocks : List (List LiveTap)) (replied : List Reply) : Type 0 where
+  pub alone : later ≡ [] → BlocksKeepLimits terms limits blocks
+  pub each : All (GrowsWithinLimits terms) blocks
   pub shared : filter is_ride replied
       ≡ flat_map (λ window. map charge_reply (charges terms window)) blocks
   pub paid : (sums_of_replies replied).paid ≡ sum_by (paid_rides terms) blocks
@@ -30,5 +38,5 @@ pub record BlocksKeepLimits (terms : LiveTap → Terms) (limits : Terms)
 abbrev pub WindowsKeepLimits : Fares → List Entry → Token → Type 0
 WindowsKeepLimits table entries token =
     let rules = rules_of table (bytes_of token) in
-    BlocksKeepLimits rules.terms (terms_at table (bytes_of token))
+    BlocksAreLimited rules.terms (terms_at table.meaning (bytes_of token)) table.later
     (windows rules (taps_of table token entries)) (map reply_of (own token entries))

@@ -117,7 +117,7 @@ impl ShardBook {
         let token = Token::of(tap.token());
         let validator = tap.validator_number();
         let moment = tap.moment_ms();
-        let mode = self.table.mode_of(validator);
+        let mode = self.table.mode_of(moment, validator);
         let tap_in = TapIn { moment, mode };
         let (place, reply) = self
             .accounts

@@ -36,16 +36,16 @@ default_mark fares place = if place == fares.meaning.standard then 1 else 0
 -- milliseconds.
 abbrev pub class_row : Fares → ℕ → List Field
 class_row fares place =
-    text (name_at fares.meaning.names place) ∷ number (class_at fares place).terms.fare
-    ∷ number (class_at fares place).terms.rides ∷ number (class_at fares place).terms.ceiling
-    ∷ number (default_mark fares place) ∷ number (transfer_terms fares place).taps
-    ∷ number (transfer_terms fares place).time ∷ []
+    text (name_at fares.meaning.names place) ∷ number (class_at fares.meaning place).terms.fare
+    ∷ number (class_at fares.meaning place).terms.rides ∷ number (class_at fares.meaning place).terms.ceiling
+    ∷ number (default_mark fares place) ∷ number (transfer_terms fares.meaning place).taps
+    ∷ number (transfer_terms fares.meaning place).time ∷ []
 
 -- the fare of a class for a ride on a mode: the names of both, and the cents
 abbrev pub fare_row : Fares → ℕ → ℕ → List Field
 fare_row fares class mode =
     text (name_at fares.meaning.names class) ∷ text (name_at fares.meaning.modes mode)
-    ∷ number (ride_terms fares class mode).fare ∷ []
+    ∷ number (ride_terms fares.meaning class mode).fare ∷ []
 
 -- the fares of a class, mode by mode
 abbrev pub fare_rows_of : Fares → ℕ → List (List Field)
@@ -58,7 +58,7 @@ two_modes fares from to =
 
 -- the pair of two modes, if a ride includes a transfer from the one to the other
 abbrev pub pair_row : Fares → ℕ → ℕ → List (List Field)
-pair_row fares from to = if is_permitted fares from to then two_modes fares from to ∷ [] else []
+pair_row fares from to = if is_permitted fares.meaning from to then two_modes fares from to ∷ [] else []
 
 -- the pairs of one mode with each
 abbrev pub pair_rows_of : Fares → ℕ → List (List Field)

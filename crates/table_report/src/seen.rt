@@ -54,7 +54,7 @@ impl SeenValidators {
     {
         let mut found = Vec::new(alloc);
         for number in self.numbers.iter() {
-            if table.mode_of(*number).is_none() {
+            if table.first().mode_of(*number).is_none() {
                 found.push(*number)?;
             }
         }

@@ -17,7 +17,7 @@ day_of moment = moment / 86_400_000
 abbrev pub is_looked_at : Fares → MomentSpan → TapFields → Bool
 is_looked_at fares span tap =
     nat_le span.first tap.moment && nat_le tap.moment span.last
-    && is_some (mode_at fares tap.validator)
+    && is_some (mode_at fares tap.moment tap.validator)
 
 abbrev pub looked_at : Fares → MomentSpan → List TapFields → List TapFields
 looked_at fares span taps = filter (is_looked_at fares span) taps

@@ -26,7 +26,9 @@ pub struct SilentDay {
 fn is_looked_at(table: &FareTable, span: MomentSpan, tap: &TapFields) -> bool
     ensures { result ≡ spec.is_looked_at table.now span tap.now }
 {
-    span.first <= tap.moment && tap.moment <= span.last && table.mode_of(tap.validator).is_some()
+    span.first <= tap.moment
+        && tap.moment <= span.last
+        && table.mode_of(tap.moment, tap.validator).is_some()
 }
 
 /// The days and the validators of taps that are added list by list.

@@ -1,6 +1,8 @@
 -- Kept: what private functions alone cite.
 use Rattle.std.specs.Prelude.{ℕ, ◌+◌, ◌-◌, Bool, false, ◌&&◌, if◌then◌else◌, min, nat_le, nat_lt}
 use Rattle.std.specs.Prelude.{Option, Some, None}
+use Rattle.fare_table.specs.Fares.{is_permitted, transfer_terms}
+use Rattle.fare_table.specs.TableMeaning.{TableMeaning}
 use Rattle.fare_table.specs.declared.terms.Terms.{Terms}
 use Rattle.account_rule.specs.declared.window.Window.{Window}
 use Rattle.account_rule.specs.declared.window.WindowView.{WindowView}
@@ -18,6 +20,15 @@ gives rules (Some trip) tap =
     nat_lt trip.given (rules.count tap)
     && nat_le (tap.moment - trip.ride.moment) (rules.time tap)
     && rules.permits trip.last.mode tap
+
+-- what one meaning says of transfers, at each tap: as many as the rides of the class give, within their
+-- time, where the pair of modes is permitted
+unfoldable pub transfers_in : TableMeaning → ℕ → TransferRules
+transfers_in meaning class = record {
+  count = λ tap. (transfer_terms meaning class).taps;
+  time = λ tap. (transfer_terms meaning class).time;
+  permits = λ from tap. is_permitted meaning from.place tap.mode.place;
+}
 
 -- what its owner sees of a window
 unfoldable pub shown_of : Window → WindowView

@@ -7,10 +7,11 @@ ghost use Rattle.fare_table.specs.Fares.{ride_terms};
 ghost use Rattle.fare_table.specs.Until.{window_end_in};
 ghost use Rattle.account_rule.specs.declared.tap.TapIn.{TapIn};
 ghost use Rattle.account_rule.specs.Kept.{IsRoomy, kept_numbers, kept_trip};
-ghost use Rattle.account_rule.specs.inside.Kept.{next_reason, window_at, with_ride};
+ghost use Rattle.account_rule.specs.inside.Kept.{next_reason, transfers_in, window_at};
+ghost use Rattle.account_rule.specs.inside.Kept.{with_ride};
 ghost use Rattle.account_rule.specs.NoTransfers.{HasModesBelow, no_transfer, no_transfer_from};
 ghost use Rattle.account_rule.specs.Reasons.{given_by, reason, replied_by};
-ghost use Rattle.account_rule.specs.TokenRules.{TokenRules, rules_of, transfers_of};
+ghost use Rattle.account_rule.specs.TokenRules.{TokenRules, rules_of};
 ghost use Rattle.account_rule.specs.Stands.{Stands, StandsForSome};
 ghost use Rattle.account_rule.specs.Taps.{live_at};
 
@@ -19,7 +20,7 @@ use crate::no_transfer::NoTransfer;
 use crate::reason::Reason;
 use crate::tap::TapIn;
 use crate::window::Window;
-use fare_table::{Clock, FareTable, Mode};
+use fare_table::{Clock, FareTable, Mode, Tariff};
 
 impl Account {
     /// Takes one more tap of the token, as `step` does, and returns why the rule replies to it as
@@ -51,53 +52,63 @@ impl Account {
             return Reason::Unknown;
         };
         if !self.has_window {
-            let terms = table.ride_terms(table.class_of(token), mode);
-            let first = Window::opened(clock, tap.moment).next_reason(terms);
-            self.first_ride(table, clock, token, mode, tap.moment);
+            let tariff = table.at(tap.moment);
+            let terms = tariff.ride_terms(tariff.class_of(token), mode);
+            let first = Window::opened(tariff, clock, tap.moment).next_reason(terms);
+            self.first_ride(tariff, clock, token, mode, tap.moment);
             return first;
         }
         if tap.moment <= self.last {
             return Reason::Stale { latest: self.last };
         }
-        if self.gives_transfer(table, tap.moment, mode) {
+        let tariff = table.at(tap.moment);
+        let class = self.class_at(table, token, tap.moment);
+        if self.gives_transfer(tariff, class, tap.moment, mode) {
             let given = self.given();
-            self.take_transfer(mode, tap.moment);
+            self.take_transfer(class, mode, tap.moment);
             return given;
         }
-        self.explain_ride(table, clock, mode, tap.moment)
+        self.explain_ride(tariff, clock, class, mode, tap.moment)
     }
 
     /// Why a ride at the moment, on the mode, would be no transfer after the taps that the account
     /// has seen.
     ///
-    /// The table is that of `step`. It says so of rides alone: of a tap that is a transfer, its
-    /// answer has no meaning.
-    pub fn no_transfer(&self, table: &FareTable, moment: u64, mode: Mode) -> NoTransfer
-        requires stands { (token : List ℕ) × StandsForSome (rules_of table.now token) self.now }
+    /// The table and the token are those of `step`. It says so of rides alone: of a tap that is a
+    /// transfer, its answer has no meaning.
+    pub fn no_transfer(
+        &self,
+        table: &FareTable,
+        token: &[u8],
+        moment: u64,
+        mode: Mode,
+    ) -> NoTransfer
+        requires token { length token.now ≡ 16 }
 
-        // Of every token and list for which the account stands.
-        ensures lacks { (token : List ℕ) (taps : List TapIn)
-            → Stands (rules_of table.now token) self.now taps
-            → result ≡ no_transfer (rules_of table.now token) taps moment mode }
+        // Of every list for which the account stands.
+        ensures lacks { (taps : List TapIn) → Stands (rules_of table.now token.now) self.now taps
+            → result ≡ no_transfer (rules_of table.now token.now) taps moment mode }
         ensures modes { (rules : TokenRules) (taps : List TapIn) → Stands rules self.now taps
             → mode.place < rules.modes → HasModesBelow rules.modes result }
     {
         if !self.has_window {
             return NoTransfer::FirstTap;
         }
-        self.spent(table, moment, mode)
+        let tariff = table.at(moment);
+        self.spent(tariff, tariff.class_of(token), moment, mode)
     }
 
-    /// Why the last trip gives no transfer to a ride at the moment, on the mode.
-    #[tactic(auto, unfolding(crate::specs::TokenRules::transfers_of, crate::specs::NoTransfers::no_transfer_from, crate::specs::Kept::kept_trip, crate::specs::Taps::live_at))]
-    fn spent(&self, table: &FareTable, moment: u64, mode: Mode) -> NoTransfer
-        requires class { self.now.class < length table.now.meaning.classes }
-        ensures lacks { result ≡ no_transfer_from (transfers_of table.now self.now.class)
+    /// Why the last trip gives no transfer to a ride at the moment, on the mode, where the tariff is
+    /// valid then and the class is the token's in it.
+    #[tactic(auto, unfolding(crate::specs::inside::Kept::transfers_in, crate::specs::NoTransfers::no_transfer_from, crate::specs::Kept::kept_trip, crate::specs::Taps::live_at))]
+    fn spent(&self, tariff: &Tariff, class: u32, moment: u64, mode: Mode) -> NoTransfer
+        requires class { class < length tariff.now.meaning.classes }
+        ensures lacks { result ≡ no_transfer_from (transfers_in tariff.now.meaning class)
             (kept_trip (Some (kept_numbers self.now))) (live_at moment mode) }
         ensures modes { (modes : ℕ) → self.now.mode.place < modes → mode.place < modes
             → HasModesBelow modes result }
     {
-        let gives = table.transfer_terms(self.class);
+        let gives = tariff.transfer_terms(class);
         let time = u64::from(gives.time);
         if moment.saturating_sub(self.last) > time {
             return NoTransfer::TooLate { last: self.last };
@@ -131,31 +142,40 @@ impl Account {
     /// Takes a live tap at the moment, on the mode, as a ride, and returns why it costs what it
     /// costs.
     #[tactic(auto, unfolding(crate::specs::inside::Kept::window_at, crate::specs::inside::Kept::open_window))]
-    fn explain_ride(&mut self, table: &FareTable, clock: &Clock, mode: Mode, moment: u64) -> Reason
-        requires class { self.old.class < length table.now.meaning.classes }
-        requires mode { mode.place < length table.now.meaning.modes }
+    fn explain_ride(
+        &mut self,
+        tariff: &Tariff,
+        clock: &Clock,
+        class: u32,
+        mode: Mode,
+        moment: u64,
+    ) -> Reason
+        requires class { class < length tariff.now.meaning.classes }
+        requires mode { mode.place < length tariff.now.meaning.modes }
         requires early { moment < 4_102_444_800_000 }
         requires room { IsRoomy self.old.window }
-        ensures bounds { AreRideTerms (ride_terms table.now self.old.class mode.place) }
-        ensures reason { result ≡ next_reason (ride_terms table.now self.old.class mode.place)
-            (window_at (Some self.old.window) moment (window_end_in clock.now moment)) }
+        ensures bounds { AreRideTerms (ride_terms tariff.now.meaning class mode.place) }
+        ensures reason { result ≡ next_reason (ride_terms tariff.now.meaning class mode.place)
+            (window_at (Some self.old.window) moment (window_end_in clock.now
+            tariff.now.meaning.window moment)) }
         ensures has_window { self.new.has_window ≡ self.old.has_window }
         ensures state { kept_numbers self.new ≡ record {
           last = live_at moment mode;
           ride = live_at moment mode;
           given = 0;
-          class = self.old.class;
-          window = with_ride (ride_terms table.now self.old.class mode.place)
-              (window_at (Some self.old.window) moment (window_end_in clock.now moment));
+          class = class;
+          window = with_ride (ride_terms tariff.now.meaning class mode.place)
+              (window_at (Some self.old.window) moment (window_end_in clock.now
+              tariff.now.meaning.window moment));
         } }
     {
         if moment >= self.window.until {
-            self.window = Window::opened(clock, moment);
+            self.window = Window::opened(tariff, clock, moment);
         }
-        let terms = table.ride_terms(self.class, mode);
+        let terms = tariff.ride_terms(class, mode);
         let reason = self.window.next_reason(terms);
         self.window.add_ride(terms);
-        self.begin_trip(mode, moment);
+        self.begin_trip(class, mode, moment);
         reason
     }
 }

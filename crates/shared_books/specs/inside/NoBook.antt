@@ -20,7 +20,8 @@ no_fares = record {
         zone = None;
         window = CalendarDay;
       };
-  zone = record { span = CalendarDay; rule = None };
+  later = [];
+  zone = record { rule = None };
 }
 
 -- an empty book under it

@@ -46,7 +46,7 @@ fn default_mark(fares: &FareTable, place: usize) -> u32
 /// The class at the place.
 fn class_at(fares: &FareTable, place: usize) -> Class
     requires { place < length fares.now.meaning.classes }
-    ensures { result ≡ class_at fares.now place }
+    ensures { result ≡ class_at fares.now.meaning place }
 {
     fares.classes()[place]
 }
@@ -55,7 +55,7 @@ fn class_at(fares: &FareTable, place: usize) -> Class
 fn fare_at(fares: &FareTable, class: usize, mode: usize) -> u32
     requires class { class < length fares.now.meaning.classes }
     requires mode { mode < 32 }
-    ensures { result ≡ (ride_terms fares.now class mode).fare }
+    ensures { result ≡ (ride_terms fares.now.meaning class mode).fare }
 {
     fares.classes()[class].fares[mode]
 }
@@ -123,9 +123,9 @@ fn permits(fares: &FareTable, from: usize, to: usize) -> bool
     requires from { from < length fares.now.meaning.modes }
     requires to { to < length fares.now.meaning.modes }
     requires few { length fares.now.meaning.modes ≤ 32 }
-    ensures { result ≡ is_permitted fares.now from to }
+    ensures { result ≡ is_permitted fares.now.meaning from to }
 {
-    fares.permits(Mode { place: from as u8 }, Mode { place: to as u8 })
+    fares.first().permits(Mode { place: from as u8 }, Mode { place: to as u8 })
 }
 
 /// Appends the statement of two modes.

@@ -1,8 +1,8 @@
 -- Each way out is one of the rule's four cases: unknown, stale, transfer, ride. The reason is that
 -- case's, and the account then stands for one tap more, as after a step.
-use Rattle.std.proofs.Common.{List, [], ◌∷◌, ◌++◌, Some, refl, sym, ap, ◌∙◌, arith}
+use Rattle.std.proofs.Common.{◌≡◌, List, [], ◌∷◌, ◌++◌, Some, refl, sym, ◌∙◌, arith}
 use Rattle.account_rule.specs.declared.window.Window.{Window}
-use Rattle.fare_table.specs.Fares.{ride_terms}
+use Rattle.fare_table.specs.Fares.{class_of, meaning_at, ride_terms}
 use Rattle.fare_table.specs.Until.{window_end_in}
 use Rattle.account_rule.specs.Replies.{reply_with, ride_reply}
 use Rattle.account_rule.specs.Windows.{charge, paid_by}
@@ -13,15 +13,17 @@ use Rattle.account_rule.specs.Stands.{Stands, StandsForSome}
 use Rattle.account_rule.specs.Taps.{live_at}
 use Rattle.account_rule.specs.declared.tap.TapIn.{TapIn}
 use Rattle.account_rule.proofs.ReasonLemmas.{reason_unknown, why_ride, why_stale, why_transfer}
-use Rattle.account_rule.proofs.StepLemmas.{IsStep, at_fresh, at_kept, at_state, first_ride}
-use Rattle.account_rule.proofs.StepLemmas.{gives_none-fresh, gives_none-state, kept-fresh}
-use Rattle.account_rule.proofs.StepLemmas.{kept-open, class_there, gives_same, kept_room, next_ride}
-use Rattle.account_rule.proofs.StepLemmas.{terms_same, stale, stands-open, transfer, unknown}
+use Rattle.account_rule.specs.declared.reply.Answer.TheVariants.{Transfer}
+use Rattle.account_rule.proofs.StepLemmas.{IsStep, at_fresh, at_kept, at_state, class_at, class_is}
+use Rattle.account_rule.proofs.StepLemmas.{class_there, first_ride, gives_none-fresh}
+use Rattle.account_rule.proofs.StepLemmas.{gives_none-state, gives_same, kept-fresh, kept-open}
+use Rattle.account_rule.proofs.StepLemmas.{kept_room, listed, next_ride, stale, stands-open}
+use Rattle.account_rule.proofs.StepLemmas.{terms_same, transfer, unknown, until_same}
 use Rattle.account_rule.proofs.WindowLemmas.{room-open}
 use Rattle.account_rule.proofs.FareLemmas.{given-few, ride_reason-few}
 use Rattle.account_rule.proofs.account.Account.explain_step.Goals as goal
 use Rattle.account_rule.proofs.account.Account.explain_step.Goals.{After-explain_ride}
-use Rattle.account_rule.proofs.account.Account.explain_step.Goals.{After-first_ride}
+use Rattle.account_rule.proofs.account.Account.explain_step.Goals.{After-first_ride, After-take_transfer}
 
 -- the tap's validator is not known
 
@@ -40,32 +42,49 @@ returns-in_default-clause-stands c =
 pub next_reason-first-requires-clause-room : goal.next_reason-first-requires-clause-room
 next_reason-first-requires-clause-room c = rw c.opened.ensures (room-open _ _)
 
+pub first_ride-requires-clause-mode : goal.first_ride-requires-clause-mode
+first_ride-requires-clause-mode c =
+    rw c.at-tariff.ensures.modes (c.requires.mode _ c.in-Some.is)
+
 pub returns-then-not-self-clause-reason : goal.returns-then-not-self-clause-reason
-unfolding Stands rules_of live_at
+unfolding Stands live_at
 returns-then-not-self-clause-reason c =
+    let meaning = c.at-tariff.result.now.meaning in
+    let valid = c.at-tariff.ensures.meaning in
+    let class : c.class_of.result
+    ≡ class_of (meaning_at c.args.table.now c.args.tap.moment) c.args.token.now =
+    rw valid at c.class_of.ensures.class in
     λ taps stands. c.next_reason-first.ensures
     ∙ why_ride (rules_of c.args.table.now c.args.token.now) (kept_of c.args.self.now) taps
     c.args.tap c.in-Some.mode _ _ _ stands c.in-Some.is
-    (ap (λ zone. window_end_in zone c.args.tap.moment) c.requires.clock)
+    (until_same c.args.table.now c.args.token.now c.args.clock.now meaning c.args.tap.moment
+    c.requires.clock valid)
     (gives_none-fresh _ _ c.args.tap c.in-Some.mode (kept-fresh _ c.if-not-self.true))
-    (sym (c.ride_terms-terms.ensures.terms
-    ∙ ap (λ place. ride_terms c.args.table.now place c.in-Some.mode.place)
-    c.class_of.ensures.class)) c.ride_terms-terms.ensures.bounds
+    (terms_same c.args.table.now c.args.token.now meaning c.args.tap.moment c.class_of.result
+    c.in-Some.mode valid class ∙ sym c.ride_terms-terms.ensures.terms)
+    c.ride_terms-terms.ensures.bounds
     (c.opened.ensures ∙ at_fresh _ _ _ (kept-fresh _ c.if-not-self.true))
 
 is_first_ride : (c : After-first_ride) (taps : List TapIn)
     → Stands (rules_of c.args.table.now c.args.token.now) c.args.self.now taps
     → IsStep (rules_of c.args.table.now c.args.token.now) taps c.args.tap c.first_ride.result
     (kept_of c.first_ride.new.self)
-unfolding rules_of Stands live_at
+unfolding Stands live_at
 is_first_ride c taps stands =
+    let meaning = c.at-tariff.result.now.meaning in
+    let valid = c.at-tariff.ensures.meaning in
+    let class : c.first_ride.new.self.class
+    ≡ class_of (meaning_at c.args.table.now c.args.tap.moment) c.args.token.now =
+    rw valid at c.first_ride.ensures.class in
     first_ride (rules_of c.args.table.now c.args.token.now) (kept_of c.args.self.now) _ taps
     c.args.tap c.in-Some.mode _ _ _ _ (kept-fresh _ c.if-not-self.true) stands c.in-Some.is
-    (c.requires.mode _ c.in-Some.is)
-    (ap (λ zone. window_end_in zone c.args.tap.moment) c.requires.clock)
-    (record { is = c.first_ride.ensures.class; there = c.first_ride.ensures.there })
-    (ap (λ place. ride_terms c.args.table.now place c.in-Some.mode.place)
-    (sym c.first_ride.ensures.class)) c.first_ride.ensures.bounds
+    (listed c.args.table.now c.args.token.now c.in-Some.mode (c.requires.mode _ c.in-Some.is))
+    (until_same c.args.table.now c.args.token.now c.args.clock.now meaning c.args.tap.moment
+    c.requires.clock valid)
+    (class_at c.args.table.now c.args.token.now c.args.tap.moment c.first_ride.new.self.class class
+    (rw valid at c.first_ride.ensures.there))
+    (terms_same c.args.table.now c.args.token.now meaning c.args.tap.moment
+    c.first_ride.new.self.class c.in-Some.mode valid class) c.first_ride.ensures.bounds
     c.first_ride.ensures.reply c.first_ride.ensures.state
 
 pub returns-then-not-self-clause-stands : goal.returns-then-not-self-clause-stands
@@ -94,41 +113,69 @@ returns-then-tap-self-clause-stands c =
     (stale _ _ _ taps c.args.tap _ (kept-open _ c.if-not-self.false) stands c.in-Some.is
     c.if-tap-self.true).stands
 
+-- the class of the tap
+
+pub class_at-class-requires : goal.class_at-class-requires
+unfolding StandsForSome
+class_at-class-requires c = record {
+  token = c.requires.token;
+  order = omega arith;
+  class = class_is c.args.table.now c.args.token.now c.args.self.now c.requires.stands.0
+      c.if-not-self.false c.requires.stands.1;
+  there = class_there c.args.table.now c.args.token.now c.args.self.now c.requires.stands.0
+      c.if-not-self.false c.requires.stands.1;
+}
+
 -- the last tap gives a transfer
 
 pub gives_transfer-requires-clause-class : goal.gives_transfer-requires-clause-class
-unfolding StandsForSome
-gives_transfer-requires-clause-class c =
-    class_there c.args.table.now c.args.token.now c.args.self.now c.requires.stands.0
-    c.if-not-self.false c.requires.stands.1
+gives_transfer-requires-clause-class c = rw c.at-tariff-2.ensures.meaning c.class_at-class.ensures.there
 
 pub gives_transfer-requires-clause-from : goal.gives_transfer-requires-clause-from
 unfolding StandsForSome Stands kept_trip rules_of live_at
 gives_transfer-requires-clause-from c =
-    (at_state (rules_of c.args.table.now c.args.token.now) (kept_of c.args.self.now)
+    rw c.at-tariff-2.ensures.modes
+    ((at_state (rules_of c.args.table.now c.args.token.now) (kept_of c.args.self.now)
     (kept_numbers c.args.self.now) c.requires.stands.0
-    (kept-open c.args.self.now c.if-not-self.false) c.requires.stands.1).mode _ refl
+    (kept-open c.args.self.now c.if-not-self.false) c.requires.stands.1).mode _ refl)
+
+pub gives_transfer-requires-clause-mode : goal.gives_transfer-requires-clause-mode
+gives_transfer-requires-clause-mode c =
+    rw c.at-tariff-2.ensures.modes (c.requires.mode _ c.in-Some.is)
+
+is_transfer : (c : After-take_transfer) (taps : List TapIn)
+    → Stands (rules_of c.args.table.now c.args.token.now) c.args.self.now taps
+    → IsStep (rules_of c.args.table.now c.args.token.now) taps c.args.tap (reply_with Transfer 0)
+    (Some (kept_numbers c.take_transfer.new.self))
+unfolding Stands live_at rules_of
+is_transfer c taps stands =
+    transfer (rules_of c.args.table.now c.args.token.now) _ _ _ taps c.args.tap c.in-Some.mode
+    c.class_at-class.result (kept-open _ c.if-not-self.false) stands c.in-Some.is
+    (listed c.args.table.now c.args.token.now c.in-Some.mode (c.requires.mode _ c.in-Some.is))
+    c.if-tap-self.false (gives_same c.args.table.now c.args.token.now c.at-tariff-2.result.now.meaning
+    c.args.tap.moment c.class_at-class.result c.in-Some.mode
+    (kept_trip (Some (kept_numbers c.args.self.now))) c.gives_transfer.result
+    c.at-tariff-2.ensures.meaning c.class_at-class.ensures.class c.gives_transfer.ensures.gives
+    ∙ c.if-gives_transfer.true)
+    (class_at c.args.table.now c.args.token.now c.args.tap.moment c.class_at-class.result
+    c.class_at-class.ensures.class c.class_at-class.ensures.there) c.take_transfer.ensures.state
 
 pub returns-then-gives_transfer-clause-reason : goal.returns-then-gives_transfer-clause-reason
 unfolding rules_of Stands live_at
 returns-then-gives_transfer-clause-reason c =
     λ taps stands. c.given-given.ensures
     ∙ why_transfer (rules_of c.args.table.now c.args.token.now) _ _ taps c.args.tap c.in-Some.mode
-    (kept-open _ c.if-not-self.false) stands c.in-Some.is
-    c.if-tap-self.false (gives_same c.args.table.now c.args.token.now c.args.self.now taps
-    (live_at c.args.tap.moment c.in-Some.mode) c.gives_transfer.result c.if-not-self.false stands
-    c.gives_transfer.ensures.gives ∙ c.if-gives_transfer.true)
+    (kept-open _ c.if-not-self.false) stands c.in-Some.is c.if-tap-self.false
+    (gives_same c.args.table.now c.args.token.now c.at-tariff-2.result.now.meaning
+    c.args.tap.moment c.class_at-class.result c.in-Some.mode
+    (kept_trip (Some (kept_numbers c.args.self.now))) c.gives_transfer.result
+    c.at-tariff-2.ensures.meaning c.class_at-class.ensures.class c.gives_transfer.ensures.gives
+    ∙ c.if-gives_transfer.true)
 
 pub returns-then-gives_transfer-clause-stands : goal.returns-then-gives_transfer-clause-stands
-unfolding rules_of Stands live_at
 returns-then-gives_transfer-clause-stands c =
     λ taps stands. stands-open _ _ _ (c.take_transfer.ensures.has_window ∙ c.if-not-self.false)
-    (transfer (rules_of c.args.table.now c.args.token.now) _ _ _ taps c.args.tap
-    c.in-Some.mode (kept-open _ c.if-not-self.false) stands c.in-Some.is
-    (c.requires.mode _ c.in-Some.is) c.if-tap-self.false
-    (gives_same c.args.table.now c.args.token.now c.args.self.now taps
-    (live_at c.args.tap.moment c.in-Some.mode) c.gives_transfer.result c.if-not-self.false stands
-    c.gives_transfer.ensures.gives ∙ c.if-gives_transfer.true) c.take_transfer.ensures.state).stands
+    (is_transfer c taps stands).stands
 
 pub returns-then-gives_transfer-clause-some : goal.returns-then-gives_transfer-clause-some
 unfolding StandsForSome
@@ -140,10 +187,12 @@ returns-then-gives_transfer-clause-some c = (
 -- the tap is a later ride
 
 pub explain_ride-requires-clause-class : goal.explain_ride-requires-clause-class
-unfolding StandsForSome
 explain_ride-requires-clause-class c =
-    class_there c.args.table.now c.args.token.now c.args.self.now c.requires.stands.0
-    c.if-not-self.false c.requires.stands.1
+    rw c.at-tariff-2.ensures.meaning c.class_at-class.ensures.there
+
+pub explain_ride-requires-clause-mode : goal.explain_ride-requires-clause-mode
+explain_ride-requires-clause-mode c =
+    rw c.at-tariff-2.ensures.modes (c.requires.mode _ c.in-Some.is)
 
 pub explain_ride-requires-clause-room : goal.explain_ride-requires-clause-room
 unfolding StandsForSome Stands
@@ -154,42 +203,56 @@ explain_ride-requires-clause-room c =
 pub returns-clause-reason : goal.returns-clause-reason
 unfolding rules_of Stands live_at
 returns-clause-reason c =
+    let meaning = c.at-tariff-2.result.now.meaning in
+    let valid = c.at-tariff-2.ensures.meaning in
     λ taps stands.
     c.explain_ride.ensures.reason
     ∙ why_ride (rules_of c.args.table.now c.args.token.now) (kept_of c.args.self.now) taps
     c.args.tap c.in-Some.mode _ _ _ stands c.in-Some.is
-    (ap (λ zone. window_end_in zone c.args.tap.moment) c.requires.clock)
+    (until_same c.args.table.now c.args.token.now c.args.clock.now meaning c.args.tap.moment
+    c.requires.clock valid)
     (gives_none-state _ _ _ c.args.tap _ (kept-open _ c.if-not-self.false) c.if-tap-self.false
-    (gives_same c.args.table.now c.args.token.now c.args.self.now taps
-    (live_at c.args.tap.moment c.in-Some.mode) c.gives_transfer.result c.if-not-self.false stands
-    c.gives_transfer.ensures.gives ∙ c.if-gives_transfer.false))
-    (terms_same c.args.table.now c.args.token.now c.args.self.now taps c.in-Some.mode.place
-    c.if-not-self.false stands) c.explain_ride.ensures.bounds
+    (gives_same c.args.table.now c.args.token.now c.at-tariff-2.result.now.meaning
+    c.args.tap.moment c.class_at-class.result c.in-Some.mode
+    (kept_trip (Some (kept_numbers c.args.self.now))) c.gives_transfer.result
+    c.at-tariff-2.ensures.meaning c.class_at-class.ensures.class c.gives_transfer.ensures.gives
+    ∙ c.if-gives_transfer.false))
+    (terms_same c.args.table.now c.args.token.now meaning c.args.tap.moment c.class_at-class.result
+    c.in-Some.mode valid c.class_at-class.ensures.class) c.explain_ride.ensures.bounds
     (at_kept _ _ _ _ (kept-open _ c.if-not-self.false))
 
 next_window : (c : After-explain_ride) → Window
 next_window c = window_at (Some c.args.self.now.window) c.args.tap.moment
-    (window_end_in c.args.clock.now c.args.tap.moment)
+    (window_end_in c.args.clock.now c.at-tariff-2.result.now.meaning.window c.args.tap.moment)
 
 is_next_ride : (c : After-explain_ride) (taps : List TapIn)
     → Stands (rules_of c.args.table.now c.args.token.now) c.args.self.now taps
     → IsStep (rules_of c.args.table.now c.args.token.now) taps c.args.tap
-    (ride_reply (paid_by (charge
-    (ride_terms c.args.table.now c.args.self.now.class c.in-Some.mode.place)
+    (ride_reply (paid_by (charge (ride_terms c.at-tariff-2.result.now.meaning
+    c.class_at-class.result c.in-Some.mode.place)
     (next_window c).rides (next_window c).cents)))
     (Some (kept_numbers c.explain_ride.new.self))
 unfolding rules_of Stands next_window live_at
 is_next_ride c taps stands =
+    let meaning = c.at-tariff-2.result.now.meaning in
+    let valid = c.at-tariff-2.ensures.meaning in
     next_ride (rules_of c.args.table.now c.args.token.now) (kept_of c.args.self.now) _ _ taps
-    c.args.tap c.in-Some.mode _ _ (kept-open _ c.if-not-self.false) stands c.in-Some.is
-    (c.requires.mode _ c.in-Some.is)
-    (ap (λ zone. window_end_in zone c.args.tap.moment) c.requires.clock)
+    c.args.tap c.in-Some.mode _ c.class_at-class.result _ (kept-open _ c.if-not-self.false) stands
+    c.in-Some.is
+    (listed c.args.table.now c.args.token.now c.in-Some.mode (c.requires.mode _ c.in-Some.is))
+    (until_same c.args.table.now c.args.token.now c.args.clock.now meaning c.args.tap.moment
+    c.requires.clock valid)
     (gives_none-state _ _ _ c.args.tap _ (kept-open _ c.if-not-self.false) c.if-tap-self.false
-    (gives_same c.args.table.now c.args.token.now c.args.self.now taps
-    (live_at c.args.tap.moment c.in-Some.mode) c.gives_transfer.result c.if-not-self.false stands
-    c.gives_transfer.ensures.gives ∙ c.if-gives_transfer.false))
-    (terms_same c.args.table.now c.args.token.now c.args.self.now taps c.in-Some.mode.place
-    c.if-not-self.false stands) c.explain_ride.ensures.bounds c.explain_ride.ensures.state
+    (gives_same c.args.table.now c.args.token.now c.at-tariff-2.result.now.meaning
+    c.args.tap.moment c.class_at-class.result c.in-Some.mode
+    (kept_trip (Some (kept_numbers c.args.self.now))) c.gives_transfer.result
+    c.at-tariff-2.ensures.meaning c.class_at-class.ensures.class c.gives_transfer.ensures.gives
+    ∙ c.if-gives_transfer.false))
+    (class_at c.args.table.now c.args.token.now c.args.tap.moment c.class_at-class.result
+    c.class_at-class.ensures.class c.class_at-class.ensures.there)
+    (terms_same c.args.table.now c.args.token.now meaning c.args.tap.moment c.class_at-class.result
+    c.in-Some.mode valid c.class_at-class.ensures.class) c.explain_ride.ensures.bounds
+    c.explain_ride.ensures.state
 
 pub returns-clause-stands : goal.returns-clause-stands
 returns-clause-stands c =

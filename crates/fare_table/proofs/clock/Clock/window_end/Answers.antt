@@ -26,17 +26,17 @@ pub returns-in-Some-clause-value : goal.returns-in-Some-clause-value
 returns-in-Some-clause-value c =
     let P : Option Zone → Type 0 = HasRule in
     let rule : IsSome (posix_rule (plain_zone c.in-Some.zone)) =
-    subst P c.in-Some.is c.self.invariant.0 in
-    by_rule (plain_zone c.in-Some.zone) c.self.inside.span c.args.moment c.civil_window_end.result
+    subst P c.in-Some.is c.self.invariant in
+    by_rule (plain_zone c.in-Some.zone) c.args.span c.args.moment c.civil_window_end.result
     rule c.civil_window_end.ensures.window_end
-    ∙ ap (λ (z : Option PosixRule). window_end_by z c.self.inside.span c.args.moment)
+    ∙ ap (λ (z : Option PosixRule). window_end_by z c.args.span c.args.moment)
     (ap rule_of (sym c.in-Some.is))
-    ∙ ap (λ (clock : ClockView). window_end_in clock c.args.moment) c.self.view_is
+    ∙ ap (λ (clock : ClockView). window_end_in clock c.args.span c.args.moment) c.self.view_is
 
 pub returns-in-None-clause-value : goal.returns-in-None-clause-value
 returns-in-None-clause-value c =
-    plain_window_end-is c.self.inside.span c.args.moment c.plain_window_end.result
+    plain_window_end-is c.args.span c.args.moment c.plain_window_end.result
     c.plain_window_end.ensures.window_end
-    ∙ ap (λ (z : Option PosixRule). window_end_by z c.self.inside.span c.args.moment)
+    ∙ ap (λ (z : Option PosixRule). window_end_by z c.args.span c.args.moment)
     (ap rule_of (sym c.in-None.is))
-    ∙ ap (λ (clock : ClockView). window_end_in clock c.args.moment) c.self.view_is
+    ∙ ap (λ (clock : ClockView). window_end_in clock c.args.span c.args.moment) c.self.view_is

@@ -1,7 +1,6 @@
 -- The account stands for the taps of the entries told, and the entry's mode is the table's.
 use Rattle.std.proofs.Common.{◌≡◌, Some, None, length, map, ap, subst, ◌∙◌}
 use Rattle.account_rule.specs.NoTransfers.{HasModesBelow}
-use Rattle.account_rule.specs.Stands.{StandsForSome}
 use Rattle.account_rule.specs.TokenRules.{rules_of}
 use Rattle.account_rule.specs.declared.no_transfer.NoTransfer.{NoTransfer}
 use Rattle.account_rule.specs.declared.tap.TapIn.{TapIn}
@@ -9,15 +8,6 @@ use Rattle.shard_book.proofs.Histories.{tap_of-post}
 use Rattle.shard_book.specs.Entry.{tap_of}
 use Rattle.tap_views.specs.Token.{bytes_of}
 use Rattle.fare_texts.proofs.teller.Teller.no_transfer.Goals as goal
-
-pub no_transfer-requires : goal.no_transfer-requires
-unfolding StandsForSome
-no_transfer-requires c = record {
-  stands = (
-    bytes_of c.args.self.now.token,
-    (map (tap_of c.args.table.now) c.requires.told.0, c.requires.told.1.stands),
-  );
-}
 
 pub returns-in_err-mode-clause-lacks : goal.returns-in_err-mode-clause-lacks
 returns-in_err-mode-clause-lacks c = λ earlier told.
@@ -34,8 +24,8 @@ returns-clause-lacks c = λ earlier told.
     ap (λ (t : TapIn). t.mode) (tap_of-post fares c.args.entry.now c.mode_of.result
     c.mode_of.ensures.mode) ∙ c.in_ok-mode.was in
     rw mode (ap (λ (n : NoTransfer). Some n)
-    (c.no_transfer.ensures.lacks (bytes_of c.args.self.now.token)
-    (map (tap_of fares) earlier) told.stands))
+    ((rw c.bytes-bytes.ensures at c.no_transfer.ensures.lacks) (map (tap_of fares) earlier)
+    told.stands))
 
 pub returns-clause-modes : goal.returns-clause-modes
 unfolding rules_of

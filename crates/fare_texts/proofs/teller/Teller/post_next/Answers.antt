@@ -43,11 +43,13 @@ with_reply entry replied = record {
 
 -- the tap of an entry at the validator and the moment
 same_tap : (fares : Fares) (entry : Entry) (mode : Option Mode) (validator moment : ℕ)
-    → option_map (λ m. m.place) mode ≡ mode_at fares validator
+    → option_map (λ m. m.place) mode ≡ mode_at fares moment validator
     → entry.validator ≡ validator → entry.moment ≡ moment
     → record { moment = moment; mode = mode } ≡ tap_of fares entry
 same_tap fares entry mode validator moment known at when =
-    sym (tap_of-post fares entry mode (known ∙ ap (mode_at fares) (sym at))
+    let moved = sym when in
+    let known_at = sym at in
+    sym (tap_of-post fares entry mode (known ∙ (λ i. mode_at fares (moved i) (known_at i)))
     ∙ ap (λ (m : ℕ). record { moment = m; mode = mode }) when)
 
 pub explain_step-reason-requires-clause-stands : goal.explain_step-reason-requires-clause-stands

@@ -27,15 +27,15 @@ returns c =
     (next_field start t1 new (quoted (name_at c.args.fares.now.meaning.names c.args.place))
     (more_fields (drop 1 (class_row c.args.fares.now c.args.place))) end
     (c.in_ok-put_quoted.ensures ∙ ap (λ x. start ++ quoted x) c.class_name.ensures)
-    (next_field t1 t2 new (codes ", " ++ decimal (class_at c.args.fares.now
+    (next_field t1 t2 new (codes ", " ++ decimal (class_at c.args.fares.now.meaning
     c.args.place).terms.fare) (more_fields (drop 2 (class_row c.args.fares.now c.args.place))) end
     (c.in_ok-put_next_number.ensures ∙ ap (λ x. t1 ++ (codes ", " ++ decimal x)) (ap (λ (k : Class).
     k.terms.fare) c.class_at-class.ensures))
-    (next_field t2 t3 new (codes ", " ++ decimal (class_at c.args.fares.now
+    (next_field t2 t3 new (codes ", " ++ decimal (class_at c.args.fares.now.meaning
     c.args.place).terms.rides) (more_fields (drop 3 (class_row c.args.fares.now c.args.place))) end
     (c.in_ok-put_next_number-2.ensures ∙ ap (λ x. t2 ++ (codes ", " ++ decimal x)) (ap (λ (k :
     Class). k.terms.rides) c.class_at-class.ensures))
-    (next_field t3 t4 new (codes ", " ++ decimal (class_at c.args.fares.now
+    (next_field t3 t4 new (codes ", " ++ decimal (class_at c.args.fares.now.meaning
     c.args.place).terms.ceiling) (more_fields (drop 4 (class_row c.args.fares.now c.args.place)))
     end
     (c.in_ok-put_next_number-3.ensures ∙ ap (λ x. t3 ++ (codes ", " ++ decimal x)) (ap (λ (k :
@@ -44,12 +44,12 @@ returns c =
     (more_fields (drop 5 (class_row c.args.fares.now c.args.place))) end
     (c.in_ok-put_next_number-4.ensures ∙ ap (λ x. t4 ++ (codes ", " ++ decimal x))
     c.default_mark.ensures)
-    (next_field t5 t6 new (codes ", " ++ decimal (class_at c.args.fares.now
+    (next_field t5 t6 new (codes ", " ++ decimal (class_at c.args.fares.now.meaning
     c.args.place).transfers.taps) (more_fields (drop 6 (class_row c.args.fares.now c.args.place)))
     end
     (c.in_ok-put_next_number-5.ensures ∙ ap (λ x. t5 ++ (codes ", " ++ decimal x)) (ap (λ (k :
     Class). k.transfers.taps) c.class_at-class.ensures))
-    (next_field t6 t7 new (codes ", " ++ decimal (class_at c.args.fares.now
+    (next_field t6 t7 new (codes ", " ++ decimal (class_at c.args.fares.now.meaning
     c.args.place).transfers.time) [] end
     (c.in_ok-put_next_number-6.ensures ∙ ap (λ x. t6 ++ (codes ", " ++ decimal x)) (ap (λ (k :
     Class). k.transfers.time) c.class_at-class.ensures))

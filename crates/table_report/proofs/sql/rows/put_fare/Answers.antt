@@ -25,7 +25,7 @@ returns c =
     (next_field t1 t2 new (codes ", " ++ quoted (name_at c.args.fares.now.meaning.modes
     c.args.mode)) (more_fields (drop 2 (fare_row c.args.fares.now c.args.class c.args.mode))) end
     (c.in_ok-put_next_quoted.ensures ∙ ap (λ x. t1 ++ (codes ", " ++ quoted x)) c.mode_name.ensures)
-    (next_field t2 t3 new (codes ", " ++ decimal (ride_terms c.args.fares.now c.args.class
+    (next_field t2 t3 new (codes ", " ++ decimal (ride_terms c.args.fares.now.meaning c.args.class
     c.args.mode).fare) [] end
     (c.in_ok-put_next_number.ensures ∙ ap (λ x. t2 ++ (codes ", " ++ decimal x)) c.fare_at.ensures)
     c.in_ok-put-2.ensures)))

@@ -1,12 +1,11 @@
 use Rattle.std.proofs.Common.{◌≡◌, ℕ, true, Option, Some, None, IfSome, option_map, subst, sym}
 use Rattle.std.proofs.Common.{length, leb-true}
 use Rattle.std.proofs.lemmas.List.{length-map}
-use Rattle.std.specs.Arc.{arc_value}
 use Rattle.std.specs.Prelude.{nat_lt}
 use Rattle.fare_table.proofs.ApartLemmas.{find-all}
 use Rattle.fare_table.specs.Fares.{has_number}
 use Rattle.fare_table.specs.declared.validators.RangeRest.{RangeRest}
-use Rattle.fare_table.proofs.table.FareTable.mode_of.Goals as goal
+use Rattle.fare_table.proofs.tariff.Tariff.mode_of.Goals as goal
 
 rest-below : (count : ℕ) (range : Option (ℕ × RangeRest))
     → IfSome range (λ r. nat_lt r.1.mode count ≡ true)
@@ -16,12 +15,12 @@ rest-below count (Some range) below = below
 
 pub returns-clause-within : goal.returns-clause-within
 returns-clause-within c =
-    let parts = arc_value c.self.inside.parts in
+    let parts = c.self.inside.parts in
     let count = length parts.modes.items in
     let P : Option RangeRest → Type 0 = λ o. IfSome o (λ rest. nat_lt rest.mode count ≡ true) in
-    let ranges = c.deref.result.now.ranges in
+    let ranges = c.self.inside.parts.ranges in
     let below : nat_lt c.in_ok-rest.rest.mode count ≡ true =
     subst P (sym c.in_ok-rest.ensures)
     (rest-below count _ (find-all (λ range. nat_lt range.1.mode count)
-    (has_number c.args.validator) ranges (rw c.deref.ensures c.self.invariant.known))) in
+    (has_number c.args.validator) ranges c.self.invariant.known)) in
     rw (← c.self.view_is, length-map) (leb-true _ _ below)
