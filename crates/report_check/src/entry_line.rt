@@ -34,12 +34,7 @@ fn mode_field(table: &FareTable, moment: u64, validator: u32) -> &[u8]
 }
 
 /// The terms of the token for a ride at the moment, at the validator, if the table knows it.
-fn ride_terms_at(
-    table: &FareTable,
-    token: &Token,
-    moment: u64,
-    validator: u32,
-) -> Option<Terms>
+fn ride_terms_at(table: &FareTable, token: &Token, moment: u64, validator: u32) -> Option<Terms>
     ensures { HasRideTerms table.now token.now moment validator }
 {
     let mode = table.mode_of(moment, validator)?;

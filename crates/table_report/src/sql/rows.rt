@@ -125,7 +125,9 @@ fn permits(fares: &FareTable, from: usize, to: usize) -> bool
     requires few { length fares.now.meaning.modes ≤ 32 }
     ensures { result ≡ is_permitted fares.now.meaning from to }
 {
-    fares.first().permits(Mode { place: from as u8 }, Mode { place: to as u8 })
+    fares
+        .first()
+        .permits(Mode { place: from as u8 }, Mode { place: to as u8 })
 }
 
 /// Appends the statement of two modes.
