@@ -80,8 +80,13 @@ pub does_kept : (asked : Asked) (known : List ℕ → Option (List ℕ))
     → Keeps out' last → Does asked known told told' out out' well
     → Does asked known told told' out last well
 does_kept asked known told told' out out' last well kept done =
-    kept_by asked.traced _ _ _ _ (kept_traced asked told told' out out' last well kept,
-    kept_by (lists asked) _ _ _ _
-    (kept_listing asked.table asked.files told told' out out' last well kept,
-    kept_by asked.sorted _ _ _ _ (kept_sorted asked known told told' out out' last well kept,
-    kept_service asked told told' out out' last well kept))) done
+    kept_by asked.traced _ _ _ _ (
+      kept_traced asked told told' out out' last well kept,
+      kept_by (lists asked) _ _ _ _ (
+        kept_listing asked.table asked.files told told' out out' last well kept,
+        kept_by asked.sorted _ _ _ _ (
+          kept_sorted asked known told told' out out' last well kept,
+          kept_service asked told told' out out' last well kept,
+        ),
+      ),
+    ) done

@@ -13,11 +13,12 @@ pub record IsBegun (before after : Option (List ℕ)) (Whole : Option (List ℕ)
   pub rest : List ℕ
   pub whole : Whole (append_known after rest)
 
--- the ledger of all tokens of sorted files is asked for, whose lines go out while the files are read
+-- the ledger of all tokens of sorted files is asked for: its lines go out while these are read
 abbrev pub IsSortedLedger : Asked → Type 0
 IsSortedLedger asked = (asked.sorted ≡ true) × (asked.ledger ≡ true) × (asked.token ≡ None)
 
--- What stands is a beginning: with some bytes more behind it, what is asked for would have been done.
+-- What stands is a beginning: with some bytes more behind it, what is asked for would have been
+-- done.
 abbrev pub HasBegun : Asked → (List ℕ → Option (List ℕ)) → Option (List Loaded)
     → Option (List Loaded) → Option (List ℕ) → Option (List ℕ) → Type 0
 HasBegun asked known told told' out out' = (well : Bool)

@@ -493,13 +493,9 @@ fn show<W: Write, E: Write>(error: &Error, out: &mut Output<W>, err: &mut Compla
     }
 }
 
-/// Flushes the output behind the whole text, which is well or not, and gives the status. A flush that
-/// fails is reported on `err` as a write is.
-fn finish<W: Write, E: Write>(
-    is_well: bool,
-    out: &mut Output<W>,
-    err: &mut Complaints<E>,
-) -> u8
+/// Flushes the output behind the whole text, which is well or not, and gives the status. A flush
+/// that fails is reported on `err` as a write is.
+fn finish<W: Write, E: Write>(is_well: bool, out: &mut Output<W>, err: &mut Complaints<E>) -> u8
     ensures kept { Keeps (W.contents out.old.writer) (W.contents out.new.writer) }
     ensures well { result ≡ 0 → (is_well ≡ true) × (out.new.is_flushed ≡ true)
         × (err.new ≡ err.old) }
@@ -572,9 +568,10 @@ pub fn main_over<
     ensures flushed { Parses (map string_bytes words.now) → result ≡ 0
         → out.new.is_flushed ≡ true }
 
-    // With status 1 the whole text was written and flushed, and tells of an upload that is not well,
-    // and nothing was said on `err`; or a fault was told, which is the right one, and nothing was
-    // written but where a write failed, or where a sorted file was refused after all were checked.
+    // With status 1 the whole text was written and flushed, and tells of an upload that is not
+    // well, and nothing was said on `err`; or a fault was told, which is the right one, and nothing
+    // was written but where a write failed, or where a sorted file was refused after all were
+    // checked.
     // What a write that failed left is a beginning of the text that is asked for: nothing else was
     // written before the fault, and nothing behind it. Of the ledger of all tokens of sorted files
     // that is not said.

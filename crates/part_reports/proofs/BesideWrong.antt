@@ -1,6 +1,6 @@
 -- Which text a fault names of ledgers that are merged beside their reports.
 use Rattle.std.proofs.Common.{◌≡◌, ◌∙◌, ◌⊎◌, ◌<◌, ◌^◌, ℕ, List, ◌∷◌, ◌++◌, Option, Some, Result}
-use Rattle.std.proofs.Common.{Bor, Ok, Err, arith, ap, inl, inr, length, map, refl, subst, sym}
+use Rattle.std.proofs.Common.{Bor, Ok, Err, arith, ap, inl, inr, length, map, subst, sym}
 use Rattle.std.specs.Prelude.{IfErr, IfSome, None, slice_get}
 use Rattle.std.specs.List.{AllZip}
 use Rattle.std.specs.Slice.{IsItemAt}
@@ -11,15 +11,14 @@ use Rattle.tap_views.specs.declared.token.Token.{Token}
 use Rattle.part_reports.specs.Charges.{LineCharge}
 use Rattle.part_reports.specs.Faults.{IsOfTexts, NamesAmong, number_from, text_named}
 use Rattle.part_reports.specs.Ledgers.{IsWrongLedgerAt, NamesWrongLedger}
-use Rattle.part_reports.specs.LedgersWithReports.{AddUpToText, AddsUpToNoReportAt}
+use Rattle.part_reports.specs.LedgersWithReports.{AddsUpToNoReportAt}
 use Rattle.part_reports.specs.LedgersWithReports.{NamesWrongBeside}
 use Rattle.part_reports.specs.Reports.{IsNoReport}
 use Rattle.part_reports.specs.Texts.{AreLeft}
-use Rattle.part_reports.specs.TokenLines.{TokenLine}
 use Rattle.part_reports.specs.inside.BegunLedgers.{AreBegunLedgers}
 use Rattle.part_reports.specs.inside.Least.{IsLeast}
 use Rattle.part_reports.specs.inside.ReportsLeft.{AreBegunReports, AreUnused, IsLineOfSums}
-use Rattle.part_reports.specs.inside.ReportsLeft.{IsNoTurn, IsNotTaken, IsNotTakenAt, IsUsedBy}
+use Rattle.part_reports.specs.inside.ReportsLeft.{IsNoTurn, IsNotTakenAt, IsUsedBy}
 use Rattle.part_reports.specs.inside.ReportsLeft.{ReportAt}
 use Rattle.part_reports.specs.inside.Standings.{StandsInText, Standing}
 use Rattle.part_reports.specs.inside.Told.{AreNumbered, IsOfReader, IsOfText, NamesOneOf}

@@ -1,5 +1,5 @@
 -- The first wrong line of a text that is merged.
-use Rattle.std.proofs.Common.{◌≡◌, ◌≢◌, ◌∙◌, ◌+◌, ◌<◌, ℕ, List, [], ◌∷◌, ◌++◌, Option, Some, None}
+use Rattle.std.proofs.Common.{◌≡◌, ◌≢◌, ◌∙◌, ℕ, List, [], ◌∷◌, ◌++◌, Option, Some}
 use Rattle.std.proofs.Common.{append_assoc, arith, ap, inl, inr, map, refl, subst, sym}
 use Rattle.std.specs.Prelude.{All, IfSome, slice_get}
 use Rattle.std.specs.Io.BufRead.{take_through}
@@ -12,14 +12,14 @@ use Rattle.tap_views.specs.Token.{token_cmp}
 use Rattle.tap_views.specs.declared.token.Token.{Token}
 use Rattle.tap_views.proofs.Lists.{each-append, each-weaker}
 use Rattle.part_reports.specs.TokenLines.{HaveOtherTokens, TokenLine, text_of}
-use Rattle.part_reports.specs.inside.FirstWrong.{IsCounted, IsCountedAt, IsFirstWrongAt}
+use Rattle.part_reports.specs.inside.FirstWrong.{IsCounted, IsCountedAt}
 use Rattle.part_reports.specs.inside.FirstWrong.{IsFirstWrongOf, IsOfNext, IsOfNumber, IsWrongLine}
-use Rattle.part_reports.specs.inside.FirstWrong.{SharesFirst, line_feeds, up_to_64}
+use Rattle.part_reports.specs.inside.FirstWrong.{line_feeds}
 use Rattle.part_reports.specs.inside.Going.{IsGoing, Part, Rise}
 use Rattle.part_reports.specs.inside.Kinds.{IsTextOf}
 use Rattle.part_reports.specs.inside.Least.{IsBelowOthers, StandsTwice}
 use Rattle.part_reports.specs.inside.Standings.{IsLineOfKind, MayFollow, Standing}
-use Rattle.part_reports.specs.inside.Told.{NamesOnly, next_number}
+use Rattle.part_reports.specs.inside.Told.{NamesOnly}
 use Rattle.part_reports.specs.declared.fault.MergeFault.{MergeFault}
 use Rattle.part_reports.specs.declared.fault.MergeFault.TheVariants.{Line, Taps, Unread, Write}
 use Rattle.part_reports.specs.declared.fault.MergeFault.TheVariants.{NoMemory}

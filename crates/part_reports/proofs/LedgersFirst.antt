@@ -1,12 +1,12 @@
 -- The first wrong line of a ledger.
-use Rattle.std.proofs.Common.{◌≡◌, ◌≢◌, ◌∙◌, ◌⊎◌, ◌+◌, ◌-◌, ◌^◌, ◌<◌, ℕ, zero, suc, List, [], ◌∷◌}
+use Rattle.std.proofs.Common.{◌≡◌, ◌≢◌, ◌∙◌, ◌⊎◌, ◌+◌, ◌-◌, ◌^◌, ℕ, zero, suc, List, [], ◌∷◌}
 use Rattle.std.proofs.Common.{◌++◌, Option, Some, None, append-nil, append_assoc, arith, ap, inl}
 use Rattle.std.proofs.Common.{inr}
 use Rattle.std.proofs.Common.{length, map, refl, subst, sym}
-use Rattle.std.specs.Prelude.{All, Err, IfErr, IfOk, IfSome, Ok, Result, min, slice_get}
+use Rattle.std.specs.Prelude.{Err, IfErr, IfOk, IfSome, Ok, Result, min, slice_get}
 use Rattle.std.specs.Io.BufRead.{drop_through, take_through}
 use Rattle.std.specs.List.{AllByRecursion, AllZip}
-use Rattle.std.proofs.lemmas.List.Elements.{All-from_recursion, All-nil, recursion_from_All}
+use Rattle.std.proofs.lemmas.List.Elements.{All-from_recursion, recursion_from_All}
 use Rattle.std.proofs.lemmas.Option.{MatchOption-at_some}
 use Rattle.fare_texts.specs.LedgerLines.{head_text}
 use Rattle.tap_views.specs.declared.token.Token.{Token}
@@ -15,11 +15,11 @@ use Rattle.part_reports.specs.Faults.{IsOfTaps, IsOfTexts}
 use Rattle.part_reports.specs.Ledgers.{GoesWrongAt, IsFirstSharedAt, IsLedgerEntryLine}
 use Rattle.part_reports.specs.Ledgers.{IsPartLedger}
 use Rattle.part_reports.specs.Ledgers.{NamesFirstWrongLine, ledger_text}
-use Rattle.part_reports.specs.TokenLines.{HaveOtherTokens, TokenLine, text_of}
+use Rattle.part_reports.specs.TokenLines.{TokenLine, text_of}
 use Rattle.part_reports.specs.inside.BegunLedgers.{AreBegunLedgers, IsBegunLedger, IsOfFirstLines}
 use Rattle.part_reports.specs.inside.FirstWrong.{IsCounted, IsCountedAt, IsFirstWrongAt}
 use Rattle.part_reports.specs.inside.FirstWrong.{IsFirstWrongOf, IsOfNext, IsStuckBehind}
-use Rattle.part_reports.specs.inside.FirstWrong.{IsTwinBehind, IsWrongLine, line_feeds, up_to_64}
+use Rattle.part_reports.specs.inside.FirstWrong.{IsTwinBehind, IsWrongLine, line_feeds}
 use Rattle.part_reports.specs.inside.Going.{IsBehindSo, Rise}
 use Rattle.part_reports.specs.inside.Kinds.{IsTextOf}
 use Rattle.part_reports.specs.inside.Standings.{IsAtLine, IsLineOfKind, MayFollowToken, Standing}

@@ -28,7 +28,7 @@ use Rattle.part_reports.specs.inside.WrongBeside.{AddsUpToNoneAt, HasLeftAt}
 use Rattle.part_reports.proofs.ChargeLines.{one_charge}
 use Rattle.part_reports.proofs.Firsts.{line_is_some}
 use Rattle.part_reports.proofs.LedgerTexts.{lefts_of, texts_from, texts_to}
-use Rattle.part_reports.proofs.Merges.{IsMerging, end_lists, first_nothing, list_at, merging_end}
+use Rattle.part_reports.proofs.Merges.{IsMerging, end_lists, first_nothing, merging_end}
 use Rattle.part_reports.proofs.Merges.{merging_first, merging_next, next_moved, part_at}
 use Rattle.part_reports.proofs.Parts.{going_end, going_line, line_at, next_part}
 use Rattle.part_reports.proofs.Places.{each_at, map_at, one_at}

@@ -1,4 +1,5 @@
-use Rattle.std.proofs.Common.{◌≡◌, ◌∙◌, Bool, arith, false, inl, inr, map, refl, subst, sym, true, ⊎_elim}
+use Rattle.std.proofs.Common.{◌≡◌, ◌∙◌, Bool, arith, false, inl, inr, map, refl, subst, sym, true}
+use Rattle.std.proofs.Common.{⊎_elim}
 use Rattle.fare_program.specs.Begun.{HasBegun, IsSortedLedger}
 use Rattle.fare_program.specs.Program.{Does}
 use Rattle.clap.specs.Words.{IsAmong, kind_of}
@@ -71,10 +72,13 @@ returns-clause-faults g c = λ one.
           (g.S.Source.loaded c.args.source.now) (g.S.Source.loaded c.work.new.source)
           (g.S.Source.refused c.work.new.source) fault) same
           (c.in-Err-work.ensures.right_fault status)),
-      (λ parses write unsorted. subst (λ (asked : Asked). HasBegun asked (g.D.Disk.bytes_under c.args.disk.now)
+      (λ parses write unsorted. subst
+          (λ (asked : Asked). HasBegun asked (g.D.Disk.bytes_under c.args.disk.now)
           (g.S.Source.loaded c.args.source.now) (g.S.Source.loaded c.work.new.source)
-          (g.W.Write.contents c.args.out.now.writer) (g.W.Write.contents c.work.new.out.writer)) same
-          (c.in-Err-work.ensures.begun write (subst (λ (asked : Asked). ¬ (IsSortedLedger asked)) (sym same) unsorted))),
+          (g.W.Write.contents c.args.out.now.writer) (g.W.Write.contents c.work.new.out.writer))
+          same
+          (c.in-Err-work.ensures.begun write
+          (subst (λ (asked : Asked). ¬ (IsSortedLedger asked)) (sym same) unsorted))),
       record {
         line_told = c.tell.ensures.line;
         kept = λ write late. c.in-Err-work.ensures.fault write
@@ -108,7 +112,8 @@ returns-in-Ok-work-clause-faults g c = λ one.
       Write,
       refl,
       (λ parses. tt),
-      (λ parses write unsorted. begun_done asked under told told' out last c.in-Ok-work.is_well done),
+      (λ parses write unsorted. begun_done asked under told told' out last c.in-Ok-work.is_well
+          done),
       record { line_told = line; kept = λ other. absurd (other refl) },
     ))
     (c.finish.ensures.ill one)

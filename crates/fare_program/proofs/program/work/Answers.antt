@@ -201,8 +201,11 @@ returns-then-options-2-clause-begun g c =
     c.if-options-2.true c.in_ok-table.ensures.ok in
     IfErr-weaker c.work_sorted.result _ _
     (λ fault begun write other.
-    let is = begun write (λ ledger none. other (c.if-options-2.true, ledger,
-    no_token asked.token c.in_ok-token.token c.in_ok-token.ensures.token none)) table.0 table.1 in (
+    let is = begun write (λ ledger none. other (
+      c.if-options-2.true,
+      ledger,
+      no_token asked.token c.in_ok-token.token c.in_ok-token.ensures.token none,
+    )) table.0 table.1 in (
       true,
       begun_by out out new is.text
           (λ all. Does asked under (g.S.Source.loaded c.args.source.now)
@@ -210,12 +213,15 @@ returns-then-options-2-clause-begun g c =
           (λ all written. does_untraced asked under _ _ out all true c.if-options.false
           (does_sorted asked under _ _ c.in_ok-table.table c.in_ok-token.token out all true
           c.in_ok-token.ensures.right c.if-options-2.true c.in_ok-table.ensures.ok
-          c.in_ok-token.ensures.token (refl, λ f same. record {
-            text = is.text;
-            shows = λ files are. subst (λ (fares : Fares). ShowsSettled asked fares files
-                c.in_ok-token.token is.text true) (one_table table.0 f (sym table.1 ∙ same))
-                (is.shows files are);
-            written = written;
-          }))),
+          c.in_ok-token.ensures.token (
+            refl,
+            λ f same. record {
+              text = is.text;
+              shows = λ files are. subst (λ (fares : Fares). ShowsSettled asked fares files
+                  c.in_ok-token.token is.text true) (one_table table.0 f (sym table.1 ∙ same))
+                  (is.shows files are);
+              written = written;
+            },
+          ))),
     ))
     c.work_sorted.ensures.begun

@@ -17,7 +17,8 @@ returns-clause-ok g c =
     let done = c.in_ok-charge_sorted.ensures.ok in (
       refl,
       λ fares is.
-          let one : c.in-Some.table ≡ fares = one_table c.in-Some.table fares (sym c.in-Some.is ∙ is) in
+          let one : c.in-Some.table ≡ fares =
+          one_table c.in-Some.table fares (sym c.in-Some.is ∙ is) in
           record {
             text = done.text;
             shows = λ files are. subst
