@@ -1,5 +1,5 @@
 -- A file, read batch by batch.
-use Rattle.std.proofs.Common.{◌≡◌, ℕ, ◌+◌, ◌-◌, ◌*◌, ◌≤◌, List, [], ◌∷◌, ◌++◌, length}
+use Rattle.std.proofs.Common.{◌≡◌, ℕ, ◌+◌, ◌*◌, ◌≤◌, List, [], ◌∷◌, ◌++◌, length}
 use Rattle.std.proofs.Common.{flat_map, None, Option, Some, refl, sym, ◌∙◌, ap, subst, append_assoc}
 use Rattle.std.proofs.Common.{append-nil, arith, length-append}
 use Rattle.std.proofs.lemmas.Grind.{flat_map-append}

@@ -1,5 +1,5 @@
-use Rattle.std.proofs.Common.{◌≡◌, ℕ, ◌+◌, ◌<◌, ◌≤◌, ap, arith, get_or, inl, inr, sym, ◌∙◌, not}
-use Rattle.std.proofs.Common.{Bool, true, false, refl}
+use Rattle.std.proofs.Common.{◌≡◌, ℕ, ◌+◌, ◌<◌, ◌≤◌, ap, arith, get_or, inl, inr, sym, ◌∙◌}
+use Rattle.std.proofs.Common.{true, false}
 use Rattle.std.specs.Prelude.{◌⊎◌}
 use Rattle.std.proofs.lemmas.Bool.{cases_lt, false≢true, not-false, not-true}
 use Rattle.std.proofs.lemmas.List.{get_or_default}

@@ -15,7 +15,7 @@ returns g t c =
     let own = c.in_ok-own.own in
     let more = c.in_ok-more.more in
     subst (λ (ts : List TapFields). AreOwnBetween may_be start end token ts
-        c.append-2.new.self.items)
+    c.append-2.new.self.items)
     (sym c.in_ok-append.ensures.items)
     (subst (λ (es : List UploadEnd). AreOwnBetween may_be start end token
     (own.taps.items ++ more.taps.items) es)

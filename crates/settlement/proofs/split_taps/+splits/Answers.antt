@@ -18,7 +18,7 @@ returns g t c =
     let made = c.in_ok-split.split in
     let more = c.in_ok-more.more in
     subst (λ (ls : List (List (List TapFields))). AreInPartsBetween may_be start end part_of parts
-        ls
+    ls
     c.append-2.new.self.items)
     (sym c.in_ok-append.ensures.items)
     (subst (λ (es : List UploadEnd). AreInPartsBetween may_be start end part_of parts
@@ -29,7 +29,7 @@ returns g t c =
     more.ends.items
     (subst (λ r. IfOk r
     (λ split. AreInPartsBetween may_be start middle part_of parts split.lists.items
-        split.ends.items))
+    split.ends.items))
     c.in_ok-split.was c.join-split.ensures.first)
     (subst (λ r. IfOk r
     (λ split. AreInPartsBetween may_be middle end part_of parts split.lists.items split.ends.items))

@@ -19,7 +19,7 @@ loop-number-init g c = record {
   order = c.requires.order;
   run = subst
       (λ (ends : List UploadEnd). AreAddedBetween (g.U.Uploads.may_be c.args.uploads.now)
-          c.args.start
+      c.args.start
       c.args.start (range_of_token c.args.ranges.now) c.args.parts.now c.args.parts.now ends)
       (sym c.new-ends.ensures.items)
       (no_run (g.U.Uploads.may_be c.args.uploads.now) c.args.start
