@@ -138,6 +138,7 @@ impl<'a> Iterator for RunTaps<'a> {
 
     ghost remaining = { item_count (λ left. left) };
 
+    #[inline(always)]
     fn next(&mut self) -> Option<TapView<'a>> {
         match self.places {
             Some(places) => {
