@@ -5,6 +5,7 @@ use Rattle.ledger_check.specs.Columns.{read_as}
 use Rattle.omny_audit.specs.Reports.{IsAudit}
 use Rattle.fare_texts.specs.WrittenOut.{Begins}
 use Rattle.omny_audit.specs.Traced.{Wanted}
+use Rattle.omny_audit.specs.inside.Reports.{text_of}
 use Rattle.omny_audit.specs.inside.Traced.{wanted_by}
 use Rattle.omny_audit.proofs.ProgramLemmas.{unwritten_on}
 use Rattle.omny_audit.proofs.audit.audit_over.Goals as goal
@@ -35,7 +36,7 @@ returns-clause-told g c =
             told.0.items,
             audit.0,
             subst (λ (cs : Option Wanted). IsAudit false fares cs found.0 audit.0
-                (if c.args.has_uploads then Some good else None) _ told.0.items told.1)
+                (if c.args.has_uploads then Some good else None) (text_of c.args.report) told.0.items told.1)
                 c.verdict_of.ensures.wanted
                 (subst (λ (r : Option (List ℕ)). IsAudit false fares
                 (wanted_by c.verdict_of.new.trace) found.0 audit.0
@@ -63,7 +64,7 @@ returns-in_err-write_text-clause-begun g c =
             told.1,
             audit.0,
             subst (λ (cs : Option Wanted). IsAudit false fares cs found.0 audit.0
-                (if c.args.has_uploads then Some good else None) _ told.0.items told.1)
+                (if c.args.has_uploads then Some good else None) (text_of c.args.report) told.0.items told.1)
                 c.verdict_of.ensures.wanted
                 (subst (λ (r : Option (List ℕ)). IsAudit false fares
                 (wanted_by c.verdict_of.new.trace) found.0 audit.0

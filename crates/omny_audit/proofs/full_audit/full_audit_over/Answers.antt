@@ -7,6 +7,7 @@ use Rattle.ledger_check.specs.Recounts.{recount_text, taps_from, wrong_count}
 use Rattle.omny_audit.specs.Findings.{IsDifferencesEnd}
 use Rattle.omny_audit.specs.Reports.{IsAudit, IsReportLine}
 use Rattle.omny_audit.specs.Traced.{Wanted}
+use Rattle.omny_audit.specs.inside.Reports.{text_of}
 use Rattle.omny_audit.specs.inside.Traced.{wanted_by}
 use Rattle.ledger_check.specs.Columns.{read_as}
 use Rattle.std.proofs.KnownBytes.{Appends-trans}
@@ -47,7 +48,7 @@ returns-clause-told g c =
             recount_text all.taken ++ told.0.items,
             columns.0,
             subst (λ (cs : Option Wanted). IsAudit true fares cs found.0 columns.0
-                (if c.args.has_uploads then Some good else None) _
+                (if c.args.has_uploads then Some good else None) (text_of c.args.report)
                 (recount_text all.taken ++ told.0.items) told.1)
                 c.recount_all.ensures.wanted
                 (record {

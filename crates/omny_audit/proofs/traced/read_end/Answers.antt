@@ -9,5 +9,5 @@ returns-in_ok-finish-in-Some-clause-read c = λ file told known.
     let done = c.in_ok-finish-in-Some.ensures.read file told was.0 was.1 in (
       ap (λ (t : List ℕ). told ++ t)
           (done.2 ∙ ap (λ (t : List ℕ). t ++ done.0) c.clear.ensures.items) ∙ done.3,
-      (done.1, (done.4, done.5)),
+      (done.1, done.4, done.5),
     )
