@@ -1,6 +1,7 @@
 pub mod Appends
 pub mod Billed
 pub mod Causes
+pub mod DefaultClasses
 pub mod Defaults
 pub mod Going
 pub mod LastMoments
@@ -9,5 +10,7 @@ pub mod Loads
 pub mod PostedTexts
 pub mod Ledgers
 pub mod Explains
+pub mod Finished
 pub mod SortedRuns
 pub mod Works
+pub mod WritesFailed

@@ -2,12 +2,15 @@
 use Rattle.std.specs.Prelude.{◌≡◌, ◌⊎◌, ◌<◌, ℕ, List, [], ◌∷◌, Option, Some, true, false}
 use Rattle.std.specs.Prelude.{codes, length, map, slice_get}
 use Rattle.placed_files.specs.declared.unopened.Unopened.{Unopened}
-use Rattle.program_manners.specs.Loads.{Loaded}
+use Rattle.program_manners.specs.Loads.{Loaded, TellsOne}
 use Rattle.program_manners.specs.Refusals.{IsOneOf, RefusesTable, TellsRefusal}
 use Rattle.program_manners.specs.declared.loading.LoadFault.{LoadFault}
 use Rattle.sorted_bills.specs.Faults.{HaveTooManyTaps}
+use Rattle.settled_texts.specs.Classes.{has_plain_classes}
 use Rattle.sorted_taps.specs.Checked.{IsFirstFault}
 use Rattle.sorted_taps.specs.declared.fault.SortedFault.{SortedFault}
+use Rattle.toml.specs.Data.{Members}
+use Rattle.toml.specs.Parse.{parse_document}
 use Rattle.fare_program.specs.Options.{Asked}
 use Rattle.fare_program.specs.declared.fault.Fault.{Fault}
 use Rattle.fare_program.specs.declared.fault.Fault.TheVariants.{File, Table, ClassName, Unopened as AtOpening}
@@ -46,17 +49,30 @@ IsRightOfSorted names known Write = Unit {0}
 IsRightOfSorted names known NoMemory = Unit {0}
 IsRightOfSorted names known fault = ⊥
 
+-- the text is TOML, and a class that it names cannot stand in a ledger
+abbrev pub HasOtherNames : List ℕ → Type 0
+HasOtherNames text =
+    (tree : Members) × (parse_document text ≡ Some tree) × (has_plain_classes tree ≡ false)
+
+-- The file of this name was loaded, and a class that its text names cannot stand in a ledger.
+pub record RefusesNames (name : List ℕ) (told told' : Option (List Loaded)) : Type 0 where
+  pub bytes : List ℕ
+  pub told_is : TellsOne told told' (Some name) bytes
+  pub other : HasOtherNames bytes
+
 -- The fault is the right one for what is asked for. A file that is named is one of the words, and
 -- one that the source refused so. A table fault is the first one of the text that was loaded under
--- the table's name. There are too many uploads only above 65,535. Only a write and want of memory
--- may fail at any time.
+-- the table's name, and a class's name is refused only for a traced ledger, and if that text has one
+-- that no ledger can have. There are too many uploads only above 65,535. Only a write and want of
+-- memory may fail at any time.
 abbrev pub IsRightFault : Asked → (List ℕ → Option (List ℕ)) → Option (List Loaded)
     → Option (List Loaded) → Option (Option (List ℕ) × LoadFault) → Fault → Type 0
 IsRightFault asked under told told' refused (File file) =
     IsNameTold asked file.name.now × TellsRefusal refused file.name.now file.fault
 IsRightFault asked under told told' refused (Table fault) =
     (name : List ℕ) × (asked.table ≡ Some name) × RefusesTable name told told' fault
-IsRightFault asked under told told' refused ClassName = asked.traced ≡ true
+IsRightFault asked under told told' refused ClassName = (asked.traced ≡ true)
+    × ((name : List ℕ) × (asked.table ≡ Some name) × RefusesNames name told told')
 IsRightFault asked under told told' refused Uploads =
     (asked.settle ≡ false) × (65535 < length asked.files)
 IsRightFault asked under told told' refused (Gather fault) = asked.settle ≡ false

@@ -1,3 +1,4 @@
+pub mod Begun
 pub mod Causes
 pub mod Fault
 pub mod Lines

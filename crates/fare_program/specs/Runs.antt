@@ -3,21 +3,22 @@ use Rattle.std.specs.Prelude.{◌≡◌, ◌≤◌, ◌⊎◌, ℕ, Bool, true, 
 use Rattle.std.specs.Io.KnownBytes.{Keeps}
 use Rattle.program_manners.specs.Loads.{Loaded}
 use Rattle.program_manners.specs.declared.loading.LoadFault.{LoadFault}
+use Rattle.fare_program.specs.Begun.{HasBegun}
 use Rattle.fare_program.specs.Causes.{IsRightFault}
 use Rattle.fare_program.specs.Fault.{mistake, status_of}
 use Rattle.fare_program.specs.Options.{AsksForText, Parses, asked_by}
 use Rattle.fare_program.specs.Program.{Does, GaveUp, GaveUpOn}
 use Rattle.fare_program.specs.declared.fault.Fault.{Fault}
-use Rattle.fare_program.specs.declared.fault.Fault.TheVariants.{NoMemory}
+use Rattle.fare_program.specs.declared.fault.Fault.TheVariants.{NoMemory, Write}
 
 -- What `main_over` promises, each clause under its name there: of these words, of what stands on the
 -- disk under a name, of what the source had loaded before and after, of the last load that it
 -- refused, of what was written to the output and said on the standard error before and after, of
--- whether a word of it failed to be said, and of the status. `Silent` is that the standard error is
--- as it was.
+-- whether the output was flushed, of whether a word failed to be said, and of the status. `Silent`
+-- is that the standard error is as it was.
 pub record IsRun (words : List (List ℕ)) (under : List ℕ → Option (List ℕ))
     (told told' : Option (List Loaded)) (refused : Option (Option (List ℕ) × LoadFault))
-    (out out' said said' : Option (List ℕ)) (failed : Bool) (Silent : Type 0) (status : ℕ)
+    (out out' said said' : Option (List ℕ)) (flushed failed : Bool) (Silent : Type 0) (status : ℕ)
     : Type 0 where
   pub done : Parses words → status ≡ 0 → Does (asked_by words) under told told' out out' true
   pub helped : ¬ Parses words → status ≡ 0 → AsksForText words
@@ -28,10 +29,14 @@ pub record IsRun (words : List (List ℕ)) (under : List ℕ → Option (List �
       ⊎ ((status ≡ 1) × GaveUp NoMemory said said' failed out out')
   pub right : status ≡ 2 → (¬ Parses words) ⊎ (is_some (mistake (asked_by words)) ≡ true)
   pub faults : status ≡ 1
-      → (Parses words × Does (asked_by words) under told told' out out' false × Silent)
+      → (Parses words × Does (asked_by words) under told told' out out' false
+      × (flushed ≡ true) × Silent)
       ⊎ ((fault : Fault) × (status_of fault ≡ 1)
       × (Parses words → IsRightFault (asked_by words) under told told' refused fault)
+      × (Parses words → fault ≡ Write → (asked_by words).sorted ≡ false
+      → HasBegun (asked_by words) under told told' out out')
       × GaveUpOn (asked_by words) fault said said' failed out out')
+  pub flush : Parses words → status ≡ 0 → flushed ≡ true
   pub quiet : status ≡ 0 → Silent
   pub unloaded : status ≡ 2 → told' ≡ told
   pub unwritten : status ≡ 2 → Keeps out out'

@@ -1,6 +1,7 @@
 //! The report of settled files, account by account.
-ghost use Rattle.std.specs.Prelude.{◌≡◌, ◌≢◌, ◌^◌, ◌≤◌, List, ℕ, IfErr, IfOk, length};
+ghost use Rattle.std.specs.Prelude.{Bool, ◌≡◌, ◌≢◌, ◌^◌, ◌≤◌, List, ℕ, IfErr, IfOk, length};
 ghost use Rattle.std.specs.Io.KnownBytes.{Appends, Keeps};
+ghost use Rattle.fare_texts.specs.WrittenOut.{Begins};
 ghost use Rattle.fare_program.specs.Fault.{status_of};
 ghost use Rattle.fare_program.specs.inside.Causes.{IsOfOutput};
 ghost use Rattle.fare_program.specs.inside.Settling.{ShowsBill};
@@ -11,7 +12,6 @@ ghost use Rattle.settlement.specs.Reading.{AreRead};
 ghost use Rattle.shard_book.specs.declared.entry.Entry.{Entry};
 
 use crate::fault::Fault;
-use crate::output::flush;
 use crate::run::are_posted;
 use fare_table::FareTable;
 use report_texts::write_report;
@@ -35,6 +35,12 @@ pub(crate) fn write_billed<'a, W: Write>(
         → ArePlainEnds files made.ends.items → IsReportOver files history text)
         × (well ≡ are_posted made.ends.items)
         × Appends (W.contents out.old) (W.contents out.new) text) }
+    ensures begun { IfErr result (λ fault. fault ≡ Fault.Write
+        → (well : Bool) × (text : List ℕ)
+        × ((files : List (List ℕ)) (history : List Entry) → IsBillOf history made.bill
+        → ArePlainEnds files made.ends.items → IsReportOver files history text)
+        × (well ≡ are_posted made.ends.items)
+        × Begins (W.contents out.old) (W.contents out.new) text) }
     ensures output { IfErr result IsOfOutput }
     ensures status { IfErr result (λ fault. status_of fault ≡ 1) }
     ensures fault { IfErr result (λ fault. fault ≢ Fault.Write
@@ -44,7 +50,6 @@ pub(crate) fn write_billed<'a, W: Write>(
     let totals = bill.totals.totals();
     let validators = bill.validators.sums(alloc)?;
     write_report(alloc, &ends, &totals, &validators, &bill.tokens, out)?;
-    flush(out)?;
     Ok(are_posted(&ends))
 }
 
@@ -62,6 +67,11 @@ pub(crate) fn write_bill<'a, R: Threads + RandomSource + Sync, U: Uploads + Sync
         × AreRead (U.may_be uploads.now) 0 (U.number uploads.now) files
         × ShowsBill table.now files text well
         × Appends (W.contents out.old) (W.contents out.new) text) }
+    ensures begun { IfErr result (λ fault. fault ≡ Fault.Write
+        → (well : Bool) × (files : List (List ℕ)) × (text : List ℕ)
+        × AreRead (U.may_be uploads.now) 0 (U.number uploads.now) files
+        × ShowsBill table.now files text well
+        × Begins (W.contents out.old) (W.contents out.new) text) }
     ensures output { IfErr result IsOfOutput }
     ensures status { IfErr result (λ fault. status_of fault ≡ 1) }
     ensures fault { IfErr result (λ fault. fault ≢ Fault.Write

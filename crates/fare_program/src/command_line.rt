@@ -52,7 +52,8 @@ Examples:
 Exit status:
   0  all is done, and every upload was posted, or listed without a fault
   1  an upload was not, as the text tells; or a file, the table, the run, memory or writing
-     failed, as a line `fault: ..` on the standard error tells, and nothing is printed
+     failed, as a line `fault: ..` on the standard error tells. Nothing is printed then, unless a
+     write failed, or a sorted file did after all were checked: that may leave a beginning
   2  the command line is wrong";
 
 /// The help of `--table`.

@@ -81,6 +81,7 @@ impl<'a> Fault<'a> {
     /// Why the file of this name was not loaded.
     pub(crate) fn of_load(name: &'a str, fault: LoadFault) -> Fault<'a>
         ensures line { fault_text result ≡ load_text name.entry.now fault }
+        ensures unwritten { result ≢ Fault.Write }
         ensures status { status_of result ≡ 1 }
         ensures right { (asked : Asked) (under : List ℕ → Option (List ℕ))
             (told after : Option (List Loaded)) (refused : Option (Option (List ℕ) × ALoadFault))

@@ -57,6 +57,6 @@ pub use named_list::list_words;
 pub use note::Note;
 pub use program::main_over;
 pub use program_manners::{
-    Complaints, LOAD_LIMIT_BYTES, LoadFault, WordsFault, load_from, unread_words, words_of,
+    Complaints, LOAD_LIMIT_BYTES, LoadFault, Output, WordsFault, load_from, unread_words, words_of,
 };
 pub use source::Source;

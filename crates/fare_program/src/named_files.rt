@@ -1,6 +1,7 @@
 //! Named files that are read while their taps are settled.
-ghost use Rattle.std.specs.Prelude.{◌≡◌, None, IfErr, IfOk, IfSome, length};
+ghost use Rattle.std.specs.Prelude.{◌≡◌, Bool, None, IfErr, IfOk, IfSome, OnErr, length};
 ghost use Rattle.std.specs.Io.KnownBytes.{Keeps};
+ghost use Rattle.fare_program.specs.Begun.{IsBegun};
 ghost use Rattle.fare_program.specs.inside.Options.{asked_of};
 ghost use Rattle.fare_program.specs.inside.ChargedAhead.{IsChargedAhead};
 
@@ -107,6 +108,10 @@ pub(crate) fn charge_ahead<'a, R: Threads + RandomSource + Sync, D: Disk + Sync,
     ensures none { IfOk result (λ done. done ≡ None
         → Keeps (W.contents out.old) (W.contents out.new)) }
     ensures fault { IfErr result (λ fault. fault ≡ Fault.Write) }
+    ensures begun { OnErr result ((well : Bool)
+        × IsBegun (W.contents out.old) (W.contents out.new) (λ whole.
+        IsChargedAhead (asked_of options.now) keeps_loads table.now token (W.contents out.old)
+        whole well)) }
 {
     if !options.settle || options.list || keeps_loads || options.files.is_empty() {
         return Ok(None);

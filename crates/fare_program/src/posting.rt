@@ -1,6 +1,7 @@
 //! The text that is asked for of files, which are posted as they are or settled.
-ghost use Rattle.std.specs.Prelude.{◌≡◌, ◌≢◌, ℕ, List, IfErr, IfOk, OnOk, length, map};
+ghost use Rattle.std.specs.Prelude.{Bool, ◌≡◌, ◌≢◌, ℕ, List, IfErr, IfOk, OnOk, length, map};
 ghost use Rattle.std.specs.Io.KnownBytes.{Appends, Keeps};
+ghost use Rattle.fare_texts.specs.WrittenOut.{Begins};
 ghost use Rattle.fare_program.specs.Fault.{status_of};
 ghost use Rattle.fare_program.specs.inside.Causes.{IsOfOutput, IsRightOfUploads};
 ghost use Rattle.fare_program.specs.inside.Options.{asked_of};
@@ -10,7 +11,6 @@ use crate::fault::Fault;
 use crate::files_ahead::Disk;
 use crate::noting::NotedUploads;
 use crate::options::Options;
-use crate::output::flush;
 use crate::run::{are_posted, post_live};
 use crate::settle::charge_settled;
 use fare_service::Outcome;
@@ -25,6 +25,7 @@ use std::thread::Threads;
 use tap_views::Token;
 
 /// Prints the statement of the token, explained where that is asked for.
+#[tactic(auto, using(crate::proofs::WritesFailed::of_write))]
 fn print_statement<'a, W: Write>(
     alloc: Global,
     explain: bool,
@@ -34,6 +35,9 @@ fn print_statement<'a, W: Write>(
 ) -> Result<(), Fault<'a>>
     ensures ok { OnOk result ((text : List ℕ) × ShowsStatement explain token outcome.now text
         × Appends (W.contents out.old) (W.contents out.new) text) }
+    ensures begun { IfErr result (λ fault. fault ≡ Fault.Write
+        → (text : List ℕ) × ShowsStatement explain token outcome.now text
+        × Begins (W.contents out.old) (W.contents out.new) text) }
     ensures output { IfErr result IsOfOutput }
     ensures status { IfErr result (λ fault. status_of fault ≡ 1) }
     ensures fault { IfErr result (λ fault. fault ≢ Fault.Write
@@ -49,6 +53,7 @@ fn print_statement<'a, W: Write>(
 
 /// Prints the report, or the statement of the token where one is asked for, explained where that is
 /// asked for.
+#[tactic(auto, using(crate::proofs::WritesFailed::of_write))]
 fn print<'a, R: Threads + Sync, W: Write>(
     rt: &R,
     alloc: Global,
@@ -59,6 +64,9 @@ fn print<'a, R: Threads + Sync, W: Write>(
 ) -> Result<(), Fault<'a>>
     ensures ok { OnOk result ((text : List ℕ) × ShowsWith explain token outcome.now.ends outcome.now text
         × Appends (W.contents out.old) (W.contents out.new) text) }
+    ensures begun { IfErr result (λ fault. fault ≡ Fault.Write
+        → (text : List ℕ) × ShowsWith explain token outcome.now.ends outcome.now text
+        × Begins (W.contents out.old) (W.contents out.new) text) }
     ensures output { IfErr result IsOfOutput }
     ensures status { IfErr result (λ fault. status_of fault ≡ 1) }
     ensures fault { IfErr result (λ fault. fault ≢ Fault.Write
@@ -73,6 +81,7 @@ fn print<'a, R: Threads + Sync, W: Write>(
 
 /// Prints what is asked for: the ledger, or that of the token; else the report, or the statement of
 /// the token, explained where that is asked for.
+#[tactic(auto, using(crate::proofs::WritesFailed::of_write))]
 fn print_asked<'a, R: Threads + Sync, W: Write>(
     rt: &R,
     alloc: Global,
@@ -84,6 +93,10 @@ fn print_asked<'a, R: Threads + Sync, W: Write>(
     ensures ok { OnOk result ((text : List ℕ)
         × ShowsOf (asked_of options.now) token outcome.now.ends outcome.now text
         × Appends (W.contents out.old) (W.contents out.new) text) }
+    ensures begun { IfErr result (λ fault. fault ≡ Fault.Write
+        → (text : List ℕ)
+        × ShowsOf (asked_of options.now) token outcome.now.ends outcome.now text
+        × Begins (W.contents out.old) (W.contents out.new) text) }
     ensures output { IfErr result IsOfOutput }
     ensures status { IfErr result (λ fault. status_of fault ≡ 1) }
     ensures fault { IfErr result (λ fault. fault ≢ Fault.Write
@@ -112,6 +125,10 @@ pub(crate) fn charge<'a, R: Threads + Wait + RandomSource + Sync, D: Disk + Sync
     ensures ok { IfOk result (λ well. (text : List ℕ)
         × ShowsAsked (asked_of options.now) table (map (λ f. f.items) files.items) token text well
         × Appends (W.contents out.old) (W.contents out.new) text) }
+    ensures begun { IfErr result (λ fault. fault ≡ Fault.Write
+        → (well : Bool) × (text : List ℕ)
+        × ShowsAsked (asked_of options.now) table (map (λ f. f.items) files.items) token text well
+        × Begins (W.contents out.old) (W.contents out.new) text) }
     ensures right { IfErr result (IsRightOfUploads (asked_of options.now).settle
         (length files.items)) }
     ensures status { IfErr result (λ fault. status_of fault ≡ 1) }
@@ -124,6 +141,5 @@ pub(crate) fn charge<'a, R: Threads + Wait + RandomSource + Sync, D: Disk + Sync
     }
     let outcome = post_live(rt, alloc, disk, table, options, files)?;
     print_asked(rt, alloc, options, &outcome, token, out)?;
-    flush(out)?;
     Ok(are_posted(outcome.ends()))
 }

@@ -1,7 +1,7 @@
 //! The whole program, over any source of bytes and any two writers.
 ghost use Rattle.std.specs.Prelude.{MatchOption, codes, ◌≡◌, ◌≢◌, ◌≤◌, ◌⊎◌, ◌++◌, ◌∷◌, [], ℕ};
 ghost use Rattle.std.specs.Prelude.{List, Option, true, false, None, Some, IfErr, IfOk, OnOk};
-ghost use Rattle.std.specs.Prelude.{is_some, map, option_map, string_bytes};
+ghost use Rattle.std.specs.Prelude.{Bool, is_some, map, option_map, string_bytes};
 ghost use Rattle.clap.specs.Words.{kind_of};
 ghost use Rattle.std.specs.Io.KnownBytes.{Appends, Keeps};
 ghost use Rattle.fare_program.specs.Causes.{IsNameTold, IsRightFault};
@@ -13,6 +13,8 @@ ghost use Rattle.fare_program.specs.inside.Fault.{IsLoadLine, IsTableLine, IsWhy
 ghost use Rattle.fare_program.specs.Options.{Asked, AsksForText, Parses, asked_by};
 ghost use Rattle.fare_program.specs.inside.Options.{asked_of};
 ghost use Rattle.fare_program.specs.Program.{Does, GaveUp, GaveUpOn, IsTokenIn, LoadsFiles};
+ghost use Rattle.fare_program.specs.Begun.{HasBegun, IsBegun};
+ghost use Rattle.fare_texts.specs.WrittenOut.{Begins};
 ghost use Rattle.fare_program.specs.Program.{DoesUntraced, LoadsTable, RunsTraced, names_to_load};
 ghost use Rattle.program_manners.specs.Loads.{Loaded, TellsOne};
 ghost use Rattle.program_manners.specs.LineWritten.{LineWritten};
@@ -33,7 +35,7 @@ use clap::Error;
 use clap::error::ErrorKind;
 use fare_table::FareTable;
 use hex::FromHex;
-use program_manners::{Complaints, STANDARD_INPUT, show_answer};
+use program_manners::{Complaints, Output, STANDARD_INPUT, show_answer};
 use std::alloc::Global;
 use std::io::Write;
 use std::marker::Sync;
@@ -54,6 +56,7 @@ fn load_named<'a, S: Source>(source: &mut S, name: &'a str) -> Result<Vec<u8>, F
     ensures right { IfErr result (λ fault. (asked : Asked) (under : List ℕ → Option (List ℕ))
         (told after : Option (List Loaded)) → IsNameTold asked name.entry.now
         → IsRightFault asked under told after (S.refused source.new) fault) }
+    ensures unwritten { IfErr result (λ fault. fault ≢ Fault.Write) }
     ensures status { IfErr result (λ fault. status_of fault ≡ 1) }
 {
     match source.load(name) {
@@ -70,6 +73,7 @@ fn load_input<'a, S: Source>(source: &mut S) -> Result<Vec<u8>, Fault<'a>>
     ensures right { IfErr result (λ fault. (asked : Asked) (under : List ℕ → Option (List ℕ))
         (told after : Option (List Loaded)) → asked.files ≡ []
         → IsRightFault asked under told after (S.refused source.new) fault) }
+    ensures unwritten { IfErr result (λ fault. fault ≢ Fault.Write) }
     ensures status { IfErr result (λ fault. status_of fault ≡ 1) }
 {
     match source.input() {
@@ -92,6 +96,7 @@ fn load_table<'a, S: Source>(
         → asked.table ≡ option_map (λ n. n.now) name.entry
         → IsRightFault asked under (S.loaded source.old) (S.loaded source.new)
         (S.refused source.new) fault) }
+    ensures unwritten { IfErr result (λ fault. fault ≢ Fault.Write) }
     ensures status { IfErr result (λ fault. status_of fault ≡ 1) }
 {
     let Some(name) = name else {
@@ -117,6 +122,7 @@ fn load_files<'a, R: Threads + Sync, D: Disk + Sync, S: Source>(
     ensures right { IfErr result (λ fault. (asked : Asked) (under : List ℕ → Option (List ℕ))
         (told after : Option (List Loaded)) → asked.files ≡ map (λ n. n.now) names.now
         → IsRightFault asked under told after (S.refused source.new) fault) }
+    ensures unwritten { IfErr result (λ fault. fault ≢ Fault.Write) }
     ensures status { IfErr result (λ fault. status_of fault ≡ 1) }
 {
     let mut files = Vec::new(alloc);
@@ -302,6 +308,9 @@ fn list<'a, W: Write>(
     ensures ok { IfOk result (λ clean. (text : List ℕ)
         × IsListing table (map (λ f. f.items) files.now) text clean
         × Appends (W.contents out.old) (W.contents out.new) text) }
+    ensures begun { IfErr result (λ fault. fault ≡ Fault.Write → (clean : Bool) × (text : List ℕ)
+        × IsListing table (map (λ f. f.items) files.now) text clean
+        × Begins (W.contents out.old) (W.contents out.new) text) }
     ensures fault { IfErr result (λ fault. fault ≢ Fault.Write
         → Keeps (W.contents out.old) (W.contents out.new)) }
     ensures output { IfErr result IsOfOutput }
@@ -330,6 +339,14 @@ fn work_by_table<'a, R: Threads + Wait + RandomSource + Sync, D: Disk + Sync, S:
         → (asked_of options.now).sorted ≡ false
         → DoesUntraced (asked_of options.now) (D.bytes_under disk.now) told (S.loaded source.new)
         before (W.contents out.new) well) }
+    ensures begun { IfErr result (λ fault. fault ≡ Fault.Write
+        → (told : Option (List Loaded)) (before : Option (List ℕ))
+        → LoadsTable (asked_of options.now).table told (S.loaded source.old) table
+        → IsTokenIn (asked_of options.now).token token → Keeps before (W.contents out.old)
+        → (asked_of options.now).sorted ≡ false
+        → (well : Bool) × IsBegun before (W.contents out.new) (λ whole.
+        DoesUntraced (asked_of options.now) (D.bytes_under disk.now) told (S.loaded source.new)
+        before whole well)) }
     ensures fault { IfErr result (λ fault. fault ≢ Fault.Write
         → Keeps (W.contents out.old) (W.contents out.new)) }
     ensures right { IfErr result (λ fault. (told : Option (List Loaded))
@@ -367,6 +384,10 @@ fn work_traced<'a, R: Threads + Sync, D: Disk + Sync, S: Source, W: Write>(
     requires table { is_some (asked_of options.now).table ≡ true }
     ensures ok { IfOk result (λ well. RunsTraced (asked_of options.now) (S.loaded source.old)
         (S.loaded source.new) (W.contents out.old) (W.contents out.new) well) }
+    ensures begun { IfErr result (λ fault. fault ≡ Fault.Write → (well : Bool)
+        × IsBegun (W.contents out.old) (W.contents out.new) (λ whole.
+        RunsTraced (asked_of options.now) (S.loaded source.old) (S.loaded source.new)
+        (W.contents out.old) whole well)) }
     ensures fault { IfErr result (λ fault. fault ≢ Fault.Write
         → Keeps (W.contents out.old) (W.contents out.new)) }
     ensures right { IfErr result (λ fault. (asked_of options.now).traced ≡ true
@@ -406,6 +427,12 @@ fn work<'a, R: Threads + Wait + RandomSource + Sync, D: Disk + Sync, S: Source, 
         → ((asked_of options.now).sorted ≡ true → IsLate fault → ⊥)
         → Keeps (W.contents out.old) (W.contents out.new)) }
 
+    // What a write that failed left is a beginning of the text that is asked for.
+    ensures begun { IfErr result (λ fault. fault ≡ Fault.Write
+        → (asked_of options.now).sorted ≡ false
+        → HasBegun (asked_of options.now) (D.bytes_under disk.now) (S.loaded source.old)
+        (S.loaded source.new) (W.contents out.old) (W.contents out.new)) }
+
     // A mistake in what is asked for is seen before all else, and then nothing was loaded. Another
     // fault has the other status.
     ensures why { IfErr result (IsWhyOf (asked_of options.now)) }
@@ -444,24 +471,46 @@ fn tell<E: Write>(err: &mut Complaints<E>, fault: &Fault) -> u8
 
 /// Shows what clap answers when there is nothing to run: help and version on `out`, else the
 /// mistake on `err`.
-fn show<W: Write, E: Write>(error: &Error, out: &mut W, err: &mut Complaints<E>) -> u8
+fn show<W: Write, E: Write>(error: &Error, out: &mut Output<W>, err: &mut Complaints<E>) -> u8
     ensures help { result ≡ 0 → IsRequest (kind_of error.now) }
     ensures memory { kind_of error.now ≡ ErrorKind.OutOfMemory → result ≡ 1 }
     ensures refused { kind_of error.now ≡ ErrorKind.OutOfMemory
         → GaveUp Fault.NoMemory (E.contents err.old.writer) (E.contents err.new.writer)
-        err.new.failed (W.contents out.old) (W.contents out.new) }
+        err.new.failed (W.contents out.old.writer) (W.contents out.new.writer) }
     ensures words { (¬ IsRequest (kind_of error.now))
         → kind_of error.now ≢ ErrorKind.OutOfMemory → result ≡ 2 }
     ensures requested { result ≡ 2 → ¬ IsRequest (kind_of error.now) }
-    ensures mistake { result ≡ 2 → Keeps (W.contents out.old) (W.contents out.new) }
+    ensures mistake { result ≡ 2 → Keeps (W.contents out.old.writer) (W.contents out.new.writer) }
     ensures quiet { result ≡ 0 → err.new ≡ err.old }
     ensures fault { result ≡ 1 → (fault : Fault) × IsOfOutput fault × (status_of fault ≡ 1)
         × GaveUp fault (E.contents err.old.writer) (E.contents err.new.writer) err.new.failed
-        (W.contents out.old) (W.contents out.new) }
+        (W.contents out.old.writer) (W.contents out.new.writer) }
     ensures status { result ≤ 2 }
 {
     match show_answer(error, out, err) {
         Ok(status) => status,
+        Err(_) => tell(err, &Fault::Write),
+    }
+}
+
+/// Flushes the output behind the whole text, which is well or not, and gives the status. A flush that
+/// fails is reported on `err` as a write is.
+fn finish<W: Write, E: Write>(
+    is_well: bool,
+    out: &mut Output<W>,
+    err: &mut Complaints<E>,
+) -> u8
+    ensures kept { Keeps (W.contents out.old.writer) (W.contents out.new.writer) }
+    ensures well { result ≡ 0 → (is_well ≡ true) × (out.new.is_flushed ≡ true)
+        × (err.new ≡ err.old) }
+    ensures ill { result ≡ 1 → ((is_well ≡ false) × (out.new.is_flushed ≡ true)
+        × (err.new ≡ err.old)) ⊎ LineWritten (E.contents err.old.writer)
+        (E.contents err.new.writer) err.new.failed (fault_text Fault.Write) }
+    ensures status { result ≤ 1 }
+{
+    match out.finish() {
+        Ok(()) if is_well => 0,
+        Ok(()) => 1,
         Err(_) => tell(err, &Fault::Write),
     }
 }
@@ -483,13 +532,14 @@ pub fn main_over<
     words: &[String],
     disk: &D,
     source: &mut S,
-    out: &mut W,
+    out: &mut Output<W>,
     err: &mut Complaints<E>,
 ) -> u8
     // With status 0 the whole text was written, and each upload is well.
     ensures done { Parses (map string_bytes words.now) → result ≡ 0
         → Does (asked_by (map string_bytes words.now)) (D.bytes_under disk.now)
-        (S.loaded source.old) (S.loaded source.new) (W.contents out.old) (W.contents out.new)
+        (S.loaded source.old) (S.loaded source.new) (W.contents out.old.writer)
+        (W.contents out.new.writer)
         true }
 
     // Words that are no command line end well only where they ask for help or the version.
@@ -501,42 +551,57 @@ pub fn main_over<
     ensures wrong_words { ¬ Parses (map string_bytes words.now)
         → (¬ AsksForText (map string_bytes words.now))
         → (result ≡ 2) ⊎ ((result ≡ 1) × GaveUp Fault.NoMemory (E.contents err.old.writer)
-        (E.contents err.new.writer) err.new.failed (W.contents out.old) (W.contents out.new)) }
+        (E.contents err.new.writer) err.new.failed (W.contents out.old.writer)
+        (W.contents out.new.writer)) }
 
     // The first mistake in what is asked for is told, with status 2. Only want of memory, where the
     // words are read, may come before it.
     ensures mistaken { (first : Fault) → Parses (map string_bytes words.now)
         → mistake (asked_by (map string_bytes words.now)) ≡ Some first
         → ((result ≡ 2) × GaveUp first (E.contents err.old.writer) (E.contents err.new.writer)
-        err.new.failed (W.contents out.old) (W.contents out.new))
+        err.new.failed (W.contents out.old.writer) (W.contents out.new.writer))
         ⊎ ((result ≡ 1) × GaveUp Fault.NoMemory (E.contents err.old.writer)
-        (E.contents err.new.writer) err.new.failed (W.contents out.old) (W.contents out.new)) }
+        (E.contents err.new.writer) err.new.failed (W.contents out.old.writer)
+        (W.contents out.new.writer)) }
 
     // Only such a mistake, or words that are no command line, have status 2.
     ensures right { result ≡ 2 → (¬ Parses (map string_bytes words.now))
         ⊎ (is_some (mistake (asked_by (map string_bytes words.now))) ≡ true) }
 
-    // With status 1 the whole text was written, and tells of an upload that is not well, and nothing
-    // was said on `err`; or a fault was told, which is the right one, and nothing was written but
-    // where a write failed, or where a sorted file was refused after all were checked.
+    // A text that ends well was flushed.
+    ensures flushed { Parses (map string_bytes words.now) → result ≡ 0
+        → out.new.is_flushed ≡ true }
+
+    // With status 1 the whole text was written and flushed, and tells of an upload that is not well,
+    // and nothing was said on `err`; or a fault was told, which is the right one, and nothing was
+    // written but where a write failed, or where a sorted file was refused after all were checked.
+    // What a write that failed left is a beginning of the text that is asked for: nothing else was
+    // written before the fault, and nothing behind it. Of sorted files that is not said.
     ensures faults { result ≡ 1
         → (Parses (map string_bytes words.now)
         × Does (asked_by (map string_bytes words.now)) (D.bytes_under disk.now)
-        (S.loaded source.old) (S.loaded source.new) (W.contents out.old) (W.contents out.new)
-        false × (err.new ≡ err.old))
+        (S.loaded source.old) (S.loaded source.new) (W.contents out.old.writer)
+        (W.contents out.new.writer)
+        false × (out.new.is_flushed ≡ true) × (err.new ≡ err.old))
         ⊎ ((fault : Fault) × (status_of fault ≡ 1)
         × (Parses (map string_bytes words.now)
         → IsRightFault (asked_by (map string_bytes words.now)) (D.bytes_under disk.now)
         (S.loaded source.old) (S.loaded source.new) (S.refused source.new) fault)
+        × (Parses (map string_bytes words.now) → fault ≡ Fault.Write
+        → (asked_by (map string_bytes words.now)).sorted ≡ false
+        → HasBegun (asked_by (map string_bytes words.now)) (D.bytes_under disk.now)
+        (S.loaded source.old) (S.loaded source.new) (W.contents out.old.writer)
+        (W.contents out.new.writer))
         × GaveUpOn (asked_by (map string_bytes words.now)) fault (E.contents err.old.writer)
-        (E.contents err.new.writer) err.new.failed (W.contents out.old) (W.contents out.new)) }
+        (E.contents err.new.writer) err.new.failed (W.contents out.old.writer)
+        (W.contents out.new.writer)) }
 
     // Nothing is said on `err` where all is well.
     ensures quiet { result ≡ 0 → err.new ≡ err.old }
 
     // A mistake in the words loads nothing and writes nothing to `out`.
     ensures unloaded { result ≡ 2 → S.loaded source.new ≡ S.loaded source.old }
-    ensures unwritten { result ≡ 2 → Keeps (W.contents out.old) (W.contents out.new) }
+    ensures unwritten { result ≡ 2 → Keeps (W.contents out.old.writer) (W.contents out.new.writer) }
     ensures status { result ≤ 2 }
 {
     let options = match Options::read(alloc, words) {
@@ -544,8 +609,7 @@ pub fn main_over<
         Err(error) => return show(&error, out, err),
     };
     match work(rt, alloc, disk, &options, source, out) {
-        Ok(true) => 0,
-        Ok(false) => 1,
+        Ok(is_well) => finish(is_well, out, err),
         Err(fault) => tell(err, &fault),
     }
 }

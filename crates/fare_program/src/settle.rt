@@ -1,6 +1,7 @@
 //! What is asked for of settled files, whose taps are charged account by account in one order.
-ghost use Rattle.std.specs.Prelude.{◌≡◌, ◌≢◌, ℕ, true, List, None, IfErr, IfOk};
+ghost use Rattle.std.specs.Prelude.{Bool, ◌≡◌, ◌≢◌, ℕ, true, List, None, IfErr, IfOk};
 ghost use Rattle.std.specs.Io.KnownBytes.{Appends, Keeps};
+ghost use Rattle.fare_texts.specs.WrittenOut.{Begins};
 ghost use Rattle.fare_program.specs.Fault.{status_of};
 ghost use Rattle.fare_program.specs.inside.Causes.{IsOfOutput};
 ghost use Rattle.fare_program.specs.Options.{Asked};
@@ -11,7 +12,6 @@ ghost use Rattle.settlement.specs.Reading.{AreRead};
 use crate::bill::write_bill;
 use crate::fault::Fault;
 use crate::options::Options;
-use crate::output::flush;
 use crate::run::are_posted;
 use crate::settled_token::write_token;
 use fare_table::FareTable;
@@ -39,6 +39,12 @@ fn write_ledger<'a, R: Threads + Sync, U: Uploads + Sync, W: Write>(
         × ((asked : Asked) → asked.ledger ≡ true
         → ShowsSettled asked table.now files None text well)
         × Appends (W.contents out.old) (W.contents out.new) text) }
+    ensures begun { IfErr result (λ fault. fault ≡ Fault.Write
+        → (well : Bool) × (files : List (List ℕ)) × (text : List ℕ)
+        × AreRead (U.may_be uploads.now) 0 (U.number uploads.now) files
+        × ((asked : Asked) → asked.ledger ≡ true
+        → ShowsSettled asked table.now files None text well)
+        × Begins (W.contents out.old) (W.contents out.new) text) }
     ensures output { IfErr result IsOfOutput }
     ensures status { IfErr result (λ fault. status_of fault ≡ 1) }
     ensures fault { IfErr result (λ fault. fault ≢ Fault.Write
@@ -48,7 +54,6 @@ fn write_ledger<'a, R: Threads + Sync, U: Uploads + Sync, W: Write>(
     // proof: the taps, posted in their order, are the settled history
     laws::posted_taps();
     write_settled_ledger(rt, alloc, table, &lists, workers, out)?;
-    flush(out)?;
     Ok(are_posted(&ends))
 }
 
@@ -66,6 +71,11 @@ fn charge_all<'a, R: Threads + RandomSource + Sync, U: Uploads + Sync, W: Write>
         × AreRead (U.may_be uploads.now) 0 (U.number uploads.now) files
         × ShowsSettled (asked_of options.now) table.now files None text well
         × Appends (W.contents out.old) (W.contents out.new) text) }
+    ensures begun { IfErr result (λ fault. fault ≡ Fault.Write
+        → (well : Bool) × (files : List (List ℕ)) × (text : List ℕ)
+        × AreRead (U.may_be uploads.now) 0 (U.number uploads.now) files
+        × ShowsSettled (asked_of options.now) table.now files None text well
+        × Begins (W.contents out.old) (W.contents out.new) text) }
     ensures output { IfErr result IsOfOutput }
     ensures status { IfErr result (λ fault. status_of fault ≡ 1) }
     ensures fault { IfErr result (λ fault. fault ≢ Fault.Write
@@ -91,6 +101,11 @@ pub(crate) fn charge_settled<'a, R: Threads + RandomSource + Sync, U: Uploads + 
         × AreRead (U.may_be uploads.now) 0 (U.number uploads.now) files
         × ShowsSettled (asked_of options.now) table.now files token text well
         × Appends (W.contents out.old) (W.contents out.new) text) }
+    ensures begun { IfErr result (λ fault. fault ≡ Fault.Write
+        → (well : Bool) × (files : List (List ℕ)) × (text : List ℕ)
+        × AreRead (U.may_be uploads.now) 0 (U.number uploads.now) files
+        × ShowsSettled (asked_of options.now) table.now files token text well
+        × Begins (W.contents out.old) (W.contents out.new) text) }
     ensures output { IfErr result IsOfOutput }
     ensures status { IfErr result (λ fault. status_of fault ≡ 1) }
     ensures fault { IfErr result (λ fault. fault ≢ Fault.Write

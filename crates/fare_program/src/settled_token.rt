@@ -1,6 +1,7 @@
 //! What is told of one token of settled files, from its taps alone.
-ghost use Rattle.std.specs.Prelude.{◌≡◌, ◌≢◌, ℕ, List, All, Some, IfErr, IfOk, MatchBool, OnOk};
+ghost use Rattle.std.specs.Prelude.{Bool, ◌≡◌, ◌≢◌, ℕ, List, All, Some, IfErr, IfOk, MatchBool, OnOk};
 ghost use Rattle.std.specs.Io.KnownBytes.{Appends, Keeps};
+ghost use Rattle.fare_texts.specs.WrittenOut.{Begins};
 ghost use Rattle.tap_views.specs.Encoding.{AreEarly};
 ghost use Rattle.shard_book.specs.Entry.{own};
 ghost use Rattle.shard_book.specs.declared.entry.Entry.{Entry};
@@ -15,7 +16,6 @@ ghost use Rattle.fare_program.specs.inside.Options.{asked_of};
 
 use crate::fault::Fault;
 use crate::options::Options;
-use crate::output::flush;
 use crate::run::are_posted;
 use fare_table::FareTable;
 use settled_texts::{write_token_explained, write_token_ledger, write_token_statement};
@@ -27,6 +27,7 @@ use std::thread::Threads;
 use tap_views::{TapFields, Token};
 
 /// Writes the statement of a token that has these taps, explained where that is asked for.
+#[tactic(auto, using(crate::proofs::WritesFailed::of_write))]
 fn write_statement<'a, W: Write>(
     alloc: Global,
     explain: bool,
@@ -42,6 +43,12 @@ fn write_statement<'a, W: Write>(
         → MatchBool explain (IsExplainedOver table.now history token text)
         (IsStatementOver table.now history token text))
         × Appends (W.contents out.old) (W.contents out.new) text) }
+    ensures begun { IfErr result (λ fault. fault ≡ Fault.Write
+        → (text : List ℕ)
+        × ((history : List Entry) → own token history ≡ posted table.now taps.now
+        → MatchBool explain (IsExplainedOver table.now history token text)
+        (IsStatementOver table.now history token text))
+        × Begins (W.contents out.old) (W.contents out.new) text) }
     ensures output { IfErr result IsOfOutput }
     ensures status { IfErr result (λ fault. status_of fault ≡ 1) }
     ensures fault { IfErr result (λ fault. fault ≢ Fault.Write
@@ -57,6 +64,7 @@ fn write_statement<'a, W: Write>(
 
 /// Writes the ledger of a token that has these taps, or its statement, explained where that is
 /// asked for.
+#[tactic(auto, using(crate::proofs::WritesFailed::of_write))]
 pub(crate) fn write_text<'a, W: Write>(
     alloc: Global,
     options: &Options<'a>,
@@ -72,6 +80,12 @@ pub(crate) fn write_text<'a, W: Write>(
         → own token history ≡ posted table.now taps.now
         → ShowsOver (asked_of options.now) (Some token) table.now files history text)
         × Appends (W.contents out.old) (W.contents out.new) text) }
+    ensures begun { IfErr result (λ fault. fault ≡ Fault.Write
+        → (text : List ℕ)
+        × ((files : List (List ℕ)) (history : List Entry)
+        → own token history ≡ posted table.now taps.now
+        → ShowsOver (asked_of options.now) (Some token) table.now files history text)
+        × Begins (W.contents out.old) (W.contents out.new) text) }
     ensures output { IfErr result IsOfOutput }
     ensures status { IfErr result (λ fault. status_of fault ≡ 1) }
     ensures fault { IfErr result (λ fault. fault ≢ Fault.Write
@@ -100,6 +114,11 @@ pub(crate) fn write_token<'a, R: Threads + Sync, U: Uploads + Sync, W: Write>(
         × AreRead (U.may_be uploads.now) 0 (U.number uploads.now) files
         × ShowsSettled (asked_of options.now) table.now files (Some token) text well
         × Appends (W.contents out.old) (W.contents out.new) text) }
+    ensures begun { IfErr result (λ fault. fault ≡ Fault.Write
+        → (well : Bool) × (files : List (List ℕ)) × (text : List ℕ)
+        × AreRead (U.may_be uploads.now) 0 (U.number uploads.now) files
+        × ShowsSettled (asked_of options.now) table.now files (Some token) text well
+        × Begins (W.contents out.old) (W.contents out.new) text) }
     ensures output { IfErr result IsOfOutput }
     ensures status { IfErr result (λ fault. status_of fault ≡ 1) }
     ensures fault { IfErr result (λ fault. fault ≢ Fault.Write
@@ -109,6 +128,5 @@ pub(crate) fn write_token<'a, R: Threads + Sync, U: Uploads + Sync, W: Write>(
     // proof: the taps, posted alone, are the token's entries in the settled history
     laws::posted_taps();
     write_text(alloc, options, table, token, &taps, out)?;
-    flush(out)?;
     Ok(are_posted(&ends))
 }

@@ -12,7 +12,6 @@ use crate::bill::write_billed;
 use crate::fault::Fault;
 use crate::files_ahead::Disk;
 use crate::options::Options;
-use crate::output::flush;
 use crate::settled_token::write_text;
 use fare_table::FareTable;
 use placed_files::Placed;
@@ -103,10 +102,7 @@ fn write_ledger<'a, R: Threads + Sync, F: Placed + Sync, W: Write>(
         → Keeps (W.contents out.old) (W.contents out.new)) }
 {
     match write_sorted_ledger(rt, alloc, table, files, out, options.workers) {
-        Ok(_ends) => {
-            flush(out)?;
-            Ok(())
-        }
+        Ok(_ends) => Ok(()),
         Err(fault) => Err(Fault::of_bill(&options.files, fault)),
     }
 }
@@ -134,7 +130,6 @@ fn write_token<'a, R: Threads + Sync, F: Placed + Sync, W: Write>(
             // proof: the taps, posted alone, are the token's entries in the settled history
             laws::posted_taps();
             write_text(alloc, options, table, token, &made.taps, out)?;
-            flush(out)?;
             Ok(())
         }
         Err(fault) => Err(Fault::of_bill(&options.files, fault)),

@@ -3,7 +3,7 @@ ghost use Rattle.std.specs.Prelude.{◌≡◌, map, string_bytes};
 ghost use Rattle.fare_program.specs.Runs.{IsRun};
 
 use crate::ticker::Ticker;
-use fare_program::{Complaints, Disk, Source, main_over};
+use fare_program::{Complaints, Disk, Output, Source, main_over};
 use std::io::Write;
 use std::marker::Sync;
 use std::random::RandomSource;
@@ -25,12 +25,13 @@ fn run<
     ticker: &Ticker,
     disk: &D,
     source: &mut S,
-    out: &mut W,
+    out: &mut Output<W>,
     err: &mut Complaints<E>,
 ) -> u8
     ensures { IsRun (map string_bytes words.now) (D.bytes_under disk.now) (S.loaded source.old)
-        (S.loaded source.new) (S.refused source.new) (W.contents out.old) (W.contents out.new)
-        (E.contents err.old.writer) (E.contents err.new.writer) err.new.failed
+        (S.loaded source.new) (S.refused source.new) (W.contents out.old.writer)
+        (W.contents out.new.writer)
+        (E.contents err.old.writer) (E.contents err.new.writer) out.new.is_flushed err.new.failed
         (err.new ≡ err.old) result }
 {
     let status = main_over(rt, rt.alloc(), words, disk, source, out, err);
@@ -53,12 +54,13 @@ pub fn run_beside_line<
     ticker: &Ticker,
     disk: &D,
     source: &mut S,
-    out: &mut W,
+    out: &mut Output<W>,
     err: &mut Complaints<E>,
 ) -> u8
     ensures { IsRun (map string_bytes words.now) (D.bytes_under disk.now) (S.loaded source.old)
-        (S.loaded source.new) (S.refused source.new) (W.contents out.old) (W.contents out.new)
-        (E.contents err.old.writer) (E.contents err.new.writer) err.new.failed
+        (S.loaded source.new) (S.refused source.new) (W.contents out.old.writer)
+        (W.contents out.new.writer)
+        (E.contents err.old.writer) (E.contents err.new.writer) out.new.is_flushed err.new.failed
         (err.new ≡ err.old) result }
 {
     let (_, status) = thread::join_mut(

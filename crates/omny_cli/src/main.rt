@@ -22,7 +22,7 @@ mod ticker;
 mod watched;
 
 use beside::run_beside_line;
-use fare_program::{Complaints, Host, Note, list_words, unread_words, words_of};
+use fare_program::{Complaints, Host, Note, Output, list_words, unread_words, words_of};
 use hushing::Hushing;
 use program_manners::take_list;
 use progress::Steps;
@@ -76,7 +76,7 @@ fn main(rt: HostRuntime) -> ExitCode {
         &ticker,
         &WatchedDisk::new(&rt, &ticker),
         &mut Watched::new(&rt, &ticker, Host::new(&rt)),
-        &mut Hushing::new(&rt, &ticker, rt.stdout(), writes_to_file(&rt)),
+        &mut Output::new(Hushing::new(&rt, &ticker, rt.stdout(), writes_to_file(&rt))),
         &mut Complaints::new(Hushing::new(&rt, &ticker, rt.stderr(), false)),
     ))
 }

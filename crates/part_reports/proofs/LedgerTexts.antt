@@ -27,12 +27,13 @@ head_left rest = refl
 
 pub behind_head : (file line : List ℕ) (now : Option (List ℕ)) (at : Standing)
     → line ≡ take_through 10 file → now ≡ Some (drop_through 10 file) → line ≡ head_text
-    → IfSome now (λ left. StandsInText (Entries, left) at) → IsBegunLedger file at
-behind_head file line now at taken left head source = record {
+    → at.number ≡ 2 → IfSome now (λ left. StandsInText (Entries, left) at) → IsBegunLedger file at
+behind_head file line now at taken left head number source = record {
   left = drop_through 10 file;
   shown = sym (taken_and_left file) ∙ ap (λ line. line ++ drop_through 10 file) (sym taken ∙ head);
   stands = MatchOption-at_some (Unit {0}) (λ left. StandsInText (Entries, left) at)
       (drop_through 10 file) left source;
+  number = number;
 }
 
 pub no_head : (file line : List ℕ) → line ≡ take_through 10 file → line ≢ head_text

@@ -75,12 +75,12 @@ first_wrong front back file files text Write are place of none = tt
 first_wrong front back file files text NoMemory are place of none = tt
 
 -- the file of a text behind its head line
-record IsFileOf (files : List (List ℕ)) (place : ℕ) (text : LineKind × List ℕ) : Type 0 where
-  file : List ℕ
-  there : slice_get files place ≡ Some file
-  of : (lines : List TokenLine) → IsPartLedger lines file → IsTextOf text lines
+pub record IsFileOf (files : List (List ℕ)) (place : ℕ) (text : LineKind × List ℕ) : Type 0 where
+  pub file : List ℕ
+  pub there : slice_get files place ≡ Some file
+  pub of : (lines : List TokenLine) → IsPartLedger lines file → IsTextOf text lines
 
-file_of : (files lefts : List (List ℕ)) (place : ℕ) (text : LineKind × List ℕ)
+pub file_of : (files lefts : List (List ℕ)) (place : ℕ) (text : LineKind × List ℕ)
     → AllZip (λ file left. file ≡ head_text ++ left) files lefts
     → slice_get (map (λ (left : List ℕ). (Entries, left)) lefts) place ≡ Some text
     → IsFileOf files place text
@@ -100,7 +100,7 @@ file_of (file ∷ files) (left ∷ lefts) (suc place) text shown there =
     let rest = file_of files lefts place text shown.1 there in
     record { file = rest.file; there = rest.there; of = rest.of }
 
-no_ledger_at : (files lefts : List (List ℕ)) (place : ℕ)
+pub no_ledger_at : (files lefts : List (List ℕ)) (place : ℕ)
     → AllZip (λ file left. file ≡ head_text ++ left) files lefts
     → IsNoTextAt (map (λ left. (Entries, left)) lefts) place → IsWrongLedgerAt files place
 no_ledger_at files lefts place shown none =
@@ -111,7 +111,7 @@ no_ledger_at files lefts place shown none =
       wrong = inl (λ lines is. none.none lines (found.of lines is));
     }
 
-shared_at : (files lefts : List (List ℕ)) (place : ℕ)
+pub shared_at : (files lefts : List (List ℕ)) (place : ℕ)
     → AllZip (λ file left. file ≡ head_text ++ left) files lefts
     → SharesTokenAt (map (λ left. (Entries, left)) lefts) place → IsWrongLedgerAt files place
 shared_at files lefts place shown twin =

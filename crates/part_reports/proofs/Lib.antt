@@ -1,10 +1,13 @@
 pub mod Added
 pub mod Adding
+pub mod BesideWrong
 pub mod CannotMerge
 pub mod ChargeLines
 pub mod Counted
 pub mod EndsRead
 pub mod FewParts
+pub mod FirstLines
+pub mod FirstWrongs
 pub mod Firsts
 pub mod FrontWritten
 pub mod FrontsRead
@@ -12,6 +15,7 @@ pub mod JoinedTokens
 pub mod Leasts
 pub mod Groups
 pub mod LedgerTexts
+pub mod LedgersFirst
 pub mod LedgersWrong
 pub mod LinesRead
 pub mod ListsWritten

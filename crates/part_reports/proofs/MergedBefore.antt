@@ -469,7 +469,7 @@ begun_line texts ats old now new k merging least was stands begun lists all are 
     let rise : Rise part.text.0 ((part.done ++ line ∷ []) ++ more) =
     subst (λ lines. Rise part.text.0 lines) whole (lines_rise part.text.0 list text.0) in
     let after : Standing =
-    record { left = None; line = []; behind = Entries; token = head_of more } in
+    record { left = None; line = []; behind = Entries; token = head_of more; number = 0 } in
     let next = next_part part token after in
     let goes : IsNext parts k tokens part token after = record {
       there = found.there;

@@ -27,7 +27,7 @@ none_behind : (kind : LineKind) → IsBehindSo kind kind []
 none_behind (Tokens left rest) = (omega arith, refl)
 none_behind Entries = tt
 
-one_behind : (all kind behind : LineKind) (done : List TokenLine) (line : TokenLine)
+pub one_behind : (all kind behind : LineKind) (done : List TokenLine) (line : TokenLine)
     → IsBehindSo all kind done → IsBehindOne kind line behind
     → IsBehindSo all behind (done ++ line ∷ [])
 one_behind (Tokens all total) (Tokens left rest) (Tokens behind after) done line is one =
@@ -132,13 +132,13 @@ pub here : (part : Part) (token : Token) → (going : IsGoing part) → part.at.
 here part token going is =
     subst (λ head. StandsInTextAt (going.kind, going.left) part.at head) is going.source
 
-below_here : (part : Part) (token : Token) → IsGoing part → part.at.token ≡ Some token
+pub below_here : (part : Part) (token : Token) → IsGoing part → part.at.token ≡ Some token
     → AllByRecursion (λ line. MayFollow part.text.0 line.token token) part.done
 below_here part token going is = subst (λ head. IfSome head
     (λ token. AllByRecursion (λ line. MayFollow part.text.0 line.token token) part.done)) is
     going.below
 
-one_text : (line : TokenLine) (done : List TokenLine) (rest : List ℕ)
+pub one_text : (line : TokenLine) (done : List TokenLine) (rest : List ℕ)
     → text_of done ++ (line.text ++ rest) ≡ text_of (done ++ line ∷ []) ++ rest
 one_text line done rest =
     sym (append_assoc (text_of done) line.text rest)

@@ -27,8 +27,8 @@ use Rattle.tap_views.proofs.Orderings.{less}
 use Rattle.tap_views.proofs.Lists.{each-weaker, All-front, All-back}
 use Rattle.part_reports.specs.Charges.{LineCharge}
 use Rattle.part_reports.specs.LedgersWithReports.{AddUpTo, AddUpToText, at_validator}
-use Rattle.part_reports.specs.Reports.{IsPartReport, Report, added, report_text, sums_found}
-use Rattle.part_reports.specs.Reports.{sums_of_validator}
+use Rattle.part_reports.specs.Reports.{IsNoReport, IsPartReport, Report, added, report_text}
+use Rattle.part_reports.specs.Reports.{sums_found, sums_of_validator}
 use Rattle.part_reports.specs.TokenLines.{TokenLine, text_of}
 use Rattle.part_reports.specs.declared.sums.WholeSums.{WholeSums}
 use Rattle.part_reports.specs.declared.sums_left.SumsLeft.{SumsLeft}
@@ -97,7 +97,7 @@ pub some_token : (a b : Token) → Some a ≡ Some b → a ≡ b
 some_token a b is = cc
 
 -- ---- the report in the text
-abbrev part_of : (file : List ℕ) (left : ReportAt) (done : List LineCharge)
+abbrev pub part_of : (file : List ℕ) (left : ReportAt) (done : List LineCharge)
     → IsUsedBy file left done → Part
 part_of file left done is =
     record { text = left_text is.begun; at = left.at; done = map line_of is.told }
@@ -112,7 +112,7 @@ same_front file left done is report fit shown =
     (sym is.shown ∙ shown
     ∙ sym (whole_text report.ends report.totals report.validators report.tokens))
 
-report_lines : (file : List ℕ) (left : ReportAt) (done : List LineCharge)
+pub report_lines : (file : List ℕ) (left : ReportAt) (done : List LineCharge)
     → (is : IsUsedBy file left done) → (report : Report) → IsPartReport report
     → file ≡ report_text report → IsTextOf (left_text is.begun) (map line_of report.tokens)
 report_lines file left done is report fit shown =
@@ -285,18 +285,21 @@ used_none file before after at used rest nothing part none empty = record {
       (append-nil part.begun.0.validators) (part.added [] nothing).validators;
 }
 
-pub not_begun : (file : List ℕ) (before : WholeSums) (charges : List LineCharge)
-    → AreFrontsCounted before [] → IsNoPart before file → ¬ (AddUpToText charges file)
-not_begun file before charges nothing no_part add =
-    let report = add.report in
-    let fit = add.is_report in
+pub none_begun : (file : List ℕ) (before : WholeSums) → AreFrontsCounted before []
+    → IsNoPart before file → IsNoReport file
+none_begun file before nothing no_part report fit shown =
     no_part [] nothing (told_of report, flat_map token_line report.tokens)
     (map line_of report.tokens) (told_may report fit)
-    (add.shown ∙ sym (whole_text report.ends report.totals report.validators report.tokens))
+    (shown ∙ sym (whole_text report.ends report.totals report.validators report.tokens))
     (lines_stand report.tokens report.totals fit.tokens fit.tokens_rise fit.tokens_add)
     (few (told_of report ∷ [])
     (All-cons MayBePart (told_of report) [] (told_may report fit) (All-nil MayBePart))
     (omega arith))
+
+pub not_begun : (file : List ℕ) (before : WholeSums) (charges : List LineCharge)
+    → AreFrontsCounted before [] → IsNoPart before file → ¬ (AddUpToText charges file)
+not_begun file before charges nothing no_part add =
+    none_begun file before nothing no_part add.report add.is_report add.shown
 
 -- ---- one charge more
 at_more : (done : List LineCharge) (charge : LineCharge)

@@ -24,6 +24,7 @@ use Rattle.part_reports.specs.inside.ReportsLeft.{HasLeft, IsNotTakenAt, IsTaken
 use Rattle.part_reports.specs.inside.ReportsLeft.{IsTakenAt, IsUsedBy, IsUsedUp, ReportAt}
 use Rattle.part_reports.specs.inside.Standings.{IsLineOfKind, IsMovedAt, Standing, StandsInText}
 use Rattle.part_reports.specs.inside.Standings.{line_with}
+use Rattle.part_reports.specs.inside.WrongBeside.{AddsUpToNoneAt, HasLeftAt}
 use Rattle.part_reports.proofs.ChargeLines.{one_charge}
 use Rattle.part_reports.proofs.Firsts.{line_is_some}
 use Rattle.part_reports.proofs.LedgerTexts.{lefts_of, texts_from, texts_to}
@@ -189,6 +190,19 @@ beside_end (part ∷ parts) (file ∷ files) (left ∷ lefts) are up = (
   beside_end parts files lefts are.1 (λ k left there. up (suc k) left there),
 )
 
+-- the list of the text at the place
+text_at_place : (texts : List (LineKind × List ℕ)) (lists : List (List TokenLine)) (k : ℕ)
+    (text : LineKind × List ℕ) → AreTexts texts lists → slice_get texts k ≡ Some text
+    → (list : List TokenLine) × (slice_get lists k ≡ Some list) × IsTextOf text list
+text_at_place [] lists k text are there = absurd (cc)
+text_at_place (one ∷ texts) [] k text are there = elim are [ ]
+text_at_place (one ∷ texts) (list ∷ lists) zero text are there =
+    let h : Some one ≡ Some text = there in
+    let same : one ≡ text = cc in
+    (list, refl, subst (λ text. IsTextOf text list) same are.0)
+text_at_place (one ∷ texts) (list ∷ lists) (suc k) text are there =
+    text_at_place texts lists k text are.1 there
+
 -- the report of the list at the place
 summed_at : (lists : List (List TokenLine)) (files : List (List ℕ)) (k : ℕ)
     (list : List TokenLine) (file : List ℕ) → AreSummed lists files
@@ -262,11 +276,27 @@ going_on texts files ats after lefts next old now new k so_far least taken moved
     }
 
 -- ---- a line that cannot be taken
-pub not_taken : (texts : List (LineKind × List ℕ)) (files : List (List ℕ)) (ats : List Standing)
-    (lefts : List ReportAt) (old now : Option (List ℕ)) (k : ℕ)
+-- the text of this part is at the place
+text_there : (texts : List (LineKind × List ℕ)) (ats : List Standing) (old now : Option (List ℕ))
+    (k : ℕ) (part : Part) → (merging : IsMerging texts ats old now)
+    → slice_get merging.parts k ≡ Some part → slice_get texts k ≡ Some part.text
+text_there texts ats old now k part merging there =
+    subst (λ texts. slice_get texts k ≡ Some part.text) merging.of_texts
+    (map_at (λ (part : Part). part.text) merging.parts k part there)
+
+-- if the lines add up to nothing at one place, they do not at all places
+none_at : (texts : List (LineKind × List ℕ)) (files : List (List ℕ)) (k : ℕ)
+    → AddsUpToNoneAt texts files k → (lists : List (List TokenLine)) → AreTexts texts lists
+    → ¬ (AreSummed lists files)
+none_at texts files k adds lists are summed =
+    let (list, listed, text) = text_at_place texts lists k adds.text are adds.there in
+    adds.none list text (summed_at lists files k list adds.file summed listed adds.file_there)
+
+pub not_taken_here : (texts : List (LineKind × List ℕ)) (files : List (List ℕ))
+    (ats : List Standing) (lefts : List ReportAt) (old now : Option (List ℕ)) (k : ℕ)
     → IsMergingBeside texts files ats lefts old now → IsNotTakenAt k ats lefts
-    → (lists : List (List TokenLine)) → AreTexts texts lists → ¬ (AreSummed lists files)
-not_taken texts files ats lefts old now k so_far refused lists are summed =
+    → AddsUpToNoneAt texts files k
+not_taken_here texts files ats lefts old now k so_far refused =
     let merging = so_far.merging in
     let found = part_at texts ats old now merging k refused.source refused.source_there in
     let part = found.part in
@@ -276,21 +306,32 @@ not_taken texts files ats lefts old now k so_far refused lists are summed =
     in
     let here : IsBeside part.done beside.file refused.was =
     subst (λ (part : Part). IsBeside part.done beside.file refused.was) same beside.is in
-    let (list, listed, text) = list_at merging.parts lists k part
-    (subst (λ texts. AllZip IsTextOf texts lists) (sym merging.of_texts) are) found.there in
     let token : part.at.token ≡ Some refused.token =
     ap (λ (at : Standing). at.token) found.is ∙ refused.token_is in
     let going = each_at IsGoing merging.parts k part merging.going found.there in
-    let (more, begun, rest) = going_line part refused.token going token list text in
-    let report = summed_at lists files k list beside.file summed listed beside.file_there in
     let line : line_at part.at refused.token ≡ line_with refused.token refused.source.line =
     ap (λ (at : Standing). line_with refused.token at.line) found.is in
-    let (charge, behind, whole, of_line) = charges_cut part.done more
-    (line_at part.at refused.token) here.charges report.charges here.charged
-    (subst (λ lines. AllZip IsChargeOf lines report.charges) begun report.charged) in
-    refused.not_taken beside.file here.charges here.used charge
-    (subst (λ line. IsChargeOf line charge) line of_line) behind
-    (subst (λ charges. AddUpToText charges beside.file) whole report.add)
+    record {
+      text = part.text;
+      there = text_there texts ats old now k part merging found.there;
+      file = beside.file;
+      file_there = beside.file_there;
+      none = λ list text report.
+          let (more, begun, rest) = going_line part refused.token going token list text in
+          let (charge, behind, whole, of_line) = charges_cut part.done more
+          (line_at part.at refused.token) here.charges report.charges here.charged
+          (subst (λ lines. AllZip IsChargeOf lines report.charges) begun report.charged) in
+          refused.not_taken beside.file here.charges here.used charge
+          (subst (λ line. IsChargeOf line charge) line of_line) behind
+          (subst (λ charges. AddUpToText charges beside.file) whole report.add);
+    }
+
+pub not_taken : (texts : List (LineKind × List ℕ)) (files : List (List ℕ)) (ats : List Standing)
+    (lefts : List ReportAt) (old now : Option (List ℕ)) (k : ℕ)
+    → IsMergingBeside texts files ats lefts old now → IsNotTakenAt k ats lefts
+    → (lists : List (List TokenLine)) → AreTexts texts lists → ¬ (AreSummed lists files)
+not_taken texts files ats lefts old now k so_far refused =
+    none_at texts files k (not_taken_here texts files ats lefts old now k so_far refused)
 
 -- ---- the end
 pub at_end : (texts : List (LineKind × List ℕ)) (files : List (List ℕ)) (ats : List Standing)
@@ -331,36 +372,48 @@ all_lines part going end list text =
     nothing kind (line ∷ more) each none =
         absurd (line_is_some kind line each.0 (no_bytes line.text (text_of more) (sym none)))
 
-pub something_left : (texts : List (LineKind × List ℕ)) (files : List (List ℕ))
-    (ats : List Standing) (lefts : List ReportAt) (old new : Option (List ℕ))
+pub left_here : (texts : List (LineKind × List ℕ)) (files : List (List ℕ))
+    (ats : List Standing) (lefts : List ReportAt) (old new : Option (List ℕ)) (k : ℕ)
     → IsMergingBeside texts files ats lefts old new → IsLeast (map (λ at. at.token) ats) None
-    → HasLeft lefts → (lists : List (List TokenLine)) → AreTexts texts lists
-    → ¬ (AreSummed lists files)
-something_left texts files ats lefts old new so_far none (k, left, there, not_up) lists are summed =
+    → HasLeftAt k lefts → AddsUpToNoneAt texts files k
+left_here texts files ats lefts old new k so_far none has =
     let merging = so_far.merging in
-    let beside = beside_at merging.parts files lefts k left so_far.beside there in
+    let beside = beside_at merging.parts files lefts k has.left so_far.beside has.there in
     let part = beside.part in
-    let (list, listed, text) = list_at merging.parts lists k part
-    (subst (λ texts. AllZip IsTextOf texts lists) (sym merging.of_texts) are) beside.part_there in
     let going = each_at IsGoing merging.parts k part merging.going beside.part_there in
     let at_there : slice_get ats k ≡ Some part.at =
     subst (λ ats. slice_get ats k ≡ Some part.at) merging.of_ats
     (map_at (λ (part : Part). part.at) merging.parts k part beside.part_there) in
     let end : part.at.token ≡ None = at_none part.at at_there part.at.token refl in
-    let same = all_lines part going end list text in
-    let report = summed_at lists files k list beside.file summed listed beside.file_there in
-    let charges : report.charges ≡ beside.is.charges =
-    same_charges part.done report.charges beside.is.charges
-    (subst (λ lines. AllZip IsChargeOf lines report.charges) same report.charged)
-    beside.is.charged in
-    not_up beside.file beside.is.charges beside.is.used
-    (subst (λ charges. AddUpToText charges beside.file) charges report.add)
+    record {
+      text = part.text;
+      there = text_there texts ats old new k part merging beside.part_there;
+      file = beside.file;
+      file_there = beside.file_there;
+      none = λ list text report.
+          let same = all_lines part going end list text in
+          let charges : report.charges ≡ beside.is.charges =
+          same_charges part.done report.charges beside.is.charges
+          (subst (λ lines. AllZip IsChargeOf lines report.charges) same report.charged)
+          beside.is.charged in
+          has.some beside.file beside.is.charges beside.is.used
+          (subst (λ charges. AddUpToText charges beside.file) charges report.add);
+    }
   where
     at_none : (at : Standing) → slice_get ats k ≡ Some at → (head : Option Token)
         → at.token ≡ head → at.token ≡ None
     at_none at here None is = is
     at_none at here (Some token) is = absurd (none k token
         (map_at (λ (at : Standing). at.token) ats k at here ∙ ap (λ head. Some head) is))
+
+pub something_left : (texts : List (LineKind × List ℕ)) (files : List (List ℕ))
+    (ats : List Standing) (lefts : List ReportAt) (old new : Option (List ℕ))
+    → IsMergingBeside texts files ats lefts old new → IsLeast (map (λ at. at.token) ats) None
+    → HasLeft lefts → (lists : List (List TokenLine)) → AreTexts texts lists
+    → ¬ (AreSummed lists files)
+something_left texts files ats lefts old new so_far none (k, left, there, not_up) =
+    none_at texts files k (left_here texts files ats lefts old new k so_far none
+    (record { left = left; there = there; some = not_up }))
 
 -- ---- sizes
 pub ledgers_number : (files : List (Option (List ℕ))) (ats : List Standing)

@@ -22,22 +22,24 @@ use Rattle.part_reports.proofs.Places.{at_map, each_at, map_at}
 use Rattle.part_reports.proofs.Risings.{each_middle}
 
 -- the text at the place, and a part whose source stands there at a token
-record IsTextAt (texts : List (LineKind × List ℕ)) (at : Standing) (k : ℕ) (token : Token)
-    : Type 0 where
-  part : Part
-  is : part.at ≡ at
-  token_is : part.at.token ≡ Some token
-  going : IsGoing part
-  there : slice_get texts k ≡ Some part.text
+pub record IsTextAt (parts : List Part) (texts : List (LineKind × List ℕ)) (at : Standing) (k : ℕ)
+    (token : Token) : Type 0 where
+  pub part : Part
+  pub part_there : slice_get parts k ≡ Some part
+  pub is : part.at ≡ at
+  pub token_is : part.at.token ≡ Some token
+  pub going : IsGoing part
+  pub there : slice_get texts k ≡ Some part.text
 
-text_at : (texts : List (LineKind × List ℕ)) (ats : List Standing) (old now : Option (List ℕ))
-    → IsMerging texts ats old now → (k : ℕ) (at : Standing) (token : Token)
+pub text_at : (texts : List (LineKind × List ℕ)) (ats : List Standing) (old now : Option (List ℕ))
+    → (merging : IsMerging texts ats old now) → (k : ℕ) (at : Standing) (token : Token)
     → slice_get ats k ≡ Some at → StandsAt (map (λ at. at.token) ats) k token
-    → IsTextAt texts at k token
+    → IsTextAt merging.parts texts at k token
 text_at texts ats old now merging k at token stands there =
     let found = part_at texts ats old now merging k at stands in
     record {
       part = found.part;
+      part_there = found.there;
       is = found.is;
       token_is = ap (λ (at : Standing). at.token) found.is ∙ head_at ats k at token stands there;
       going = each_at IsGoing merging.parts k found.part merging.going found.there;

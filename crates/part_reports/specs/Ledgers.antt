@@ -1,5 +1,7 @@
 -- Ledgers of parts, and the ledger of the whole that they are merged into.
-use Rattle.std.specs.Prelude.{◌≡◌, ◌<◌, ◌⊎◌, ℕ, List, ◌++◌, All, Some, codes, slice_get}
+use Rattle.std.specs.Prelude.{◌≡◌, ◌≢◌, ◌<◌, ◌⊎◌, ◌+◌, ◌-◌, ◌^◌, ℕ, List, [], ◌∷◌, ◌++◌, All}
+use Rattle.std.specs.Prelude.{Some, codes, length, min, slice_get}
+use Rattle.std.specs.Io.BufRead.{take_through}
 use Rattle.std.specs.List.{AllZip}
 use Rattle.hex.specs.Hex.{encode_lower}
 use Rattle.tap_views.specs.Token.{Fits, bytes_of}
@@ -48,6 +50,54 @@ NamesWrongLedger files (Taps reports uploads) = ⊥
 NamesWrongLedger files (Unread text) = Unit {0}
 NamesWrongLedger files Write = Unit {0}
 NamesWrongLedger files NoMemory = Unit {0}
+
+-- the text is the head line and these lines, and they are a ledger
+abbrev pub ledger_text : List TokenLine → List ℕ
+ledger_text lines = head_text ++ text_of lines
+
+-- The lines of the text before the one of this number are a ledger, and with that line they are
+-- none. So many lines are numbered as far as 64 bits go.
+pub record GoesWrongAt (file : List ℕ) (number : ℕ) : Type 0 where
+  pub lines : List TokenLine
+  pub ledger : IsPartLedger lines (ledger_text lines)
+  pub rest : List ℕ
+  pub more : rest ≢ []
+  pub shown : file ≡ ledger_text lines ++ rest
+  pub number_is : number ≡ min (length lines + 2) (2 ^ 64 - 1)
+  pub wrong : (line : TokenLine) → line.text ≡ take_through 10 rest
+      → ¬ (IsPartLedger (lines ++ line ∷ []) (ledger_text (lines ++ line ∷ [])))
+
+-- The line of this number is the first of the ledger at this place whose token an earlier ledger
+-- has.
+pub record IsFirstSharedAt (files : List (List ℕ)) (place number : ℕ) : Type 0 where
+  pub file : List ℕ
+  pub there : slice_get files place ≡ Some file
+  pub lines : List TokenLine
+  pub line : TokenLine
+  pub ledger : IsPartLedger (lines ++ line ∷ []) (ledger_text (lines ++ line ∷ []))
+  pub rest : List ℕ
+  pub shown : file ≡ ledger_text (lines ++ line ∷ []) ++ rest
+  pub number_is : number ≡ min (length lines + 2) (2 ^ 64 - 1)
+  pub earlier : ℕ
+  pub before : earlier < place
+  pub first : List ℕ
+  pub first_there : slice_get files earlier ≡ Some first
+  pub shared : (some : List TokenLine) → IsPartLedger some first
+      → ¬ (HaveOtherTokens some (line ∷ []))
+  pub none_before : (other : ℕ) (one : List ℕ) (some : List TokenLine) → other < place
+      → slice_get files other ≡ Some one → IsPartLedger some one → HaveOtherTokens some lines
+
+-- A line that is refused is the first that is wrong in its text: the head line, or the line with
+-- which the text is a ledger no more, or the first line of a token that an earlier text has.
+abbrev pub NamesFirstWrongLine : List (List ℕ) → MergeFault → Type 0
+NamesFirstWrongLine files (Line text number wrong) =
+    ((file : List ℕ) × (slice_get files text ≡ Some file)
+    × (((number ≡ 1) × (take_through 10 file ≢ head_text)) ⊎ GoesWrongAt file number))
+    ⊎ IsFirstSharedAt files text number
+NamesFirstWrongLine files (Taps reports uploads) = ⊥
+NamesFirstWrongLine files (Unread text) = Unit {0}
+NamesFirstWrongLine files Write = Unit {0}
+NamesFirstWrongLine files NoMemory = Unit {0}
 
 -- the text is the ledger of the whole, of the parts whose ledgers these texts are
 pub record IsMergedLedger (files : List (List ℕ)) (text : List ℕ) : Type 0 where

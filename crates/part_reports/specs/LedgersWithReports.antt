@@ -1,10 +1,14 @@
 -- Ledgers of parts that are merged beside the reports of the parts.
-use Rattle.std.specs.Prelude.{◌≡◌, ℕ, ◌<◌, List, All, flat_map, length, map}
+use Rattle.std.specs.Prelude.{◌≡◌, ◌⊎◌, ℕ, ◌<◌, List, All, Some, flat_map, length, map, slice_get}
 use Rattle.std.specs.List.{AllZip}
 use Rattle.part_reports.specs.Charges.{IsChargeOf, LineCharge}
-use Rattle.part_reports.specs.Ledgers.{IsMergedLedger}
-use Rattle.part_reports.specs.Reports.{IsPartReport, Report, report_text, sums_found}
+use Rattle.part_reports.specs.Faults.{number_from}
+use Rattle.part_reports.specs.Ledgers.{IsMergedLedger, IsPartLedger, IsWrongLedgerAt}
+use Rattle.part_reports.specs.Reports.{IsNoReport, IsPartReport, Report, report_text, sums_found}
 use Rattle.part_reports.specs.TokenLines.{TokenLine}
+use Rattle.part_reports.specs.declared.fault.MergeFault.{MergeFault}
+use Rattle.part_reports.specs.declared.fault.MergeFault.TheVariants.{Line, Taps, Unread, Write}
+use Rattle.part_reports.specs.declared.fault.MergeFault.TheVariants.{NoMemory}
 use Rattle.shard_book.specs.Sums.{Sums, add_all}
 use Rattle.tap_views.specs.declared.token.Token.{Token}
 
@@ -45,3 +49,29 @@ pub record HaveReport (lines : List TokenLine) (file : List ℕ) : Type 0 where
 pub record IsMergedWithReports (files report_files : List (List ℕ)) (text : List ℕ) : Type 0 where
   pub merged : IsMergedLedger files text
   pub with_reports : AllZip HaveReport merged.parts report_files
+
+-- whatever lines the ledger at this place has, they do not add up to the report at this place
+pub record AddsUpToNoReportAt (files report_files : List (List ℕ)) (place : ℕ) : Type 0 where
+  pub file : List ℕ
+  pub there : slice_get files place ≡ Some file
+  pub report_file : List ℕ
+  pub report_there : slice_get report_files place ≡ Some report_file
+  pub none : (lines : List TokenLine) → IsPartLedger lines file → ¬ (HaveReport lines report_file)
+
+-- the text at this place is the report of no part
+pub record IsNoReportAt (report_files : List (List ℕ)) (place : ℕ) : Type 0 where
+  pub file : List ℕ
+  pub there : slice_get report_files place ≡ Some file
+  pub none : IsNoReport file
+
+-- A line that is refused is one of a text that is wrong: of a ledger that is none, that has a token
+-- which an earlier one has, or that does not add up to its report; or, behind the ledgers, of a
+-- report that is that of no part.
+abbrev pub NamesWrongBeside : List (List ℕ) → List (List ℕ) → MergeFault → Type 0
+NamesWrongBeside files report_files (Line text number wrong) =
+    (IsWrongLedgerAt files text ⊎ AddsUpToNoReportAt files report_files text)
+    ⊎ ((place : ℕ) × (text ≡ number_from (length files) place) × IsNoReportAt report_files place)
+NamesWrongBeside files report_files (Taps reports uploads) = ⊥
+NamesWrongBeside files report_files (Unread text) = Unit {0}
+NamesWrongBeside files report_files Write = Unit {0}
+NamesWrongBeside files report_files NoMemory = Unit {0}

@@ -1,5 +1,6 @@
 -- What only private functions cite. Who reads the contracts of public calls need not read it.
 pub mod BegunLedgers
+pub mod FirstWrong
 pub mod Fronts
 pub mod Going
 pub mod Kinds
@@ -13,4 +14,5 @@ pub mod SumsLeft
 pub mod Told
 pub mod UploadEnds
 pub mod Whole
+pub mod WrongBeside
 pub mod WrongTexts

@@ -4,10 +4,12 @@ ghost use Rattle.std.specs.Prelude.{◌≡◌, ◌<◌, ℕ, List, IfErr, IfOk, 
 ghost use Rattle.std.specs.Prelude.{map};
 ghost use Rattle.std.specs.Io.KnownBytes.{Appends};
 ghost use Rattle.part_reports.specs.Faults.{IsOfTaps, IsOfTexts, text_named};
-ghost use Rattle.part_reports.specs.Ledgers.{IsMergedLedger, IsNoLedger, NamesWrongLedger};
+ghost use Rattle.part_reports.specs.Ledgers.{IsMergedLedger, IsNoLedger, NamesFirstWrongLine};
+ghost use Rattle.part_reports.specs.Ledgers.{NamesWrongLedger};
 ghost use Rattle.fare_texts.specs.WrittenOut.{Begins};
 ghost use Rattle.part_reports.specs.Texts.{AreLeft};
 ghost use Rattle.part_reports.specs.inside.BegunLedgers.{AreBegunLedgers, IsBegunLedger};
+ghost use Rattle.part_reports.specs.inside.BegunLedgers.{IsOfFirstLines};
 ghost use Rattle.part_reports.specs.inside.Standings.{standing};
 ghost use Rattle.part_reports.specs.inside.Told.{AreNumbered, IsOfText, text_number};
 
@@ -32,6 +34,8 @@ fn begin_ledger<R: BufRead + Drop>(
     ensures no_taps { IfErr result (λ fault. ¬ (IsOfTaps fault)) }
     ensures number { IfOk result (λ source. text_number source ≡ text) }
     ensures told { IfErr result (IsOfText text) }
+    ensures first { IfErr result (λ fault. IfSome (R.remaining from)
+        (λ file. IsOfFirstLines file fault)) }
 {
     let mut reader = LineReader::new(alloc, from, text);
     reader.next()?;
@@ -60,6 +64,8 @@ pub(crate) fn begin_ledgers<R: BufRead + Drop>(
         (λ text. text < length ledgers.items)) }
     ensures wrong { IfErr result (λ fault. (files : List (List ℕ))
         → AreLeft R.remaining ledgers.items files → NamesWrongLedger files fault) }
+    ensures first { IfErr result (λ fault. (files : List (List ℕ))
+        → AreLeft R.remaining ledgers.items files → NamesFirstWrongLine files fault) }
 {
     let mut sources = Vec::new(alloc);
     for from in ledgers {
@@ -94,6 +100,9 @@ pub fn merge_ledgers<R: BufRead + Drop, W: Write>(
         (λ text. text < length ledgers.items)) }
     ensures wrong { IfErr result (λ fault. (files : List (List ℕ))
         → AreLeft R.remaining ledgers.items files → NamesWrongLedger files fault) }
+    // The line that is refused is the first wrong one of its text.
+    ensures first { IfErr result (λ fault. (files : List (List ℕ))
+        → AreLeft R.remaining ledgers.items files → NamesFirstWrongLine files fault) }
 {
     let mut sources = begin_ledgers(alloc, ledgers)?;
     write_text(out, head_line().as_bytes())?;

@@ -1,11 +1,12 @@
 //! Ledgers of parts beside the reports of the parts, merged.
 
-ghost use Rattle.std.specs.Prelude.{◌≡◌, ℕ, List, IfErr, IfOk, OnErr, OnOk, length, map};
+ghost use Rattle.std.specs.Prelude.{◌≡◌, ◌⊎◌, ℕ, List, IfErr, IfOk, OnErr, OnOk, length, map};
 ghost use Rattle.std.specs.Io.KnownBytes.{Appends};
 ghost use Rattle.std.specs.List.{AllZip};
 ghost use Rattle.part_reports.specs.Charges.{LineCharge};
-ghost use Rattle.part_reports.specs.Faults.{IsOfTaps, IsOfTexts};
+ghost use Rattle.part_reports.specs.Faults.{IsOfTaps, IsOfTexts, NamesAmong, number_from};
 ghost use Rattle.part_reports.specs.LedgersWithReports.{AddUpToText, IsMergedWithReports};
+ghost use Rattle.part_reports.specs.LedgersWithReports.{NamesWrongBeside};
 ghost use Rattle.fare_texts.specs.WrittenOut.{Begins};
 ghost use Rattle.part_reports.specs.Texts.{AreLeft};
 ghost use Rattle.part_reports.specs.TokenLines.{IsMergedByToken, TokenLine, text_of};
@@ -14,6 +15,9 @@ ghost use Rattle.part_reports.specs.inside.ReportsLeft.{AreBegunReports, AreSumm
 ghost use Rattle.part_reports.specs.inside.ReportsLeft.{AreUsedUp, HasLeft, IsNotTakenAt};
 ghost use Rattle.part_reports.specs.inside.ReportsLeft.{IsTakenAt, report_at};
 ghost use Rattle.part_reports.specs.inside.Standings.{StandsInText, standing};
+ghost use Rattle.part_reports.specs.inside.Told.{AreNumbered, NamesOneOf, text_number};
+ghost use Rattle.part_reports.specs.inside.WrongBeside.{IsOfLeft, IsOfPlace, IsWrongOfBoth};
+ghost use Rattle.part_reports.specs.inside.WrongBeside.{NamesNoReport, left_number};
 ghost use Rattle.part_reports.specs.declared.merging.LineKind.{LineKind as AKind};
 
 use crate::fault::{MergeFault, Wrong};
@@ -37,6 +41,12 @@ fn begin_reports<R: BufRead + Drop>(
         → AreLeft R.remaining reports.items files → (lists : List (List LineCharge))
         → ¬ (AllZip AddUpToText lists files)) }
     ensures no_taps { IfErr result (λ fault. ¬ (IsOfTaps fault)) }
+    ensures numbered { IfOk result (λ lefts.
+        AreNumbered (number_from first) (map left_number lefts.items)) }
+    ensures count { IfOk result (λ lefts. length lefts.items ≡ length reports.items) }
+    ensures named { IfErr result (NamesAmong first (length reports.items)) }
+    ensures wrong { IfErr result (λ fault. (files : List (List ℕ))
+        → AreLeft R.remaining reports.items files → NamesNoReport first files fault) }
 {
     let mut lefts = Vec::new(alloc);
     for from in reports {
@@ -58,6 +68,10 @@ fn take_at<R: BufRead + Drop>(
         → IsNotTakenAt at (map (standing R.remaining) sources.now)
         (map (report_at R.remaining) lefts.old)) }
     ensures no_taps { IfErr result (λ fault. ¬ (IsOfTaps fault)) }
+    ensures numbers { map left_number lefts.new ≡ map left_number lefts.old }
+    ensures told { IfErr result (IsOfPlace at (map text_number sources.now)
+        (map left_number lefts.old) (map (standing R.remaining) sources.now)
+        (map (report_at R.remaining) lefts.old)) }
 {
     if at >= sources.len() || at >= lefts.len() {
         return Err(MergeFault::NoMemory);
@@ -78,6 +92,8 @@ fn finish_all<R: BufRead + Drop>(
     ensures refused { IfErr result (λ fault. IsOfTexts fault
         → HasLeft (map (report_at R.remaining) lefts.now)) }
     ensures no_taps { IfErr result (λ fault. ¬ (IsOfTaps fault)) }
+    ensures told { IfErr result (IsOfLeft (map text_number sources.now)
+        (map (report_at R.remaining) lefts.now)) }
 {
     for at in 0..lefts.len() {
         match sources.get(at) {
@@ -117,6 +133,14 @@ fn write_all_taken<R: BufRead + Drop, W: Write>(
         → (lists : List (List TokenLine)) (joined : List TokenLine) → AreTexts texts lists
         → IsMergedByToken lists joined
         → Begins (W.contents out.old) (W.contents out.new) (text_of joined)) }
+    // The text that a fault names is one of these, or of the reports, and it is wrong.
+    ensures named { IfErr result (λ fault. NamesOneOf fault (map text_number sources.old)
+        ⊎ NamesOneOf fault (map left_number lefts.old)) }
+    ensures wrong { IfErr result (λ fault. (texts : List (AKind × List ℕ)) (files : List (List ℕ))
+        → AllZip StandsInText texts (map (standing R.remaining) sources.old)
+        → AreUnused files (map (report_at R.remaining) lefts.old)
+        → IsWrongOfBoth texts files (map text_number sources.old) (map left_number lefts.old)
+        fault) }
 {
     let mut tokens = tokens_at(alloc, sources)?;
     for _ in 0..u64::MAX {
@@ -160,6 +184,14 @@ pub fn merge_ledgers_with_reports<R: BufRead + Drop, W: Write>(
         → AreLeft R.remaining reports.items report_files
         → (text : List ℕ) → IsMergedWithReports files report_files text
         → Begins (W.contents out.old) (W.contents out.new) text) }
+    // The text that a fault names is one of the ledgers or, behind them, of the reports; and if a
+    // line of it is refused, it is wrong.
+    ensures named { IfErr result (λ fault. NamesAmong 0 (length ledgers.items) fault
+        ⊎ NamesAmong (length ledgers.items) (length reports.items) fault) }
+    ensures wrong { IfErr result (λ fault. (files report_files : List (List ℕ))
+        → AreLeft R.remaining ledgers.items files
+        → AreLeft R.remaining reports.items report_files
+        → NamesWrongBeside files report_files fault) }
 {
     let first = ledgers.len();
     let mut sources = begin_ledgers(alloc, ledgers)?;

@@ -1,6 +1,6 @@
 //! Lines of several texts in order of tokens, merged into one text.
 
-ghost use Rattle.std.specs.Prelude.{◌≡◌, ℕ, List, Some, IfErr, IfOk, IfSome, MatchOption};
+ghost use Rattle.std.specs.Prelude.{◌≡◌, ℕ, List, None, Some, IfErr, IfOk, IfSome, MatchOption};
 ghost use Rattle.std.specs.Prelude.{IsTrue, MatchResult, OnErr, OnOk, Option, ◌<◌, ◌↔◌, length};
 ghost use Rattle.std.specs.Prelude.{map, slice_get};
 ghost use Rattle.std.specs.Io.BufRead.{take_through};
@@ -9,7 +9,9 @@ ghost use Rattle.std.specs.Io.KnownBytes.{Appends};
 ghost use Rattle.part_reports.specs.Faults.{IsOfTaps, IsOfTexts};
 ghost use Rattle.fare_texts.specs.WrittenOut.{Begins};
 ghost use Rattle.part_reports.specs.inside.Told.{IsOfReader, IsOfText, NamesOneOf, NamesOnly};
-ghost use Rattle.part_reports.specs.inside.Told.{text_number};
+ghost use Rattle.part_reports.specs.inside.FirstWrong.{IsCounted, IsFirstWrongOf, IsOfNext};
+ghost use Rattle.part_reports.specs.inside.FirstWrong.{IsOfNumber};
+ghost use Rattle.part_reports.specs.inside.Told.{next_number, text_number};
 ghost use Rattle.part_reports.specs.inside.WrongTexts.{IsWrongText};
 ghost use Rattle.part_reports.specs.TokenLines.{IsMergedByToken, TokenLine, text_of};
 ghost use Rattle.part_reports.specs.inside.Kinds.{AreTexts, IsTextOf};
@@ -161,6 +163,8 @@ impl<R: BufRead + Drop> OrderedText<R> {
         ensures no_taps { IfErr result (λ fault. ¬ (IsOfTaps fault)) }
         ensures text { IfOk result (λ source. source.reader.text ≡ reader.text) }
         ensures told { IfErr result (IsOfText reader.text) }
+        ensures lines { IfOk result (λ source. source.reader.lines ≡ next_number reader.lines) }
+        ensures next { IfErr result (IsOfNext lines None (R.remaining reader.from) reader.lines) }
     {
         let mut source = OrderedText {
             reader,
@@ -181,6 +185,9 @@ impl<R: BufRead + Drop> OrderedText<R> {
         ensures no_taps { IfErr result (λ fault. ¬ (IsOfTaps fault)) }
         ensures text { self.new.reader.text ≡ self.old.reader.text }
         ensures told { IfErr result (IsOfReader self.new.reader.text self.new.reader.lines) }
+        ensures lines { OnOk result (self.new.reader.lines ≡ next_number self.old.reader.lines) }
+        ensures next { IfErr result (IsOfNext self.old.lines None
+            (R.remaining self.old.reader.from) self.old.reader.lines) }
     {
         self.reader.next()?;
         let (lines, token) = self.reader.right(first_of(self.lines, self.reader.line()))?;
@@ -203,6 +210,10 @@ impl<R: BufRead + Drop> OrderedText<R> {
         ensures no_taps { IfErr result (λ fault. ¬ (IsOfTaps fault)) }
         ensures text { self.new.reader.text ≡ self.old.reader.text }
         ensures told { IfErr result (IsOfReader self.new.reader.text self.new.reader.lines) }
+        ensures lines { OnOk result (self.new.reader.lines ≡ next_number self.old.reader.lines) }
+        // A line that is refused is the next one, and it is wrong behind this line.
+        ensures next { IfErr result (IsOfNext self.old.lines self.old.token
+            (R.remaining self.old.reader.from) self.old.reader.lines) }
     {
         let (lines, before) = (self.lines, self.token);
         self.read()?;
@@ -246,6 +257,8 @@ pub(crate) fn fault_in<R: BufRead + Drop>(
 ) -> MergeFault
     ensures no_taps { ¬ (IsOfTaps result) }
     ensures named { NamesOnly result (slice_get (map text_number sources.now) at) }
+    ensures number { (was : Standing) → slice_get (map (standing R.remaining) sources.now) at
+        ≡ Some was → IsOfNumber was.number result }
 {
     match sources.get(at) {
         Some(source) => source.reader.fault(wrong),
@@ -284,6 +297,9 @@ pub(crate) fn write_at<R: BufRead + Drop, W: Write>(
     ensures texts { OnOk result (map text_number sources.new ≡ map text_number sources.old) }
     ensures named { IfErr result
         (λ fault. NamesOnly fault (slice_get (map text_number sources.old) at)) }
+    ensures next { IfErr result (λ fault. (was : Standing)
+        → slice_get (map (standing R.remaining) sources.old) at ≡ Some was
+        → IsOfNext was.behind was.token was.left was.number fault) }
 {
     let source = &mut sources[at];
     write_text(out, source.reader.line())?;
@@ -318,6 +334,11 @@ pub(crate) fn write_merged<R: BufRead + Drop, W: Write>(
     ensures wrong { IfErr result (λ fault. (texts : List (LineKind × List ℕ))
         → AllZip StandsInText texts (map (standing R.remaining) sources.old)
         → IsWrongText texts (map text_number sources.old) fault) }
+    // The line that is refused is the first wrong one of its text.
+    ensures first { IfErr result (λ fault. (texts : List (LineKind × List ℕ))
+        (files : List (List ℕ)) → AllZip StandsInText texts (map (standing R.remaining) sources.old)
+        → AllZip IsCounted files (map (standing R.remaining) sources.old)
+        → IsFirstWrongOf texts files (map text_number sources.old) fault) }
 {
     let mut tokens = tokens_at(alloc, sources)?;
     for _ in 0..u64::MAX {

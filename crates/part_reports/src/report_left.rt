@@ -5,12 +5,15 @@ ghost use Rattle.std.specs.Prelude.{IsTrue, OnOk, ◌↔◌};
 ghost use Rattle.part_reports.specs.Charges.{LineCharge};
 ghost use Rattle.part_reports.specs.Faults.{IsOfTaps, IsOfTexts};
 ghost use Rattle.part_reports.specs.LedgersWithReports.{AddUpToText};
+ghost use Rattle.part_reports.specs.Reports.{IsNoReport};
 ghost use Rattle.part_reports.specs.inside.ReportsLeft.{AreSame, IsNoRest, IsNotTaken};
 ghost use Rattle.part_reports.specs.inside.ReportsLeft.{IsNotUsedUp};
 ghost use Rattle.part_reports.specs.inside.ReportsLeft.{IsRestOf, IsTaken, IsUsedBy, IsUsedUp};
 ghost use Rattle.part_reports.specs.inside.ReportsLeft.{report_at};
 ghost use Rattle.part_reports.specs.inside.Standings.{line_with};
 ghost use Rattle.part_reports.specs.inside.SumsLeft.{sums_left};
+ghost use Rattle.part_reports.specs.inside.Told.{IsOfReader, IsOfText};
+ghost use Rattle.part_reports.specs.inside.WrongBeside.{HasNoReport, IsOfEither, left_number};
 
 use crate::charge::charge_of;
 use crate::fault::{MergeFault, Wrong};
@@ -65,7 +68,11 @@ impl<R: BufRead + Drop> ReportLeft<R> {
             (λ file. IsUsedBy file (report_at R.remaining left) [])) }
         ensures refused { IfErr result (λ fault. IsOfTexts fault → IfSome (R.remaining from)
             (λ file. (charges : List LineCharge) → ¬ (AddUpToText charges file))) }
+        ensures none { IfErr result (λ fault. IsOfTexts fault
+            → IfSome (R.remaining from) IsNoReport) }
         ensures no_taps { IfErr result (λ fault. ¬ (IsOfTaps fault)) }
+        ensures number { IfOk result (λ left. left_number left ≡ text) }
+        ensures told { IfErr result (IsOfText text) }
     {
         let mut sums = no_sums(alloc);
         let report = read_part(alloc, &mut sums, from, text)?;
@@ -86,6 +93,10 @@ impl<R: BufRead + Drop> ReportLeft<R> {
         ensures refused { IfErr result (λ fault. IsOfTexts fault
             → IsNoRest token (report_at R.remaining self.old)) }
         ensures no_taps { IfErr result (λ fault. ¬ (IsOfTaps fault)) }
+        ensures number { left_number self.new ≡ left_number self.old }
+        ensures told { IfErr result (IsOfEither ledger.now.text (left_number self.old)
+            (IsNoRest token (report_at R.remaining self.old))
+            (HasNoReport (report_at R.remaining self.old))) }
     {
         if !self.rest.is_nothing() {
             return Err(ledger.fault(Wrong::LessThanReport));
@@ -109,6 +120,10 @@ impl<R: BufRead + Drop> ReportLeft<R> {
         ensures refused { IfErr result (λ fault. IsOfTexts fault
             → IsNoRest token (report_at R.remaining self.old)) }
         ensures no_taps { IfErr result (λ fault. ¬ (IsOfTaps fault)) }
+        ensures number { left_number self.new ≡ left_number self.old }
+        ensures told { IfErr result (IsOfEither ledger.now.text (left_number self.old)
+            (IsNoRest token (report_at R.remaining self.old))
+            (HasNoReport (report_at R.remaining self.old))) }
     {
         if is_token(self.token, token) {
             Ok(self.rest)
@@ -125,6 +140,11 @@ impl<R: BufRead + Drop> ReportLeft<R> {
             → IsNotTaken (line_with token ledger.now.line.items)
             (report_at R.remaining self.old)) }
         ensures no_taps { IfErr result (λ fault. ¬ (IsOfTaps fault)) }
+        ensures number { left_number self.new ≡ left_number self.old }
+        // A line that is refused is the ledger's, or the report is none.
+        ensures told { IfErr result (IsOfEither ledger.now.text (left_number self.old)
+            (IsNotTaken (line_with token ledger.now.line.items) (report_at R.remaining self.old))
+            (HasNoReport (report_at R.remaining self.old))) }
     {
         let charge = ledger.told(charge_of(ledger.line()))?;
         let before = self.rest_of(token, ledger)?;
@@ -145,6 +165,7 @@ impl<R: BufRead + Drop> ReportLeft<R> {
         ensures refused { IfErr result (λ fault. IsOfTexts fault
             → IsNotUsedUp (report_at R.remaining self.now)) }
         ensures no_taps { IfErr result (λ fault. ¬ (IsOfTaps fault)) }
+        ensures told { IfErr result (IsOfReader ledger.now.text ledger.now.lines) }
     {
         if !self.rest.is_nothing() {
             return Err(ledger.fault(Wrong::LessThanReport));

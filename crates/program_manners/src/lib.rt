@@ -4,6 +4,7 @@
 //! | module | what it does |
 //! |---|---|
 //! | `complaints` | where mistakes and faults are told |
+//! | `output` | where the text of a run goes |
 //! | `loading` | whole files up to a limit, and the line of one that was not loaded |
 //! | `opened` | a file or standard input, to be read in pieces |
 //! | `table_line` | the line of a fault of the fare table |
@@ -25,6 +26,7 @@ mod list_words;
 mod listed_words;
 mod loading;
 mod opened;
+mod output;
 mod table_line;
 mod terminal_line;
 mod version;
@@ -41,6 +43,7 @@ pub use loading::{
     FileFault, LOAD_LIMIT_BYTES, LoadFault, STANDARD_INPUT, load_file, load_from, open_file,
 };
 pub use opened::Opened;
+pub use output::Output;
 pub use table_line::TableLine;
 pub use terminal_line::{PACE_MS, QUIET_MS, TerminalLine};
 pub use version::VERSION;

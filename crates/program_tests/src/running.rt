@@ -1,6 +1,6 @@
 //! A run of the program over words, a disk, a source and a writer.
 
-use fare_program::{Complaints, Disk, LoadFault, Source, main_over};
+use fare_program::{Complaints, Disk, LoadFault, Output, Source, main_over};
 use placed_files::{InMemory, Unopened};
 use std::alloc::{AllocError, Global};
 use std::io::Write;
@@ -57,6 +57,7 @@ pub(crate) fn run_over<
         texts.push(String::from_str(alloc, word)?)?;
     }
     let mut err = Complaints::new(Vec::new(alloc));
-    let status = main_over(rt, alloc, &texts, disk, source, out, &mut err);
+    let mut output = Output::new(out);
+    let status = main_over(rt, alloc, &texts, disk, source, &mut output, &mut err);
     Ok((status, err.into_writer()))
 }

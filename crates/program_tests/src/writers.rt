@@ -2,7 +2,7 @@
 
 use super::running::{NoDisk, run_over};
 use super::shelf::{Content, FIRST, SAMPLE, Shelf};
-use fare_program::{Complaints, LoadFault, WordsFault, main_over, unread_words};
+use fare_program::{Complaints, LoadFault, Output, WordsFault, main_over, unread_words};
 use sample_table::Narrow;
 use std::alloc::Global;
 use std::io;
@@ -149,7 +149,7 @@ fn ends_with_its_status_where_the_fault_cannot_be_told(rt: HostRuntime) -> Resul
         &words,
         &NoDisk,
         &mut shelf,
-        &mut Narrow { room: 9 },
+        &mut Output::new(Narrow { room: 9 }),
         &mut Complaints::new(Narrow { room: 9 }),
     );
     assert_eq!(rt; status, 1);

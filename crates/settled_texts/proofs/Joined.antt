@@ -66,17 +66,6 @@ sound_at token lists place other within early no_fall =
           no_fall refl;
     }
 
--- what waits goes out, and then bytes
-pub passed_on : (a b c : Option (List ℕ)) (text left bytes : List ℕ)
-    → Keeps (append_known a text) (append_known b left) → left ≡ [] → Appends b c bytes
-    → Appends (append_known a text) (append_known c left) bytes
-passed_on None b c text left bytes p e q = tt
-passed_on (Some x) None c text left bytes p e q = absurd p
-passed_on (Some x) (Some y) None text left bytes p e q = absurd q
-passed_on (Some x) (Some y) (Some z) text left bytes p e q =
-    ap (λ t. z ++ t) e ∙ append-nil z ∙ q
-    ∙ ap (λ t. t ++ bytes) (sym (append-nil y) ∙ ap (λ t. y ++ t) (sym e) ∙ p)
-
 pub joined_append : (xs ys : List (Vec TapFields Global))
     → joined (xs ++ ys) ≡ joined xs ++ joined ys
 joined_append xs ys = flat_map-append (λ (list : Vec TapFields Global). list.items) xs ys

@@ -1,6 +1,7 @@
 -- What is told of taps, and of more taps behind them.
 use Rattle.std.proofs.Common.{◌≡◌, ℕ, ◌+◌, ◌<◌, List, [], ◌∷◌, ◌++◌, length, take, drop, get_or}
-use Rattle.std.proofs.Common.{Some, refl, sym, ap, subst, ◌∙◌, append-nil, append_assoc, add-one}
+use Rattle.std.proofs.Common.{Option, Some, refl, sym, ap, subst, ◌∙◌, append-nil, append_assoc}
+use Rattle.std.proofs.Common.{add-one}
 use Rattle.std.proofs.Common.{drop-cons}
 use Rattle.std.specs.Prelude.{slice_get}
 use Rattle.std.proofs.lemmas.List.{take-append-drop}
@@ -14,8 +15,11 @@ use Rattle.fare_texts.specs.LedgerLines.{IsLedgerLineAfter}
 use Rattle.fare_texts.specs.declared.teller.Teller.{Teller}
 use Rattle.shard_book.specs.Plain.{answered}
 use Rattle.fare_texts.specs.Lines.{AreLinesAlong, AreUpTo, HasCome, IsUpTo}
+use Rattle.fare_texts.specs.WrittenOut.{Begins, GoesOut}
+use Rattle.fare_texts.proofs.Beginnings.{goes_begins_on, goes_then_on}
 use Rattle.fare_texts.proofs.Rising.{up_itself}
 use Rattle.fare_texts.proofs.PieceWriting.{along_append, come_next}
+use Rattle.fare_texts.proofs.TextsExist.{along_exist}
 use Rattle.settlement.specs.Posted.{posted_after, token_of_tap, unposted}
 use Rattle.settlement.proofs.Concats.{posted_append}
 use Rattle.settled_texts.specs.Telling.{AreTold, NoTapFallsFrom, last_token}
@@ -61,6 +65,80 @@ told_append fares earlier xs ys teller next lines more front back =
           (subst (λ (es : List Entry). HasCome fares next es) (append_assoc earlier first second)
           back.come);
     }
+
+-- told taps have lines, and so have those behind them
+pub told_then : (fares : Fares) (earlier : List Entry) (done next behind taps : List TapFields)
+    (teller : Teller) (lines others : List ℕ) → done ++ (next ++ behind) ≡ taps
+    → AreTold fares earlier done teller lines
+    → AreLinesAlong fares (earlier ++ posted_after fares earlier done)
+    (posted_after fares (earlier ++ posted_after fares earlier done) next) others
+    → (more : List ℕ)
+    × AreLinesAlong fares earlier (posted_after fares earlier taps) (lines ++ (others ++ more))
+told_then fares earlier done next behind taps teller lines others whole told along =
+    let first = posted_after fares earlier done in
+    let second = posted_after fares (earlier ++ first) next in
+    let third = posted_after fares ((earlier ++ first) ++ second) behind in
+    let last = along_exist fares ((earlier ++ first) ++ second) third in
+    let back = subst
+    (λ (es : List Entry). AreLinesAlong fares (earlier ++ first) es (others ++ last.0))
+    (sym (posted_append fares (earlier ++ first) next behind))
+    (along_append fares (earlier ++ first) second third others last.0 along last.1) in
+    let all = along_append fares earlier first
+    (posted_after fares (earlier ++ first) (next ++ behind)) lines (others ++ last.0) told.are
+    back in (
+      last.0,
+      subst (λ (ts : List TapFields). AreLinesAlong fares earlier (posted_after fares earlier ts)
+          (lines ++ (others ++ last.0))) whole
+          (subst (λ (es : List Entry). AreLinesAlong fares earlier es (lines ++ (others ++ last.0)))
+          (sym (posted_append fares earlier done (next ++ behind))) all),
+    )
+
+-- all lines of taps of which the first were told
+pub told_all : (fares : Fares) (earlier : List Entry) (done left taps : List TapFields)
+    (teller : Teller) (lines : List ℕ) → done ++ left ≡ taps
+    → AreTold fares earlier done teller lines
+    → (more : List ℕ)
+    × AreLinesAlong fares earlier (posted_after fares earlier taps) (lines ++ more)
+told_all fares earlier done left taps teller lines whole told =
+    let first = posted_after fares earlier done in
+    let second = posted_after fares (earlier ++ first) left in
+    let last = along_exist fares (earlier ++ first) second in
+    let all = along_append fares earlier first second lines last.0 told.are last.1 in (
+      last.0,
+      subst (λ (ts : List TapFields). AreLinesAlong fares earlier (posted_after fares earlier ts)
+          (lines ++ last.0)) whole
+          (subst (λ (es : List Entry). AreLinesAlong fares earlier es (lines ++ last.0))
+          (sym (posted_append fares earlier done left)) all),
+    )
+
+-- where a beginning of what waits goes out, what has gone out is a beginning of all lines
+pub told_begun : (fares : Fares) (earlier : List Entry) (done left taps : List TapFields)
+    (teller : Teller) (lines : List ℕ) (a b c : Option (List ℕ)) (old new : List ℕ)
+    → done ++ left ≡ taps → AreTold fares earlier done teller lines → GoesOut a old b new lines
+    → Begins b c new
+    → (all : List ℕ) × AreLinesAlong fares earlier (posted_after fares earlier taps) all
+    × Begins a c (old ++ all)
+told_begun fares earlier done left taps teller lines a b c old new whole told gone begun =
+    let all = told_all fares earlier done left taps teller lines whole told in
+    (lines ++ all.0, all.1, goes_then_on a b c old new lines all.0 gone begun)
+
+-- so it is where a beginning of the next lines goes out too
+pub told_begun_on : (fares : Fares) (earlier : List Entry) (done next behind taps : List TapFields)
+    (teller : Teller) (lines others : List ℕ) (a b c : Option (List ℕ)) (old new : List ℕ)
+    → done ++ (next ++ behind) ≡ taps → AreTold fares earlier done teller lines
+    → AreLinesAlong fares (earlier ++ posted_after fares earlier done)
+    (posted_after fares (earlier ++ posted_after fares earlier done) next) others
+    → GoesOut a old b new lines → Begins b c (new ++ others)
+    → (all : List ℕ) × AreLinesAlong fares earlier (posted_after fares earlier taps) all
+    × Begins a c (old ++ all)
+told_begun_on fares earlier done next behind taps teller lines others a b c old new whole told along
+gone begun =
+    let all =
+    told_then fares earlier done next behind taps teller lines others whole told along in (
+      lines ++ (others ++ all.0),
+      all.1,
+      goes_begins_on a b c old new lines others all.0 gone begun,
+    )
 
 -- the next entry of the token is what the tap is answered
 next_answered : (fares : Fares) (earlier : List Entry) (tap : TapFields) (token : Token)

@@ -1,7 +1,7 @@
 //! The classes of riders, as the text of a fare table names them.
 
-ghost use Rattle.std.specs.Prelude.{◌≡◌, ◌&&◌, ◌||◌, ◌==◌, ℕ, List, IfOk, IfErr, OnOk, Some, None};
-ghost use Rattle.std.specs.Prelude.{codes, false, if◌then◌else◌, nat_le, option_map};
+ghost use Rattle.std.specs.Prelude.{◌≡◌, ◌≢◌, ◌&&◌, ◌||◌, ◌==◌, ℕ, List, IfOk, IfErr, OnOk, Some};
+ghost use Rattle.std.specs.Prelude.{IsUtf8, None, codes, false, if◌then◌else◌, nat_le, option_map};
 ghost use Rattle.std.specs.Prelude.{string_bytes, true};
 ghost use Rattle.std.specs.List.{list_all};
 ghost use Rattle.std.specs.Option.{option_and_then};
@@ -86,6 +86,7 @@ fn plain(alloc: Global, name: &str) -> Result<String, ClassFault>
     ensures right { OnOk result (is_plain_name name.now ≡ true) }
     ensures fault { IfErr result (λ fault. fault ≡ ClassFault.Name
         → is_plain_name name.now ≡ false) }
+    ensures no_text { IfErr result (λ fault. fault ≢ ClassFault.Text) }
 {
     if !is_plain(name) {
         return Err(ClassFault::Name);
@@ -151,6 +152,7 @@ fn add(
     ensures plain { OnOk result (is_plain_or_none (as_str (view value.now)) ≡ true) }
     ensures fault { IfErr result (λ fault. fault ≡ ClassFault.Name
         → is_plain_or_none (as_str (view value.now)) ≡ false) }
+    ensures no_text { IfErr result (λ fault. fault ≢ ClassFault.Text) }
 {
     let Some(name) = value.as_str() else {
         return Ok(());
@@ -168,6 +170,7 @@ fn classes_of(alloc: Global, keys: &Table) -> Result<BTreeMap<[u8; 16], String>,
     ensures plain { OnOk result (are_plain (table_view keys.now) ≡ true) }
     ensures fault { IfErr result (λ fault. fault ≡ ClassFault.Name
         → are_plain (table_view keys.now) ≡ false) }
+    ensures no_text { IfErr result (λ fault. fault ≢ ClassFault.Text) }
 {
     let mut riders = BTreeMap::new(alloc);
     for (key, value) in keys {
@@ -181,6 +184,7 @@ fn rider_classes(alloc: Global, tree: &Table) -> Result<BTreeMap<[u8; 16], Strin
     ensures plain { OnOk result (are_plain (riders_in (table_view tree.now)) ≡ true) }
     ensures fault { IfErr result (λ fault. fault ≡ ClassFault.Name
         → are_plain (riders_in (table_view tree.now)) ≡ false) }
+    ensures no_text { IfErr result (λ fault. fault ≢ ClassFault.Text) }
 {
     match riders_of(tree) {
         Some(keys) => classes_of(alloc, keys),
@@ -201,6 +205,10 @@ impl ClassNames {
             → parse_document text.now ≡ Some tree → has_plain_classes tree ≡ true) }
         ensures fault { IfErr result (λ fault. fault ≡ ClassFault.Name → (tree : Members)
             × (parse_document text.now ≡ Some tree) × (has_plain_classes tree ≡ false)) }
+
+        // The text fault comes only where the text is no TOML, or names no default class.
+        ensures text { IfErr result (λ fault. fault ≡ ClassFault.Text → IsUtf8 text.now
+            → (tree : Members) → parse_document text.now ≡ Some tree → default_in tree ≡ None) }
     {
         let tree = match toml::table_from_slice(alloc, text) {
             Ok(tree) => tree,

@@ -7,6 +7,8 @@ ghost use Rattle.std.specs.Io.KnownBytes.{Appends};
 ghost use Rattle.tap_views.specs.Encoding.{AreEarly};
 ghost use Rattle.tap_parts.specs.Canonical.{tap_cmp};
 ghost use Rattle.fare_texts.specs.PrintFaults.{KeepsUnlessWrite};
+ghost use Rattle.fare_texts.specs.WrittenOut.{Begins};
+ghost use Rattle.fare_texts.specs.declared.print_fault.PrintFault.TheVariants.{Write as ForWrite};
 ghost use Rattle.fare_texts.specs.Ledger.{IsLedgerOver};
 ghost use Rattle.settlement.specs.Posted.{HasName, posted};
 
@@ -73,6 +75,10 @@ pub fn write_settled_ledger<R: Threads + Sync, W: Write>(
     ensures ok { OnOk result ((text : List ℕ) × IsLedgerOver table.now
         (posted table.now (flat_map (λ list. list.items) lists.now)) None text
         × Appends (W.contents out.old) (W.contents out.new) text) }
+    ensures begun { IfErr result (λ fault. fault ≡ ForWrite
+        → (text : List ℕ) × IsLedgerOver table.now
+        (posted table.now (flat_map (λ list. list.items) lists.now)) None text
+        × Begins (W.contents out.old) (W.contents out.new) text) }
     ensures fault { IfErr result (λ fault. KeepsUnlessWrite fault (out.new ≡ out.old)) }
 {
     // proof: the taps can be counted

@@ -1,13 +1,13 @@
 //! The lines of taps whose tokens do not fall.
 
-ghost use Rattle.std.specs.Prelude.{◌≡◌, ◌+◌, ◌^◌, ◌<◌, ◌≤◌, ◌++◌, ◌∷◌, [], ℕ, List, IfErr, OnOk};
-ghost use Rattle.std.specs.Prelude.{length, string_bytes};
-ghost use Rattle.std.specs.Io.KnownBytes.{Appends, append_known};
+ghost use Rattle.std.specs.Prelude.{◌≡◌, ◌+◌, ◌^◌, ◌<◌, ◌≤◌, ◌++◌, ◌∷◌, [], ℕ, List, IfErr, OnErr};
+ghost use Rattle.std.specs.Prelude.{OnOk, length, string_bytes};
 ghost use Rattle.tap_views.specs.Encoding.{AreEarly};
 ghost use Rattle.shard_book.specs.declared.entry.Entry.{Entry};
 ghost use Rattle.fare_texts.specs.declared.print_fault.PrintFault.TheVariants.{Write as ForWrite};
-ghost use Rattle.fare_texts.specs.Lines.{HasCome, IsUpTo};
-ghost use Rattle.settlement.specs.Posted.{token_of_tap};
+ghost use Rattle.fare_texts.specs.Lines.{AreLinesAlong, HasCome, IsUpTo};
+ghost use Rattle.fare_texts.specs.WrittenOut.{Begins, GoesOut};
+ghost use Rattle.settlement.specs.Posted.{posted_after, token_of_tap};
 ghost use Rattle.settled_texts.specs.Telling.{AreTold, NoTapFallsFrom, last_token};
 
 use fare_table::{Clock, FareTable};
@@ -106,20 +106,24 @@ pub fn write_taps<W: Write>(
     // After all entries that the teller has come past.
     ensures told { OnOk result ((earlier : List Entry) → HasCome table.now teller.old earlier
         → (lines : List ℕ) × AreTold table.now earlier taps.now teller.new lines
-        × Appends (append_known (W.contents out.old) (string_bytes text.old))
-        (append_known (W.contents out.new) (string_bytes text.new)) lines) }
+        × GoesOut (W.contents out.old) (string_bytes text.old) (W.contents out.new)
+        (string_bytes text.new) lines) }
+    ensures begun { OnErr result ((earlier : List Entry) → HasCome table.now teller.old earlier
+        → (lines : List ℕ)
+        × AreLinesAlong table.now earlier (posted_after table.now earlier taps.now) lines
+        × Begins (W.contents out.old) (W.contents out.new) (string_bytes text.old ++ lines)) }
     ensures token { OnOk result (teller.new.token ≡ last_token teller.old.token taps.now) }
     ensures few { OnOk result (teller.new.number ≤ teller.old.number + length taps.now) }
     ensures fault { IfErr result (λ fault. fault ≡ ForWrite) }
 {
     let mut rest = taps;
     while !rest.is_empty() {
+        pass_piece(text, out)?;
         let (stride, behind) = rest.split_at(rest.len().min(STRIDE_TAPS));
         // The text has room for a stride, so that none is refused.
         let Ok(()) = tell_taps(text, table, clock, teller, stride) else {
             return Err(PrintFault::Write);
         };
-        pass_piece(text, out)?;
         rest = behind;
     }
     Ok(())

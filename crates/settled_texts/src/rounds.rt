@@ -1,13 +1,15 @@
 //! The lines of lists, in rounds of a list a thread.
 
 ghost use Rattle.std.specs.Prelude.{◌≡◌, ◌+◌, ◌^◌, ◌<◌, ◌≤◌, ◌++◌, [], ℕ, All, List, IfErr, IfSome};
-ghost use Rattle.std.specs.Prelude.{OnOk, Some, flat_map, length, map, slice_get, string_bytes};
-ghost use Rattle.std.specs.Io.KnownBytes.{Appends, append_known};
+ghost use Rattle.std.specs.Prelude.{OnErr, OnOk, Some, flat_map, length, map, slice_get};
+ghost use Rattle.std.specs.Prelude.{string_bytes};
 ghost use Rattle.tap_views.specs.Encoding.{AreEarly};
 ghost use Rattle.tap_views.specs.declared.encoder.TapFields.{TapFields};
 ghost use Rattle.shard_book.specs.declared.entry.Entry.{Entry};
 ghost use Rattle.fare_texts.specs.declared.print_fault.PrintFault.TheVariants.{Write as ForWrite};
-ghost use Rattle.fare_texts.specs.Lines.{HasCome};
+ghost use Rattle.fare_texts.specs.Lines.{AreLinesAlong, HasCome};
+ghost use Rattle.fare_texts.specs.WrittenOut.{Begins, GoesOut};
+ghost use Rattle.settlement.specs.Posted.{posted_after};
 ghost use Rattle.settled_texts.specs.declared.seat.Seat.{Seat};
 ghost use Rattle.settled_texts.specs.inside.Seats.{HasSat, IsSoundList};
 ghost use Rattle.settled_texts.specs.Telling.{AreTold, NoTapFallsFrom, last_token};
@@ -74,8 +76,12 @@ fn write_list<W: Write>(
     // After all entries that the teller has come past.
     ensures told { OnOk result ((earlier : List Entry) → HasCome table.now teller.old earlier
         → (lines : List ℕ) × AreTold table.now earlier list.now teller.new lines
-        × Appends (append_known (W.contents out.old) (string_bytes text.old))
-        (append_known (W.contents out.new) (string_bytes text.new)) lines) }
+        × GoesOut (W.contents out.old) (string_bytes text.old) (W.contents out.new)
+        (string_bytes text.new) lines) }
+    ensures begun { OnErr result ((earlier : List Entry) → HasCome table.now teller.old earlier
+        → (lines : List ℕ)
+        × AreLinesAlong table.now earlier (posted_after table.now earlier list.now) lines
+        × Begins (W.contents out.old) (W.contents out.new) (string_bytes text.old ++ lines)) }
     ensures token { OnOk result (teller.new.token ≡ last_token teller.old.token list.now) }
     ensures few { OnOk result (teller.new.number ≤ teller.old.number + length list.now) }
     ensures fault { IfErr result (λ fault. fault ≡ ForWrite) }
@@ -112,8 +118,13 @@ fn write_round<R: Threads + Sync, W: Write>(
     // After all entries that the teller has come past.
     ensures told { OnOk result ((earlier : List Entry) → HasCome table.now teller.old earlier
         → (lines : List ℕ) × AreTold table.now earlier (flat_map (λ list. list.items) round.now) teller.new lines
-        × Appends (append_known (W.contents out.old) (string_bytes text.old))
-        (append_known (W.contents out.new) (string_bytes text.new)) lines) }
+        × GoesOut (W.contents out.old) (string_bytes text.old) (W.contents out.new)
+        (string_bytes text.new) lines) }
+    ensures begun { OnErr result ((earlier : List Entry) → HasCome table.now teller.old earlier
+        → (lines : List ℕ)
+        × AreLinesAlong table.now earlier
+        (posted_after table.now earlier (flat_map (λ list. list.items) round.now)) lines
+        × Begins (W.contents out.old) (W.contents out.new) (string_bytes text.old ++ lines)) }
     ensures token { OnOk result
         (teller.new.token ≡ last_token teller.old.token (flat_map (λ list. list.items) round.now)) }
     ensures few { OnOk result
@@ -148,8 +159,13 @@ pub(crate) fn write_lists<R: Threads + Sync, W: Write>(
     // After all entries that the teller has come past.
     ensures told { OnOk result ((earlier : List Entry) → HasCome table.now teller.old earlier
         → (lines : List ℕ) × AreTold table.now earlier (flat_map (λ list. list.items) lists.now) teller.new lines
-        × Appends (append_known (W.contents out.old) (string_bytes text.old))
-        (append_known (W.contents out.new) (string_bytes text.new)) lines) }
+        × GoesOut (W.contents out.old) (string_bytes text.old) (W.contents out.new)
+        (string_bytes text.new) lines) }
+    ensures begun { OnErr result ((earlier : List Entry) → HasCome table.now teller.old earlier
+        → (lines : List ℕ)
+        × AreLinesAlong table.now earlier
+        (posted_after table.now earlier (flat_map (λ list. list.items) lists.now)) lines
+        × Begins (W.contents out.old) (W.contents out.new) (string_bytes text.old ++ lines)) }
     ensures fault { IfErr result (λ fault. fault ≡ ForWrite) }
 {
     let mut rest = lists;

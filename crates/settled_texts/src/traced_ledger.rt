@@ -1,16 +1,19 @@
 //! The traced ledger of uploads.
 
 ghost use Rattle.std.specs.Prelude.{◌≡◌, ◌+◌, ◌^◌, ◌<◌, ◌≤◌, ◌++◌, ◌∷◌, [], ℕ, All, List, None};
-ghost use Rattle.std.specs.Prelude.{IfErr, IfOk, OnOk, drop, length, map, string_bytes};
+ghost use Rattle.std.specs.Prelude.{Bool, IfErr, IfOk, OnErr, OnOk, drop, length, map};
+ghost use Rattle.std.specs.Prelude.{string_bytes};
 ghost use Rattle.std.specs.List.Sorted.{IsSorted};
 ghost use Rattle.std.specs.Io.KnownBytes.{Appends};
 ghost use Rattle.tap_views.specs.Encoding.{AreEarly};
 ghost use Rattle.tap_views.specs.TapOrder.{tap_cmp};
 ghost use Rattle.shard_book.specs.declared.entry.Entry.{Entry};
 ghost use Rattle.fare_texts.specs.PrintFaults.{KeepsUnlessWrite};
+ghost use Rattle.fare_texts.specs.WrittenOut.{Begins};
+ghost use Rattle.fare_texts.specs.declared.print_fault.PrintFault.TheVariants.{Write as ForWrite};
 ghost use Rattle.fare_texts.specs.declared.print_fault.PrintFault.TheVariants.{Write as ForWrite};
 ghost use Rattle.fare_texts.specs.Ledger.{IsLedgerOver};
-ghost use Rattle.fare_texts.specs.Lines.{HasCome};
+ghost use Rattle.fare_texts.specs.Lines.{AreLinesAlong, HasCome};
 ghost use Rattle.settlement.specs.Posted.{HasName, posted};
 ghost use Rattle.settled_texts.specs.Telling.{AreTold, NoTapFallsFrom, last_token};
 ghost use Rattle.settled_texts.specs.Columns.{columns_by, head_columns, with_columns};
@@ -134,6 +137,8 @@ impl Room {
         ensures left { IfOk result (λ left. left.now ≡ drop (feeds self.old.lines.items) taps.now) }
         ensures written { OnOk result (Appends (W.contents out.old) (W.contents out.new)
             (with_columns self.old.lines.items (columns_by (class_by names.now) taps.now))) }
+        ensures begun { OnErr result (Begins (W.contents out.old) (W.contents out.new)
+            (with_columns self.old.lines.items (columns_by (class_by names.now) taps.now))) }
         ensures text { self.new.text ≡ self.old.text }
         ensures fault { IfErr result (λ fault. fault ≡ ForWrite) }
     {
@@ -169,6 +174,10 @@ fn write_lines<W: Write>(
         × AreTold table.now [] (taps_of_trace trace.now) teller.new lines
         × Appends (W.contents out.old) (W.contents out.new)
         (with_columns lines (columns_by (class_by names.now) trace.now))) }
+    ensures begun { OnErr result ((lines : List ℕ)
+        × AreLinesAlong table.now [] (posted table.now (taps_of_trace trace.now)) lines
+        × Begins (W.contents out.old) (W.contents out.new)
+        (with_columns lines (columns_by (class_by names.now) trace.now))) }
     ensures fault { IfErr result (λ fault. fault ≡ ForWrite) }
 {
     let mut rest = trace;
@@ -198,6 +207,11 @@ fn write_trace<W: Write>(
         × IsLedgerOver table.now (posted table.now (taps_of_trace trace.now)) None untraced
         × Appends (W.contents out.old) (W.contents out.new)
         (with_columns untraced (head_columns ∷ columns_by (class_by names.now) trace.now))) }
+    ensures begun { IfErr result (λ fault. fault ≡ ForWrite
+        → (untraced : List ℕ)
+        × IsLedgerOver table.now (posted table.now (taps_of_trace trace.now)) None untraced
+        × Begins (W.contents out.old) (W.contents out.new)
+        (with_columns untraced (head_columns ∷ columns_by (class_by names.now) trace.now))) }
     ensures fault { IfErr result (λ fault. KeepsUnlessWrite fault (out.new ≡ out.old)) }
 {
     // proof: the taps can be counted
@@ -226,6 +240,9 @@ pub fn write_traced_ledger<W: Write>(
     ensures ok { IfOk result (λ whole. (text : List ℕ)
         × IsTracedLedger (class_by names.now) table.now (map (λ u. u.items) uploads.now) text whole
         × Appends (W.contents out.old) (W.contents out.new) text) }
+    ensures begun { IfErr result (λ fault. fault ≡ ForWrite → (text : List ℕ) × (whole : Bool)
+        × IsTracedLedger (class_by names.now) table.now (map (λ u. u.items) uploads.now) text whole
+        × Begins (W.contents out.old) (W.contents out.new) text) }
     ensures fault { IfErr result (λ fault. KeepsUnlessWrite fault (out.new ≡ out.old)) }
 {
     // proof: the tokens of the taps have 16 bytes

@@ -11,17 +11,19 @@ use Rattle.part_reports.specs.Ledgers.{IsLedgerEntryLine}
 use Rattle.part_reports.specs.TokenLines.{TokenLine}
 use Rattle.part_reports.specs.inside.Kinds.{HasTokenSums, IsSumLine, IsTextOf}
 use Rattle.part_reports.specs.inside.SumsLeft.{sums_left}
+use Rattle.part_reports.specs.inside.Told.{next_number}
 use Rattle.part_reports.specs.declared.merging.LineKind.{LineKind}
 use Rattle.part_reports.specs.declared.merging.LineKind.TheVariants.{Tokens, Entries}
 use Rattle.part_reports.specs.declared.merging.OrderedText.{OrderedText}
 
 -- where a text stands: what is left of it behind the line that was read last, that line, of which
--- kind the lines behind it are, and its token; no token at the end
+-- kind the lines behind it are, its token, and its number; no token at the end
 pub record Standing : Type 0 where
   pub left : Option (List ℕ)
   pub line : List ℕ
   pub behind : LineKind
   pub token : Option Token
+  pub number : ℕ
 
 -- the same of a text that is merged, at what its reader says is left
 abbrev pub standing : {R : Type 0} → (R → Option (List ℕ)) → OrderedText R → Standing
@@ -30,6 +32,7 @@ standing remaining text = record {
   line = text.reader.line.items;
   behind = text.lines;
   token = text.token;
+  number = text.reader.lines;
 }
 
 -- it is a line of this kind: a report's of a token, or a ledger's
@@ -106,6 +109,7 @@ MayFollowToken kind None token = Unit {0}
 pub record IsMoved (before after : Standing) : Type 0 where
   pub read : IfSome before.left (λ left. StandsInText (before.behind, left) after)
   pub order : MayFollowToken before.behind before.token after.token
+  pub number : after.number ≡ next_number before.number
 
 -- the text at the place went on to the next line, and the line at which it stood was written
 pub record IsMovedAt (at : ℕ) (before after : List Standing)

@@ -1,4 +1,4 @@
-use Rattle.std.proofs.lemmas.Result.{IfOk-weaker}
+use Rattle.std.proofs.lemmas.Result.{IfErr-weaker, IfOk-weaker}
 use Rattle.fare_program.proofs.bill.write_bill.Goals as goal
 
 pub write_billed-requires : goal.write_billed-requires
@@ -25,3 +25,25 @@ returns-clause-ok g c =
       made.3,
     ))
     c.write_billed.ensures.ok
+
+pub returns-clause-begun : goal.returns-clause-begun
+returns-clause-begun g c =
+    let (files, read, ended, billed) = c.in_ok-made.ensures in
+    IfErr-weaker c.write_billed.result _ _
+    (λ fault begun write.
+    let made = begun write in (
+      made.0,
+      files,
+      made.1,
+      read,
+      record {
+        history = billed.0;
+        is_settled = billed.1;
+        shows = made.2 files billed.0 billed.2 ended;
+        ends = c.in_ok-made.made.ends.items;
+        ended = ended;
+        is_well = made.3;
+      },
+      made.4,
+    ))
+    c.write_billed.ensures.begun

@@ -1,5 +1,6 @@
-use Rattle.std.proofs.Common.{◌≡◌, ℕ, List, map, ap, ◌∙◌, arith}
-use Rattle.std.proofs.KnownBytes.{Appends-kept}
+use Rattle.std.proofs.Common.{◌≡◌, ℕ, List, map, ap, refl, sym, ◌∙◌, arith}
+use Rattle.std.proofs.lemmas.Result.{err_from_is_err_and}
+use Rattle.fare_program.proofs.WritesFailed.{of_write}
 use Rattle.shard_book.specs.Sums.{Sums, sums, sums_of}
 use Rattle.shard_book.specs.Shown.{validator_sum}
 use Rattle.shard_book.specs.SumsByKey.{sums_by_validator}
@@ -43,5 +44,32 @@ returns-clause-ok g c =
             (is.tokens i);
       },
       c.are_posted.ensures ∙ ap are_posted c.deref-3.ensures.value,
-      Appends-kept _ _ _ text c.in_ok-write_report.ensures.ok c.flush.ensures.kept,
+      c.in_ok-write_report.ensures.ok,
     )
+
+-- what a write that failed left
+pub returns-in_err-write_report-clause-begun : goal.returns-in_err-write_report-clause-begun
+returns-in_err-write_report-clause-begun g c =
+    let made = c.args.made in
+    let one : (history : List Entry) → IsBillOf history made.bill
+    → sums_of c.totals-totals.result ≡ sums history =
+    λ history is. c.totals-totals.ensures ∙ is.counts.totals in
+    let two : (history : List Entry) → IsBillOf history made.bill
+    → map validator_sum c.deref-2.result.now ≡ sums_by_validator history =
+    λ history is. ap (map validator_sum) c.deref-2.ensures.value
+    ∙ c.in_ok-validators.ensures history is.counts.validators in
+    let text : List ℕ = report c.deref.result.now (sums_of c.totals-totals.result)
+    (map validator_sum c.deref-2.result.now) made.bill.tokens in
+    let p = err_from_is_err_and c.from_residual-in_err-write_report.result
+    c.from_residual-in_err-write_report.ensures.1 in
+    rw p.1 (λ write. (
+      are_posted made.ends.items,
+      text,
+      λ files history is ended. record {
+        ends = made.ends.items;
+        of_uploads = ended;
+        shown = λ i. report (c.deref.ensures.value i) (one history is i) (two history is i) (is.tokens i);
+      },
+      refl,
+      c.in_err-write_report.ensures.begun (of_write _ (sym p.2 ∙ write)),
+    ))

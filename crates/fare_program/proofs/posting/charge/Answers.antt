@@ -1,9 +1,9 @@
-use Rattle.std.proofs.Common.{◌≡◌, ◌∙◌, ℕ, List, Some, Vec, Global, ap, length, map, subst, sym}
+use Rattle.std.proofs.Common.{◌≡◌, ◌∙◌, ℕ, List, Some, Vec, Global, ap, length, map, refl, subst, sym}
 use Rattle.std.specs.Prelude.{slice_get}
 use Rattle.std.proofs.lemmas.List.{length-map}
 use Rattle.std.specs.Io.KnownBytes.{Appends}
-use Rattle.std.proofs.lemmas.Result.{IfOk-weaker}
-use Rattle.std.proofs.KnownBytes.{Appends-kept}
+use Rattle.std.proofs.lemmas.Result.{IfErr-weaker, IfOk-weaker, err_from_is_err_and}
+use Rattle.fare_program.specs.inside.Fault.{IsRunFailure}
 use Rattle.fare_program.specs.inside.Options.{asked_of}
 use Rattle.report_texts.specs.UploadEnds.{are_posted}
 use Rattle.fare_program.specs.Program.{ShowsAsked}
@@ -26,7 +26,7 @@ returns-clause-ok g c =
       live_asked asked c.args.table (map (λ f. f.items) c.args.files.items) c.args.token written.0 _
           outcome
           c.if-options.false written.1 well c.in_ok-outcome.ensures.live,
-      Appends-kept _ _ _ written.0 written.2 c.flush.ensures.kept,
+      written.2,
     )
 
 pub returns-then-options-clause-ok : goal.returns-then-options-clause-ok
@@ -57,3 +57,46 @@ returns-then-options-clause-ok g c =
       is.4,
     ))
     c.charge_settled.ensures.ok
+
+-- ---- what a write that failed left
+pub returns-in_err-print_asked-clause-begun : goal.returns-in_err-print_asked-clause-begun
+returns-in_err-print_asked-clause-begun g c =
+    let asked = asked_of c.args.options.now in
+    let outcome = c.in_ok-outcome.outcome in
+    let p = err_from_is_err_and c.from_residual-in_err-print_asked.result
+    c.from_residual-in_err-print_asked.ensures.1 in
+    rw p.1 (λ write.
+    let written = c.in_err-print_asked.ensures.begun (sym p.2 ∙ write) in (
+      are_posted outcome.ends,
+      written.0,
+      live_asked asked c.args.table (map (λ f. f.items) c.args.files.items) c.args.token written.0
+          (are_posted outcome.ends) outcome c.if-options.false written.1 refl
+          c.in_ok-outcome.ensures.live,
+      written.2,
+    ))
+
+pub returns-then-options-clause-begun : goal.returns-then-options-clause-begun
+returns-then-options-clause-begun g c =
+    let asked = asked_of c.args.options.now in
+    let fares = c.args.table in
+    let all = map bytes_in c.deref.result.now in
+    IfErr-weaker c.charge_settled.result _ _
+    (λ fault begun write.
+    let is = begun write in (
+      is.0,
+      is.2,
+      settled_asked asked fares (map bytes_in c.args.files.items) c.args.token is.2 is.0 c.if-options.true
+          (subst (λ fs. ShowsSettled asked fares fs c.args.token is.2 is.0)
+          (loaded_files all is.1 (subst (λ n. AreRead (λ upload bytes. slice_get all upload ≡ Some bytes) 0 n is.1)
+          (sym (length-map c.deref.result.now bytes_in)) is.3)
+          ∙ ap (map bytes_in) c.deref.ensures.value) is.4),
+      is.5,
+    ))
+    c.charge_settled.ensures.begun
+
+-- what is posted does not write
+pub returns-in_err-outcome-clause-begun : goal.returns-in_err-outcome-clause-begun
+returns-in_err-outcome-clause-begun g c =
+    let p = err_from_is_err_and c.from_residual.result c.from_residual.ensures.1 in
+    rw p.1 (λ write.
+    absurd (subst (IsRunFailure (length c.args.files.items)) (sym p.2 ∙ write) c.in_err-outcome.ensures.fault))

@@ -1,12 +1,17 @@
 use Rattle.std.proofs.Common.{ap, subst, ◌≡◌, refl}
 use Rattle.std.specs.Prelude.{IfSome, is_some}
 use Rattle.std.proofs.KnownBytes.{Keeps-refl, Keeps-trans}
-use Rattle.std.proofs.lemmas.Result.{IfErr-weaker, IfOk-weaker}
+use Rattle.std.proofs.lemmas.Result.{IfErr-weaker, IfOk-weaker, err_from_is_err_and}
+use Rattle.fare_program.specs.Program.{Does}
+use Rattle.fare_program.specs.declared.fault.Fault.{Fault}
+use Rattle.fare_program.specs.declared.fault.Fault.TheVariants.{Write}
+use Rattle.fare_program.proofs.WritesFailed.{begun_so}
 use Rattle.fare_program.specs.inside.ChargedAhead.{IsChargedAhead}
 use Rattle.fare_program.specs.inside.Options.{asked_of}
 use Rattle.fare_program.proofs.SortedRuns.{does_sorted, does_traced, does_untraced, has_table}
 use Rattle.fare_program.proofs.SortedRuns.{traced_table}
 use Rattle.fare_program.proofs.Works.{does_ahead}
+use Rattle.std.proofs.Common.{◌∙◌, Bool, true, false, sym}
 use Rattle.fare_program.proofs.Causes.{handed_on}
 use Rattle.fare_program.specs.Causes.{IsRightFault}
 use Rattle.fare_program.specs.Fault.{status_of}
@@ -93,3 +98,83 @@ returns-in_err-table-clause-right_fault g c =
     (λ f. status_of f ≡ 1 → IsRightFault asked (g.D.Disk.bytes_under c.args.disk.now) _ _ _ f)
     c.from_residual-in_err-table.ensures.1
     (λ one. c.in_err-table.ensures.right asked (g.D.Disk.bytes_under c.args.disk.now) refl)
+
+-- ---- what a write that failed left
+-- a mistake is no write
+no_mistake : (fault : Fault) → status_of fault ≡ 2 → fault ≡ Write → ⊥
+no_mistake Write is write = cc
+no_mistake fault is write = cc
+
+pub returns-in_err-token-clause-begun : goal.returns-in_err-token-clause-begun
+returns-in_err-token-clause-begun g c =
+    let p = err_from_is_err_and c.from_residual.result c.from_residual.ensures.1 in
+    rw p.1 (λ write unsorted. absurd (no_mistake _ c.in_err-token.ensures.status (sym p.2 ∙ write)))
+
+pub returns-in_err-table-clause-begun : goal.returns-in_err-table-clause-begun
+returns-in_err-table-clause-begun g c =
+    let p = err_from_is_err_and c.from_residual-in_err-table.result
+    c.from_residual-in_err-table.ensures.1 in
+    rw p.1 (λ write unsorted. absurd (c.in_err-table.ensures.unwritten (sym p.2 ∙ write)))
+
+pub returns-in_err-well-clause-begun : goal.returns-in_err-well-clause-begun
+returns-in_err-well-clause-begun g c =
+    let asked = asked_of c.args.options.now in
+    let under = g.D.Disk.bytes_under c.args.disk.now in
+    let out = g.W.Write.contents c.args.out.now in
+    let p = err_from_is_err_and c.from_residual-in_err-well.result
+    c.from_residual-in_err-well.ensures.1 in
+    let begun = c.in_err-well.ensures.begun in
+    rw p.1 (λ write unsorted. (
+      begun.0,
+      begun_so out (g.W.Write.contents c.charge_ahead.new.out) _
+          (λ all. Does asked under (g.S.Source.loaded c.args.source.now)
+          (g.S.Source.loaded c.load_table.new.source) out all begun.0) begun.1
+          (λ all done. does_untraced asked under _ _ out all begun.0 c.if-options.false
+          (does_ahead asked under c.keeps_loads-keeps_loads.result _ _ c.in_ok-table.table
+          c.in_ok-token.token out all begun.0 c.in_ok-table.ensures.ok
+          c.keeps_loads-keeps_loads.ensures c.in_ok-token.ensures.token done (Keeps-refl out)
+          c.if-options-2.false)),
+    ))
+
+pub returns-clause-begun : goal.returns-clause-begun
+returns-clause-begun g c =
+    let asked = asked_of c.args.options.now in
+    let under = g.D.Disk.bytes_under c.args.disk.now in
+    let out = g.W.Write.contents c.args.out.now in
+    IfErr-weaker c.work_by_table.result _ _
+    (λ fault begun write unsorted.
+    let is = begun write _ _ c.in_ok-table.ensures.ok c.in_ok-token.ensures.token
+    (c.in_ok-well.ensures.none c.in-None.is) unsorted in (
+      is.0,
+      begun_so out (g.W.Write.contents c.work_by_table.new.out) _
+          (λ all. Does asked under (g.S.Source.loaded c.args.source.now)
+          (g.S.Source.loaded c.work_by_table.new.source) out all is.0) is.1
+          (λ all done. does_untraced asked under _ _ out all is.0 c.if-options.false done),
+    ))
+    c.work_by_table.ensures.begun
+
+pub returns-then-options-clause-begun : goal.returns-then-options-clause-begun
+returns-then-options-clause-begun g c =
+    let asked = asked_of c.args.options.now in
+    let under = g.D.Disk.bytes_under c.args.disk.now in
+    let out = g.W.Write.contents c.args.out.now in
+    IfErr-weaker c.work_traced.result _ _
+    (λ fault begun write unsorted.
+    let is = begun write in (
+      is.0,
+      begun_so out (g.W.Write.contents c.work_traced.new.out) _
+          (λ all. Does asked under (g.S.Source.loaded c.args.source.now)
+          (g.S.Source.loaded c.work_traced.new.source) out all is.0) is.1
+          (λ all done. does_traced asked under _ _ out all is.0 c.if-options.true done),
+    ))
+    c.work_traced.ensures.begun
+
+both_ways : (b : Bool) → b ≡ true → b ≡ false → ⊥
+both_ways true yes no = cc
+both_ways false yes no = cc
+
+pub returns-then-options-2-clause-begun : goal.returns-then-options-2-clause-begun
+returns-then-options-2-clause-begun g c =
+    IfErr-weaker c.work_sorted.result _ _
+    (λ fault any write unsorted. absurd (both_ways _ c.if-options-2.true unsorted))
+    c.work_sorted.ensures.fault

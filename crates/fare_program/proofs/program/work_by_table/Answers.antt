@@ -1,7 +1,8 @@
 use Rattle.std.proofs.Common.{ℕ, List, Vec, Global, Bor, None, ap, map, inl, inr, refl, subst, sym}
 use Rattle.std.proofs.Common.{Option}
-use Rattle.std.proofs.lemmas.Result.{IfOk-weaker}
-use Rattle.fare_program.specs.Program.{LoadsFiles, LoadsTable, names_to_load}
+use Rattle.std.proofs.lemmas.Result.{IfErr-weaker, IfOk-weaker}
+use Rattle.fare_program.specs.Program.{DoesUntraced, LoadsFiles, LoadsTable, names_to_load}
+use Rattle.fare_program.proofs.WritesFailed.{begun_by}
 use Rattle.fare_program.specs.inside.Options.{asked_of}
 use Rattle.fare_program.proofs.Works.{does_charge, does_list}
 use Rattle.program_manners.specs.Loads.{Loaded}
@@ -70,3 +71,68 @@ returns-in_err-files-clause-right g c =
     c.from_residual.ensures.1
     (λ told. c.in_err-files.ensures.right asked (g.D.Disk.bytes_under c.args.disk.now) told _
     (ap (map name_in) (sym c.deref.ensures.value)))
+
+-- ---- what a write that failed left
+pub returns-then-options-clause-begun : goal.returns-then-options-clause-begun
+returns-then-options-clause-begun g c =
+    let asked = asked_of c.args.options.now in
+    let under = g.D.Disk.bytes_under c.args.disk.now in
+    let loaded = subst (λ (ns : List (Bor (List ℕ))). LoadsFiles (names_to_load (map name_in ns))
+    (g.S.Source.loaded c.args.source.now) (g.S.Source.loaded c.load_files.new.source)
+    (map bytes_in c.in_ok-files.files.items)) c.deref.ensures.value c.in_ok-files.ensures.ok in
+    IfErr-weaker c.list.result _ _
+    (λ fault begun write told before loads is_token kept live.
+    let is = begun write in (
+      is.0,
+      begun_by before (g.W.Write.contents c.args.out.now) (g.W.Write.contents c.list.new.out) is.1
+          (λ all. DoesUntraced asked under told (g.S.Source.loaded c.load_files.new.source) before all is.0)
+          kept is.3 (λ all written. does_list asked under told _ _ before _ all is.0 c.args.table loads
+          kept (map bytes_in c.deref-then-options.result.now)
+          (subst (λ (fs : List (List ℕ)). LoadsFiles (names_to_load asked.files)
+          (g.S.Source.loaded c.args.source.now) (g.S.Source.loaded c.load_files.new.source) fs)
+          (ap (map bytes_in) (sym c.deref-then-options.ensures.value)) loaded)
+          (inl c.if-options.true) (is.1, is.2, written)),
+    ))
+    c.list.ensures.begun
+
+pub returns-in-Some-clause-begun : goal.returns-in-Some-clause-begun
+returns-in-Some-clause-begun g c =
+    let asked = asked_of c.args.options.now in
+    let under = g.D.Disk.bytes_under c.args.disk.now in
+    let loaded = subst (λ (ns : List (Bor (List ℕ))). LoadsFiles (names_to_load (map name_in ns))
+    (g.S.Source.loaded c.args.source.now) (g.S.Source.loaded c.load_files.new.source)
+    (map bytes_in c.in_ok-files.files.items)) c.deref.ensures.value c.in_ok-files.ensures.ok in
+    IfErr-weaker c.charge.result _ _
+    (λ fault begun write told before loads is_token kept live.
+    let is = begun write in (
+      is.0,
+      begun_by before (g.W.Write.contents c.args.out.now) (g.W.Write.contents c.charge.new.out) is.1
+          (λ all. DoesUntraced asked under told (g.S.Source.loaded c.load_files.new.source) before all is.0)
+          kept is.3 (λ all written. does_charge asked under told _ _ before _ all is.0 c.args.table loads
+          kept c.in-Some.table (map bytes_in c.in_ok-files.files.items) c.args.token c.in-Some.is loaded
+          is_token c.if-options.false live (is.1, is.2, written)),
+    ))
+    c.charge.ensures.begun
+
+pub returns-clause-begun : goal.returns-clause-begun
+returns-clause-begun g c =
+    let asked = asked_of c.args.options.now in
+    let under = g.D.Disk.bytes_under c.args.disk.now in
+    let loaded = subst (λ (ns : List (Bor (List ℕ))). LoadsFiles (names_to_load (map name_in ns))
+    (g.S.Source.loaded c.args.source.now) (g.S.Source.loaded c.load_files.new.source)
+    (map bytes_in c.in_ok-files.files.items)) c.deref.ensures.value c.in_ok-files.ensures.ok in
+    IfErr-weaker c.list-in-None.result _ _
+    (λ fault begun write told before loads is_token kept live.
+    let is = begun write in (
+      is.0,
+      begun_by before (g.W.Write.contents c.args.out.now) (g.W.Write.contents c.list-in-None.new.out) is.1
+          (λ all. DoesUntraced asked under told (g.S.Source.loaded c.load_files.new.source) before all is.0)
+          kept is.3 (λ all written. does_list asked under told _ _ before _ all is.0 None
+          (subst (LoadsTable asked.table told (g.S.Source.loaded c.args.source.now)) c.in-None.is loads)
+          kept (map bytes_in c.deref-in-None.result.now)
+          (subst (λ (fs : List (List ℕ)). LoadsFiles (names_to_load asked.files)
+          (g.S.Source.loaded c.args.source.now) (g.S.Source.loaded c.load_files.new.source) fs)
+          (ap (map bytes_in) (sym c.deref-in-None.ensures.value)) loaded)
+          (inr refl) (is.1, is.2, written)),
+    ))
+    c.list-in-None.ensures.begun

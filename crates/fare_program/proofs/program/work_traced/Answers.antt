@@ -2,8 +2,10 @@ use Rattle.std.proofs.Common.{◌∙◌, ℕ, List, Vec, Global, Bor, ap, map, s
 use Rattle.std.specs.Prelude.{option_map}
 use Rattle.toml.specs.Parse.{parse_document}
 use Rattle.fare_table.specs.Meaning.{Means}
-use Rattle.std.proofs.lemmas.Result.{IfOk-weaker}
-use Rattle.fare_program.specs.Program.{LoadsFiles, names_to_load}
+use Rattle.std.proofs.lemmas.Result.{IfErr-weaker, IfOk-weaker}
+use Rattle.std.proofs.KnownBytes.{Keeps-refl}
+use Rattle.fare_program.proofs.WritesFailed.{begun_by}
+use Rattle.fare_program.specs.Program.{LoadsFiles, RunsTraced, names_to_load}
 use Rattle.fare_program.specs.inside.Options.{asked_of}
 use Rattle.settled_texts.specs.Ledgers.{IsTracedLedger}
 use Rattle.settled_texts.specs.Names.{class_by}
@@ -65,3 +67,42 @@ returns-in_err-files-clause-right g c =
     c.from_residual-in_err-files.ensures.1
     (λ traced. c.in_err-files.ensures.right asked (g.D.Disk.bytes_under c.args.disk.now) _ _
     (ap (map name_in) (sym c.deref-2.ensures.value)))
+
+-- what a write that failed left
+pub returns-clause-begun : goal.returns-clause-begun
+returns-clause-begun g c =
+    let asked = asked_of c.args.options.now in
+    let out = g.W.Write.contents c.args.out.now in
+    let loaded = subst (λ (ns : List (Bor (List ℕ))). LoadsFiles (names_to_load (map name_in ns))
+    (g.S.Source.loaded c.load_named.new.source) (g.S.Source.loaded c.load_files.new.source)
+    (map bytes_in c.in_ok-files.files.items)) c.deref-2.ensures.value c.in_ok-files.ensures.ok in
+    let names = c.in_ok-riders.ensures.names in
+    IfErr-weaker c.charge_traced.result _ _
+    (λ fault begun write.
+    let done = begun write in (
+      done.0,
+      begun_by out out (g.W.Write.contents c.charge_traced.new.out) done.1
+          (λ all. RunsTraced asked (g.S.Source.loaded c.args.source.now)
+          (g.S.Source.loaded c.load_files.new.source) out all done.0)
+          (Keeps-refl out) done.3 (λ all written. record {
+            name = c.in-Some.name.now;
+            is_named = ap (option_map (λ (f : Bor (List ℕ)). f.now)) c.in-Some.is;
+            table = c.in_ok-text.text.items;
+            between = g.S.Source.loaded c.load_named.new.source;
+            loads_table = c.in_ok-text.ensures.ok;
+            fares = c.in_ok-riders.riders.table;
+            means = subst (λ (b : List ℕ). Means b c.in_ok-riders.riders.table) c.deref.ensures.value
+                c.in_ok-riders.ensures.table;
+            tree = names.0;
+            parsed = ap parse_document (sym c.deref.ensures.value) ∙ names.1;
+            classes = class_by c.in_ok-riders.riders.names;
+            are_classes = names.2;
+            files = map bytes_in c.in_ok-files.files.items;
+            loads_files = loaded;
+            text = done.1;
+            shows = subst (λ (fs : List (Vec ℕ Global)). IsTracedLedger (class_by c.in_ok-riders.riders.names)
+                c.in_ok-riders.riders.table (map bytes_in fs) done.1 done.0) c.deref-3.ensures.value done.2;
+            written = written;
+          }),
+    ))
+    c.charge_traced.ensures.begun

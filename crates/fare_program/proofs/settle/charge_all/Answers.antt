@@ -1,6 +1,6 @@
 use Rattle.std.proofs.Common.{◌≡◌, ℕ, List, None, refl, true}
 use Rattle.std.specs.Io.KnownBytes.{Appends}
-use Rattle.std.proofs.lemmas.Result.{IfOk-weaker}
+use Rattle.std.proofs.lemmas.Result.{IfErr-weaker, IfOk-weaker}
 use Rattle.settlement.specs.Reading.{AreRead}
 use Rattle.fare_program.specs.Options.{Asked}
 use Rattle.fare_program.specs.Settling.{ShowsSettled}
@@ -50,3 +50,27 @@ returns-clause-ok g c =
       is.4,
     ))
     c.write_bill.ensures.ok
+
+-- what a write that failed left
+pub returns-then-options-clause-begun : goal.returns-then-options-clause-begun
+returns-then-options-clause-begun g c =
+    IfErr-weaker c.write_ledger.result _ _
+    (λ fault begun write.
+    let is = begun write in
+    (is.0, is.1, is.2, is.3, is.4 (asked_of c.args.options.now) c.if-options.true, is.5))
+    c.write_ledger.ensures.begun
+
+pub returns-clause-begun : goal.returns-clause-begun
+returns-clause-begun g c =
+    IfErr-weaker c.write_bill.result _ _
+    (λ fault begun write.
+    let is = begun write in (
+      is.0,
+      is.1,
+      is.2,
+      is.3,
+      shows_bill (asked_of c.args.options.now) c.args.table.now is.1 None is.2 is.0
+          c.if-options.false refl is.4,
+      is.5,
+    ))
+    c.write_bill.ensures.begun

@@ -1,7 +1,8 @@
-use Rattle.std.proofs.Common.{Bool, List, None, All, Vec, Global, ap, flat_map, subst, sym, ◌∙◌}
+use Rattle.std.proofs.Common.{Bool, List, None, All, Vec, Global, ap, flat_map, refl, subst, sym, ◌∙◌}
+use Rattle.std.proofs.lemmas.Result.{err_from_is_err_and}
+use Rattle.fare_program.proofs.WritesFailed.{of_write}
 use Rattle.std.specs.Prelude.{MatchBool}
 use Rattle.std.specs.List.Sorted.{IsSorted}
-use Rattle.std.proofs.KnownBytes.{Appends-kept}
 use Rattle.tap_views.specs.Encoding.{AreEarly}
 use Rattle.tap_views.specs.declared.encoder.TapFields.{TapFields}
 use Rattle.tap_parts.specs.Canonical.{tap_cmp}
@@ -62,5 +63,37 @@ returns-clause-ok g c =
         ended = ended;
         is_well = c.are_posted.ensures ∙ ap are_posted c.deref-2.ensures.value;
       },
-      Appends-kept _ _ _ text written.2 c.flush.ensures.kept,
+      written.2,
     )
+
+-- what a write that failed left
+pub returns-in_err-write_settled_ledger-clause-begun :
+    goal.returns-in_err-write_settled_ledger-clause-begun
+returns-in_err-write_settled_ledger-clause-begun g c =
+    let fares = c.args.table.now in
+    let (files, read, ended, made) = c.in_ok-ends.ensures in
+    let order = joined c.in_ok-ends.field-0.lists.items in
+    let history = posted fares order in
+    let p = err_from_is_err_and c.from_residual-in_err-write_settled_ledger.result
+    c.from_residual-in_err-write_settled_ledger.ensures.1 in
+    rw p.1 (λ write.
+    let written = c.in_err-write_settled_ledger.ensures.begun (of_write _ (sym p.2 ∙ write)) in
+    let text = written.0 in
+    let is : IsLedgerOver fares history None text =
+    subst (λ (ls : List (Vec TapFields Global)). IsLedgerOver fares (posted fares (joined ls)) None text)
+    c.deref.ensures.value written.1 in (
+      are_posted c.in_ok-ends.field-0.ends.items,
+      files,
+      text,
+      read,
+      λ asked ledger. record {
+        history = history;
+        is_settled = c.posted_taps.ensures.history fares files order made;
+        shows = subst (λ (b : Bool). MatchBool b (IsLedgerOver fares history None text)
+            (IsTextOver asked.explain None fares files history text)) (sym ledger) is;
+        ends = c.in_ok-ends.field-0.ends.items;
+        ended = ended;
+        is_well = refl;
+      },
+      written.2,
+    ))

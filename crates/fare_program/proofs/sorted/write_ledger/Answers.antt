@@ -1,13 +1,13 @@
 use Rattle.std.proofs.Common.{Bool, None, subst, sym}
 use Rattle.std.specs.Prelude.{MatchBool}
-use Rattle.std.proofs.KnownBytes.{Appends-kept, Keeps-refl}
+use Rattle.std.proofs.KnownBytes.{Keeps-refl}
 use Rattle.fare_texts.specs.Ledger.{IsLedgerOver}
 use Rattle.fare_program.specs.Settling.{IsTextOver}
 use Rattle.fare_program.specs.inside.Options.{asked_of}
 use Rattle.fare_program.proofs.sorted.write_ledger.Goals as goal
 
-pub returns-in_ok-flush-in-Ok-clause-ok : goal.returns-in_ok-flush-in-Ok-clause-ok
-returns-in_ok-flush-in-Ok-clause-ok g c = λ ledger.
+pub returns-in-Ok-clause-ok : goal.returns-in-Ok-clause-ok
+returns-in-Ok-clause-ok g c = λ ledger.
     let asked = asked_of c.args.options.now in
     let fares = c.args.table.now in
     let (text, is, written) = c.in-Ok.ensures.ok in
@@ -24,7 +24,7 @@ returns-in_ok-flush-in-Ok-clause-ok g c = λ ledger.
             ended = c.in-Ok.ensures.ended all are;
             is_well = sym c.in-Ok.ensures.posted;
           };
-      written = Appends-kept _ _ _ text written c.flush.ensures.kept;
+      written = written;
     }
 
 pub returns-in-Err-clause-fault : goal.returns-in-Err-clause-fault

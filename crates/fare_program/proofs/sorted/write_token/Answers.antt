@@ -1,10 +1,9 @@
 use Rattle.std.proofs.Common.{◌∙◌, ap, sym}
-use Rattle.std.proofs.KnownBytes.{Appends-kept}
 use Rattle.settlement.specs.Posted.{posted}
 use Rattle.fare_program.proofs.sorted.write_token.Goals as goal
 
-pub returns-in_ok-flush-in-Ok-clause-ok : goal.returns-in_ok-flush-in-Ok-clause-ok
-returns-in_ok-flush-in-Ok-clause-ok g c =
+pub returns-in_ok-write_text-in-Ok-clause-ok : goal.returns-in_ok-write_text-in-Ok-clause-ok
+returns-in_ok-write_text-in-Ok-clause-ok g c =
     let fares = c.args.table.now in
     let token = c.args.token in
     let (text, shows, written) = c.in_ok-write_text-in-Ok.ensures.ok in
@@ -23,5 +22,5 @@ returns-in_ok-flush-in-Ok-clause-ok g c =
             ended = c.in-Ok.ensures.ended all are;
             is_well = sym c.in-Ok.ensures.posted;
           };
-      written = Appends-kept _ _ _ text written c.flush.ensures.kept;
+      written = written;
     }

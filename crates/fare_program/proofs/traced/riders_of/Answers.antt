@@ -1,6 +1,7 @@
 use Rattle.std.proofs.Common.{refl}
 use Rattle.program_manners.proofs.Refusals.{first_table_fault}
 use Rattle.fare_program.proofs.Causes.{handed_on}
+use Rattle.fare_program.proofs.DefaultClasses.{has_default}
 use Rattle.fare_program.specs.declared.fault.Fault.TheVariants.{Table}
 use Rattle.fare_program.specs.inside.Causes.{IsRightOfText}
 use Rattle.fare_program.proofs.traced.riders_of.Goals as goal
@@ -13,4 +14,11 @@ returns-in_err-table-clause-right c =
     (first_table_fault _ _ fault refl c.in_err-table.ensures.fault c.in_err-table.ensures.not_text)
 
 pub returns-in-Err-clause-right : goal.returns-in-Err-clause-right
-returns-in-Err-clause-right c = c.of_names.ensures.right c.args.text.now
+returns-in-Err-clause-right c =
+    c.of_names.ensures.right c.args.text.now c.in-Err.ensures.fault
+
+-- the text is a fare table's, so that it names a default class
+pub of_names-requires : goal.of_names-requires
+of_names-requires c = λ is.
+    let (utf8, means) = c.in_ok-table.ensures.ok in
+    has_default c.args.text.now _ means (c.in-Err.ensures.text is utf8)

@@ -7,6 +7,7 @@ use Rattle.part_reports.specs.inside.Standings.{standing}
 use Rattle.part_reports.specs.inside.Told.{AreNumbered, text_number}
 use Rattle.part_reports.proofs.FewParts.{map_length}
 use Rattle.part_reports.proofs.LedgerTexts.{begun_push, no_ledgers}
+use Rattle.part_reports.proofs.LedgersFirst.{first_lines}
 use Rattle.part_reports.proofs.LedgersWrong.{first_wrong}
 use Rattle.part_reports.proofs.ToldOf.{below_count, numbered_none, numbered_push}
 use Rattle.part_reports.proofs.ledgers.begin_ledgers.Goals as goal
@@ -124,3 +125,19 @@ returns-clause-count g c =
     (sym (nil_from_length rest.items none))
     ∙ c.loop-from.invariant.all in
     c.loop-from.invariant.count ∙ ap length all
+
+pub returns-in_err-begin_ledger-clause-first : goal.returns-in_err-begin_ledger-clause-first
+returns-in_err-begin_ledger-clause-first g c =
+    let remaining = g.R.Read.remaining in
+    let size : c.len-text.result ≡ length c.loop-from.sources.items =
+    omega (arith, c.len-text.ensures, c.loop-from.sources.ok.0) in
+    let p = err_from_is_err_and c.from_residual.result c.from_residual.ensures.1 in
+    rw (p.1, p.2) (λ files same.
+    first_lines (map remaining c.loop-from.yielded) (map remaining c.next.new.self.rest.items)
+    (remaining c.in-Some.from) files c.len-text.result _
+    (sym (map-append remaining c.loop-from.yielded (c.in-Some.from ∷ c.next.new.self.rest.items))
+    ∙ ap (map remaining) (ap (λ left. c.loop-from.yielded ++ left) (sym c.in-Some.ensures.steps.0)
+    ∙ c.loop-from.invariant.all) ∙ same)
+    (size ∙ c.loop-from.invariant.count
+    ∙ sym (map_length remaining c.loop-from.yielded))
+    c.in_err-begin_ledger.ensures.told c.in_err-begin_ledger.ensures.first)

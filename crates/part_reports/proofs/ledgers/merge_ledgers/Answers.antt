@@ -5,12 +5,13 @@ use Rattle.std.proofs.lemmas.Result.{IfErr-weaker, err_from_is_err_and, on_err_w
 use Rattle.fare_texts.specs.LedgerLines.{head_text}
 use Rattle.part_reports.specs.inside.BegunLedgers.{AreBegunLedgers}
 use Rattle.part_reports.specs.Faults.{text_named}
-use Rattle.part_reports.specs.Ledgers.{NamesWrongLedger}
+use Rattle.part_reports.specs.Ledgers.{NamesFirstWrongLine, NamesWrongLedger}
 use Rattle.fare_texts.specs.WrittenOut.{Begins}
 use Rattle.part_reports.specs.inside.Standings.{standing}
 use Rattle.part_reports.specs.inside.Told.{AreNumbered, text_number}
 use Rattle.part_reports.proofs.FewParts.{map_length}
 use Rattle.part_reports.proofs.LedgerTexts.{merged_none, merged_whole}
+use Rattle.part_reports.proofs.LedgersFirst.{err_both, merged_first}
 use Rattle.part_reports.proofs.LedgersWrong.{head_begun, merged_begun, merged_wrong}
 use Rattle.fare_texts.proofs.Beginnings.{begins_nothing}
 use Rattle.part_reports.proofs.ToldOf.{below_numbered}
@@ -135,3 +136,33 @@ returns-clause-wrong g c =
     IfErr-weaker c.write_merged.result _ _ (λ fault wrong files same.
     merged_wrong files known (map (standing remaining) c.deref_mut.result.now) numbers fault same
     begun numbered wrong) c.write_merged.ensures.wrong
+
+-- ---- which line is the first wrong one
+pub returns-in_err-sources-clause-first : goal.returns-in_err-sources-clause-first
+returns-in_err-sources-clause-first g c =
+    let p = err_from_is_err_and c.from_residual.result c.from_residual.ensures.1 in
+    rw (p.1, p.2) c.in_err-sources.ensures.first
+
+pub returns-in_err-write_text-clause-first : goal.returns-in_err-write_text-clause-first
+returns-in_err-write_text-clause-first g c =
+    let p = err_from_is_err_and c.from_residual-in_err-write_text.result
+    c.from_residual-in_err-write_text.ensures.1 in
+    rw (p.1, p.2) (λ files same. subst (NamesFirstWrongLine files)
+    (sym c.in_err-write_text.ensures.write) tt)
+
+pub returns-clause-first : goal.returns-clause-first
+returns-clause-first g c =
+    let remaining = g.R.Read.remaining in
+    let known = map remaining c.args.ledgers.items in
+    let numbers = map text_number c.deref_mut.result.now in
+    let numbered : AreNumbered (λ place. place) numbers =
+    subst (λ sources. AreNumbered (λ place. place) (map text_number sources))
+    (sym c.deref_mut.ensures.value) c.in_ok-sources.ensures.numbered in
+    let begun : AreBegunLedgers known (map (standing remaining) c.deref_mut.result.now) =
+    subst (λ sources. AreBegunLedgers known (map (standing remaining) sources))
+    (sym c.deref_mut.ensures.value) c.in_ok-sources.ensures.begun in
+    IfErr-weaker c.write_merged.result _ _ (λ fault both files same.
+    merged_first files known (map (standing remaining) c.deref_mut.result.now) numbers fault same
+    begun numbered both.1 both.0)
+    (err_both c.write_merged.result _ _ c.write_merged.ensures.first
+    c.write_merged.ensures.no_taps)

@@ -1,5 +1,8 @@
-use Rattle.std.proofs.Common.{◌≡◌, ◌++◌, map}
+use Rattle.std.proofs.Common.{◌≡◌, ◌++◌, length, map}
+use Rattle.part_reports.specs.Faults.{number_from}
 use Rattle.part_reports.specs.inside.ReportsLeft.{AreBegunReports, report_at}
+use Rattle.part_reports.specs.inside.Told.{AreNumbered}
+use Rattle.part_reports.specs.inside.WrongBeside.{left_number}
 use Rattle.part_reports.proofs.ledgers_with_reports.begin_reports.Given as goal
 
 abbrev pub invariant-loop-from : goal.invariant-loop-from
@@ -9,4 +12,6 @@ invariant-loop-from g l = record {
   all : l.yielded ++ l.from-iterator.rest.items ≡ l.fn.reports.items;
   begun : AreBegunReports (map g.R.Read.remaining l.yielded)
       (map (report_at g.R.Read.remaining) l.lefts.items);
+  numbered : AreNumbered (number_from l.fn.first) (map left_number l.lefts.items);
+  count : length l.lefts.items ≡ length l.yielded;
 }

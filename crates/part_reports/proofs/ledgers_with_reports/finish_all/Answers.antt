@@ -5,6 +5,8 @@ use Rattle.std.proofs.lemmas.Result.{err_from_is_err_and}
 use Rattle.part_reports.specs.inside.ReportsLeft.{report_at}
 use Rattle.part_reports.proofs.Places.{map_at}
 use Rattle.part_reports.proofs.ReportsMerged.{all_up, up_more}
+use Rattle.part_reports.specs.inside.Told.{text_number}
+use Rattle.part_reports.proofs.BesideWrong.{of_left}
 use Rattle.part_reports.proofs.ledgers_with_reports.finish_all.Goals as goal
 
 pub loop-at-init : goal.loop-at-init
@@ -48,3 +50,25 @@ returns-clause-all g c =
     let done = c.loop-at-test.false in
     all_up (map (report_at remaining) lefts) c.loop-at.at c.loop-at.invariant
     (omega (arith, size, done))
+
+-- ---- of which text a fault is
+pub returns-in_err-finish-in-Some-clause-told : goal.returns-in_err-finish-in-Some-clause-told
+returns-in_err-finish-in-Some-clause-told g c =
+    let remaining = g.R.Read.remaining in
+    let sources = c.args.sources.now in
+    let lefts = c.args.lefts.now in
+    let at = c.loop-at.at in
+    let left = c.index-lefts-at.result in
+    let p = err_from_is_err_and c.from_residual.result
+    c.from_residual.ensures.1 in
+    rw (p.1, p.2) (of_left (map text_number sources) (map (report_at remaining) lefts) at
+    (text_number c.in-Some.source.now) c.in-Some.source.now.reader.lines _
+    (map_at text_number sources at c.in-Some.source.now (source_there))
+    c.in_err-finish-in-Some.ensures.told
+    (λ of_texts. record {
+      left = report_at remaining left;
+      there = map_at (report_at remaining) lefts at left
+          (slice_get-get_or lefts at left c.loop-at-test.true
+          ∙ ap (λ left. Some left) (sym c.index-lefts-at.is));
+      some = c.in_err-finish-in-Some.ensures.refused of_texts;
+    }))

@@ -1,4 +1,4 @@
-use Rattle.std.proofs.Common.{◌∙◌, ap, arith, length, map, sym, subst}
+use Rattle.std.proofs.Common.{◌≡◌, ◌∙◌, ap, arith, inl, inr, length, map, sym, subst}
 use Rattle.std.proofs.lemmas.List.{length-map}
 use Rattle.std.specs.Io.KnownBytes.{Appends}
 use Rattle.std.proofs.lemmas.Result.{IfErr-weaker, err_from_is_err_and, on_err_weaker, on_ok_weaker}
@@ -7,6 +7,14 @@ use Rattle.fare_texts.specs.WrittenOut.{Begins}
 use Rattle.part_reports.specs.inside.BegunLedgers.{AreBegunLedgers}
 use Rattle.part_reports.specs.inside.ReportsLeft.{AreBegunReports, report_at}
 use Rattle.part_reports.specs.inside.Standings.{standing}
+use Rattle.part_reports.specs.Faults.{NamesAmong, number_from}
+use Rattle.part_reports.specs.LedgersWithReports.{NamesWrongBeside}
+use Rattle.part_reports.specs.inside.Told.{AreNumbered, text_number}
+use Rattle.part_reports.specs.inside.WrongBeside.{left_number}
+use Rattle.part_reports.proofs.BesideWrong.{among_below, files_count, ledger_beside, merged_beside}
+use Rattle.part_reports.proofs.BesideWrong.{report_beside}
+use Rattle.part_reports.proofs.FewParts.{map_length}
+use Rattle.part_reports.proofs.ToldOf.{among_numbered, below_numbered}
 use Rattle.part_reports.proofs.ReportsMerged.{ledgers_number, no_charges, no_whole, reports_number}
 use Rattle.part_reports.proofs.LedgersWrong.{head_begun, merged_begun}
 use Rattle.fare_texts.proofs.Beginnings.{begins_nothing}
@@ -137,3 +145,111 @@ returns-clause-begun g c =
     same are head (λ texts stand. behind texts report_files stand
     (unused_of report_files reports (map (report_at remaining) c.deref_mut-2.result.now)
     same_reports begun)) is.merged) c.write_all_taken.ensures.begun
+
+-- ---- which text a fault names
+pub returns-in_err-sources-clause-named : goal.returns-in_err-sources-clause-named
+returns-in_err-sources-clause-named g c =
+    let p = err_from_is_err_and c.from_residual.result c.from_residual.ensures.1 in
+    let size : c.len-first.result ≡ length c.args.ledgers.items =
+    omega (arith, c.len-first.ensures, c.args.ledgers.ok.0) in
+    rw (p.1, p.2) (inl (among_below (length c.args.ledgers.items) _ (omega (arith, size))
+    c.in_err-sources.ensures.named))
+
+pub returns-in_err-sources-clause-wrong : goal.returns-in_err-sources-clause-wrong
+returns-in_err-sources-clause-wrong g c =
+    let p = err_from_is_err_and c.from_residual.result c.from_residual.ensures.1 in
+    rw (p.1, p.2) (λ files report_files same same_reports.
+    ledger_beside files report_files _ (c.in_err-sources.ensures.wrong files same))
+
+pub returns-in_err-lefts-clause-named : goal.returns-in_err-lefts-clause-named
+returns-in_err-lefts-clause-named g c =
+    let p = err_from_is_err_and c.from_residual-in_err-lefts.result
+    c.from_residual-in_err-lefts.ensures.1 in
+    let size : c.len-first.result ≡ length c.args.ledgers.items =
+    omega (arith, c.len-first.ensures, c.args.ledgers.ok.0) in
+    rw (p.1, p.2) (inr (subst (λ first. NamesAmong first (length c.args.reports.items)
+    c.in_err-lefts.field-0.0) size c.in_err-lefts.ensures.named))
+
+pub returns-in_err-lefts-clause-wrong : goal.returns-in_err-lefts-clause-wrong
+returns-in_err-lefts-clause-wrong g c =
+    let remaining = g.R.Read.remaining in
+    let p = err_from_is_err_and c.from_residual-in_err-lefts.result
+    c.from_residual-in_err-lefts.ensures.1 in
+    let size : c.len-first.result ≡ length c.args.ledgers.items =
+    omega (arith, c.len-first.ensures, c.args.ledgers.ok.0) in
+    rw (p.1, p.2) (λ files report_files same same_reports.
+    report_beside files report_files c.len-first.result _
+    (size ∙ files_count remaining c.args.ledgers.items files same)
+    (c.in_err-lefts.ensures.wrong report_files same_reports))
+
+pub returns-in_err-write_text-clause-named : goal.returns-in_err-write_text-clause-named
+returns-in_err-write_text-clause-named g c =
+    let p = err_from_is_err_and c.from_residual-in_err-write_text.result
+    c.from_residual-in_err-write_text.ensures.1 in
+    rw (p.1, p.2) (inl (subst (NamesAmong 0 (length c.args.ledgers.items))
+    (sym c.in_err-write_text.ensures.write) tt))
+
+pub returns-in_err-write_text-clause-wrong : goal.returns-in_err-write_text-clause-wrong
+returns-in_err-write_text-clause-wrong g c =
+    let p = err_from_is_err_and c.from_residual-in_err-write_text.result
+    c.from_residual-in_err-write_text.ensures.1 in
+    rw (p.1, p.2) (λ files report_files same same_reports.
+    subst (NamesWrongBeside files report_files) (sym c.in_err-write_text.ensures.write) tt)
+
+pub returns-clause-named : goal.returns-clause-named
+returns-clause-named g c =
+    let numbers = map text_number c.deref_mut.result.now in
+    let left_numbers = map left_number c.deref_mut-2.result.now in
+    let count = length c.args.ledgers.items in
+    let first : c.len-first.result ≡ count =
+    omega (arith, c.len-first.ensures, c.args.ledgers.ok.0) in
+    let numbered : AreNumbered (λ place. place) numbers =
+    subst (λ sources. AreNumbered (λ place. place) (map text_number sources))
+    (sym c.deref_mut.ensures.value) c.in_ok-sources.ensures.numbered in
+    let left_numbered : AreNumbered (number_from count) left_numbers =
+    subst (λ first. AreNumbered (number_from first) left_numbers) first
+    (subst (λ lefts. AreNumbered (number_from c.len-first.result) (map left_number lefts))
+    (sym c.deref_mut-2.ensures.value) c.in_ok-lefts.ensures.numbered) in
+    let size : length numbers ≡ count =
+    map_length text_number c.deref_mut.result.now ∙ ap length c.deref_mut.ensures.value
+    ∙ c.in_ok-sources.ensures.count in
+    let left_size : length left_numbers ≡ length c.args.reports.items =
+    map_length left_number c.deref_mut-2.result.now ∙ ap length c.deref_mut-2.ensures.value
+    ∙ c.in_ok-lefts.ensures.count in
+    IfErr-weaker c.write_all_taken.result _ _ (λ fault one. elim one [
+      | inl ledger ↦
+          inl (among_below count fault (omega (arith, first))
+          (below_numbered count numbers fault numbered size ledger))
+      | inr report ↦
+          inr (among_numbered count (length c.args.reports.items) left_numbers fault left_numbered
+          left_size report)
+    ]) c.write_all_taken.ensures.named
+
+pub returns-clause-wrong : goal.returns-clause-wrong
+returns-clause-wrong g c =
+    let remaining = g.R.Read.remaining in
+    let ledgers = map remaining c.args.ledgers.items in
+    let reports = map remaining c.args.reports.items in
+    let numbers = map text_number c.deref_mut.result.now in
+    let left_numbers = map left_number c.deref_mut-2.result.now in
+    let first : c.len-first.result ≡ length c.args.ledgers.items =
+    omega (arith, c.len-first.ensures, c.args.ledgers.ok.0) in
+    let numbered : AreNumbered (λ place. place) numbers =
+    subst (λ sources. AreNumbered (λ place. place) (map text_number sources))
+    (sym c.deref_mut.ensures.value) c.in_ok-sources.ensures.numbered in
+    let left_numbered : AreNumbered (number_from c.len-first.result) left_numbers =
+    subst (λ lefts. AreNumbered (number_from c.len-first.result) (map left_number lefts))
+    (sym c.deref_mut-2.ensures.value) c.in_ok-lefts.ensures.numbered in
+    let are : AreBegunLedgers ledgers (map (standing remaining) c.deref_mut.result.now) =
+    subst (λ sources. AreBegunLedgers ledgers (map (standing remaining) sources))
+    (sym c.deref_mut.ensures.value) c.in_ok-sources.ensures.begun in
+    let begun : AreBegunReports reports (map (report_at remaining) c.deref_mut-2.result.now) =
+    subst (λ lefts. AreBegunReports reports (map (report_at remaining) lefts))
+    (sym c.deref_mut-2.ensures.value) c.in_ok-lefts.ensures.begun in
+    IfErr-weaker c.write_all_taken.result _ _ (λ fault wrong files report_files same same_reports.
+    merged_beside files report_files ledgers reports
+    (map (standing remaining) c.deref_mut.result.now)
+    (map (report_at remaining) c.deref_mut-2.result.now) numbers left_numbers c.len-first.result
+    fault same same_reports are begun numbered left_numbered
+    (first ∙ files_count remaining c.args.ledgers.items files same) wrong)
+    c.write_all_taken.ensures.wrong

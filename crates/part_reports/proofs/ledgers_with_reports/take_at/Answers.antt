@@ -1,9 +1,12 @@
-use Rattle.std.proofs.Common.{◌∙◌, Some, ap, arith, get_or, sym}
+use Rattle.std.proofs.Common.{◌∙◌, Some, ap, arith, get_or, map, sym}
 use Rattle.std.proofs.lemmas.Option.{slice_get-get_or}
 use Rattle.std.proofs.lemmas.Result.{IfErr-weaker, on_ok_weaker}
 use Rattle.part_reports.specs.inside.ReportsLeft.{report_at}
 use Rattle.part_reports.specs.inside.Standings.{standing}
-use Rattle.part_reports.proofs.Places.{map_at, map_of_set}
+use Rattle.part_reports.proofs.Places.{map_at, map_kept, map_of_set}
+use Rattle.part_reports.specs.inside.Told.{text_number}
+use Rattle.part_reports.specs.inside.WrongBeside.{left_number}
+use Rattle.part_reports.proofs.BesideWrong.{of_place}
 use Rattle.part_reports.proofs.ledgers_with_reports.take_at.Goals as goal
 
 pub returns-in-Some-clause-taken : goal.returns-in-Some-clause-taken
@@ -49,3 +52,42 @@ returns-in-Some-clause-refused g c =
           (slice_get-get_or lefts at c.index-lefts-at.result (omega arith));
       not_taken = refused of_texts;
     }) c.take.ensures.refused
+
+pub returns-in-Some-clause-numbers : goal.returns-in-Some-clause-numbers
+returns-in-Some-clause-numbers g c =
+    let lefts = c.args.lefts.now in
+    let at = c.args.at in
+    let left = get_or lefts at c.index-lefts-at.result in
+    map_kept left_number lefts at left c.take.new.self
+    (slice_get-get_or lefts at c.index-lefts-at.result (omega arith)) c.take.ensures.number
+
+-- ---- of which text a fault is
+pub returns-in-Some-clause-told : goal.returns-in-Some-clause-told
+returns-in-Some-clause-told g c =
+    let remaining = g.R.Read.remaining in
+    let sources = c.args.sources.now in
+    let lefts = c.args.lefts.now in
+    let at = c.args.at in
+    let source = c.index-sources-at.result in
+    let left = get_or lefts at c.index-lefts-at.result in
+    let there = slice_get-get_or sources at source (omega arith)
+    ∙ ap (λ source. Some source) (sym c.index-sources-at.is) in
+    let left_there = slice_get-get_or lefts at c.index-lefts-at.result (omega arith) in
+    IfErr-weaker c.take.result _ _ (λ fault.
+    of_place at (map text_number sources) (map left_number lefts) (map (standing remaining) sources)
+    (map (report_at remaining) lefts) source.reader.text (left_number left) _ _ fault
+    (map_at text_number sources at source there) (map_at left_number lefts at left left_there)
+    (λ not_taken. record {
+      source = standing remaining source;
+      source_there = map_at (standing remaining) sources at source there;
+      token = c.in-Some.token;
+      token_is = c.in-Some.is;
+      was = report_at remaining left;
+      there = map_at (report_at remaining) lefts at left left_there;
+      not_taken = not_taken;
+    })
+    (λ none. record {
+      left = report_at remaining left;
+      there = map_at (report_at remaining) lefts at left left_there;
+      none = none;
+    })) c.take.ensures.told

@@ -1,16 +1,22 @@
-use Rattle.std.proofs.Common.{◌≡◌, ◌∙◌, Some, None, drop, length, arith}
+use Rattle.std.proofs.Common.{◌≡◌, ◌∙◌, Some, None, drop, length, arith, inl, refl, subst}
 use Rattle.std.proofs.lemmas.List.{length-map, take_at}
 use Rattle.std.proofs.lemmas.Option.{slice_get_within}
 use Rattle.std.proofs.lemmas.Result.{IfErr-weaker, err_from_is_err_and, on_ok_weaker}
-use Rattle.std.specs.Prelude.{map}
+use Rattle.std.specs.Prelude.{map, slice_get}
 use Rattle.part_reports.specs.TokenLines.{text_of}
 use Rattle.part_reports.specs.inside.ReportsLeft.{report_at}
 use Rattle.part_reports.specs.inside.Standings.{standing}
+use Rattle.part_reports.specs.inside.Told.{NamesOneOf, NamesOnly, text_number}
+use Rattle.part_reports.specs.inside.WrongBeside.{IsOfLeft, IsOfPlace, left_number}
 use Rattle.fare_texts.proofs.Beginnings.{begins_nothing}
 use Rattle.part_reports.proofs.MergedBefore.{begun_least, begun_so_far}
 use Rattle.part_reports.proofs.Merges.{least_of, merging_stuck, merging_twin, twin_of}
 use Rattle.part_reports.proofs.ReportsMerged.{at_end, beginning, going_on, not_taken}
 use Rattle.part_reports.proofs.ReportsMerged.{something_left}
+use Rattle.part_reports.proofs.BesideWrong.{left_named, left_wrong, place_named, place_wrong}
+use Rattle.part_reports.proofs.BesideWrong.{text_wrong}
+use Rattle.part_reports.proofs.TextsWrong.{stuck_is_wrong, twin_is_wrong}
+use Rattle.part_reports.proofs.ToldOf.{one_of}
 use Rattle.part_reports.proofs.ledgers_with_reports.write_all_taken.Goals as goal
 use Rattle.tap_views.proofs.Choices.{OnErr_any}
 
@@ -31,6 +37,8 @@ loop-init g c =
           (map (standing g.R.Read.remaining) sources) (map (report_at g.R.Read.remaining) lefts)
           (g.W.Write.contents c.args.out.now) size are unused;
       same = c.in_ok-tokens.ensures;
+      texts = refl;
+      lefts = refl;
     }
 
 pub write_at-requires-clause-tokens : goal.write_at-requires-clause-tokens
@@ -122,6 +130,8 @@ loop-preserved g c =
           c.in_ok-take_at-in-Ok-Some.ensures.taken c.in_ok-write_at-in-Ok-Some.ensures.moved;
       same = take_at tokens (drop (length tokens) c.loop.tokens.items) c.loop.tokens.len size
           ∙ c.in_ok-write_at-in-Ok-Some.ensures.tokens;
+      texts = c.in_ok-write_at-in-Ok-Some.ensures.texts ∙ c.loop.invariant.texts;
+      lefts = c.take_at.ensures.numbers ∙ c.loop.invariant.lefts;
     }
 
 pub returns-in_err-tokens-clause-refused : goal.returns-in_err-tokens-clause-refused
@@ -187,3 +197,112 @@ returns-clause-begun g c = λ texts files are unused lists joined told is.
     begun_so_far texts (map (standing g.R.Read.remaining) c.loop.sources)
     (g.W.Write.contents c.args.out.now) (g.W.Write.contents c.loop.out)
     (c.loop.invariant.merging texts files are unused).merging lists joined told is
+
+-- ---- which text is named
+pub returns-in_err-take_at-in-Ok-Some-clause-named :
+    goal.returns-in_err-take_at-in-Ok-Some-clause-named
+returns-in_err-take_at-in-Ok-Some-clause-named g c =
+    let remaining = g.R.Read.remaining in
+    let p = err_from_is_err_and c.from_residual-in_err-take_at-in-Ok-Some.result
+    c.from_residual-in_err-take_at-in-Ok-Some.ensures.1 in
+    rw (p.1, p.2) (place_named c.in-Ok-Some.at (map text_number c.args.sources.now)
+    (map left_number c.args.lefts.now) (map (standing remaining) c.loop.sources)
+    (map (report_at remaining) c.loop.lefts) _
+    (subst (λ numbers. IsOfPlace c.in-Ok-Some.at numbers (map left_number c.args.lefts.now)
+    (map (standing remaining) c.loop.sources) (map (report_at remaining) c.loop.lefts)
+    c.in_err-take_at-in-Ok-Some.field-0.0) c.loop.invariant.texts
+    (subst (λ numbers. IsOfPlace c.in-Ok-Some.at (map text_number c.loop.sources) numbers
+    (map (standing remaining) c.loop.sources) (map (report_at remaining) c.loop.lefts)
+    c.in_err-take_at-in-Ok-Some.field-0.0) c.loop.invariant.lefts
+    c.in_err-take_at-in-Ok-Some.ensures.told)))
+
+pub returns-in_err-write_at-in-Ok-Some-clause-named :
+    goal.returns-in_err-write_at-in-Ok-Some-clause-named
+returns-in_err-write_at-in-Ok-Some-clause-named g c =
+    let p = err_from_is_err_and c.from_residual-in_err-write_at-in-Ok-Some.result
+    c.from_residual-in_err-write_at-in-Ok-Some.ensures.1 in
+    rw (p.1, p.2) (inl (subst (NamesOneOf _) c.loop.invariant.texts
+    (one_of _ c.in-Ok-Some.at _ c.in_err-write_at-in-Ok-Some.ensures.named)))
+
+pub returns-in-Ok-None-clause-named : goal.returns-in-Ok-None-clause-named
+returns-in-Ok-None-clause-named g c =
+    let lefts = map (report_at g.R.Read.remaining) c.loop.lefts in
+    IfErr-weaker c.finish_all.result _ _ (λ fault told.
+    inl (left_named (map text_number c.args.sources.now) lefts fault
+    (subst (λ numbers. IsOfLeft numbers lefts fault) c.loop.invariant.texts told)))
+    c.finish_all.ensures.told
+
+pub returns-in-Err-clause-named : goal.returns-in-Err-clause-named
+returns-in-Err-clause-named g c =
+    inl (subst (NamesOneOf c.fault_in.result) c.loop.invariant.texts
+    (one_of _ c.in-Err.at c.fault_in.result c.fault_in.ensures.named))
+
+-- ---- which text is wrong
+pub returns-in_err-take_at-in-Ok-Some-clause-wrong :
+    goal.returns-in_err-take_at-in-Ok-Some-clause-wrong
+returns-in_err-take_at-in-Ok-Some-clause-wrong g c =
+    let remaining = g.R.Read.remaining in
+    let ats = map (standing remaining) c.loop.sources in
+    let lefts = map (report_at remaining) c.loop.lefts in
+    let p = err_from_is_err_and c.from_residual-in_err-take_at-in-Ok-Some.result
+    c.from_residual-in_err-take_at-in-Ok-Some.ensures.1 in
+    rw (p.1, p.2) (λ texts files are unused.
+    place_wrong texts files ats lefts (g.W.Write.contents c.args.out.now)
+    (g.W.Write.contents c.loop.out) c.in-Ok-Some.at (map text_number c.args.sources.now)
+    (map left_number c.args.lefts.now) _ (c.loop.invariant.merging texts files are unused)
+    (subst (λ numbers. IsOfPlace c.in-Ok-Some.at numbers (map left_number c.args.lefts.now)
+    ats lefts c.in_err-take_at-in-Ok-Some.field-0.0) c.loop.invariant.texts
+    (subst (λ numbers. IsOfPlace c.in-Ok-Some.at (map text_number c.loop.sources) numbers
+    ats lefts c.in_err-take_at-in-Ok-Some.field-0.0) c.loop.invariant.lefts
+    c.in_err-take_at-in-Ok-Some.ensures.told)))
+
+pub returns-in_err-write_at-in-Ok-Some-clause-wrong :
+    goal.returns-in_err-write_at-in-Ok-Some-clause-wrong
+returns-in_err-write_at-in-Ok-Some-clause-wrong g c =
+    let remaining = g.R.Read.remaining in
+    let sources = c.loop.sources in
+    let fault = c.in_err-write_at-in-Ok-Some.field-0.0 in
+    let least = least_of remaining sources c.deref.result.now c.loop.tokens.items
+    c.in-Ok-Some.field-0 (Some c.in-Ok-Some.at) c.deref.ensures.value c.loop.invariant.same
+    c.in-Ok-Some.ensures c.in-Ok-Some.field-0-is in
+    let p = err_from_is_err_and c.from_residual-in_err-write_at-in-Ok-Some.result
+    c.from_residual-in_err-write_at-in-Ok-Some.ensures.1 in
+    rw (p.1, p.2) (λ texts files are unused.
+    text_wrong texts files (map text_number c.args.sources.now) (map left_number c.args.lefts.now)
+    fault
+    (stuck_is_wrong texts (map (standing remaining) sources) (g.W.Write.contents c.args.out.now)
+    (g.W.Write.contents c.loop.out) (c.loop.invariant.merging texts files are unused).merging
+    c.in-Ok-Some.at least (map text_number c.args.sources.now) fault
+    (subst (λ numbers. NamesOnly fault (slice_get numbers c.in-Ok-Some.at)) c.loop.invariant.texts
+    c.in_err-write_at-in-Ok-Some.ensures.named) c.in_err-write_at-in-Ok-Some.ensures.no_taps
+    c.in_err-write_at-in-Ok-Some.ensures.refused))
+
+pub returns-in-Ok-None-clause-wrong : goal.returns-in-Ok-None-clause-wrong
+returns-in-Ok-None-clause-wrong g c =
+    let remaining = g.R.Read.remaining in
+    let sources = c.loop.sources in
+    let lefts = map (report_at remaining) c.loop.lefts in
+    let none = least_of remaining sources c.deref.result.now c.loop.tokens.items
+    c.in-Ok-None.field-0 None c.deref.ensures.value c.loop.invariant.same
+    c.in-Ok-None.ensures c.in-Ok-None.field-0-is in
+    IfErr-weaker c.finish_all.result _ _ (λ fault told texts files are unused.
+    left_wrong texts files (map (standing remaining) sources) lefts
+    (g.W.Write.contents c.args.out.now) (g.W.Write.contents c.loop.out)
+    (map text_number c.args.sources.now) (map left_number c.args.lefts.now) fault
+    (c.loop.invariant.merging texts files are unused) none
+    (subst (λ numbers. IsOfLeft numbers lefts fault) c.loop.invariant.texts told))
+    c.finish_all.ensures.told
+
+pub returns-in-Err-clause-wrong : goal.returns-in-Err-clause-wrong
+returns-in-Err-clause-wrong g c = λ texts files are unused.
+    let remaining = g.R.Read.remaining in
+    let sources = c.loop.sources in
+    let twin = twin_of remaining sources c.deref.result.now c.loop.tokens.items c.in-Err.at
+    c.deref.ensures.value c.loop.invariant.same c.in-Err.ensures in
+    text_wrong texts files (map text_number c.args.sources.now) (map left_number c.args.lefts.now)
+    c.fault_in.result
+    (twin_is_wrong texts (map (standing remaining) sources) (g.W.Write.contents c.args.out.now)
+    (g.W.Write.contents c.loop.out) (c.loop.invariant.merging texts files are unused).merging
+    c.in-Err.at twin (map text_number c.args.sources.now) c.fault_in.result
+    (subst (λ numbers. NamesOnly c.fault_in.result (slice_get numbers c.in-Err.at))
+    c.loop.invariant.texts c.fault_in.ensures.named) c.fault_in.ensures.no_taps)

@@ -5,6 +5,7 @@ use Rattle.std.proofs.lemmas.Option.{slice_get-get_or}
 use Rattle.std.proofs.lemmas.Result.{err_from_is_err_and}
 use Rattle.fare_texts.specs.WrittenOut.{Begins}
 use Rattle.part_reports.specs.inside.Standings.{MayFollowToken, Standing, standing}
+use Rattle.part_reports.specs.inside.FirstWrong.{IsOfNext}
 use Rattle.part_reports.specs.inside.Told.{NamesOnly, text_number}
 use Rattle.fare_texts.proofs.Beginnings.{begins_whole}
 use Rattle.part_reports.proofs.Places.{map_at, map_kept, map_of_set, one_at}
@@ -101,6 +102,7 @@ returns-clause-moved g c =
         read = c.in_ok-tokens.ensures.read;
         order = subst (λ head. MayFollowToken source.lines source.token head)
             c.in_ok-tokens.ensures.token c.in_ok-tokens.ensures.follows;
+        number = c.in_ok-tokens.ensures.lines;
       };
       written = subst (λ bytes. Appends old new bytes) c.line.ensures
           c.in_ok-write_text.ensures.written;
@@ -114,3 +116,26 @@ returns-clause-tokens g c =
     ∙ ap (λ head. slice_set (map (λ source. source.token) sources) at head)
     c.in_ok-tokens.ensures.token
     ∙ sym (map_of_set (λ source. source.token) sources at c.advance.new.self)
+
+-- ---- which line is wrong
+pub returns-in_err-write_text-clause-next : goal.returns-in_err-write_text-clause-next
+returns-in_err-write_text-clause-next g c =
+    let p = err_from_is_err_and c.from_residual.result c.from_residual.ensures.1 in
+    rw (p.1, p.2) (λ was there.
+    subst (IsOfNext was.behind was.token was.left was.number)
+    (sym c.in_err-write_text.ensures.write) tt)
+
+pub returns-in_err-tokens-clause-next : goal.returns-in_err-tokens-clause-next
+returns-in_err-tokens-clause-next g c =
+    let sources = c.args.sources.now in
+    let at = c.args.at in
+    let source = get_or sources at c.index-sources-at.result in
+    let p = err_from_is_err_and c.from_residual-in_err-tokens.result
+    c.from_residual-in_err-tokens.ensures.1 in
+    rw (p.1, p.2) (λ was there.
+    subst (λ (at : Standing). IsOfNext at.behind at.token at.left at.number
+    c.in_err-tokens.field-0.0)
+    (one_at (map (standing g.R.Read.remaining) sources) at (standing g.R.Read.remaining source) was
+    (map_at (standing g.R.Read.remaining) sources at source
+    (slice_get-get_or sources at c.index-sources-at.result c.requires.within)) there)
+    c.in_err-tokens.ensures.next)

@@ -9,6 +9,8 @@ use Rattle.fare_texts.proofs.Beginnings.{begins_nothing}
 use Rattle.part_reports.proofs.MergedBefore.{begun_least, begun_so_far}
 use Rattle.part_reports.proofs.Merges.{least_of, merging_end, merging_first, merging_next}
 use Rattle.part_reports.proofs.Merges.{merging_stuck, merging_twin, twin_of}
+use Rattle.part_reports.proofs.FirstLines.{counted_on}
+use Rattle.part_reports.proofs.FirstWrongs.{stuck_first, twin_first}
 use Rattle.part_reports.proofs.ToldOf.{one_of}
 use Rattle.part_reports.proofs.TextsWrong.{stuck_is_wrong, twin_is_wrong}
 use Rattle.part_reports.proofs.merging.write_merged.Goals as goal
@@ -19,6 +21,7 @@ loop-init g c = record {
       (g.W.Write.contents c.args.out.now) are;
   same = c.in_ok-tokens.ensures;
   texts = refl;
+  counted = λ files are. are;
 }
 
 pub write_at-requires-clause-tokens : goal.write_at-requires-clause-tokens
@@ -80,6 +83,10 @@ loop-preserved g c =
       same = take_at tokens (drop (length tokens) c.loop.tokens.items) c.loop.tokens.len size
           ∙ c.in_ok-write_at-in-Ok-Some.ensures.tokens;
       texts = c.in_ok-write_at-in-Ok-Some.ensures.texts ∙ c.loop.invariant.texts;
+      counted = λ files are. counted_on files (map (standing remaining) sources)
+          (map (standing remaining) c.write_at.new.sources) (g.W.Write.contents c.loop.out)
+          (g.W.Write.contents c.write_at.new.out) c.in-Ok-Some.at least
+          c.in_ok-write_at-in-Ok-Some.ensures.moved (c.loop.invariant.counted files are);
     }
 
 -- nothing was written
@@ -162,3 +169,35 @@ returns-in-Err-clause-wrong g c = λ texts are.
     (map text_number c.args.sources.now) c.fault_in.result
     (subst (λ numbers. NamesOnly c.fault_in.result (slice_get numbers c.in-Err.at))
     c.loop.invariant.texts c.fault_in.ensures.named) c.fault_in.ensures.no_taps
+
+-- ---- which line is the first wrong one
+pub returns-in_err-write_at-in-Ok-Some-clause-first :
+    goal.returns-in_err-write_at-in-Ok-Some-clause-first
+returns-in_err-write_at-in-Ok-Some-clause-first g c =
+    let remaining = g.R.Read.remaining in
+    let sources = c.loop.sources in
+    let fault = c.in_err-write_at-in-Ok-Some.field-0.0 in
+    let least = least_of remaining sources c.deref.result.now c.loop.tokens.items
+    c.in-Ok-Some.field-0 (Some c.in-Ok-Some.at) c.deref.ensures.value c.loop.invariant.same
+    c.in-Ok-Some.ensures c.in-Ok-Some.field-0-is in
+    let p = err_from_is_err_and c.from_residual-in_err-write_at-in-Ok-Some.result
+    c.from_residual-in_err-write_at-in-Ok-Some.ensures.1 in
+    rw (p.1, p.2) (λ texts files are counted.
+    stuck_first texts files (map (standing remaining) sources)
+    (g.W.Write.contents c.args.out.now) (g.W.Write.contents c.loop.out)
+    (c.loop.invariant.merging texts are) c.in-Ok-Some.at least
+    (c.loop.invariant.counted files counted) (map text_number c.args.sources.now) fault
+    (subst (λ numbers. NamesOnly fault (slice_get numbers c.in-Ok-Some.at)) c.loop.invariant.texts
+    c.in_err-write_at-in-Ok-Some.ensures.named) c.in_err-write_at-in-Ok-Some.ensures.next)
+
+pub returns-in-Err-clause-first : goal.returns-in-Err-clause-first
+returns-in-Err-clause-first g c = λ texts files are counted.
+    let remaining = g.R.Read.remaining in
+    let sources = c.loop.sources in
+    let twin = twin_of remaining sources c.deref.result.now c.loop.tokens.items c.in-Err.at
+    c.deref.ensures.value c.loop.invariant.same c.in-Err.ensures in
+    twin_first texts files (map (standing remaining) sources) (g.W.Write.contents c.args.out.now)
+    (g.W.Write.contents c.loop.out) (c.loop.invariant.merging texts are) c.in-Err.at twin
+    (c.loop.invariant.counted files counted) (map text_number c.args.sources.now) c.fault_in.result
+    (subst (λ numbers. NamesOnly c.fault_in.result (slice_get numbers c.in-Err.at))
+    c.loop.invariant.texts c.fault_in.ensures.named) c.fault_in.ensures.number

@@ -1,5 +1,6 @@
 use Rattle.std.proofs.Common.{◌≡◌, ℕ, List, map}
 use Rattle.std.specs.List.{AllZip}
+use Rattle.part_reports.specs.inside.FirstWrong.{IsCounted}
 use Rattle.part_reports.specs.inside.Standings.{StandsInText, standing}
 use Rattle.part_reports.specs.inside.Told.{text_number}
 use Rattle.part_reports.specs.declared.merging.LineKind.{LineKind}
@@ -14,4 +15,7 @@ invariant-loop g l = record {
       (g.W.Write.contents l.fn.out) (g.W.Write.contents l.out);
   same : l.tokens.items ≡ map (λ source. source.token) l.sources;
   texts : map text_number l.sources ≡ map text_number l.fn.sources;
+  counted : (files : List (List ℕ))
+      → AllZip IsCounted files (map (standing g.R.Read.remaining) l.fn.sources)
+      → AllZip IsCounted files (map (standing g.R.Read.remaining) l.sources);
 }

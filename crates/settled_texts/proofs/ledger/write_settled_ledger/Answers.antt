@@ -3,7 +3,10 @@ use Rattle.std.proofs.Common.{ℕ, List, [], ◌++◌, string_bytes, subst, ◌�
 use Rattle.std.specs.Io.KnownBytes.{Appends}
 use Rattle.fare_texts.specs.LedgerLines.{head_text}
 use Rattle.fare_texts.proofs.Along.{ledger_along}
-use Rattle.fare_texts.proofs.PieceWriting.{come_first, last_out}
+use Rattle.std.proofs.lemmas.Result.{err_from_is_err_and}
+use Rattle.fare_texts.specs.WrittenOut.{Begins}
+use Rattle.fare_texts.proofs.Beginnings.{goes_last, goes_then}
+use Rattle.fare_texts.proofs.PieceWriting.{come_first}
 use Rattle.settlement.specs.Posted.{posted}
 use Rattle.settled_texts.proofs.Joined.{joined}
 use Rattle.settled_texts.proofs.Rows.{canonical_falls, posted_falls}
@@ -32,8 +35,47 @@ returns-clause-ok g c =
           no_fall) told.1.are,
       subst (λ (head : List ℕ). Appends (g.W.Write.contents c.args.out.now)
           (g.W.Write.contents c.pass_on.new.out) (head ++ told.0)) c.in_ok-text.ensures
-          (last_out (g.W.Write.contents c.args.out.now) (g.W.Write.contents c.write_lists.new.out)
+          (goes_last (g.W.Write.contents c.args.out.now) (g.W.Write.contents c.write_lists.new.out)
           (g.W.Write.contents c.pass_on.new.out) (string_bytes c.in_ok-text.text)
-          (string_bytes c.write_lists.new.text) (string_bytes c.pass_on.new.text) told.0 told.2
-          c.in_ok-pass_on.ensures.kept c.in_ok-pass_on.ensures.empty),
+          (string_bytes c.write_lists.new.text) told.0 told.2 c.in_ok-pass_on.ensures.whole),
     )
+
+-- ---- what a write that failed left
+pub returns-in_err-write_lists-clause-begun : goal.returns-in_err-write_lists-clause-begun
+returns-in_err-write_lists-clause-begun g c =
+    let fares = c.args.table.now in
+    let taps = joined c.args.lists.now in
+    let p = err_from_is_err_and c.from_residual-in_err-write_lists.result
+    c.from_residual-in_err-write_lists.ensures.1 in
+    let told = c.in_err-write_lists.ensures.begun []
+    (come_first fares c.of-teller.result (c.of-teller.ensures.told fares)) in
+    let no_fall = canonical_falls c.of-teller.result.token taps
+    (c.of-teller.ensures.token ∙ c.least_token.ensures) c.requires.named c.requires.sorted in
+    rw p.1 (λ write. (
+      head_text ++ told.0,
+      ledger_along fares (posted fares taps) told.0 (posted_falls fares c.of-teller.result.token taps
+          no_fall) told.1,
+      subst (λ (head : List ℕ). Begins (g.W.Write.contents c.args.out.now)
+          (g.W.Write.contents c.write_lists.new.out) (head ++ told.0)) c.in_ok-text.ensures told.2,
+    ))
+
+pub returns-in_err-pass_on-clause-begun : goal.returns-in_err-pass_on-clause-begun
+returns-in_err-pass_on-clause-begun g c =
+    let fares = c.args.table.now in
+    let taps = joined c.args.lists.now in
+    let p = err_from_is_err_and c.from_residual-in_err-pass_on.result
+    c.from_residual-in_err-pass_on.ensures.1 in
+    let told = c.in_ok-write_lists.ensures.told []
+    (come_first fares c.of-teller.result (c.of-teller.ensures.told fares)) in
+    let no_fall = canonical_falls c.of-teller.result.token taps
+    (c.of-teller.ensures.token ∙ c.least_token.ensures) c.requires.named c.requires.sorted in
+    rw p.1 (λ write. (
+      head_text ++ told.0,
+      ledger_along fares (posted fares taps) told.0 (posted_falls fares c.of-teller.result.token taps
+          no_fall) told.1.are,
+      subst (λ (head : List ℕ). Begins (g.W.Write.contents c.args.out.now)
+          (g.W.Write.contents c.pass_on.new.out) (head ++ told.0)) c.in_ok-text.ensures
+          (goes_then (g.W.Write.contents c.args.out.now) (g.W.Write.contents c.write_lists.new.out)
+          (g.W.Write.contents c.pass_on.new.out) (string_bytes c.in_ok-text.text)
+          (string_bytes c.write_lists.new.text) told.0 told.2 c.in_err-pass_on.ensures.begun),
+    ))

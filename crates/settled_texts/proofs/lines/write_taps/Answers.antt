@@ -1,19 +1,20 @@
 -- Each round tells a stride more.
-use Rattle.std.proofs.Common.{◌≡◌, ◌<◌, ◌++◌, ◌==◌, false, true, List, [], length, string_bytes}
-use Rattle.std.proofs.Common.{refl, sym, ap, subst, ◌∙◌, append_assoc, arith, length-append}
-use Rattle.std.specs.Io.KnownBytes.{append_known}
-use Rattle.std.proofs.KnownBytes.{Appends-kept, Appends-nil}
+use Rattle.std.proofs.Common.{◌≡◌, ◌<◌, ◌++◌, ◌==◌, false, true, List, [], length}
+use Rattle.std.proofs.Common.{string_bytes, refl, sym, ap, subst, ◌∙◌, append_assoc, append-nil}
+use Rattle.std.proofs.Common.{arith, length-append}
+use Rattle.std.proofs.lemmas.Result.{err_from_is_err_and}
+use Rattle.fare_texts.proofs.Beginnings.{begins_nothing, goes_grown, goes_nothing, goes_passed}
+use Rattle.std.proofs.lemmas.Bool.{eqb-true}
 use Rattle.std.proofs.lemmas.Bool.Decides.{nat_tests}
 use Rattle.std.proofs.lemmas.List.Elements.{All-drop, All-same, All-take}
 use Rattle.tap_views.specs.declared.token.Token.{Token}
 use Rattle.tap_views.specs.Layout.{moment_limit}
 use Rattle.tap_views.specs.declared.encoder.TapFields.{TapFields}
 use Rattle.tap_views.proofs.Lists.{all_done}
-use Rattle.fare_texts.proofs.PieceWriting.{grown}
 use Rattle.settlement.specs.Posted.{posted_after}
 use Rattle.settled_texts.specs.Telling.{AreTold, last_token}
 use Rattle.settled_texts.proofs.Tellings.{fall_within, halves_of, last_append, none_told}
-use Rattle.settled_texts.proofs.Tellings.{told_append}
+use Rattle.settled_texts.proofs.Tellings.{told_append, told_begun}
 use Rattle.settled_texts.proofs.lines.write_taps.Goals as goal
 
 abbrev Early : TapFields → Type 0
@@ -27,7 +28,7 @@ loop-rest-init g c = record {
   told = λ earlier come. (
     [],
     none_told c.args.table.now earlier c.args.teller.now come,
-    Appends-nil (append_known (g.W.Write.contents c.args.out.now) (string_bytes c.args.text.now)),
+    goes_nothing (g.W.Write.contents c.args.out.now) (string_bytes c.args.text.now),
   );
   token = refl;
   few = omega arith;
@@ -97,9 +98,11 @@ loop-rest-preserved g c =
             told_append fares earlier inv.done stride c.loop-rest.teller c.tell_taps.new.teller
                 so_far.0
                 more.0 so_far.1 more.1,
-            Appends-kept _ _ _ (so_far.0 ++ more.0) (grown _ (g.W.Write.contents c.loop-rest.out)
-                (string_bytes c.loop-rest.text) _ so_far.0 more.0 so_far.2 more.2)
-                c.in_ok-pass_piece.ensures.kept,
+            goes_grown _ (g.W.Write.contents c.pass_piece.new.out) _
+                (string_bytes c.pass_piece.new.text) _ so_far.0 more.0
+                (goes_passed _ (g.W.Write.contents c.loop-rest.out) _ _
+                (string_bytes c.loop-rest.text) _ so_far.0 so_far.2
+                c.in_ok-pass_piece.ensures.gone) more.2,
           );
       token = next.token ∙ ap (λ (t : Token). last_token t stride) inv.token
           ∙ sym (last_append c.args.teller.now.token inv.done stride);
@@ -132,3 +135,28 @@ returns-clause-few g c =
     let same = ap length (all_done inv.done c.loop-rest.rest.now _ inv.whole
     (sym c.is_empty.ensures ∙ c.loop-rest-test.false)) in
     omega (arith, inv.few, same)
+
+-- ---- what a write that failed left
+pub returns-in_err-pass_piece-clause-begun : goal.returns-in_err-pass_piece-clause-begun
+returns-in_err-pass_piece-clause-begun g c =
+    let inv = c.loop-rest.invariant in
+    let p = err_from_is_err_and c.from_residual.result c.from_residual.ensures.1 in
+    rw p.1 (λ earlier come.
+    let so_far = inv.told earlier come in
+    told_begun c.args.table.now earlier inv.done c.loop-rest.rest.now c.args.taps.now
+    c.loop-rest.teller so_far.0 (g.W.Write.contents c.args.out.now)
+    (g.W.Write.contents c.loop-rest.out) (g.W.Write.contents c.pass_piece.new.out)
+    (string_bytes c.args.text.now) (string_bytes c.loop-rest.text) inv.whole so_far.1 so_far.2
+    c.in_err-pass_piece.ensures.begun)
+
+pub returns-in_default-clause-begun : goal.returns-in_default-clause-begun
+returns-in_default-clause-begun g c = λ earlier come.
+    let inv = c.loop-rest.invariant in
+    let so_far = inv.told earlier come in
+    let out = g.W.Write.contents c.pass_piece.new.out in
+    told_begun c.args.table.now earlier inv.done c.loop-rest.rest.now c.args.taps.now
+    c.loop-rest.teller so_far.0 (g.W.Write.contents c.args.out.now) out out
+    (string_bytes c.args.text.now) (string_bytes c.pass_piece.new.text) inv.whole so_far.1
+    (goes_passed _ (g.W.Write.contents c.loop-rest.out) _ _ (string_bytes c.loop-rest.text) _
+    so_far.0 so_far.2 c.in_ok-pass_piece.ensures.gone)
+    (begins_nothing out (string_bytes c.pass_piece.new.text))

@@ -1,9 +1,7 @@
 -- Each turn writes a round more.
-use Rattle.std.proofs.Common.{◌≡◌, ◌==◌, true, All, List, [], ◌++◌, length, string_bytes, refl, sym}
-use Rattle.std.proofs.Common.{ap, subst, ◌∙◌, append_assoc, append-nil, arith, length-append, Vec}
-use Rattle.std.proofs.Common.{Global}
-use Rattle.std.specs.Io.KnownBytes.{append_known}
-use Rattle.std.proofs.KnownBytes.{Appends-nil, Appends-trans}
+use Rattle.std.proofs.Common.{◌≡◌, ◌==◌, true, All, List, [], ◌++◌, length, string_bytes, refl, sym, ap}
+use Rattle.std.proofs.Common.{subst, ◌∙◌, append_assoc, append-nil, arith, length-append, Vec, Global}
+use Rattle.fare_texts.proofs.Beginnings.{goes_nothing, goes_on}
 use Rattle.std.proofs.lemmas.Bool.{eqb-true}
 use Rattle.std.proofs.lemmas.List.{nil_from_length}
 use Rattle.tap_views.specs.declared.token.Token.{Token}
@@ -13,7 +11,8 @@ use Rattle.settlement.specs.Posted.{posted_after}
 use Rattle.settled_texts.specs.Telling.{AreTold, last_token}
 use Rattle.settled_texts.proofs.Joined.{Early, joined, joined_append}
 use Rattle.settled_texts.proofs.Tellings.{fall_within, halves_of, last_append, none_told}
-use Rattle.settled_texts.proofs.Tellings.{told_append}
+use Rattle.settled_texts.proofs.Tellings.{told_append, told_begun_on}
+use Rattle.std.proofs.lemmas.Result.{err_from_is_err_and}
 use Rattle.settled_texts.proofs.rounds.write_lists.Goals as goal
 
 -- the taps of a round, and of the lists behind it
@@ -36,7 +35,7 @@ loop-rest-init g c = record {
   told = λ earlier come. (
     [],
     none_told c.args.table.now earlier c.args.teller.now come,
-    Appends-nil (append_known (g.W.Write.contents c.args.out.now) (string_bytes c.args.text.now)),
+    goes_nothing (g.W.Write.contents c.args.out.now) (string_bytes c.args.text.now),
   );
   token = refl;
   few = omega arith;
@@ -112,7 +111,7 @@ loop-rest-preserved g c =
                 (so_far.0 ++ lines.0)) (sym more) (told_append fares earlier (joined inv.done)
                 (joined round) c.loop-rest.teller c.write_round.new.teller so_far.0 lines.0 so_far.1
                 lines.1),
-            Appends-trans _ _ _ so_far.0 lines.0 so_far.2 lines.2,
+            goes_on _ _ _ _ _ _ so_far.0 lines.0 so_far.2 lines.2,
           );
       token = next.token ∙ ap (λ (t : Token). last_token t (joined round)) inv.token
           ∙ sym (ap (last_token c.args.teller.now.token) more
@@ -139,3 +138,24 @@ returns-clause-told g c = λ earlier come.
           c.loop-rest.teller so_far.0) same so_far.1,
       so_far.2,
     )
+
+-- ---- what a write that failed left
+pub returns-in_err-write_round-clause-begun : goal.returns-in_err-write_round-clause-begun
+returns-in_err-write_round-clause-begun g c =
+    let fares = c.args.table.now in
+    let inv = c.loop-rest.invariant in
+    let round = c.split_at.result.0.now in
+    let behind = c.split_at.result.1.now in
+    let halves = halves_of c.min.result c.loop-rest.rest.now round behind c.split_at.ensures.front
+    c.split_at.ensures.back in
+    let p = err_from_is_err_and c.from_residual.result c.from_residual.ensures.1 in
+    rw p.1 (λ earlier come.
+    let so_far = inv.told earlier come in
+    let next = c.in_err-write_round.ensures.begun
+    (earlier ++ posted_after fares earlier (joined inv.done)) so_far.1.come in
+    told_begun_on fares earlier (joined inv.done) (joined round) (joined behind)
+    (joined c.args.lists.now) c.loop-rest.teller so_far.0 next.0 (g.W.Write.contents c.args.out.now)
+    (g.W.Write.contents c.loop-rest.out) (g.W.Write.contents c.write_round.new.out)
+    (string_bytes c.args.text.now) (string_bytes c.loop-rest.text)
+    (joined_whole inv.done c.loop-rest.rest.now round behind c.args.lists.now inv.whole halves)
+    so_far.1 next.1 so_far.2 next.2)

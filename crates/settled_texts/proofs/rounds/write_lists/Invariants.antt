@@ -1,8 +1,8 @@
 use Rattle.std.proofs.Common.{◌≡◌, ℕ, ◌+◌, ◌≤◌, List, ◌++◌, length, string_bytes, All, Vec, Global}
-use Rattle.std.specs.Io.KnownBytes.{Appends, append_known}
 use Rattle.tap_views.specs.declared.encoder.TapFields.{TapFields}
 use Rattle.shard_book.specs.declared.entry.Entry.{Entry}
 use Rattle.fare_texts.specs.Lines.{HasCome}
+use Rattle.fare_texts.specs.WrittenOut.{GoesOut}
 use Rattle.settled_texts.specs.Telling.{AreTold, last_token}
 use Rattle.settled_texts.proofs.Joined.{Early, joined}
 use Rattle.settled_texts.proofs.rounds.write_lists.Given as goal
@@ -15,8 +15,8 @@ invariant-loop-rest g l = record {
   early : All Early (joined l.rest);
   told : (earlier : List Entry) → HasCome l.table l.fn.teller earlier
       → (lines : List ℕ) × AreTold l.table earlier (joined done) l.teller lines
-      × Appends (append_known (g.W.Write.contents l.fn.out) (string_bytes l.fn.text))
-      (append_known (g.W.Write.contents l.out) (string_bytes l.text)) lines;
+      × GoesOut (g.W.Write.contents l.fn.out) (string_bytes l.fn.text)
+      (g.W.Write.contents l.out) (string_bytes l.text) lines;
   token : l.teller.token ≡ last_token l.fn.teller.token (joined done);
   few : l.teller.number ≤ l.fn.teller.number + length (joined done);
 }

@@ -2,8 +2,7 @@
 use Rattle.std.proofs.Common.{◌≡◌, ◌+◌, List, [], ◌++◌, Some, drop, get_or, length, take}
 use Rattle.std.proofs.Common.{string_bytes, refl, sym, ap, subst, ◌∙◌, arith}
 use Rattle.std.proofs.Common.{length-append, option_map, Vec, Global}
-use Rattle.std.specs.Io.KnownBytes.{append_known}
-use Rattle.std.proofs.KnownBytes.{Appends-nil, Appends-trans}
+use Rattle.fare_texts.proofs.Beginnings.{goes_nothing, goes_on}
 use Rattle.std.proofs.lemmas.List.{take_all}
 use Rattle.std.proofs.lemmas.List.Elements.{All-same}
 use Rattle.std.proofs.lemmas.Option.{slice_get-get_or, slice_get-map}
@@ -14,6 +13,8 @@ use Rattle.settled_texts.specs.inside.Seats.{HasSat}
 use Rattle.settled_texts.specs.Telling.{AreTold, NoTapFallsFrom, last_token}
 use Rattle.settled_texts.proofs.Joined.{Early, at_lent, joined, joined_at, joined_more, sound_at}
 use Rattle.settled_texts.proofs.Tellings.{fall_within, last_append, none_told, told_append}
+use Rattle.settled_texts.proofs.Tellings.{told_begun_on}
+use Rattle.std.proofs.lemmas.Result.{err_from_is_err_and}
 use Rattle.settled_texts.proofs.rounds.write_round.Goals as goal
 
 pub sit-requires-clause-sound : goal.sit-requires-clause-sound
@@ -26,7 +27,7 @@ loop-place-init g c = record {
   told = λ earlier come. (
     [],
     none_told c.args.table.now earlier c.args.teller.now come,
-    Appends-nil (append_known (g.W.Write.contents c.args.out.now) (string_bytes c.args.text.now)),
+    goes_nothing (g.W.Write.contents c.args.out.now) (string_bytes c.args.text.now),
   );
   token = refl;
   few = omega arith;
@@ -113,7 +114,7 @@ loop-place-preserved g c =
             subst (λ (ts : List TapFields). AreTold fares earlier ts c.write_list.new.teller
                 (so_far.0 ++ lines.0)) (sym more) (told_append fares earlier before list
                 c.loop-place.teller c.write_list.new.teller so_far.0 lines.0 so_far.1 lines.1),
-            Appends-trans _ _ _ so_far.0 lines.0 so_far.2 lines.2,
+            goes_on _ _ _ _ _ _ so_far.0 lines.0 so_far.2 lines.2,
           );
       token = next.token ∙ ap (λ (t : Token). last_token t list) inv.token
           ∙ sym (ap (last_token c.args.teller.now.token) more
@@ -132,3 +133,27 @@ returns-clause-told g c = λ earlier come.
           c.loop-place.teller so_far.0) all so_far.1,
       so_far.2,
     )
+
+-- ---- what a write that failed left
+pub returns-in_err-write_list-clause-begun : goal.returns-in_err-write_list-clause-begun
+returns-in_err-write_list-clause-begun g c =
+    let fares = c.args.table.now in
+    let round = c.args.round.now in
+    let place = c.loop-place.place in
+    let list = c.deref.result.now in
+    let before = joined (take place round) in
+    let behind = joined (drop (place + 1) round) in
+    let here = c.deref.ensures.value
+    ∙ ap (λ (v : Vec TapFields Global). v.items) c.index-round-place.is in
+    let whole : before ++ (list ++ behind) ≡ joined round =
+    ap (λ (ts : List TapFields). before ++ (ts ++ behind)) here
+    ∙ joined_at round place c.index-round-place.result c.loop-place-test.true in
+    let p = err_from_is_err_and c.from_residual.result c.from_residual.ensures.1 in
+    rw p.1 (λ earlier come.
+    let so_far = c.loop-place.invariant.told earlier come in
+    let next = c.in_err-write_list.ensures.begun (earlier ++ posted_after fares earlier before)
+    so_far.1.come in
+    told_begun_on fares earlier before list behind (joined round) c.loop-place.teller so_far.0
+    next.0 (g.W.Write.contents c.args.out.now) (g.W.Write.contents c.loop-place.out)
+    (g.W.Write.contents c.write_list.new.out) (string_bytes c.args.text.now)
+    (string_bytes c.loop-place.text) whole so_far.1 next.1 so_far.2 next.2)

@@ -1,5 +1,5 @@
 -- Each round tells a stride more.
-use Rattle.std.proofs.Common.{◌≡◌, ℕ, ◌<◌, ◌++◌, ◌==◌, false, true, List, [], length}
+use Rattle.std.proofs.Common.{◌≡◌, ℕ, ◌<◌, ◌++◌, ◌==◌, false, true, List, [], drop, length}
 use Rattle.std.proofs.Common.{string_bytes, refl, sym, ap, subst, ◌∙◌, append_assoc, append-nil}
 use Rattle.std.proofs.Common.{arith, length-append}
 use Rattle.std.specs.Io.KnownBytes.{Appends}
@@ -11,8 +11,13 @@ use Rattle.tap_views.specs.declared.encoder.TapFields.{TapFields}
 use Rattle.tap_views.specs.declared.token.Token.{Token}
 use Rattle.settlement.specs.Posted.{posted_after}
 use Rattle.settled_texts.specs.Telling.{AreTold, last_token}
-use Rattle.settled_texts.proofs.Tellings.{fall_within, halves_of, last_append, none_told}
-use Rattle.settled_texts.proofs.Tellings.{told_append}
+use Rattle.settled_texts.proofs.Tellings.{fall_within, halves_of, last_append, none_told, told_all}
+use Rattle.settled_texts.proofs.Tellings.{told_append, told_then}
+use Rattle.std.proofs.lemmas.Result.{err_from_is_err_and}
+use Rattle.fare_texts.specs.WrittenOut.{Begins}
+use Rattle.fare_texts.proofs.Beginnings.{begins_front, begins_more, begins_whole}
+use Rattle.settled_texts.specs.Columns.{columns_by, with_columns}
+use Rattle.settled_texts.specs.inside.Feeds.{feeds}
 use Rattle.settled_texts.specs.Names.{class_by}
 use Rattle.settled_texts.specs.Traces.{taps_of_trace}
 use Rattle.settled_texts.specs.declared.trace.TracedTap.{TracedTap}
@@ -138,4 +143,56 @@ returns-clause-told g c =
           c.loop-rest.teller inv.lines)
           same inv.told,
       inv.appended,
+    )
+
+-- ---- what a write that failed left
+pub returns-in_err-tell-clause-begun : goal.returns-in_err-tell-clause-begun
+returns-in_err-tell-clause-begun g c =
+    let fares = c.args.table.now in
+    let inv = c.loop-rest.invariant in
+    let trace = c.args.trace.now in
+    let classes = class_by c.args.names.now in
+    let whole : taps_of_trace inv.done ++ taps_of_trace c.loop-rest.rest.now ≡ taps_of_trace trace =
+    sym (taps_append inv.done c.loop-rest.rest.now) ∙ ap (λ ts. taps_of_trace ts) inv.whole in
+    let all = told_all fares [] (taps_of_trace inv.done) (taps_of_trace c.loop-rest.rest.now)
+    (taps_of_trace trace) c.loop-rest.teller inv.lines whole inv.told in
+    let p = err_from_is_err_and c.from_residual.result c.from_residual.ensures.1 in
+    rw p.1 (
+      inv.lines ++ all.0,
+      all.1,
+      subst (λ (bs : List ℕ). Begins (g.W.Write.contents c.args.out.now)
+          (g.W.Write.contents c.loop-rest.out) bs)
+          (sym (columns_on classes inv.lines all.0 trace c.loop-rest.left.now inv.left))
+          (begins_front _ _ _ _ (begins_whole _ _ _ inv.appended)),
+    )
+
+pub returns-in_err-left-clause-begun : goal.returns-in_err-left-clause-begun
+returns-in_err-left-clause-begun g c =
+    let fares = c.args.table.now in
+    let inv = c.loop-rest.invariant in
+    let stride = c.split_at.result.0.now in
+    let behind = c.split_at.result.1.now in
+    let trace = c.args.trace.now in
+    let left = c.loop-rest.left.now in
+    let classes = class_by c.args.names.now in
+    let halves = halves_of c.min.result c.loop-rest.rest.now stride behind c.split_at.ensures.front
+    c.split_at.ensures.back in
+    let made = c.tell.new.self.lines.items in
+    let told = c.in_ok-tell.ensures.told (posted_after fares [] (taps_of_trace inv.done))
+    inv.told.come in
+    let all = told_then fares [] (taps_of_trace inv.done) (taps_of_trace stride)
+    (taps_of_trace behind) (taps_of_trace trace) c.loop-rest.teller inv.lines made
+    (taps_whole inv.done stride behind c.loop-rest.rest.now trace halves inv.whole) inv.told
+    told.are in
+    let p = err_from_is_err_and c.from_residual-in_err-left.result
+    c.from_residual-in_err-left.ensures.1 in
+    rw p.1 (
+      inv.lines ++ (made ++ all.0),
+      all.1,
+      subst (λ (bs : List ℕ). Begins (g.W.Write.contents c.args.out.now)
+          (g.W.Write.contents c.write.new.out) bs)
+          (sym (columns_on classes inv.lines (made ++ all.0) trace left inv.left
+          ∙ ap (λ (bs : List ℕ). with_columns inv.lines (columns_by classes trace) ++ bs)
+          (columns_on classes made all.0 left (drop (feeds made) left) refl)))
+          (begins_more _ _ _ _ _ _ inv.appended c.in_err-left.ensures.begun),
     )

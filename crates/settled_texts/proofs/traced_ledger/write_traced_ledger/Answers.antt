@@ -1,4 +1,6 @@
-use Rattle.std.proofs.Common.{ℕ, List, ◌∷◌, None, All, Vec, Global, map, refl, subst, sym}
+use Rattle.std.proofs.Common.{◌∙◌, ℕ, List, ◌∷◌, None, All, Vec, Global, map, refl, subst, sym}
+use Rattle.std.proofs.lemmas.Result.{err_from_is_err_and}
+use Rattle.fare_texts.specs.WrittenOut.{Begins}
 use Rattle.std.specs.Io.KnownBytes.{Appends}
 use Rattle.std.specs.List.Sorted.{IsSorted}
 use Rattle.tap_views.specs.Encoding.{AreEarly}
@@ -67,3 +69,33 @@ returns-clause-ok g c =
           (with_columns told.0 (head_columns ∷ columns_by classes ts)))
           c.deref.ensures.value told.2,
     )
+
+-- what a write that failed left
+pub returns-in_err-write_trace-clause-begun : goal.returns-in_err-write_trace-clause-begun
+returns-in_err-write_trace-clause-begun g c =
+    let fares = c.args.table.now in
+    let files = map bytes_in c.args.uploads.now in
+    let trace = c.in_ok-trace.trace.taps.items in
+    let classes = class_by c.args.names.now in
+    let settled = trace_settled files trace
+    c.in_ok-trace.trace.whole c.in_ok-trace.ensures c.one_reading_each.ensures
+    c.plain_history.ensures.some c.plain_history.ensures.fields in
+    let p = err_from_is_err_and c.from_residual-in_err-write_trace.result
+    c.from_residual-in_err-write_trace.ensures.1 in
+    rw p.1 (λ write.
+    let told = c.in_err-write_trace.ensures.begun (sym p.2 ∙ write) in (
+      with_columns told.0 (head_columns ∷ columns_by classes trace),
+      c.in_ok-trace.trace.whole,
+      record {
+        trace = trace;
+        is_trace = c.in_ok-trace.ensures;
+        is_settled = c.posted_taps.ensures.history fares files (taps_of_trace trace) settled;
+        untraced = told.0;
+        is_ledger = subst (λ (ts : List TracedTap). IsLedgerOver fares (posted fares (taps_of_trace ts)) None told.0)
+            c.deref.ensures.value told.1;
+        shown = refl;
+      },
+      subst (λ (ts : List TracedTap). Begins (g.W.Write.contents c.args.out.now)
+          (g.W.Write.contents c.write_trace.new.out) (with_columns told.0 (head_columns ∷ columns_by classes ts)))
+          c.deref.ensures.value told.2,
+    ))

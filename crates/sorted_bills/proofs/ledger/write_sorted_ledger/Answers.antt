@@ -9,7 +9,8 @@ use Rattle.report_texts.specs.declared.upload_end.UploadEnd.{UploadEnd}
 use Rattle.report_texts.specs.declared.upload_end.UploadEnd.TheVariants.{Posted}
 use Rattle.fare_texts.specs.LedgerLines.{head_text}
 use Rattle.fare_texts.proofs.Along.{ledger_along}
-use Rattle.fare_texts.proofs.PieceWriting.{come_first, last_out}
+use Rattle.fare_texts.proofs.Beginnings.{waits_out}
+use Rattle.fare_texts.proofs.PieceWriting.{come_first}
 use Rattle.settlement.specs.Posted.{posted}
 use Rattle.settled_texts.proofs.Rows.{posted_falls}
 use Rattle.sorted_taps.proofs.Spans.{at_end_too}
@@ -71,10 +72,10 @@ returns-clause-ok g c =
           },
       subst (λ (head : List ℕ). Appends (g.W.Write.contents c.args.out.now)
           (g.W.Write.contents c.pass_on.new.out) (head ++ told.lines)) c.in_ok-text.ensures
-          (last_out (g.W.Write.contents c.args.out.now) (g.W.Write.contents c.write_ranges.new.out)
+          (waits_out (g.W.Write.contents c.args.out.now) (g.W.Write.contents c.write_ranges.new.out)
           (g.W.Write.contents c.pass_on.new.out) (string_bytes c.in_ok-text.text)
-          (string_bytes c.write_ranges.new.text) (string_bytes c.pass_on.new.text) told.lines
-          told.appended c.in_ok-pass_on.ensures.kept c.in_ok-pass_on.ensures.empty),
+          (string_bytes c.write_ranges.new.text) told.lines told.appended
+          c.in_ok-pass_on.ensures.whole),
     )
 
 pub returns-clause-ended : goal.returns-clause-ended

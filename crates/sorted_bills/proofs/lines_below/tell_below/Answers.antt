@@ -14,6 +14,7 @@ use Rattle.sorted_taps.proofs.Spans.{come_further}
 use Rattle.sorted_bills.proofs.Counted.{late_is_late, late_says_nothing}
 use Rattle.sorted_bills.proofs.Takings.{Early}
 use Rattle.sorted_bills.proofs.Told.{told_more, told_still}
+use Rattle.fare_texts.proofs.Beginnings.{goes_appends}
 use Rattle.sorted_bills.proofs.lines_below.tell_below.Goals as goal
 
 pub loop-init : goal.loop-init
@@ -88,7 +89,7 @@ loop-preserved g c =
                 here told.1;
             up = subst (λ (t : Token). IsUpTo (last_token token taps) t)
                 (sym (next.token ∙ ap (last_token token) here)) (up_itself (last_token token taps));
-          }) told.2;
+          }) (goes_appends _ _ _ _ _ told.2);
     }
 
 pub returns-then-is_empty-clause-told : goal.returns-then-is_empty-clause-told

@@ -2,7 +2,8 @@
 -- fresh.
 use Rattle.std.proofs.Common.{ℕ, List, [], Some, Vec, Global, map, string_bytes, sym, subst, arith}
 use Rattle.std.specs.Io.KnownBytes.{append_known}
-use Rattle.fare_texts.proofs.PieceWriting.{come_first, last_out}
+use Rattle.fare_texts.proofs.Beginnings.{waits_out}
+use Rattle.fare_texts.proofs.PieceWriting.{come_first}
 use Rattle.settled_texts.specs.Telling.{AreTold}
 use Rattle.settled_texts.proofs.Tellings.{come_fresh}
 use Rattle.sorted_taps.specs.Spans.{HaveCome}
@@ -49,11 +50,9 @@ returns-clause-lines g c = λ earlier none up.
     (come_fresh fares teller earlier none up (c.requires.fresh fares))) in
     let all = all_out c.args.lines.now.items (string_bytes c.args.text.now) c.pass_on.new.out.items
     told.lines c.requires.none.0 c.requires.none.1
-    (last_out (Some c.args.lines.now.items) (Some c.tell_below.new.out.items)
-    (Some c.pass_on.new.out.items) (string_bytes c.args.text.now)
-    (string_bytes c.tell_below.new.text)
-    (string_bytes c.pass_on.new.text) told.lines told.appended c.in_ok-pass_on.ensures.kept
-    c.in_ok-pass_on.ensures.empty) in
+    (waits_out (Some c.args.lines.now.items) (Some c.tell_below.new.out.items)
+    (Some c.pass_on.new.out.items) (string_bytes c.args.text.now) (string_bytes c.tell_below.new.text)
+    told.lines told.appended c.in_ok-pass_on.ensures.whole) in
     record {
       taps = told.taps;
       spanned = λ files are. record {

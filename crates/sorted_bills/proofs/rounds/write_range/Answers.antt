@@ -4,6 +4,7 @@ use Rattle.std.specs.Io.KnownBytes.{Appends, append_known}
 use Rattle.fare_texts.specs.declared.teller.Teller.{Teller}
 use Rattle.sorted_bills.specs.inside.Told.{AreToldSoFar}
 use Rattle.sorted_bills.proofs.Told.{lines_out, told_range}
+use Rattle.fare_texts.proofs.Beginnings.{passed_keeps}
 use Rattle.sorted_bills.proofs.rounds.write_range.Goals as goal
 
 pub returns-in_err-write_out-in-Some-clause-range :
@@ -37,6 +38,5 @@ returns-in_ok-write_out-in-Some-clause-told g c = λ earlier begun from before s
     (told_range fares known earlier begun from before readers c.args.teller.now bytes more so_far
     c.args.left.now range next (c.in-Some.ensures.follows fares known c.requires.range)
     (lines_out bytes (g.W.Write.contents c.pass_on.new.out) (g.W.Write.contents c.write_out.new.out)
-    left range.lines.items c.in_ok-pass_on-in-Some.ensures.kept
-    c.in_ok-pass_on-in-Some.ensures.empty
-    wrote))
+    left range.lines.items (passed_keeps _ _ _ _ c.in_ok-pass_on-in-Some.ensures.whole
+    c.in_ok-pass_on-in-Some.ensures.empty) c.in_ok-pass_on-in-Some.ensures.empty wrote))

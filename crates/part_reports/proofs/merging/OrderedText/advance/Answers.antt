@@ -1,6 +1,8 @@
 use Rattle.std.proofs.lemmas.Bool.{false≢true}
 use Rattle.std.proofs.lemmas.Option.{IfSome_then}
+use Rattle.std.proofs.lemmas.Result.{err_from_is_err_and}
 use Rattle.part_reports.specs.inside.Standings.{MayFollowToken, standing}
+use Rattle.part_reports.proofs.FirstLines.{next_behind, next_of, order_wrong}
 use Rattle.part_reports.proofs.Firsts.{no_order}
 use Rattle.part_reports.proofs.merging.OrderedText.advance.Goals as goal
 
@@ -13,3 +15,24 @@ returns-else-may_stand-clause-refused g c = λ of_texts.
     false≢true (c.if-may_stand.ensures.1 may) in
     IfSome_then (g.R.Read.remaining c.args.self.now.reader.from) c.in_ok-read.ensures.read
     (λ text source list is. no_order lines text at before source wrong list is)
+
+-- ---- which line is wrong
+pub returns-in_err-read-clause-next : goal.returns-in_err-read-clause-next
+returns-in_err-read-clause-next g c =
+    let p = err_from_is_err_and c.from_residual.result c.from_residual.ensures.1 in
+    rw (p.1, p.2) (next_behind c.args.self.now.lines c.args.self.now.token
+    (g.R.Read.remaining c.args.self.now.reader.from) c.args.self.now.reader.lines _
+    c.in_err-read.ensures.next)
+
+pub returns-else-may_stand-clause-next : goal.returns-else-may_stand-clause-next
+returns-else-may_stand-clause-next g c =
+    let lines = c.args.self.now.lines in
+    let before = c.args.self.now.token in
+    let at = standing g.R.Read.remaining c.read.new.self in
+    let wrong : ¬ (MayFollowToken lines before c.read.new.self.token) = λ may.
+    false≢true (c.if-may_stand.ensures.1 may) in
+    next_of lines before (g.R.Read.remaining c.args.self.now.reader.from)
+    c.args.self.now.reader.lines c.read.new.self.reader.text c.read.new.self.reader.lines _
+    c.fault.ensures.told c.in_ok-read.ensures.lines
+    (IfSome_then (g.R.Read.remaining c.args.self.now.reader.from) c.in_ok-read.ensures.read
+    (λ text source. order_wrong lines text at before source wrong))

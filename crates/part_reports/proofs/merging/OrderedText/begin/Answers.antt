@@ -6,3 +6,8 @@ pub returns-in_err-read-clause-told : goal.returns-in_err-read-clause-told
 returns-in_err-read-clause-told g c =
     let p = err_from_is_err_and c.from_residual.result c.from_residual.ensures.1 in
     rw (p.1, p.2) (of_text _ _ _ _ c.read.ensures.text c.in_err-read.ensures.told)
+
+pub returns-in_err-read-clause-next : goal.returns-in_err-read-clause-next
+returns-in_err-read-clause-next g c =
+    let p = err_from_is_err_and c.from_residual.result c.from_residual.ensures.1 in
+    rw (p.1, p.2) c.in_err-read.ensures.next

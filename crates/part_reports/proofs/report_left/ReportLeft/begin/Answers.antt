@@ -9,6 +9,7 @@ use Rattle.shard_book.specs.Sums.{sums_of}
 use Rattle.part_reports.specs.inside.Standings.{standing}
 use Rattle.part_reports.specs.inside.SumsLeft.{sums_left}
 use Rattle.part_reports.proofs.ReportsLeft.{not_begun, used_none}
+use Rattle.part_reports.proofs.ReportsLeft.{none_begun}
 use Rattle.part_reports.proofs.report_left.ReportLeft.begin.Goals as goal
 
 pub returns-in_err-report-clause-refused : goal.returns-in_err-report-clause-refused
@@ -29,3 +30,17 @@ returns-clause-begun g c =
     c.no_sums-sums.ensures part (ap sums_left c.of.ensures ∙ c.new.ensures)
     (λ q. ap (λ entries. option_map sums_of (lookup (is_at (nat_cmp q)) entries))
     c.new-2.ensures.empty))
+
+pub returns-in_err-report-clause-none : goal.returns-in_err-report-clause-none
+returns-in_err-report-clause-none g c =
+    let p = err_from_is_err_and c.from_residual.result c.from_residual.ensures.1 in
+    rw (p.1, p.2)
+    (λ of_texts. IfSome_then (g.R.Read.remaining c.args.from)
+    (c.in_err-report.ensures.refused of_texts)
+    (λ file no_part. none_begun file c.no_sums-sums.result c.no_sums-sums.ensures no_part))
+
+-- ---- of which text a fault is
+pub returns-in_err-report-clause-told : goal.returns-in_err-report-clause-told
+returns-in_err-report-clause-told g c =
+    let p = err_from_is_err_and c.from_residual.result c.from_residual.ensures.1 in
+    rw (p.1, p.2) c.in_err-report.ensures.told

@@ -9,6 +9,8 @@ use Rattle.part_reports.specs.inside.Sums.{WithOne}
 use Rattle.part_reports.specs.inside.SumsLeft.{sums_left}
 use Rattle.part_reports.proofs.ChargeLines.{one_charge}
 use Rattle.part_reports.proofs.ReportsLeft.{no_charge, too_many, too_much, used_next}
+use Rattle.part_reports.specs.inside.WrongBeside.{left_number}
+use Rattle.part_reports.proofs.BesideWrong.{either_weaker, first_told, of_first}
 use Rattle.part_reports.proofs.report_left.ReportLeft.take.Goals as goal
 
 pub returns-in_err-charge-clause-refused : goal.returns-in_err-charge-clause-refused
@@ -88,3 +90,32 @@ returns-then-branch-clause-taken g c =
           (sums_left c.in_ok-before.before) (sums_left c.in-Some.rest)
           c.add_validator.new.validators used c.in_ok-before.ensures.next c.in-Some.ensures one,
     )
+
+-- ---- of which text a fault is
+pub returns-in_err-charge-clause-told : goal.returns-in_err-charge-clause-told
+returns-in_err-charge-clause-told g c =
+    let p = err_from_is_err_and c.from_residual.result c.from_residual.ensures.1 in
+    first_told c.from_residual.result c.args.ledger.now.text (left_number c.args.self.now)
+    c.args.ledger.now.lines _ _ (rw (p.1, p.2) c.in_err-charge.ensures.told)
+    (returns-in_err-charge-clause-refused g c)
+
+pub returns-in_err-before-clause-told : goal.returns-in_err-before-clause-told
+returns-in_err-before-clause-told g c =
+    let p = err_from_is_err_and c.from_residual-in_err-before.result
+    c.from_residual-in_err-before.ensures.1 in
+    let left = report_at g.R.Read.remaining c.args.self.now in
+    rw (p.1, p.2) (either_weaker c.args.ledger.now.text (left_number c.args.self.now) _ _ _ _
+    (λ none file done used charge is more add.
+    no_charge file left done charge more used
+    (subst (λ token. IsNoRest token left) (sym is.token) none) add)
+    c.in_err-before.ensures.told)
+
+pub returns-in-None-clause-told : goal.returns-in-None-clause-told
+returns-in-None-clause-told g c =
+    of_first c.args.ledger.now.text (left_number c.args.self.now) c.args.ledger.now.lines _ _ _
+    c.fault.ensures.told (returns-in-None-clause-refused g c)
+
+pub returns-else-branch-clause-told : goal.returns-else-branch-clause-told
+returns-else-branch-clause-told g c =
+    of_first c.args.ledger.now.text (left_number c.args.self.now) c.args.ledger.now.lines _ _ _
+    c.fault-else-branch.ensures.told (returns-else-branch-clause-refused g c)

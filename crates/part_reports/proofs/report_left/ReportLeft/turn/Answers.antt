@@ -6,6 +6,9 @@ use Rattle.fare_texts.specs.ReportLines.{token_line}
 use Rattle.shard_book.specs.Sums.{Sums, sums}
 use Rattle.part_reports.specs.inside.Standings.{MayFollowToken}
 use Rattle.part_reports.specs.inside.SumsLeft.{sums_left}
+use Rattle.part_reports.specs.inside.ReportsLeft.{IsNoRest, report_at}
+use Rattle.part_reports.specs.inside.WrongBeside.{HasNoReport, IsOfEither, left_number}
+use Rattle.part_reports.proofs.BesideWrong.{none_by_turn, of_first, of_second}
 use Rattle.part_reports.proofs.report_left.ReportLeft.turn.Goals as goal
 
 pub returns-then-not-is_nothing-clause-refused : goal.returns-then-not-is_nothing-clause-refused
@@ -62,8 +65,47 @@ returns-clause-next g c =
         read = c.in_ok-advance.ensures.read;
         order = subst (λ head. MayFollowToken report.lines report.token head)
             c.in_ok-advance.ensures.token c.in_ok-advance.ensures.follows;
+        number = c.in_ok-advance.ensures.lines;
       };
       token_is = refl;
       used = refl;
       validators = refl;
     })
+
+-- ---- of which text a fault is
+pub returns-then-not-is_nothing-clause-told : goal.returns-then-not-is_nothing-clause-told
+returns-then-not-is_nothing-clause-told g c =
+    let some : ¬ (sums_left c.args.self.now.rest ≡ sums []) = search rules in
+    of_first c.args.ledger.now.text (left_number c.args.self.now) c.args.ledger.now.lines _ _ _
+    c.fault.ensures.told (λ of_texts. (c.requires.other, inl some))
+
+pub returns-then-not-is_token-clause-told : goal.returns-then-not-is_token-clause-told
+returns-then-not-is_token-clause-told g c =
+    let elsewhere : c.args.self.now.report.token ≢ Some c.args.token = search rules in
+    of_first c.args.ledger.now.text (left_number c.args.self.now) c.args.ledger.now.lines _ _ _
+    c.fault-then-not-is_token.ensures.told (λ of_texts. (c.requires.other, inr (inl elsewhere)))
+
+pub returns-in_err-sum-clause-told : goal.returns-in_err-sum-clause-told
+returns-in_err-sum-clause-told g c =
+    let p = err_from_is_err_and c.from_residual.result
+    c.from_residual.ensures.1 in
+    let there : c.args.self.now.report.token ≡ Some c.args.token = search rules in
+    let none = MatchOption-at_none _ _ c.in_err-sum.ensures.none c.token_sum_of.ensures in
+    rw (p.1, p.2) (of_second c.args.ledger.now.text (left_number c.args.self.now)
+    c.args.self.now.report.reader.lines _ _ _ c.in_err-sum.ensures.told
+    (λ of_texts. none_by_turn (report_at g.R.Read.remaining c.args.self.now) c.args.token there
+    (inl (λ before line. none (line.name, before) line.is (c.line.ensures ∙ line.shown)))))
+
+pub returns-in_err-advance-clause-told : goal.returns-in_err-advance-clause-told
+returns-in_err-advance-clause-told g c =
+    let p = err_from_is_err_and c.from_residual-in_err-advance.result
+    c.from_residual-in_err-advance.ensures.1 in
+    let there : c.args.self.now.report.token ≡ Some c.args.token = search rules in
+    let left = report_at g.R.Read.remaining c.args.self.now in
+    rw (p.1, p.2) (subst (λ second. IsOfEither c.args.ledger.now.text second
+    (IsNoRest c.args.token left) (HasNoReport left) c.in_err-advance.field-0.0)
+    c.advance.ensures.text
+    (of_second c.args.ledger.now.text _ c.advance.new.self.reader.lines _ _ _
+    c.in_err-advance.ensures.told
+    (λ of_texts. none_by_turn left c.args.token there
+    (inr (c.in_err-advance.ensures.refused of_texts)))))

@@ -1,0 +1,87 @@
+-- What was done stays done where what was written is kept.
+use Rattle.std.proofs.Common.{◌≡◌, ℕ, List, Bool, true, false, Option}
+use Rattle.std.specs.Prelude.{MatchBool}
+use Rattle.std.specs.Io.KnownBytes.{Keeps}
+use Rattle.std.proofs.KnownBytes.{Appends-kept}
+use Rattle.program_manners.specs.Loads.{Loaded}
+use Rattle.fare_program.specs.Options.{Asked, lists}
+use Rattle.fare_program.specs.Program.{Does, RunsListing, RunsService, RunsSorted, RunsTraced}
+
+kept_by : (b : Bool) (A B C D : Type 0) → (A → C) → (B → D) → MatchBool b A B → MatchBool b C D
+kept_by true A B C D one other is = one is
+kept_by false A B C D one other is = other is
+
+kept_listing : (table : Option (List ℕ)) (names : List (List ℕ)) (told told' : Option (List Loaded))
+    (out out' last : Option (List ℕ)) (well : Bool) → Keeps out' last
+    → RunsListing table names told told' out out' well
+    → RunsListing table names told told' out last well
+kept_listing table names told told' out out' last well kept done = record {
+  fares = done.fares;
+  files = done.files;
+  loads = done.loads;
+  text = done.text;
+  listing = done.listing;
+  written = Appends-kept out out' last done.text done.written kept;
+}
+
+kept_service : (asked : Asked) (told told' : Option (List Loaded))
+    (out out' last : Option (List ℕ)) (well : Bool) → Keeps out' last
+    → RunsService asked told told' out out' well → RunsService asked told told' out last well
+kept_service asked told told' out out' last well kept done = record {
+  fares = done.fares;
+  files = done.files;
+  loads = done.loads;
+  token = done.token;
+  is_token = done.is_token;
+  text = done.text;
+  shows = done.shows;
+  written = Appends-kept out out' last done.text done.written kept;
+}
+
+kept_sorted : (asked : Asked) (known : List ℕ → Option (List ℕ))
+    (told told' : Option (List Loaded)) (out out' last : Option (List ℕ)) (well : Bool)
+    → Keeps out' last → RunsSorted asked known told told' out out' well
+    → RunsSorted asked known told told' out last well
+kept_sorted asked known told told' out out' last well kept done = record {
+  fares = done.fares;
+  loads = done.loads;
+  token = done.token;
+  is_token = done.is_token;
+  text = done.text;
+  shows = done.shows;
+  written = Appends-kept out out' last done.text done.written kept;
+  is_well = done.is_well;
+}
+
+kept_traced : (asked : Asked) (told told' : Option (List Loaded))
+    (out out' last : Option (List ℕ)) (well : Bool) → Keeps out' last
+    → RunsTraced asked told told' out out' well → RunsTraced asked told told' out last well
+kept_traced asked told told' out out' last well kept done = record {
+  name = done.name;
+  is_named = done.is_named;
+  table = done.table;
+  between = done.between;
+  loads_table = done.loads_table;
+  fares = done.fares;
+  means = done.means;
+  tree = done.tree;
+  parsed = done.parsed;
+  classes = done.classes;
+  are_classes = done.are_classes;
+  files = done.files;
+  loads_files = done.loads_files;
+  text = done.text;
+  shows = done.shows;
+  written = Appends-kept out out' last done.text done.written kept;
+}
+
+pub does_kept : (asked : Asked) (known : List ℕ → Option (List ℕ))
+    (told told' : Option (List Loaded)) (out out' last : Option (List ℕ)) (well : Bool)
+    → Keeps out' last → Does asked known told told' out out' well
+    → Does asked known told told' out last well
+does_kept asked known told told' out out' last well kept done =
+    kept_by asked.traced _ _ _ _ (kept_traced asked told told' out out' last well kept)
+    (kept_by (lists asked) _ _ _ _
+    (kept_listing asked.table asked.files told told' out out' last well kept)
+    (kept_by asked.sorted _ _ _ _ (kept_sorted asked known told told' out out' last well kept)
+    (kept_service asked told told' out out' last well kept))) done

@@ -1,0 +1,93 @@
+-- What a write that failed left is a beginning.
+use Rattle.std.proofs.Common.{◌≡◌, ℕ, List, [], ◌++◌, Bool, true, false, not, Option, Some, None}
+use Rattle.std.proofs.Common.{refl, sym, ap, subst, ◌∙◌, append_assoc, append-nil}
+use Rattle.std.specs.Prelude.{IfErr, OnErr, Result, Ok, Err, MatchBool, ◌&&◌, is_some}
+use Rattle.std.specs.Result.{IsErrAnd}
+use Rattle.std.specs.Io.KnownBytes.{Appends, Keeps, append_known}
+use Rattle.std.proofs.KnownBytes.{Appends-nil}
+use Rattle.fare_texts.specs.WrittenOut.{Begins}
+use Rattle.fare_texts.specs.declared.print_fault.PrintFault.{PrintFault}
+use Rattle.fare_texts.specs.declared.print_fault.PrintFault.TheVariants as print
+use Rattle.program_manners.specs.Loads.{Loaded}
+use Rattle.fare_program.specs.Begun.{HasBegun, IsBegun}
+use Rattle.fare_program.specs.Options.{Asked, lists}
+use Rattle.fare_program.specs.Program.{Does, RunsListing, RunsService, RunsSorted, RunsTraced}
+use Rattle.fare_program.specs.declared.fault.Fault.{Fault}
+use Rattle.fare_program.specs.declared.fault.Fault.TheVariants.{Write, NoMemory}
+use Rattle.fare_program.specs.inside.Fault.{printed_as}
+use Rattle.fare_program.proofs.Works.{appends_to_kept}
+
+-- only a write that failed is told so
+pub of_write : (fault : PrintFault) → printed_as fault ≡ Write → fault ≡ print.Write
+of_write print.Write is = refl
+of_write print.NoMemory is = cc
+
+-- the whole text stands there with the rest behind its beginning
+pub whole_of : (a b : Option (List ℕ)) (text : List ℕ) (begun : Begins a b text)
+    → Appends a (append_known b begun.rest) text
+whole_of None b text begun = tt
+whole_of (Some x) None text begun = absurd begun.written
+whole_of (Some x) (Some y) text begun =
+    ap (λ t. t ++ begun.rest) begun.written ∙ append_assoc x begun.front begun.rest
+    ∙ ap (λ t. x ++ t) (sym begun.whole)
+
+-- a beginning of a text, behind bytes that were kept
+pub begun_by : (a mid b : Option (List ℕ)) (text : List ℕ) (Whole : Option (List ℕ) → Type 0)
+    → Keeps a mid → Begins mid b text
+    → ((all : Option (List ℕ)) → Appends mid all text → Whole all) → IsBegun a b Whole
+begun_by a mid b text Whole kept begun make = record {
+  front = begun.front;
+  grown = appends_to_kept a mid b begun.front kept begun.written;
+  rest = begun.rest;
+  whole = make (append_known b begun.rest) (whole_of mid b text begun);
+}
+
+-- what is begun is another thing that is begun
+pub begun_so : (a b : Option (List ℕ)) (One Other : Option (List ℕ) → Type 0) → IsBegun a b One
+    → ((all : Option (List ℕ)) → One all → Other all) → IsBegun a b Other
+begun_so a b One Other begun make = record {
+  front = begun.front;
+  grown = begun.grown;
+  rest = begun.rest;
+  whole = make (append_known b begun.rest) begun.whole;
+}
+
+-- what is whole is begun
+pub begun_whole : (a b : Option (List ℕ)) (text : List ℕ) (Whole : Option (List ℕ) → Type 0)
+    → Appends a b text → Whole b → IsBegun a b Whole
+begun_whole a b text Whole written whole = record {
+  front = text;
+  grown = written;
+  rest = [];
+  whole = subst Whole (sym (nothing_more b)) whole;
+}
+  where
+    nothing_more : (c : Option (List ℕ)) → append_known c [] ≡ c
+    nothing_more None = refl
+    nothing_more (Some x) = ap Some (append-nil x)
+
+grown_by : (b : Bool) (A B P : Type 0) → (A → P) → (B → P) → MatchBool b A B → P
+grown_by true A B P one other is = one is
+grown_by false A B P one other is = other is
+
+-- what was done is a text that was written
+does_write : (asked : Asked) (known : List ℕ → Option (List ℕ)) (told told' : Option (List Loaded))
+    (out out' : Option (List ℕ)) (well : Bool) → Does asked known told told' out out' well
+    → (text : List ℕ) × Appends out out' text
+does_write asked known told told' out out' well done =
+    grown_by asked.traced (RunsTraced asked told told' out out' well) _ _
+    (λ runs. (runs.text, runs.written))
+    (grown_by (lists asked) (RunsListing asked.table asked.files told told' out out' well) _ _
+    (λ runs. (runs.text, runs.written))
+    (grown_by asked.sorted (RunsSorted asked known told told' out out' well)
+    (RunsService asked told told' out out' well) _ (λ runs. (runs.text, runs.written))
+    (λ runs. (runs.text, runs.written)))) done
+
+pub begun_done : (asked : Asked) (known : List ℕ → Option (List ℕ))
+    (told told' : Option (List Loaded)) (out out' : Option (List ℕ)) (well : Bool)
+    → Does asked known told told' out out' well → HasBegun asked known told told' out out'
+begun_done asked known told told' out out' well done =
+    let (text, written) = does_write asked known told told' out out' well done in (
+      well,
+      begun_whole out out' text (λ all. Does asked known told told' out all well) written done,
+    )

@@ -1,0 +1,20 @@
+-- What a write that failed left behind.
+use Rattle.std.specs.Prelude.{ℕ, Bool, List, Option}
+use Rattle.std.specs.Io.KnownBytes.{Appends, append_known}
+use Rattle.fare_program.specs.Options.{Asked}
+use Rattle.fare_program.specs.Program.{Does}
+use Rattle.program_manners.specs.Loads.{Loaded}
+
+-- Known bytes grew, and with some bytes more behind them `Whole` would hold of all that stands.
+pub record IsBegun (before after : Option (List ℕ)) (Whole : Option (List ℕ) → Type 0)
+    : Type 0 where
+  pub front : List ℕ
+  pub grown : Appends before after front
+  pub rest : List ℕ
+  pub whole : Whole (append_known after rest)
+
+-- What stands is a beginning: with some bytes more behind it, what is asked for would have been done.
+abbrev pub HasBegun : Asked → (List ℕ → Option (List ℕ)) → Option (List Loaded)
+    → Option (List Loaded) → Option (List ℕ) → Option (List ℕ) → Type 0
+HasBegun asked known told told' out out' = (well : Bool)
+    × IsBegun out out' (λ whole. Does asked known told told' out whole well)

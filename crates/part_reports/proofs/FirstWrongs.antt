@@ -1,0 +1,252 @@
+-- The first wrong line of a text that is merged.
+use Rattle.std.proofs.Common.{◌≡◌, ◌≢◌, ◌∙◌, ◌+◌, ◌<◌, ℕ, List, [], ◌∷◌, ◌++◌, Option, Some, None}
+use Rattle.std.proofs.Common.{append_assoc, arith, ap, inl, inr, map, refl, subst, sym}
+use Rattle.std.specs.Prelude.{All, IfSome, slice_get}
+use Rattle.std.specs.Io.BufRead.{take_through}
+use Rattle.std.specs.List.{AllByRecursion, AllZip}
+use Rattle.std.specs.declared.cmp.Ordering.TheVariants.{Less}
+use Rattle.std.proofs.lemmas.List.{append_cancel_right}
+use Rattle.std.proofs.lemmas.List.Elements.{All-from_recursion}
+use Rattle.std.proofs.lemmas.Option.{MatchOption-at_some}
+use Rattle.tap_views.specs.Token.{token_cmp}
+use Rattle.tap_views.specs.declared.token.Token.{Token}
+use Rattle.tap_views.proofs.Lists.{each-append, each-weaker}
+use Rattle.part_reports.specs.TokenLines.{HaveOtherTokens, TokenLine, text_of}
+use Rattle.part_reports.specs.inside.FirstWrong.{IsCounted, IsCountedAt, IsFirstWrongAt}
+use Rattle.part_reports.specs.inside.FirstWrong.{IsFirstWrongOf, IsOfNext, IsOfNumber, IsWrongLine}
+use Rattle.part_reports.specs.inside.FirstWrong.{SharesFirst, line_feeds, up_to_64}
+use Rattle.part_reports.specs.inside.Going.{IsGoing, Part, Rise}
+use Rattle.part_reports.specs.inside.Kinds.{IsTextOf}
+use Rattle.part_reports.specs.inside.Least.{IsBelowOthers, StandsTwice}
+use Rattle.part_reports.specs.inside.Standings.{IsLineOfKind, MayFollow, Standing}
+use Rattle.part_reports.specs.inside.Told.{NamesOnly, next_number}
+use Rattle.part_reports.specs.declared.fault.MergeFault.{MergeFault}
+use Rattle.part_reports.specs.declared.fault.MergeFault.TheVariants.{Line, Taps, Unread, Write}
+use Rattle.part_reports.specs.declared.fault.MergeFault.TheVariants.{NoMemory}
+use Rattle.part_reports.specs.declared.merging.LineKind.{LineKind}
+use Rattle.part_reports.specs.declared.merging.LineKind.TheVariants.{Entries}
+use Rattle.part_reports.proofs.FirstLines.{counted_at, feeds_append, feeds_one}
+use Rattle.part_reports.proofs.Firsts.{line_is_one}
+use Rattle.part_reports.proofs.MergedBefore.{continues, head_of}
+use Rattle.part_reports.proofs.Merges.{IsMerging, IsPast, others_each}
+use Rattle.part_reports.proofs.Orders.{below_differs, below_then}
+use Rattle.part_reports.proofs.Parts.{below_here, going_line, here, like_line, line_at, one_behind}
+use Rattle.part_reports.proofs.Parts.{shown_here}
+use Rattle.part_reports.proofs.Places.{at_map, each_at}
+use Rattle.part_reports.proofs.Risings.{each_middle, each_push, rise_push}
+use Rattle.part_reports.proofs.TextsWrong.{text_at}
+
+-- ---- the line behind the one at which the text stands
+-- where a text stands at a line, the bytes before what is left are those before the lines, and they
+before_left : (file before front text done rest left : List ℕ) → file ≡ before ++ left
+    → file ≡ front ++ text → text ≡ done ++ rest → left ≡ rest → before ≡ front ++ done
+before_left file before front text done rest left is whole shown same =
+    append_cancel_right before (front ++ done) rest
+    (ap (λ left. before ++ left) (sym same) ∙ sym is ∙ whole ∙ ap (λ text. front ++ text) shown
+    ∙ sym (append_assoc front done rest))
+
+pub stuck_first : (texts : List (LineKind × List ℕ)) (files : List (List ℕ)) (ats : List Standing)
+    (old now : Option (List ℕ)) → IsMerging texts ats old now → (k : ℕ)
+    → IsBelowOthers (map (λ at. at.token) ats) k → AllZip IsCounted files ats
+    → (numbers : List ℕ) (fault : MergeFault) → NamesOnly fault (slice_get numbers k)
+    → ((was : Standing) → slice_get ats k ≡ Some was
+    → IsOfNext was.behind was.token was.left was.number fault)
+    → IsFirstWrongOf texts files numbers fault
+stuck_first texts files ats old now merging k least are numbers (Line named number wrong) only
+    nexts
+    =
+    let token = least.token in
+    let (at, stands, token_of) = at_map (λ (at : Standing). at.token) ats k (Some token) least.there
+    in
+    let found = text_at texts ats old now merging k at token stands least.there in
+    let part = found.part in
+    let line = line_at part.at token in
+    let at_line = here part token found.going found.token_is in
+    let same : Some at ≡ Some part.at = ap (λ at. Some at) (sym found.is) in
+    let next : IsOfNext part.at.behind part.at.token part.at.left part.at.number
+    (Line named number wrong) = nexts part.at (stands ∙ same) in
+    let bad : IsWrongLine part.at.behind part.at.token (take_through 10 at_line.rest) =
+    MatchOption-at_some (Unit {0})
+    (λ left. IsWrongLine part.at.behind part.at.token (take_through 10 left)) at_line.rest
+    at_line.left next.1 in
+    let (file, file_there, counted) = counted_at files ats k part.at are (stands ∙ same) in
+    let (before, left, left_is, whole, number_is) =
+    subst (λ head. IsCountedAt file part.at head) found.token_is counted in
+    let same_left : Some left ≡ Some at_line.rest = sym left_is ∙ at_line.left in
+    let lefts : left ≡ at_line.rest = cc in (
+      k,
+      only,
+      record {
+        text = part.text;
+        there = found.there;
+        file = file;
+        file_there = file_there;
+        done = part.done ++ line ∷ [];
+        kind = part.at.behind;
+        behind = one_behind part.text.0 found.going.kind part.at.behind part.done line
+            found.going.behind at_line.behind;
+        each = each_push (IsLineOfKind part.text.0) part.done line found.going.each
+            (like_line part.text.0 found.going.kind part.done line found.going.behind at_line.line);
+        rise = rise_push part.text.0 part.done line found.going.rise
+            (below_here part token found.going found.token_is);
+        rest = at_line.rest;
+        shown = shown_here part token found.going found.token_is;
+        number_is = λ front of_file.
+            let fronts = before_left file before front part.text.1 (text_of (part.done ++ line ∷ []))
+            at_line.rest left whole of_file (shown_here part token found.going found.token_is) lefts
+            in
+            let feeds = ap line_feeds fronts in
+            let one = next.0 in
+            omega (arith, one, number_is, feeds);
+        wrong = inl (record {
+          front = part.done;
+          last = line;
+          is_last = refl;
+          wrong = subst (λ head. IsWrongLine part.at.behind head (take_through 10 at_line.rest))
+              found.token_is bad;
+        });
+      },
+    )
+stuck_first texts files ats old now merging k least are numbers (Taps reports uploads) only nexts =
+    tt
+stuck_first texts files ats old now merging k least are numbers (Unread named) only nexts = tt
+stuck_first texts files ats old now merging k least are numbers Write only nexts = tt
+stuck_first texts files ats old now merging k least are numbers NoMemory only nexts = tt
+
+-- ---- lines of tokens below those that are left
+rest_others : (rest done : List TokenLine) → Rise Entries rest
+    → IfSome (head_of rest)
+    (λ head. AllByRecursion (λ line. token_cmp line.token head ≡ Less) done)
+    → AllByRecursion (λ a. AllByRecursion (λ b. a.token ≢ b.token) done) rest
+rest_others [] done rise below = tt
+rest_others (first ∷ rest) done rise below = (
+  each-weaker (λ (line : TokenLine). token_cmp line.token first.token ≡ Less)
+      (λ (line : TokenLine). first.token ≢ line.token) done
+      (λ line less same. below_differs line.token first.token less (sym same)) below,
+  each-weaker (λ (other : TokenLine). MayFollow Entries first.token other.token)
+      (λ (other : TokenLine). AllByRecursion
+      (λ (line : TokenLine). other.token ≢ line.token) done) rest
+      (λ other may. each-weaker (λ (line : TokenLine). token_cmp line.token first.token ≡ Less)
+      (λ (line : TokenLine). other.token ≢ line.token) done
+      (λ line less same. below_differs line.token other.token
+      (below_then line.token first.token other.token less may) (sym same)) below) rise.0,
+)
+
+-- what was written of one text has other tokens than the other has
+past_others : (p part : Part) → IsPast p part → IsGoing p → (some : List TokenLine)
+    → IsTextOf p.text some → HaveOtherTokens some part.done
+past_others p part past going some text =
+    let on = continues p some going text in
+    let each : AllByRecursion (λ a. AllByRecursion (λ b. a.token ≢ b.token) part.done) some =
+    subst (λ lines. AllByRecursion (λ a. AllByRecursion (λ b. a.token ≢ b.token) part.done) lines)
+    (sym on.whole)
+    (each-append (λ (a : TokenLine). AllByRecursion (λ (b : TokenLine). a.token ≢ b.token) part.done)
+    p.done on.rest past.others
+    (rest_others on.rest part.done on.rise
+    (subst (λ head. IfSome head
+    (λ head. AllByRecursion (λ line. token_cmp line.token head ≡ Less) part.done)) on.head
+    past.below))) in
+    All-from_recursion (λ (a : TokenLine). All (λ (b : TokenLine). a.token ≢ b.token) part.done) some
+    (each-weaker (λ (a : TokenLine). AllByRecursion (λ (b : TokenLine). a.token ≢ b.token) part.done)
+    (λ (a : TokenLine). All (λ (b : TokenLine). a.token ≢ b.token) part.done) some
+    (λ a others. All-from_recursion (λ (b : TokenLine). a.token ≢ b.token) part.done others) each)
+
+-- the line at which the other text stands has a token of this one
+has_token : (first : Part) (token : Token) → IsGoing first → first.at.token ≡ Some token
+    → (bytes : List ℕ) (some : List TokenLine) → IsTextOf first.text some
+    → ¬ (HaveOtherTokens some (record { token = token; text = bytes } ∷ []))
+has_token first token going is bytes some text others =
+    let line : TokenLine = record { token = token; text = bytes } in
+    let (behind, whole, left) = going_line first token going is some text in
+    let each : AllByRecursion (λ (other : TokenLine). line_at first.at token .token ≢ other.token)
+    (line ∷ []) =
+    each_middle (λ (one : TokenLine). AllByRecursion
+    (λ (other : TokenLine). one.token ≢ other.token) (line ∷ [])) first.done
+    (line_at first.at token) behind
+    (subst (λ list. AllByRecursion
+    (λ a. AllByRecursion (λ b. a.token ≢ b.token) (line ∷ [])) list) whole
+    (others_each some (line ∷ []) others)) in
+    each.0 refl
+
+pub twin_first : (texts : List (LineKind × List ℕ)) (files : List (List ℕ)) (ats : List Standing)
+    (old now : Option (List ℕ)) → IsMerging texts ats old now → (k : ℕ)
+    → StandsTwice (map (λ at. at.token) ats) k → AllZip IsCounted files ats
+    → (numbers : List ℕ) (fault : MergeFault) → NamesOnly fault (slice_get numbers k)
+    → ((was : Standing) → slice_get ats k ≡ Some was → IsOfNumber was.number fault)
+    → IsFirstWrongOf texts files numbers fault
+twin_first texts files ats old now merging k twin are numbers (Line named number wrong) only
+    has_number
+    =
+    let token = twin.token in
+    let (at, stands, token_of) = at_map (λ (at : Standing). at.token) ats k (Some token) twin.there
+    in
+    let (was, was_stands, was_token) = at_map (λ (at : Standing). at.token) ats twin.earlier
+    (Some token) twin.first in
+    let found = text_at texts ats old now merging k at token stands twin.there in
+    let first = text_at texts ats old now merging twin.earlier was token was_stands twin.first in
+    let part = found.part in
+    let line = line_at part.at token in
+    let at_line = here part token found.going found.token_is in
+    let same : Some at ≡ Some part.at = ap (λ at. Some at) (sym found.is) in
+    let number_of : number ≡ part.at.number = has_number part.at (stands ∙ same) in
+    let is_line = like_line part.text.0 found.going.kind part.done line found.going.behind
+    at_line.line in
+    let (file, file_there, counted) = counted_at files ats k part.at are (stands ∙ same) in
+    let (before, left, left_is, whole, number_is) =
+    subst (λ head. IsCountedAt file part.at head) found.token_is counted in
+    let same_left : Some left ≡ Some at_line.rest = sym left_is ∙ at_line.left in
+    let lefts : left ≡ at_line.rest = cc in (
+      k,
+      only,
+      record {
+        text = part.text;
+        there = found.there;
+        file = file;
+        file_there = file_there;
+        done = part.done;
+        kind = found.going.kind;
+        behind = found.going.behind;
+        each = found.going.each;
+        rise = found.going.rise;
+        rest = found.going.left;
+        shown = found.going.shown;
+        number_is = λ front of_file.
+            let fronts = before_left file before front part.text.1 (text_of part.done ++ part.at.line)
+            at_line.rest left whole of_file
+            (found.going.shown ∙ ap (λ text. text_of part.done ++ text) at_line.shown
+            ∙ sym (append_assoc (text_of part.done) part.at.line at_line.rest)) lefts in
+            let feeds = ap line_feeds (fronts ∙ sym (append_assoc front (text_of part.done)
+            part.at.line)) in
+            let both = feeds_append (front ++ text_of part.done) part.at.line in
+            let one = feeds_one part.at.line (line_is_one part.text.0 line is_line) in
+            omega (arith, number_of, number_is, feeds, both, one);
+        wrong = inr (record {
+          line = line;
+          left = at_line.rest;
+          shown = at_line.shown;
+          is_line = is_line;
+          rise = rise_push part.text.0 part.done line found.going.rise
+              (below_here part token found.going found.token_is);
+          shares = record {
+            earlier = twin.earlier;
+            before = twin.before;
+            first = first.part.text;
+            first_there = first.there;
+            shared = has_token first.part token first.going first.token_is part.at.line;
+            none_before = λ other one some below there text.
+                let (p, p_there, text_is) = at_map (λ (part : Part). part.text) merging.parts other one
+                (subst (λ texts. slice_get texts other ≡ Some one) (sym merging.of_texts) there) in
+                past_others p part
+                (merging.past other k p part (λ e. absurd (omega (arith, e, below))) p_there
+                found.part_there) (each_at IsGoing merging.parts other p merging.going p_there) some
+                (subst (λ text. IsTextOf text some) (sym text_is) text);
+          };
+        });
+      },
+    )
+twin_first texts files ats old now merging k twin are numbers (Taps reports uploads) only
+    has_number
+    = tt
+twin_first texts files ats old now merging k twin are numbers (Unread named) only has_number = tt
+twin_first texts files ats old now merging k twin are numbers Write only has_number = tt
+twin_first texts files ats old now merging k twin are numbers NoMemory only has_number = tt

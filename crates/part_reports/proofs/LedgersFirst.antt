@@ -1,0 +1,351 @@
+-- The first wrong line of a ledger.
+use Rattle.std.proofs.Common.{◌≡◌, ◌≢◌, ◌∙◌, ◌⊎◌, ◌+◌, ◌-◌, ◌^◌, ◌<◌, ℕ, zero, suc, List, [], ◌∷◌}
+use Rattle.std.proofs.Common.{◌++◌, Option, Some, None, append-nil, append_assoc, arith, ap, inl, inr}
+use Rattle.std.proofs.Common.{length, map, refl, subst, sym}
+use Rattle.std.specs.Prelude.{All, Err, IfErr, IfOk, IfSome, Ok, Result, min, slice_get}
+use Rattle.std.specs.Io.BufRead.{drop_through, take_through}
+use Rattle.std.specs.List.{AllByRecursion, AllZip}
+use Rattle.std.proofs.lemmas.List.Elements.{All-from_recursion, All-nil, recursion_from_All}
+use Rattle.std.proofs.lemmas.Option.{MatchOption-at_some}
+use Rattle.fare_texts.specs.LedgerLines.{head_text}
+use Rattle.tap_views.specs.declared.token.Token.{Token}
+use Rattle.tap_views.proofs.Lists.{each-back}
+use Rattle.part_reports.specs.Faults.{IsOfTaps, IsOfTexts}
+use Rattle.part_reports.specs.Ledgers.{GoesWrongAt, IsFirstSharedAt, IsLedgerEntryLine, IsPartLedger}
+use Rattle.part_reports.specs.Ledgers.{NamesFirstWrongLine, ledger_text}
+use Rattle.part_reports.specs.TokenLines.{HaveOtherTokens, TokenLine, text_of}
+use Rattle.part_reports.specs.inside.BegunLedgers.{AreBegunLedgers, IsBegunLedger, IsOfFirstLines}
+use Rattle.part_reports.specs.inside.FirstWrong.{IsCounted, IsCountedAt, IsFirstWrongAt}
+use Rattle.part_reports.specs.inside.FirstWrong.{IsFirstWrongOf, IsOfNext, IsStuckBehind}
+use Rattle.part_reports.specs.inside.FirstWrong.{IsTwinBehind, IsWrongLine, line_feeds, up_to_64}
+use Rattle.part_reports.specs.inside.Going.{IsBehindSo, Rise}
+use Rattle.part_reports.specs.inside.Kinds.{IsTextOf}
+use Rattle.part_reports.specs.inside.Standings.{IsAtLine, IsLineOfKind, MayFollowToken, Standing}
+use Rattle.part_reports.specs.inside.Standings.{StandsInText, StandsInTextAt, line_with}
+use Rattle.part_reports.specs.inside.Told.{AreNumbered, IsOfReader, IsOfText, next_number}
+use Rattle.part_reports.specs.declared.fault.MergeFault.{MergeFault}
+use Rattle.part_reports.specs.declared.fault.MergeFault.TheVariants.{Line, Taps, Unread, Write}
+use Rattle.part_reports.specs.declared.fault.MergeFault.TheVariants.{NoMemory}
+use Rattle.part_reports.specs.declared.merging.LineKind.{LineKind}
+use Rattle.part_reports.specs.declared.merging.LineKind.TheVariants.{Tokens, Entries}
+use Rattle.part_reports.proofs.FirstLines.{feeds_append, feeds_one, lines_feeds}
+use Rattle.part_reports.proofs.Firsts.{line_is_one}
+use Rattle.part_reports.proofs.LedgersWrong.{file_behind, file_of}
+use Rattle.part_reports.proofs.LedgerTexts.{lefts_of}
+use Rattle.part_reports.proofs.Parts.{one_text}
+use Rattle.part_reports.proofs.Places.{at_map}
+use Rattle.part_reports.proofs.Risings.{each_push, falls_from, falls_to, rise_middle}
+
+kind_entries : (kind : LineKind) (done : List TokenLine) → IsBehindSo Entries kind done
+    → kind ≡ Entries
+kind_entries (Tokens left rest) done is = absurd is
+kind_entries Entries done is = refl
+
+-- lines of a ledger, behind the head line
+ledger_from : (lines : List TokenLine) → AllByRecursion IsLedgerEntryLine lines → Rise Entries lines
+    → IsPartLedger lines (ledger_text lines)
+ledger_from lines each rise = record {
+  each = All-from_recursion IsLedgerEntryLine lines each;
+  no_fall = falls_from lines rise;
+  shown = refl;
+}
+
+-- no line may be empty
+none_empty : (before : Option Token) (rest : List ℕ)
+    → IsWrongLine Entries before (take_through 10 rest) → rest ≢ []
+none_empty None rest wrong none =
+    subst (λ rest. IsWrongLine Entries None (take_through 10 rest)) none wrong Entries None
+    (refl, tt) tt
+none_empty (Some before) rest wrong none =
+    subst (λ rest. IsWrongLine Entries (Some before) (take_through 10 rest)) none wrong Entries None
+    (refl, tt) tt
+
+-- a line that may not follow makes no ledger
+none_follows : (front : List TokenLine) (last : TokenLine) (rest : List ℕ)
+    → IsWrongLine Entries (Some last.token) (take_through 10 rest) → (line : TokenLine)
+    → line.text ≡ take_through 10 rest
+    → ¬ (IsPartLedger ((front ++ last ∷ []) ++ line ∷ [])
+    (ledger_text ((front ++ last ∷ []) ++ line ∷ [])))
+none_follows front last rest wrong line text is =
+    let each = each-back IsLedgerEntryLine (front ++ last ∷ []) (line ∷ [])
+    (recursion_from_All IsLedgerEntryLine ((front ++ last ∷ []) ++ line ∷ []) is.each) in
+    let rise : Rise Entries ((front ++ last ∷ []) ++ line ∷ []) = falls_to _ is.no_fall in
+    let may : MayFollowToken Entries (Some last.token) (Some line.token) =
+    rise_middle Entries front last (line ∷ []) rise in
+    subst (IsWrongLine Entries (Some last.token)) (sym text) wrong Entries (Some line.token)
+    (each.0, tt) may
+
+-- the text at the place behind its head line
+head_behind : (files lefts : List (List ℕ)) (place : ℕ) (file left : List ℕ)
+    → AllZip (λ file left. file ≡ head_text ++ left) files lefts → slice_get files place ≡ Some file
+    → slice_get lefts place ≡ Some left → file ≡ head_text ++ left
+head_behind [] lefts place file left shown there left_there = absurd (cc)
+head_behind (one ∷ files) [] place file left shown there left_there = elim shown [ ]
+head_behind (one ∷ files) (other ∷ lefts) zero file left shown there left_there =
+    let h : Some one ≡ Some file = there in
+    let same : one ≡ file = cc in
+    let g : Some other ≡ Some left = left_there in
+    let same_left : other ≡ left = cc in
+    sym same ∙ shown.0 ∙ ap (λ left. head_text ++ left) same_left
+head_behind (one ∷ files) (other ∷ lefts) (suc place) file left shown there left_there =
+    head_behind files lefts place file left shown.1 there left_there
+
+-- a ledger is the lines of its text behind the head line
+record IsTextOfFile (lefts : List (List ℕ)) (place : ℕ) (file : List ℕ) : Type 0 where
+  left : List ℕ
+  there : slice_get (map (λ (left : List ℕ). (Entries, left)) lefts) place ≡ Some (Entries, left)
+  of : (lines : List TokenLine) → IsPartLedger lines file → IsTextOf (Entries, left) lines
+
+text_of_file : (files lefts : List (List ℕ)) (place : ℕ) (file : List ℕ)
+    → AllZip (λ file left. file ≡ head_text ++ left) files lefts → slice_get files place ≡ Some file
+    → IsTextOfFile lefts place file
+text_of_file [] lefts place file shown there = absurd (cc)
+text_of_file (one ∷ files) [] place file shown there = elim shown [ ]
+text_of_file (one ∷ files) (left ∷ lefts) zero file shown there =
+    let h : Some one ≡ Some file = there in
+    let same : one ≡ file = cc in
+    let found = file_of (one ∷ []) (left ∷ []) 0 (Entries, left) (shown.0, tt) refl in
+    let here : Some one ≡ Some found.file = found.there in
+    let file_is : found.file ≡ file = cc in
+    record {
+      left = left;
+      there = refl;
+      of = λ lines is. found.of lines (subst (IsPartLedger lines) (sym file_is) is);
+    }
+text_of_file (one ∷ files) (left ∷ lefts) (suc place) file shown there =
+    let rest = text_of_file files lefts place file shown.1 there in
+    record { left = rest.left; there = rest.there; of = rest.of }
+
+-- ---- of texts behind their head lines
+module _ (files lefts : List (List ℕ)) (place number : ℕ)
+    (shown : AllZip (λ file left. file ≡ head_text ++ left) files lefts)
+    (at : IsFirstWrongAt (map (λ left. (Entries, left)) lefts) files place number) where
+  found : (left : List ℕ) × (slice_get lefts place ≡ Some left) × ((Entries, left) ≡ at.text)
+  found = at_map (λ (left : List ℕ). (Entries, left)) lefts place at.text at.there
+
+  kind_is : at.text.0 ≡ Entries
+  kind_is = ap (λ (text : LineKind × List ℕ). text.0) (sym found.2)
+
+  whole : at.file ≡ head_text ++ at.text.1
+  whole = head_behind files lefts place at.file found.0 shown at.file_there found.1
+      ∙ ap (λ (text : LineKind × List ℕ). head_text ++ text.1) found.2
+
+  lines_whole : at.file ≡ ledger_text at.done ++ at.rest
+  lines_whole = whole ∙ ap (λ text. head_text ++ text) at.shown
+      ∙ sym (append_assoc head_text (text_of at.done) at.rest)
+
+  each : AllByRecursion IsLedgerEntryLine at.done
+  each = subst (λ kind. AllByRecursion (IsLineOfKind kind) at.done) kind_is at.each
+
+  rise : Rise Entries at.done
+  rise = subst (λ kind. Rise kind at.done) kind_is at.rise
+
+  numbered : number ≡ min (length at.done + 2) (2 ^ 64 - 1)
+  numbered =
+      let is = at.number_is head_text whole in
+      let both = feeds_append head_text (text_of at.done) in
+      let head : line_feeds head_text ≡ 1 = refl in
+      let lines = lines_feeds Entries at.done each in
+      omega (arith, is, both, head, lines)
+
+  goes_wrong : IsStuckBehind at.kind at.done at.rest → GoesWrongAt at.file number
+  goes_wrong stuck =
+      let entries : at.kind ≡ Entries = kind_entries at.kind at.done
+      (subst (λ all. IsBehindSo all at.kind at.done) kind_is at.behind) in
+      let wrong : IsWrongLine Entries (Some stuck.last.token) (take_through 10 at.rest) =
+      subst (λ kind. IsWrongLine kind (Some stuck.last.token) (take_through 10 at.rest)) entries
+      stuck.wrong in
+      record {
+        lines = at.done;
+        ledger = ledger_from at.done each rise;
+        rest = at.rest;
+        more = none_empty (Some stuck.last.token) at.rest wrong;
+        shown = lines_whole;
+        number_is = numbered;
+        wrong = λ line text. subst (λ done. ¬ (IsPartLedger (done ++ line ∷ [])
+            (ledger_text (done ++ line ∷ [])))) (sym stuck.is_last)
+            (none_follows stuck.front stuck.last at.rest wrong line text);
+      }
+
+  first_shared : IsTwinBehind (map (λ left. (Entries, left)) lefts) place at.text.0 at.done at.rest
+      → IsFirstSharedAt files place number
+  first_shared twin =
+      let shares = twin.shares in
+      let first = file_of files lefts shares.earlier shares.first shown shares.first_there in
+      let line_is : IsLedgerEntryLine twin.line =
+      subst (λ kind. IsLineOfKind kind twin.line) kind_is twin.is_line in
+      let rises : Rise Entries (at.done ++ twin.line ∷ []) =
+      subst (λ kind. Rise kind (at.done ++ twin.line ∷ [])) kind_is twin.rise in
+      record {
+        file = at.file;
+        there = at.file_there;
+        lines = at.done;
+        line = twin.line;
+        ledger = ledger_from (at.done ++ twin.line ∷ [])
+            (each_push IsLedgerEntryLine at.done twin.line each line_is) rises;
+        rest = twin.left;
+        shown = lines_whole ∙ ap (λ rest. ledger_text at.done ++ rest) twin.shown
+            ∙ one_behind_text at.done twin.line twin.left;
+        number_is = numbered;
+        earlier = shares.earlier;
+        before = shares.before;
+        first = first.file;
+        first_there = first.there;
+        shared = λ some is. shares.shared some (first.of some is);
+        none_before = λ other one some below there is.
+            let text = text_of_file files lefts other one shown there in
+            shares.none_before other (Entries, text.left) some below text.there (text.of some is);
+      }
+    where
+      one_behind_text : (done : List TokenLine) (line : TokenLine) (rest : List ℕ)
+          → ledger_text done ++ (line.text ++ rest) ≡ ledger_text (done ++ line ∷ []) ++ rest
+      one_behind_text done line rest =
+          append_assoc head_text (text_of done) (line.text ++ rest)
+          ∙ ap (λ text. head_text ++ text) (one_text line done rest)
+          ∙ sym (append_assoc head_text (text_of (done ++ line ∷ [])) rest)
+
+  pub names_first : (text : ℕ) → text ≡ place
+      → ((file : List ℕ) × (slice_get files text ≡ Some file)
+      × (((number ≡ 1) × (take_through 10 file ≢ head_text)) ⊎ GoesWrongAt file number))
+      ⊎ IsFirstSharedAt files text number
+  names_first text is = elim at.wrong [
+    | inl stuck ↦
+        inl (
+          at.file,
+          subst (λ place. slice_get files place ≡ Some at.file) (sym is) at.file_there,
+          inr (goes_wrong stuck),
+        )
+    | inr twin ↦
+        inr (subst (λ place. IsFirstSharedAt files place number) (sym is) (first_shared twin))
+  ]
+
+-- ---- ledgers of which the first line was read
+begun_counted_one : (file : List ℕ) (at : Standing) → IsBegunLedger file at → IsCounted file at
+begun_counted_one file at begun = by_head at.token refl
+  where
+    by_head : (head : Option Token) → at.token ≡ head → IsCountedAt file at head
+    by_head None none = tt
+    by_head (Some token) is =
+        let here : IsAtLine (Entries, begun.left) at token =
+        subst (λ head. StandsInTextAt (Entries, begun.left) at head) is begun.stands in
+        let one = feeds_one at.line (line_is_one Entries (line_with token at.line) here.line) in
+        let both = feeds_append head_text at.line in
+        let head : line_feeds head_text ≡ 1 = refl in
+        let number = begun.number in (
+          head_text ++ at.line,
+          here.rest,
+          here.left,
+          begun.shown ∙ ap (λ text. head_text ++ text) here.shown
+              ∙ sym (append_assoc head_text at.line here.rest),
+          omega (arith, number, one, both, head),
+        )
+
+begun_counted : (files : List (List ℕ)) (known : List (Option (List ℕ))) (ats : List Standing)
+    → known ≡ map (λ file. Some file) files → AreBegunLedgers known ats
+    → AllZip IsCounted files ats
+begun_counted [] [] [] same are = tt
+begun_counted [] [] (at ∷ ats) same are = elim are [ ]
+begun_counted [] (file ∷ known) ats same are = absurd (cc)
+begun_counted (first ∷ files) [] ats same are = absurd (cc)
+begun_counted (first ∷ files) (file ∷ known) [] same are = elim are [ ]
+begun_counted (first ∷ files) (file ∷ known) (at ∷ ats) same are =
+    let is : file ≡ Some first = cc in
+    let rest : known ≡ map (λ file. Some file) files = cc in (
+      begun_counted_one first at
+          (MatchOption-at_some (Unit {0}) (λ file. IsBegunLedger file at) first is are.0),
+      begun_counted files known ats rest are.1,
+    )
+
+pub merged_first : (files : List (List ℕ)) (known : List (Option (List ℕ))) (ats : List Standing)
+    (numbers : List ℕ) (fault : MergeFault) → known ≡ map (λ file. Some file) files
+    → AreBegunLedgers known ats → AreNumbered (λ place. place) numbers → ¬ (IsOfTaps fault)
+    → ((texts : List (LineKind × List ℕ)) (files : List (List ℕ))
+    → AllZip StandsInText texts ats → AllZip IsCounted files ats
+    → IsFirstWrongOf texts files numbers fault) → NamesFirstWrongLine files fault
+merged_first files known ats numbers (Line named number wrong) same are numbered no_taps first =
+    let behind = lefts_of files known ats same are in
+    let texts : List (LineKind × List ℕ) = map (λ (left : List ℕ). (Entries, left)) behind.lefts in
+    let (place, there, at) = first texts files behind.sources (begun_counted files known ats same are)
+    in
+    names_first files behind.lefts place number behind.shown at named (numbered place named there)
+merged_first files known ats numbers (Taps reports uploads) same are numbered no_taps first =
+    absurd (no_taps tt)
+merged_first files known ats numbers (Unread named) same are numbered no_taps first = tt
+merged_first files known ats numbers Write same are numbered no_taps first = tt
+merged_first files known ats numbers NoMemory same are numbered no_taps first = tt
+
+-- ---- the first lines
+pub first_other : (file : List ℕ) (fault : MergeFault) → ¬ (IsOfTexts fault)
+    → IsOfFirstLines file fault
+first_other file (Line text number wrong) no = absurd (no tt)
+first_other file (Taps reports uploads) no = tt
+first_other file (Unread text) no = tt
+first_other file Write no = tt
+first_other file NoMemory no = tt
+
+-- the head line is another
+pub head_wrong : (file : List ℕ) (text lines : ℕ) (fault : MergeFault) → IsOfReader text lines fault
+    → lines ≡ next_number 0 → take_through 10 file ≢ head_text → IsOfFirstLines file fault
+head_wrong file text lines (Line named number wrong) of first other = inl (of.1 ∙ first, other)
+head_wrong file text lines (Taps reports uploads) of first other = tt
+head_wrong file text lines (Unread named) of first other = tt
+head_wrong file text lines Write of first other = tt
+head_wrong file text lines NoMemory of first other = tt
+
+-- the line behind the head line is none
+pub second_wrong : (file : List ℕ) (now : Option (List ℕ)) (lines : ℕ) (fault : MergeFault)
+    → now ≡ Some (drop_through 10 file) → file ≡ head_text ++ drop_through 10 file
+    → lines ≡ next_number 0 → IsOfNext Entries None now lines fault → IsOfFirstLines file fault
+second_wrong file now lines (Line named number wrong) left whole first is =
+    let rest = drop_through 10 file in
+    let wrong : IsWrongLine Entries None (take_through 10 rest) =
+    MatchOption-at_some (Unit {0}) (λ left. IsWrongLine Entries None (take_through 10 left)) rest left
+    is.1 in
+    inr (record {
+      lines = [];
+      ledger = ledger_from [] tt tt;
+      rest = rest;
+      more = none_empty None rest wrong;
+      shown = whole ∙ ap (λ head. head ++ rest) (sym (append-nil head_text));
+      number_is = let number_is = is.0 in omega (arith, number_is, first);
+      wrong = λ line text ledger.
+          let each = recursion_from_All IsLedgerEntryLine (line ∷ []) ledger.each in
+          subst (IsWrongLine Entries None) (sym text) wrong Entries (Some line.token) (each.0, tt) tt;
+    })
+second_wrong file now lines (Taps reports uploads) left whole first is = tt
+second_wrong file now lines (Unread named) left whole first is = tt
+second_wrong file now lines Write left whole first is = tt
+second_wrong file now lines NoMemory left whole first is = tt
+
+pub first_lines : (front back : List (Option (List ℕ))) (file : Option (List ℕ))
+    (files : List (List ℕ)) (text : ℕ) (fault : MergeFault)
+    → front ++ file ∷ back ≡ map (λ file. Some file) files → text ≡ length front
+    → IsOfText text fault → IfSome file (λ file. IsOfFirstLines file fault)
+    → NamesFirstWrongLine files fault
+first_lines front back file files text (Line named number wrong) are place of first =
+    let (known, is, there) = file_behind front back file files are in
+    inl (
+      known,
+      subst (λ text. slice_get files text ≡ Some known) (sym (of ∙ place)) there,
+      MatchOption-at_some (Unit {0}) (λ file. IsOfFirstLines file (Line named number wrong)) known is
+          first,
+    )
+first_lines front back file files text (Taps reports uploads) are place of first = absurd of
+first_lines front back file files text (Unread named) are place of first = tt
+first_lines front back file files text Write are place of first = tt
+first_lines front back file files text NoMemory are place of first = tt
+
+-- ---- what is said of one result twice
+pub ok_both : {X Y : Type 0} (result : Result X Y) (P Q : X → Type 0) → IfOk result P
+    → IfOk result Q → IfOk result (λ x. P x × Q x)
+ok_both (Ok x) P Q p q = (p, q)
+ok_both (Err y) P Q p q = tt
+
+pub err_both : {X Y : Type 0} (result : Result X Y) (P Q : Y → Type 0) → IfErr result P
+    → IfErr result Q → IfErr result (λ y. P y × Q y)
+err_both (Ok x) P Q p q = tt
+err_both (Err y) P Q p q = (p, q)
+
+pub some_any : {X : Type 0} (value : Option X) (P : X → Type 0) → ((x : X) → P x) → IfSome value P
+some_any None P all = tt
+some_any (Some x) P all = all x

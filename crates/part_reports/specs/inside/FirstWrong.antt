@@ -1,0 +1,101 @@
+-- The first wrong line of a text, as its reader finds it.
+use Rattle.std.specs.Prelude.{◌≡◌, ◌<◌, ◌⊎◌, ◌+◌, ◌-◌, ◌^◌, ◌==◌, ℕ, List, [], ◌∷◌, ◌++◌, Option}
+use Rattle.std.specs.Prelude.{Some, None, IfSome, min, slice_get}
+use Rattle.std.specs.Io.BufRead.{take_through}
+use Rattle.std.specs.List.{AllByRecursion, AllZip, count_by}
+use Rattle.tap_views.specs.declared.token.Token.{Token}
+use Rattle.part_reports.specs.TokenLines.{HaveOtherTokens, TokenLine, text_of}
+use Rattle.part_reports.specs.inside.Going.{IsBehindSo, Rise}
+use Rattle.part_reports.specs.inside.Kinds.{IsTextOf}
+use Rattle.part_reports.specs.inside.Standings.{IsFirstLine, IsLineOfKind, MayFollowToken, Standing}
+use Rattle.part_reports.specs.inside.Told.{next_number}
+use Rattle.part_reports.specs.declared.fault.MergeFault.{MergeFault}
+use Rattle.part_reports.specs.declared.fault.MergeFault.TheVariants.{Line}
+use Rattle.part_reports.specs.declared.merging.LineKind.{LineKind}
+
+-- the number of line feeds in the text
+abbrev pub line_feeds : List ℕ → ℕ
+line_feeds text = count_by (λ byte. byte == 10) text
+
+-- the number, as far as 64 bits go
+abbrev pub up_to_64 : ℕ → ℕ
+up_to_64 number = min number (2 ^ 64 - 1)
+
+-- no line with these bytes may stand in a text of this kind behind a line of this token
+abbrev pub IsWrongLine : LineKind → Option Token → List ℕ → Type 0
+IsWrongLine kind before line = (behind : LineKind) (token : Option Token)
+    → IsFirstLine kind line behind token → ¬ (MayFollowToken kind before token)
+
+-- a line that is refused is the next of what is left, behind so many, and it is wrong there
+abbrev pub IsOfNext : LineKind → Option Token → Option (List ℕ) → ℕ → MergeFault → Type 0
+IsOfNext kind before left number (Line named at wrong) = (at ≡ next_number number)
+    × IfSome left (λ left. IsWrongLine kind before (take_through 10 left))
+IsOfNext kind before left number fault = Unit {0}
+
+-- a line that is refused has this number
+abbrev pub IsOfNumber : ℕ → MergeFault → Type 0
+IsOfNumber number (Line named at wrong) = at ≡ number
+IsOfNumber number fault = Unit {0}
+
+-- the line at which it stands has as many line feeds before what is left as its number says
+abbrev pub IsCountedAt : List ℕ → Standing → Option Token → Type 0
+IsCountedAt file at None = Unit {0}
+IsCountedAt file at (Some token) = (before : List ℕ) × (left : List ℕ) × (at.left ≡ Some left)
+    × (file ≡ before ++ left) × (at.number ≡ up_to_64 (line_feeds before))
+
+-- the same of the text where it stands
+abbrev pub IsCounted : List ℕ → Standing → Type 0
+IsCounted file at = IsCountedAt file at at.token
+
+-- the line of this token and bytes shares its token with an earlier text, and none before it does
+pub record SharesFirst (texts : List (LineKind × List ℕ)) (place : ℕ) (done : List TokenLine)
+    (line : TokenLine) : Type 0 where
+  pub earlier : ℕ
+  pub before : earlier < place
+  pub first : LineKind × List ℕ
+  pub first_there : slice_get texts earlier ≡ Some first
+  pub shared : (some : List TokenLine) → IsTextOf first some → ¬ (HaveOtherTokens some (line ∷ []))
+  pub none_before : (other : ℕ) (one : LineKind × List ℕ) (some : List TokenLine) → other < place
+      → slice_get texts other ≡ Some one → IsTextOf one some → HaveOtherTokens some done
+
+-- behind these lines, of which this one is the last, the next of what is left is wrong
+pub record IsStuckBehind (kind : LineKind) (done : List TokenLine) (rest : List ℕ)
+    : Type 0 where
+  pub front : List TokenLine
+  pub last : TokenLine
+  pub is_last : done ≡ front ++ last ∷ []
+  pub wrong : IsWrongLine kind (Some last.token) (take_through 10 rest)
+
+-- behind these lines stands one that shares its token with an earlier text, the first of its text
+pub record IsTwinBehind (texts : List (LineKind × List ℕ)) (place : ℕ) (kind : LineKind)
+    (done : List TokenLine) (rest : List ℕ) : Type 0 where
+  pub line : TokenLine
+  pub left : List ℕ
+  pub shown : rest ≡ line.text ++ left
+  pub is_line : IsLineOfKind kind line
+  pub rise : Rise kind (done ++ line ∷ [])
+  pub shares : SharesFirst texts place done line
+
+-- the line of this number is the first wrong one of the text at the place
+pub record IsFirstWrongAt (texts : List (LineKind × List ℕ)) (files : List (List ℕ))
+    (place number : ℕ) : Type 0 where
+  pub text : LineKind × List ℕ
+  pub there : slice_get texts place ≡ Some text
+  pub file : List ℕ
+  pub file_there : slice_get files place ≡ Some file
+  pub done : List TokenLine
+  pub kind : LineKind
+  pub behind : IsBehindSo text.0 kind done
+  pub each : AllByRecursion (IsLineOfKind text.0) done
+  pub rise : Rise text.0 done
+  pub rest : List ℕ
+  pub shown : text.1 ≡ text_of done ++ rest
+  pub number_is : (front : List ℕ) → file ≡ front ++ text.1
+      → number ≡ up_to_64 (line_feeds (front ++ text_of done) + 1)
+  pub wrong : IsStuckBehind kind done rest ⊎ IsTwinBehind texts place text.0 done rest
+
+-- a line that is refused is the first wrong one of the text that has the fault's number
+abbrev pub IsFirstWrongOf : List (LineKind × List ℕ) → List (List ℕ) → List ℕ → MergeFault → Type 0
+IsFirstWrongOf texts files numbers (Line named number wrong) =
+    (place : ℕ) × (slice_get numbers place ≡ Some named) × IsFirstWrongAt texts files place number
+IsFirstWrongOf texts files numbers fault = Unit {0}
