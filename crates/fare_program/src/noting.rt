@@ -7,33 +7,33 @@ use fare_service::Gate;
 use settlement::{LoadedUploads, Uploads};
 use std::alloc::AllocError;
 
-/// How many bytes the files have, or 2^64 - 1 if there are more.
-fn bytes_of(files: &[Vec<u8>]) -> u64 {
+/// How many bytes the uploads have, by what is known of their sizes, or 2^64 - 1 if there are more.
+fn bytes_of<U: Uploads>(uploads: &U) -> u64 {
     let mut bytes = 0u64;
-    for file in files {
-        bytes = bytes.saturating_add(file.len() as u64);
+    for upload in 0..uploads.len() {
+        bytes = bytes.saturating_add(uploads.size(upload) as u64);
     }
     bytes
 }
 
 /// A gate that keeps nobody waiting. Behind it each upload is noted that was posted.
 #[derive(Clone, Copy)]
-pub(crate) struct NotingGate<'a, D> {
+pub(crate) struct NotingGate<'a, D, U> {
     /// Where they are noted.
     disk: &'a D,
-    /// The bytes of each upload.
-    files: &'a [Vec<u8>],
+    /// What knows the size of each upload.
+    uploads: &'a U,
 }
 
-impl<'a, D: Disk> NotingGate<'a, D> {
+impl<'a, D: Disk, U: Uploads> NotingGate<'a, D, U> {
     /// The gate to these uploads, of which none is posted.
-    pub(crate) fn new(disk: &'a D, files: &'a [Vec<u8>]) -> Self {
-        disk.note_all(Amount::Bytes(bytes_of(files)));
-        NotingGate { disk, files }
+    pub(crate) fn new(disk: &'a D, uploads: &'a U) -> Self {
+        disk.note_all(Amount::Bytes(bytes_of(uploads)));
+        NotingGate { disk, uploads }
     }
 }
 
-impl<D: Disk> Gate for NotingGate<'_, D> {
+impl<D: Disk, U: Uploads> Gate for NotingGate<'_, D, U> {
     type Begun = u32;
 
     ghost begins = { λ begun. begun };
@@ -43,9 +43,8 @@ impl<D: Disk> Gate for NotingGate<'_, D> {
     }
 
     fn after(&self, upload: u32) {
-        if let Some(file) = self.files.get(upload as usize) {
-            self.disk.note_charged(Amount::Bytes(file.len() as u64));
-        }
+        let bytes = self.uploads.size(upload as usize);
+        self.disk.note_charged(Amount::Bytes(bytes as u64));
     }
 }
 
