@@ -84,11 +84,11 @@ impl<D: Disk> Uploads for NamedFiles<'_, D> {
     }
 }
 
-impl<D: Disk> LentUploads for NamedFiles<'_, D> {
+impl<D: Disk> LentUploads for &NamedFiles<'_, D> {
     ghost use Rattle.std.specs.Prelude.{None, map};
 
     // No contract says what a file of a disk has.
-    ghost known = { λ files. map (λ name. None) files.names.now };
+    ghost known = { λ files. map (λ name. None) files.now.names.now };
 
     fn len(&self) -> usize {
         self.names.len()
@@ -123,26 +123,26 @@ fn charge_named<'a, R: Threads + Wait + RandomSource + Sync, D: Disk + Sync, W: 
     options: &Options<'a>,
     table: &FareTable,
     token: Option<Token>,
-    uploads: NamedFiles<'_, D>,
+    uploads: &NamedFiles<'_, D>,
     out: &mut W,
 ) -> Result<bool, Fault<'a>>
     ensures ok { IfOk result (λ well. (files : List (List ℕ)) × (text : List ℕ)
-        × (length files ≡ length uploads.names.now)
+        × (length files ≡ length uploads.now.names.now)
         × ShowsAsked (asked_of options.now) table.now files token text well
         × Appends (W.contents out.old) (W.contents out.new) text) }
     ensures begun { IfErr result (λ fault. fault ≡ Fault.Write
         → (well : Bool) × (files : List (List ℕ)) × (text : List ℕ)
-        × (length files ≡ length uploads.names.now)
+        × (length files ≡ length uploads.now.names.now)
         × ShowsAsked (asked_of options.now) table.now files token text well
         × Begins (W.contents out.old) (W.contents out.new) text) }
     ensures fault { IfErr result (λ fault. fault ≢ Fault.Write
         → Keeps (W.contents out.old) (W.contents out.new)) }
 {
     if options.settle {
-        return charge_settled(rt, alloc, options, table, token, &uploads, out);
+        return charge_settled(rt, alloc, options, table, token, uploads, out);
     }
     let own = table.try_clone(alloc)?;
-    let gate = NotingGate::new(uploads.disk, &uploads);
+    let gate = NotingGate::new(uploads.disk, uploads);
     charge_lent(rt, alloc, options, own, token, uploads, &gate, out)
 }
 
@@ -193,7 +193,7 @@ pub(crate) fn charge_ahead<
         names,
         sizes: &sizes,
     };
-    match charge_named(rt, alloc, options, table, token, uploads, out) {
+    match charge_named(rt, alloc, options, table, token, &uploads, out) {
         Ok(well) => Ok(Some(well)),
         Err(Fault::Write) => Err(Fault::Write),
         Err(_) => Ok(None),

@@ -29,7 +29,7 @@ returns-clause-ok g c =
     (λ well is. (
       is.0,
       is.1,
-      lent_number _ is.0 is.2 ∙ length-map c.args.uploads.names.now _,
+      lent_number _ is.0 is.2 ∙ length-map c.args.uploads.now.names.now _,
       subst (λ (f : Fares). ShowsAsked asked f is.0 c.args.token is.1 well) c.in_ok-own.ensures is.3,
       is.4,
     ))
@@ -60,7 +60,7 @@ returns-clause-begun g c =
       is.0,
       is.1,
       is.2,
-      lent_number _ is.1 is.3 ∙ length-map c.args.uploads.names.now _,
+      lent_number _ is.1 is.3 ∙ length-map c.args.uploads.now.names.now _,
       subst (λ (f : Fares). ShowsAsked asked f is.1 c.args.token is.2 is.0) c.in_ok-own.ensures is.4,
       is.5,
     ))
