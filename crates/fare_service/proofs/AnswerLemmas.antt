@@ -1,13 +1,18 @@
 -- What workers answer: shares, or an upload that was not lent.
-use Rattle.std.specs.Prelude.{◌≡◌, List, [], ◌∷◌, length, map, All, Result, Ok}
+use Rattle.std.specs.Prelude.{◌≡◌, ℕ, List, [], ◌∷◌, length, map, All, Result, Ok, Err, IfErr}
 use Rattle.std.specs.List.{AllZip}
 use Rattle.std.proofs.Common.{ap, refl, subst, arith}
-use Rattle.std.proofs.lemmas.List.Elements.{All-nil, All-cons}
+use Rattle.std.proofs.lemmas.List.Elements.{All-nil, All-cons, All-contains}
 use Rattle.fare_service.specs.ServiceView.{ServiceView}
 use Rattle.fare_service.specs.ShareView.{ShareView}
 use Rattle.fare_service.specs.Shares.{IsShareOf}
 use Rattle.fare_service.specs.declared.lending.Unlent.{Unlent}
-use Rattle.fare_service.specs.inside.Lending.{IsAnswer}
+use Rattle.fare_service.specs.Lending.{IsUnlent}
+use Rattle.fare_service.specs.Refusals.{WasNotGathered}
+use Rattle.fare_service.specs.declared.faults.RunFault.{RunFault}
+use Rattle.fare_service.specs.declared.faults.RunFault.TheVariants.{Workers, NoMemory, Gather}
+use Rattle.fare_service.specs.declared.faults.RunFault.TheVariants.{Unlent as ForUnlent}
+use Rattle.fare_service.specs.inside.Lending.{IsAnswer, IsFaultOf}
 use Rattle.fare_service.specs.inside.Stopping.{WorkedOn}
 
 -- all workers gave their shares back
@@ -36,3 +41,26 @@ pub answered : (service : ServiceView) (olds news : List ShareView)
 answered service olds news answers are zip =
     let Z : List (Result ShareView Unlent) → Type 0 = λ rs. AllZip (IsAnswer service) olds rs in
     all_answered service olds news (subst Z are zip)
+
+unlent_each : (service : ServiceView) (olds : List ShareView)
+    (answers : List (Result ShareView Unlent)) → AllZip (IsAnswer service) olds answers
+    → All (λ answer. IfErr answer (λ u. IsUnlent service.uploads u.upload)) answers
+unlent_each service [] [] zip =
+    All-nil (λ answer. IfErr answer (λ u. IsUnlent service.uploads u.upload))
+unlent_each service [] (answer ∷ answers) zip = absurd zip
+unlent_each service (old ∷ olds) [] zip = absurd zip
+unlent_each service (old ∷ olds) (answer ∷ answers) zip =
+    All-cons (λ a. IfErr a (λ u. IsUnlent service.uploads u.upload)) answer answers zip.0.unlent
+    (unlent_each service olds answers zip.1)
+
+-- why there are not all shares is why nothing was gathered
+pub fault_told : (service : ServiceView) (workers : ℕ) (olds : List ShareView)
+    (answers : List (Result ShareView Unlent)) (fault : RunFault)
+    → AllZip (IsAnswer service) olds answers → IsFaultOf answers fault
+    → WasNotGathered service workers fault
+fault_told service workers olds answers Workers zip is = absurd is
+fault_told service workers olds answers NoMemory zip is = tt
+fault_told service workers olds answers (Gather fault) zip is = absurd is
+fault_told service workers olds answers (ForUnlent unlent) zip is =
+    All-contains (λ answer. IfErr answer (λ u. IsUnlent service.uploads u.upload)) answers
+    (Err unlent) (unlent_each service olds answers zip) is

@@ -36,7 +36,7 @@ not_again (w ∷ works) upload none =
         sym (count_other upload w.upload (map (λ x. x.upload) works) is) ∙ none
 
 -- the bytes with which an upload was lent; none if nobody drew it
-lent_as : (service : ServiceView) (works : List Worked) → All (IsWorked service) works → ℕ → List ℕ
+abbrev lent_as : (service : ServiceView) (works : List Worked) → All (IsWorked service) works → ℕ → List ℕ
 lent_as service [] all upload = []
 lent_as service (w ∷ works) all upload =
     cond (w.upload == upload) (All-head (IsWorked service) w works all).file
@@ -73,16 +73,16 @@ lent_told service (w ∷ works) all once =
       where
         by_test : Tells w.upload x.upload → lent_as service works tail x.upload
             ≡ lent_as service (w ∷ works) all x.upload
-        by_test (inl (yes, same)) = absurd (apart (sym same))
-        by_test (inr (off, other)) =
-            sym (ap (λ b. cond b head.file (lent_as service works tail x.upload)) off)
+        by_test (inl (hit, same)) = absurd (apart (sym same))
+        by_test (inr (miss, other)) =
+            sym (ap (λ b. cond b head.file (lent_as service works tail x.upload)) miss)
 
 -- the known bytes, or these
-file_for : Option (List ℕ) → List ℕ → List ℕ
+abbrev file_for : Option (List ℕ) → List ℕ → List ℕ
 file_for None lent = lent
 file_for (Some known) lent = known
 
-files_from : (ℕ → List ℕ) → ℕ → List (Option (List ℕ)) → List (List ℕ)
+abbrev files_from : (ℕ → List ℕ) → ℕ → List (Option (List ℕ)) → List (List ℕ)
 files_from lent first [] = []
 files_from lent first (known ∷ uploads) =
     file_for known (lent first) ∷ files_from lent (suc first) uploads

@@ -36,9 +36,9 @@ ends_of-requires g c =
     let all : All (IsShareOf service) c.args.shares.items =
     subst S (sym c.self.view_is) c.requires in
     let P : List ShareView → Type 0 =
-    λ ss. All (λ share. All (λ d. d.upload < c.len.result) share.done) ss in
+    λ ss. All (λ share. All (λ d. d.upload < c.len-2.result) share.done) ss in
     subst P (sym c.as_slice.ensures.value)
-    (done_within service c.len.result c.args.shares.items (sym c.len.ensures) all)
+    (done_within service c.len-2.result c.args.shares.items (sym c.len-2.ensures) all)
 
 pub added-totals-requires : goal.added-totals-requires
 added-totals-requires g c =
@@ -53,11 +53,11 @@ added-totals-requires g c =
     let S : ServiceView → Type 0 = λ h. All (IsShareOf h) c.args.shares.items in
     let all : All (IsShareOf service) c.args.shares.items =
     subst S (sym c.self.view_is) c.requires in
-    let number : c.len.result ≡ length service.uploads = c.len.ensures in
+    let number : c.len-2.result ≡ length service.uploads = c.len-2.ensures in
     let told : c.in_ok-ends.ends.items
     ≡ with_all_done (replicate (length service.uploads) Undrawn) c.args.shares.items =
     c.in_ok-ends.ensures.ends
-    ∙ ap (with_all_done (replicate c.len.result Undrawn)) c.as_slice.ensures.value
+    ∙ ap (with_all_done (replicate c.len-2.result Undrawn)) c.as_slice.ensures.value
     ∙ ap (λ n. with_all_done (replicate n Undrawn) c.args.shares.items) number in
     let workers : map sums_of c.in_ok-workers.workers.items
     ≡ map (λ share. share.totals) c.args.shares.items =
@@ -94,11 +94,11 @@ invariant_of-result g c =
     let S : ServiceView → Type 0 = λ h. All (IsShareOf h) c.args.shares.items in
     let all : All (IsShareOf service) c.args.shares.items =
     subst S (sym c.self.view_is) c.requires in
-    let number : c.len.result ≡ length service.uploads = c.len.ensures in
+    let number : c.len-2.result ≡ length service.uploads = c.len-2.ensures in
     let told : c.in_ok-ends.ends.items
     ≡ with_all_done (replicate (length service.uploads) Undrawn) c.args.shares.items =
     c.in_ok-ends.ensures.ends
-    ∙ ap (with_all_done (replicate c.len.result Undrawn)) c.as_slice.ensures.value
+    ∙ ap (with_all_done (replicate c.len-2.result Undrawn)) c.as_slice.ensures.value
     ∙ ap (λ n. with_all_done (replicate n Undrawn) c.args.shares.items) number in
     let workers : map sums_of c.in_ok-workers.workers.items
     ≡ map (λ share. share.totals) c.args.shares.items =
@@ -130,11 +130,11 @@ returns-clause-headline g c =
     let S : ServiceView → Type 0 = λ h. All (IsShareOf h) c.args.shares.items in
     let all : All (IsShareOf service) c.args.shares.items =
     subst S (sym c.self.view_is) c.requires in
-    let number : c.len.result ≡ length service.uploads = c.len.ensures in
+    let number : c.len-2.result ≡ length service.uploads = c.len-2.ensures in
     let told : c.in_ok-ends.ends.items
     ≡ with_all_done (replicate (length service.uploads) Undrawn) c.args.shares.items =
     c.in_ok-ends.ensures.ends
-    ∙ ap (with_all_done (replicate c.len.result Undrawn)) c.as_slice.ensures.value
+    ∙ ap (with_all_done (replicate c.len-2.result Undrawn)) c.as_slice.ensures.value
     ∙ ap (λ n. with_all_done (replicate n Undrawn) c.args.shares.items) number in
     let workers : map sums_of c.in_ok-workers.workers.items
     ≡ map (λ share. share.totals) c.args.shares.items =
@@ -185,11 +185,11 @@ returns-clause-undrawn g c =
     let S : ServiceView → Type 0 = λ h. All (IsShareOf h) c.args.shares.items in
     let all : All (IsShareOf service) c.args.shares.items =
     subst S (sym c.self.view_is) c.requires in
-    let number : c.len.result ≡ length service.uploads = c.len.ensures in
+    let number : c.len-2.result ≡ length service.uploads = c.len-2.ensures in
     let told : c.in_ok-ends.ends.items
     ≡ with_all_done (replicate (length service.uploads) Undrawn) c.args.shares.items =
     c.in_ok-ends.ensures.ends
-    ∙ ap (with_all_done (replicate c.len.result Undrawn)) c.as_slice.ensures.value
+    ∙ ap (with_all_done (replicate c.len-2.result Undrawn)) c.as_slice.ensures.value
     ∙ ap (λ n. with_all_done (replicate n Undrawn) c.args.shares.items) number in
     told_undrawn service c.args.shares.items all c.close_with.new.closed.items
     c.in_ok-close_with.ensures.ok c.in_ok-ends.ends.items told

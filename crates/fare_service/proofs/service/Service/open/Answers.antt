@@ -1,4 +1,4 @@
-use Rattle.std.proofs.Common.{ℕ, ◌≡◌, ◌<◌, ◌+◌, List, [], map, sym, ◌∙◌, ap, subst, arith}
+use Rattle.std.proofs.Common.{ℕ, ◌≡◌, ◌<◌, ◌+◌, List, [], sym, ◌∙◌, ap, subst, arith}
 use Rattle.shard_book.specs.Sums.{sums_of}
 use Rattle.shared_books.specs.Claims.{all_claims}
 use Rattle.shared_books.specs.Passes.{PassView}

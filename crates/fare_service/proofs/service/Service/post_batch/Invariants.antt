@@ -1,4 +1,4 @@
-use Rattle.std.proofs.Common.{◌≡◌, ℕ, ◌+◌, ◌*◌, ◌≤◌, List, length}
+use Rattle.std.proofs.Common.{◌≡◌, ◌+◌, ◌*◌, ◌≤◌, List, length}
 use Rattle.tap_views.specs.Runs.{AreRuns}
 use Rattle.shard_book.specs.Sums.{sums_of}
 use Rattle.fare_service.specs.ServiceView.{shards_of}

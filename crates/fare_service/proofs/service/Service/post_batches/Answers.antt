@@ -1,4 +1,4 @@
-use Rattle.std.proofs.Common.{List, [], ◌++◌, ◌∷◌, ◌≤◌, ◌+◌, ◌*◌, ◌<◌, ◌^◌, length, true, false}
+use Rattle.std.proofs.Common.{List, [], ◌++◌, ◌∷◌, ◌≤◌, ◌*◌, ◌<◌, ◌^◌, length, true, false}
 use Rattle.std.proofs.Common.{inl, ◌∙◌, sym, refl, subst, append-nil, arith}
 use Rattle.tap_views.specs.Layout.{Tap}
 use Rattle.tap_views.specs.Files.{IsFile}

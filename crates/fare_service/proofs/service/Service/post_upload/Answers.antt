@@ -1,4 +1,4 @@
-use Rattle.std.proofs.Common.{ℕ, Option, None, Some, ap, ◌∙◌, sym, refl, subst, inl}
+use Rattle.std.proofs.Common.{ℕ, Option, None, Some, sym, refl, subst, inl}
 use Rattle.report_texts.specs.declared.upload_end.UploadEnd.{UploadEnd}
 use Rattle.shard_book.specs.Sums.{sums_of}
 use Rattle.tap_views.specs.declared.fault.LayoutFault.{LayoutFault}

@@ -1,17 +1,19 @@
 use Rattle.std.proofs.Common.{◌∙◌, All}
 use Rattle.fare_service.specs.declared.faults.RunFault.TheVariants.{Gather}
 use Rattle.fare_service.specs.declared.faults.GatherFault.{GatherFault}
+use Rattle.fare_service.specs.declared.faults.RunFault.{RunFault}
 use Rattle.fare_service.specs.Faults.{MissesNothing}
+use Rattle.fare_service.specs.Refusals.{WasNotGathered}
 use Rattle.fare_service.specs.inside.Stopping.{WorkedOn}
-use Rattle.fare_service.proofs.AnswerLemmas.{answered}
+use Rattle.fare_service.proofs.AnswerLemmas.{answered, fault_told}
 use Rattle.fare_service.proofs.ClaimLemmas.{claims_kept}
 use Rattle.fare_service.proofs.EndingLemmas.{have_stopped}
 use Rattle.fare_service.proofs.GatheredShares.{has_run}
 use Rattle.fare_service.proofs.service.Service.run.Goals as goal
 use Rattle.tap_views.proofs.Choices.{IfErr_handed_on}
 
-pub gather-outcome-requires : goal.gather-outcome-requires
-gather-outcome-requires g c =
+pub gather-requires : goal.gather-requires
+gather-requires g c =
     (answered c.args.self c.in_ok-shares.shares.items c.in_ok-shares-2.shares.items
     c.in_ok-answers.answers.items c.in_ok-shares-2.ensures.shares c.in_ok-answers.ensures).shares
 
@@ -42,3 +44,26 @@ returns-in_err-outcome-clause-claims g c whole =
     (c.in_ok-shares.ensures.claims whole) in
     IfErr_handed_on c.from_residual-in_err-outcome.result (Gather fault) MissesNothing
     c.from_residual-in_err-outcome.ensures.1 (c.in_err-outcome.ensures.claims kept)
+
+-- ---- why nothing was gathered
+pub returns-in_err-shares-2-clause-gathered : goal.returns-in_err-shares-2-clause-gathered
+returns-in_err-shares-2-clause-gathered g c =
+    let fault : RunFault = c.in_err-shares-2.field-0.0 in
+    IfErr_handed_on c.from_residual-in_err-shares-2.result fault
+    (WasNotGathered c.args.self c.args.workers) c.from_residual-in_err-shares-2.ensures.1
+    (fault_told c.args.self c.args.workers c.in_ok-shares.shares.items
+    c.in_ok-answers.answers.items fault c.in_ok-answers.ensures c.in_err-shares-2.ensures.fault)
+
+pub returns-in_err-outcome-clause-gathered : goal.returns-in_err-outcome-clause-gathered
+returns-in_err-outcome-clause-gathered g c =
+    let fault : GatherFault = c.in_err-outcome.field-0.0 in
+    let all = answered c.args.self c.in_ok-shares.shares.items c.in_ok-shares-2.shares.items
+    c.in_ok-answers.answers.items c.in_ok-shares-2.ensures.shares c.in_ok-answers.ensures in
+    IfErr_handed_on c.from_residual-in_err-outcome.result (Gather fault)
+    (WasNotGathered c.args.self c.args.workers) c.from_residual-in_err-outcome.ensures.1 (
+      c.in_ok-shares-2.shares.items,
+      all.number ∙ c.in_ok-shares.ensures.number,
+      all.shares,
+      c.in_err-outcome.ensures.fault,
+      c.in_err-outcome.ensures.first,
+    )

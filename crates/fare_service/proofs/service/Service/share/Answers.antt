@@ -10,7 +10,7 @@ use Rattle.fare_service.proofs.ShareLemmas.{share_left, claims_given_at}
 use Rattle.fare_service.proofs.service.Service.share.Goals as goal
 
 pub returns-clause-new : goal.returns-clause-new
-returns-clause-new c =
+returns-clause-new g c =
     let P : List PassView → Type 0 = λ ps. (shard : ℕ) → made_visits_at shard ps ≡ [] in
     fresh_share c.args.self.now c.in_ok-drawer.drawer c.split_passes.new.new.items
     (sums_of c.new.result) c.new-2.result.items
@@ -25,7 +25,7 @@ returns-clause-new c =
     c.new-2.ensures.items
 
 pub returns-clause-fresh : goal.returns-clause-fresh
-returns-clause-fresh c =
+returns-clause-fresh g c =
     let P : List PassView → Type 0 = λ ps. (shard : ℕ) → made_visits_at shard ps ≡ [] in
     fresh c.in_ok-drawer.drawer c.split_passes.new.new.items (sums_of c.new.result)
     c.new-2.result.items (ap (λ d. d.drawn) c.in_ok-drawer.ensures.new)
@@ -34,7 +34,7 @@ returns-clause-fresh c =
     c.new-2.ensures.items
 
 pub returns-clause-half : goal.returns-clause-half
-returns-clause-half c = record {
+returns-clause-half g c = record {
   drawing = ap (λ d. d.claims) c.in_ok-drawer.ensures.new
       ∙ ap (λ (s : ShareView). claims_given s.drawer.claims) c.old.view_is;
   books = λ shard. ap (claims_at shard) c.in_ok-split_passes.ensures.new
@@ -43,7 +43,7 @@ returns-clause-half c = record {
 }
 
 pub returns-clause-old : goal.returns-clause-old
-returns-clause-old c =
+returns-clause-old g c =
     let totals = sums_of c.old.inside.posting.totals in
     let done = c.old.inside.done.items in
     ap (λ d. holding d c.split_passes.new.old.items totals done) c.split.ensures.old
@@ -51,7 +51,7 @@ returns-clause-old c =
     c.in_ok-split_passes.ensures.old ∙ ap left_share c.old.view_is)
 
 pub returns-clause-kept : goal.returns-clause-kept
-returns-clause-kept c =
+returns-clause-kept g c =
     let totals = sums_of c.old.inside.posting.totals in
     let done = c.old.inside.done.items in
     let left = ap (λ d. holding d c.split_passes.new.old.items totals done) c.split.ensures.old

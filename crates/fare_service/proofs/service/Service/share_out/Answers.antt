@@ -9,7 +9,7 @@ use Rattle.fare_service.proofs.EndingLemmas.{fresh_left}
 use Rattle.fare_service.proofs.service.Service.share_out.Goals as goal
 
 pub loop-init : goal.loop-init
-loop-init c =
+loop-init g c =
     let S : ShareView → Type 0 = IsShareOf c.args.self.now in
     let P : List ShareView → Type 0 = All S in
     let nothing = c.new-shares.ensures.items in
@@ -24,7 +24,7 @@ loop-init c =
     }
 
 pub loop-preserved : goal.loop-preserved
-loop-preserved c =
+loop-preserved g c =
     let S : ShareView → Type 0 = IsShareOf c.args.self.now in
     let P : List ShareView → Type 0 = All S in
     let share = c.in_ok-share.share in
@@ -57,25 +57,25 @@ loop-preserved c =
     }
 
 pub returns-clause-shares : goal.returns-clause-shares
-returns-clause-shares c =
+returns-clause-shares g c =
     let S : ShareView → Type 0 = IsShareOf c.args.self.now in
     let P : List ShareView → Type 0 = All S in
     subst P (sym {A = List ShareView} c.in_ok-insert.ensures.items)
     (All-cons S c.loop.first c.loop.shares.items c.loop.invariant.first c.loop.invariant.each)
 
 pub returns-clause-number : goal.returns-clause-number
-returns-clause-number c =
+returns-clause-number g c =
     omega (arith, ap length c.in_ok-insert.ensures.items, c.loop.invariant.number)
 
 pub returns-clause-fresh : goal.returns-clause-fresh
-returns-clause-fresh c f =
+returns-clause-fresh g c f =
     let both = c.loop.invariant.fresh f in
     subst (λ (ss : List ShareView). All IsFresh ss)
     (sym {A = List ShareView} c.in_ok-insert.ensures.items)
     (All-cons IsFresh c.loop.first c.loop.shares.items both.0 both.1)
 
 pub returns-clause-claims : goal.returns-clause-claims
-returns-clause-claims c whole =
+returns-clause-claims g c whole =
     subst (λ (ss : List ShareView). HaveAllClaims (shards_of c.args.self.now) ss)
     (sym {A = List ShareView} c.in_ok-insert.ensures.items)
     (split_all (shards_of c.args.self.now) c.loop.first c.loop.shares.items

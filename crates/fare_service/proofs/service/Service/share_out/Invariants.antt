@@ -6,7 +6,7 @@ use Rattle.fare_service.proofs.ClaimLemmas.{AreSharesSplit}
 use Rattle.fare_service.proofs.service.Service.share_out.Given as goal
 
 abbrev pub invariant-loop : goal.invariant-loop
-invariant-loop l = record {
+invariant-loop g l = record {
   first : IsShareOf l.self l.first;
   each : All (IsShareOf l.self) l.shares.items;
   number : length l.shares.items + 1 ≡ l.counter;

@@ -7,7 +7,7 @@ use Rattle.fare_service.proofs.ClaimLemmas.{left_until, left_here, left_step, le
 use Rattle.fare_service.proofs.service.Service.split_passes.Goals as goal
 
 pub loop-shard-preserved : goal.loop-shard-preserved
-loop-shard-preserved c =
+loop-shard-preserved g c =
     let old = c.args.old.now.items in
     let shard = c.loop-shard.shard in
     let within : shard < length old =
@@ -46,7 +46,7 @@ loop-shard-preserved c =
     }
 
 pub returns-clause-old : goal.returns-clause-old
-returns-clause-old c =
+returns-clause-old g c =
     c.loop-shard.invariant.old ∙ left_all c.loop-shard.shard c.args.old.now.items
     (omega (
       arith,

@@ -5,7 +5,7 @@ use Rattle.fare_service.proofs.ClaimLemmas.{left_until}
 use Rattle.fare_service.proofs.service.Service.split_passes.Given as goal
 
 abbrev pub invariant-loop-shard : goal.invariant-loop-shard
-invariant-loop-shard l = record {
+invariant-loop-shard g l = record {
   old : l.old.items ≡ left_until l.shard l.fn.old.items;
   books : books_of l.old.items ≡ l.fn.self.books;
   new : l.new.items ≡ map fresh_pass (take l.shard l.fn.old.items);

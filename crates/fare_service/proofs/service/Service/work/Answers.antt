@@ -7,7 +7,7 @@ use Rattle.fare_service.specs.ShareView.{ShareView}
 use Rattle.fare_service.specs.Shares.{IsShareOf, WentOn}
 use Rattle.fare_service.proofs.ShareLemmas.{holding, next_share, worked_none}
 use Rattle.fare_service.proofs.StoppingLemmas.{Going, going_start, going_next, cut_next, none_next}
-use Rattle.fare_service.proofs.StoppingLemmas.{share_stays, stopped_went_on}
+use Rattle.fare_service.proofs.StoppingLemmas.{stopped_went_on}
 use Rattle.fare_service.proofs.service.Service.work.Goals as goal
 
 ok_holds : {T E P : Type 0} (r : Result T E) → is_err r ≡ false → OnOk r P → P
@@ -16,8 +16,6 @@ ok_holds (Err e) good holds = absurd (cc)
 
 pub returns-in_default-clause-went_on : goal.returns-in_default-clause-went_on
 returns-in_default-clause-went_on g c =
-    let W : ShareView → Type 0 = WentOn c.args.self.now c.args.share in
-    subst W (sym c.share.view_is)
     ([], worked_none c.args.self.now c.args.share c.args.share refl refl refl refl refl)
 
 pub returns-then-is_err-clause-went_on : goal.returns-then-is_err-clause-went_on
@@ -49,23 +47,23 @@ loop-init g c =
 
 pub loop-preserved : goal.loop-preserved
 loop-preserved g c =
-    let next = c.post_drawn.result.0 in
-    let e = c.in-Some.ensures.drawn in
-    let done = c.post_drawn.ensures in
+    let next = c.post_drawn-goes_on.result.0 in
+    let e = c.in-Some-next_number.ensures.drawn in
+    let done = c.post_drawn-goes_on.ensures in
     let drawn = ap (λ d. d.drawn) e.2
     ∙ ap (λ (u : ℕ). c.loop.drawer.drawn ++ u ∷ []) (sym done.upload) in
     record {
       share = next_share c.args.self.now c.loop.drawer c.next_number.new.drawer
-          c.loop.posting.passes.items c.post_drawn.new.posting.passes.items
-          (sums_of c.loop.posting.totals) (sums_of c.post_drawn.new.posting.totals)
+          c.loop.posting.passes.items c.post_drawn-goes_on.new.posting.passes.items
+          (sums_of c.loop.posting.totals) (sums_of c.post_drawn-goes_on.new.posting.totals)
           c.loop.done.items c.push_reserved.new.self.items next.upload next.end
           (holding c.loop.drawer c.loop.posting.passes.items (sums_of c.loop.posting.totals)
           c.loop.done.items) refl c.loop.invariant.share
           (ap (λ d. d.claims) e.2) drawn (ap (λ d. d.drawn_from) e.2)
           c.push_reserved.ensures.items done.worked done.few;
       going = going_next c.args.self.now c.args.share c.loop.drawer c.next_number.new.drawer
-          c.loop.posting.passes.items c.post_drawn.new.posting.passes.items
-          (sums_of c.loop.posting.totals) (sums_of c.post_drawn.new.posting.totals)
+          c.loop.posting.passes.items c.post_drawn-goes_on.new.posting.passes.items
+          (sums_of c.loop.posting.totals) (sums_of c.post_drawn-goes_on.new.posting.totals)
           c.loop.done.items c.push_reserved.new.self.items next
           c.loop.invariant.going (ap (λ d. d.claims) e.2) drawn
           c.push_reserved.ensures.items done.worked done.full
@@ -95,14 +93,14 @@ returns-in_default-next_number-clause-stopped g c =
 -- the last upload was cut
 pub returns-then-not-goes_on-clause-share : goal.returns-then-not-goes_on-clause-share
 returns-then-not-goes_on-clause-share g c =
-    let next = c.post_drawn.result.0 in
-    let e = c.in-Some.ensures.drawn in
-    let done = c.post_drawn.ensures in
+    let next = c.post_drawn-goes_on.result.0 in
+    let e = c.in-Some-next_number.ensures.drawn in
+    let done = c.post_drawn-goes_on.ensures in
     let drawn = ap (λ d. d.drawn) e.2
     ∙ ap (λ (u : ℕ). c.loop.drawer.drawn ++ u ∷ []) (sym done.upload) in
     next_share c.args.self.now c.loop.drawer c.next_number.new.drawer c.loop.posting.passes.items
-    c.post_drawn.new.posting.passes.items
-    (sums_of c.loop.posting.totals) (sums_of c.post_drawn.new.posting.totals) c.loop.done.items
+    c.post_drawn-goes_on.new.posting.passes.items
+    (sums_of c.loop.posting.totals) (sums_of c.post_drawn-goes_on.new.posting.totals) c.loop.done.items
     c.push_reserved.new.self.items next.upload next.end
     (holding c.loop.drawer c.loop.posting.passes.items (sums_of c.loop.posting.totals)
     c.loop.done.items) refl c.loop.invariant.share
@@ -111,15 +109,15 @@ returns-then-not-goes_on-clause-share g c =
 
 pub returns-then-not-goes_on-clause-went_on : goal.returns-then-not-goes_on-clause-went_on
 returns-then-not-goes_on-clause-went_on g c =
-    let next = c.post_drawn.result.0 in
-    let e = c.in-Some.ensures.drawn in
-    let done = c.post_drawn.ensures in
+    let next = c.post_drawn-goes_on.result.0 in
+    let e = c.in-Some-next_number.ensures.drawn in
+    let done = c.post_drawn-goes_on.ensures in
     let drawn = ap (λ d. d.drawn) e.2
     ∙ ap (λ (u : ℕ). c.loop.drawer.drawn ++ u ∷ []) (sym done.upload) in
     stopped_went_on c.args.self.now c.args.share _
     (cut_next c.args.self.now c.args.share c.loop.drawer c.next_number.new.drawer
-    c.loop.posting.passes.items c.post_drawn.new.posting.passes.items
-    (sums_of c.loop.posting.totals) (sums_of c.post_drawn.new.posting.totals) c.loop.done.items
+    c.loop.posting.passes.items c.post_drawn-goes_on.new.posting.passes.items
+    (sums_of c.loop.posting.totals) (sums_of c.post_drawn-goes_on.new.posting.totals) c.loop.done.items
     c.push_reserved.new.self.items next
     c.loop.invariant.going (ap (λ d. d.claims) e.2) drawn
     c.push_reserved.ensures.items done.worked done.full
@@ -127,15 +125,15 @@ returns-then-not-goes_on-clause-went_on g c =
 
 pub returns-then-not-goes_on-clause-stopped : goal.returns-then-not-goes_on-clause-stopped
 returns-then-not-goes_on-clause-stopped g c =
-    let next = c.post_drawn.result.0 in
-    let e = c.in-Some.ensures.drawn in
-    let done = c.post_drawn.ensures in
+    let next = c.post_drawn-goes_on.result.0 in
+    let e = c.in-Some-next_number.ensures.drawn in
+    let done = c.post_drawn-goes_on.ensures in
     let drawn = ap (λ d. d.drawn) e.2
     ∙ ap (λ (u : ℕ). c.loop.drawer.drawn ++ u ∷ []) (sym done.upload) in
     inr
     (cut_next c.args.self.now c.args.share c.loop.drawer c.next_number.new.drawer
-    c.loop.posting.passes.items c.post_drawn.new.posting.passes.items
-    (sums_of c.loop.posting.totals) (sums_of c.post_drawn.new.posting.totals) c.loop.done.items
+    c.loop.posting.passes.items c.post_drawn-goes_on.new.posting.passes.items
+    (sums_of c.loop.posting.totals) (sums_of c.post_drawn-goes_on.new.posting.totals) c.loop.done.items
     c.push_reserved.new.self.items next
     c.loop.invariant.going (ap (λ d. d.claims) e.2) drawn
     c.push_reserved.ensures.items done.worked done.full

@@ -5,23 +5,27 @@ use Rattle.std.proofs.lemmas.List.Elements.{All-nil, All-cons, All-append}
 use Rattle.std.specs.Vec.Iter.{into_iter_items}
 use Rattle.std.specs.declared.thread.PromisedHandle.{PromisedHandle}
 use Rattle.fare_service.specs.declared.service.running.OfShare.{OfShare}
-use Rattle.fare_service.specs.declared.service.share.Share.{Share}
+use Rattle.std.specs.Prelude.{Result}
 use Rattle.std.specs.List.{AllZip}
 use Rattle.fare_service.specs.ShareView.{ShareView}
-use Rattle.fare_service.specs.inside.Stopping.{WorkedOn}
+use Rattle.fare_service.specs.inside.Lending.{IsAnswer}
+use Rattle.fare_service.specs.declared.lending.Unlent.{Unlent}
 use Rattle.fare_service.proofs.ThreadLemmas.{kept_zip}
 use Rattle.fare_service.proofs.service.Service.work_in.Goals as goal
 
-abbrev began_with : PromisedHandle Share OfShare → ShareView
+abbrev Answer : Type 0
+Answer = Result ShareView Unlent
+
+abbrev began_with : {U : Type 0} → PromisedHandle Answer (OfShare U) → ShareView
 began_with h = h.promise.began.value
 
 pub loop-share-preserved : goal.loop-share-preserved
 loop-share-preserved g c =
     let steps = c.in-Some.ensures.steps in
-    let H : PromisedHandle Share OfShare → Type 0 = λ h. h.promise.service.now ≡ c.args.self.now in
-    let P : List (PromisedHandle Share OfShare) → Type 0 = All H in
+    let H : PromisedHandle Answer (OfShare _) → Type 0 = λ h. h.promise.service.now ≡ c.args.self.now in
+    let P : List (PromisedHandle Answer (OfShare _)) → Type 0 = All H in
     let items = c.in_ok-push.ensures.items in
-    let mine : H c.in-Ok.thread = ap (λ (p : OfShare). p.service.now) c.in-Ok.ensures.ok in
+    let mine : H c.in-Ok.thread = ap (λ (p : OfShare _). p.service.now) c.in-Ok.ensures.ok in
     record {
       left = append_assoc c.loop-share.yielded (c.in-Some.share ∷ [])
           (into_iter_items c.next.new.self) ∙ ap (λ ss. c.loop-share.yielded ++ ss) (sym steps.0)
@@ -34,7 +38,7 @@ loop-share-preserved g c =
           ∙ (map-append began_with c.loop-share.threads.items (c.in-Ok.thread ∷ [])
           ∙ (ap (λ ss. ss ++ began_with c.in-Ok.thread ∷ []) c.loop-share.invariant.began
           ∙ ap (λ s. c.loop-share.yielded ++ s ∷ [])
-          (ap (λ (p : OfShare). p.began.value) c.in-Ok.ensures.ok ∙ c.of-began.ensures)));
+          (ap (λ (p : OfShare _). p.began.value) c.in-Ok.ensures.ok ∙ c.of-began.ensures)));
       number = omega (
         arith,
         c.loop-share.invariant.number,
@@ -44,8 +48,8 @@ loop-share-preserved g c =
       );
     }
 
-pub returns-clause-worked : goal.returns-clause-worked
-returns-clause-worked g c =
+pub returns : goal.returns
+returns g c =
     let inv = c.loop-share.invariant in
     let left = into_iter_items c.loop-share.share-iterator in
     let none : left ≡ [] =
@@ -54,7 +58,7 @@ returns-clause-worked g c =
     sym (append-nil c.loop-share.yielded)
     ∙ (ap (λ ss. c.loop-share.yielded ++ ss) (sym none) ∙ inv.left) in
     let rs = c.in-Ok-join_promised.worked.items in
-    let P : List ShareView → Type 0 = λ ss. AllZip (WorkedOn c.args.self.now) ss rs in
+    let P : List ShareView → Type 0 = λ ss. AllZip (IsAnswer c.args.self.now) ss rs in
     subst P (inv.began ∙ all)
     (kept_zip _ c.loop-share.threads.items rs _ (omega (arith, c.loop-share.threads.ok.0))
     (omega (
@@ -63,6 +67,6 @@ returns-clause-worked g c =
       c.in-Ok-join_promised.worked.ok.0,
       c.in-Ok-join_promised.ensures.len,
     )) c.in-Ok-join_promised.ensures.each
-    (WorkedOn c.args.self.now) (λ (p : OfShare). p.began.value)
-    (λ (p : OfShare). p.service.now ≡ c.args.self.now) inv.held
-    (λ p r own kept. subst (λ s. WorkedOn s p.began.value r) own kept.1))
+    (IsAnswer c.args.self.now) (λ (p : OfShare _). p.began.value)
+    (λ (p : OfShare _). p.service.now ≡ c.args.self.now) inv.held
+    (λ p r own kept. subst (λ s. IsAnswer s p.began.value r) own kept))
