@@ -152,12 +152,7 @@ fn charge_named<'a, R: Threads + Wait + RandomSource + Sync, D: Disk + Sync, W: 
 ///
 /// Where it says nothing, nothing was written. Then the files are to be loaded in their turns: so the
 /// fault that is told is that of the first file in the order of the words.
-pub(crate) fn charge_ahead<
-    'a,
-    R: Threads + Wait + RandomSource + Sync,
-    D: Disk + Sync,
-    W: Write,
->(
+pub(crate) fn charge_ahead<'a, R: Threads + Wait + RandomSource + Sync, D: Disk + Sync, W: Write>(
     rt: &R,
     alloc: Global,
     disk: &D,

@@ -180,5 +180,14 @@ pub(crate) fn charge<'a, R: Threads + Wait + RandomSource + Sync, D: Disk + Sync
         return charge_settled(rt, alloc, options, &table, token, &uploads, out);
     }
     let gate = NotingGate::new(disk, &uploads);
-    charge_lent(rt, alloc, options, table, token, files.as_slice(), &gate, out)
+    charge_lent(
+        rt,
+        alloc,
+        options,
+        table,
+        token,
+        files.as_slice(),
+        &gate,
+        out,
+    )
 }

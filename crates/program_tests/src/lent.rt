@@ -174,7 +174,16 @@ fn reads_each_file_once(rt: HostRuntime) -> Result<(), Fail> {
 fn tells_the_first_unread_file(rt: HostRuntime) -> Result<(), Fail> {
     let alloc = rt.alloc();
     for workers in ["1", "2", "16"] {
-        let words = ["--table", "t", "--workers", workers, "a", "none", "b", "long"];
+        let words = [
+            "--table",
+            "t",
+            "--workers",
+            workers,
+            "a",
+            "none",
+            "b",
+            "long",
+        ];
         let came = run_bare(&rt, alloc, &words)?;
         assert_eq!(rt; (came.status, came.out.len()), (1, 0), "by {workers}");
         assert_eq!(rt;
