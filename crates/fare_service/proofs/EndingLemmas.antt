@@ -476,25 +476,25 @@ pub have_stopped : (service : ServiceView) (olds news : List ShareView) (workers
     → HasOutcome service news outcome → ToldUndrawn news outcome → FullIsMade news
     → HaveStopped workers outcome
 have_stopped service olds news workers outcome number fresh worked has undrawn full = record {
-      few_cut = few
-          (cuts_few service (2 ^ 62 ≤ outcome.totals.taps + cuts outcome) news works all
-          (All-weaker
-          (λ (s : ShareView). SomeFull s.passes → (shard : ℕ) × (2 ^ 62 ≤ visits_held shard news))
-          (λ (s : ShareView). SomeFull s.passes → 2 ^ 62 ≤ outcome.totals.taps + cuts outcome)
-          (λ s made some. enough (made some)) news full));
-      undrawn = λ upload at. (
-          let past : upload < length service.uploads =
-          omega (
-            arith,
-            slice_get_within outcome.ends upload Undrawn at,
-            headline.uploads,
-            lent_number service.uploads has.files has.lent,
-          ) in
-          let left = All-weaker (λ (s : ShareView). s.drawer.seen ≤ upload)
-          (λ (s : ShareView). s.drawer.seen < length service.uploads) (λ s h. omega (arith, h, past))
-          news (undrawn upload at) in
-          omega (arith, posting_few service news works all left, posting_are, cuts_are));
-    }
+  few_cut = few
+      (cuts_few service (2 ^ 62 ≤ outcome.totals.taps + cuts outcome) news works all
+      (All-weaker
+      (λ (s : ShareView). SomeFull s.passes → (shard : ℕ) × (2 ^ 62 ≤ visits_held shard news))
+      (λ (s : ShareView). SomeFull s.passes → 2 ^ 62 ≤ outcome.totals.taps + cuts outcome)
+      (λ s made some. enough (made some)) news full));
+  undrawn = λ upload at. (
+      let past : upload < length service.uploads =
+      omega (
+        arith,
+        slice_get_within outcome.ends upload Undrawn at,
+        headline.uploads,
+        lent_number service.uploads has.files has.lent,
+      ) in
+      let left = All-weaker (λ (s : ShareView). s.drawer.seen ≤ upload)
+      (λ (s : ShareView). s.drawer.seen < length service.uploads) (λ s h. omega (arith, h, past))
+      news (undrawn upload at) in
+      omega (arith, posting_few service news works all left, posting_are, cuts_are));
+}
   where
     works : List (List Worked)
     works = has.works

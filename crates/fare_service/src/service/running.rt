@@ -48,10 +48,7 @@ fn push(shares: &mut Vec<Share>, share: Share) -> Result<(), NoMemory>
 }
 
 /// The shares that were given back, if none was dropped at an upload that was not lent.
-fn all_shares(
-    alloc: Global,
-    answers: Vec<Result<Share, Unlent>>,
-) -> Result<Vec<Share>, RunFault>
+fn all_shares(alloc: Global, answers: Vec<Result<Share, Unlent>>) -> Result<Vec<Share>, RunFault>
     ensures shares { IfOk result (λ shares. answers.items ≡ map Ok shares.items) }
     ensures fault { IfErr result (IsFaultOf answers.items) }
 {

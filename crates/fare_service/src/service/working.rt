@@ -397,8 +397,14 @@ impl<U: LentUploads + Drop> Service<U> {
             let Some(file) = self.uploads.lend(upload, &mut room) else {
                 return Err(Unlent { upload });
             };
-            let (next, goes_on) =
-                self.post_drawn(rt, &mut posting, &mut buffers, upload, file, gate);
+            let (next, goes_on) = self.post_drawn(
+                rt,
+                &mut posting,
+                &mut buffers,
+                upload,
+                file,
+                gate,
+            );
             done.push_reserved(next);
             if !goes_on {
                 return Ok(Share {
