@@ -79,7 +79,7 @@ module _ (asked : Asked) (under : List ℕ → Option (List ℕ)) (told told' : 
   text_is_right name text named told_is traced (Table fault) is =
       (name, named, record { bytes = text; told_is = told_is; first = is })
   text_is_right name text named told_is traced ClassName is =
-      (traced, name, named, record { bytes = text; told_is = told_is; other = is })
+      (traced, (name, named, record { bytes = text; told_is = told_is; other = is }))
   text_is_right name text named told_is traced NoMemory is = tt
   text_is_right name text named told_is traced _ is = absurd is
 

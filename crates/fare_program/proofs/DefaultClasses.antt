@@ -10,19 +10,14 @@ use Rattle.fare_table.specs.TableMeaning.{TableMeaning, meaning_in, meaning_of_t
 use Rattle.fare_table.specs.declared.fault.TableFault.{TableFault}
 use Rattle.fare_table.specs.declared.fault.TableFault.TheVariants.{Missing, Kind, Text}
 use Rattle.fare_table.specs.declared.fault.Key.TheVariants as the_key
+use Rattle.fare_table.proofs.PartLemmas.{parts}
 use Rattle.settled_texts.specs.Classes.{default_in}
 
--- steps of which the second never gives the value
-never : {A B : Type 0} (x : Result A TableFault) (f : A → Result B TableFault) (y : B)
-    → ((a : A) → f a ≡ Ok y → ⊥) → (x >>= f) ≡ Ok y → ⊥
-never (Ok a) f y no is = no a is
-never (Err e) f y no is = cc
-
--- and of which the first gives none
+-- steps of which the first gives no value
 stuck : {A B : Type 0} (x : Result A TableFault) (f : A → Result B TableFault) (y : B)
     → ((a : A) → x ≡ Ok a → ⊥) → (x >>= f) ≡ Ok y → ⊥
-stuck (Ok a) f y no is = no a refl
-stuck (Err e) f y no is = cc
+stuck (Ok a) f y other is = other a refl
+stuck (Err e) f y other is = cc
 
 no_kind : (part : Option (List ℕ)) → part ≡ None → (name : List ℕ)
     → of_kind the_key.DefaultClass part ≡ Ok name → ⊥
@@ -44,10 +39,9 @@ no_default table tree none place is =
 
 of_tree : (tree : Members) (meaning : TableMeaning) → default_in tree ≡ None
     → meaning_of_tree tree ≡ Ok meaning → ⊥
-unfolding meaning_of_tree
 of_tree tree meaning none is =
-    never _ _ _ (λ modes one. never _ _ _ (λ transfers two. never _ _ _ (λ table three.
-    never _ _ _ (λ classes four. stuck _ _ _ (no_default table tree none) four) three) two) one) is
+    let are = parts tree meaning is in
+    no_default are.table tree none meaning.standard are.standard
 
 by_parse : (text : List ℕ) (meaning : TableMeaning) (parsed : Option Members)
     → parse_document text ≡ parsed → (ok_or parsed Text >>= meaning_of_tree) ≡ Ok meaning

@@ -7,9 +7,9 @@ use Rattle.program_manners.specs.Loads.{Loaded}
 use Rattle.fare_program.specs.Options.{Asked, lists}
 use Rattle.fare_program.specs.Program.{Does, RunsListing, RunsService, RunsSorted, RunsTraced}
 
-kept_by : (b : Bool) (A B C D : Type 0) → (A → C) → (B → D) → MatchBool b A B → MatchBool b C D
-kept_by true A B C D one other is = one is
-kept_by false A B C D one other is = other is
+kept_by : (b : Bool) (A B C D : Type 0) → (A → C) × (B → D) → MatchBool b A B → MatchBool b C D
+kept_by true A B C D both is = both.0 is
+kept_by false A B C D both is = both.1 is
 
 kept_listing : (table : Option (List ℕ)) (names : List (List ℕ)) (told told' : Option (List Loaded))
     (out out' last : Option (List ℕ)) (well : Bool) → Keeps out' last
@@ -80,8 +80,13 @@ pub does_kept : (asked : Asked) (known : List ℕ → Option (List ℕ))
     → Keeps out' last → Does asked known told told' out out' well
     → Does asked known told told' out last well
 does_kept asked known told told' out out' last well kept done =
-    kept_by asked.traced _ _ _ _ (kept_traced asked told told' out out' last well kept)
-    (kept_by (lists asked) _ _ _ _
-    (kept_listing asked.table asked.files told told' out out' last well kept)
-    (kept_by asked.sorted _ _ _ _ (kept_sorted asked known told told' out out' last well kept)
-    (kept_service asked told told' out out' last well kept))) done
+    kept_by asked.traced _ _ _ _ (
+      kept_traced asked told told' out out' last well kept,
+      kept_by (lists asked) _ _ _ _ (
+        kept_listing asked.table asked.files told told' out out' last well kept,
+        kept_by asked.sorted _ _ _ _ (
+          kept_sorted asked known told told' out out' last well kept,
+          kept_service asked told told' out out' last well kept,
+        ),
+      ),
+    ) done

@@ -17,6 +17,10 @@ use Rattle.fare_program.specs.declared.fault.Fault.{Fault}
 use Rattle.fare_program.specs.declared.fault.Fault.TheVariants.{SettleNoTable, SettleList}
 use Rattle.fare_program.specs.inside.ChargedSorted.{IsChargedSorted}
 
+-- there is one table
+pub one_table : (a b : Fares) → Some a ≡ Some b → a ≡ b
+one_table a b same = cc
+
 -- where the first of two is none, neither is one
 neither : (a b : Option Fault) → first_of_two a b ≡ None → (a ≡ None) × (b ≡ None)
 neither None b is = (refl, is)

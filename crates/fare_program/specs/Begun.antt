@@ -1,5 +1,5 @@
 -- What a write that failed left behind.
-use Rattle.std.specs.Prelude.{ℕ, Bool, List, Option}
+use Rattle.std.specs.Prelude.{◌≡◌, ℕ, Bool, List, None, Option, true}
 use Rattle.std.specs.Io.KnownBytes.{Appends, append_known}
 use Rattle.fare_program.specs.Options.{Asked}
 use Rattle.fare_program.specs.Program.{Does}
@@ -13,7 +13,12 @@ pub record IsBegun (before after : Option (List ℕ)) (Whole : Option (List ℕ)
   pub rest : List ℕ
   pub whole : Whole (append_known after rest)
 
--- What stands is a beginning: with some bytes more behind it, what is asked for would have been done.
+-- the ledger of all tokens of sorted files is asked for: its lines go out while these are read
+abbrev pub IsSortedLedger : Asked → Type 0
+IsSortedLedger asked = (asked.sorted ≡ true) × (asked.ledger ≡ true) × (asked.token ≡ None)
+
+-- What stands is a beginning: with some bytes more behind it, what is asked for would have been
+-- done.
 abbrev pub HasBegun : Asked → (List ℕ → Option (List ℕ)) → Option (List Loaded)
     → Option (List Loaded) → Option (List ℕ) → Option (List ℕ) → Type 0
 HasBegun asked known told told' out out' = (well : Bool)

@@ -3,7 +3,7 @@ use Rattle.std.specs.Prelude.{◌≡◌, ◌≤◌, ◌⊎◌, ℕ, Bool, true, 
 use Rattle.std.specs.Io.KnownBytes.{Keeps}
 use Rattle.program_manners.specs.Loads.{Loaded}
 use Rattle.program_manners.specs.declared.loading.LoadFault.{LoadFault}
-use Rattle.fare_program.specs.Begun.{HasBegun}
+use Rattle.fare_program.specs.Begun.{HasBegun, IsSortedLedger}
 use Rattle.fare_program.specs.Causes.{IsRightFault}
 use Rattle.fare_program.specs.Fault.{mistake, status_of}
 use Rattle.fare_program.specs.Options.{AsksForText, Parses, asked_by}
@@ -33,7 +33,7 @@ pub record IsRun (words : List (List ℕ)) (under : List ℕ → Option (List �
       × (flushed ≡ true) × Silent)
       ⊎ ((fault : Fault) × (status_of fault ≡ 1)
       × (Parses words → IsRightFault (asked_by words) under told told' refused fault)
-      × (Parses words → fault ≡ Write → (asked_by words).sorted ≡ false
+      × (Parses words → fault ≡ Write → ¬ (IsSortedLedger (asked_by words))
       → HasBegun (asked_by words) under told told' out out')
       × GaveUpOn (asked_by words) fault said said' failed out out')
   pub flush : Parses words → status ≡ 0 → flushed ≡ true

@@ -93,6 +93,7 @@ impl<'a> Fault<'a> {
 
     /// Why the sorted file of this name was not opened.
     pub(crate) fn of_unopened(name: &'a str, fault: Unopened) -> Fault<'a>
+        ensures unwritten { result ≢ Fault.Write }
         ensures status { status_of result ≡ 1 }
         ensures right { (names : List (List ℕ)) (known : List (Option (List ℕ)))
             → IsOneOf name.entry.now names → IsRightOfSorted names known result }
@@ -104,6 +105,7 @@ impl<'a> Fault<'a> {
     pub(crate) fn of_bill(names: &[&'a str], fault: BillFault) -> Fault<'a>
         ensures status { status_of result ≡ 1 }
         ensures before { result ≢ Fault.Write → (IsLate result → ⊥) → IsBeforeText fault }
+        ensures write { result ≡ Fault.Write → fault ≡ BillFault.Write }
         ensures right { (known : List (Option (List ℕ)))
             → ((all : List (List ℕ)) → known ≡ map Some all → IsBillFault all fault)
             → IsRightOfSorted (map (λ n. n.now) names.now) known result }

@@ -4,9 +4,8 @@ ghost use Rattle.std.specs.Prelude.{length};
 ghost use Rattle.std.specs.Io.KnownBytes.{Appends, Keeps};
 ghost use Rattle.fare_texts.specs.WrittenOut.{Begins};
 ghost use Rattle.fare_program.specs.Program.{ShowsAsked};
-ghost use Rattle.fare_program.specs.Begun.{IsBegun};
 ghost use Rattle.fare_program.specs.inside.Options.{asked_of};
-ghost use Rattle.fare_program.specs.inside.ChargedAhead.{IsChargedAhead};
+ghost use Rattle.fare_program.specs.inside.ChargedAhead.{IsBegunAhead, IsChargedAhead};
 
 use crate::fault::Fault;
 use crate::files_ahead::{Amount, Disk};
@@ -167,10 +166,8 @@ pub(crate) fn charge_ahead<'a, R: Threads + Wait + RandomSource + Sync, D: Disk 
     ensures none { IfOk result (λ done. done ≡ None
         → Keeps (W.contents out.old) (W.contents out.new)) }
     ensures fault { IfErr result (λ fault. fault ≡ Fault.Write) }
-    ensures begun { OnErr result ((well : Bool)
-        × IsBegun (W.contents out.old) (W.contents out.new) (λ whole.
-        IsChargedAhead (asked_of options.now) keeps_loads table.now token (W.contents out.old)
-        whole well)) }
+    ensures begun { OnErr result (IsBegunAhead (asked_of options.now) keeps_loads table.now token
+        (W.contents out.old) (W.contents out.new)) }
 {
     if options.list || keeps_loads || options.files.is_empty() {
         return Ok(None);

@@ -13,7 +13,7 @@ ghost use Rattle.fare_program.specs.inside.Fault.{IsLoadLine, IsTableLine, IsWhy
 ghost use Rattle.fare_program.specs.Options.{Asked, AsksForText, Parses, asked_by};
 ghost use Rattle.fare_program.specs.inside.Options.{asked_of};
 ghost use Rattle.fare_program.specs.Program.{Does, GaveUp, GaveUpOn, IsTokenIn, LoadsFiles};
-ghost use Rattle.fare_program.specs.Begun.{HasBegun, IsBegun};
+ghost use Rattle.fare_program.specs.Begun.{HasBegun, IsBegun, IsSortedLedger};
 ghost use Rattle.fare_texts.specs.WrittenOut.{Begins};
 ghost use Rattle.fare_program.specs.Program.{DoesUntraced, LoadsTable, RunsTraced, names_to_load};
 ghost use Rattle.program_manners.specs.Loads.{Loaded, TellsOne};
@@ -429,7 +429,7 @@ fn work<'a, R: Threads + Wait + RandomSource + Sync, D: Disk + Sync, S: Source, 
 
     // What a write that failed left is a beginning of the text that is asked for.
     ensures begun { IfErr result (λ fault. fault ≡ Fault.Write
-        → (asked_of options.now).sorted ≡ false
+        → ¬ (IsSortedLedger (asked_of options.now))
         → HasBegun (asked_of options.now) (D.bytes_under disk.now) (S.loaded source.old)
         (S.loaded source.new) (W.contents out.old) (W.contents out.new)) }
 
@@ -493,13 +493,9 @@ fn show<W: Write, E: Write>(error: &Error, out: &mut Output<W>, err: &mut Compla
     }
 }
 
-/// Flushes the output behind the whole text, which is well or not, and gives the status. A flush that
-/// fails is reported on `err` as a write is.
-fn finish<W: Write, E: Write>(
-    is_well: bool,
-    out: &mut Output<W>,
-    err: &mut Complaints<E>,
-) -> u8
+/// Flushes the output behind the whole text, which is well or not, and gives the status. A flush
+/// that fails is reported on `err` as a write is.
+fn finish<W: Write, E: Write>(is_well: bool, out: &mut Output<W>, err: &mut Complaints<E>) -> u8
     ensures kept { Keeps (W.contents out.old.writer) (W.contents out.new.writer) }
     ensures well { result ≡ 0 → (is_well ≡ true) × (out.new.is_flushed ≡ true)
         × (err.new ≡ err.old) }
@@ -572,11 +568,13 @@ pub fn main_over<
     ensures flushed { Parses (map string_bytes words.now) → result ≡ 0
         → out.new.is_flushed ≡ true }
 
-    // With status 1 the whole text was written and flushed, and tells of an upload that is not well,
-    // and nothing was said on `err`; or a fault was told, which is the right one, and nothing was
-    // written but where a write failed, or where a sorted file was refused after all were checked.
+    // With status 1 the whole text was written and flushed, and tells of an upload that is not
+    // well, and nothing was said on `err`; or a fault was told, which is the right one, and nothing
+    // was written but where a write failed, or where a sorted file was refused after all were
+    // checked.
     // What a write that failed left is a beginning of the text that is asked for: nothing else was
-    // written before the fault, and nothing behind it. Of sorted files that is not said.
+    // written before the fault, and nothing behind it. Of the ledger of all tokens of sorted files
+    // that is not said.
     ensures faults { result ≡ 1
         → (Parses (map string_bytes words.now)
         × Does (asked_by (map string_bytes words.now)) (D.bytes_under disk.now)
@@ -588,7 +586,7 @@ pub fn main_over<
         → IsRightFault (asked_by (map string_bytes words.now)) (D.bytes_under disk.now)
         (S.loaded source.old) (S.loaded source.new) (S.refused source.new) fault)
         × (Parses (map string_bytes words.now) → fault ≡ Fault.Write
-        → (asked_by (map string_bytes words.now)).sorted ≡ false
+        → ¬ (IsSortedLedger (asked_by (map string_bytes words.now)))
         → HasBegun (asked_by (map string_bytes words.now)) (D.bytes_under disk.now)
         (S.loaded source.old) (S.loaded source.new) (W.contents out.old.writer)
         (W.contents out.new.writer))

@@ -5,7 +5,7 @@ ghost use Rattle.std.specs.Io.KnownBytes.{Keeps};
 ghost use Rattle.fare_table.specs.Fares.{Fares};
 ghost use Rattle.fare_program.specs.Causes.{IsRightOfSorted};
 ghost use Rattle.fare_program.specs.Fault.{IsLate, status_of};
-ghost use Rattle.fare_program.specs.inside.ChargedSorted.{IsChargedSorted};
+ghost use Rattle.fare_program.specs.inside.ChargedSorted.{IsBegunSorted, IsChargedSorted};
 ghost use Rattle.fare_program.specs.inside.Options.{asked_of};
 
 use crate::bill::write_billed;
@@ -43,6 +43,7 @@ fn open_files<'a, D: Disk>(
         ≡ map (D.bytes_under disk.now) (map (λ n. n.now) names.now)) }
     ensures right { IfErr result (λ fault. (known : List (Option (List ℕ)))
         → IsRightOfSorted (map (λ n. n.now) names.now) known fault) }
+    ensures unwritten { IfErr result (λ fault. fault ≢ Fault.Write) }
     ensures status { IfErr result (λ fault. status_of fault ≡ 1) }
 {
     let mut files = Vec::new(alloc);
@@ -66,6 +67,10 @@ fn write_report<'a, R: Threads + RandomSource + Sync, F: Placed + Sync, W: Write
 ) -> Result<(), Fault<'a>>
     ensures ok { OnOk result ((asked_of options.now).ledger ≡ false
         → IsChargedSorted (asked_of options.now) (map F.bytes files.now) table.now None
+        (W.contents out.old) (W.contents out.new)) }
+    ensures begun { IfErr result (λ fault. fault ≡ Fault.Write
+        → ((asked_of options.now).ledger ≡ true → ⊥)
+        → IsBegunSorted (asked_of options.now) (map F.bytes files.now) table.now None
         (W.contents out.old) (W.contents out.new)) }
     ensures right { IfErr result (IsRightOfSorted (asked_of options.now).files
         (map F.bytes files.now)) }
@@ -119,6 +124,9 @@ fn write_token<'a, R: Threads + Sync, F: Placed + Sync, W: Write>(
 ) -> Result<(), Fault<'a>>
     ensures ok { OnOk result (IsChargedSorted (asked_of options.now) (map F.bytes files.now)
         table.now (Some token) (W.contents out.old) (W.contents out.new)) }
+    ensures begun { IfErr result (λ fault. fault ≡ Fault.Write
+        → IsBegunSorted (asked_of options.now) (map F.bytes files.now) table.now (Some token)
+        (W.contents out.old) (W.contents out.new)) }
     ensures right { IfErr result (IsRightOfSorted (asked_of options.now).files
         (map F.bytes files.now)) }
     ensures status { IfErr result (λ fault. status_of fault ≡ 1) }
@@ -147,6 +155,10 @@ fn charge_all<'a, R: Threads + RandomSource + Sync, F: Placed + Sync, W: Write>(
 ) -> Result<(), Fault<'a>>
     ensures ok { OnOk result (IsChargedSorted (asked_of options.now) (map F.bytes files.now)
         table.now None (W.contents out.old) (W.contents out.new)) }
+    ensures begun { IfErr result (λ fault. fault ≡ Fault.Write
+        → ((asked_of options.now).ledger ≡ true → ⊥)
+        → IsBegunSorted (asked_of options.now) (map F.bytes files.now) table.now None
+        (W.contents out.old) (W.contents out.new)) }
     ensures right { IfErr result (IsRightOfSorted (asked_of options.now).files
         (map F.bytes files.now)) }
     ensures status { IfErr result (λ fault. status_of fault ≡ 1) }
@@ -171,6 +183,10 @@ fn charge_sorted<'a, R: Threads + RandomSource + Sync, F: Placed + Sync, W: Writ
 ) -> Result<(), Fault<'a>>
     ensures ok { OnOk result (IsChargedSorted (asked_of options.now) (map F.bytes files.now)
         table.now token (W.contents out.old) (W.contents out.new)) }
+    ensures begun { IfErr result (λ fault. fault ≡ Fault.Write
+        → ((asked_of options.now).ledger ≡ true → token ≡ None → ⊥)
+        → IsBegunSorted (asked_of options.now) (map F.bytes files.now) table.now token
+        (W.contents out.old) (W.contents out.new)) }
     ensures right { IfErr result (IsRightOfSorted (asked_of options.now).files
         (map F.bytes files.now)) }
     ensures status { IfErr result (λ fault. status_of fault ≡ 1) }
@@ -200,6 +216,11 @@ pub(crate) fn work_sorted<'a, R: Threads + RandomSource + Sync, D: Disk, W: Writ
         → IsChargedSorted (asked_of options.now)
         (map (D.bytes_under disk.now) (asked_of options.now).files) fares token
         (W.contents out.old) (W.contents out.new))) }
+    ensures begun { IfErr result (λ fault. fault ≡ Fault.Write
+        → ((asked_of options.now).ledger ≡ true → token ≡ None → ⊥)
+        → (fares : Fares) → table ≡ Some fares → IsBegunSorted (asked_of options.now)
+        (map (D.bytes_under disk.now) (asked_of options.now).files) fares token
+        (W.contents out.old) (W.contents out.new)) }
     ensures right { IfErr result (IsRightOfSorted (asked_of options.now).files
         (map (D.bytes_under disk.now) (asked_of options.now).files)) }
     ensures status { IfErr result (λ fault. status_of fault ≡ 1) }

@@ -1,23 +1,24 @@
 -- Which text a fault names of ledgers that are merged beside their reports.
 use Rattle.std.proofs.Common.{◌≡◌, ◌∙◌, ◌⊎◌, ◌<◌, ◌^◌, ℕ, List, ◌∷◌, ◌++◌, Option, Some, Result}
-use Rattle.std.proofs.Common.{Ok, Err, arith, ap, inl, inr, length, map, refl, subst, sym}
+use Rattle.std.proofs.Common.{Bor, Ok, Err, arith, ap, inl, inr, length, map, subst, sym}
 use Rattle.std.specs.Prelude.{IfErr, IfSome, None, slice_get}
 use Rattle.std.specs.List.{AllZip}
+use Rattle.std.specs.Slice.{IsItemAt}
+use Rattle.std.proofs.lemmas.Option.{slice_get-get_or}
 use Rattle.fare_texts.specs.LedgerLines.{head_text}
 use Rattle.shard_book.specs.Sums.{Sums}
 use Rattle.tap_views.specs.declared.token.Token.{Token}
 use Rattle.part_reports.specs.Charges.{LineCharge}
 use Rattle.part_reports.specs.Faults.{IsOfTexts, NamesAmong, number_from, text_named}
 use Rattle.part_reports.specs.Ledgers.{IsWrongLedgerAt, NamesWrongLedger}
-use Rattle.part_reports.specs.LedgersWithReports.{AddUpToText, AddsUpToNoReportAt}
+use Rattle.part_reports.specs.LedgersWithReports.{AddsUpToNoReportAt}
 use Rattle.part_reports.specs.LedgersWithReports.{NamesWrongBeside}
 use Rattle.part_reports.specs.Reports.{IsNoReport}
 use Rattle.part_reports.specs.Texts.{AreLeft}
-use Rattle.part_reports.specs.TokenLines.{TokenLine}
 use Rattle.part_reports.specs.inside.BegunLedgers.{AreBegunLedgers}
 use Rattle.part_reports.specs.inside.Least.{IsLeast}
 use Rattle.part_reports.specs.inside.ReportsLeft.{AreBegunReports, AreUnused, IsLineOfSums}
-use Rattle.part_reports.specs.inside.ReportsLeft.{IsNoTurn, IsNotTaken, IsNotTakenAt, IsUsedBy}
+use Rattle.part_reports.specs.inside.ReportsLeft.{IsNoTurn, IsNotTakenAt, IsUsedBy}
 use Rattle.part_reports.specs.inside.ReportsLeft.{ReportAt}
 use Rattle.part_reports.specs.inside.Standings.{StandsInText, Standing}
 use Rattle.part_reports.specs.inside.Told.{AreNumbered, IsOfReader, IsOfText, NamesOneOf}
@@ -38,6 +39,15 @@ use Rattle.part_reports.proofs.ReportsLeft.{part_of, report_lines}
 use Rattle.part_reports.proofs.ReportsMerged.{IsMergingBeside, beside_at, left_here}
 use Rattle.part_reports.proofs.ReportsMerged.{not_taken_here, unused_of}
 use Rattle.part_reports.proofs.TokenSums.{line_of}
+
+-- the element that is lent
+pub at_item : {A : Type 0} (xs : List A) (place : ℕ) (found : Option (Bor A)) (x : Bor A)
+    → found ≡ Some x → IsItemAt xs place found → slice_get xs place ≡ Some x.now
+at_item {A} xs place None x is item = absurd (cc)
+at_item {A} xs place (Some y) x is item =
+    let same : y ≡ x = cc in
+    slice_get-get_or xs place y.now item.3.0 ∙ ap (λ v. Some v) (sym item.1)
+    ∙ ap (λ (v : Bor A). Some v.now) same
 
 -- ---- of which of two texts
 pub of_first : (first second lines : ℕ) (This That : Type 0) (fault : MergeFault)
@@ -108,18 +118,18 @@ pub of_place : (at : ℕ) (numbers left_numbers : List ℕ) (ats : List Standing
 of_place at numbers left_numbers ats lefts first second This That (Line named number wrong) one two
     this that is
     = elim is [
-  | inl here ↦ inl (one ∙ ap (λ text. Some text) (sym here.0), this here.1)
-  | inr there ↦ inr (two ∙ ap (λ text. Some text) (sym there.0), that there.1)
-]
+      | inl here ↦ inl (one ∙ ap (λ text. Some text) (sym here.0), this here.1)
+      | inr there ↦ inr (two ∙ ap (λ text. Some text) (sym there.0), that there.1)
+    ]
 of_place at numbers left_numbers ats lefts first second This That (Taps reports uploads) one two
     this that is
     = absurd is
 of_place at numbers left_numbers ats lefts first second This That (Unread named) one two this that
     is
     = elim is [
-  | inl here ↦ inl (one ∙ ap (λ text. Some text) (sym here))
-  | inr there ↦ inr (two ∙ ap (λ text. Some text) (sym there))
-]
+      | inl here ↦ inl (one ∙ ap (λ text. Some text) (sym here))
+      | inr there ↦ inr (two ∙ ap (λ text. Some text) (sym there))
+    ]
 of_place at numbers left_numbers ats lefts first second This That Write one two this that is =
     absurd is
 of_place at numbers left_numbers ats lefts first second This That NoMemory one two this that is = tt
@@ -177,21 +187,21 @@ pub place_wrong : (texts : List (LineKind × List ℕ)) (files : List (List ℕ)
     → IsWrongOfBoth texts files numbers left_numbers fault
 place_wrong texts files ats lefts old now k numbers left_numbers (Line named number wrong) so_far is
     = elim is [
-  | inl here ↦
-      inl (k, here.0, inr (not_taken_here texts files ats lefts old now k so_far here.1))
-  | inr there ↦
-      let has = there.1 in
-      let beside = beside_at so_far.merging.parts files lefts k has.left so_far.beside has.there in
-      inr (
-        k,
-        there.0,
-        record {
-          file = beside.file;
-          there = beside.file_there;
-          none = has.none beside.file beside.is.charges beside.is.used;
-        },
-      )
-]
+      | inl here ↦
+          inl (k, here.0, inr (not_taken_here texts files ats lefts old now k so_far here.1))
+      | inr there ↦
+          let has = there.1 in
+          let beside = beside_at so_far.merging.parts files lefts k has.left so_far.beside has.there in
+          inr (
+            k,
+            there.0,
+            record {
+              file = beside.file;
+              there = beside.file_there;
+              none = has.none beside.file beside.is.charges beside.is.used;
+            },
+          )
+    ]
 place_wrong texts files ats lefts old now k numbers left_numbers (Taps reports uploads) so_far is =
     absurd is
 place_wrong texts files ats lefts old now k numbers left_numbers (Unread named) so_far is = tt
@@ -223,11 +233,12 @@ text_wrong texts files numbers left_numbers Write is = tt
 text_wrong texts files numbers left_numbers NoMemory is = tt
 
 -- ---- of whole texts
--- as many known texts as readers
-pub files_count : {R : Type 0} (remaining : R → Option (List ℕ)) (readers : List R)
-    (files : List (List ℕ)) → AreLeft remaining readers files → length readers ≡ length files
-files_count remaining readers files are =
-    sym (map_length remaining readers) ∙ ap length are ∙ map_length (λ file. Some file) files
+pub counted_files : {R : Type 0} (remaining : R → Option (List ℕ)) (readers : List R)
+    (files : List (List ℕ)) (first : ℕ) → AreLeft remaining readers files → first ≡ length readers
+    → first ≡ length files
+counted_files remaining readers files first are first_is =
+    first_is ∙ sym (map_length remaining readers) ∙ ap length are
+    ∙ map_length (λ file. Some file) files
 
 pub report_none : (front back : List (Option (List ℕ))) (file : Option (List ℕ))
     (files : List (List ℕ)) (first text : ℕ) (fault : MergeFault)

@@ -1,20 +1,17 @@
 -- The next line of a text, and the line feeds before it.
-use Rattle.std.proofs.Common.{◌≡◌, ◌∙◌, ◌+◌, ◌-◌, ◌^◌, ℕ, zero, suc, List, [], ◌∷◌, ◌++◌, Option}
+use Rattle.std.proofs.Common.{◌≡◌, ◌∙◌, ◌+◌, ℕ, zero, suc, List, [], ◌∷◌, ◌++◌, Option}
 use Rattle.std.proofs.Common.{Some, None, append_assoc, arith, ap, length, map, refl, subst, sym}
-use Rattle.std.specs.Prelude.{◌==◌, IfSome, codes, slice_get, slice_set}
+use Rattle.std.specs.Prelude.{IfSome, codes, slice_get, slice_set}
 use Rattle.std.specs.Io.BufRead.{take_through}
 use Rattle.std.specs.List.{AllByRecursion, AllZip}
-use Rattle.std.proofs.lemmas.Bool.Decides.{nat_tests}
 use Rattle.std.proofs.lemmas.List.Elements.{recursion_from_All}
 use Rattle.std.proofs.lemmas.List.Sums.{sum_by-append}
 use Rattle.std.proofs.lemmas.Option.{IfSome_then, MatchOption-at_some}
-use Rattle.fare_texts.specs.LedgerLines.{head_text}
 use Rattle.tap_views.specs.declared.token.Token.{Token}
 use Rattle.part_reports.specs.Faults.{IsOfTexts}
-use Rattle.part_reports.specs.Ledgers.{IsLedgerEntryLine}
 use Rattle.part_reports.specs.TokenLines.{TokenLine, text_of}
 use Rattle.part_reports.specs.inside.FirstWrong.{IsCounted, IsCountedAt, IsOfNext, IsWrongLine}
-use Rattle.part_reports.specs.inside.FirstWrong.{line_feeds, up_to_64}
+use Rattle.part_reports.specs.inside.FirstWrong.{line_feeds}
 use Rattle.part_reports.specs.inside.Least.{IsBelowOthers}
 use Rattle.part_reports.specs.inside.Standings.{IsAtLine, IsFirstLine, IsLineOfKind, IsMoved}
 use Rattle.part_reports.specs.inside.Standings.{IsMovedAt, MayFollowToken, Standing, StandsInText}
@@ -24,7 +21,6 @@ use Rattle.part_reports.specs.declared.fault.MergeFault.{MergeFault}
 use Rattle.part_reports.specs.declared.fault.MergeFault.TheVariants.{Line, Taps, Unread, Write}
 use Rattle.part_reports.specs.declared.fault.MergeFault.TheVariants.{NoMemory}
 use Rattle.part_reports.specs.declared.merging.LineKind.{LineKind}
-use Rattle.part_reports.specs.declared.merging.LineKind.TheVariants.{Entries}
 use Rattle.part_reports.proofs.Firsts.{line_is_one, line_is_some, line_unique}
 use Rattle.part_reports.proofs.Merges.{head_at}
 use Rattle.part_reports.proofs.OneLine.{HasNoFeed, IsOneLine, is_no_feed, taken_one}
@@ -32,11 +28,11 @@ use Rattle.part_reports.proofs.OneLine.{HasNoFeed, IsOneLine, is_no_feed, taken_
 -- ---- a fault of the next line
 pub next_other : (kind : LineKind) (before : Option Token) (left : Option (List ℕ)) (number : ℕ)
     (fault : MergeFault) → ¬ (IsOfTexts fault) → IsOfNext kind before left number fault
-next_other kind before left number (Line named at wrong) no = absurd (no tt)
-next_other kind before left number (Taps reports uploads) no = tt
-next_other kind before left number (Unread named) no = tt
-next_other kind before left number Write no = tt
-next_other kind before left number NoMemory no = tt
+next_other kind before left number (Line named at wrong) other = absurd (other tt)
+next_other kind before left number (Taps reports uploads) other = tt
+next_other kind before left number (Unread named) other = tt
+next_other kind before left number Write other = tt
+next_other kind before left number NoMemory other = tt
 
 pub next_of : (kind : LineKind) (before : Option Token) (left : Option (List ℕ))
     (number text lines : ℕ) (fault : MergeFault) → IsOfReader text lines fault

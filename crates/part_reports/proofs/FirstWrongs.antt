@@ -1,5 +1,5 @@
 -- The first wrong line of a text that is merged.
-use Rattle.std.proofs.Common.{◌≡◌, ◌≢◌, ◌∙◌, ◌+◌, ◌<◌, ℕ, List, [], ◌∷◌, ◌++◌, Option, Some, None}
+use Rattle.std.proofs.Common.{◌≡◌, ◌≢◌, ◌∙◌, ℕ, List, [], ◌∷◌, ◌++◌, Option, Some}
 use Rattle.std.proofs.Common.{append_assoc, arith, ap, inl, inr, map, refl, subst, sym}
 use Rattle.std.specs.Prelude.{All, IfSome, slice_get}
 use Rattle.std.specs.Io.BufRead.{take_through}
@@ -12,14 +12,14 @@ use Rattle.tap_views.specs.Token.{token_cmp}
 use Rattle.tap_views.specs.declared.token.Token.{Token}
 use Rattle.tap_views.proofs.Lists.{each-append, each-weaker}
 use Rattle.part_reports.specs.TokenLines.{HaveOtherTokens, TokenLine, text_of}
-use Rattle.part_reports.specs.inside.FirstWrong.{IsCounted, IsCountedAt, IsFirstWrongAt}
+use Rattle.part_reports.specs.inside.FirstWrong.{IsCounted, IsCountedAt}
 use Rattle.part_reports.specs.inside.FirstWrong.{IsFirstWrongOf, IsOfNext, IsOfNumber, IsWrongLine}
-use Rattle.part_reports.specs.inside.FirstWrong.{SharesFirst, line_feeds, up_to_64}
+use Rattle.part_reports.specs.inside.FirstWrong.{line_feeds}
 use Rattle.part_reports.specs.inside.Going.{IsGoing, Part, Rise}
 use Rattle.part_reports.specs.inside.Kinds.{IsTextOf}
 use Rattle.part_reports.specs.inside.Least.{IsBelowOthers, StandsTwice}
 use Rattle.part_reports.specs.inside.Standings.{IsLineOfKind, MayFollow, Standing}
-use Rattle.part_reports.specs.inside.Told.{NamesOnly, next_number}
+use Rattle.part_reports.specs.inside.Told.{NamesOnly}
 use Rattle.part_reports.specs.declared.fault.MergeFault.{MergeFault}
 use Rattle.part_reports.specs.declared.fault.MergeFault.TheVariants.{Line, Taps, Unread, Write}
 use Rattle.part_reports.specs.declared.fault.MergeFault.TheVariants.{NoMemory}
@@ -92,7 +92,8 @@ stuck_first texts files ats old now merging k least are numbers (Line named numb
         rest = at_line.rest;
         shown = shown_here part token found.going found.token_is;
         number_is = λ front of_file.
-            let fronts = before_left file before front part.text.1 (text_of (part.done ++ line ∷ []))
+            let fronts = before_left file before front part.text.1
+            (text_of (part.done ++ line ∷ []))
             at_line.rest left whole of_file (shown_here part token found.going found.token_is) lefts
             in
             let feeds = ap line_feeds fronts in
@@ -140,14 +141,17 @@ past_others p part past going some text =
     let each : AllByRecursion (λ a. AllByRecursion (λ b. a.token ≢ b.token) part.done) some =
     subst (λ lines. AllByRecursion (λ a. AllByRecursion (λ b. a.token ≢ b.token) part.done) lines)
     (sym on.whole)
-    (each-append (λ (a : TokenLine). AllByRecursion (λ (b : TokenLine). a.token ≢ b.token) part.done)
+    (each-append
+    (λ (a : TokenLine). AllByRecursion (λ (b : TokenLine). a.token ≢ b.token) part.done)
     p.done on.rest past.others
     (rest_others on.rest part.done on.rise
     (subst (λ head. IfSome head
     (λ head. AllByRecursion (λ line. token_cmp line.token head ≡ Less) part.done)) on.head
     past.below))) in
-    All-from_recursion (λ (a : TokenLine). All (λ (b : TokenLine). a.token ≢ b.token) part.done) some
-    (each-weaker (λ (a : TokenLine). AllByRecursion (λ (b : TokenLine). a.token ≢ b.token) part.done)
+    All-from_recursion (λ (a : TokenLine). All (λ (b : TokenLine). a.token ≢ b.token) part.done)
+    some
+    (each-weaker
+    (λ (a : TokenLine). AllByRecursion (λ (b : TokenLine). a.token ≢ b.token) part.done)
     (λ (a : TokenLine). All (λ (b : TokenLine). a.token ≢ b.token) part.done) some
     (λ a others. All-from_recursion (λ (b : TokenLine). a.token ≢ b.token) part.done others) each)
 
@@ -158,7 +162,7 @@ has_token : (first : Part) (token : Token) → IsGoing first → first.at.token 
 has_token first token going is bytes some text others =
     let line : TokenLine = record { token = token; text = bytes } in
     let (behind, whole, left) = going_line first token going is some text in
-    let each : AllByRecursion (λ (other : TokenLine). line_at first.at token .token ≢ other.token)
+    let each : AllByRecursion (λ (other : TokenLine). (line_at first.at token).token ≢ other.token)
     (line ∷ []) =
     each_middle (λ (one : TokenLine). AllByRecursion
     (λ (other : TokenLine). one.token ≢ other.token) (line ∷ [])) first.done
@@ -211,7 +215,8 @@ twin_first texts files ats old now merging k twin are numbers (Line named number
         rest = found.going.left;
         shown = found.going.shown;
         number_is = λ front of_file.
-            let fronts = before_left file before front part.text.1 (text_of part.done ++ part.at.line)
+            let fronts = before_left file before front part.text.1
+            (text_of part.done ++ part.at.line)
             at_line.rest left whole of_file
             (found.going.shown ∙ ap (λ text. text_of part.done ++ text) at_line.shown
             ∙ sym (append_assoc (text_of part.done) part.at.line at_line.rest)) lefts in
@@ -234,7 +239,8 @@ twin_first texts files ats old now merging k twin are numbers (Line named number
             first_there = first.there;
             shared = has_token first.part token first.going first.token_is part.at.line;
             none_before = λ other one some below there text.
-                let (p, p_there, text_is) = at_map (λ (part : Part). part.text) merging.parts other one
+                let (p, p_there, text_is) =
+                at_map (λ (part : Part). part.text) merging.parts other one
                 (subst (λ texts. slice_get texts other ≡ Some one) (sym merging.of_texts) there) in
                 past_others p part
                 (merging.past other k p part (λ e. absurd (omega (arith, e, below))) p_there

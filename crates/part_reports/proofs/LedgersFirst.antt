@@ -1,23 +1,25 @@
 -- The first wrong line of a ledger.
-use Rattle.std.proofs.Common.{◌≡◌, ◌≢◌, ◌∙◌, ◌⊎◌, ◌+◌, ◌-◌, ◌^◌, ◌<◌, ℕ, zero, suc, List, [], ◌∷◌}
-use Rattle.std.proofs.Common.{◌++◌, Option, Some, None, append-nil, append_assoc, arith, ap, inl, inr}
+use Rattle.std.proofs.Common.{◌≡◌, ◌≢◌, ◌∙◌, ◌⊎◌, ◌+◌, ◌-◌, ◌^◌, ℕ, zero, suc, List, [], ◌∷◌}
+use Rattle.std.proofs.Common.{◌++◌, Option, Some, None, append-nil, append_assoc, arith, ap, inl}
+use Rattle.std.proofs.Common.{inr}
 use Rattle.std.proofs.Common.{length, map, refl, subst, sym}
-use Rattle.std.specs.Prelude.{All, Err, IfErr, IfOk, IfSome, Ok, Result, min, slice_get}
+use Rattle.std.specs.Prelude.{Err, IfErr, IfOk, IfSome, Ok, Result, min, slice_get}
 use Rattle.std.specs.Io.BufRead.{drop_through, take_through}
 use Rattle.std.specs.List.{AllByRecursion, AllZip}
-use Rattle.std.proofs.lemmas.List.Elements.{All-from_recursion, All-nil, recursion_from_All}
+use Rattle.std.proofs.lemmas.List.Elements.{All-from_recursion, recursion_from_All}
 use Rattle.std.proofs.lemmas.Option.{MatchOption-at_some}
 use Rattle.fare_texts.specs.LedgerLines.{head_text}
 use Rattle.tap_views.specs.declared.token.Token.{Token}
 use Rattle.tap_views.proofs.Lists.{each-back}
 use Rattle.part_reports.specs.Faults.{IsOfTaps, IsOfTexts}
-use Rattle.part_reports.specs.Ledgers.{GoesWrongAt, IsFirstSharedAt, IsLedgerEntryLine, IsPartLedger}
+use Rattle.part_reports.specs.Ledgers.{GoesWrongAt, IsFirstSharedAt, IsLedgerEntryLine}
+use Rattle.part_reports.specs.Ledgers.{IsPartLedger}
 use Rattle.part_reports.specs.Ledgers.{NamesFirstWrongLine, ledger_text}
-use Rattle.part_reports.specs.TokenLines.{HaveOtherTokens, TokenLine, text_of}
+use Rattle.part_reports.specs.TokenLines.{TokenLine, text_of}
 use Rattle.part_reports.specs.inside.BegunLedgers.{AreBegunLedgers, IsBegunLedger, IsOfFirstLines}
 use Rattle.part_reports.specs.inside.FirstWrong.{IsCounted, IsCountedAt, IsFirstWrongAt}
 use Rattle.part_reports.specs.inside.FirstWrong.{IsFirstWrongOf, IsOfNext, IsStuckBehind}
-use Rattle.part_reports.specs.inside.FirstWrong.{IsTwinBehind, IsWrongLine, line_feeds, up_to_64}
+use Rattle.part_reports.specs.inside.FirstWrong.{IsTwinBehind, IsWrongLine, line_feeds}
 use Rattle.part_reports.specs.inside.Going.{IsBehindSo, Rise}
 use Rattle.part_reports.specs.inside.Kinds.{IsTextOf}
 use Rattle.part_reports.specs.inside.Standings.{IsAtLine, IsLineOfKind, MayFollowToken, Standing}
@@ -93,7 +95,8 @@ head_behind (one ∷ files) (other ∷ lefts) (suc place) file left shown there 
 -- a ledger is the lines of its text behind the head line
 record IsTextOfFile (lefts : List (List ℕ)) (place : ℕ) (file : List ℕ) : Type 0 where
   left : List ℕ
-  there : slice_get (map (λ (left : List ℕ). (Entries, left)) lefts) place ≡ Some (Entries, left)
+  there : slice_get {X = LineKind × List ℕ} (map (λ (left : List ℕ). (Entries, left)) lefts) place
+      ≡ Some (Entries, left)
   of : (lines : List TokenLine) → IsPartLedger lines file → IsTextOf (Entries, left) lines
 
 text_of_file : (files lefts : List (List ℕ)) (place : ℕ) (file : List ℕ)
@@ -140,8 +143,8 @@ module _ (files lefts : List (List ℕ)) (place number : ℕ)
   rise : Rise Entries at.done
   rise = subst (λ kind. Rise kind at.done) kind_is at.rise
 
-  numbered : number ≡ min (length at.done + 2) (2 ^ 64 - 1)
-  numbered =
+  number_of : number ≡ min (length at.done + 2) (2 ^ 64 - 1)
+  number_of =
       let is = at.number_is head_text whole in
       let both = feeds_append head_text (text_of at.done) in
       let head : line_feeds head_text ≡ 1 = refl in
@@ -161,7 +164,7 @@ module _ (files lefts : List (List ℕ)) (place number : ℕ)
         rest = at.rest;
         more = none_empty (Some stuck.last.token) at.rest wrong;
         shown = lines_whole;
-        number_is = numbered;
+        number_is = number_of;
         wrong = λ line text. subst (λ done. ¬ (IsPartLedger (done ++ line ∷ [])
             (ledger_text (done ++ line ∷ [])))) (sym stuck.is_last)
             (none_follows stuck.front stuck.last at.rest wrong line text);
@@ -186,7 +189,7 @@ module _ (files lefts : List (List ℕ)) (place number : ℕ)
         rest = twin.left;
         shown = lines_whole ∙ ap (λ rest. ledger_text at.done ++ rest) twin.shown
             ∙ one_behind_text at.done twin.line twin.left;
-        number_is = numbered;
+        number_is = number_of;
         earlier = shares.earlier;
         before = shares.before;
         first = first.file;
@@ -265,7 +268,8 @@ pub merged_first : (files : List (List ℕ)) (known : List (Option (List ℕ))) 
 merged_first files known ats numbers (Line named number wrong) same are numbered no_taps first =
     let behind = lefts_of files known ats same are in
     let texts : List (LineKind × List ℕ) = map (λ (left : List ℕ). (Entries, left)) behind.lefts in
-    let (place, there, at) = first texts files behind.sources (begun_counted files known ats same are)
+    let (place, there, at) =
+    first texts files behind.sources (begun_counted files known ats same are)
     in
     names_first files behind.lefts place number behind.shown at named (numbered place named there)
 merged_first files known ats numbers (Taps reports uploads) same are numbered no_taps first =
@@ -275,13 +279,14 @@ merged_first files known ats numbers Write same are numbered no_taps first = tt
 merged_first files known ats numbers NoMemory same are numbered no_taps first = tt
 
 -- ---- the first lines
-pub first_other : (file : List ℕ) (fault : MergeFault) → ¬ (IsOfTexts fault)
-    → IsOfFirstLines file fault
-first_other file (Line text number wrong) no = absurd (no tt)
-first_other file (Taps reports uploads) no = tt
-first_other file (Unread text) no = tt
-first_other file Write no = tt
-first_other file NoMemory no = tt
+pub first_other : (known : Option (List ℕ)) (fault : MergeFault) → ¬ (IsOfTexts fault)
+    → IfSome known (λ file. IsOfFirstLines file fault)
+first_other None fault other = tt
+first_other (Some file) (Line text number wrong) other = absurd (other tt)
+first_other (Some file) (Taps reports uploads) other = tt
+first_other (Some file) (Unread text) other = tt
+first_other (Some file) Write other = tt
+first_other (Some file) NoMemory other = tt
 
 -- the head line is another
 pub head_wrong : (file : List ℕ) (text lines : ℕ) (fault : MergeFault) → IsOfReader text lines fault
@@ -299,7 +304,8 @@ pub second_wrong : (file : List ℕ) (now : Option (List ℕ)) (lines : ℕ) (fa
 second_wrong file now lines (Line named number wrong) left whole first is =
     let rest = drop_through 10 file in
     let wrong : IsWrongLine Entries None (take_through 10 rest) =
-    MatchOption-at_some (Unit {0}) (λ left. IsWrongLine Entries None (take_through 10 left)) rest left
+    MatchOption-at_some (Unit {0}) (λ left. IsWrongLine Entries None (take_through 10 left)) rest
+    left
     is.1 in
     inr (record {
       lines = [];
@@ -310,7 +316,8 @@ second_wrong file now lines (Line named number wrong) left whole first is =
       number_is = let number_is = is.0 in omega (arith, number_is, first);
       wrong = λ line text ledger.
           let each = recursion_from_All IsLedgerEntryLine (line ∷ []) ledger.each in
-          subst (IsWrongLine Entries None) (sym text) wrong Entries (Some line.token) (each.0, tt) tt;
+          subst (IsWrongLine Entries None) (sym text) wrong Entries (Some line.token) (each.0, tt)
+          tt;
     })
 second_wrong file now lines (Taps reports uploads) left whole first is = tt
 second_wrong file now lines (Unread named) left whole first is = tt
@@ -327,7 +334,8 @@ first_lines front back file files text (Line named number wrong) are place of fi
     inl (
       known,
       subst (λ text. slice_get files text ≡ Some known) (sym (of ∙ place)) there,
-      MatchOption-at_some (Unit {0}) (λ file. IsOfFirstLines file (Line named number wrong)) known is
+      MatchOption-at_some (Unit {0}) (λ file. IsOfFirstLines file (Line named number wrong)) known
+          is
           first,
     )
 first_lines front back file files text (Taps reports uploads) are place of first = absurd of
@@ -345,7 +353,3 @@ pub err_both : {X Y : Type 0} (result : Result X Y) (P Q : Y → Type 0) → IfE
     → IfErr result Q → IfErr result (λ y. P y × Q y)
 err_both (Ok x) P Q p q = tt
 err_both (Err y) P Q p q = (p, q)
-
-pub some_any : {X : Type 0} (value : Option X) (P : X → Type 0) → ((x : X) → P x) → IfSome value P
-some_any None P all = tt
-some_any (Some x) P all = all x

@@ -1,5 +1,5 @@
 -- Which ledger a fault names, and what was written before it.
-use Rattle.std.proofs.Common.{◌≡◌, ◌∙◌, ℕ, zero, suc, List, [], ◌∷◌, ◌++◌, Some, None, Option}
+use Rattle.std.proofs.Common.{◌≡◌, ◌∙◌, ℕ, zero, suc, List, [], ◌∷◌, ◌++◌, Some, Option}
 use Rattle.std.proofs.Common.{inl, inr, length, map, refl, subst, sym}
 use Rattle.std.specs.Prelude.{IfSome, slice_get}
 use Rattle.std.specs.Io.KnownBytes.{Appends}
@@ -7,7 +7,7 @@ use Rattle.std.specs.List.{AllZip}
 use Rattle.fare_texts.specs.LedgerLines.{head_text}
 use Rattle.part_reports.specs.Faults.{IsOfTexts}
 use Rattle.part_reports.specs.Ledgers.{IsMergedLedger, IsNoLedger, IsPartLedger, IsWrongLedgerAt}
-use Rattle.part_reports.specs.Ledgers.{LedgersShareToken, NamesWrongLedger}
+use Rattle.part_reports.specs.Ledgers.{NamesWrongLedger}
 use Rattle.fare_texts.specs.WrittenOut.{Begins}
 use Rattle.part_reports.specs.TokenLines.{IsMergedByToken, TokenLine, text_of}
 use Rattle.part_reports.specs.inside.BegunLedgers.{AreBegunLedgers}

@@ -42,7 +42,7 @@ pub record IsOneLine (line : List ℕ) : Type 0 where
 abbrev pub HasNoFeed : List ℕ → Type 0
 HasNoFeed text = AllByRecursion (λ byte. ¬ (byte ≡ 10)) text
 
-is_no_feed : (x : ℕ) → ¬ (x ≡ 10) → (x == 10) ≡ false
+pub is_no_feed : (x : ℕ) → ¬ (x ≡ 10) → (x == 10) ≡ false
 is_no_feed x other = grind (arith, nat_tests)
 
 not_ten : (x : ℕ) → (x == 10) ≡ false → ¬ (x ≡ 10)

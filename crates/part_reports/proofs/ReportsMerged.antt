@@ -28,7 +28,7 @@ use Rattle.part_reports.specs.inside.WrongBeside.{AddsUpToNoneAt, HasLeftAt}
 use Rattle.part_reports.proofs.ChargeLines.{one_charge}
 use Rattle.part_reports.proofs.Firsts.{line_is_some}
 use Rattle.part_reports.proofs.LedgerTexts.{lefts_of, texts_from, texts_to}
-use Rattle.part_reports.proofs.Merges.{IsMerging, end_lists, first_nothing, list_at, merging_end}
+use Rattle.part_reports.proofs.Merges.{IsMerging, end_lists, first_nothing, merging_end}
 use Rattle.part_reports.proofs.Merges.{merging_first, merging_next, next_moved, part_at}
 use Rattle.part_reports.proofs.Parts.{going_end, going_line, line_at, next_part}
 use Rattle.part_reports.proofs.Places.{each_at, map_at, one_at}
@@ -137,15 +137,15 @@ beside_set (first ∷ parts) (file ∷ files) (one ∷ lefts) (suc k) part next 
     (are.0, beside_set parts files lefts k part next was is are.1 there left step)
 
 -- what stands at one place
-record IsBesideAt (parts : List Part) (files : List (List ℕ)) (k : ℕ) (left : ReportAt)
+pub record IsBesideAt (parts : List Part) (files : List (List ℕ)) (k : ℕ) (left : ReportAt)
     : Type 0 where
-  part : Part
-  part_there : slice_get parts k ≡ Some part
-  file : List ℕ
-  file_there : slice_get files k ≡ Some file
-  is : IsBeside part.done file left
+  pub part : Part
+  pub part_there : slice_get parts k ≡ Some part
+  pub file : List ℕ
+  pub file_there : slice_get files k ≡ Some file
+  pub is : IsBeside part.done file left
 
-beside_at : (parts : List Part) (files : List (List ℕ)) (lefts : List ReportAt) (k : ℕ)
+pub beside_at : (parts : List Part) (files : List (List ℕ)) (lefts : List ReportAt) (k : ℕ)
     (left : ReportAt) → AreBeside parts files lefts → slice_get lefts k ≡ Some left
     → IsBesideAt parts files k left
 beside_at [] [] [] k left are there = absurd (cc)

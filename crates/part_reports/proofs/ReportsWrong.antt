@@ -1,22 +1,19 @@
 -- Which text a fault of merging reports names, and what was written before it.
 use Rattle.std.proofs.Common.{◌≡◌, ◌≢◌, ◌∙◌, ◌<◌, ℕ, List, [], ◌∷◌, ◌++◌, Some, Option, Err}
-use Rattle.std.proofs.Common.{ap, arith, drop, get_or, inl, inr, length, map, refl, subst, suc, sym}
-use Rattle.std.proofs.Common.{take, ◌+◌, ◌⊎◌}
+use Rattle.std.proofs.Common.{ap, drop, get_or, inl, inr, length, map, refl, subst, suc, sym}
+use Rattle.std.proofs.Common.{take, ◌+◌}
 use Rattle.std.specs.Prelude.{All, IfSome, slice_get}
 use Rattle.std.specs.BTreeMap.{get}
-use Rattle.std.specs.List.{AllZip}
 use Rattle.std.specs.List.Sorted.{IsStrictlySortedBy}
 use Rattle.std.specs.Map.{keys_of}
 use Rattle.std.specs.Ordering.{nat_cmp}
 use Rattle.std.proofs.lemmas.List.Elements.{All-cons, All-map, All-nil, recursion_from_All}
-use Rattle.shard_book.specs.Sums.{Sums, sums_of}
-use Rattle.report_texts.specs.Numbers.{IsUploadEnd}
+use Rattle.shard_book.specs.Sums.{sums_of}
 use Rattle.report_texts.specs.Report.{upload_lines}
 use Rattle.report_texts.specs.declared.upload_end.UploadEnd.{UploadEnd}
-use Rattle.tap_views.specs.declared.token.Token.{Token}
 use Rattle.part_reports.specs.Faults.{IsOfTexts, number_from}
 use Rattle.part_reports.specs.Reports.{IsMerged, IsPartReport, IsWrongReportAt, NamesWrongText}
-use Rattle.part_reports.specs.Reports.{Report, ReportsShareToken, all_ends, end_texts, report_text}
+use Rattle.part_reports.specs.Reports.{Report, all_ends, end_texts, report_text}
 use Rattle.part_reports.specs.Texts.{AreLeft}
 use Rattle.part_reports.specs.TokenLines.{IsMergedByToken, TokenLine, text_of}
 use Rattle.part_reports.specs.declared.fault.MergeFault.{MergeFault}
@@ -28,18 +25,18 @@ use Rattle.part_reports.specs.declared.upload_ends.UploadEnds.{UploadEnds}
 use Rattle.part_reports.specs.inside.Fronts.{MayBePart, front_text}
 use Rattle.part_reports.specs.inside.Kinds.{AreTexts, IsTextOf}
 use Rattle.part_reports.specs.inside.Parts.{AreParts, BegunReport, IsNoPart, begun_text, left_text}
-use Rattle.part_reports.specs.inside.Standings.{StandsInText, Standing}
+use Rattle.part_reports.specs.inside.Standings.{Standing}
 use Rattle.part_reports.specs.inside.Told.{AreNumbered, IsOfText}
 use Rattle.part_reports.specs.inside.UploadEnds.{AreEndsAdded, HaveReadEnds}
 use Rattle.part_reports.specs.inside.Whole.{validators_in}
-use Rattle.part_reports.specs.inside.WrongTexts.{IsNoTextAt, IsWrongAt, IsWrongText}
+use Rattle.part_reports.specs.inside.WrongTexts.{IsNoTextAt, IsWrongText}
 use Rattle.part_reports.specs.inside.WrongTexts.{NamesWrongReport, SharesTokenAt}
 use Rattle.part_reports.proofs.CannotMerge.{fronts_same, lines_texts, part_left}
 use Rattle.part_reports.proofs.FewParts.{map_length, no_report}
 use Rattle.part_reports.proofs.PartsBegun.{BegunSo}
 use Rattle.part_reports.proofs.Places.{at_map, each_at, map_at}
 use Rattle.part_reports.proofs.TextsRead.{AreRead, behind_front, split}
-use Rattle.part_reports.proofs.TokenSums.{Sum, line_of}
+use Rattle.part_reports.proofs.TokenSums.{line_of}
 use Rattle.part_reports.proofs.WholeReports.{merged}
 
 -- ---- what was written

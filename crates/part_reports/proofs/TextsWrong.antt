@@ -1,5 +1,5 @@
 -- The text that a fault names is wrong.
-use Rattle.std.proofs.Common.{◌≡◌, ◌∙◌, ℕ, List, [], ◌∷◌, ◌++◌, Some, Option, sym, ap, subst, map}
+use Rattle.std.proofs.Common.{◌≡◌, ◌∙◌, ℕ, List, Some, Option, sym, ap, subst, map}
 use Rattle.std.proofs.Common.{◌≢◌, inl, inr, refl}
 use Rattle.std.specs.Prelude.{slice_get}
 use Rattle.std.specs.List.{AllByRecursion}

@@ -132,7 +132,8 @@ pub told_begun_on : (fares : Fares) (earlier : List Entry) (done next behind tap
     → (all : List ℕ) × AreLinesAlong fares earlier (posted_after fares earlier taps) all
     × Begins a c (old ++ all)
 told_begun_on fares earlier done next behind taps teller lines others a b c old new whole told along
-gone begun =
+    gone begun
+    =
     let all =
     told_then fares earlier done next behind taps teller lines others whole told along in (
       lines ++ (others ++ all.0),

@@ -1,7 +1,7 @@
 -- Sorted files whose taps were counted: how they end.
 use Rattle.std.proofs.Common.{◌≡◌, ℕ, zero, suc, ◌+◌, ◌^◌, ◌<◌, List, [], ◌∷◌, length, get_or, map}
 use Rattle.std.proofs.Common.{take, true}
-use Rattle.std.proofs.Common.{None}
+use Rattle.std.proofs.Common.{◌≢◌, None}
 use Rattle.std.proofs.Common.{refl, sym, ap, subst, ◌∙◌, arith}
 use Rattle.std.specs.Prelude.{flat_map, sum}
 use Rattle.std.specs.List.{sum_by}
@@ -21,6 +21,7 @@ use Rattle.sorted_taps.specs.declared.fault.SortedFault.{SortedFault}
 use Rattle.sorted_taps.specs.declared.fault.SortedFault.TheVariants.{Layout, NoMemory, OutOfOrder}
 use Rattle.sorted_taps.specs.declared.fault.SortedFault.TheVariants.{Unread}
 use Rattle.sorted_bills.specs.Faults.{HaveTooManyTaps, IsBeforeText, IsBillFault, late_fault}
+use Rattle.sorted_bills.specs.declared.fault.BillFault.TheVariants.{Write}
 
 -- files whose taps were all posted
 pub all_posted : (numbers : List ℕ) → are_posted (map Posted numbers) ≡ true
@@ -82,6 +83,13 @@ late_says_nothing files (OutOfOrder tap) = tt
 late_says_nothing files (Layout offset fault) = tt
 late_says_nothing files Unread = tt
 late_says_nothing files NoMemory = tt
+
+-- nor is it a write that failed
+pub late_no_write : (fault : SortedFault) → late_fault fault ≢ Write
+late_no_write (OutOfOrder tap) is = cc
+late_no_write (Layout offset fault) is = cc
+late_no_write Unread is = cc
+late_no_write NoMemory is = cc
 
 -- nor does it come before the text
 pub late_is_late : (fault : SortedFault) → IsBeforeText (late_fault fault) → ⊥

@@ -1,6 +1,6 @@
 //! The bill of sorted files.
 
-ghost use Rattle.std.specs.Prelude.{◌≡◌, ◌≤◌, ◌^◌, true, ℕ, List, IfErr, IfOk, Some, length, map};
+ghost use Rattle.std.specs.Prelude.{◌≡◌, ◌≢◌, ◌≤◌, ◌^◌, true, ℕ, List, IfErr, IfOk, Some, length, map};
 ghost use Rattle.report_texts.specs.UploadEnds.{ArePlainEnds, are_posted};
 ghost use Rattle.shard_book.specs.declared.entry.Entry.{Entry};
 ghost use Rattle.settlement.specs.Bills.{IsBillOf};
@@ -36,6 +36,7 @@ fn bill_of<F: Placed>(
     ensures posted { IfOk result (λ made. are_posted made.ends.items ≡ true) }
     ensures fault { IfErr result (λ fault. (all : List (List ℕ))
         → map F.bytes files.now ≡ map Some all → IsBillFault all fault) }
+    ensures unwritten { IfErr result (λ fault. fault ≢ BillFault.Write) }
 {
     // proof: taps that are taken to the ends of the files are their settled taps
     crate::laws::taken_taps_are_settled();
@@ -55,10 +56,12 @@ fn bill_of<F: Placed>(
 /// Why the files are not charged, if one of them was refused on the way: the first fault in the
 /// order of the files.
 fn first_fault<F: Placed>(alloc: Global, files: &[F], met: BillFault) -> BillFault
-    requires { (all : List (List ℕ)) → map F.bytes files.now ≡ map Some all
+    requires of_files { (all : List (List ℕ)) → map F.bytes files.now ≡ map Some all
         → IsBillFault all met }
-    ensures { (all : List (List ℕ)) → map F.bytes files.now ≡ map Some all
+    requires unwritten { met ≢ BillFault.Write }
+    ensures of_files { (all : List (List ℕ)) → map F.bytes files.now ≡ map Some all
         → IsBillFault all result }
+    ensures unwritten { result ≢ BillFault.Write }
 {
     if !matches!(met, BillFault::Changed | BillFault::Late(_)) {
         return met;
@@ -90,6 +93,7 @@ fn bill_by_workers<R: Threads + Sync, F: Placed + Sync>(
         → map F.bytes files.now ≡ map Some all → IsSettledHistory table.now all history)) }
     ensures fault { IfErr result (λ fault. (all : List (List ℕ))
         → map F.bytes files.now ≡ map Some all → IsBillFault all fault) }
+    ensures unwritten { IfErr result (λ fault. fault ≢ BillFault.Write) }
 {
     if workers > 1 {
         if let Ok(made) = bill_by_threads(rt, alloc, table, seed, files, workers) {
@@ -131,6 +135,7 @@ pub fn sorted_bill<R: Threads + Sync, F: Placed + Sync>(
         → map F.bytes files.now ≡ map Some all → IsSettledHistory table.now all history)) }
     ensures fault { IfErr result (λ fault. (all : List (List ℕ))
         → map F.bytes files.now ≡ map Some all → IsBillFault all fault) }
+    ensures unwritten { IfErr result (λ fault. fault ≢ BillFault.Write) }
 {
     let stamps = stamps_of(alloc, files)?;
     let made = bill_by_workers(rt, alloc, table, seed, files, workers)?;

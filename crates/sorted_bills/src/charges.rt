@@ -1,6 +1,6 @@
 //! Taps of merged files, charged.
 
-ghost use Rattle.std.specs.Prelude.{◌≡◌, [], None, ℕ, List, IfErr, OnOk, length, map};
+ghost use Rattle.std.specs.Prelude.{◌≡◌, ◌≢◌, [], None, ℕ, List, IfErr, OnOk, length, map};
 ghost use Rattle.sorted_taps.specs.Merges.{AreAtEnd};
 ghost use Rattle.sorted_bills.specs.Faults.{IsBillFault};
 ghost use Rattle.sorted_bills.specs.inside.Charged.{IsCharged};
@@ -32,6 +32,7 @@ pub(crate) fn charge<F: Placed>(
         so_far.new) }
     ensures end { OnOk result (below ≡ None → AreAtEnd taker.new.merge.readers.items) }
     ensures fault { IfErr result (λ fault. (all : List (List ℕ)) → IsBillFault all fault) }
+    ensures unwritten { IfErr result (λ fault. fault ≢ BillFault.Write) }
 {
     let clock = table.clock(alloc)?;
     for _round in 0..u64::MAX {

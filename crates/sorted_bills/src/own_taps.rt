@@ -1,6 +1,6 @@
 //! The taps of one token of sorted files.
 
-ghost use Rattle.std.specs.Prelude.{◌≡◌, ◌≤◌, [], ◌∷◌, true, ℕ, List, All, IfErr, IfOk, IfSome, OnOk};
+ghost use Rattle.std.specs.Prelude.{◌≡◌, ◌≢◌, ◌≤◌, [], ◌∷◌, true, ℕ, List, All, IfErr, IfOk, IfSome, OnOk};
 ghost use Rattle.std.specs.Prelude.{Some, length, map};
 ghost use Rattle.tap_views.specs.Encoding.{AreEarly};
 ghost use Rattle.tap_views.specs.declared.encoder.TapFields.{TapFields};
@@ -143,6 +143,7 @@ fn own_of_files<R: Threads + Sync, F: Placed + Sync>(
         → AreOwnOf token all own.taps.items own.numbers.items) }
     ensures fault { IfErr result (λ fault. (all : List (List ℕ))
         → map F.bytes files.now ≡ map Some all → IsBillFault all fault) }
+    ensures unwritten { IfErr result (λ fault. fault ≢ BillFault.Write) }
 {
     if workers > 1 {
         if let Ok(Some(own)) = own_by_threads(rt, alloc, token, files, workers) {
@@ -176,6 +177,7 @@ pub fn sorted_taps_of<R: Threads + Sync, F: Placed + Sync>(
     ensures its { IfOk result (λ made. All (λ tap. token_of_tap tap ≡ token) made.taps.items) }
     ensures fault { IfErr result (λ fault. (all : List (List ℕ))
         → map F.bytes files.now ≡ map Some all → IsBillFault all fault) }
+    ensures unwritten { IfErr result (λ fault. fault ≢ BillFault.Write) }
 {
     let stamps = stamps_of(alloc, files)?;
     let own = own_of_files(rt, alloc, token, files, workers)?;

@@ -3,6 +3,7 @@ use Rattle.std.specs.Prelude.{◌≡◌, ℕ, List, Option, Some, map, true}
 use Rattle.std.specs.Io.KnownBytes.{Appends}
 use Rattle.fare_table.specs.Fares.{Fares}
 use Rattle.tap_views.specs.declared.token.Token.{Token}
+use Rattle.fare_texts.specs.WrittenOut.{Begins}
 use Rattle.fare_program.specs.Options.{Asked}
 use Rattle.fare_program.specs.Settling.{ShowsSettled}
 
@@ -14,3 +15,11 @@ pub record IsChargedSorted (asked : Asked) (known : List (Option (List ℕ))) (f
   pub shows : (files : List (List ℕ)) → known ≡ map Some files
       → ShowsSettled asked fares files token text true
   pub written : Appends out out' text
+
+-- a beginning of it was, and nothing else
+pub record IsBegunSorted (asked : Asked) (known : List (Option (List ℕ))) (fares : Fares)
+    (token : Option Token) (out out' : Option (List ℕ)) : Type 0 where
+  pub text : List ℕ
+  pub shows : (files : List (List ℕ)) → known ≡ map Some files
+      → ShowsSettled asked fares files token text true
+  pub begun : Begins out out' text

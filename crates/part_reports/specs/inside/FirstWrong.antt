@@ -2,7 +2,7 @@
 use Rattle.std.specs.Prelude.{◌≡◌, ◌<◌, ◌⊎◌, ◌+◌, ◌-◌, ◌^◌, ◌==◌, ℕ, List, [], ◌∷◌, ◌++◌, Option}
 use Rattle.std.specs.Prelude.{Some, None, IfSome, min, slice_get}
 use Rattle.std.specs.Io.BufRead.{take_through}
-use Rattle.std.specs.List.{AllByRecursion, AllZip, count_by}
+use Rattle.std.specs.List.{AllByRecursion, count_by}
 use Rattle.tap_views.specs.declared.token.Token.{Token}
 use Rattle.part_reports.specs.TokenLines.{HaveOtherTokens, TokenLine, text_of}
 use Rattle.part_reports.specs.inside.Going.{IsBehindSo, Rise}

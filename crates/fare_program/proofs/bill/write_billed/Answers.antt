@@ -68,7 +68,8 @@ returns-in_err-write_report-clause-begun g c =
       λ files history is ended. record {
         ends = made.ends.items;
         of_uploads = ended;
-        shown = λ i. report (c.deref.ensures.value i) (one history is i) (two history is i) (is.tokens i);
+        shown = λ i. report (c.deref.ensures.value i) (one history is i) (two history is i)
+            (is.tokens i);
       },
       refl,
       c.in_err-write_report.ensures.begun (of_write _ (sym p.2 ∙ write)),

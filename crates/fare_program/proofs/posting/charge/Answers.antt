@@ -1,4 +1,5 @@
-use Rattle.std.proofs.Common.{◌≡◌, ◌∙◌, ℕ, List, Some, Vec, Global, ap, length, map, refl, subst, sym}
+use Rattle.std.proofs.Common.{◌≡◌, ◌∙◌, ℕ, List, Some, Vec, Global, ap, length, map, refl, subst}
+use Rattle.std.proofs.Common.{sym}
 use Rattle.std.specs.Prelude.{slice_get}
 use Rattle.std.proofs.lemmas.List.{length-map}
 use Rattle.std.specs.Io.KnownBytes.{Appends}
@@ -85,9 +86,11 @@ returns-then-options-clause-begun g c =
     let is = begun write in (
       is.0,
       is.2,
-      settled_asked asked fares (map bytes_in c.args.files.items) c.args.token is.2 is.0 c.if-options.true
+      settled_asked asked fares (map bytes_in c.args.files.items) c.args.token is.2 is.0
+          c.if-options.true
           (subst (λ fs. ShowsSettled asked fares fs c.args.token is.2 is.0)
-          (loaded_files all is.1 (subst (λ n. AreRead (λ upload bytes. slice_get all upload ≡ Some bytes) 0 n is.1)
+          (loaded_files all is.1
+          (subst (λ n. AreRead (λ upload bytes. slice_get all upload ≡ Some bytes) 0 n is.1)
           (sym (length-map c.deref.result.now bytes_in)) is.3)
           ∙ ap (map bytes_in) c.deref.ensures.value) is.4),
       is.5,

@@ -1,7 +1,10 @@
-use Rattle.std.proofs.Common.{◌≡◌, ◌∙◌, Bool, arith, false, inl, inr, map, refl, subst, sym, true, ⊎_elim}
-use Rattle.fare_program.specs.Begun.{HasBegun}
+use Rattle.std.proofs.Common.{◌≡◌, ◌∙◌, Bool, arith, false, inl, inr, map, refl, subst, sym, true}
+use Rattle.std.proofs.Common.{⊎_elim}
+use Rattle.fare_program.specs.Begun.{HasBegun, IsSortedLedger}
 use Rattle.fare_program.specs.Program.{Does}
-use Rattle.fare_program.specs.declared.fault.Fault.TheVariants.{Write}
+use Rattle.clap.specs.Words.{IsAmong, kind_of}
+use Rattle.fare_program.specs.declared.fault.Fault.{Fault}
+use Rattle.fare_program.specs.declared.fault.Fault.TheVariants.{NoMemory, Write}
 use Rattle.fare_program.proofs.Finished.{does_kept}
 use Rattle.fare_program.proofs.WritesFailed.{begun_done}
 use Rattle.std.specs.Prelude.{string_bytes}
@@ -25,20 +28,37 @@ returns-in-Ok-work-clause-done g c = λ parses zero.
     (does_kept mine under told told' out mid last true c.finish.ensures.kept
     (subst (λ (b : Bool). Does mine under told told' out mid b) well.0 c.in-Ok-work.ensures.ok))
 
+-- want of memory is no write
+no_write : NoMemory ≡ Write → ⊥
+no_write is = cc
+
 -- words that are no command line, of which nothing but want of memory or a write is told
 pub returns-in-Err-clause-faults : goal.returns-in-Err-clause-faults
 returns-in-Err-clause-faults g c = λ one.
-    let (fault, output, status, gave) = c.show.ensures.fault one in
-    inr (
-      fault,
-      status,
-      (λ parses. output_is_right (asked_by (map string_bytes c.args.words.now))
-          (g.D.Disk.bytes_under c.args.disk.now)
-          (g.S.Source.loaded c.args.source.now) (g.S.Source.loaded c.args.source.now)
-          (g.S.Source.refused c.args.source.now) fault output),
-      (λ parses. absurd (c.in-Err.ensures.wrong parses)),
-      record { line_told = gave.line_told; kept = λ write late. gave.kept write },
-    )
+    let asked = asked_by (map string_bytes c.args.words.now) in
+    let under = g.D.Disk.bytes_under c.args.disk.now in
+    let told = g.S.Source.loaded c.args.source.now in
+    let refused = g.S.Source.refused c.args.source.now in
+    elim c.in-Err.ensures.kinds [
+      | inl memory ↦
+          let gave = c.show.ensures.refused memory in
+          inr (
+            NoMemory,
+            refl,
+            (λ parses. output_is_right asked under told told refused NoMemory tt),
+            (λ parses write. absurd (no_write write)),
+            record { line_told = gave.line_told; kept = λ write late. gave.kept write },
+          )
+      | inr among ↦
+          let (fault, output, status, gave) = c.show.ensures.fault one in
+          inr (
+            fault,
+            status,
+            (λ parses. output_is_right asked under told told refused fault output),
+            (λ parses. absurd (subst (IsAmong (kind_of c.in-Err.error)) parses among)),
+            record { line_told = gave.line_told; kept = λ write late. gave.kept write },
+          )
+    ]
 
 pub returns-clause-faults : goal.returns-clause-faults
 returns-clause-faults g c = λ one.
@@ -52,10 +72,13 @@ returns-clause-faults g c = λ one.
           (g.S.Source.loaded c.args.source.now) (g.S.Source.loaded c.work.new.source)
           (g.S.Source.refused c.work.new.source) fault) same
           (c.in-Err-work.ensures.right_fault status)),
-      (λ parses write unsorted. subst (λ (asked : Asked). HasBegun asked (g.D.Disk.bytes_under c.args.disk.now)
+      (λ parses write unsorted. subst
+          (λ (asked : Asked). HasBegun asked (g.D.Disk.bytes_under c.args.disk.now)
           (g.S.Source.loaded c.args.source.now) (g.S.Source.loaded c.work.new.source)
-          (g.W.Write.contents c.args.out.now.writer) (g.W.Write.contents c.work.new.out.writer)) same
-          (c.in-Err-work.ensures.begun write (subst (λ (asked : Asked). asked.sorted ≡ false) (sym same) unsorted))),
+          (g.W.Write.contents c.args.out.now.writer) (g.W.Write.contents c.work.new.out.writer))
+          same
+          (c.in-Err-work.ensures.begun write
+          (subst (λ (asked : Asked). ¬ (IsSortedLedger asked)) (sym same) unsorted))),
       record {
         line_told = c.tell.ensures.line;
         kept = λ write late. c.in-Err-work.ensures.fault write
@@ -89,7 +112,8 @@ returns-in-Ok-work-clause-faults g c = λ one.
       Write,
       refl,
       (λ parses. tt),
-      (λ parses write unsorted. begun_done asked under told told' out last c.in-Ok-work.is_well done),
+      (λ parses write unsorted. begun_done asked under told told' out last c.in-Ok-work.is_well
+          done),
       record { line_told = line; kept = λ other. absurd (other refl) },
     ))
     (c.finish.ensures.ill one)

@@ -2,16 +2,19 @@ use Rattle.std.proofs.Common.{ap, subst, ◌≡◌, refl}
 use Rattle.std.specs.Prelude.{IfSome, is_some}
 use Rattle.std.proofs.KnownBytes.{Keeps-refl, Keeps-trans}
 use Rattle.std.proofs.lemmas.Result.{IfErr-weaker, IfOk-weaker, err_from_is_err_and}
-use Rattle.fare_program.specs.Program.{Does}
+use Rattle.fare_table.specs.Fares.{Fares}
+use Rattle.tap_views.specs.declared.token.Token.{Token}
+use Rattle.fare_program.specs.Program.{Does, IsTokenIn}
+use Rattle.fare_program.specs.Settling.{ShowsSettled}
 use Rattle.fare_program.specs.declared.fault.Fault.{Fault}
 use Rattle.fare_program.specs.declared.fault.Fault.TheVariants.{Write}
-use Rattle.fare_program.proofs.WritesFailed.{begun_so}
+use Rattle.fare_program.proofs.WritesFailed.{begun_by, begun_so}
 use Rattle.fare_program.specs.inside.ChargedAhead.{IsChargedAhead}
 use Rattle.fare_program.specs.inside.Options.{asked_of}
 use Rattle.fare_program.proofs.SortedRuns.{does_sorted, does_traced, does_untraced, has_table}
-use Rattle.fare_program.proofs.SortedRuns.{traced_table}
+use Rattle.fare_program.proofs.SortedRuns.{one_table, traced_table}
 use Rattle.fare_program.proofs.Works.{does_ahead}
-use Rattle.std.proofs.Common.{◌∙◌, Bool, true, false, sym}
+use Rattle.std.proofs.Common.{◌∙◌, ℕ, Bool, List, None, Option, Some, true, false, sym}
 use Rattle.fare_program.proofs.Causes.{handed_on}
 use Rattle.fare_program.specs.Causes.{IsRightFault}
 use Rattle.fare_program.specs.Fault.{status_of}
@@ -100,6 +103,13 @@ returns-in_err-table-clause-right_fault g c =
     (λ one. c.in_err-table.ensures.right asked (g.D.Disk.bytes_under c.args.disk.now) refl)
 
 -- ---- what a write that failed left
+-- no token is asked for where there is none
+no_token : (asked : Option (List ℕ)) (token : Option Token) → IsTokenIn asked token → token ≡ None
+    → asked ≡ None
+no_token None token is none = refl
+no_token (Some digits) None is none = absurd is
+no_token (Some digits) (Some token) is none = cc
+
 -- a mistake is no write
 no_mistake : (fault : Fault) → status_of fault ≡ 2 → fault ≡ Write → ⊥
 no_mistake Write is write = cc
@@ -108,13 +118,13 @@ no_mistake fault is write = cc
 pub returns-in_err-token-clause-begun : goal.returns-in_err-token-clause-begun
 returns-in_err-token-clause-begun g c =
     let p = err_from_is_err_and c.from_residual.result c.from_residual.ensures.1 in
-    rw p.1 (λ write unsorted. absurd (no_mistake _ c.in_err-token.ensures.status (sym p.2 ∙ write)))
+    rw p.1 (λ write other. absurd (no_mistake _ c.in_err-token.ensures.status (sym p.2 ∙ write)))
 
 pub returns-in_err-table-clause-begun : goal.returns-in_err-table-clause-begun
 returns-in_err-table-clause-begun g c =
     let p = err_from_is_err_and c.from_residual-in_err-table.result
     c.from_residual-in_err-table.ensures.1 in
-    rw p.1 (λ write unsorted. absurd (c.in_err-table.ensures.unwritten (sym p.2 ∙ write)))
+    rw p.1 (λ write other. absurd (c.in_err-table.ensures.unwritten (sym p.2 ∙ write)))
 
 pub returns-in_err-well-clause-begun : goal.returns-in_err-well-clause-begun
 returns-in_err-well-clause-begun g c =
@@ -124,16 +134,27 @@ returns-in_err-well-clause-begun g c =
     let p = err_from_is_err_and c.from_residual-in_err-well.result
     c.from_residual-in_err-well.ensures.1 in
     let begun = c.in_err-well.ensures.begun in
-    rw p.1 (λ write unsorted. (
-      begun.0,
-      begun_so out (g.W.Write.contents c.charge_ahead.new.out) _
+    rw p.1 (λ write other. (
+      begun.well,
+      begun_by out out (g.W.Write.contents c.charge_ahead.new.out) begun.text
           (λ all. Does asked under (g.S.Source.loaded c.args.source.now)
-          (g.S.Source.loaded c.load_table.new.source) out all begun.0) begun.1
-          (λ all done. does_untraced asked under _ _ out all begun.0 c.if-options.false
+          (g.S.Source.loaded c.load_table.new.source) out all begun.well) (Keeps-refl out)
+          begun.begun
+          (λ all written. does_untraced asked under _ _ out all begun.well c.if-options.false
           (does_ahead asked under c.keeps_loads-keeps_loads.result _ _ c.in_ok-table.table
-          c.in_ok-token.token out all begun.0 c.in_ok-table.ensures.ok
-          c.keeps_loads-keeps_loads.ensures c.in_ok-token.ensures.token done (Keeps-refl out)
-          c.if-options-2.false)),
+          c.in_ok-token.token out all begun.well c.in_ok-table.ensures.ok
+          c.keeps_loads-keeps_loads.ensures c.in_ok-token.ensures.token (record {
+            fares = begun.fares;
+            is_table = begun.is_table;
+            lists_none = begun.lists_none;
+            kept_none = begun.kept_none;
+            files = begun.files;
+            some = begun.some;
+            number = begun.number;
+            text = begun.text;
+            shows = begun.shows;
+            written = written;
+          }) (Keeps-refl out) c.if-options-2.false)),
     ))
 
 pub returns-clause-begun : goal.returns-clause-begun
@@ -142,9 +163,9 @@ returns-clause-begun g c =
     let under = g.D.Disk.bytes_under c.args.disk.now in
     let out = g.W.Write.contents c.args.out.now in
     IfErr-weaker c.work_by_table.result _ _
-    (λ fault begun write unsorted.
+    (λ fault begun write other.
     let is = begun write _ _ c.in_ok-table.ensures.ok c.in_ok-token.ensures.token
-    (c.in_ok-well.ensures.none c.in-None.is) unsorted in (
+    (c.in_ok-well.ensures.none c.in-None.is) c.if-options-2.false in (
       is.0,
       begun_so out (g.W.Write.contents c.work_by_table.new.out) _
           (λ all. Does asked under (g.S.Source.loaded c.args.source.now)
@@ -159,7 +180,7 @@ returns-then-options-clause-begun g c =
     let under = g.D.Disk.bytes_under c.args.disk.now in
     let out = g.W.Write.contents c.args.out.now in
     IfErr-weaker c.work_traced.result _ _
-    (λ fault begun write unsorted.
+    (λ fault begun write other.
     let is = begun write in (
       is.0,
       begun_so out (g.W.Write.contents c.work_traced.new.out) _
@@ -169,12 +190,37 @@ returns-then-options-clause-begun g c =
     ))
     c.work_traced.ensures.begun
 
-both_ways : (b : Bool) → b ≡ true → b ≡ false → ⊥
-both_ways true yes no = cc
-both_ways false yes no = cc
-
 pub returns-then-options-2-clause-begun : goal.returns-then-options-2-clause-begun
 returns-then-options-2-clause-begun g c =
+    let asked = asked_of c.args.options.now in
+    let under = g.D.Disk.bytes_under c.args.disk.now in
+    let out = g.W.Write.contents c.args.out.now in
+    let new = g.W.Write.contents c.work_sorted.new.out in
+    let table = has_table asked _ _ c.in_ok-table.table c.in_ok-token.ensures.right
+    c.if-options-2.true c.in_ok-table.ensures.ok in
     IfErr-weaker c.work_sorted.result _ _
-    (λ fault any write unsorted. absurd (both_ways _ c.if-options-2.true unsorted))
-    c.work_sorted.ensures.fault
+    (λ fault begun write other.
+    let is = begun write (λ ledger none. other (
+      c.if-options-2.true,
+      ledger,
+      no_token asked.token c.in_ok-token.token c.in_ok-token.ensures.token none,
+    )) table.0 table.1 in (
+      true,
+      begun_by out out new is.text
+          (λ all. Does asked under (g.S.Source.loaded c.args.source.now)
+          (g.S.Source.loaded c.load_table.new.source) out all true) (Keeps-refl out) is.begun
+          (λ all written. does_untraced asked under _ _ out all true c.if-options.false
+          (does_sorted asked under _ _ c.in_ok-table.table c.in_ok-token.token out all true
+          c.in_ok-token.ensures.right c.if-options-2.true c.in_ok-table.ensures.ok
+          c.in_ok-token.ensures.token (
+            refl,
+            λ f same. record {
+              text = is.text;
+              shows = λ files are. subst (λ (fares : Fares). ShowsSettled asked fares files
+                  c.in_ok-token.token is.text true) (one_table table.0 f (sym table.1 ∙ same))
+                  (is.shows files are);
+              written = written;
+            },
+          ))),
+    ))
+    c.work_sorted.ensures.begun

@@ -85,8 +85,10 @@ returns-then-options-clause-begun g c =
     let is = begun write in (
       is.0,
       begun_by before (g.W.Write.contents c.args.out.now) (g.W.Write.contents c.list.new.out) is.1
-          (λ all. DoesUntraced asked under told (g.S.Source.loaded c.load_files.new.source) before all is.0)
-          kept is.3 (λ all written. does_list asked under told _ _ before _ all is.0 c.args.table loads
+          (λ all. DoesUntraced asked under told (g.S.Source.loaded c.load_files.new.source) before
+          all is.0)
+          kept is.3
+          (λ all written. does_list asked under told _ _ before _ all is.0 c.args.table loads
           kept (map bytes_in c.deref-then-options.result.now)
           (subst (λ (fs : List (List ℕ)). LoadsFiles (names_to_load asked.files)
           (g.S.Source.loaded c.args.source.now) (g.S.Source.loaded c.load_files.new.source) fs)
@@ -107,9 +109,12 @@ returns-in-Some-clause-begun g c =
     let is = begun write in (
       is.0,
       begun_by before (g.W.Write.contents c.args.out.now) (g.W.Write.contents c.charge.new.out) is.1
-          (λ all. DoesUntraced asked under told (g.S.Source.loaded c.load_files.new.source) before all is.0)
-          kept is.3 (λ all written. does_charge asked under told _ _ before _ all is.0 c.args.table loads
-          kept c.in-Some.table (map bytes_in c.in_ok-files.files.items) c.args.token c.in-Some.is loaded
+          (λ all. DoesUntraced asked under told (g.S.Source.loaded c.load_files.new.source) before
+          all is.0)
+          kept is.3
+          (λ all written. does_charge asked under told _ _ before _ all is.0 c.args.table loads
+          kept c.in-Some.table (map bytes_in c.in_ok-files.files.items) c.args.token c.in-Some.is
+          loaded
           is_token c.if-options.false live (is.1, is.2, written)),
     ))
     c.charge.ensures.begun
@@ -125,10 +130,13 @@ returns-clause-begun g c =
     (λ fault begun write told before loads is_token kept live.
     let is = begun write in (
       is.0,
-      begun_by before (g.W.Write.contents c.args.out.now) (g.W.Write.contents c.list-in-None.new.out) is.1
-          (λ all. DoesUntraced asked under told (g.S.Source.loaded c.load_files.new.source) before all is.0)
+      begun_by before (g.W.Write.contents c.args.out.now)
+          (g.W.Write.contents c.list-in-None.new.out) is.1
+          (λ all. DoesUntraced asked under told (g.S.Source.loaded c.load_files.new.source) before
+          all is.0)
           kept is.3 (λ all written. does_list asked under told _ _ before _ all is.0 None
-          (subst (LoadsTable asked.table told (g.S.Source.loaded c.args.source.now)) c.in-None.is loads)
+          (subst (LoadsTable asked.table told (g.S.Source.loaded c.args.source.now)) c.in-None.is
+          loads)
           kept (map bytes_in c.deref-in-None.result.now)
           (subst (λ (fs : List (List ℕ)). LoadsFiles (names_to_load asked.files)
           (g.S.Source.loaded c.args.source.now) (g.S.Source.loaded c.load_files.new.source) fs)

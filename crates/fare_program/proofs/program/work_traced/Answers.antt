@@ -91,7 +91,8 @@ returns-clause-begun g c =
             between = g.S.Source.loaded c.load_named.new.source;
             loads_table = c.in_ok-text.ensures.ok;
             fares = c.in_ok-riders.riders.table;
-            means = subst (λ (b : List ℕ). Means b c.in_ok-riders.riders.table) c.deref.ensures.value
+            means = subst (λ (b : List ℕ). Means b c.in_ok-riders.riders.table)
+                c.deref.ensures.value
                 c.in_ok-riders.ensures.table;
             tree = names.0;
             parsed = ap parse_document (sym c.deref.ensures.value) ∙ names.1;
@@ -100,8 +101,10 @@ returns-clause-begun g c =
             files = map bytes_in c.in_ok-files.files.items;
             loads_files = loaded;
             text = done.1;
-            shows = subst (λ (fs : List (Vec ℕ Global)). IsTracedLedger (class_by c.in_ok-riders.riders.names)
-                c.in_ok-riders.riders.table (map bytes_in fs) done.1 done.0) c.deref-3.ensures.value done.2;
+            shows = subst
+                (λ (fs : List (Vec ℕ Global)). IsTracedLedger (class_by c.in_ok-riders.riders.names)
+                c.in_ok-riders.riders.table (map bytes_in fs) done.1 done.0) c.deref-3.ensures.value
+                done.2;
             written = written;
           }),
     ))

@@ -1,4 +1,5 @@
-use Rattle.std.proofs.Common.{Bool, List, None, All, Vec, Global, ap, flat_map, refl, subst, sym, ◌∙◌}
+use Rattle.std.proofs.Common.{Bool, List, None, All, Vec, Global, ap, flat_map, refl, subst, sym}
+use Rattle.std.proofs.Common.{◌∙◌}
 use Rattle.std.proofs.lemmas.Result.{err_from_is_err_and}
 use Rattle.fare_program.proofs.WritesFailed.{of_write}
 use Rattle.std.specs.Prelude.{MatchBool}
@@ -80,7 +81,8 @@ returns-in_err-write_settled_ledger-clause-begun g c =
     let written = c.in_err-write_settled_ledger.ensures.begun (of_write _ (sym p.2 ∙ write)) in
     let text = written.0 in
     let is : IsLedgerOver fares history None text =
-    subst (λ (ls : List (Vec TapFields Global)). IsLedgerOver fares (posted fares (joined ls)) None text)
+    subst (λ (ls : List (Vec TapFields Global)). IsLedgerOver fares (posted fares (joined ls)) None
+    text)
     c.deref.ensures.value written.1 in (
       are_posted c.in_ok-ends.field-0.ends.items,
       files,

@@ -1,4 +1,4 @@
-use Rattle.std.proofs.lemmas.Result.{IfOk-weaker}
+use Rattle.std.proofs.lemmas.Result.{IfErr-weaker, IfOk-weaker}
 use Rattle.fare_program.proofs.sorted.charge_all.Goals as goal
 
 pub returns-then-options-clause-ok : goal.returns-then-options-clause-ok
@@ -10,3 +10,9 @@ pub returns-clause-ok : goal.returns-clause-ok
 returns-clause-ok g c =
     IfOk-weaker c.write_report.result _ _ (λ done charged. charged c.if-options.false)
     c.write_report.ensures.ok
+
+-- ---- what a write that failed left
+pub returns-then-options-clause-begun : goal.returns-then-options-clause-begun
+returns-then-options-clause-begun g c =
+    IfErr-weaker c.write_ledger.result _ _
+    (λ fault any write other. absurd (other c.if-options.true)) c.write_ledger.ensures.status

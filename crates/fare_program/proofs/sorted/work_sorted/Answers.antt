@@ -1,16 +1,15 @@
 use Rattle.std.proofs.Common.{◌≡◌, ◌∙◌, ℕ, List, Bor, Some, ap, map, refl, subst, sym, true}
+use Rattle.std.proofs.lemmas.Result.{err_from_is_err_and}
 use Rattle.fare_table.specs.Fares.{Fares}
 use Rattle.fare_program.specs.Settling.{ShowsSettled}
 use Rattle.fare_program.specs.inside.Options.{asked_of}
 use Rattle.fare_program.proofs.Causes.{handed_on}
+use Rattle.fare_program.proofs.SortedRuns.{one_table}
 use Rattle.fare_program.specs.Causes.{IsRightOfSorted}
 use Rattle.fare_program.proofs.sorted.work_sorted.Goals as goal
 
 abbrev name_in : Bor (List ℕ) → List ℕ
 name_in name = name.now
-
-same : (a b : Fares) → Some a ≡ Some b → a ≡ b
-same a b is = cc
 
 pub returns-clause-ok : goal.returns-clause-ok
 returns-clause-ok g c =
@@ -18,7 +17,8 @@ returns-clause-ok g c =
     let done = c.in_ok-charge_sorted.ensures.ok in (
       refl,
       λ fares is.
-          let one : c.in-Some.table ≡ fares = same c.in-Some.table fares (sym c.in-Some.is ∙ is) in
+          let one : c.in-Some.table ≡ fares =
+          one_table c.in-Some.table fares (sym c.in-Some.is ∙ is) in
           record {
             text = done.text;
             shows = λ files are. subst
@@ -40,3 +40,29 @@ returns-in_err-files-clause-right g c =
     (IsRightOfSorted (asked_of c.args.options.now).files known) c.from_residual.ensures.1
     (subst (λ (ns : List (Bor (List ℕ))). IsRightOfSorted (map name_in ns) known fault)
     c.deref.ensures.value (c.in_err-files.ensures.right known))
+
+-- ---- what a write that failed left
+pub returns-in_err-files-clause-begun : goal.returns-in_err-files-clause-begun
+returns-in_err-files-clause-begun g c =
+    let p = err_from_is_err_and c.from_residual.result c.from_residual.ensures.1 in
+    rw p.1 (λ write other. absurd (c.in_err-files.ensures.unwritten (sym p.2 ∙ write)))
+
+pub returns-in_err-charge_sorted-clause-begun : goal.returns-in_err-charge_sorted-clause-begun
+returns-in_err-charge_sorted-clause-begun g c =
+    let asked = asked_of c.args.options.now in
+    let p = err_from_is_err_and c.from_residual-in_err-charge_sorted.result
+    c.from_residual-in_err-charge_sorted.ensures.1 in
+    rw p.1 (λ write other fares is.
+    let done = c.in_err-charge_sorted.ensures.begun (sym p.2 ∙ write) other in
+    let one : c.in-Some.table ≡ fares = one_table c.in-Some.table fares (sym c.in-Some.is ∙ is) in
+    record {
+      text = done.text;
+      shows = λ files are. subst
+          (λ (f : Fares). ShowsSettled asked f files c.args.token done.text true) one
+          (done.shows files (ap (map g.D.File.Placed.bytes) c.deref-2.ensures.value
+          ∙ c.in_ok-files.ensures.opened
+          ∙ ap (λ (ns : List (Bor (List ℕ))). map (g.D.Disk.bytes_under c.args.disk.now)
+          (map name_in ns)) c.deref.ensures.value
+          ∙ are));
+      begun = done.begun;
+    })

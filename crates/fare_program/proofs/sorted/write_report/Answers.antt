@@ -1,4 +1,5 @@
-use Rattle.std.proofs.Common.{None, refl, sym, true}
+use Rattle.std.proofs.Common.{◌≡◌, ◌∙◌, Bool, None, false, refl, sym, true}
+use Rattle.std.proofs.lemmas.Result.{err_from_is_err_and}
 use Rattle.fare_program.specs.inside.Options.{asked_of}
 use Rattle.fare_program.proofs.Billed.{shows_bill}
 use Rattle.fare_program.proofs.sorted.write_report.Goals as goal
@@ -26,3 +27,37 @@ returns-in_ok-write_billed-in-Ok-clause-ok g c = λ report.
           });
       written = written;
     }
+
+-- ---- what a write that failed left
+not_true : (b : Bool) → (b ≡ true → ⊥) → b ≡ false
+not_true true other = absurd (other refl)
+not_true false other = refl
+
+pub returns-in_err-write_billed-in-Ok-clause-begun :
+    goal.returns-in_err-write_billed-in-Ok-clause-begun
+returns-in_err-write_billed-in-Ok-clause-begun g c =
+    let (history, is, few, settled) = c.in-Ok.ensures.billed in
+    let asked = asked_of c.args.options.now in
+    let p = err_from_is_err_and c.from_residual-in_err-write_billed-in-Ok.result
+    c.from_residual-in_err-write_billed-in-Ok.ensures.1 in
+    rw p.1 (λ write other.
+    let (well, text, shows, posted, begun) =
+    c.in_err-write_billed-in-Ok.ensures.begun (sym p.2 ∙ write) in
+    record {
+      text = text;
+      shows = λ all are. shows_bill asked c.args.table.now all None text true
+          (not_true asked.ledger other) refl
+          (record {
+            history = history;
+            is_settled = settled all are;
+            shows = shows all history is (c.in-Ok.ensures.ended all are);
+            ends = c.in-Ok.made.ends.items;
+            ended = c.in-Ok.ensures.ended all are;
+            is_well = sym c.in-Ok.ensures.posted;
+          });
+      begun = begun;
+    })
+
+pub returns-in-Err-clause-begun : goal.returns-in-Err-clause-begun
+returns-in-Err-clause-begun g c = λ write other.
+    absurd (c.in-Err.ensures.unwritten (c.of_bill.ensures.write write))

@@ -11,7 +11,6 @@ use Rattle.part_reports.proofs.LedgerTexts.{behind_head, no_head, no_lines}
 use Rattle.part_reports.specs.inside.Told.{IsOfText, next_number}
 use Rattle.part_reports.proofs.Firsts.{taken_and_left}
 use Rattle.part_reports.proofs.LedgersFirst.{first_other, head_wrong, ok_both, second_wrong}
-use Rattle.part_reports.proofs.LedgersFirst.{some_any}
 use Rattle.part_reports.proofs.ToldOf.{of_text}
 use Rattle.part_reports.proofs.ledgers.begin_ledger.Goals as goal
 
@@ -75,8 +74,7 @@ returns-else-eq-clause-refused g c =
 pub returns-in_err-next-clause-first : goal.returns-in_err-next-clause-first
 returns-in_err-next-clause-first g c =
     let p = err_from_is_err_and c.from_residual.result c.from_residual.ensures.1 in
-    rw (p.1, p.2) (some_any (g.R.Read.remaining c.args.from) _
-    (λ file. first_other file _ c.in_err-next.ensures.fault.0))
+    rw (p.1, p.2) (first_other (g.R.Read.remaining c.args.from) _ c.in_err-next.ensures.fault.0)
 
 pub returns-else-eq-clause-first : goal.returns-else-eq-clause-first
 returns-else-eq-clause-first g c =

@@ -6,7 +6,7 @@ use Rattle.part_reports.specs.inside.ReportsLeft.{report_at}
 use Rattle.part_reports.proofs.Places.{map_at}
 use Rattle.part_reports.proofs.ReportsMerged.{all_up, up_more}
 use Rattle.part_reports.specs.inside.Told.{text_number}
-use Rattle.part_reports.proofs.BesideWrong.{of_left}
+use Rattle.part_reports.proofs.BesideWrong.{at_item, of_left}
 use Rattle.part_reports.proofs.ledgers_with_reports.finish_all.Goals as goal
 
 pub loop-at-init : goal.loop-at-init
@@ -63,7 +63,8 @@ returns-in_err-finish-in-Some-clause-told g c =
     c.from_residual.ensures.1 in
     rw (p.1, p.2) (of_left (map text_number sources) (map (report_at remaining) lefts) at
     (text_number c.in-Some.source.now) c.in-Some.source.now.reader.lines _
-    (map_at text_number sources at c.in-Some.source.now (source_there))
+    (map_at text_number sources at c.in-Some.source.now
+    (at_item sources at c.get.result c.in-Some.source c.in-Some.is c.get.ensures.lookup))
     c.in_err-finish-in-Some.ensures.told
     (λ of_texts. record {
       left = report_at remaining left;

@@ -11,8 +11,8 @@ use Rattle.part_reports.specs.Faults.{NamesAmong, number_from}
 use Rattle.part_reports.specs.LedgersWithReports.{NamesWrongBeside}
 use Rattle.part_reports.specs.inside.Told.{AreNumbered, text_number}
 use Rattle.part_reports.specs.inside.WrongBeside.{left_number}
-use Rattle.part_reports.proofs.BesideWrong.{among_below, files_count, ledger_beside, merged_beside}
-use Rattle.part_reports.proofs.BesideWrong.{report_beside}
+use Rattle.part_reports.proofs.BesideWrong.{among_below, counted_files, ledger_beside}
+use Rattle.part_reports.proofs.BesideWrong.{merged_beside, report_beside}
 use Rattle.part_reports.proofs.FewParts.{map_length}
 use Rattle.part_reports.proofs.ToldOf.{among_numbered, below_numbered}
 use Rattle.part_reports.proofs.ReportsMerged.{ledgers_number, no_charges, no_whole, reports_number}
@@ -179,7 +179,7 @@ returns-in_err-lefts-clause-wrong g c =
     omega (arith, c.len-first.ensures, c.args.ledgers.ok.0) in
     rw (p.1, p.2) (λ files report_files same same_reports.
     report_beside files report_files c.len-first.result _
-    (size ∙ files_count remaining c.args.ledgers.items files same)
+    (counted_files remaining c.args.ledgers.items files c.len-first.result same size)
     (c.in_err-lefts.ensures.wrong report_files same_reports))
 
 pub returns-in_err-write_text-clause-named : goal.returns-in_err-write_text-clause-named
@@ -251,5 +251,5 @@ returns-clause-wrong g c =
     (map (standing remaining) c.deref_mut.result.now)
     (map (report_at remaining) c.deref_mut-2.result.now) numbers left_numbers c.len-first.result
     fault same same_reports are begun numbered left_numbered
-    (first ∙ files_count remaining c.args.ledgers.items files same) wrong)
+    (counted_files remaining c.args.ledgers.items files c.len-first.result same first) wrong)
     c.write_all_taken.ensures.wrong

@@ -1,6 +1,8 @@
 -- Each turn writes a round more.
-use Rattle.std.proofs.Common.{◌≡◌, ◌==◌, true, All, List, [], ◌++◌, length, string_bytes, refl, sym, ap}
-use Rattle.std.proofs.Common.{subst, ◌∙◌, append_assoc, append-nil, arith, length-append, Vec, Global}
+use Rattle.std.proofs.Common.{◌≡◌, ◌==◌, true, All, List, [], ◌++◌, length, string_bytes, refl, sym}
+use Rattle.std.proofs.Common.{ap}
+use Rattle.std.proofs.Common.{subst, ◌∙◌, append_assoc, append-nil, arith, length-append, Vec}
+use Rattle.std.proofs.Common.{Global}
 use Rattle.fare_texts.proofs.Beginnings.{goes_nothing, goes_on}
 use Rattle.std.proofs.lemmas.Bool.{eqb-true}
 use Rattle.std.proofs.lemmas.List.{nil_from_length}

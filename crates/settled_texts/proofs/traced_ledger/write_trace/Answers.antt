@@ -61,7 +61,8 @@ with_head : (head more lines : List ℕ) (columns : List (List ℕ))
     ≡ with_columns (head_text ++ lines) (head_columns ∷ columns)
 with_head head more lines columns one other =
     ap (λ (h : List ℕ). (h ++ more) ++ with_columns lines columns) one
-    ∙ ap (λ (h : List ℕ). (codes "token,line,moment,validator,mode,answer,cents,window_start,window_end,ride,reason,points_at" ++ h)
+    ∙ ap (λ (h : List ℕ).
+    (codes "token,line,moment,validator,mode,answer,cents,window_start,window_end,ride,reason,points_at" ++ h)
     ++ with_columns lines columns) other
     ∙ sym (head_on lines columns)
 

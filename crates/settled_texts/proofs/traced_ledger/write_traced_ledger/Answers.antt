@@ -91,11 +91,14 @@ returns-in_err-write_trace-clause-begun g c =
         is_trace = c.in_ok-trace.ensures;
         is_settled = c.posted_taps.ensures.history fares files (taps_of_trace trace) settled;
         untraced = told.0;
-        is_ledger = subst (λ (ts : List TracedTap). IsLedgerOver fares (posted fares (taps_of_trace ts)) None told.0)
+        is_ledger = subst
+            (λ (ts : List TracedTap). IsLedgerOver fares (posted fares (taps_of_trace ts)) None
+            told.0)
             c.deref.ensures.value told.1;
         shown = refl;
       },
       subst (λ (ts : List TracedTap). Begins (g.W.Write.contents c.args.out.now)
-          (g.W.Write.contents c.write_trace.new.out) (with_columns told.0 (head_columns ∷ columns_by classes ts)))
+          (g.W.Write.contents c.write_trace.new.out)
+          (with_columns told.0 (head_columns ∷ columns_by classes ts)))
           c.deref.ensures.value told.2,
     ))

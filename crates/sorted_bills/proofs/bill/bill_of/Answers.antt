@@ -6,7 +6,8 @@ use Rattle.report_texts.specs.declared.upload_end.UploadEnd.{UploadEnd}
 use Rattle.report_texts.specs.declared.upload_end.UploadEnd.TheVariants.{Posted}
 use Rattle.settlement.specs.Posted.{posted}
 use Rattle.settlement.proofs.TokenRuns.{posted_length}
-use Rattle.sorted_bills.proofs.Counted.{counted_ends, late_says_nothing, passed_counts, too_many}
+use Rattle.sorted_bills.proofs.Counted.{counted_ends, late_no_write, late_says_nothing}
+use Rattle.sorted_bills.proofs.Counted.{passed_counts, too_many}
 use Rattle.sorted_bills.proofs.bill.bill_of.Goals as goal
 
 pub charge-requires-clause-ready : goal.charge-requires-clause-ready
@@ -89,3 +90,10 @@ returns-in_err-bill-clause-fault g c =
     let p = err_from_is_err_and c.from_residual-in_err-bill.result
     c.from_residual-in_err-bill.ensures.1 in
     rw (p.1, p.2) (λ all are. tt)
+
+-- ---- no write failed
+pub returns-in_err-taker-clause-unwritten : goal.returns-in_err-taker-clause-unwritten
+returns-in_err-taker-clause-unwritten g c =
+    let p = err_from_is_err_and c.from_residual-in_err-taker.result
+    c.from_residual-in_err-taker.ensures.1 in
+    rw (p.1, p.2) (late_no_write c.in_err-taker.field-0.0)

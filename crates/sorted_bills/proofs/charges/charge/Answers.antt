@@ -7,7 +7,7 @@ use Rattle.tap_views.specs.declared.token.Token.{Token}
 use Rattle.settled_texts.specs.Telling.{NoTapFallsFrom, last_token}
 use Rattle.settled_texts.proofs.Tellings.{last_append}
 use Rattle.sorted_bills.specs.inside.OpenBills.{IsOpenBill}
-use Rattle.sorted_bills.proofs.Counted.{late_says_nothing}
+use Rattle.sorted_bills.proofs.Counted.{late_no_write, late_says_nothing}
 use Rattle.sorted_bills.proofs.Takings.{Early, both_taken, fall_both, last_taken, none_taken}
 use Rattle.sorted_bills.proofs.Takings.{none_there}
 use Rattle.sorted_bills.proofs.charges.charge.Goals as goal
@@ -112,3 +112,9 @@ returns-in_err-add-clause-fault g c =
     let p = err_from_is_err_and c.from_residual-in_err-add.result
     c.from_residual-in_err-add.ensures.1 in
     rw (p.1, p.2) (λ all. tt)
+
+pub returns-in_err-take-clause-unwritten : goal.returns-in_err-take-clause-unwritten
+returns-in_err-take-clause-unwritten g c =
+    let p = err_from_is_err_and c.from_residual-in_err-take.result
+    c.from_residual-in_err-take.ensures.1 in
+    rw (p.1, p.2) (late_no_write c.in_err-take.field-0.0)

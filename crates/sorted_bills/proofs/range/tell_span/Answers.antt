@@ -51,7 +51,8 @@ returns-clause-lines g c = λ earlier none up.
     let all = all_out c.args.lines.now.items (string_bytes c.args.text.now) c.pass_on.new.out.items
     told.lines c.requires.none.0 c.requires.none.1
     (waits_out (Some c.args.lines.now.items) (Some c.tell_below.new.out.items)
-    (Some c.pass_on.new.out.items) (string_bytes c.args.text.now) (string_bytes c.tell_below.new.text)
+    (Some c.pass_on.new.out.items) (string_bytes c.args.text.now)
+    (string_bytes c.tell_below.new.text)
     told.lines told.appended c.in_ok-pass_on.ensures.whole) in
     record {
       taps = told.taps;
