@@ -83,11 +83,11 @@ impl<D: Disk> Uploads for NamedFiles<'_, D> {
     }
 }
 
-impl<D: Disk> LentUploads for &NamedFiles<'_, D> {
+impl<D: Disk> LentUploads for NamedFiles<'_, D> {
     ghost use Rattle.std.specs.Prelude.{None, map};
 
     // No contract says what a file of a disk has.
-    ghost known = { λ files. map (λ name. None) files.now.names.now };
+    ghost known = { λ files. map (λ name. None) files.names.now };
 
     fn len(&self) -> usize {
         self.names.len()
@@ -141,8 +141,14 @@ fn charge_named<'a, R: Threads + Wait + RandomSource + Sync, D: Disk + Sync, W: 
         return charge_settled(rt, alloc, options, table, token, uploads, out);
     }
     let own = table.try_clone(alloc)?;
-    let gate = NotingGate::new(uploads.disk, uploads);
-    charge_lent(rt, alloc, options, own, token, uploads, &gate, out)
+    let gate = NotingGate::new(uploads.disk, uploads.sizes);
+    let lent = NamedFiles {
+        alloc,
+        disk: uploads.disk,
+        names: uploads.names,
+        sizes: uploads.sizes,
+    };
+    charge_lent(rt, alloc, options, own, token, lent, &gate, out)
 }
 
 /// Charges the named files while they are read, and writes what is asked for, where that can be

@@ -5,35 +5,45 @@ ghost use Rattle.std.specs.Prelude.{◌≡◌, ◌<◌, Some, length, map, slice
 use crate::files_ahead::{Amount, Disk};
 use fare_service::Gate;
 use settlement::{LoadedUploads, Uploads};
-use std::alloc::AllocError;
+use std::alloc::{AllocError, Global};
+use tap_views::NoMemory;
 
-/// How many bytes the uploads have, by what is known of their sizes, or 2^64 - 1 if there are more.
-fn bytes_of<U: Uploads>(uploads: &U) -> u64 {
+/// How many bytes these sizes are together, or 2^64 - 1 if they are more.
+fn sum_of(sizes: &[u64]) -> u64 {
     let mut bytes = 0u64;
-    for upload in 0..uploads.len() {
-        bytes = bytes.saturating_add(uploads.size(upload) as u64);
+    for size in sizes {
+        bytes = bytes.saturating_add(*size);
     }
     bytes
 }
 
-/// A gate that keeps nobody waiting. Behind it each upload is noted that was posted.
-#[derive(Clone, Copy)]
-pub(crate) struct NotingGate<'a, D, U> {
-    /// Where they are noted.
-    disk: &'a D,
-    /// What knows the size of each upload.
-    uploads: &'a U,
+/// The size of each file in bytes.
+pub(crate) fn sizes_in(alloc: Global, files: &[Vec<u8>]) -> Result<Vec<u64>, NoMemory> {
+    let mut sizes = Vec::new(alloc);
+    for file in files {
+        sizes.push(file.len() as u64)?;
+    }
+    Ok(sizes)
 }
 
-impl<'a, D: Disk, U: Uploads> NotingGate<'a, D, U> {
-    /// The gate to these uploads, of which none is posted.
-    pub(crate) fn new(disk: &'a D, uploads: &'a U) -> Self {
-        disk.note_all(Amount::Bytes(bytes_of(uploads)));
-        NotingGate { disk, uploads }
+/// A gate that keeps nobody waiting. Behind it each upload is noted that was posted.
+#[derive(Clone, Copy)]
+pub(crate) struct NotingGate<'a, D> {
+    /// Where they are noted.
+    disk: &'a D,
+    /// The size of each upload in bytes.
+    sizes: &'a [u64],
+}
+
+impl<'a, D: Disk> NotingGate<'a, D> {
+    /// The gate to uploads of these sizes, of which none is posted.
+    pub(crate) fn new(disk: &'a D, sizes: &'a [u64]) -> Self {
+        disk.note_all(Amount::Bytes(sum_of(sizes)));
+        NotingGate { disk, sizes }
     }
 }
 
-impl<D: Disk, U: Uploads> Gate for NotingGate<'_, D, U> {
+impl<D: Disk> Gate for NotingGate<'_, D> {
     type Begun = u32;
 
     ghost begins = { λ begun. begun };
@@ -43,8 +53,9 @@ impl<D: Disk, U: Uploads> Gate for NotingGate<'_, D, U> {
     }
 
     fn after(&self, upload: u32) {
-        let bytes = self.uploads.size(upload as usize);
-        self.disk.note_charged(Amount::Bytes(bytes as u64));
+        if let Some(size) = self.sizes.get(upload as usize) {
+            self.disk.note_charged(Amount::Bytes(*size));
+        }
     }
 }
 

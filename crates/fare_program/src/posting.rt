@@ -10,7 +10,7 @@ ghost use Rattle.fare_program.specs.Program.{ShowsAsked, ShowsOf, ShowsStatement
 
 use crate::fault::Fault;
 use crate::files_ahead::Disk;
-use crate::noting::{NotedUploads, NotingGate};
+use crate::noting::{NotedUploads, NotingGate, sizes_in};
 use crate::options::Options;
 use crate::run::{are_posted, post_live};
 use crate::settle::charge_settled;
@@ -179,7 +179,8 @@ pub(crate) fn charge<'a, R: Threads + Wait + RandomSource + Sync, D: Disk + Sync
     if options.settle {
         return charge_settled(rt, alloc, options, &table, token, &uploads, out);
     }
-    let gate = NotingGate::new(disk, &uploads);
+    let sizes = sizes_in(alloc, &files)?;
+    let gate = NotingGate::new(disk, &sizes);
     charge_lent(
         rt,
         alloc,

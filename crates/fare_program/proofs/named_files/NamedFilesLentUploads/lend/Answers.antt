@@ -2,7 +2,7 @@ use Rattle.std.proofs.Common.{◌≡◌, ◌<◌, ℕ, zero, suc, List, [], ◌�
 use Rattle.std.specs.Prelude.{Option, None, Some, slice_get}
 use Rattle.std.proofs.lemmas.List.{length-map}
 use Rattle.fare_service.specs.Lending.{IsAsKnown, known_at}
-use Rattle.fare_program.proofs.named_files.RefNamedFilesLentUploads.lend.Goals as goal
+use Rattle.fare_program.proofs.named_files.NamedFilesLentUploads.lend.Goals as goal
 
 abbrev unknown : {A : Type 0} → A → Option (List ℕ)
 unknown name = None
@@ -21,14 +21,14 @@ none_there (name ∷ names) (suc upload) few = none_there names upload (omega (a
 
 pub read-requires : goal.read-requires
 read-requires g c =
-    omega (arith, c.requires, length-map c.args.self.now.now.names.now unknown)
+    omega (arith, c.requires, length-map c.args.self.now.names.now unknown)
 
 pub returns-clause-lent : goal.returns-clause-lent
 returns-clause-lent g c =
     subst (λ (known : Option (List ℕ)). IsAsKnown known c.as_slice.result.now)
-    (sym (none_known c.args.self.now.now.names.now c.args.upload)) tt
+    (sym (none_known c.args.self.now.names.now c.args.upload)) tt
 
 pub returns-in_default-clause-none : goal.returns-in_default-clause-none
 returns-in_default-clause-none g c =
-    none_there c.args.self.now.now.names.now c.args.upload
-    (omega (arith, c.requires, length-map c.args.self.now.now.names.now unknown))
+    none_there c.args.self.now.names.now c.args.upload
+    (omega (arith, c.requires, length-map c.args.self.now.names.now unknown))
