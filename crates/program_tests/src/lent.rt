@@ -1,6 +1,6 @@
 //! Live runs whose workers load the files that they draw.
 
-use super::running::run_over;
+use super::running::{NoDisk, run_over};
 use super::shelf::{Content, FIRST, SAMPLE, Shelf};
 use fare_program::{Amount, Disk, FileAhead, LoadFault, Source};
 use placed_files::{InMemory, Unopened};
@@ -144,11 +144,10 @@ fn loaded_text<R: Threads + Wait + RandomSource + Sync>(
         ("a", Content::Bytes(&content)),
         ("b", Content::Bytes(&content)),
     ];
-    let disk = super::running::NoDisk;
     let input = Content::Fault(LoadFault::Unread);
     let mut source = Shelf::new(alloc, files.as_slice(), input);
     let mut out = Vec::new(alloc);
-    run_over(rt, alloc, words, &disk, &mut source, &mut out)?;
+    run_over(rt, alloc, words, &NoDisk, &mut source, &mut out)?;
     Ok(out)
 }
 
