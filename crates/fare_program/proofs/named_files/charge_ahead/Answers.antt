@@ -4,7 +4,7 @@ use Rattle.fare_program.proofs.named_files.charge_ahead.Goals as goal
 
 pub returns-in-Err-Write-clause-begun : goal.returns-in-Err-Write-clause-begun
 returns-in-Err-Write-clause-begun g c =
-    let is = c.in-Err-Write.ensures.begun refl in
+    let is = c.in-Err-Write.ensures.begun c.in-Err-Write.field-0-is in
     record {
       well = is.0;
       fares = c.in-Some.table;
