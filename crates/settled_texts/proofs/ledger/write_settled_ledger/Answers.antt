@@ -54,7 +54,7 @@ returns-in_err-write_lists-clause-begun g c =
     rw p.1 (λ write. (
       head_text ++ told.0,
       ledger_along fares (posted fares taps) told.0
-      (posted_falls fares c.of-teller.result.token taps
+          (posted_falls fares c.of-teller.result.token taps
           no_fall) told.1,
       subst (λ (head : List ℕ). Begins (g.W.Write.contents c.args.out.now)
           (g.W.Write.contents c.write_lists.new.out) (head ++ told.0)) c.in_ok-text.ensures told.2,
@@ -73,7 +73,7 @@ returns-in_err-pass_on-clause-begun g c =
     rw p.1 (λ write. (
       head_text ++ told.0,
       ledger_along fares (posted fares taps) told.0
-      (posted_falls fares c.of-teller.result.token taps
+          (posted_falls fares c.of-teller.result.token taps
           no_fall) told.1.are,
       subst (λ (head : List ℕ). Begins (g.W.Write.contents c.args.out.now)
           (g.W.Write.contents c.pass_on.new.out) (head ++ told.0)) c.in_ok-text.ensures

@@ -16,6 +16,6 @@ pub returns-in-None : goal.returns-in-None
 returns-in-None c = λ fares known all.
     let P : Option Part → Type 0 = λ (p : Option Part). IfSome p (IsPart fares known (2 ^ 73)) in (
       (All-pop P c.args.parts.now.items c.pop.new.self.items c.pop.result c.pop.ensures.items
-      all).0,
+          all).0,
       tt,
     )

@@ -31,8 +31,7 @@ write_ranges-requires-clause-told g c κs within =
     let fares = c.args.table.now in
     let teller = c.of-teller.result in
     let readers = c.in_ok-taker.taker.merge.readers.items in
-    let bytes = append_known (g.W.Write.contents c.args.out.now) (string_bytes c.in_ok-text.text) in
-    (
+    let bytes = append_known (g.W.Write.contents c.args.out.now) (string_bytes c.in_ok-text.text) in (
       [],
       readers,
       teller.token,
