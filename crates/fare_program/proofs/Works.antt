@@ -1,4 +1,4 @@
--- What was asked for was done, of files that were loaded or settled while they were read.
+-- What was asked for was done, of files that were loaded or charged while they were read.
 use Rattle.std.proofs.Common.{◌≡◌, ◌∙◌, ◌<◌, ◌++◌, ◌∷◌, ℕ, List, Bool, true, false, not, Option}
 use Rattle.std.proofs.Common.{Some, None, refl, ap, sym, arith, inl, inr, length, map, subst, []}
 use Rattle.std.specs.Prelude.{MatchBool, is_some, ◌||◌, ◌⊎◌}
@@ -10,7 +10,6 @@ use Rattle.fare_program.specs.Program.{DoesUntraced, IsTokenIn, LoadsFiles, Load
 use Rattle.fare_program.specs.Program.{RunsService, RunsSorted, ShowsAsked, names_to_load}
 use Rattle.fare_program.specs.Uploads.{IsListing}
 use Rattle.fare_program.specs.inside.ChargedAhead.{IsChargedAhead}
-use Rattle.fare_program.proofs.PostedTexts.{settled_asked}
 use Rattle.program_manners.specs.Loads.{Loaded, Tells}
 
 -- what is appended to bytes that were kept is appended
@@ -140,6 +139,6 @@ does_ahead asked known keeps told between table token out out' well loads none i
     (untold asked.files between is.files (none is.kept_none) is.some is.number) is_token
     is.lists_none live (
       is.text,
-      settled_asked asked is.fares is.files token is.text well is.settles is.shows,
+      is.shows,
       is.written,
     )

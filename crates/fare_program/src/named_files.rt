@@ -1,19 +1,27 @@
-//! Named files that are read while their taps are settled.
-ghost use Rattle.std.specs.Prelude.{◌≡◌, None, IfErr, IfOk, IfSome, OnErr, length};
-ghost use Rattle.std.specs.Io.KnownBytes.{Keeps};
+//! Named files that are read while their taps are charged.
+ghost use Rattle.std.specs.Prelude.{◌≡◌, ◌≢◌, ℕ, Bool, List, None, IfErr, IfOk, IfSome, OnErr};
+ghost use Rattle.std.specs.Prelude.{length};
+ghost use Rattle.std.specs.Io.KnownBytes.{Appends, Keeps};
+ghost use Rattle.fare_texts.specs.WrittenOut.{Begins};
+ghost use Rattle.fare_program.specs.Program.{ShowsAsked};
 ghost use Rattle.fare_program.specs.inside.Options.{asked_of};
 ghost use Rattle.fare_program.specs.inside.ChargedAhead.{IsBegunAhead, IsChargedAhead};
 
 use crate::fault::Fault;
 use crate::files_ahead::{Amount, Disk};
+use crate::noting::NotingGate;
 use crate::options::Options;
+use crate::posting::charge_lent;
 use crate::settle::charge_settled;
+use fare_service::LentUploads;
 use fare_table::FareTable;
 use settlement::Uploads;
 use std::alloc::{AllocError, Global};
 use std::io::Write;
 use std::marker::Sync;
+use std::mem;
 use std::random::RandomSource;
+use std::sync::Wait;
 use std::thread::Threads;
 use tap_views::Token;
 
@@ -75,6 +83,26 @@ impl<D: Disk> Uploads for NamedFiles<'_, D> {
     }
 }
 
+impl<D: Disk> LentUploads for NamedFiles<'_, D> {
+    ghost use Rattle.std.specs.Prelude.{None, map};
+
+    // No contract says what a file of a disk has.
+    ghost known = { λ files. map (λ name. None) files.names.now };
+
+    fn len(&self) -> usize {
+        self.names.len()
+    }
+
+    fn lend<'b>(&'b self, upload: u32, room: &'b mut Vec<u8>) -> Option<&'b [u8]> {
+        let taken = mem::replace(room, Vec::new(self.alloc));
+        let Ok(bytes) = self.read(upload as usize, taken) else {
+            return None;
+        };
+        *room = bytes;
+        Some(room.as_slice())
+    }
+}
+
 /// The sizes of the files of these names, if all may be read before they are due.
 pub(crate) fn sizes_of<D: Disk>(alloc: Global, disk: &D, names: &[&str]) -> Option<Vec<u64>> {
     let mut sizes = Vec::new(alloc);
@@ -86,13 +114,50 @@ pub(crate) fn sizes_of<D: Disk>(alloc: Global, disk: &D, names: &[&str]) -> Opti
     Some(sizes)
 }
 
-/// Settles the named files while they are read, and writes what is asked for, where that can be
+/// Charges the named files, each of which is read when its turn comes, and writes what is asked for.
+/// Says whether each file was posted whole.
+fn charge_named<'a, R: Threads + Wait + RandomSource + Sync, D: Disk + Sync, W: Write>(
+    rt: &R,
+    alloc: Global,
+    options: &Options<'a>,
+    table: &FareTable,
+    token: Option<Token>,
+    uploads: &NamedFiles<'_, D>,
+    out: &mut W,
+) -> Result<bool, Fault<'a>>
+    ensures ok { IfOk result (λ well. (files : List (List ℕ)) × (text : List ℕ)
+        × (length files ≡ length uploads.now.names.now)
+        × ShowsAsked (asked_of options.now) table.now files token text well
+        × Appends (W.contents out.old) (W.contents out.new) text) }
+    ensures begun { IfErr result (λ fault. fault ≡ Fault.Write
+        → (well : Bool) × (files : List (List ℕ)) × (text : List ℕ)
+        × (length files ≡ length uploads.now.names.now)
+        × ShowsAsked (asked_of options.now) table.now files token text well
+        × Begins (W.contents out.old) (W.contents out.new) text) }
+    ensures fault { IfErr result (λ fault. fault ≢ Fault.Write
+        → Keeps (W.contents out.old) (W.contents out.new)) }
+{
+    if options.settle {
+        return charge_settled(rt, alloc, options, table, token, uploads, out);
+    }
+    let own = table.try_clone(alloc)?;
+    let gate = NotingGate::new(uploads.disk, uploads.sizes);
+    let lent = NamedFiles {
+        alloc,
+        disk: uploads.disk,
+        names: uploads.names,
+        sizes: uploads.sizes,
+    };
+    charge_lent(rt, alloc, options, own, token, lent, &gate, out)
+}
+
+/// Charges the named files while they are read, and writes what is asked for, where that can be
 /// done: the source keeps no loads, and all files may be read before they are due. Says whether each
 /// file was posted whole.
 ///
 /// Where it says nothing, nothing was written. Then the files are to be loaded in their turns: so the
 /// fault that is told is that of the first file in the order of the words.
-pub(crate) fn charge_ahead<'a, R: Threads + RandomSource + Sync, D: Disk + Sync, W: Write>(
+pub(crate) fn charge_ahead<'a, R: Threads + Wait + RandomSource + Sync, D: Disk + Sync, W: Write>(
     rt: &R,
     alloc: Global,
     disk: &D,
@@ -110,7 +175,7 @@ pub(crate) fn charge_ahead<'a, R: Threads + RandomSource + Sync, D: Disk + Sync,
     ensures begun { OnErr result (IsBegunAhead (asked_of options.now) keeps_loads table.now token
         (W.contents out.old) (W.contents out.new)) }
 {
-    if !options.settle || options.list || keeps_loads || options.files.is_empty() {
+    if options.list || keeps_loads || options.files.is_empty() {
         return Ok(None);
     }
     let Some(table) = table else {
@@ -126,7 +191,7 @@ pub(crate) fn charge_ahead<'a, R: Threads + RandomSource + Sync, D: Disk + Sync,
         names,
         sizes: &sizes,
     };
-    match charge_settled(rt, alloc, options, table, token, &uploads, out) {
+    match charge_named(rt, alloc, options, table, token, &uploads, out) {
         Ok(well) => Ok(Some(well)),
         Err(Fault::Write) => Err(Fault::Write),
         Err(_) => Ok(None),

@@ -5,15 +5,25 @@ ghost use Rattle.std.specs.Prelude.{◌≡◌, ◌<◌, Some, length, map, slice
 use crate::files_ahead::{Amount, Disk};
 use fare_service::Gate;
 use settlement::{LoadedUploads, Uploads};
-use std::alloc::AllocError;
+use std::alloc::{AllocError, Global};
+use tap_views::NoMemory;
 
-/// How many bytes the files have, or 2^64 - 1 if there are more.
-fn bytes_of(files: &[Vec<u8>]) -> u64 {
+/// How many bytes these sizes are together, or 2^64 - 1 if they are more.
+fn sum_of(sizes: &[u64]) -> u64 {
     let mut bytes = 0u64;
-    for file in files {
-        bytes = bytes.saturating_add(file.len() as u64);
+    for size in sizes {
+        bytes = bytes.saturating_add(*size);
     }
     bytes
+}
+
+/// The size of each file in bytes.
+pub(crate) fn sizes_in(alloc: Global, files: &[Vec<u8>]) -> Result<Vec<u64>, NoMemory> {
+    let mut sizes = Vec::new(alloc);
+    for file in files {
+        sizes.push(file.len() as u64)?;
+    }
+    Ok(sizes)
 }
 
 /// A gate that keeps nobody waiting. Behind it each upload is noted that was posted.
@@ -21,15 +31,15 @@ fn bytes_of(files: &[Vec<u8>]) -> u64 {
 pub(crate) struct NotingGate<'a, D> {
     /// Where they are noted.
     disk: &'a D,
-    /// The bytes of each upload.
-    files: &'a [Vec<u8>],
+    /// The size of each upload in bytes.
+    sizes: &'a [u64],
 }
 
 impl<'a, D: Disk> NotingGate<'a, D> {
-    /// The gate to these uploads, of which none is posted.
-    pub(crate) fn new(disk: &'a D, files: &'a [Vec<u8>]) -> Self {
-        disk.note_all(Amount::Bytes(bytes_of(files)));
-        NotingGate { disk, files }
+    /// The gate to uploads of these sizes, of which none is posted.
+    pub(crate) fn new(disk: &'a D, sizes: &'a [u64]) -> Self {
+        disk.note_all(Amount::Bytes(sum_of(sizes)));
+        NotingGate { disk, sizes }
     }
 }
 
@@ -43,8 +53,8 @@ impl<D: Disk> Gate for NotingGate<'_, D> {
     }
 
     fn after(&self, upload: u32) {
-        if let Some(file) = self.files.get(upload as usize) {
-            self.disk.note_charged(Amount::Bytes(file.len() as u64));
+        if let Some(size) = self.sizes.get(upload as usize) {
+            self.disk.note_charged(Amount::Bytes(*size));
         }
     }
 }

@@ -1,19 +1,20 @@
 //! The text that is asked for of files, which are posted as they are or settled.
-ghost use Rattle.std.specs.Prelude.{Bool, ◌≡◌, ◌≢◌, ℕ, List, IfErr, IfOk, OnOk, length, map};
+ghost use Rattle.std.specs.Prelude.{Bool, ◌≡◌, ◌≢◌, ℕ, List, IfErr, IfOk, OnOk, false, length, map};
 ghost use Rattle.std.specs.Io.KnownBytes.{Appends, Keeps};
 ghost use Rattle.fare_texts.specs.WrittenOut.{Begins};
 ghost use Rattle.fare_program.specs.Fault.{status_of};
 ghost use Rattle.fare_program.specs.inside.Causes.{IsOfOutput, IsRightOfUploads};
 ghost use Rattle.fare_program.specs.inside.Options.{asked_of};
+ghost use Rattle.fare_service.specs.Lending.{AreLentAs};
 ghost use Rattle.fare_program.specs.Program.{ShowsAsked, ShowsOf, ShowsStatement, ShowsWith};
 
 use crate::fault::Fault;
 use crate::files_ahead::Disk;
-use crate::noting::NotedUploads;
+use crate::noting::{NotedUploads, NotingGate, sizes_in};
 use crate::options::Options;
 use crate::run::{are_posted, post_live};
 use crate::settle::charge_settled;
-use fare_service::Outcome;
+use fare_service::{Gate, LentUploads, Outcome};
 use fare_table::FareTable;
 use fare_texts::{write_explained, write_ledger};
 use std::alloc::Global;
@@ -110,6 +111,45 @@ fn print_asked<'a, R: Threads + Sync, W: Write>(
     Ok(())
 }
 
+/// Posts uploads that are lent, as they are, and writes what is asked for. Says whether each was
+/// posted whole.
+pub(crate) fn charge_lent<
+    'a,
+    R: Threads + Wait + RandomSource + Sync,
+    U: LentUploads + Drop + Sync,
+    G: Gate + Sync,
+    W: Write,
+>(
+    rt: &R,
+    alloc: Global,
+    options: &Options<'a>,
+    table: FareTable,
+    token: Option<Token>,
+    uploads: U,
+    gate: &G,
+    out: &mut W,
+) -> Result<bool, Fault<'a>>
+    requires { (asked_of options.now).settle ≡ false }
+    ensures ok { IfOk result (λ well. (files : List (List ℕ)) × (text : List ℕ)
+        × AreLentAs (U.known uploads) files
+        × ShowsAsked (asked_of options.now) table files token text well
+        × Appends (W.contents out.old) (W.contents out.new) text) }
+    ensures begun { IfErr result (λ fault. fault ≡ Fault.Write
+        → (well : Bool) × (files : List (List ℕ)) × (text : List ℕ)
+        × AreLentAs (U.known uploads) files
+        × ShowsAsked (asked_of options.now) table files token text well
+        × Begins (W.contents out.old) (W.contents out.new) text) }
+    ensures right { IfErr result (IsRightOfUploads (asked_of options.now).settle
+        (length (U.known uploads))) }
+    ensures status { IfErr result (λ fault. status_of fault ≡ 1) }
+    ensures fault { IfErr result (λ fault. fault ≢ Fault.Write
+        → Keeps (W.contents out.old) (W.contents out.new)) }
+{
+    let outcome = post_live(rt, alloc, table, options, uploads, gate)?;
+    print_asked(rt, alloc, options, &outcome, token, out)?;
+    Ok(are_posted(outcome.ends()))
+}
+
 /// Posts the files, settled where that is asked for, and writes what is asked for. Says whether
 /// each file was posted whole. What is charged is noted on the disk.
 pub(crate) fn charge<'a, R: Threads + Wait + RandomSource + Sync, D: Disk + Sync, W: Write>(
@@ -135,11 +175,20 @@ pub(crate) fn charge<'a, R: Threads + Wait + RandomSource + Sync, D: Disk + Sync
     ensures fault { IfErr result (λ fault. fault ≢ Fault.Write
         → Keeps (W.contents out.old) (W.contents out.new)) }
 {
+    let uploads = NotedUploads { disk, all: &files };
     if options.settle {
-        let uploads = NotedUploads { disk, all: &files };
         return charge_settled(rt, alloc, options, &table, token, &uploads, out);
     }
-    let outcome = post_live(rt, alloc, disk, table, options, files)?;
-    print_asked(rt, alloc, options, &outcome, token, out)?;
-    Ok(are_posted(outcome.ends()))
+    let sizes = sizes_in(alloc, &files)?;
+    let gate = NotingGate::new(disk, &sizes);
+    charge_lent(
+        rt,
+        alloc,
+        options,
+        table,
+        token,
+        files.as_slice(),
+        &gate,
+        out,
+    )
 }

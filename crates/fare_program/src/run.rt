@@ -1,5 +1,5 @@
-//! A run of the service over loaded uploads.
-ghost use Rattle.std.specs.Prelude.{◌≡◌, ℕ, true, List, Option, IfErr, IfOk, length, map};
+//! A run of the service over uploads that are lent to it.
+ghost use Rattle.std.specs.Prelude.{◌≡◌, ℕ, true, List, Option, IfErr, IfOk, length};
 ghost use Rattle.fare_table.specs.Fares.{Fares};
 ghost use Rattle.tap_views.specs.declared.token.Token.{Token};
 ghost use Rattle.fare_program.specs.Fault.{status_of};
@@ -7,42 +7,44 @@ ghost use Rattle.fare_program.specs.inside.Fault.{IsRunFailure};
 ghost use Rattle.report_texts.specs.UploadEnds.{are_posted, is_posted};
 ghost use Rattle.fare_program.specs.Options.{Asked};
 ghost use Rattle.fare_program.specs.Program.{ShowsOf, ShowsPlain};
-ghost use Rattle.fare_service.specs.Headline.{HasRun};
+ghost use Rattle.fare_service.specs.Headline.{HasRun, HasRunOver};
+ghost use Rattle.fare_service.specs.Lending.{AreLentAs};
 ghost use Rattle.fare_program.specs.inside.PostedFiles.{IsLiveRun};
 
 use crate::fault::Fault;
-use crate::files_ahead::Disk;
-use crate::noting::NotingGate;
 use crate::options::Options;
-use fare_service::{Outcome, Service, UploadEnd, laws};
+use fare_service::{Gate, LentUploads, Outcome, Service, UploadEnd, laws};
 use fare_table::FareTable;
+use shard_book::laws::one_rising_list;
 use std::alloc::Global;
 use std::marker::Sync;
 use std::random::RandomSource;
 use std::sync::Wait;
 use std::thread::Threads;
-use tap_views::laws::one_reading_each;
 
-/// What the service comes to over these uploads, by this table. Each upload is noted on the disk when
-/// it is posted.
-pub(crate) fn outcome_of<'a, R: Threads + Wait + RandomSource + Sync, D: Disk + Sync>(
+/// What the service comes to over uploads that are lent to it, by this table.
+pub(crate) fn outcome_of<
+    'a,
+    R: Threads + Wait + RandomSource + Sync,
+    U: LentUploads + Drop + Sync,
+    G: Gate + Sync,
+>(
     rt: &R,
     alloc: Global,
-    disk: &D,
     table: FareTable,
     options: &Options<'a>,
-    files: &[Vec<u8>],
+    uploads: U,
+    gate: &G,
 ) -> Result<Outcome, Fault<'a>>
-    ensures run { IfOk result (λ outcome. HasRun table options.now.shards
-        (map (λ f. f.items) files.now) options.now.workers outcome) }
-    ensures fault { IfErr result (IsRunFailure (length files.now)) }
+    ensures run { IfOk result (HasRunOver table options.now.shards (U.known uploads)
+        options.now.workers) }
+    ensures fault { IfErr result (IsRunFailure (length (U.known uploads))) }
 {
-    let (service, share) = match Service::open(rt, alloc, table, options.shards, files) {
+    let (service, share) = match Service::open(rt, alloc, table, options.shards, uploads) {
         Ok(opened) => opened,
         Err(fault) => return Err(Fault::of_open(fault)),
     };
-    let gate = NotingGate::new(disk, files);
-    match service.run(rt, alloc, share, options.workers, &gate) {
+    match service.run(rt, alloc, share, options.workers, gate) {
         Ok(outcome) => Ok(outcome),
         Err(fault) => Err(Fault::of_run(fault)),
     }
@@ -50,38 +52,41 @@ pub(crate) fn outcome_of<'a, R: Threads + Wait + RandomSource + Sync, D: Disk + 
 
 /// The law that where no token has taps in two files, what is shown of an outcome is shown over the
 /// plain history of the files. Reads no tap and no entry.
-fn shows_plain(files: &[Vec<u8>], outcome: &Outcome)
-    ensures { (fares : Fares) (shards workers : ℕ) (asked : Asked) (token : Option Token)
-        (text : List ℕ) → HasRun fares shards (map (λ f. f.items) files.now) workers outcome.now
+fn shows_plain(outcome: &Outcome)
+    ensures { (files : List (List ℕ)) (fares : Fares) (shards workers : ℕ) (asked : Asked)
+        (token : Option Token) (text : List ℕ) → HasRun fares shards files workers outcome.now
         → are_posted outcome.now.ends ≡ true
         → ShowsOf asked token outcome.now.ends outcome.now text
-        → ShowsPlain asked fares (map (λ f. f.items) files.now) token text }
+        → ShowsPlain asked fares files token text }
 {
     let _ = outcome.shards();
     laws::tokens_are_named(outcome);
-    one_reading_each(files);
-    laws::report_is_plain(files, outcome);
-    laws::statements_are_plain(files, outcome);
+    one_rising_list();
 }
 
-/// Posts the files as they are. Each is noted on the disk when it is posted.
-pub(crate) fn post_live<'a, R: Threads + Wait + RandomSource + Sync, D: Disk + Sync>(
+/// Posts uploads that are lent, as they are.
+pub(crate) fn post_live<
+    'a,
+    R: Threads + Wait + RandomSource + Sync,
+    U: LentUploads + Drop + Sync,
+    G: Gate + Sync,
+>(
     rt: &R,
     alloc: Global,
-    disk: &D,
     table: FareTable,
     options: &Options<'a>,
-    files: Vec<Vec<u8>>,
+    uploads: U,
+    gate: &G,
 ) -> Result<Outcome, Fault<'a>>
-    ensures live { IfOk result (IsLiveRun table options.now.shards options.now.workers
-        (map (λ f. f.items) files.items)) }
-    ensures fault { IfErr result (IsRunFailure (length files.items)) }
+    ensures live { IfOk result (λ outcome. (files : List (List ℕ))
+        × AreLentAs (U.known uploads) files
+        × IsLiveRun table options.now.shards options.now.workers files outcome) }
+    ensures fault { IfErr result (IsRunFailure (length (U.known uploads))) }
     ensures status { IfErr result (λ fault. status_of fault ≡ 1) }
 {
-    let uploads = files.as_slice();
-    let outcome = outcome_of(rt, alloc, disk, table, options, uploads)?;
+    let outcome = outcome_of(rt, alloc, table, options, uploads, gate)?;
     // proof: where no token has taps in two files, what is shown does not depend on the schedule
-    shows_plain(uploads, &outcome);
+    shows_plain(&outcome);
     Ok(outcome)
 }
 

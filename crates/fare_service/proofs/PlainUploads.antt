@@ -1,5 +1,5 @@
 -- The plain history of uploads is there, and there is one; and what laws on it stand on.
-use Rattle.std.specs.Prelude.{ℕ, ◌≡◌, ◌↔◌, ◌<◌, List, [], ◌∷◌, length, map, All, Some, slice_get}
+use Rattle.std.specs.Prelude.{ℕ, ◌≡◌, ◌↔◌, ◌<◌, List, [], length, map, All, Some, slice_get}
 use Rattle.std.specs.List.{flat_map}
 use Rattle.std.proofs.Common.{refl, sym, ◌∙◌, ap, subst, arith, get_or, mod-lt}
 use Rattle.std.proofs.lemmas.Option.{slice_get-get_or}

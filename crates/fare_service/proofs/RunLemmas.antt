@@ -1,10 +1,10 @@
 -- Runs that were posted, one list of them after another.
-use Rattle.std.specs.Prelude.{ℕ, zero, suc, ◌≡◌, ◌⊎◌, ◌+◌, ◌<◌, ◌==◌, true, false, cond, List, []}
+use Rattle.std.specs.Prelude.{ℕ, zero, suc, ◌≡◌, ◌⊎◌, ◌+◌, ◌<◌, List, []}
 use Rattle.std.specs.Prelude.{◌∷◌, ◌++◌, length, map, take}
 use Rattle.std.proofs.Common.{refl, sym, ◌∙◌, ap, inl, inr, subst, append_assoc, arith}
-use Rattle.std.proofs.lemmas.List.{map-append, length-map}
+use Rattle.std.proofs.lemmas.List.{map-append}
 use Rattle.tap_views.specs.Layout.{Tap}
-use Rattle.tap_views.specs.Shards.{shard_of_token, run_of}
+use Rattle.tap_views.specs.Shards.{run_of}
 use Rattle.fare_service.specs.Runs.{PostedRun}
 use Rattle.fare_service.specs.Runs.{posted_run, if_any, runs_below, RunVisit, run_of_visit}
 use Rattle.fare_service.specs.Runs.{ArePostedWhole, AreCut}

@@ -1,5 +1,5 @@
 -- An upload that was posted: how it ended.
-use Rattle.std.specs.Prelude.{ℕ, ◌≡◌, ◌-◌, ◌<◌, List, [], Result, Ok, Err, IfOk, is_ok, Option}
+use Rattle.std.specs.Prelude.{ℕ, ◌≡◌, ◌-◌, ◌<◌, List, Result, Ok, Err, IfOk, is_ok, Option}
 use Rattle.std.specs.Prelude.{Some, None, length}
 use Rattle.std.proofs.Common.{subst, arith}
 use Rattle.tap_views.specs.Layout.{Tap}

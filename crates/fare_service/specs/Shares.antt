@@ -1,6 +1,6 @@
 -- What a share keeps: the uploads that it drew, each with its end, the visits that it made for
 -- them, and the totals of the replies.
-use Rattle.std.specs.Prelude.{◌≡◌, ℕ, ◌+◌, ◌*◌, ◌^◌, ◌<◌, ◌≤◌, List, [], ◌++◌, length, map, filter}
+use Rattle.std.specs.Prelude.{◌≡◌, ℕ, ◌*◌, ◌^◌, ◌<◌, ◌≤◌, List, [], ◌++◌, length, map, filter}
 use Rattle.std.specs.Prelude.{All, slice_index_or}
 use Rattle.std.specs.List.{flat_map}
 use Rattle.tap_views.specs.Layout.{Tap}

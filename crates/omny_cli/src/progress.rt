@@ -11,7 +11,9 @@ enum Stage {
     Starting,
     /// It reads the fare table.
     Table,
-    /// It reads files.
+    /// It reads files before their turns. A live run charges each as soon as it is read.
+    Ahead,
+    /// It reads files in their turns.
     Files,
     /// It reads the standard input.
     Input,
@@ -73,7 +75,7 @@ impl Steps {
 
     /// Begins to read files before their turns.
     pub(crate) fn begin_ahead(&mut self) {
-        self.stage = Stage::Files;
+        self.stage = Stage::Ahead;
     }
 
     /// Has opened a sorted file, which is read while it is charged.
@@ -215,7 +217,7 @@ impl Sight {
 
     /// What is charged and of how much, if that is known.
     pub(crate) fn charged(&self) -> Option<Reading> {
-        if self.steps.stage != Stage::Loaded {
+        if !matches!(self.steps.stage, Stage::Ahead | Stage::Loaded) {
             return None;
         }
         match self.work() {
@@ -258,10 +260,11 @@ impl Display for Sight {
         match steps.stage {
             Stage::Starting => f.write_str("starting"),
             Stage::Table => f.write_str("reading the table"),
-            Stage::Files if steps.knows_all => {
+            Stage::Ahead if self.readings.posted.goes_on() => self.fmt_loaded(f),
+            Stage::Ahead | Stage::Files if steps.knows_all => {
                 write!(f, "{} of {} files read", steps.read(), steps.found)
             }
-            Stage::Files => write!(f, "{} files read", steps.read()),
+            Stage::Ahead | Stage::Files => write!(f, "{} files read", steps.read()),
             Stage::Input => f.write_str("reading the standard input"),
             Stage::Loaded => self.fmt_loaded(f),
         }

@@ -6,6 +6,8 @@
 #![tactic(auto)]
 
 #[cfg(test)]
+mod lent;
+#[cfg(test)]
 mod loading;
 #[cfg(test)]
 mod noting;

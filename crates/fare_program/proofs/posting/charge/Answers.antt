@@ -3,15 +3,14 @@ use Rattle.std.proofs.Common.{sym}
 use Rattle.std.specs.Prelude.{slice_get}
 use Rattle.std.proofs.lemmas.List.{length-map}
 use Rattle.std.specs.Io.KnownBytes.{Appends}
-use Rattle.std.proofs.lemmas.Result.{IfErr-weaker, IfOk-weaker, err_from_is_err_and}
-use Rattle.fare_program.specs.inside.Fault.{IsRunFailure}
+use Rattle.std.proofs.lemmas.Result.{IfErr-weaker, IfOk-weaker}
 use Rattle.fare_program.specs.inside.Options.{asked_of}
-use Rattle.report_texts.specs.UploadEnds.{are_posted}
 use Rattle.fare_program.specs.Program.{ShowsAsked}
 use Rattle.fare_program.specs.Settling.{ShowsSettled}
+use Rattle.fare_service.proofs.LentFiles.{known_files}
 use Rattle.settlement.specs.Reading.{AreRead}
 use Rattle.settlement.proofs.LoadedFiles.{loaded_files}
-use Rattle.fare_program.proofs.PostedTexts.{live_asked, settled_asked}
+use Rattle.fare_program.proofs.PostedTexts.{settled_asked}
 use Rattle.fare_program.proofs.posting.charge.Goals as goal
 
 abbrev bytes_in : Vec ℕ Global → List ℕ
@@ -20,15 +19,16 @@ bytes_in file = file.items
 pub returns-clause-ok : goal.returns-clause-ok
 returns-clause-ok g c =
     let asked = asked_of c.args.options.now in
-    let outcome = c.in_ok-outcome.outcome in
-    let written = c.in_ok-print_asked.ensures.ok in
-    let well = c.are_posted.ensures ∙ ap are_posted c.ends.ensures in (
-      written.0,
-      live_asked asked c.args.table (map (λ f. f.items) c.args.files.items) c.args.token written.0 _
-          outcome
-          c.if-options.false written.1 well c.in_ok-outcome.ensures.live,
-      written.2,
-    )
+    let fares = c.args.table in
+    IfOk-weaker c.charge_lent.result _ _
+    (λ well is. (
+      is.1,
+      subst (λ fs. ShowsAsked asked fares fs c.args.token is.1 well)
+          (known_files bytes_in c.as_slice.result.now is.0 is.2
+          ∙ ap (map bytes_in) c.as_slice.ensures.value) is.3,
+      is.4,
+    ))
+    c.charge_lent.ensures.ok
 
 pub returns-then-options-clause-ok : goal.returns-then-options-clause-ok
 returns-then-options-clause-ok g c =
@@ -60,21 +60,21 @@ returns-then-options-clause-ok g c =
     c.charge_settled.ensures.ok
 
 -- ---- what a write that failed left
-pub returns-in_err-print_asked-clause-begun : goal.returns-in_err-print_asked-clause-begun
-returns-in_err-print_asked-clause-begun g c =
+pub returns-clause-begun : goal.returns-clause-begun
+returns-clause-begun g c =
     let asked = asked_of c.args.options.now in
-    let outcome = c.in_ok-outcome.outcome in
-    let p = err_from_is_err_and c.from_residual-in_err-print_asked.result
-    c.from_residual-in_err-print_asked.ensures.1 in
-    rw p.1 (λ write.
-    let written = c.in_err-print_asked.ensures.begun (sym p.2 ∙ write) in (
-      are_posted outcome.ends,
-      written.0,
-      live_asked asked c.args.table (map (λ f. f.items) c.args.files.items) c.args.token written.0
-          (are_posted outcome.ends) outcome c.if-options.false written.1 refl
-          c.in_ok-outcome.ensures.live,
-      written.2,
+    let fares = c.args.table in
+    IfErr-weaker c.charge_lent.result _ _
+    (λ fault begun write.
+    let is = begun write in (
+      is.0,
+      is.2,
+      subst (λ fs. ShowsAsked asked fares fs c.args.token is.2 is.0)
+          (known_files bytes_in c.as_slice.result.now is.1 is.3
+          ∙ ap (map bytes_in) c.as_slice.ensures.value) is.4,
+      is.5,
     ))
+    c.charge_lent.ensures.begun
 
 pub returns-then-options-clause-begun : goal.returns-then-options-clause-begun
 returns-then-options-clause-begun g c =
@@ -96,11 +96,3 @@ returns-then-options-clause-begun g c =
       is.5,
     ))
     c.charge_settled.ensures.begun
-
--- what is posted does not write
-pub returns-in_err-outcome-clause-begun : goal.returns-in_err-outcome-clause-begun
-returns-in_err-outcome-clause-begun g c =
-    let p = err_from_is_err_and c.from_residual.result c.from_residual.ensures.1 in
-    rw p.1 (λ write.
-    absurd (subst (IsRunFailure (length c.args.files.items)) (sym p.2 ∙ write)
-    c.in_err-outcome.ensures.fault))

@@ -146,7 +146,6 @@ returns-in_err-well-clause-begun g c =
           c.keeps_loads-keeps_loads.ensures c.in_ok-token.ensures.token (record {
             fares = begun.fares;
             is_table = begun.is_table;
-            settles = begun.settles;
             lists_none = begun.lists_none;
             kept_none = begun.kept_none;
             files = begun.files;

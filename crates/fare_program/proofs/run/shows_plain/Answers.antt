@@ -1,5 +1,5 @@
 use Rattle.std.proofs.Common.{◌≡◌, ◌<◌, ℕ, length, arith, List, [], ◌∷◌, Bool, true, false, Option}
-use Rattle.std.proofs.Common.{None, Some, All, Vec, Global, map, sym, subst}
+use Rattle.std.proofs.Common.{None, Some, All, sym, subst}
 use Rattle.std.proofs.lemmas.List.Elements.{All-nil, All-cons}
 use Rattle.fare_table.specs.Fares.{Fares}
 use Rattle.shard_book.specs.declared.entry.Entry.{Entry}
@@ -13,7 +13,11 @@ use Rattle.report_texts.specs.declared.upload_end.UploadEnd.TheVariants.{Posted,
 use Rattle.report_texts.specs.declared.upload_end.UploadEnd.TheVariants.{Undrawn}
 use Rattle.std.specs.Prelude.{MatchBool, slice_get}
 use Rattle.shard_book.specs.Book.{Book}
-use Rattle.fare_service.proofs.PlainSums.{own_all}
+use Rattle.fare_service.proofs.GatheredWork.{Given}
+use Rattle.fare_service.proofs.PlainSums.{own_all, same_report}
+use Rattle.fare_service.proofs.PlainUploads.{same_statement}
+use Rattle.tap_views.specs.Files.{HasOneReading}
+use Rattle.tap_views.proofs.Reading.{one_list_of_batches}
 use Rattle.fare_texts.specs.Explained.{IsExplainedOf, IsExplainedOver}
 use Rattle.fare_program.proofs.Explains.{explained_same}
 use Rattle.report_texts.specs.UploadEnds.{are_posted}
@@ -69,9 +73,14 @@ asked_for : (ledger : Bool) (explain : Bool) (files : List (List ℕ)) (outcome 
 asked_for true explain files outcome fares history token text ledger other shows = ledger shows
 asked_for false explain files outcome fares history token text ledger other shows = other shows
 
+-- any bytes are read in one way at most
+read_once : (files : List (List ℕ)) → All HasOneReading files
+read_once [] = All-nil HasOneReading
+read_once (file ∷ files) =
+    All-cons HasOneReading file files (one_list_of_batches file) (read_once files)
+
 pub returns : goal.returns
-returns c = λ fares shards workers asked token text run posted shows history is apart.
-    let files = map (λ (f : Vec ℕ Global). f.items) c.args.files.now in
+returns c = λ files fares shards workers asked token text run posted shows history is apart.
     let outcome = c.args.outcome.now in
     let whole : IsUncutGathering fares shards files outcome history = record {
       works = run.0;
@@ -82,14 +91,17 @@ returns c = λ fares shards workers asked token text run posted shows history is
     } in
     let some : 0 < length outcome.books =
     omega (arith, c.shards.ensures.some, c.shards.ensures.number) in
-    let same = own_all (record { table = fares; shards = shards; uploads = files }) outcome history
-    some c.tokens_are_named.ensures.named c.tokens_are_named.ensures.here c.one_reading_each.ensures
-    whole in
+    let given : Given = record { table = fares; shards = shards; uploads = files } in
+    let named = c.tokens_are_named.ensures.named in
+    let here = c.tokens_are_named.ensures.here in
+    let once = read_once files in
+    let same = own_all given outcome history some named here once whole in
     let table = λ (book : Book) (there : slice_get outcome.books 0 ≡ Some book).
     (whole.headline.books 0 book there).0 in
     asked_for asked.ledger asked.explain files outcome fares history token text
     (ledger_same fares outcome history token text same table)
     (shown asked.explain files outcome fares history token text
-    (c.report_is_plain.ensures fares shards history whole)
+    (same_report given outcome history some named here once whole c.one_rising_list.ensures.numbers
+    c.one_rising_list.ensures.tokens)
     (λ t. explained_same fares outcome history t text (same t) table)
-    (λ t. (c.statements_are_plain.ensures.texts fares shards history whole t text).0)) shows
+    (λ t. (same_statement given outcome history some named once whole t text).0)) shows

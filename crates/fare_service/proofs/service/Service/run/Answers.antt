@@ -1,4 +1,4 @@
-use Rattle.std.proofs.Common.{◌∙◌, All}
+use Rattle.std.proofs.Common.{◌∙◌}
 use Rattle.fare_service.specs.declared.faults.RunFault.TheVariants.{Gather}
 use Rattle.fare_service.specs.declared.faults.GatherFault.{GatherFault}
 use Rattle.fare_service.specs.declared.faults.RunFault.{RunFault}
