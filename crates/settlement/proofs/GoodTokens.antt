@@ -31,7 +31,8 @@ some_fares = record {
     zone = None;
     window = CalendarDay;
   };
-  zone = record { span = CalendarDay; rule = None };
+  later = [];
+  zone = record { rule = None };
 }
 
 -- the entries of the plain history, which the uploads have under any table, name the taps' tokens
