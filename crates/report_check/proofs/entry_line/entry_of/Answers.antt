@@ -15,11 +15,11 @@ returns-in_err-token-clause-found c = λ earlier entry is.
     let line = cents_fields _ entry.token _ entry _ c.args.line.now is.shown in
     absurd (c.in_err-token.ensures.found entry.token _ is.postable.token line.shown)
 
-pub returns-in_err-validator-clause-found : goal.returns-in_err-validator-clause-found
-returns-in_err-validator-clause-found c = λ earlier entry is.
+pub returns-in_err-moment-clause-found : goal.returns-in_err-moment-clause-found
+returns-in_err-moment-clause-found c = λ earlier entry is.
     let line = cents_fields _ entry.token _ entry _ c.args.line.now is.shown in
     let one = c.in_ok-token.ensures.found entry.token _ is.postable.token line.shown in
-    absurd (c.in_err-validator.ensures _ line.moment _ entry.moment entry.validator
+    absurd (c.in_err-moment.ensures _ line.moment _ entry.moment entry.validator
     (decimal_lacks _ (few _ _ (own-few entry.token earlier) is.few))
     (moment_lacks entry.moment line.moment is.postable.moment line.is) is.postable.moment line.is
     is.postable.validator one.1)
@@ -29,18 +29,18 @@ returns-in_err-answer-clause-found c = λ earlier entry is.
     let fares = c.args.table.now in
     let line = cents_fields fares entry.token _ entry _ c.args.line.now is.shown in
     let one = c.in_ok-token.ensures.found entry.token _ is.postable.token line.shown in
-    let two = c.in_ok-validator.ensures _ line.moment _ entry.moment entry.validator
+    let two = c.in_ok-moment.ensures _ line.moment _ entry.moment entry.validator
     (decimal_lacks _ (few _ _ (own-few entry.token earlier) is.few))
     (moment_lacks entry.moment line.moment is.postable.moment line.is) is.postable.moment line.is
     is.postable.validator one.1 in
     let mode = c.mode_field.ensures
-    ∙ ap (λ m. mode_field fares m c.in_ok-validator.validator) two.0
+    ∙ ap (λ m. mode_field fares m c.in_ok-moment.validator) two.0
     ∙ ap (mode_field fares entry.moment) two.1 in
     let terms : HasRideTerms fares entry.token entry.moment entry.validator =
     subst (λ (n : ℕ). HasRideTerms fares entry.token entry.moment n) two.1
-    (subst (λ (m : ℕ). HasRideTerms fares entry.token m c.in_ok-validator.validator) two.0
-    (subst (λ (t : Token). HasRideTerms fares t c.in_ok-validator.moment
-    c.in_ok-validator.validator) one.0 c.ride_terms_at-terms.ensures)) in
+    (subst (λ (m : ℕ). HasRideTerms fares entry.token m c.in_ok-moment.validator) two.0
+    (subst (λ (t : Token). HasRideTerms fares t c.in_ok-moment.moment
+    c.in_ok-moment.validator) one.0 c.ride_terms_at-terms.ensures)) in
     let most = cents_most fares earlier entry terms is.replied in
     absurd (c.in_err-answer.ensures entry.answer entry.cents line.behind
     (omega (arith, most))
@@ -51,18 +51,18 @@ returns-clause-found c = λ earlier entry is.
     let fares = c.args.table.now in
     let line = cents_fields fares entry.token _ entry _ c.args.line.now is.shown in
     let one = c.in_ok-token.ensures.found entry.token _ is.postable.token line.shown in
-    let two = c.in_ok-validator.ensures _ line.moment _ entry.moment entry.validator
+    let two = c.in_ok-moment.ensures _ line.moment _ entry.moment entry.validator
     (decimal_lacks _ (few _ _ (own-few entry.token earlier) is.few))
     (moment_lacks entry.moment line.moment is.postable.moment line.is) is.postable.moment line.is
     is.postable.validator one.1 in
     let mode = c.mode_field.ensures
-    ∙ ap (λ m. mode_field fares m c.in_ok-validator.validator) two.0
+    ∙ ap (λ m. mode_field fares m c.in_ok-moment.validator) two.0
     ∙ ap (mode_field fares entry.moment) two.1 in
     let terms : HasRideTerms fares entry.token entry.moment entry.validator =
     subst (λ (n : ℕ). HasRideTerms fares entry.token entry.moment n) two.1
-    (subst (λ (m : ℕ). HasRideTerms fares entry.token m c.in_ok-validator.validator) two.0
-    (subst (λ (t : Token). HasRideTerms fares t c.in_ok-validator.moment
-    c.in_ok-validator.validator) one.0 c.ride_terms_at-terms.ensures)) in
+    (subst (λ (m : ℕ). HasRideTerms fares entry.token m c.in_ok-moment.validator) two.0
+    (subst (λ (t : Token). HasRideTerms fares t c.in_ok-moment.moment
+    c.in_ok-moment.validator) one.0 c.ride_terms_at-terms.ensures)) in
     let most = cents_most fares earlier entry terms is.replied in
     let three = c.in_ok-answer.ensures entry.answer entry.cents line.behind
     (omega (arith, most))
