@@ -18,7 +18,7 @@ use Rattle.laws.proofs.SumsFit.{CostsFew}
 
 plain_few : (fares : Fares) → HaveBoundedTerms fares → (earlier : List Entry) (taps : List Tap)
     → All CostsFew (plain_after fares earlier taps)
-unfolding plain_after answered rules_of token_class live_at
+unfolding plain_after answered rules_of token_class live_at tap_of
 plain_few fares bounds earlier [] = All-nil CostsFew
 plain_few fares bounds earlier (tap ∷ taps) =
     let entry = unanswered tap in
