@@ -240,7 +240,7 @@ returns-clause-right g c =
           c.kept_if-kept.ensures.uploads loaded.7.taps (ap not c.is_empty-has_uploads.ensures) names)
           (c.chain-whole.ensures.bytes
           ∙ ap (λ (h : List ℕ). option_append (Some h)
-    (g.S.Ledger.Read.remaining c.read_head.new.ledger)) c.from.ensures.0) told.1
+          (g.S.Ledger.Read.remaining c.read_head.new.ledger)) c.from.ensures.0) told.1
           c.in_ok-trace.ensures.wanted in
           record {
             text = finding.0;
