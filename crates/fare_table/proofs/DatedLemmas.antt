@@ -1,7 +1,7 @@
 -- Which of the tables that follow one another is valid at a moment.
 use Rattle.std.proofs.Common.{◌≡◌, ◌<◌, ◌≤◌, ℕ, zero, suc, Bool, true, false, cond, List, [], ◌∷◌}
 use Rattle.std.proofs.Common.{Option, Some, None, All, refl, sym, ap, ◌∙◌, arith, string_bytes, map}
-use Rattle.std.proofs.Common.{◌&&◌, String, Global}
+use Rattle.std.proofs.Common.{◌&&◌, String, Global, get_or, length}
 use Rattle.std.specs.Prelude.{nat_le, slice_get}
 use Rattle.std.specs.String.{string_eq}
 use Rattle.std.proofs.lemmas.Bool.{true≢false}
@@ -10,7 +10,9 @@ use Rattle.std.proofs.lemmas.Bool.{leb-true}
 use Rattle.fare_table.specs.Fares.{Fares, meaning_at, valid_at}
 use Rattle.fare_table.specs.Modes.{same_name}
 use Rattle.fare_table.specs.TableMeaning.{TableMeaning}
-use Rattle.fare_table.specs.inside.Table.{HasModes, begun, first_from, same_names, same_zone}
+use Rattle.fare_table.specs.declared.table.DatedTariff.{DatedTariff}
+use Rattle.fare_table.specs.inside.Table.{HasModes, begun, dated_meaning, first_from, same_names}
+use Rattle.fare_table.specs.inside.Table.{same_zone}
 
 -- before the first date the first table is valid
 pub valid-before : (meaning : TableMeaning) (later : List (ℕ × TableMeaning)) (moment : ℕ)
@@ -53,6 +55,14 @@ pub nth-get : (meaning : TableMeaning) (later : List (ℕ × TableMeaning)) (pla
 nth-get meaning [] place next is = absurd (cc)
 nth-get meaning (one ∷ later) zero next is = let same : one ≡ next = cc in ap (λ n. n.1) same
 nth-get meaning (one ∷ later) (suc place) next is = nth-get one.1 later place next is
+
+-- what a tariff says that stands at a place stands there among what all say
+pub got : (items : List DatedTariff) (place : ℕ) (item : DatedTariff) → place < length items
+    → item ≡ get_or items place item
+    → slice_get (map dated_meaning items) place ≡ Some (dated_meaning item)
+got [] place item below is = absurd (omega arith)
+got (one ∷ items) zero item below is = ap (λ d. Some (dated_meaning d)) (sym is)
+got (one ∷ items) (suc place) item below is = got items place item (omega arith) is
 
 -- where as many of those that follow have begun, one table is valid
 pub valid-same : (fares : Fares) (earlier moment : ℕ)

@@ -180,6 +180,23 @@ impl FareTable {
         &self.first
     }
 
+    /// How many tariffs follow the first one.
+    pub fn later_len(&self) -> usize
+        ensures { result ≡ length self.now.later }
+    {
+        self.later.len()
+    }
+
+    /// The tariff at the place among those that follow the first one, in the order of their dates,
+    /// behind the moment from which it is valid, in milliseconds since 1970-01-01T00:00Z.
+    pub fn later(&self, place: usize) -> (u64, &Tariff)
+        requires { place < length self.now.later }
+        ensures { slice_get self.now.later place ≡ Some (result.0, result.1.now.meaning) }
+    {
+        let dated = &self.later[place];
+        (dated.from, &dated.tariff)
+    }
+
     /// Whether one tariff is valid at both moments: none comes after the earlier one up to the
     /// later one. That it says no costs its caller a look-up and no more.
     #[inline]
