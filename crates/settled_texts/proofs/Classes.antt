@@ -1,15 +1,19 @@
 -- Classes that are kept of riders.
 use Rattle.std.proofs.Common.{◌≡◌, ◌∙◌, ℕ, List, Bool, true, false, Option, Some, None, refl, sym}
-use Rattle.std.proofs.Common.{ap, subst}
-use Rattle.std.specs.Prelude.{is_some, option_map, if◌then◌else◌, string_bytes, String}
+use Rattle.std.proofs.Common.{ap, subst, [], ◌∷◌, ◌++◌, cond, tt}
+use Rattle.std.specs.Prelude.{is_some, nat_le, option_map, if◌then◌else◌, string_bytes, String}
 use Rattle.std.specs.BTreeMap.{BTreeMap, is_at}
 use Rattle.std.specs.Cmp.Lexicographic.{slice_cmp}
+use Rattle.std.specs.List.{AllZip}
 use Rattle.std.specs.Map.{lookup}
 use Rattle.std.specs.Ordering.{nat_cmp}
 use Rattle.std.specs.declared.alloc.Global.{Global}
-use Rattle.toml.specs.Data.{same_key}
-use Rattle.settled_texts.specs.Classes.{first_class}
-use Rattle.settled_texts.specs.Names.{rider_by}
+use Rattle.toml.specs.Data.{Members, same_key}
+use Rattle.settled_texts.specs.Classes.{class_of_token, first_class, tree_at}
+use Rattle.settled_texts.specs.Names.{HasClasses, IsDatedOf, NamesOf, class_by, names_at, rider_by}
+use Rattle.settled_texts.specs.declared.class_names.ClassNames.{ClassNames}
+use Rattle.settled_texts.specs.declared.class_names.DatedNames.{DatedNames}
+use Rattle.settled_texts.specs.declared.class_names.TextNames.{TextNames}
 use Rattle.fare_table.proofs.KeyLemmas.{same_bytes}
 
 pub first_none : (o : Option (List ℕ)) → o ≡ first_class o None
@@ -73,3 +77,37 @@ kept_now old new token other class free is = by (same_key token other) refl is
         (same_bytes token other same) free)))
     by false same put =
         ap (option_map string_bytes) put ∙ first_none (rider_by old other)
+
+-- one text more
+pub texts_more : (names : List DatedNames) (trees : List (ℕ × Members)) (next : DatedNames)
+    (tree : ℕ × Members)
+    → AllZip IsDatedOf names trees → IsDatedOf next tree
+    → AllZip IsDatedOf (names ++ next ∷ []) (trees ++ tree ∷ [])
+texts_more [] [] next tree are is = (is, tt)
+texts_more [] (other ∷ trees) next tree are is = absurd are
+texts_more (name ∷ names) [] next tree are is = absurd are
+texts_more (name ∷ names) (other ∷ trees) next tree (first, rest) is =
+    (first, texts_more names trees next tree rest is)
+
+valid_names : (names : TextNames) (later : List DatedNames) (tree : Members)
+    (trees : List (ℕ × Members)) (moment : ℕ)
+    → NamesOf names tree → AllZip IsDatedOf later trees
+    → NamesOf (names_at names later moment) (tree_at tree trees moment)
+valid_names names [] tree [] moment of_first are = of_first
+valid_names names [] tree (other ∷ trees) moment of_first are = absurd are
+valid_names names (next ∷ later) tree [] moment of_first are = absurd are
+valid_names names (next ∷ later) tree (other ∷ trees) moment of_first (is, are) =
+    rw (is.0) (by (nat_le other.0 moment))
+  where
+    by : (b : Bool)
+        → NamesOf (cond b (names_at next.names later moment) names)
+        (cond b (tree_at other.1 trees moment) tree)
+    by true = valid_names next.names later other.1 trees moment is.1 are
+    by false = of_first
+
+-- the class that is kept for a token at a moment is the one of the text that is valid then
+pub class_kept : (names : ClassNames) (tree : Members) (later : List (ℕ × Members))
+    → HasClasses names tree later → (moment : ℕ) (token : List ℕ)
+    → class_of_token (tree_at tree later moment) token ≡ Some (class_by names moment token)
+class_kept names tree later has moment token =
+    valid_names names.first names.later.items tree later moment has.of_first has.of_later token

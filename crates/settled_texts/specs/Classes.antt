@@ -1,6 +1,6 @@
--- The class of a token's rider, as the text of a fare table names it.
-use Rattle.std.specs.Prelude.{ℕ, ◌&&◌, ◌||◌, ◌==◌, Bool, true, false, List, Option, Some, None, codes}
-use Rattle.std.specs.Prelude.{if◌then◌else◌, length, nat_le}
+-- The class of a token's rider, as the texts of fare tables name it.
+use Rattle.std.specs.Prelude.{ℕ, ◌&&◌, ◌||◌, ◌==◌, Bool, true, false, List, [], ◌∷◌, Option, Some, None}
+use Rattle.std.specs.Prelude.{codes, if◌then◌else◌, length, nat_le}
 use Rattle.std.specs.List.{list_all}
 use Rattle.std.specs.Option.{option_and_then}
 use Rattle.std.specs.Result.{result_ok}
@@ -45,6 +45,13 @@ default_in tree = option_and_then as_str (get_member (codes "default_class") tre
 -- the class of the token's rider: that of the rider's own key, else the default class
 abbrev pub class_of_token : Members → List ℕ → Option (List ℕ)
 class_of_token tree token = first_class (class_among (riders_in tree) token) (default_in tree)
+
+-- The tree that is valid at the moment, of texts that follow one another: the first one until a later
+-- one is valid, and so on. Before each later one stands the moment from which it is valid.
+abbrev pub tree_at : Members → List (ℕ × Members) → ℕ → Members
+tree_at tree [] moment = tree
+tree_at tree (next ∷ later) moment =
+    if nat_le next.0 moment then tree_at next.1 later moment else tree
 
 -- a letter, a digit, a hyphen or a low line
 abbrev pub is_bare : ℕ → Bool

@@ -226,7 +226,7 @@ fn write_trace<W: Write>(
 }
 
 /// Writes the traced ledger of the uploads: the ledger of their settled history, and behind each
-/// line the class of its token, the number of the tap's upload, from 0, and its place there, from 1.
+/// line the class of its token at its moment, the number of the tap's upload, from 0, and its place there, from 1.
 /// Taps that are equal stand in the order of their uploads and places. Says whether no upload has a
 /// layout fault. Each tap takes 48 bytes, and no thread is started. If memory is refused, nothing
 /// was written.
