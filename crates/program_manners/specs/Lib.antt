@@ -9,3 +9,7 @@ pub mod Refusals
 pub mod TerminalLine
 pub mod Words
 pub mod inside
+pub mod NextFaults
+pub mod TableLoads
+pub mod TableWords
+pub mod WrongWords

@@ -8,6 +8,8 @@
 //! | `loading` | whole files up to a limit, and the line of one that was not loaded |
 //! | `opened` | a file or standard input, to be read in pieces |
 //! | `table_line` | the line of a fault of the fare table |
+//! | `table_words` | words of `--table`: a file, and the date from which its table is valid |
+//! | `following` | fare tables that follow others from a date on, and the lines of their faults |
 //! | `terminal_line` | a line on a terminal that says how far a long run is |
 //! | `answers` | what clap answers where there is nothing to run |
 //! | `arguments` | the words of the command line, and why they could not be had |
@@ -21,6 +23,7 @@ mod answers;
 mod arguments;
 mod complaints;
 mod file_list;
+mod following;
 mod list_line;
 mod list_words;
 mod listed_words;
@@ -28,6 +31,7 @@ mod loading;
 mod opened;
 mod output;
 mod table_line;
+mod table_words;
 mod terminal_line;
 mod version;
 mod words;
@@ -36,6 +40,7 @@ pub use answers::show_answer;
 pub use arguments::{WordsFault, unread_words, words_of};
 pub use complaints::Complaints;
 pub use file_list::{ListFault, NameEnd, WrongName, names_of_list};
+pub use following::{FollowLine, NamedClassLine, NamedTableLine, NextFault, table_behind};
 pub use list_line::ListLine;
 pub use list_words::{ListWords, take_list};
 pub use listed_words::{with_files, with_option_files};
@@ -45,6 +50,7 @@ pub use loading::{
 pub use opened::Opened;
 pub use output::Output;
 pub use table_line::TableLine;
+pub use table_words::{DateFault, TableWord, WrittenDate, WrongWord, wrong_word};
 pub use terminal_line::{PACE_MS, QUIET_MS, TerminalLine};
 pub use version::VERSION;
 pub use words::{

@@ -1,0 +1,76 @@
+-- Fare tables that are loaded one after another.
+use Rattle.std.specs.Prelude.{◌≡◌, ◌≤◌, ◌++◌, ℕ, List, [], ◌∷◌, Option, Some}
+use Rattle.fare_table.specs.Fares.{Fares}
+use Rattle.fare_table.specs.Following.{CanFollow, IsFollowFault, last_from, with_next}
+use Rattle.fare_table.specs.Meaning.{Means}
+use Rattle.fare_table.specs.declared.follow_fault.FollowFault.{FollowFault}
+use Rattle.fare_table.specs.declared.follow_fault.FollowFault.TheVariants.{Date}
+use Rattle.program_manners.specs.Loads.{Loaded, TellsOne}
+use Rattle.program_manners.specs.TableWords.{IsMidnight, file_named, written_date}
+use Rattle.program_manners.specs.declared.table_words.WrittenDate.{WrittenDate}
+
+-- The text means a table that follows these fares from the date on, and these are all of them.
+pub record FollowsFrom (fares : Fares) (date : WrittenDate) (text : List ℕ) (all : Fares)
+    : Type 0 where
+  pub from : ℕ
+  pub begins : IsMidnight fares.zone date from
+  pub next : Fares
+  pub means : Means text next
+  pub can : CanFollow fares from next
+  pub all_are : all ≡ with_next fares from next.meaning
+
+-- The text means a table that cannot follow the fares from the date on, for this reason. It is too
+-- early if it does not begin after the last table before it does.
+abbrev pub IsWrongFrom : Fares → WrittenDate → Fares → FollowFault → Type 0
+IsWrongFrom fares date next Date =
+    (from : ℕ) → IsMidnight fares.zone date from → from ≤ last_from 0 fares.later
+IsWrongFrom fares date next fault =
+    (from : ℕ) × IsMidnight fares.zone date from × IsFollowFault fares from next fault
+
+-- the same of a text
+pub record CannotFollow (fares : Fares) (date : WrittenDate) (text : List ℕ) (fault : FollowFault)
+    : Type 0 where
+  pub next : Fares
+  pub means : Means text next
+  pub wrong : IsWrongFrom fares date next fault
+
+-- The text means a table that follows the fares from the date of the word on.
+pub record Follows (fares : Fares) (word text : List ℕ) (all : Fares) : Type 0 where
+  pub date : WrittenDate
+  pub dated : written_date word ≡ Some date
+  pub follows : FollowsFrom fares date text all
+
+-- The files of the words were loaded, in their order. The text of each is a table that follows those
+-- before it, from the date of its word on.
+abbrev pub LoadsLater : Fares → List (List ℕ) → Option (List Loaded) → Option (List Loaded)
+    → List (List ℕ) → Fares → Type 0
+LoadsLater fares [] told told' texts all = (texts ≡ []) × (all ≡ fares) × (told' ≡ told)
+LoadsLater fares (word ∷ words) told told' texts all =
+    (text : List ℕ) × (rest : List (List ℕ)) × (between : Option (List Loaded)) × (next : Fares)
+    × TellsOne told between (Some (file_named word)) text × Follows fares word text next
+    × LoadsLater next words between told' rest all × (texts ≡ text ∷ rest)
+
+-- The file of the first table was loaded, and then those of the words behind it, each of which has a
+-- date. These are their texts, in their order, and what all of them mean.
+pub record LoadsTables (first : List ℕ) (later : List (List ℕ)) (told told' : Option (List Loaded))
+    (texts : List (List ℕ)) (fares : Fares) : Type 0 where
+  pub text : List ℕ
+  pub between : Option (List Loaded)
+  pub told_first : TellsOne told between (Some first) text
+  pub alone : Fares
+  pub means : Means text alone
+  pub rest : List (List ℕ)
+  pub loads_later : LoadsLater alone later between told' rest fares
+  pub are_texts : texts ≡ text ∷ rest
+
+-- The tables before this word were loaded, and mean these fares. Then the file of the word was loaded,
+-- and this is its text.
+pub record LoadsUpTo (first : List ℕ) (later : List (List ℕ)) (told told' : Option (List Loaded))
+    (fares : Fares) (word text : List ℕ) : Type 0 where
+  pub before : List (List ℕ)
+  pub behind : List (List ℕ)
+  pub stands : later ≡ before ++ word ∷ behind
+  pub texts : List (List ℕ)
+  pub between : Option (List Loaded)
+  pub loads : LoadsTables first before told between texts fares
+  pub told_is : TellsOne between told' (Some (file_named word)) text
