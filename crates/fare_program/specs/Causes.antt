@@ -1,9 +1,15 @@
 -- Why the program gives up is the case.
-use Rattle.std.specs.Prelude.{◌≡◌, ◌⊎◌, ◌<◌, ℕ, List, [], ◌∷◌, Option, Some, true, false}
-use Rattle.std.specs.Prelude.{codes, length, map, slice_get}
+use Rattle.std.specs.Prelude.{◌≡◌, ◌≢◌, ◌⊎◌, ◌<◌, ℕ, List, [], ◌∷◌, Option, None, Some, true, false}
+use Rattle.std.specs.Prelude.{All, codes, length, map, slice_get, take}
+use Rattle.fare_table.specs.Fares.{Fares}
+use Rattle.fare_table.specs.declared.fault.TableFault.{TableFault}
+use Rattle.fare_table.specs.declared.follow_fault.FollowFault.{FollowFault}
 use Rattle.placed_files.specs.declared.unopened.Unopened.{Unopened}
-use Rattle.program_manners.specs.Loads.{Loaded, TellsOne}
-use Rattle.program_manners.specs.Refusals.{IsOneOf, RefusesTable, TellsRefusal}
+use Rattle.program_manners.specs.Loads.{Loaded}
+use Rattle.program_manners.specs.Refusals.{IsFirstTableFault, IsOneOf, RefusesTable, TellsRefusal}
+use Rattle.program_manners.specs.TableLoads.{CannotFollow, LoadsTables, LoadsUpTo}
+use Rattle.program_manners.specs.TableWords.{TableNames, file_named, written_date}
+use Rattle.program_manners.specs.declared.table_words.WrittenDate.{WrittenDate}
 use Rattle.program_manners.specs.declared.loading.LoadFault.{LoadFault}
 use Rattle.sorted_bills.specs.Faults.{HaveTooManyTaps}
 use Rattle.settled_texts.specs.Classes.{has_plain_classes}
@@ -14,7 +20,7 @@ use Rattle.toml.specs.Parse.{parse_document}
 use Rattle.fare_program.specs.Options.{Asked}
 use Rattle.fare_program.specs.declared.fault.Fault.{Fault}
 use Rattle.fare_program.specs.declared.fault.Fault.TheVariants.{File, Table, ClassName, Unopened as AtOpening}
-use Rattle.fare_program.specs.declared.fault.Fault.TheVariants.{Unsorted, TooManyTaps, Late}
+use Rattle.fare_program.specs.declared.fault.Fault.TheVariants.{Unsorted, TooManyTaps, Late, Follow, NamedClass, NamedTable}
 use Rattle.fare_program.specs.declared.fault.Fault.TheVariants.{Uploads, Gather, Write, NoMemory}
 
 -- what fault lines call the files to be loaded: standard input, where none is named
@@ -22,9 +28,15 @@ abbrev pub names_told : List (List ℕ) → List (List ℕ)
 names_told [] = codes "standard input" ∷ []
 names_told (name ∷ names) = name ∷ names
 
--- the name is that of the fare table, or of a file to be loaded
+-- the names of the files of fare tables
+abbrev pub table_files : Option TableNames → List (List ℕ)
+table_files None = []
+table_files (Some tables) = tables.first ∷ map file_named tables.later
+
+-- the name is that of a fare table's file, or of a file to be loaded
 abbrev pub IsNameTold : Asked → List ℕ → Type 0
-IsNameTold asked name = (asked.table ≡ Some name) ⊎ IsOneOf name (names_told asked.files)
+IsNameTold asked name =
+    IsOneOf name (table_files asked.table) ⊎ IsOneOf name (names_told asked.files)
 
 -- Of sorted files under these names, of which this is known, the one of this name is the first that
 -- is not sorted, for this reason.
@@ -54,25 +66,95 @@ abbrev pub HasOtherNames : List ℕ → Type 0
 HasOtherNames text =
     (tree : Members) × (parse_document text ≡ Some tree) × (has_plain_classes tree ≡ false)
 
--- The file of this name was loaded, and a class that its text names cannot stand in a ledger.
-pub record RefusesNames (name : List ℕ) (told told' : Option (List Loaded)) : Type 0 where
-  pub bytes : List ℕ
-  pub told_is : TellsOne told told' (Some name) bytes
-  pub other : HasOtherNames bytes
+-- The one table's file was loaded, and its text is refused by this fault.
+pub record RefusesTheTable (asked : Asked) (told told' : Option (List Loaded)) (fault : TableFault)
+    : Type 0 where
+  pub tables : TableNames
+  pub are_named : asked.table ≡ Some tables
+  pub alone : tables.later ≡ []
+  pub refused : RefusesTable tables.first told told' fault
+
+-- The file of a later table was loaded behind those of the tables before it. Its text is refused by
+-- this fault.
+pub record RefusesLater (tables : TableNames) (told told' : Option (List Loaded)) (name : List ℕ)
+    (fault : TableFault) : Type 0 where
+  pub fares : Fares
+  pub word : List ℕ
+  pub text : List ℕ
+  pub up_to : LoadsUpTo tables told told' fares word text
+  pub named : name ≡ file_named word
+  pub first : IsFirstTableFault text fault
+
+-- Of several tables, the file of this name is refused by this fault: that of the first, or of a later
+-- one.
+pub record RefusesNamed (asked : Asked) (told told' : Option (List Loaded)) (name : List ℕ)
+    (fault : TableFault) : Type 0 where
+  pub tables : TableNames
+  pub are_named : asked.table ≡ Some tables
+  pub several : tables.later ≢ []
+  pub refused : ((name ≡ tables.first) × RefusesTable name told told' fault)
+      ⊎ RefusesLater tables told told' name fault
+
+-- The table of this word was loaded behind those before it, and cannot follow them from its date on,
+-- for this reason.
+pub record RefusesToFollow (asked : Asked) (told told' : Option (List Loaded)) (word : List ℕ)
+    (fault : FollowFault) : Type 0 where
+  pub tables : TableNames
+  pub are_named : asked.table ≡ Some tables
+  pub fares : Fares
+  pub text : List ℕ
+  pub up_to : LoadsUpTo tables told told' fares word text
+  pub date : WrittenDate
+  pub dated : written_date word ≡ Some date
+  pub wrong : CannotFollow fares date text fault
+
+-- All tables were loaded. A class that the text of this place names cannot stand in a ledger, and each
+-- class of the texts before it can.
+pub record RefusesClass (tables : TableNames) (told told' : Option (List Loaded)) (place : ℕ)
+    : Type 0 where
+  pub texts : List (List ℕ)
+  pub fares : Fares
+  pub loads : LoadsTables tables told told' texts fares
+  pub text : List ℕ
+  pub stands : slice_get texts place ≡ Some text
+  pub other : HasOtherNames text
+  pub before : All (λ earlier. ¬ HasOtherNames earlier) (take place texts)
+
+-- The one table has a class that cannot stand in a ledger.
+pub record RefusesTheNames (asked : Asked) (told told' : Option (List Loaded)) : Type 0 where
+  pub tables : TableNames
+  pub are_named : asked.table ≡ Some tables
+  pub alone : tables.later ≡ []
+  pub refused : RefusesClass tables told told' 0
+
+-- Of several tables, the one of this name is the first that has a class that cannot stand in a ledger.
+pub record RefusesNames (asked : Asked) (told told' : Option (List Loaded)) (name : List ℕ)
+    : Type 0 where
+  pub tables : TableNames
+  pub are_named : asked.table ≡ Some tables
+  pub several : tables.later ≢ []
+  pub place : ℕ
+  pub named : slice_get (table_files asked.table) place ≡ Some name
+  pub refused : RefusesClass tables told told' place
 
 -- The fault is the right one for what is asked for. A file that is named is one of the words, and
 -- one that the source refused so. A table fault is the first one of the text that was loaded under
--- the table's name, and a class's name is refused only for a traced ledger, and if that text has one
--- that no ledger can have. There are too many uploads only above 65,535. Only a write and want of
--- memory may fail at any time.
+-- the table's name, behind those of the tables before it. A class's name is refused only for a traced
+-- ledger, and if a text has one that no ledger can have. There are too many uploads only above
+-- 65,535. Only a write and want of memory may fail at any time.
 abbrev pub IsRightFault : Asked → (List ℕ → Option (List ℕ)) → Option (List Loaded)
     → Option (List Loaded) → Option (Option (List ℕ) × LoadFault) → Fault → Type 0
 IsRightFault asked under told told' refused (File file) =
     IsNameTold asked file.name.now × TellsRefusal refused file.name.now file.fault
-IsRightFault asked under told told' refused (Table fault) =
-    (name : List ℕ) × (asked.table ≡ Some name) × RefusesTable name told told' fault
-IsRightFault asked under told told' refused ClassName = (asked.traced ≡ true)
-    × ((name : List ℕ) × (asked.table ≡ Some name) × RefusesNames name told told')
+IsRightFault asked under told told' refused (Table fault) = RefusesTheTable asked told told' fault
+IsRightFault asked under told told' refused (NamedTable line) =
+    RefusesNamed asked told told' line.name.now line.fault
+IsRightFault asked under told told' refused (Follow line) =
+    RefusesToFollow asked told told' line.word.now line.fault
+IsRightFault asked under told told' refused ClassName =
+    (asked.traced ≡ true) × RefusesTheNames asked told told'
+IsRightFault asked under told told' refused (NamedClass line) =
+    (asked.traced ≡ true) × RefusesNames asked told told' line.0.now
 IsRightFault asked under told told' refused Uploads =
     (asked.settle ≡ false) × (65535 < length asked.files)
 IsRightFault asked under told told' refused (Gather fault) = asked.settle ≡ false

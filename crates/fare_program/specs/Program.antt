@@ -4,7 +4,6 @@ use Rattle.std.specs.Prelude.{None, Some, Ok, MatchBool}
 use Rattle.std.specs.Io.KnownBytes.{Appends, Keeps}
 use Rattle.hex.specs.Hex.{decode_sized}
 use Rattle.fare_table.specs.Fares.{Fares}
-use Rattle.fare_table.specs.Meaning.{Means}
 use Rattle.tap_views.specs.Token.{bytes_of}
 use Rattle.tap_views.specs.declared.token.Token.{Token}
 use Rattle.report_texts.specs.declared.upload_end.UploadEnd.{UploadEnd}
@@ -21,20 +20,22 @@ use Rattle.fare_program.specs.declared.fault.Fault.{Fault}
 use Rattle.fare_program.specs.declared.fault.Fault.TheVariants.{Write}
 use Rattle.fare_texts.specs.Explained.{IsExplainedOf}
 use Rattle.fare_texts.specs.Ledger.{IsLedgerOfBooks}
-use Rattle.program_manners.specs.Loads.{Loaded, Tells, TellsOne}
+use Rattle.program_manners.specs.Loads.{Loaded, Tells}
+use Rattle.program_manners.specs.TableLoads.{LoadsTables}
+use Rattle.program_manners.specs.TableWords.{TableNames}
 use Rattle.program_manners.specs.LineWritten.{LineWritten}
 use Rattle.fare_program.specs.Uploads.{IsListing}
 use Rattle.toml.specs.Data.{Members}
-use Rattle.toml.specs.Parse.{parse_document}
-use Rattle.settled_texts.specs.Classes.{class_of_token}
+use Rattle.settled_texts.specs.Classes.{AreTrees, class_of_token, tree_at}
 use Rattle.settled_texts.specs.Ledgers.{IsTracedLedger}
 
--- Where a table is named, its file was loaded under that name, and its text means these fares.
-abbrev pub LoadsTable : Option (List ℕ) → Option (List Loaded) → Option (List Loaded) → Option Fares
-    → Type 0
+-- Where tables are named, their files were loaded in order: the first table, and each later one from
+-- its date on. Their texts mean these fares.
+abbrev pub LoadsTable : Option TableNames → Option (List Loaded) → Option (List Loaded)
+    → Option Fares → Type 0
 LoadsTable None told told' fares = (fares ≡ None) × (told' ≡ told)
-LoadsTable (Some name) told told' fares = (bytes : List ℕ) × (meaning : Fares)
-    × TellsOne told told' (Some name) bytes × Means bytes meaning × (fares ≡ Some meaning)
+LoadsTable (Some tables) told told' fares = (texts : List (List ℕ)) × (all : Fares)
+    × LoadsTables tables told told' texts all × (fares ≡ Some all)
 
 -- the names under which files are loaded: standard input, which has no name, where none is named
 abbrev pub names_to_load : List (List ℕ) → List (Option (List ℕ))
@@ -49,17 +50,17 @@ pub record LoadsFiles (names : List (Option (List ℕ))) (told told' : Option (L
   pub bytes : map (λ load. load.bytes) loads ≡ files
   pub told_is : Tells told told' loads
 
--- The named table was loaded, then the named files, or standard input where none is named.
-pub record Loads (table : Option (List ℕ)) (names : List (List ℕ))
+-- The named tables were loaded, then the named files, or standard input where none is named.
+pub record Loads (table : Option TableNames) (names : List (List ℕ))
     (told told' : Option (List Loaded)) (fares : Option Fares) (files : List (List ℕ))
     : Type 0 where
   pub between : Option (List Loaded)
   pub loads_table : LoadsTable table told between fares
   pub loads_files : LoadsFiles (names_to_load names) between told' files
 
--- Table and files were loaded; what was appended to the writer is the listing of these files, with
+-- Tables and files were loaded; what was appended to the writer is the listing of these files, with
 -- the validators known that the table knows. It is clean where no file has a layout fault.
-pub record RunsListing (table : Option (List ℕ)) (names : List (List ℕ))
+pub record RunsListing (table : Option TableNames) (names : List (List ℕ))
     (told told' : Option (List Loaded)) (out out' : Option (List ℕ)) (clean : Bool) : Type 0 where
   pub fares : Option Fares
   pub files : List (List ℕ)
@@ -119,7 +120,7 @@ ShowsAsked asked fares files token text well = MatchBool asked.settle
     (ShowsSettled asked fares files token text well)
     (ShowsLiveRun asked fares files token text well)
 
--- Table and files were loaded, and their taps posted; what was appended to the writer is the
+-- Tables and files were loaded, and their taps posted; what was appended to the writer is the
 -- report, the statement of the token that is asked for, or the ledger, whichever is asked for.
 pub record RunsService (asked : Asked) (told told' : Option (List Loaded))
     (out out' : Option (List ℕ)) (well : Bool) : Type 0 where
@@ -132,7 +133,7 @@ pub record RunsService (asked : Asked) (told told' : Option (List Loaded))
   pub shows : ShowsAsked asked fares files token text well
   pub written : Appends out out' text
 
--- The named table was loaded, and the named files were opened, each of which has its taps in
+-- The named tables were loaded, and the named files were opened, each of which has its taps in
 -- canonical order. What was appended to the writer is what is asked for of the settled history of
 -- the files, where what stands under their names is known. All is well.
 pub record RunsSorted (asked : Asked) (known : List ℕ → Option (List ℕ))
@@ -147,21 +148,23 @@ pub record RunsSorted (asked : Asked) (known : List ℕ → Option (List ℕ))
   pub written : Appends out out' text
   pub is_well : well ≡ true
 
--- The named table was loaded, and then the files. What was appended to the writer is the traced
--- ledger of the files, with the classes that the table's text names.
+-- The named tables were loaded, and then the files. What was appended to the writer is the traced
+-- ledger of the files, with the class of each token that the text names which is valid at the tap's
+-- moment.
 pub record RunsTraced (asked : Asked) (told told' : Option (List Loaded))
     (out out' : Option (List ℕ)) (well : Bool) : Type 0 where
-  pub name : List ℕ
-  pub is_named : asked.table ≡ Some name
-  pub table : List ℕ
+  pub tables : TableNames
+  pub are_named : asked.table ≡ Some tables
+  pub texts : List (List ℕ)
   pub between : Option (List Loaded)
-  pub loads_table : TellsOne told between (Some name) table
   pub fares : Fares
-  pub means : Means table fares
+  pub loads_tables : LoadsTables tables told between texts fares
   pub tree : Members
-  pub parsed : parse_document table ≡ Some tree
-  pub classes : List ℕ → List ℕ
-  pub are_classes : (token : List ℕ) → class_of_token tree token ≡ Some (classes token)
+  pub later : List (ℕ × Members)
+  pub parsed : AreTrees fares texts tree later
+  pub classes : ℕ → List ℕ → List ℕ
+  pub are_classes : (moment : ℕ) (token : List ℕ)
+      → class_of_token (tree_at tree later moment) token ≡ Some (classes moment token)
   pub files : List (List ℕ)
   pub loads_files : LoadsFiles (names_to_load asked.files) between told' files
   pub text : List ℕ

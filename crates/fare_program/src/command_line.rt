@@ -11,7 +11,8 @@ ghost use Rattle.program_manners.specs.Words.{list_option, null_flag};
 use crate::options::Options;
 use clap::{ArgAction, ArgMatches, Command, Error};
 use program_manners::{
-    add_list_args, flag_arg, names_in, new_command, number_arg, option_arg, positional_arg,
+    TableWords, add_list_args, flag_arg, names_in, new_command, number_arg, option_arg, positional_arg,
+    repeated_arg,
 };
 use std::alloc::{AllocError, Global};
 
@@ -94,7 +95,7 @@ const FILE_HELP: &str =
 fn command<'a>(alloc: Global) -> Result<Command<'a>, AllocError>
     ensures { IfOk result (λ command. app_of command ≡ program) }
 {
-    let table = option_arg(alloc, "table", "F", TABLE_HELP);
+    let table = repeated_arg(alloc, "table", "F", TABLE_HELP);
     let list = flag_arg(alloc, "list", LIST_HELP);
     let workers = number_arg(alloc, "workers", 16, "2", WORKERS_HELP);
     let shards = number_arg(alloc, "shards", 64, "8", SHARDS_HELP);
@@ -169,8 +170,9 @@ impl<'a> Options<'a> {
         ensures kinds { FailsBy (fault_of program (map string_bytes words.entry.now)) result }
     {
         let matches = matched(alloc, words)?;
+        let tables = names_in(alloc, &matches, "table")?;
         Ok(Options {
-            table: matches.get_str("table"),
+            table: TableWords::of(alloc, &tables)?,
             list: flag_in(&matches, "list"),
             workers: number_in(&matches, "workers"),
             shards: number_in(&matches, "shards"),

@@ -15,7 +15,9 @@ use crate::sorted_fault::{LateFault, UnopenedFile, UnsortedFile};
 use fare_service::{GatherFault, OpenFault, PrintFault, RunFault};
 use fare_table::TableFault;
 use placed_files::Unopened;
-use program_manners::{FileFault, LoadFault, TableLine};
+use program_manners::{
+    FileFault, FollowLine, LoadFault, NamedClassLine, NamedTableLine, TableLine, WrongWord,
+};
 use sorted_bills::BillFault;
 use std::fmt;
 use tap_views::NoMemory;
@@ -57,8 +59,16 @@ pub(crate) enum Fault<'a> {
     File(FileFault<'a>),
     /// The fare table's text is no table.
     Table(TableFault),
+    /// The word of a fare table has a wrong date, or none where one is wanted.
+    Date(WrongWord<'a>),
+    /// The text of one of several fare tables is no table.
+    NamedTable(NamedTableLine<'a>),
+    /// A fare table cannot follow those before it.
+    Follow(FollowLine<'a>),
     /// The fare table has a class whose name cannot stand in a ledger.
     ClassName,
+    /// One of several fare tables has a class whose name cannot stand in a ledger.
+    NamedClass(NamedClassLine<'a>),
     /// A sorted file was not opened.
     Unopened(UnopenedFile<'a>),
     /// A file is not read as taps in canonical order, and each file before it is.
@@ -167,7 +177,7 @@ impl<'a> Fault<'a> {
             Fault::ExplainNoToken | Fault::ExplainList | Fault::ExplainLedger => 2,
             Fault::SortedNoSettle | Fault::SortedNoFile => 2,
             Fault::TracedNoLedger | Fault::TracedNoSettle => 2,
-            Fault::TracedToken | Fault::TracedSorted => 2,
+            Fault::TracedToken | Fault::TracedSorted | Fault::Date(_) => 2,
             _ => 1,
         }
     }
@@ -244,6 +254,10 @@ impl fmt::Display for Fault<'_> {
             Fault::TracedSorted => f.write_str("fault: --traced cannot be used with --sorted"),
             Fault::File(fault) => fault.fmt(f),
             Fault::Table(fault) => TableLine(*fault).fmt(f),
+            Fault::Date(wrong) => write!(f, "fault: {wrong}"),
+            Fault::NamedTable(line) => line.fmt(f),
+            Fault::Follow(line) => line.fmt(f),
+            Fault::NamedClass(line) => line.fmt(f),
             Fault::ClassName => f.write_str(
                 "fault: table has a class name that no ledger can have",
             ),

@@ -15,6 +15,7 @@
 //! | `settle`, `bill` | what is asked for of settled files, whose taps are charged in one order |
 //! | `settled_token` | what is asked for of one token of settled files |
 //! | `sorted`, `sorted_fault` | what is asked for of sorted files, and why they are not charged |
+//! | `tables` | fare tables that are loaded in the order of their words |
 //! | `traced` | the traced ledger of files |
 //! | `posting` | the text that is asked for of files, posted as they are or settled |
 //! | `output` | texts written out whole |
@@ -47,6 +48,7 @@ mod settled_token;
 mod sorted;
 mod sorted_fault;
 mod source;
+mod tables;
 mod traced;
 mod uploads;
 

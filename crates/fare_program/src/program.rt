@@ -8,8 +8,8 @@ ghost use Rattle.fare_program.specs.Causes.{IsNameTold, IsRightFault};
 ghost use Rattle.fare_program.specs.inside.Causes.{IsOfOutput};
 ghost use Rattle.fare_program.specs.Fault.{IsLate, charge_mistake_of, explain_mistake, fault_text};
 ghost use Rattle.fare_program.specs.Fault.{mistake, sorted_mistake, status_of, token_mistake};
-ghost use Rattle.fare_program.specs.Fault.{traced_mistake};
-ghost use Rattle.fare_program.specs.inside.Fault.{IsLoadLine, IsTableLine, IsWhyOf};
+ghost use Rattle.fare_program.specs.Fault.{traced_mistake, wrong_date};
+ghost use Rattle.fare_program.specs.inside.Fault.{IsLoadLine, IsWhyOf};
 ghost use Rattle.fare_program.specs.Options.{Asked, AsksForText, Parses, asked_by};
 ghost use Rattle.fare_program.specs.inside.Options.{asked_of};
 ghost use Rattle.fare_program.specs.Program.{Does, GaveUp, GaveUpOn, IsTokenIn, LoadsFiles};
@@ -18,7 +18,11 @@ ghost use Rattle.fare_texts.specs.WrittenOut.{Begins};
 ghost use Rattle.fare_program.specs.Program.{DoesUntraced, LoadsTable, RunsTraced, names_to_load};
 ghost use Rattle.program_manners.specs.Loads.{Loaded, TellsOne};
 ghost use Rattle.program_manners.specs.LineWritten.{LineWritten};
+ghost use Rattle.program_manners.specs.TableViews.{names_of};
+ghost use Rattle.program_manners.specs.TableWords.{date_text, wrong_word};
 ghost use Rattle.program_manners.specs.Words.{IsRequest};
+ghost use Rattle.program_manners.specs.declared.table_words.DateFault.{DateFault};
+ghost use Rattle.std.specs.Option.{option_and_then};
 ghost use Rattle.fare_program.specs.Uploads.{IsListing};
 
 use crate::fault::Fault;
@@ -29,13 +33,14 @@ use crate::output::write_text;
 use crate::posting::charge;
 use crate::sorted::work_sorted;
 use crate::source::Source;
+use crate::tables::load_tables;
 use crate::traced::{Riders, charge_traced, riders_of};
 use crate::uploads::listing_text;
 use clap::Error;
 use clap::error::ErrorKind;
 use fare_table::FareTable;
 use hex::FromHex;
-use program_manners::{Complaints, Output, STANDARD_INPUT, show_answer};
+use program_manners::{Complaints, Output, STANDARD_INPUT, TableWords, show_answer};
 use std::alloc::Global;
 use std::io::Write;
 use std::marker::Sync;
@@ -49,7 +54,7 @@ use tap_views::{NoMemory, Token};
 const READERS: u32 = 4;
 
 /// All bytes of the file of this name.
-fn load_named<'a, S: Source>(source: &mut S, name: &'a str) -> Result<Vec<u8>, Fault<'a>>
+pub(crate) fn load_named<'a, S: Source>(source: &mut S, name: &'a str) -> Result<Vec<u8>, Fault<'a>>
     ensures ok { IfOk result (λ bytes. TellsOne (S.loaded source.old) (S.loaded source.new)
         (Some name.entry.now) bytes.items) }
     ensures fault { IfErr result (λ fault. IsLoadLine name.entry.now (fault_text fault)) }
@@ -82,29 +87,27 @@ fn load_input<'a, S: Source>(source: &mut S) -> Result<Vec<u8>, Fault<'a>>
     }
 }
 
-/// The table of this name, read, where one is named.
+/// The tables of these words, where there are some.
 fn load_table<'a, S: Source>(
     alloc: Global,
-    name: Option<&'a str>,
+    words: &Option<TableWords<'a>>,
     source: &mut S,
 ) -> Result<Option<FareTable>, Fault<'a>>
-    ensures ok { IfOk result (λ table. LoadsTable (option_map (λ n. n.now) name.entry)
+    requires { option_and_then wrong_word (option_map names_of words.now) ≡ None }
+    ensures ok { IfOk result (λ table. LoadsTable (option_map names_of words.now)
         (S.loaded source.old) (S.loaded source.new) table) }
-    ensures fault { IfErr result (λ fault. MatchOption name.entry ⊥ (λ n.
-        IsLoadLine n.now (fault_text fault) ⊎ IsTableLine (fault_text fault))) }
     ensures right { IfErr result (λ fault. (asked : Asked) (under : List ℕ → Option (List ℕ))
-        → asked.table ≡ option_map (λ n. n.now) name.entry
+        → asked.table ≡ option_map names_of words.now
         → IsRightFault asked under (S.loaded source.old) (S.loaded source.new)
         (S.refused source.new) fault) }
     ensures unwritten { IfErr result (λ fault. fault ≢ Fault.Write) }
     ensures status { IfErr result (λ fault. status_of fault ≡ 1) }
 {
-    let Some(name) = name else {
+    let Some(words) = words else {
         return Ok(None);
     };
-    let text = load_named(source, name)?;
-    let table = FareTable::read(alloc, &text)?;
-    Ok(Some(table))
+    let tables = load_tables(alloc, words, source)?;
+    Ok(Some(tables.fares))
 }
 
 /// The files of these names, in their order, or standard input where there is none. Several files
@@ -297,6 +300,22 @@ pub(crate) fn checked<'a>(options: &Options<'a>) -> Result<Option<Token>, Fault<
     Ok(token)
 }
 
+/// Looks at the dates of the fare tables, behind all other mistakes in what is asked for.
+pub(crate) fn check_dates<'a>(options: &Options<'a>) -> Result<(), Fault<'a>>
+    ensures right { OnOk result (wrong_date (asked_of options.now) ≡ None) }
+    ensures fault { IfErr result (λ fault. MatchOption (wrong_date (asked_of options.now)) ⊥
+        (λ wrong. (fault_text fault ≡ codes "fault: " ++ date_text wrong.0 wrong.1)
+        × (status_of fault ≡ 2))) }
+{
+    let Some(tables) = &options.table else {
+        return Ok(());
+    };
+    match tables.wrong_word() {
+        Some(wrong) => Err(Fault::Date(wrong)),
+        None => Ok(()),
+    }
+}
+
 /// Lists the files, and says whether none of them has a layout fault. The whole text is made before
 /// it is written.
 fn list<'a, W: Write>(
@@ -371,7 +390,7 @@ fn work_by_table<'a, R: Threads + Wait + RandomSource + Sync, D: Disk + Sync, S:
     }
 }
 
-/// Loads the table and then the files, and writes their traced ledger. Says whether no file has a
+/// Loads the tables and then the files, and writes their traced ledger. Says whether no file has a
 /// layout fault.
 fn work_traced<'a, R: Threads + Sync, D: Disk + Sync, S: Source, W: Write>(
     rt: &R,
@@ -382,6 +401,7 @@ fn work_traced<'a, R: Threads + Sync, D: Disk + Sync, S: Source, W: Write>(
     out: &mut W,
 ) -> Result<bool, Fault<'a>>
     requires table { is_some (asked_of options.now).table ≡ true }
+    requires dates { wrong_date (asked_of options.now) ≡ None }
     ensures ok { IfOk result (λ well. RunsTraced (asked_of options.now) (S.loaded source.old)
         (S.loaded source.new) (W.contents out.old) (W.contents out.new) well) }
     ensures begun { IfErr result (λ fault. fault ≡ Fault.Write → (well : Bool)
@@ -395,18 +415,18 @@ fn work_traced<'a, R: Threads + Sync, D: Disk + Sync, S: Source, W: Write>(
         (S.loaded source.new) (S.refused source.new) fault) }
     ensures status { IfErr result (λ fault. status_of fault ≡ 1) }
 {
-    let Some(name) = options.table else {
+    let Some(words) = &options.table else {
         unreachable!();
     };
-    let text = load_named(source, name)?;
-    let riders = riders_of(alloc, &text)?;
+    let tables = load_tables(alloc, words, source)?;
+    let riders = riders_of(alloc, words, tables)?;
     let files = load_files(rt, alloc, disk, &options.files, READERS as usize, source)?;
     charge_traced(alloc, &riders, &files, out)
 }
 
 /// Does what is asked for, and says whether each upload was listed without a layout fault, or
-/// posted whole. The token is looked at first, then settling, then the table is loaded, then the
-/// files, which may be settled while they are read, and all memory is taken before the first byte is
+/// posted whole. The token is looked at first, then settling, then the dates of tables. Then the tables
+/// are loaded, and the files, which may be settled while they are read, and all memory is taken before the first byte is
 /// written. Sorted files are opened, and read in pieces.
 fn work<'a, R: Threads + Wait + RandomSource + Sync, D: Disk + Sync, S: Source, W: Write>(
     rt: &R,
@@ -420,6 +440,7 @@ fn work<'a, R: Threads + Wait + RandomSource + Sync, D: Disk + Sync, S: Source, 
         Does (asked_of options.now) (D.bytes_under disk.now) (S.loaded source.old)
         (S.loaded source.new) (W.contents out.old) (W.contents out.new) well) }
     ensures right { OnOk result (mistake (asked_of options.now) ≡ None) }
+    ensures dates { OnOk result (wrong_date (asked_of options.now) ≡ None) }
 
     // Only a write that fails leaves something of a text behind, or a sorted file that is refused
     // after all were checked.
@@ -445,10 +466,11 @@ fn work<'a, R: Threads + Wait + RandomSource + Sync, D: Disk + Sync, S: Source, 
         → S.loaded source.new ≡ S.loaded source.old) }
 {
     let token = checked(options)?;
+    check_dates(options)?;
     if options.traced {
         return work_traced(rt, alloc, disk, options, source, out);
     }
-    let table = load_table(alloc, options.table, source)?;
+    let table = load_table(alloc, &options.table, source)?;
     if options.sorted {
         return work_sorted(rt, alloc, disk, options, table, token, out);
     }
@@ -560,9 +582,23 @@ pub fn main_over<
         (E.contents err.new.writer) err.new.failed (W.contents out.old.writer)
         (W.contents out.new.writer)) }
 
-    // Only such a mistake, or words that are no command line, have status 2.
+    // The first word of a fare table with a wrong date, or with none where one is wanted, is told
+    // where there is no such mistake.
+    ensures mis_dated { (word : List ℕ) (why : DateFault) → Parses (map string_bytes words.now)
+        → mistake (asked_by (map string_bytes words.now)) ≡ None
+        → wrong_date (asked_by (map string_bytes words.now)) ≡ Some (word, why)
+        → ((result ≡ 2) × (fault : Fault)
+        × (fault_text fault ≡ codes "fault: " ++ date_text word why)
+        × GaveUp fault (E.contents err.old.writer) (E.contents err.new.writer) err.new.failed
+        (W.contents out.old.writer) (W.contents out.new.writer))
+        ⊎ ((result ≡ 1) × GaveUp Fault.NoMemory (E.contents err.old.writer)
+        (E.contents err.new.writer) err.new.failed (W.contents out.old.writer)
+        (W.contents out.new.writer)) }
+
+    // Only such mistakes, or words that are no command line, have status 2.
     ensures right { result ≡ 2 → (¬ Parses (map string_bytes words.now))
-        ⊎ (is_some (mistake (asked_by (map string_bytes words.now))) ≡ true) }
+        ⊎ ((is_some (mistake (asked_by (map string_bytes words.now))) ≡ true)
+        ⊎ (is_some (wrong_date (asked_by (map string_bytes words.now))) ≡ true)) }
 
     // A text that ends well was flushed.
     ensures flushed { Parses (map string_bytes words.now) → result ≡ 0

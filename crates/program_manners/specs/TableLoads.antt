@@ -6,7 +6,7 @@ use Rattle.fare_table.specs.Meaning.{Means}
 use Rattle.fare_table.specs.declared.follow_fault.FollowFault.{FollowFault}
 use Rattle.fare_table.specs.declared.follow_fault.FollowFault.TheVariants.{Date}
 use Rattle.program_manners.specs.Loads.{Loaded, TellsOne}
-use Rattle.program_manners.specs.TableWords.{IsMidnight, file_named, written_date}
+use Rattle.program_manners.specs.TableWords.{IsMidnight, TableNames, file_named, written_date}
 use Rattle.program_manners.specs.declared.table_words.WrittenDate.{WrittenDate}
 
 -- The text means a table that follows these fares from the date on, and these are all of them.
@@ -52,25 +52,25 @@ LoadsLater fares (word ∷ words) told told' texts all =
 
 -- The file of the first table was loaded, and then those of the words behind it, each of which has a
 -- date. These are their texts, in their order, and what all of them mean.
-pub record LoadsTables (first : List ℕ) (later : List (List ℕ)) (told told' : Option (List Loaded))
+pub record LoadsTables (tables : TableNames) (told told' : Option (List Loaded))
     (texts : List (List ℕ)) (fares : Fares) : Type 0 where
   pub text : List ℕ
   pub between : Option (List Loaded)
-  pub told_first : TellsOne told between (Some first) text
+  pub told_first : TellsOne told between (Some tables.first) text
   pub alone : Fares
   pub means : Means text alone
   pub rest : List (List ℕ)
-  pub loads_later : LoadsLater alone later between told' rest fares
+  pub loads_later : LoadsLater alone tables.later between told' rest fares
   pub are_texts : texts ≡ text ∷ rest
 
 -- The tables before this word were loaded, and mean these fares. Then the file of the word was loaded,
 -- and this is its text.
-pub record LoadsUpTo (first : List ℕ) (later : List (List ℕ)) (told told' : Option (List Loaded))
-    (fares : Fares) (word text : List ℕ) : Type 0 where
+pub record LoadsUpTo (tables : TableNames) (told told' : Option (List Loaded)) (fares : Fares)
+    (word text : List ℕ) : Type 0 where
   pub before : List (List ℕ)
   pub behind : List (List ℕ)
-  pub stands : later ≡ before ++ word ∷ behind
+  pub stands : tables.later ≡ before ++ word ∷ behind
   pub texts : List (List ℕ)
   pub between : Option (List Loaded)
-  pub loads : LoadsTables first before told between texts fares
+  pub loads : LoadsTables (record { first = tables.first; later = before }) told between texts fares
   pub told_is : TellsOne between told' (Some (file_named word)) text

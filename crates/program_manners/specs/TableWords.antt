@@ -92,10 +92,20 @@ abbrev pub wrong_later : List (List ℕ) → Option (List ℕ × DateFault)
 wrong_later [] = None
 wrong_later (word ∷ words) = found_or word (date_fault false word) (wrong_later words)
 
--- the first of all words that is wrong: of the first table, if there is one, and of the later ones
-abbrev pub wrong_word : Option (List ℕ) → List (List ℕ) → Option (List ℕ × DateFault)
-wrong_word None later = wrong_later later
-wrong_word (Some first) later = found_or first (date_fault true first) (wrong_later later)
+-- the words of `--table`: of the first table, and of those behind it
+pub record TableNames : Type 0 where
+  pub first : List ℕ
+  pub later : List (List ℕ)
+
+-- these words, if there are any
+abbrev pub tables_in : List (List ℕ) → Option TableNames
+tables_in [] = None
+tables_in (first ∷ later) = Some (record { first = first; later = later })
+
+-- the first of all words that is wrong
+abbrev pub wrong_word : TableNames → Option (List ℕ × DateFault)
+wrong_word tables =
+    found_or tables.first (date_fault true tables.first) (wrong_later tables.later)
 
 -- the line of a wrong word, without what is before it
 abbrev pub date_text : List ℕ → DateFault → List ℕ

@@ -50,10 +50,10 @@ pub use loading::{
 pub use opened::Opened;
 pub use output::Output;
 pub use table_line::TableLine;
-pub use table_words::{DateFault, TableWord, WrittenDate, WrongWord, wrong_word};
+pub use table_words::{DateFault, TableWord, TableWords, WrittenDate, WrongWord};
 pub use terminal_line::{PACE_MS, QUIET_MS, TerminalLine};
 pub use version::VERSION;
 pub use words::{
     add_list_args, files_arg, flag_arg, flag_in, names_in, new_command, number_arg, option_arg,
-    positional_arg,
+    positional_arg, repeated_arg,
 };

@@ -1,12 +1,13 @@
 //! Words of `--table`: a file, and the date from which its table is valid.
-ghost use Rattle.std.specs.Prelude.{◌≡◌, ◌≤◌, ◌+◌, IfSome, Some, is_some, map, option_map, pos};
+ghost use Rattle.std.specs.Prelude.{◌≡◌, ◌≤◌, ◌+◌, IfOk, IfSome, Some, is_some, map, option_map, pos};
 ghost use Rattle.program_manners.specs.TableWords.{byte_at, date_fault, date_of, date_text};
 ghost use Rattle.program_manners.specs.TableWords.{file_named};
-ghost use Rattle.program_manners.specs.TableWords.{has_form, is_day, two_digits, written_date};
-ghost use Rattle.program_manners.specs.TableWords.{written_in, wrong_date, wrong_later, wrong_word};
-ghost use Rattle.program_manners.specs.WrongWords.{wrong_of};
+ghost use Rattle.program_manners.specs.TableWords.{has_form, is_day, tables_in, two_digits};
+ghost use Rattle.program_manners.specs.TableWords.{written_date, written_in, wrong_date, wrong_later, wrong_word};
+ghost use Rattle.program_manners.specs.TableViews.{names_of, wrong_of};
 
 use jiff::civil::Date;
+use std::alloc::{AllocError, Global};
 use std::fmt;
 
 /// How many bytes `@2026-01-04` has.
@@ -93,6 +94,45 @@ impl<'a> TableWord<'a> {
             },
             None => TableWord { name: word, date: None },
         }
+    }
+}
+
+/// The words of `--table`, which may be given again for a table that is valid from a date on.
+#[derive(Drop)]
+pub struct TableWords<'a> {
+    /// The word of the table that is valid first.
+    pub first: &'a str,
+    /// The words of the tables behind it, in order.
+    pub later: Vec<&'a str>,
+}
+
+impl<'a> TableWords<'a> {
+    /// These words, if there are any.
+    pub fn of(alloc: Global, words: &[&'a str]) -> Result<Option<TableWords<'a>>, AllocError>
+        ensures { IfOk result (λ tables. option_map names_of tables
+            ≡ tables_in (map (λ w. w.now) words.now)) }
+    {
+        let Some((first, later)) = words.split_first() else {
+            return Ok(None);
+        };
+        Ok(Some(TableWords {
+            first,
+            later: Vec::from_slice(alloc, later)?,
+        }))
+    }
+
+    /// The first of the words that has a wrong date, or none where one is wanted: the first table has
+    /// none, and each later one has a date from 1970-01-01 to 2099-12-31.
+    pub fn wrong_word(&self) -> Option<WrongWord<'a>>
+        ensures { option_map wrong_of result ≡ wrong_word (names_of self.now) }
+    {
+        if let Some(fault) = date_fault(true, self.first) {
+            return Some(WrongWord {
+                word: self.first,
+                fault,
+            });
+        }
+        wrong_later(&self.later)
     }
 }
 
@@ -225,18 +265,4 @@ fn wrong_later<'a>(words: &[&'a str]) -> Option<WrongWord<'a>>
         }
     }
     None
-}
-
-/// The first of the words of `--table` that has a wrong date, or none where one is wanted: the first
-/// table has none, and each later one has a date from 1970-01-01 to 2099-12-31.
-pub fn wrong_word<'a>(first: Option<&'a str>, later: &[&'a str]) -> Option<WrongWord<'a>>
-    ensures { option_map wrong_of result
-        ≡ wrong_word (option_map (λ w. w.now) first.entry) (map (λ w. w.now) later.now) }
-{
-    if let Some(word) = first {
-        if let Some(fault) = date_fault(true, word) {
-            return Some(WrongWord { word, fault });
-        }
-    }
-    wrong_later(later)
 }

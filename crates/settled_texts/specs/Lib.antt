@@ -1,3 +1,4 @@
+pub mod ClassFaults
 pub mod Classes
 pub mod Columns
 pub mod Ledgers

@@ -1,7 +1,7 @@
 //! The classes of riders, as the text of a fare table names them.
 
 ghost use Rattle.std.specs.Prelude.{◌≡◌, ◌≢◌, ◌&&◌, ◌||◌, ◌==◌, ℕ, List, IfOk, IfErr, OnOk, Some};
-ghost use Rattle.std.specs.Prelude.{◌++◌, ◌∷◌, []};
+ghost use Rattle.std.specs.Prelude.{◌+◌, ◌++◌, ◌∷◌, [], All, length, map};
 ghost use Rattle.std.specs.Prelude.{IsUtf8, None, codes, false, if◌then◌else◌, nat_le, option_map};
 ghost use Rattle.std.specs.Prelude.{string_bytes, true};
 ghost use Rattle.std.specs.List.{list_all};
@@ -11,12 +11,14 @@ ghost use Rattle.hex.specs.Hex.{decode_sized};
 ghost use Rattle.toml.specs.Data.{Members, as_str, as_table, get_member, same_key};
 ghost use Rattle.toml.specs.Parse.{parse_document};
 ghost use Rattle.toml.specs.View.{table_view, view};
-ghost use Rattle.settled_texts.specs.Classes.{are_plain, class_at, default_in};
+ghost use Rattle.settled_texts.specs.Classes.{AreTrees, are_plain, class_at, default_in};
 ghost use Rattle.settled_texts.specs.Classes.{first_class, has_plain_classes, is_bare};
 ghost use Rattle.settled_texts.specs.Classes.{is_plain_name, is_plain_or_none, riders_in};
 ghost use Rattle.settled_texts.specs.Names.{HasClasses, HasRiders, NamesOf, class_by, class_in};
 ghost use Rattle.settled_texts.specs.Names.{rider_by};
+ghost use Rattle.settled_texts.specs.ClassFaults.{HasPlainClasses, IsFaultOf, IsWrongAt};
 
+use fare_table::FareTable;
 use hex::FromHex;
 use std::alloc::{AllocError, Global};
 use std::collections::BTreeMap;
@@ -43,6 +45,15 @@ impl From<AllocError> for ClassFault {
     fn from(_refused: AllocError) -> Self {
         ClassFault::NoMemory
     }
+}
+
+/// Why the names of classes of several texts are not had.
+#[derive(Clone, Copy, Debug, PartialEq, Eq)]
+pub struct WrongNames {
+    /// The place of the text, from 0.
+    pub place: usize,
+    /// Why.
+    pub fault: ClassFault,
 }
 
 /// The names of riders' classes by one text, by their tokens.
@@ -250,6 +261,36 @@ impl TextNames {
     }
 }
 
+/// Names, and those of the text at a place, which is valid from the moment on.
+fn next_names(
+    alloc: Global,
+    names: ClassNames,
+    from: u64,
+    place: usize,
+    text: &[u8],
+) -> Result<ClassNames, WrongNames>
+    ensures classes { IfOk result (λ all. (other : Members)
+        × (parse_document text.now ≡ Some other)
+        × ((tree : Members) (later : List (ℕ × Members)) → HasClasses names tree later
+        → HasClasses all tree (later ++ (from, other) ∷ []))) }
+    ensures plain { OnOk result ((tree : Members)
+        → parse_document text.now ≡ Some tree → has_plain_classes tree ≡ true) }
+    ensures place { IfErr result (λ wrong. wrong.place ≡ place) }
+    ensures fault { IfErr result (λ wrong. IsFaultOf text.now wrong.fault) }
+{
+    let next = match ClassNames::read(alloc, text) {
+        Ok(next) => next,
+        Err(fault) => return Err(WrongNames { place, fault }),
+    };
+    match names.followed_by(from, next) {
+        Ok(all) => Ok(all),
+        Err(_) => Err(WrongNames {
+            place,
+            fault: ClassFault::NoMemory,
+        }),
+    }
+}
+
 impl ClassNames {
     /// The names of the classes in the text of a fare table, which no other text follows. The text
     /// is one that is read as a fare table: else a token has the class of the first key that names
@@ -288,6 +329,35 @@ impl ClassNames {
             names: next.first,
         })?;
         Ok(self)
+    }
+
+    /// The names of the classes in the texts of fare tables that follow one another, of which these
+    /// are the fares.
+    ///
+    /// # Errors
+    ///
+    /// The fault of the first text that has one, with the place of the text.
+    pub fn of_texts(
+        alloc: Global,
+        fares: &FareTable,
+        texts: &[Vec<u8>],
+    ) -> Result<ClassNames, WrongNames>
+        requires { length texts.now ≡ length fares.now.later + 1 }
+        ensures classes { IfOk result (λ names. (tree : Members) × (later : List (ℕ × Members))
+            × AreTrees fares.now (map (λ t. t.items) texts.now) tree later
+            × HasClasses names tree later) }
+        ensures plain { OnOk result (All HasPlainClasses (map (λ t. t.items) texts.now)) }
+        ensures fault { IfErr result (IsWrongAt (map (λ t. t.items) texts.now)) }
+    {
+        let mut names = match ClassNames::read(alloc, &texts[0]) {
+            Ok(names) => names,
+            Err(fault) => return Err(WrongNames { place: 0, fault }),
+        };
+        for place in 0..fares.later_len() {
+            let (from, _tariff) = fares.later(place);
+            names = next_names(alloc, names, from, place + 1, &texts[place + 1])?;
+        }
+        Ok(names)
     }
 
     /// The class that the rider of a token has at the moment, in milliseconds since
