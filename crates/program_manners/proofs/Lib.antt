@@ -1,4 +1,6 @@
+pub mod DatedWords
 pub mod Flags
+pub mod FollowFaults
 pub mod LoadsOn
 pub mod NameLists
 pub mod Refusals

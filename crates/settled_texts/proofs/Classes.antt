@@ -1,7 +1,11 @@
 -- Classes that are kept of riders.
 use Rattle.std.proofs.Common.{◌≡◌, ◌∙◌, ℕ, List, Bool, true, false, Option, Some, None, refl, sym}
-use Rattle.std.proofs.Common.{ap, subst, [], ◌∷◌, ◌++◌, cond, tt}
-use Rattle.std.specs.Prelude.{is_some, nat_le, option_map, if◌then◌else◌, string_bytes, String}
+use Rattle.std.proofs.Common.{ap, subst, [], ◌∷◌, ◌++◌, ◌+◌, arith, cond, drop, length, take}
+use Rattle.std.proofs.lemmas.List.{take_all, take_more}
+use Rattle.std.proofs.lemmas.Option.{get_or_from_slice_get, slice_get_within}
+use Rattle.fare_table.specs.Fares.{Fares}
+use Rattle.fare_table.specs.TableMeaning.{TableMeaning}
+use Rattle.std.specs.Prelude.{is_some, nat_le, slice_get, option_map, if◌then◌else◌, string_bytes, String}
 use Rattle.std.specs.BTreeMap.{BTreeMap, is_at}
 use Rattle.std.specs.Cmp.Lexicographic.{slice_cmp}
 use Rattle.std.specs.List.{AllZip}
@@ -9,7 +13,9 @@ use Rattle.std.specs.Map.{lookup}
 use Rattle.std.specs.Ordering.{nat_cmp}
 use Rattle.std.specs.declared.alloc.Global.{Global}
 use Rattle.toml.specs.Data.{Members, same_key}
-use Rattle.settled_texts.specs.Classes.{class_of_token, first_class, tree_at}
+use Rattle.toml.specs.Parse.{parse_document}
+use Rattle.settled_texts.specs.Classes.{AreLaterTrees, AreTrees, class_of_token, first_class}
+use Rattle.settled_texts.specs.Classes.{tree_at}
 use Rattle.settled_texts.specs.Names.{HasClasses, IsDatedOf, NamesOf, class_by, names_at, rider_by}
 use Rattle.settled_texts.specs.declared.class_names.ClassNames.{ClassNames}
 use Rattle.settled_texts.specs.declared.class_names.DatedNames.{DatedNames}
@@ -97,13 +103,15 @@ valid_names names [] tree [] moment of_first are = of_first
 valid_names names [] tree (other ∷ trees) moment of_first are = absurd are
 valid_names names (next ∷ later) tree [] moment of_first are = absurd are
 valid_names names (next ∷ later) tree (other ∷ trees) moment of_first (is, are) =
-    rw (is.0) (by (nat_le other.0 moment))
+    rw (is.0) (either (nat_le other.0 moment)
+    (valid_names next.names later other.1 trees moment is.1 are))
   where
-    by : (b : Bool)
+    either : (b : Bool)
+        → NamesOf (names_at next.names later moment) (tree_at other.1 trees moment)
         → NamesOf (cond b (names_at next.names later moment) names)
         (cond b (tree_at other.1 trees moment) tree)
-    by true = valid_names next.names later other.1 trees moment is.1 are
-    by false = of_first
+    either true behind = behind
+    either false behind = of_first
 
 -- the class that is kept for a token at a moment is the one of the text that is valid then
 pub class_kept : (names : ClassNames) (tree : Members) (later : List (ℕ × Members))
@@ -111,3 +119,51 @@ pub class_kept : (names : ClassNames) (tree : Members) (later : List (ℕ × Mem
     → class_of_token (tree_at tree later moment) token ≡ Some (class_by names moment token)
 class_kept names tree later has moment token =
     valid_names names.first names.later.items tree later moment has.of_first has.of_later token
+
+-- one tree more
+pub trees_more : (dated : List (ℕ × TableMeaning)) (texts : List (List ℕ))
+    (trees : List (ℕ × Members)) (next : ℕ × TableMeaning) (text : List ℕ) (tree : Members)
+    → AreLaterTrees dated texts trees → parse_document text ≡ Some tree
+    → AreLaterTrees (dated ++ next ∷ []) (texts ++ text ∷ []) (trees ++ (next.0, tree) ∷ [])
+trees_more [] [] [] next text tree are is = (refl, is, tt)
+trees_more [] [] (t ∷ ts) next text tree are is = absurd are
+trees_more [] (x ∷ xs) [] next text tree are is = absurd are
+trees_more [] (x ∷ xs) (t ∷ ts) next text tree are is = absurd are
+trees_more (d ∷ ds) [] [] next text tree are is = absurd are
+trees_more (d ∷ ds) [] (t ∷ ts) next text tree are is = absurd are
+trees_more (d ∷ ds) (x ∷ xs) [] next text tree are is = absurd are
+trees_more (d ∷ ds) (x ∷ xs) (t ∷ ts) next text tree (one, two, rest) is =
+    (one, two, trees_more ds xs ts next text tree rest is)
+
+-- the trees of the tables before one, and its own
+pub next_trees : (dated : List (ℕ × TableMeaning)) (texts : List (List ℕ))
+    (trees : List (ℕ × Members)) (place : ℕ) (next : ℕ × TableMeaning) (text : List ℕ)
+    (tree : Members)
+    → slice_get dated place ≡ Some next → slice_get texts place ≡ Some text
+    → AreLaterTrees (take place dated) (take place texts) trees → parse_document text ≡ Some tree
+    → AreLaterTrees (take (place + 1) dated) (take (place + 1) texts)
+    (trees ++ (next.0, tree) ∷ [])
+next_trees dated texts trees place next text tree at stands are is =
+    subst (λ (ds : List (ℕ × TableMeaning)). AreLaterTrees ds (take (place + 1) texts)
+    (trees ++ (next.0, tree) ∷ []))
+    (ap (λ n. take place dated ++ n ∷ []) (sym (get_or_from_slice_get dated place next next at))
+    ∙ sym (take_more dated place next (slice_get_within dated place next at)))
+    (subst (λ (ts : List (List ℕ)). AreLaterTrees (take place dated ++ next ∷ []) ts
+    (trees ++ (next.0, tree) ∷ []))
+    (ap (λ t. take place texts ++ t ∷ []) (sym (get_or_from_slice_get texts place text text stands))
+    ∙ sym (take_more texts place text (slice_get_within texts place text stands)))
+    (trees_more (take place dated) (take place texts) trees next text tree are is))
+
+-- the trees of all texts
+pub all_trees : (fares : Fares) (texts : List (List ℕ)) (text : List ℕ) (tree : Members)
+    (trees : List (ℕ × Members)) (place : ℕ)
+    → length texts ≡ length fares.later + 1 → place ≡ length fares.later
+    → slice_get texts 0 ≡ Some text → parse_document text ≡ Some tree
+    → AreLaterTrees (take place fares.later) (take place (drop 1 texts)) trees
+    → AreTrees fares texts tree trees
+all_trees fares [] text tree trees place long end at is are = absurd (omega (arith, long))
+all_trees fares (first ∷ rest) text tree trees place long end at is are =
+    let same : first ≡ text = cc in
+    let all : take place fares.later ≡ fares.later = take_all place fares.later (omega (arith, end)) in
+    let texts : take place rest ≡ rest = take_all place rest (omega (arith, end, long)) in
+    (ap parse_document same ∙ is, rw (texts, all) at are)
