@@ -9,11 +9,11 @@ use Rattle.fare_program.specs.Causes.{IsNameTold, IsRightFault, IsRightOfSorted,
 use Rattle.fare_program.specs.Options.{Asked}
 use Rattle.fare_program.specs.Program.{LoadsFiles, names_to_load}
 use Rattle.fare_program.specs.declared.fault.Fault.{Fault}
-use Rattle.fare_program.specs.declared.fault.Fault.TheVariants.{Table, ClassName, Unopened}
+use Rattle.fare_program.specs.declared.fault.Fault.TheVariants.{Unopened}
 use Rattle.fare_program.specs.declared.fault.Fault.TheVariants.{Unsorted, TooManyTaps, Late}
 use Rattle.fare_program.specs.declared.fault.Fault.TheVariants.{Uploads, Gather, Write, NoMemory}
-use Rattle.fare_program.specs.inside.Causes.{IsOfOutput, IsRightOfText, IsRightOfUploads}
-use Rattle.program_manners.specs.Loads.{Loaded, TellsOne}
+use Rattle.fare_program.specs.inside.Causes.{IsOfOutput, IsRightOfUploads}
+use Rattle.program_manners.specs.Loads.{Loaded}
 use Rattle.program_manners.specs.Refusals.{IsOneOf}
 use Rattle.program_manners.specs.declared.loading.LoadFault.{LoadFault}
 
@@ -70,18 +70,6 @@ module _ (asked : Asked) (under : List ℕ → Option (List ℕ)) (told told' : 
   sorted_is_right sorted Write is = tt
   sorted_is_right sorted NoMemory is = tt
   sorted_is_right sorted _ is = absurd is
-
-  -- what is told of the table's text
-  pub text_is_right : (name text : List ℕ) → asked.table ≡ Some name
-      → TellsOne told told' (Some name) text → asked.traced ≡ true
-      → (fault : Fault) → IsRightOfText text fault
-      → IsRightFault asked under told told' refused fault
-  text_is_right name text named told_is traced (Table fault) is =
-      (name, named, record { bytes = text; told_is = told_is; first = is })
-  text_is_right name text named told_is traced ClassName is =
-      (traced, (name, named, record { bytes = text; told_is = told_is; other = is }))
-  text_is_right name text named told_is traced NoMemory is = tt
-  text_is_right name text named told_is traced _ is = absurd is
 
 -- a file of the words, or standard input
 pub named_one : (asked : Asked) (names : List (List ℕ)) (name : List ℕ) → asked.files ≡ names

@@ -3,6 +3,7 @@ use Rattle.std.proofs.Common.{◌≡◌, ℕ, List, Bool, true, false, Option}
 use Rattle.std.specs.Prelude.{MatchBool}
 use Rattle.std.specs.Io.KnownBytes.{Keeps}
 use Rattle.std.proofs.KnownBytes.{Appends-kept}
+use Rattle.program_manners.specs.TableWords.{TableNames}
 use Rattle.program_manners.specs.Loads.{Loaded}
 use Rattle.fare_program.specs.Options.{Asked, lists}
 use Rattle.fare_program.specs.Program.{Does, RunsListing, RunsService, RunsSorted, RunsTraced}
@@ -11,7 +12,7 @@ kept_by : (b : Bool) (A B C D : Type 0) → (A → C) × (B → D) → MatchBool
 kept_by true A B C D both is = both.0 is
 kept_by false A B C D both is = both.1 is
 
-kept_listing : (table : Option (List ℕ)) (names : List (List ℕ)) (told told' : Option (List Loaded))
+kept_listing : (table : Option TableNames) (names : List (List ℕ)) (told told' : Option (List Loaded))
     (out out' last : Option (List ℕ)) (well : Bool) → Keeps out' last
     → RunsListing table names told told' out out' well
     → RunsListing table names told told' out last well

@@ -5,6 +5,7 @@ use Rattle.std.specs.Prelude.{MatchBool, is_some, ◌||◌}
 use Rattle.fare_table.specs.Fares.{Fares}
 use Rattle.tap_views.specs.declared.token.Token.{Token}
 use Rattle.program_manners.specs.Loads.{Loaded}
+use Rattle.program_manners.specs.TableWords.{TableNames}
 use Rattle.fare_program.specs.Fault.{charge_mistake_of, explain_mistake, first_of_two}
 use Rattle.fare_program.specs.Fault.{ledger_mistake, mistake}
 use Rattle.fare_program.specs.Fault.{settle_mistake, sorted_mistake, sorted_mistake_of}
@@ -34,7 +35,7 @@ settles true false files is right = cc
 settles true true files is right = refl
 
 -- what is settled is not listed, and there is a table
-has_table_named : (settle list : Bool) (table : Option (List ℕ)) → settle ≡ true
+has_table_named : (settle list : Bool) (table : Option TableNames) → settle ≡ true
     → charge_mistake_of SettleNoTable SettleList settle list table ≡ None
     → (list ≡ false) × (is_some table ≡ true)
 has_table_named false list table is right = cc
@@ -54,10 +55,10 @@ charges asked right sorted =
     (settles asked.sorted asked.settle asked.files sorted live)
     settle
 
-loaded_table : (table : Option (List ℕ)) (told told' : Option (List Loaded)) (fares : Option Fares)
+loaded_table : (table : Option TableNames) (told told' : Option (List Loaded)) (fares : Option Fares)
     → is_some table ≡ true → LoadsTable table told told' fares → (f : Fares) × (fares ≡ Some f)
 loaded_table None told told' fares some loads = cc
-loaded_table (Some name) told told' fares some loads = (loads.1, loads.4)
+loaded_table (Some name) told told' fares some loads = (loads.1, loads.3)
 
 -- a traced ledger is settled
 traced_settles : (traced ledger settle sorted : Bool) (token : Option (List ℕ)) → traced ≡ true
@@ -104,7 +105,7 @@ pub has_table : (asked : Asked) (told told' : Option (List Loaded)) (fares : Opt
 has_table asked told told' fares right sorted loads =
     loaded_table asked.table told told' fares (charges asked right sorted).1 loads
 
-no_list : (list : Bool) (table : Option (List ℕ)) → list ≡ false → is_some table ≡ true
+no_list : (list : Bool) (table : Option TableNames) → list ≡ false → is_some table ≡ true
     → (list || not (is_some table)) ≡ false
 no_list true table none some = cc
 no_list false None none some = cc

@@ -11,6 +11,7 @@ use Rattle.fare_program.specs.Program.{RunsService, RunsSorted, ShowsAsked, name
 use Rattle.fare_program.specs.Uploads.{IsListing}
 use Rattle.fare_program.specs.inside.ChargedAhead.{IsChargedAhead}
 use Rattle.fare_program.proofs.PostedTexts.{settled_asked}
+use Rattle.program_manners.specs.TableWords.{TableNames}
 use Rattle.program_manners.specs.Loads.{Loaded, Tells}
 
 -- what is appended to bytes that were kept is appended
@@ -22,7 +23,7 @@ appends_to_kept (Some x) (Some y) None text kept added = absurd added
 appends_to_kept (Some x) (Some y) (Some z) text kept added = added ∙ ap (λ l. l ++ text) kept
 
 -- with fares, and without the flag, the service is asked for
-serves : (list : Bool) (table : Option (List ℕ)) (told told' : Option (List Loaded))
+serves : (list : Bool) (table : Option TableNames) (told told' : Option (List Loaded))
     (fares : Option Fares) (f : Fares) → list ≡ false → LoadsTable table told told' fares
     → fares ≡ Some f → (list || not (is_some table)) ≡ false
 serves true table told told' fares f flag loads is = cc
@@ -30,13 +31,13 @@ serves false None told told' fares f flag loads is = let none = loads.0 in cc
 serves false (Some name) told told' fares f flag loads is = refl
 
 -- with the flag, or without fares, a listing is asked for
-lists_by : (list : Bool) (table : Option (List ℕ)) (told told' : Option (List Loaded))
+lists_by : (list : Bool) (table : Option TableNames) (told told' : Option (List Loaded))
     (fares : Option Fares) → LoadsTable table told told' fares → (list ≡ true) ⊎ (fares ≡ None)
     → (list || not (is_some table)) ≡ true
 lists_by true table told told' fares loads is = refl
 lists_by false None told told' fares loads is = refl
 lists_by false (Some name) told told' fares loads (inl e) = cc
-lists_by false (Some name) told told' fares loads (inr e) = let some = loads.4 in cc
+lists_by false (Some name) told told' fares loads (inr e) = let some = loads.3 in cc
 
 module _ (asked : Asked) (known : List ℕ → Option (List ℕ))
     (told between told' : Option (List Loaded))

@@ -125,7 +125,8 @@ pub record RefusesTheNames (asked : Asked) (told told' : Option (List Loaded)) :
   pub tables : TableNames
   pub are_named : asked.table ≡ Some tables
   pub alone : tables.later ≡ []
-  pub refused : RefusesClass tables told told' 0
+  pub place : ℕ
+  pub refused : RefusesClass tables told told' place
 
 -- Of several tables, the one of this name is the first that has a class that cannot stand in a ledger.
 pub record RefusesNames (asked : Asked) (told told' : Option (List Loaded)) (name : List ℕ)

@@ -4,11 +4,11 @@ ghost use Rattle.std.specs.Prelude.{OnOk, false, map};
 ghost use Rattle.fare_program.specs.Causes.{IsRightFault};
 ghost use Rattle.fare_program.specs.Fault.{status_of};
 ghost use Rattle.fare_program.specs.Options.{Asked};
-ghost use Rattle.fare_program.specs.inside.Tables.{IsRightLater, IsRightNamed, IsRightOfNext};
+ghost use Rattle.fare_program.specs.inside.Tables.{IsRightLater, IsRightNamed};
 ghost use Rattle.program_manners.specs.Loads.{Loaded, TellsOne};
 ghost use Rattle.program_manners.specs.TableLoads.{Follows, LoadsTables};
 ghost use Rattle.program_manners.specs.TableViews.{names_of};
-ghost use Rattle.program_manners.specs.TableWords.{date_fault, file_named, wrong_word};
+ghost use Rattle.program_manners.specs.TableWords.{TableNames, date_fault, file_named, wrong_word};
 
 use crate::fault::Fault;
 use crate::program::load_named;
@@ -76,8 +76,12 @@ fn load_next<'a, S: Source>(
         × TellsOne (S.loaded source.old) (S.loaded source.new) (Some (file_named word.entry.now)) text
         × Follows tables.fares word.entry.now text all.fares
         × (map (λ t. t.items) all.texts.items ≡ map (λ t. t.items) tables.texts.items ++ text ∷ [])) }
-    ensures right { IfErr result (IsRightOfNext tables.fares word.entry.now (S.loaded source.old)
-        (S.loaded source.new) (S.refused source.new)) }
+    ensures right { IfErr result (λ fault. (asked : Asked) (under : List ℕ → Option (List ℕ))
+        (told : Option (List Loaded)) (words : TableNames) (before behind texts : List (List ℕ))
+        → asked.table ≡ Some words → words.later ≡ before ++ word.entry.now ∷ behind
+        → LoadsTables (record { first = words.first; later = before }) told (S.loaded source.old)
+        texts tables.fares
+        → IsRightFault asked under told (S.loaded source.new) (S.refused source.new) fault) }
     ensures unwritten { IfErr result (λ fault. fault ≢ Fault.Write) }
     ensures status { IfErr result (λ fault. status_of fault ≡ 1) }
 {

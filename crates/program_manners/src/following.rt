@@ -97,7 +97,10 @@ impl fmt::Display for NamedClassLine<'_> {
 
     fn fmt<W: fmt::Write>(&self, f: &mut fmt::Formatter<W>) -> fmt::Result {
         let name = self.0;
-        write!(f, "fault: {name}: table has a class name that no ledger can have")
+        write!(
+            f,
+            "fault: {name}: table has a class name that no ledger can have"
+        )
     }
 }
 

@@ -82,17 +82,26 @@ impl<'a> TableWord<'a> {
         ensures date { result.date ≡ written_date word.entry.now }
     {
         let Some(start) = word.len().checked_sub(DATE_BYTES) else {
-            return TableWord { name: word, date: None };
+            return TableWord {
+                name: word,
+                date: None,
+            };
         };
         let Some((name, end)) = word.split_at_checked(start) else {
-            return TableWord { name: word, date: None };
+            return TableWord {
+                name: word,
+                date: None,
+            };
         };
         match written_in(end.as_bytes()) {
             Some(date) => TableWord {
                 name,
                 date: Some(date),
             },
-            None => TableWord { name: word, date: None },
+            None => TableWord {
+                name: word,
+                date: None,
+            },
         }
     }
 }

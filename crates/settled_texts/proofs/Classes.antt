@@ -1,7 +1,9 @@
 -- Classes that are kept of riders.
 use Rattle.std.proofs.Common.{◌≡◌, ◌∙◌, ℕ, List, Bool, true, false, Option, Some, None, refl, sym}
-use Rattle.std.proofs.Common.{ap, subst, [], ◌∷◌, ◌++◌, ◌+◌, arith, cond, drop, length, take}
-use Rattle.std.proofs.lemmas.List.{take_all, take_more}
+use Rattle.std.proofs.Common.{ap, subst, [], ◌∷◌, ◌++◌, ◌+◌, ◌<◌, All, add-one, arith, cond}
+use Rattle.std.proofs.Common.{drop, get_or, length, map, suc, take, zero}
+use Rattle.std.proofs.lemmas.Bool.{cases_lt}
+use Rattle.std.proofs.lemmas.List.{get_or-take, length-take-le, take_all, take_more}
 use Rattle.std.proofs.lemmas.Option.{get_or_from_slice_get, slice_get_within}
 use Rattle.fare_table.specs.Fares.{Fares}
 use Rattle.fare_table.specs.TableMeaning.{TableMeaning}
@@ -167,3 +169,35 @@ all_trees fares (first ∷ rest) text tree trees place long end at is are =
     let all : take place fares.later ≡ fares.later = take_all place fares.later (omega (arith, end)) in
     let texts : take place rest ≡ rest = take_all place rest (omega (arith, end, long)) in
     (ap parse_document same ∙ is, rw (texts, all) at are)
+
+-- what stands at a place of a list is got there of what is made of each
+pub at_place : {A B : Type 0} (f : A → B) (xs : List A) (place : ℕ) (x : A) → place < length xs
+    → x ≡ get_or xs place x → slice_get (map f xs) place ≡ Some (f x)
+at_place f [] place x within is = absurd (omega (arith, within))
+at_place f (one ∷ xs) zero x within is = ap (λ y. Some (f y)) (sym is)
+at_place f (one ∷ xs) (suc place) x within is = at_place f xs place x (omega (arith, within)) is
+
+-- the same behind the first one
+pub behind_first : {B : Type 0} (xs : List B) (place : ℕ) (x : B)
+    → slice_get xs (place + 1) ≡ Some x → slice_get (drop 1 xs) place ≡ Some x
+behind_first [] place x is = absurd (cc)
+behind_first (one ∷ xs) place x is = rw (add-one) at is
+
+-- what holds of the first texts, and of the next one
+pub plain_more : (P : List ℕ → Type 0) (texts : List (List ℕ)) (place : ℕ) (text : List ℕ)
+    → slice_get texts place ≡ Some text
+    → ((k : ℕ) (d : List ℕ) → k < place → P (get_or texts k d)) → P text
+    → (k : ℕ) (d : List ℕ) → k < place + 1 → P (get_or texts k d)
+plain_more P texts place text at before is k d below =
+    elim (cases_lt k place)
+    [ inl less ↦ before k d less
+    | inr more ↦ subst P
+    (sym (get_or_from_slice_get texts place text d at)
+    ∙ ap (λ (n : ℕ). get_or texts n d) (omega (arith, more, below))) is ]
+
+-- each text before a place is plain
+pub plain_before : (P : List ℕ → Type 0) (texts : List (List ℕ)) (place : ℕ)
+    → ((k : ℕ) (d : List ℕ) → k < place → P (get_or texts k d)) → All P (take place texts)
+plain_before P texts place before k d below =
+    let less : k < place = omega (arith, below, length-take-le place texts) in
+    subst P (sym (get_or-take place texts k d less)) (before k d less)

@@ -355,7 +355,10 @@ impl ClassNames {
         };
         for place in 0..fares.later_len() {
             let (from, _tariff) = fares.later(place);
-            names = next_names(alloc, names, from, place + 1, &texts[place + 1])?;
+            names = match next_names(alloc, names, from, place + 1, &texts[place + 1]) {
+                Ok(more) => more,
+                Err(wrong) => return Err(wrong),
+            };
         }
         Ok(names)
     }

@@ -1,12 +1,11 @@
 -- Causes of faults: what private functions alone cite.
 use Rattle.std.specs.Prelude.{◌≡◌, ◌<◌, ℕ, List, Option, Bool, false}
 use Rattle.program_manners.specs.Loads.{Loaded}
-use Rattle.program_manners.specs.Refusals.{IsFirstTableFault}
 use Rattle.program_manners.specs.declared.loading.LoadFault.{LoadFault}
-use Rattle.fare_program.specs.Causes.{HasOtherNames, IsRightFault}
+use Rattle.fare_program.specs.Causes.{IsRightFault}
 use Rattle.fare_program.specs.Options.{Asked}
 use Rattle.fare_program.specs.declared.fault.Fault.{Fault}
-use Rattle.fare_program.specs.declared.fault.Fault.TheVariants.{Table, ClassName, Uploads, Gather, Write, NoMemory}
+use Rattle.fare_program.specs.declared.fault.Fault.TheVariants.{Uploads, Gather, Write, NoMemory}
 
 -- a write failed, or memory was refused
 abbrev pub IsOfOutput : Fault → Type 0
@@ -29,10 +28,3 @@ abbrev pub IsRightAlways : Asked → Fault → Type 0
 IsRightAlways asked fault = (under : List ℕ → Option (List ℕ))
     (told told' : Option (List Loaded)) (refused : Option (Option (List ℕ) × LoadFault))
     → IsRightFault asked under told told' refused fault
-
--- a fault of a table's text is its first one, or a class's name in it can stand in no ledger
-abbrev pub IsRightOfText : List ℕ → Fault → Type 0
-IsRightOfText text (Table fault) = IsFirstTableFault text fault
-IsRightOfText text ClassName = HasOtherNames text
-IsRightOfText text NoMemory = Unit {0}
-IsRightOfText text fault = ⊥

@@ -1,22 +1,15 @@
 -- Fare tables that are loaded one after another: what private functions alone cite.
-use Rattle.std.specs.Prelude.{◌≡◌, ◌≢◌, ◌∷◌, [], ℕ, Bool, true, false, List, Option, Some, map}
+use Rattle.std.specs.Prelude.{◌≡◌, ◌≢◌, ◌∷◌, [], ℕ, Bool, true, false, List, Some, map}
 use Rattle.std.specs.Prelude.{slice_get}
-use Rattle.fare_table.specs.Fares.{Fares}
 use Rattle.fare_table.specs.declared.fault.TableFault.{TableFault}
 use Rattle.fare_table.specs.declared.fault.TableFault.TheVariants as table
-use Rattle.program_manners.specs.Loads.{Loaded, TellsOne}
-use Rattle.program_manners.specs.NextFaults.{IsRightNext}
-use Rattle.program_manners.specs.Refusals.{IsFirstTableFault, TellsRefusal}
-use Rattle.program_manners.specs.TableLoads.{CannotFollow}
-use Rattle.program_manners.specs.TableWords.{TableNames, file_named, written_date}
+use Rattle.program_manners.specs.TableWords.{TableNames, file_named}
 use Rattle.program_manners.specs.declared.following.NextFault.{NextFault}
 use Rattle.program_manners.specs.declared.following.NextFault.TheVariants as next
-use Rattle.program_manners.specs.declared.loading.LoadFault.{LoadFault}
-use Rattle.program_manners.specs.declared.table_words.WrittenDate.{WrittenDate}
 use Rattle.settled_texts.specs.declared.class_names.ClassFault.TheVariants as class
 use Rattle.settled_texts.specs.declared.class_names.WrongNames.{WrongNames}
 use Rattle.fare_program.specs.declared.fault.Fault.{Fault}
-use Rattle.fare_program.specs.declared.fault.Fault.TheVariants.{ClassName, File, Follow, NamedClass}
+use Rattle.fare_program.specs.declared.fault.Fault.TheVariants.{ClassName, Follow, NamedClass}
 use Rattle.fare_program.specs.declared.fault.Fault.TheVariants.{NamedTable, NoMemory, Table}
 
 -- the fault of a table's text, by its file's name if it is not the only table
@@ -33,22 +26,6 @@ IsRightLater word name (next.Table fault) told = IsRightNamed name false fault t
 IsRightLater word name (next.Follow fault) (Follow line) =
     (line.word.now ≡ word) × (line.fault ≡ fault)
 IsRightLater word name (next.Follow fault) _ = ⊥
-
--- The fault of a table behind these fares is the right one: its file was not loaded, its text is no
--- table, or the table cannot follow.
-abbrev pub IsRightOfNext : Fares → List ℕ → Option (List Loaded) → Option (List Loaded)
-    → Option (Option (List ℕ) × LoadFault) → Fault → Type 0
-IsRightOfNext fares word told told' refused (File file) =
-    (file.name.now ≡ file_named word) × TellsRefusal refused file.name.now file.fault
-IsRightOfNext fares word told told' refused (NamedTable line) =
-    (text : List ℕ) × (line.name.now ≡ file_named word)
-    × TellsOne told told' (Some (file_named word)) text × IsFirstTableFault text line.fault
-IsRightOfNext fares word told told' refused (Follow line) =
-    (text : List ℕ) × (date : WrittenDate) × (line.word.now ≡ word)
-    × (written_date word ≡ Some date) × TellsOne told told' (Some (file_named word)) text
-    × CannotFollow fares date text line.fault
-IsRightOfNext fares word told told' refused NoMemory = Unit {0}
-IsRightOfNext fares word told told' refused _ = ⊥
 
 -- the fault of a class that the table at this place names: by the name of the table's file if there
 -- are several tables

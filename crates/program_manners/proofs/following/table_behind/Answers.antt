@@ -1,4 +1,4 @@
-use Rattle.std.proofs.Common.{◌≡◌, ◌∙◌, ap}
+use Rattle.std.proofs.Common.{◌∙◌, ap}
 use Rattle.std.specs.Prelude.{ℤ, pos}
 use Rattle.jiff_core.specs.Calendar.{days_from_civil}
 use Rattle.fare_table.specs.ClockView.{ClockView}

@@ -1,5 +1,4 @@
-use Rattle.std.proofs.Common.{◌≡◌, ◌∙◌, ◌<◌, Some, None, ap, arith, drop, refl, sym, take, ℕ}
-use Rattle.std.specs.Prelude.{length}
+use Rattle.std.proofs.Common.{◌∙◌, ap, arith, drop, sym, take}
 use Rattle.std.proofs.lemmas.Bool.{true≢false}
 use Rattle.program_manners.specs.TableWords.{written_date, written_in}
 use Rattle.program_manners.proofs.DatedWords.{cut_name, short_word, uncut_word, whole_name}
