@@ -1,7 +1,7 @@
 #!/usr/bin/env python3
 """Checks a ledger under a fare table, and a report against it (`-`: standard input):
 
-    check_ledger.py [--all] [--report REPORT] --table TABLE LEDGER [--uploads FILE...]
+    check_ledger.py [--all] [--report REPORT] --table TABLE... LEDGER [--uploads FILE...]
 
 Prints `legal N lines` with status 0. Else status 1 and the first wrong line: `line N wants LINE`,
 the line that the fare rules give that tap there, or `line N is no ledger line`; the standard error
@@ -18,6 +18,9 @@ first such line. With `--uploads` comes also `all places of the uploads`, or wit
 of `line N has another tap than upload U has at place P`, `line N has upload U place P again` and
 `no line has upload U place P`. Then the ledger has the taps of the uploads, each once. `--uploads`
 needs a traced ledger: `omny_audit` compares the taps of any.
+Several tables are named as `--table OLD.toml --table NEW.toml@2026-01-04`: NEW.toml is valid from
+00:00 of that day on, by the clocks of the tables' zone, else by UTC. A line `fault: ..` says why
+tables are refused, with status 2 if the words alone are wrong.
 Written from docs/RULES.md and docs/FORMATS.md alone, so that it shares no mistake with the program.
 It keeps one account and one line at a time, with `--report` the sums, with `--uploads` their taps.
 It needs Python 3.11 and nothing else."""
@@ -49,13 +52,15 @@ UPLOADS = re.compile(f"uploads ({NUMBER})\n")
 UPLOAD = re.compile(f"upload ({NUMBER}) (?:(?:posted|cut) ({NUMBER})|undrawn"
                     f"|refused ({NUMBER}) at ({NUMBER}) L[1-6])\n")
 WINDOW = re.compile("([1-9]|[12][0-9]|3[01]) days|calendar (day|week|month)")
+# a table's word that ends in the form of a date, which is the part behind its last `@`
+DATED = re.compile("(.*)@([0-9]{4}-[0-9]{2}-[0-9]{2})", re.DOTALL)
 # days of a POSIX rule that zoneinfo takes for others: `n`, and J59
 RULE_DAY = re.compile("(?<=.),(J59|[0-2]?[0-9]{1,2}|3[0-5][0-9]|36[0-5])"
                       "(/([+-]?)([0-9]{1,3})(?::([0-5][0-9]))?(?::([0-5][0-9]))?)?(?=,|$)")
 
 @lru_cache(1024)
 def day_ms(text):
-    """The first millisecond of a date. ValueError if no calendar has the date."""
+    """The first millisecond of a date in UTC. ValueError if no calendar has the date."""
     return (date.fromisoformat(text) - date(1970, 1, 1)).days * DAY_MS
 
 def moment_ms(text):
@@ -87,6 +92,10 @@ def zone_of(rule):
     file = (head(b"2") + bytes(7)) * 2 + b"\n" + rule.encode() + b"\n"
     return ZoneInfo.from_file(io.BytesIO(file))
 
+def midnight_ms(day, zone):
+    """Where a date begins in a zone."""
+    return int(datetime(day.year, day.month, day.day, tzinfo=zone).timestamp()) * 1000
+
 class Fares:
     """A fare table, as the rules ask it."""
     def __init__(self, table):
@@ -100,7 +109,8 @@ class Fares:
         self.classes = {k.lower(): c for k, c in table.get("riders", {}).items()}
         self.riders = {k: self.terms[c] for k, c in self.classes.items()}
         self.ranges = sorted((r["first"], r["last"], r["mode"]) for r in table["validators"])
-        self.zone = zone_of(table["zone"]) if "zone" in table else None
+        self.modes, self.zone_text = table["modes"], table.get("zone")
+        self.zone = None if self.zone_text is None else zone_of(self.zone_text)
         self.window = WINDOW.fullmatch(table.get("window", "7 days"))
         if self.window is None:
             raise ValueError(f"no rule has the window {table['window']!r}")
@@ -109,6 +119,10 @@ class Fares:
         """The mode of a validator, or None if the table does not know it."""
         at = bisect_right(self.ranges, validator, key=lambda r: r[0]) - 1
         return self.ranges[at][2] if at >= 0 and validator <= self.ranges[at][1] else None
+
+    def terms_of(self, token):
+        """The terms of a token's class."""
+        return self.riders.get(token, self.usual)
 
     def class_of(self, token):
         """The name of a token's class. ValueError if a ledger cannot have it."""
@@ -128,13 +142,72 @@ class Fares:
             day = (day.replace(day=1) + timedelta(days=31)).replace(day=1)
         else:
             day += timedelta(days=7 - day.weekday() if period == "week" else int(count or 1))
-        midnight = datetime(day.year, day.month, day.day, tzinfo=zone)
-        return max(start + 1, int(midnight.timestamp()) * 1000)
+        return max(start + 1, midnight_ms(day, zone))
+
+class Refused(Exception):
+    """Why tables are refused, and the status of that."""
+    def __init__(self, why, status):
+        super().__init__(why)
+        self.status = status
+
+class Tables:
+    """Fare tables, each from a moment on. The first one is valid from the beginning."""
+    def __init__(self, tables, starts=()):
+        self.tables, self.starts = tables, list(starts)
+
+    def at(self, moment):
+        """The table that is valid at a moment."""
+        return self.tables[bisect_right(self.starts, moment)]
+
+def dates_of(words):
+    """The name of each table's file, and its date. Refused if a word has a wrong date, or none."""
+    dated = []
+    for word in words:
+        name, day = found.groups() if (found := DATED.fullmatch(word)) else (word, None)
+        if day and not "1970" <= day[:4] <= "2099":
+            raise Refused(f"--table {word}: a date is from 1970-01-01 to 2099-12-31", 2)
+        try:
+            day = day and date.fromisoformat(day)
+        except ValueError:
+            raise Refused(f"--table {word}: there is no such date", 2) from None
+        if day and not dated:
+            raise Refused(f"--table {word}: the first table has no date", 2)
+        if not day and dated:
+            raise Refused(f"--table {word}: a date is wanted, as {word}@2026-01-04", 2)
+        dated.append((name, day))
+    return dated
+
+def tables_of(words):
+    """The tables that words name. Refused if one cannot follow those before it."""
+    tables, starts = [], []
+    for word, (name, day) in zip(words, dates_of(words)):
+        with open(name, "rb") as file:
+            fares = Fares(tomllib.load(file))
+        if day:
+            start = midnight_ms(day, tables[0].zone or timezone.utc)
+            if start <= max([0, *starts]):
+                late = "a table before it is valid from the same date or a later one"
+                raise Refused(f"{word}: {late}", 1)
+            if fares.zone_text != tables[0].zone_text:
+                raise Refused(f"{word}: it names another zone", 1)
+            if fares.modes != tables[0].modes:
+                raise Refused(f"{word}: it has other modes", 1)
+            starts.append(start)
+        tables.append(fares)
+    return Tables(tables, starts)
+
+def tables_first(words):
+    """The words of tables that a command line begins with, and the words behind them."""
+    named = []
+    while words[:1] == ["--table"] and len(words) > 1:
+        named.append(words[1])
+        words = words[2:]
+    return named, words
 
 class Account:
-    """What the rules need of a token's earlier taps."""
-    def __init__(self, fares, token):
-        self.fares, self.terms, self.lines = fares, fares.riders.get(token, fares.usual), 0
+    """What the rules need of a token's earlier taps. Each tap is looked at under its table."""
+    def __init__(self, tables, token):
+        self.tables, self.token, self.lines = tables, token, 0
         self.last, self.last_text, self.mode = -1, "", None  # the last live tap
         self.ride, self.ride_text, self.given = -1, "", 0  # the last ride, and its transfers
         self.end, self.window, self.rides, self.cents = -1, "", 0, 0
@@ -142,34 +215,35 @@ class Account:
     def post(self, moment, text, validator):
         """The fields that a tap gets, from its line's number on."""
         self.lines += 1
-        mode = self.fares.mode_of(validator)
+        fares = self.tables.at(moment)
+        mode = fares.mode_of(validator)
         if mode is None:
             rest = ",unknown,0,,,,unknown,"
         elif moment <= self.last:
             rest = f"{mode},stale,0,,,,stale,{self.last_text}"
-        elif self.gives(moment, mode):
+        elif self.gives(fares, moment, mode):
             rest = f"{mode},transfer,0,,,,transfer,{self.ride_text}"
             self.last, self.last_text, self.mode = moment, text, mode
             self.given += 1
         else:
             self.last, self.last_text, self.mode = moment, text, mode
             self.ride, self.ride_text, self.given = moment, text, 0
-            rest = f"{mode},{self.charge(moment, text, mode)},"
+            rest = f"{mode},{self.charge(fares, moment, text, mode)},"
         return f"{self.lines},{text},{validator},{rest}\n"
 
-    def gives(self, moment, mode):
-        """Whether the last ride gives a transfer to a live tap."""
-        *_, transfers, time = self.terms
+    def gives(self, fares, moment, mode):
+        """Whether the last ride gives a transfer to a live tap, by the table of this tap."""
+        *_, transfers, time = fares.terms_of(self.token)
         return (self.given < transfers and moment - self.ride <= time
-                and (self.mode, mode) in self.fares.pairs)
+                and (self.mode, mode) in fares.pairs)
 
-    def charge(self, moment, text, mode):
-        """Answer, cents, window, ride and reason of a ride."""
+    def charge(self, fares, moment, text, mode):
+        """Answer, cents, window, ride and reason of a ride, by its table."""
         if moment >= self.end:
-            self.end = self.fares.window_end(moment)
+            self.end = fares.window_end(moment)
             self.window, self.rides, self.cents = f"{text},{moment_text(self.end)}", 0, 0
-        fare, fares, limit, ceiling, *_ = self.terms
-        fare = fares.get(mode, fare)
+        fare, of_modes, limit, ceiling, *_ = fares.terms_of(self.token)
+        fare = of_modes.get(mode, fare)
         left, self.rides = ceiling - self.cents, self.rides + 1
         if self.rides > limit:
             return f"capped,0,{self.window},,ride-limit"
@@ -250,15 +324,15 @@ def taps_of_upload(file):
 
 class Trace:
     """The columns of a traced ledger's lines, and the first that is wrong."""
-    def __init__(self, fares, uploads):
-        self.fares, self.wrong_class, self.wrong_place = fares, None, None
+    def __init__(self, tables, uploads):
+        self.tables, self.wrong_class, self.wrong_place = tables, None, None
         self.uploads = None if uploads is None else [taps_of_upload(file) for file in uploads]
         self.seen = [bytearray(len(taps)) for taps in self.uploads or []]
 
     def add(self, number, line, columns):
         """Compares the columns of a line that has a tap with the table and the uploads."""
         token, moment, _, validator, *_ = tap_in(line)
-        (name, upload, place), is_class = columns, self.fares.class_of(token)
+        (name, upload, place), is_class = columns, self.tables.at(moment).class_of(token)
         if name != is_class and not self.wrong_class:
             self.wrong_class = f"line {number} has another class than {is_class}"
         if self.uploads is None or self.wrong_place:
@@ -319,7 +393,7 @@ def tap_of(line):
         raise ValueError("a number or a moment is past its range")
     return token, moments[0], text, int(validator)
 
-def first_wrong(fares, file, sums, trace):
+def first_wrong(tables, file, sums, trace):
     """How many lines are right, what is wrong with the next, and why it is no ledger line. The lines
     that are right are added to the sums, if there are any, and their columns to the trace."""
     read = lambda: file.readline(256).decode("latin-1")  # no ledger line has as many bytes
@@ -334,7 +408,7 @@ def first_wrong(fares, file, sums, trace):
         except ValueError as why:
             return count, f"line {count + 2} is no ledger line", why
         if token != last:
-            account, last = Account(fares, token), token
+            account, last = Account(tables, token), token
         wanted = f"{token},{account.post(moment, text, validator)}"
         if line != wanted:
             return count, f"line {count + 2} wants {wanted[:-1]}", None
@@ -368,7 +442,7 @@ def tap_in(line):
     cents = int(cents[1]) if cents else 0
     return token, moment, text, int(validator), cents if cents < 2 ** 32 else 0
 
-def all_wrong(fares, file, sums, trace):
+def all_wrong(tables, file, sums, trace):
     """Prints each wrong line and the end. Gives whether no line is wrong. Each line that tells a tap
     is added to the sums as it should be, if there are any."""
     account, last, wrong, tokens, last_wrong, cents, wanted_cents = None, "", 0, 0, None, 0, 0
@@ -382,7 +456,7 @@ def all_wrong(fares, file, sums, trace):
         token, moment, text, validator, asked = tap
         falls = token < last
         if token != last:
-            account, last = Account(fares, token), token
+            account, last = Account(tables, token), token
         wanted = f"{token},{account.post(moment, text, validator)}"
         cents += asked
         wanted_cents += int(wanted.split(",")[6])
@@ -410,21 +484,20 @@ def main():
     goes_on = words[:1] == ["--all"]
     words = words[goes_on:]
     report = words[1] if words[:1] == ["--report"] and len(words) > 1 else None
-    words = words[2 if report is not None else 0:]
-    names = words[4:] if words[3:4] == ["--uploads"] and len(words) > 4 else None
-    words = words[:3] if names is not None else words
-    if len(words) != 3 or words[0] != "--table":
+    named, words = tables_first(words[2 if report is not None else 0:])
+    names = words[2:] if words[1:2] == ["--uploads"] and len(words) > 2 else None
+    words = words[:1] if names is not None else words
+    if len(words) != 1 or not named:
         sys.exit(print(__doc__, file=sys.stderr) or 2)
     try:
-        with open(words[1], "rb") as table, \
-                open(0 if words[2] == "-" else words[2], "rb") as file, \
+        tables, sums = tables_of(named), None if report is None else Sums()
+        with open(0 if words[0] == "-" else words[0], "rb") as file, \
                 open(os.devnull if report is None else report, "rb") as reported:
-            fares, sums = Fares(tomllib.load(table)), None if report is None else Sums()
-            ledger, trace = Untraced(file), Trace(fares, names and [read(name) for name in names])
+            ledger, trace = Untraced(file), Trace(tables, names and [read(name) for name in names])
             if goes_on:
-                wrong, why = "" if all_wrong(fares, ledger, sums, trace) else "wrong", None
+                wrong, why = "" if all_wrong(tables, ledger, sums, trace) else "wrong", None
             else:
-                count, wrong, why = first_wrong(fares, ledger, sums, trace)
+                count, wrong, why = first_wrong(tables, ledger, sums, trace)
                 print(wrong or f"legal {count} lines")
             if names and not ledger.is_traced:
                 raise ValueError("--uploads needs a traced ledger")
@@ -433,6 +506,8 @@ def main():
             if sums and not wrong:
                 wrong = wrong_in_report(sums, reported)
                 print(wrong or "report of the ledger")
+    except Refused as why:
+        sys.exit(print(f"fault: {why}", file=sys.stderr) or why.status)
     except (OSError, ValueError, LookupError, TypeError, AttributeError) as why:
         sys.exit(f"fault: {type(why).__name__} {why}")
     sys.exit(f"fault: {why}" if why else bool(wrong))

@@ -1,15 +1,17 @@
 #!/usr/bin/env python3
-"""Makes ledgers to test with: make_ledger.py --table TABLE UPLOAD.. or make_ledger.py --week DIR N
+"""Makes ledgers to test with: make_ledger.py --table TABLE.. UPLOAD.. or make_ledger.py --week DIR N
 
 With uploads it prints the ledger of their taps, posted in order, as `omny_cli --ledger` does with
-one worker. With --week it writes DIR/table.toml, under a zone, and DIR/ledger.csv of N riders, some
-twenty taps each, over the week in which New York's clocks changed: every reason is in it.
+one worker. Several tables are named as check_ledger.py takes them. With --week it writes
+DIR/table.toml, under a zone, and DIR/ledger.csv of N riders, some twenty taps each, over the week in
+which New York's clocks changed: every reason is in it.
 """
 import random, sys, tomllib
 from collections import defaultdict
 from itertools import chain
 sys.dont_write_bytecode = True
-from check_ledger import HEAD, Account, Fares, moment_text, read, taps_of_upload
+from check_ledger import HEAD, Account, Fares, Refused, Tables, moment_text, read, tables_first, \
+    tables_of, taps_of_upload
 
 WEEK_START, HOUR_MS = 1_761_537_600_000, 3_600_000  # 2025-10-27, midnight in New York
 TABLE = '''zone = "EST5EDT,M3.2.0,M11.1.0"
@@ -58,14 +60,14 @@ def week_of(rnd, riders):
                 yield token, at - late, place
 
 
-def write_ledger(fares, taps, file):
+def write_ledger(tables, taps, file):
     """Posts the taps and writes the ledger."""
     of = defaultdict(list)
     for token, moment, validator in taps:
         of[token].append((moment, validator))
     file.write(HEAD)
     for token in sorted(of):
-        account = Account(fares, token)
+        account = Account(tables, token)
         for moment, validator in of[token]:
             file.write(f"{token},{account.post(moment, moment_text(moment), validator)}")
 
@@ -74,10 +76,13 @@ def main():
     if len(sys.argv) < 3 or sys.argv[1] not in ("--table", "--week"):
         sys.exit(__doc__)
     if sys.argv[1] == "--table":
-        with open(sys.argv[2], "rb") as table:
-            fares = Fares(tomllib.load(table))
-        taps = chain.from_iterable(taps_of_upload(read(name)) for name in sys.argv[3:])
-        write_ledger(fares, ((tap[0].hex(), *tap[1:]) for tap in taps), sys.stdout)
+        named, names = tables_first(sys.argv[1:])
+        try:
+            tables = tables_of(named)
+        except Refused as why:
+            sys.exit(print(f"fault: {why}", file=sys.stderr) or why.status)
+        taps = chain.from_iterable(taps_of_upload(read(name)) for name in names)
+        write_ledger(tables, ((tap[0].hex(), *tap[1:]) for tap in taps), sys.stdout)
         return
     taps = list(week_of(random.Random(1), int(sys.argv[3])))
     reduced = sorted({token for token, _, _ in taps if token[0] == "0"})
@@ -85,7 +90,7 @@ def main():
     with open(f"{sys.argv[2]}/table.toml", "w") as table:
         table.write(text)
     with open(f"{sys.argv[2]}/ledger.csv", "w") as file:
-        write_ledger(Fares(tomllib.loads(text)), taps, file)
+        write_ledger(Tables([Fares(tomllib.loads(text))]), taps, file)
 
 
 if __name__ == "__main__":
