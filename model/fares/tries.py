@@ -4,7 +4,8 @@
  account     the account's few numbers give what the definitions say of the whole list
  old         with one transfer within two hours and one fare above 0, replies, transfers' rides and
              reasons for no transfer are those of the rule before
- limits      no window has more paid rides or cents than the highest limit of its rides
+ limits      no window has more paid rides or cents than the highest limit of its rides, and after
+             each ride no more than the greater of what it had before and this ride's limit
  shares      the cents and paid rides of all replies are those of all windows
  higher      no higher fare, ride limit or ceiling makes a list cheaper
  dates       rules that agree before a date give the same replies before it
@@ -75,6 +76,12 @@ def one_round(seed):
     for window, of in zip(cut, by_window):
         assert sum(one[2] is not None for one in of) <= max(rules.terms(r)[1] for r in window), "limits"
         assert cents_of(of) <= max(rules.terms(r)[2] for r in window), "limits"
+        paid = cents = 0
+        for ride, one in zip(window, of):
+            _, limit, ceiling = rules.terms(ride)
+            was = paid, cents
+            paid, cents = paid + (one[2] is not None), cents + (one[2] or 0)
+            assert paid <= max(was[0], limit) and cents <= max(was[1], ceiling), "limits"
     assert sum(cents for _, cents in said) == sum(map(cents_of, by_window)), "shares"
     assert [s for s in said if s[0] in ("paid", "capped")] == [ride_reply(o) for w in by_window for o in w], "shares"
 
