@@ -15,7 +15,7 @@
 # make wrong    all wrong bodies, those in wrong/ too: each must be refused by the function that it
 #               changes. Some crates alone: make wrong CRATES="tap_views fare_table"
 # make model    the turn protocol of a shared book in Spin: no worker sleeps for ever, and one at a
-#               time has the book. The fare rule as a program, on random lists of taps.
+#               time has the book. The fare rule as a program, on random lists of taps and tables.
 #               model/README.md says what the models have
 # make hostile  memory, reads, writes, threads and the seed refused one at a time, in every place
 # make bench    one table of speed and memory, live and settled, beside Rust without proofs, within
