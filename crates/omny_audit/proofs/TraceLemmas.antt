@@ -164,7 +164,7 @@ wanted_same a b names uploads =
     ap (λ (n : ClassNames). wanted_with (class_by n) (uploads_in a.places)) names
     ∙ ap (wanted_with (class_by b.names)) uploads
   where
-    wanted_with : (List ℕ → List ℕ) → Option (List (List TapFields)) → Wanted
+    wanted_with : (ℕ → List ℕ → List ℕ) → Option (List (List TapFields)) → Wanted
     wanted_with classes uploads = record { classes = classes; uploads = uploads }
 
 -- places that are the same
@@ -390,28 +390,28 @@ reads_more (Some trace) file told (read, is) more = (
 )
 
 -- the fault of a line, by its class
-fault_at : ℕ → List ℕ → WrongClass
-fault_at line token = record { line = line; token = token }
+fault_at : ℕ → TapFields → WrongClass
+fault_at line tap = record { line = line; moment = tap.moment; token = tap.token }
 
-pub fault_none : (classes : List ℕ → List ℕ) (line : ℕ) (cut : TracedLine) (tap : TapFields)
-    → classes tap.token ≡ cut.class
+pub fault_none : (classes : ℕ → List ℕ → List ℕ) (line : ℕ) (cut : TracedLine) (tap : TapFields)
+    → classes tap.moment tap.token ≡ cut.class
     → class_fault classes line (Some (traced_by cut tap)) ≡ None
 unfolding fault_at
 fault_none classes line cut tap same =
-    ap (λ (b : Bool). if b then None else Some (fault_at line tap.token))
-        ((bytes_eq-Decides (classes tap.token) cut.class).1 same)
+    ap (λ (b : Bool). if b then None else Some (fault_at line tap))
+        ((bytes_eq-Decides (classes tap.moment tap.token) cut.class).1 same)
 
-pub fault_some : (classes : List ℕ → List ℕ) (line : ℕ) (cut : TracedLine) (tap : TapFields)
-    → (classes tap.token ≡ cut.class → ⊥)
+pub fault_some : (classes : ℕ → List ℕ → List ℕ) (line : ℕ) (cut : TracedLine) (tap : TapFields)
+    → (classes tap.moment tap.token ≡ cut.class → ⊥)
     → class_fault classes line (Some (traced_by cut tap)) ≡ Some
-        (record { line = line; token = tap.token })
+        (record { line = line; moment = tap.moment; token = tap.token })
 unfolding fault_at
-fault_some classes line cut tap other = by_test (bytes_eq (classes tap.token) cut.class) refl
+fault_some classes line cut tap other = by_test (bytes_eq (classes tap.moment tap.token) cut.class) refl
   where
-    by_test : (b : Bool) → bytes_eq (classes tap.token) cut.class ≡ b
-        → class_fault classes line (Some (traced_by cut tap)) ≡ Some (fault_at line tap.token)
-    by_test true same = absurd (other ((bytes_eq-Decides (classes tap.token) cut.class).0 same))
-    by_test false same = ap (λ (b : Bool). if b then None else Some (fault_at line tap.token)) same
+    by_test : (b : Bool) → bytes_eq (classes tap.moment tap.token) cut.class ≡ b
+        → class_fault classes line (Some (traced_by cut tap)) ≡ Some (fault_at line tap)
+    by_test true same = absurd (other ((bytes_eq-Decides (classes tap.moment tap.token) cut.class).0 same))
+    by_test false same = ap (λ (b : Bool). if b then None else Some (fault_at line tap)) same
 
 -- this is told of the columns, for some lines of the file
 abbrev ToldOf : Trace → Option PlaceFault → List ℕ → Bool → Option Trace → Bool → Type 0
