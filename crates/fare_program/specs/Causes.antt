@@ -2,14 +2,12 @@
 use Rattle.std.specs.Prelude.{◌≡◌, ◌≢◌, ◌⊎◌, ◌<◌, ℕ, List, [], ◌∷◌, Option, None, Some, true, false}
 use Rattle.std.specs.Prelude.{All, codes, length, map, slice_get, take}
 use Rattle.fare_table.specs.Fares.{Fares}
-use Rattle.fare_table.specs.declared.fault.TableFault.{TableFault}
-use Rattle.fare_table.specs.declared.follow_fault.FollowFault.{FollowFault}
 use Rattle.placed_files.specs.declared.unopened.Unopened.{Unopened}
 use Rattle.program_manners.specs.Loads.{Loaded}
-use Rattle.program_manners.specs.Refusals.{IsFirstTableFault, IsOneOf, RefusesTable, TellsRefusal}
-use Rattle.program_manners.specs.TableLoads.{CannotFollow, LoadsTables, LoadsUpTo}
-use Rattle.program_manners.specs.TableWords.{TableNames, file_named, written_date}
-use Rattle.program_manners.specs.declared.table_words.WrittenDate.{WrittenDate}
+use Rattle.program_manners.specs.Refusals.{IsOneOf, TellsRefusal}
+use Rattle.program_manners.specs.TableLoads.{LoadsTables}
+use Rattle.program_manners.specs.TableRefusals.{RefusesNamed, RefusesOnly, RefusesToFollow}
+use Rattle.program_manners.specs.TableWords.{TableNames, file_named}
 use Rattle.program_manners.specs.declared.loading.LoadFault.{LoadFault}
 use Rattle.sorted_bills.specs.Faults.{HaveTooManyTaps}
 use Rattle.settled_texts.specs.Classes.{has_plain_classes}
@@ -66,48 +64,6 @@ abbrev pub HasOtherNames : List ℕ → Type 0
 HasOtherNames text =
     (tree : Members) × (parse_document text ≡ Some tree) × (has_plain_classes tree ≡ false)
 
--- The one table's file was loaded, and its text is refused by this fault.
-pub record RefusesTheTable (asked : Asked) (told told' : Option (List Loaded)) (fault : TableFault)
-    : Type 0 where
-  pub tables : TableNames
-  pub are_named : asked.table ≡ Some tables
-  pub alone : tables.later ≡ []
-  pub refused : RefusesTable tables.first told told' fault
-
--- The file of a later table was loaded behind those of the tables before it. Its text is refused by
--- this fault.
-pub record RefusesLater (tables : TableNames) (told told' : Option (List Loaded)) (name : List ℕ)
-    (fault : TableFault) : Type 0 where
-  pub fares : Fares
-  pub word : List ℕ
-  pub text : List ℕ
-  pub up_to : LoadsUpTo tables told told' fares word text
-  pub named : name ≡ file_named word
-  pub first : IsFirstTableFault text fault
-
--- Of several tables, the file of this name is refused by this fault: that of the first, or of a later
--- one.
-pub record RefusesNamed (asked : Asked) (told told' : Option (List Loaded)) (name : List ℕ)
-    (fault : TableFault) : Type 0 where
-  pub tables : TableNames
-  pub are_named : asked.table ≡ Some tables
-  pub several : tables.later ≢ []
-  pub refused : ((name ≡ tables.first) × RefusesTable name told told' fault)
-      ⊎ RefusesLater tables told told' name fault
-
--- The table of this word was loaded behind those before it, and cannot follow them from its date on,
--- for this reason.
-pub record RefusesToFollow (asked : Asked) (told told' : Option (List Loaded)) (word : List ℕ)
-    (fault : FollowFault) : Type 0 where
-  pub tables : TableNames
-  pub are_named : asked.table ≡ Some tables
-  pub fares : Fares
-  pub text : List ℕ
-  pub up_to : LoadsUpTo tables told told' fares word text
-  pub date : WrittenDate
-  pub dated : written_date word ≡ Some date
-  pub wrong : CannotFollow fares date text fault
-
 -- All tables were loaded. A class that the text of this place names cannot stand in a ledger, and each
 -- class of the texts before it can.
 pub record RefusesClass (tables : TableNames) (told told' : Option (List Loaded)) (place : ℕ)
@@ -147,11 +103,14 @@ abbrev pub IsRightFault : Asked → (List ℕ → Option (List ℕ)) → Option 
     → Option (List Loaded) → Option (Option (List ℕ) × LoadFault) → Fault → Type 0
 IsRightFault asked under told told' refused (File file) =
     IsNameTold asked file.name.now × TellsRefusal refused file.name.now file.fault
-IsRightFault asked under told told' refused (Table fault) = RefusesTheTable asked told told' fault
+IsRightFault asked under told told' refused (Table fault) =
+    (tables : TableNames) × (asked.table ≡ Some tables) × RefusesOnly tables told told' fault
 IsRightFault asked under told told' refused (NamedTable line) =
-    RefusesNamed asked told told' line.name.now line.fault
+    (tables : TableNames) × (asked.table ≡ Some tables)
+    × RefusesNamed tables told told' line.name.now line.fault
 IsRightFault asked under told told' refused (Follow line) =
-    RefusesToFollow asked told told' line.word.now line.fault
+    (tables : TableNames) × (asked.table ≡ Some tables)
+    × RefusesToFollow tables told told' line.word.now line.fault
 IsRightFault asked under told told' refused ClassName =
     (asked.traced ≡ true) × RefusesTheNames asked told told'
 IsRightFault asked under told told' refused (NamedClass line) =

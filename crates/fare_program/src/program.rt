@@ -274,11 +274,29 @@ fn check_traced<'a>(options: &Options<'a>) -> Result<(), Fault<'a>>
     Ok(())
 }
 
-/// Looks for a mistake in what is asked for, and gives the token whose statement is, if any.
+/// Looks at the dates of the fare tables, behind all other mistakes in what is asked for.
+fn check_dates<'a>(options: &Options<'a>) -> Result<(), Fault<'a>>
+    ensures right { OnOk result (wrong_date (asked_of options.now) ≡ None) }
+    ensures fault { IfErr result (λ fault. MatchOption (wrong_date (asked_of options.now)) ⊥
+        (λ wrong. (fault_text fault ≡ codes "fault: " ++ date_text wrong.0 wrong.1)
+        × (status_of fault ≡ 2))) }
+{
+    let Some(tables) = &options.table else {
+        return Ok(());
+    };
+    match tables.wrong_word() {
+        Some(wrong) => Err(Fault::Date(wrong)),
+        None => Ok(()),
+    }
+}
+
+/// Looks for a mistake in what is asked for, and then for a wrong date of a fare table. Gives the
+/// token whose statement is asked for, if any.
 pub(crate) fn checked<'a>(options: &Options<'a>) -> Result<Option<Token>, Fault<'a>>
     ensures token { IfOk result (IsTokenIn (asked_of options.now).token) }
     ensures right { OnOk result (mistake (asked_of options.now) ≡ None) }
-    ensures fault { IfErr result (λ fault. mistake (asked_of options.now) ≡ Some fault) }
+    ensures dates { OnOk result (wrong_date (asked_of options.now) ≡ None) }
+    ensures fault { IfErr result (IsWhyOf (asked_of options.now)) }
     ensures status { IfErr result (λ fault. status_of fault ≡ 2) }
 {
     let token = asked_token(options)?;
@@ -297,23 +315,8 @@ pub(crate) fn checked<'a>(options: &Options<'a>) -> Result<Option<Token>, Fault<
     check_explain(options)?;
     check_sorted(options)?;
     check_traced(options)?;
+    check_dates(options)?;
     Ok(token)
-}
-
-/// Looks at the dates of the fare tables, behind all other mistakes in what is asked for.
-pub(crate) fn check_dates<'a>(options: &Options<'a>) -> Result<(), Fault<'a>>
-    ensures right { OnOk result (wrong_date (asked_of options.now) ≡ None) }
-    ensures fault { IfErr result (λ fault. MatchOption (wrong_date (asked_of options.now)) ⊥
-        (λ wrong. (fault_text fault ≡ codes "fault: " ++ date_text wrong.0 wrong.1)
-        × (status_of fault ≡ 2))) }
-{
-    let Some(tables) = &options.table else {
-        return Ok(());
-    };
-    match tables.wrong_word() {
-        Some(wrong) => Err(Fault::Date(wrong)),
-        None => Ok(()),
-    }
 }
 
 /// Lists the files, and says whether none of them has a layout fault. The whole text is made before
@@ -440,7 +443,6 @@ fn work<'a, R: Threads + Wait + RandomSource + Sync, D: Disk + Sync, S: Source, 
         Does (asked_of options.now) (D.bytes_under disk.now) (S.loaded source.old)
         (S.loaded source.new) (W.contents out.old) (W.contents out.new) well) }
     ensures right { OnOk result (mistake (asked_of options.now) ≡ None) }
-    ensures dates { OnOk result (wrong_date (asked_of options.now) ≡ None) }
 
     // Only a write that fails leaves something of a text behind, or a sorted file that is refused
     // after all were checked.
@@ -466,7 +468,6 @@ fn work<'a, R: Threads + Wait + RandomSource + Sync, D: Disk + Sync, S: Source, 
         → S.loaded source.new ≡ S.loaded source.old) }
 {
     let token = checked(options)?;
-    check_dates(options)?;
     if options.traced {
         return work_traced(rt, alloc, disk, options, source, out);
     }

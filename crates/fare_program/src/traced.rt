@@ -37,7 +37,7 @@ pub(crate) struct Riders {
 /// Why the names of classes were not read. The texts were read as fare tables before, so that each is
 /// TOML, and names a default class.
 fn of_names<'a>(words: &TableWords<'a>, wrong: WrongNames) -> Fault<'a>
-    requires { wrong.fault ≢ ClassFault.Text }
+    requires fault { wrong.fault ≢ ClassFault.Text }
     requires place { wrong.place ≤ length (names_of words.now).later }
     ensures unwritten { result ≢ Fault.Write }
     ensures status { status_of result ≡ 1 }

@@ -67,14 +67,15 @@ abbrev pub IsTracedAs : Option (List Loaded) → List ℕ → Bool → Type 0
 IsTracedAs None ledger traced = ⊤
 IsTracedAs (Some loads) ledger traced = traced ≡ has_traced_head ledger
 
--- If the ledger is traced, these are the classes that the text of the table names for tokens, and
--- these uploads.
+-- If the ledger is traced, these are the classes that the text of the table names for tokens, at each
+-- moment, and these uploads.
 abbrev pub AreWanted : List ℕ → Bool → Option (List (List TapFields)) → Option Wanted → Type 0
 AreWanted table false uploads wanted = wanted ≡ None
 AreWanted table true uploads None = ⊥
 AreWanted table true uploads (Some wanted) =
     (tree : Members) × (parse_document table ≡ Some tree)
-    × ((token : List ℕ) → class_of_token tree token ≡ Some (wanted.classes token))
+    × ((moment : ℕ) (token : List ℕ)
+    → class_of_token tree token ≡ Some (wanted.classes moment token))
     × (wanted.uploads ≡ uploads)
 
 -- The table was loaded, then the uploads, then the report, if it is named, and then all of the

@@ -55,24 +55,25 @@ abbrev pub lines_read : List ReadLine → List (List ℕ)
 lines_read [] = []
 lines_read (read ∷ earlier) = lines_read earlier ++ read.line ∷ []
 
--- the fault of a line that has another class than the one of its token
-abbrev pub class_fault : (List ℕ → List ℕ) → ℕ → Option TracedTap → Option WrongClass
+-- the fault of a line that has another class than the one of its token at its moment
+abbrev pub class_fault : (ℕ → List ℕ → List ℕ) → ℕ → Option TracedTap → Option WrongClass
 class_fault classes line None = None
-class_fault classes line (Some traced) = if bytes_eq (classes traced.tap.token) traced.class then None
-    else Some (record { line = line; token = traced.tap.token })
+class_fault classes line (Some traced) =
+    if bytes_eq (classes traced.tap.moment traced.tap.token) traced.class then None
+    else Some (record { line = line; moment = traced.tap.moment; token = traced.tap.token })
 
--- the first line that has another class than the one of its token
-abbrev pub wrong_class : (List ℕ → List ℕ) → List ReadLine → Option WrongClass
+-- the first line that has another class than the one of its token at its moment
+abbrev pub wrong_class : (ℕ → List ℕ → List ℕ) → List ReadLine → Option WrongClass
 wrong_class classes [] = None
 wrong_class classes (read ∷ earlier) =
     option_or (wrong_class classes earlier) (class_fault classes (length earlier + 1) read.traced)
 
 -- `all classes of the table`, or `line 4 has another class than adult`
-unfoldable pub class_text : (List ℕ → List ℕ) → Option WrongClass → List ℕ
+unfoldable pub class_text : (ℕ → List ℕ → List ℕ) → Option WrongClass → List ℕ
 class_text classes None = codes "all classes of the table\n"
 class_text classes (Some fault) =
     codes "line " ++ (decimal fault.line ++ (codes " has another class than "
-    ++ (classes fault.token ++ codes "\n")))
+    ++ (classes fault.moment fault.token ++ codes "\n")))
 
 -- whether the line has this upload and place
 abbrev pub has_place : ℕ → ℕ → Option TracedTap → Bool
@@ -147,10 +148,10 @@ abbrev pub place_text : Option (List (List TapFields)) → Option PlaceFault →
 place_text None fault = []
 place_text (Some uploads) fault = place_fault_text fault
 
--- what the columns of a traced ledger are held against: the class of each token, and the good taps of
--- each upload, if there are uploads
+-- what the columns of a traced ledger are held against: the class of each token at a moment, and the
+-- good taps of each upload, if there are uploads
 pub record Wanted : Type 0 where
-  pub classes : List ℕ → List ℕ
+  pub classes : ℕ → List ℕ → List ℕ
   pub uploads : Option (List (List TapFields))
 
 -- the lines of the file were read

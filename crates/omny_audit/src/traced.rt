@@ -32,11 +32,13 @@ use tap_views::TapFields;
 /// The most bytes of a traced ledger's line, with its line feed.
 const MAX_LINE_BYTES: usize = 352;
 
-/// The first line that has another class than the one of its token.
+/// The first line that has another class than the one of its token at its moment.
 #[derive(Clone, Copy)]
 pub(crate) struct WrongClass {
     /// The number of the line, from 1.
     line: u64,
+    /// The moment of its tap, in milliseconds since 1970-01-01T00:00Z.
+    moment: u64,
     /// The token.
     token: [u8; 16],
 }
@@ -117,11 +119,12 @@ fn class_fault(
     let Some(tap) = tap else {
         return None;
     };
-    if same_bytes(names.class_of(&tap.token).as_bytes(), cut.class) {
+    if same_bytes(names.class_of(tap.moment, &tap.token).as_bytes(), cut.class) {
         return None;
     }
     Some(WrongClass {
         line,
+        moment: tap.moment,
         token: tap.token,
     })
 }
@@ -414,7 +417,7 @@ fn class_line(
         None => format!(in alloc; "all classes of the table\n"),
         Some(wrong) => {
             let line = wrong.line;
-            let class = names.class_of(&wrong.token);
+            let class = names.class_of(wrong.moment, &wrong.token);
             format!(in alloc; "line {line} has another class than {class}\n")
         }
     }

@@ -5,4 +5,5 @@ pub mod LoadsOn
 pub mod NameLists
 pub mod NextTables
 pub mod Refusals
+pub mod TablesRefused
 pub mod WordLists

@@ -8,6 +8,7 @@ pub mod Loads
 pub mod NextFaults
 pub mod Refusals
 pub mod TableLoads
+pub mod TableRefusals
 pub mod TableViews
 pub mod TableWords
 pub mod TerminalLine

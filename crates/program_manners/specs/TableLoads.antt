@@ -1,5 +1,5 @@
 -- Fare tables that are loaded one after another.
-use Rattle.std.specs.Prelude.{◌≡◌, ◌≤◌, ◌++◌, ℕ, List, [], ◌∷◌, Option, Some}
+use Rattle.std.specs.Prelude.{◌≡◌, ◌≤◌, ◌++◌, ℕ, List, [], ◌∷◌, IsUtf8, Option, Some}
 use Rattle.fare_table.specs.Fares.{Fares}
 use Rattle.fare_table.specs.Following.{CanFollow, IsFollowFault, last_from, with_next}
 use Rattle.fare_table.specs.Meaning.{Means}
@@ -15,6 +15,7 @@ pub record FollowsFrom (fares : Fares) (date : WrittenDate) (text : List ℕ) (a
   pub from : ℕ
   pub begins : IsMidnight fares.zone date from
   pub next : Fares
+  pub utf8 : IsUtf8 text
   pub means : Means text next
   pub can : CanFollow fares from next
   pub all_are : all ≡ with_next fares from next.meaning
@@ -58,6 +59,7 @@ pub record LoadsTables (tables : TableNames) (told told' : Option (List Loaded))
   pub between : Option (List Loaded)
   pub told_first : TellsOne told between (Some tables.first) text
   pub alone : Fares
+  pub utf8 : IsUtf8 text
   pub means : Means text alone
   pub rest : List (List ℕ)
   pub loads_later : LoadsLater alone tables.later between told' rest fares

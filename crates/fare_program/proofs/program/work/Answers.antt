@@ -63,6 +63,12 @@ pub work_traced-requires-clause-table : goal.work_traced-requires-clause-table
 work_traced-requires-clause-table g c κs within =
     traced_table (asked_of c.args.options.now) c.in_ok-token.ensures.right c.if-options.true
 
+pub work_traced-requires-clause-dates : goal.work_traced-requires-clause-dates
+work_traced-requires-clause-dates g c κs within = c.in_ok-token.ensures.dates
+
+pub load_table-table-requires : goal.load_table-table-requires
+load_table-table-requires g c = c.in_ok-token.ensures.dates
+
 pub returns-then-options-clause-ok : goal.returns-then-options-clause-ok
 returns-then-options-clause-ok g c =
     IfOk-weaker c.work_traced.result _ _

@@ -1,5 +1,6 @@
-use Rattle.std.proofs.Common.{◌≡◌, ◌∙◌, Bool, Some, refl, rules, subst, sym, tests, true}
+use Rattle.std.proofs.Common.{◌≡◌, ◌∙◌, [], Bool, Some, refl, rules, subst, sym, tests, true}
 use Rattle.ledger_check.specs.Columns.{has_traced_head}
+use Rattle.settled_texts.proofs.Classes.{class_kept}
 use Rattle.omny_audit.specs.Program.{AreWanted}
 use Rattle.omny_audit.specs.Traced.{Wanted}
 use Rattle.omny_audit.specs.inside.Traced.{uploads_in, wanted_of}
@@ -14,7 +15,12 @@ returns-in-Ok-clause-wanted c =
     subst (λ (b : Bool). AreWanted c.args.table.now b uploads (Some (wanted_of c.new.result.so_far)))
     (sym traced)
     (subst (λ (w : Wanted). AreWanted c.args.table.now true uploads (Some w))
-    (sym c.new.ensures.wanted) (named.0, named.1, named.2, refl))
+    (sym c.new.ensures.wanted) (
+      named.0,
+      named.1,
+      λ moment token. class_kept c.in-Ok.names named.0 [] named.2 moment token,
+      refl,
+    ))
 
 pub returns-in-Err-clause-right : goal.returns-in-Err-clause-right
 returns-in-Err-clause-right c = c.of_names.ensures.right c.args.table.now (λ is.
