@@ -4,12 +4,10 @@ use Rattle.std.specs.Prelude.{MatchBool, Option, None, Some}
 use Rattle.std.specs.Io.KnownBytes.{Appends, Keeps}
 use Rattle.clap.specs.Words.{Text}
 use Rattle.fare_table.specs.Fares.{Fares}
-use Rattle.fare_table.specs.Meaning.{Means}
 use Rattle.ledger_check.specs.Balances.{AreGoodFields}
 use Rattle.ledger_check.specs.Columns.{has_traced_head}
-use Rattle.settled_texts.specs.Classes.{class_of_token}
+use Rattle.settled_texts.specs.Classes.{AreTrees, class_of_token, tree_at}
 use Rattle.toml.specs.Data.{Members}
-use Rattle.toml.specs.Parse.{parse_document}
 use Rattle.tap_views.specs.declared.encoder.TapFields.{TapFields}
 use Rattle.omny_audit.specs.Reports.{IsAudit, IsRightAudit}
 use Rattle.omny_audit.specs.Fault.{IsRightFault, audit_fault_text, is_quiet, is_unwritten}
@@ -18,15 +16,9 @@ use Rattle.fare_texts.specs.WrittenOut.{Begins}
 use Rattle.omny_audit.specs.Traced.{ReadLine, Wanted}
 use Rattle.program_manners.specs.Loads.{Loaded, Tells, TellsOne}
 use Rattle.program_manners.specs.LineWritten.{LineWritten}
+use Rattle.program_manners.specs.TableLoads.{LoadsTables}
 use Rattle.program_manners.specs.declared.loading.LoadFault.{LoadFault}
 use Rattle.omny_audit.specs.declared.fault.Fault.{Fault}
-
--- The file of this name was loaded, and its text means these fares.
-pub record LoadsRequiredTable (name : Text) (told told' : Option (List Loaded)) (fares : Fares)
-    : Type 0 where
-  pub bytes : List ℕ
-  pub told_is : TellsOne told told' (Some name) bytes
-  pub means : Means bytes fares
 
 -- A file of each of these names was loaded, in their order.
 pub record LoadsNamedFiles (names : List Text) (told told' : Option (List Loaded))
@@ -67,18 +59,19 @@ abbrev pub IsTracedAs : Option (List Loaded) → List ℕ → Bool → Type 0
 IsTracedAs None ledger traced = ⊤
 IsTracedAs (Some loads) ledger traced = traced ≡ has_traced_head ledger
 
--- If the ledger is traced, these are the classes that the text of the table names for tokens, at each
+-- If the ledger is traced, these are the classes that the texts of the tables name for tokens at each
 -- moment, and these uploads.
-abbrev pub AreWanted : List ℕ → Bool → Option (List (List TapFields)) → Option Wanted → Type 0
-AreWanted table false uploads wanted = wanted ≡ None
-AreWanted table true uploads None = ⊥
-AreWanted table true uploads (Some wanted) =
-    (tree : Members) × (parse_document table ≡ Some tree)
+abbrev pub AreWanted : Fares → List (List ℕ) → Bool → Option (List (List TapFields)) → Option Wanted
+    → Type 0
+AreWanted fares texts false uploads wanted = wanted ≡ None
+AreWanted fares texts true uploads None = ⊥
+AreWanted fares texts true uploads (Some wanted) =
+    (tree : Members) × (later : List (ℕ × Members)) × AreTrees fares texts tree later
     × ((moment : ℕ) (token : List ℕ)
-    → class_of_token tree token ≡ Some (wanted.classes moment token))
+    → class_of_token (tree_at tree later moment) token ≡ Some (wanted.classes moment token))
     × (wanted.uploads ≡ uploads)
 
--- The table was loaded, then the uploads, then the report, if it is named, and then all of the
+-- The tables were loaded, then the uploads, then the report, if it is named, and then all of the
 -- ledger. The text is what is told of the ledger beside the good taps of the uploads, if uploads are
 -- named, and of the report. It says that all is well, or not.
 pub record HasFound (asked : AuditAsked) (told told' : Option (List Loaded)) (text : List ℕ)
@@ -87,7 +80,8 @@ pub record HasFound (asked : AuditAsked) (told told' : Option (List Loaded)) (te
   pub after_uploads : Option (List Loaded)
   pub after_report : Option (List Loaded)
   pub fares : Fares
-  pub loads_table : LoadsRequiredTable asked.table told after_table fares
+  pub texts : List (List ℕ)
+  pub loads_tables : LoadsTables asked.table told after_table texts fares
   pub uploads : List (List ℕ)
   pub loads_uploads : LoadsNamedFiles asked.uploads after_table after_uploads uploads
   pub good : List TapFields
@@ -98,12 +92,12 @@ pub record HasFound (asked : AuditAsked) (told told' : Option (List Loaded)) (te
   pub loads_report : LoadsReport asked.report after_uploads after_report report
   pub ledger : List ℕ
   pub loads_ledger : TellsOne after_report told' asked.ledger ledger
-  -- a traced ledger's columns are held against the classes that the table's text names, and against
+  -- a traced ledger's columns are held against the classes that the tables' texts name, and against
   -- the places of the uploads' taps, if uploads are named
   pub traced : Bool
   pub is_traced : IsTracedAs after_report ledger traced
   pub wanted : Option Wanted
-  pub are_wanted : AreWanted loads_table.bytes traced (compared asked.uploads lists) wanted
+  pub are_wanted : AreWanted fares texts traced (compared asked.uploads lists) wanted
   pub read : List ReadLine
   pub audit : IsAudit asked.all fares wanted ledger read (compared asked.uploads good) report text
       well

@@ -6,9 +6,12 @@ ghost use Rattle.program_manners.specs.Refusals.{TellsRefusal};
 ghost use Rattle.program_manners.specs.Loads.{Loaded};
 ghost use Rattle.program_manners.specs.declared.loading.LoadFault.{LoadFault as ALoadFault};
 ghost use Rattle.program_manners.specs.Lines.{load_text};
+ghost use Rattle.program_manners.specs.TableWords.{TableNames};
 
 use fare_table::TableFault;
-use program_manners::{FileFault, LoadFault, TableLine};
+use program_manners::{
+    FileFault, FollowLine, LoadFault, NamedClassLine, NamedTableLine, TableLine, WrongWord,
+};
 use std::alloc::AllocError;
 use std::fmt;
 use tap_views::NoMemory;
@@ -20,10 +23,18 @@ pub(crate) enum Fault<'a> {
     File(FileFault<'a>),
     /// A read of the ledger failed.
     Ledger,
+    /// The word of a fare table has a wrong date, or none where one is wanted.
+    Date(WrongWord<'a>),
     /// The fare table's text is no table.
     Table(TableFault),
+    /// The text of one of several fare tables is no table.
+    NamedTable(NamedTableLine<'a>),
+    /// A fare table cannot follow those before it.
+    Follow(FollowLine<'a>),
     /// The fare table's text names a class that no traced ledger can have.
     ClassName,
+    /// The text of one of several fare tables names a class that no traced ledger can have.
+    NamedClass(NamedClassLine<'a>),
     /// A write failed.
     Write,
     /// Who reads the text has closed it.
@@ -38,7 +49,7 @@ impl<'a> Fault<'a> {
         ensures line { audit_fault_text result ≡ load_text name.entry.now fault }
         ensures named { IfSome (named_by result) (λ told. told ≡ name.entry.now) }
         ensures unwritten { is_unwritten result ≡ false }
-        ensures right { (table : List ℕ) (told after : Option (List Loaded))
+        ensures right { (table : TableNames) (told after : Option (List Loaded))
             (refused : Option (Option (List ℕ) × ALoadFault))
             → TellsRefusal refused name.entry.now fault
             → IsRightFault table told after refused result }
@@ -54,6 +65,8 @@ impl<'a> Fault<'a> {
             Fault::Closed => true,
             Fault::File(_) | Fault::Ledger | Fault::Table(_) => false,
             Fault::ClassName | Fault::Write | Fault::NoMemory => false,
+            Fault::Date(_) | Fault::NamedTable(_) => false,
+            Fault::Follow(_) | Fault::NamedClass(_) => false,
         }
     }
 }
@@ -96,6 +109,10 @@ impl fmt::Display for Fault<'_> {
             Fault::File(fault) => fault.fmt(f),
             Fault::Ledger => f.write_str("fault: cannot read the ledger"),
             Fault::Table(fault) => TableLine(*fault).fmt(f),
+            Fault::Date(wrong) => write!(f, "fault: {wrong}"),
+            Fault::NamedTable(line) => line.fmt(f),
+            Fault::Follow(line) => line.fmt(f),
+            Fault::NamedClass(line) => line.fmt(f),
             Fault::ClassName => {
                 f.write_str("fault: table has a class name that no ledger can have")
             }

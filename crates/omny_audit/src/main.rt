@@ -11,6 +11,7 @@
 //! | `source` | where the table, the uploads, the report and the ledger come from |
 //! | `files` | the files and the standard input of the system as a source |
 //! | `options` | the words of the command line, as `clap` reads them |
+//! | `tables` | fare tables that are loaded in the order of their words |
 //! | `text` | the lines of a finding |
 //! | `traced` | a traced ledger, read as a ledger, and its columns |
 //! | `output` | texts, written out |
@@ -30,6 +31,7 @@ mod output;
 mod program;
 mod report;
 mod source;
+mod tables;
 mod text;
 mod traced;
 

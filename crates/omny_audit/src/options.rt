@@ -6,13 +6,14 @@ ghost use Rattle.clap.specs.Words.{rows_of, rule_of};
 ghost use Rattle.omny_audit.specs.Options.{ParsesForAudit, audit_asked_by, not_dash, audit_program};
 ghost use Rattle.omny_audit.specs.inside.Options.{IsRightList, IsWrongList, are_input};
 ghost use Rattle.omny_audit.specs.inside.Options.{audit_asked_of};
-ghost use Rattle.omny_audit.specs.Options.{required_table_option};
+ghost use Rattle.omny_audit.specs.Options.{required_table_option, tables_or_none};
+ghost use Rattle.program_manners.specs.TableViews.{names_of};
 ghost use Rattle.program_manners.specs.ListWords.{list_asked, view_of};
 
 use clap::{Arg, ArgAction, ArgMatches, Command, Error};
 use program_manners::{
-    ListFault, ListWords, add_list_args, files_arg, flag_arg, flag_in, names_in, new_command,
-    option_arg, positional_arg,
+    ListFault, ListWords, TableWords, add_list_args, files_arg, flag_arg, flag_in, names_in,
+    new_command, option_arg, positional_arg, repeated_arg,
 };
 use std::alloc::{AllocError, Global};
 
@@ -77,8 +78,8 @@ Exit status:
 /// What the words ask for.
 #[derive(Drop)]
 pub(crate) struct Options<'a> {
-    /// The file of the fare table.
-    pub(crate) table: &'a str,
+    /// The words of the fare table and of those that follow it.
+    pub(crate) table: TableWords<'a>,
     /// Whether all wrong lines are asked for.
     pub(crate) all: bool,
     /// The files of the uploads whose taps the ledger should have; none asks for no such check.
@@ -111,7 +112,7 @@ fn table_arg<'a>(alloc: Global) -> Arg<'a>
     ensures rule { rule_of result ≡ required_table_option }
     ensures local { result.global ≡ false }
 {
-    option_arg(alloc, "table", "F", TABLE_HELP).required(true)
+    repeated_arg(alloc, "table", "F", TABLE_HELP).required(true)
 }
 
 /// The command line, as clap reads it.
@@ -158,6 +159,20 @@ fn ledger_in<'a>(named: Option<&'a str>) -> Option<&'a str>
     }
 }
 
+/// These words of `--table`. There is one at least on each command line.
+fn tables_of<'a>(alloc: Global, words: &[&'a str]) -> Result<TableWords<'a>, AllocError>
+    ensures { IfOk result (λ tables. names_of tables
+        ≡ tables_or_none (map (λ w. w.now) words.now)) }
+{
+    match TableWords::of(alloc, words)? {
+        Some(tables) => Ok(tables),
+        None => Ok(TableWords {
+            first: "",
+            later: Vec::new(alloc),
+        }),
+    }
+}
+
 impl<'a> Options<'a> {
     /// What the words ask for; else clap's error, which may be a call for help.
     pub(crate) fn read(alloc: Global, words: &'a [String]) -> Result<Options<'a>, Error>
@@ -167,8 +182,9 @@ impl<'a> Options<'a> {
         ensures kinds { FailsBy (fault_of audit_program (map string_bytes words.entry.now)) result }
     {
         let matches = matched(alloc, words)?;
+        let tables = names_in(alloc, &matches, "table")?;
         Ok(Options {
-            table: matches.get_str("table").unwrap_or(""),
+            table: tables_of(alloc, &tables)?,
             all: flag_in(&matches, "all"),
             uploads: names_in(alloc, &matches, "uploads")?,
             report: matches.get_str("report"),
