@@ -120,19 +120,25 @@ module _ (asked : Asked) (under : List ℕ → Option (List ℕ)) (told told' to
       → (fault : Fault) → IsClassFault tables wrong fault
       → IsRightFault asked under told told'' refused fault
   classes_are_right traced texts fares loads wrong at NoMemory is = tt
-  classes_are_right traced texts fares loads wrong at ClassName is = (traced, record {
-    tables = tables;
-    are_named = named;
-    alone = is.1;
-    place = wrong.place;
-    refused = refused_at texts fares loads wrong at is.0;
-  })
-  classes_are_right traced texts fares loads wrong at (NamedClass line) is = (traced, record {
-    tables = tables;
-    are_named = named;
-    several = is.1;
-    place = wrong.place;
-    named = rw named is.2;
-    refused = refused_at texts fares loads wrong at is.0;
-  })
+  classes_are_right traced texts fares loads wrong at ClassName is = (
+    traced,
+    record {
+      tables = tables;
+      are_named = named;
+      alone = is.1;
+      place = wrong.place;
+      refused = refused_at texts fares loads wrong at is.0;
+    },
+  )
+  classes_are_right traced texts fares loads wrong at (NamedClass line) is = (
+    traced,
+    record {
+      tables = tables;
+      are_named = named;
+      several = is.1;
+      place = wrong.place;
+      named = rw named is.2;
+      refused = refused_at texts fares loads wrong at is.0;
+    },
+  )
   classes_are_right traced texts fares loads wrong at _ is = absurd is.1

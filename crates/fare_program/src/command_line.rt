@@ -11,8 +11,8 @@ ghost use Rattle.program_manners.specs.Words.{list_option, null_flag};
 use crate::options::Options;
 use clap::{ArgAction, ArgMatches, Command, Error};
 use program_manners::{
-    TableWords, add_list_args, flag_arg, names_in, new_command, number_arg, option_arg, positional_arg,
-    repeated_arg,
+    TableWords, add_list_args, flag_arg, names_in, new_command, number_arg, option_arg,
+    positional_arg, repeated_arg,
 };
 use std::alloc::{AllocError, Global};
 

@@ -14,9 +14,7 @@ use crate::fault::Fault;
 use crate::program::load_named;
 use crate::source::Source;
 use fare_table::{FareTable, TableFault};
-use program_manners::{
-    FollowLine, NamedTableLine, NextFault, TableWord, TableWords, table_behind,
-};
+use program_manners::{FollowLine, NamedTableLine, NextFault, TableWord, TableWords, table_behind};
 use std::alloc::Global;
 use tap_views::NoMemory;
 

@@ -56,7 +56,7 @@ head_short = omega arith
 long_other : (line : List ℕ) → 352 < length line → untraced_by line None ≡ 10 ∷ []
 long_other line long =
     other_line line (λ is. let size = ap (λ (t : List ℕ). length t) is in let short = head_short in
-        omega (arith, long, size, short))
+    omega (arith, long, size, short))
 
 -- what a line tells, of which this was kept
 kept_long : (kept whole : List ℕ) → IsKeptOf kept whole → 352 < length kept → 352 < length whole
@@ -131,25 +131,25 @@ pub place_named : (places after : Places) (line : List ℕ) (traced : TracedTap)
     (read : List ReadLine) (number : ℕ) (finding : PlaceFinding)
     → HasPlaces (Some places) None read → number ≡ length read + 1
     → finding ≡ place_finding (tap_at (uploads_of places) traced.upload traced.place)
-        (is_named places traced.upload traced.place) traced.tap
+    (is_named places traced.upload traced.place) traced.tap
     → uploads_of after ≡ uploads_of places
     → (finding ≡ Right → (upload place : ℕ) → is_named after upload place
-        ≡ (is_named places upload place || is_place upload place traced.upload traced.place))
+    ≡ (is_named places upload place || is_place upload place traced.upload traced.place))
     → HasPlaces (Some after) (fault_by number traced.upload traced.place finding)
-        (record { line = line; traced = Some traced } ∷ read)
+    (record { line = line; traced = Some traced } ∷ read)
 place_named places after line traced read number finding has counted found same named = record {
   wrong_is = ap (λ (n : ℕ). fault_by n traced.upload traced.place finding) counted
       ∙ ap (fault_by (length read + 1) traced.upload traced.place) (found
       ∙ ap (λ (b : Bool). place_finding (tap_at (uploads_of places) traced.upload traced.place) b
-          traced.tap) (has.named refl traced.upload traced.place))
+      traced.tap) (has.named refl traced.upload traced.place))
       ∙ ap (λ (w : Option PlaceFault). option_or w (place_fault (uploads_of places) read
-          (length read + 1) (Some traced))) has.wrong_is
+      (length read + 1) (Some traced))) has.wrong_is
       ∙ ap (λ (u : List (List TapFields)). wrong_place u
-          (record { line = line; traced = Some traced } ∷ read)) (sym same);
+      (record { line = line; traced = Some traced } ∷ read)) (sym same);
   named = λ none upload place.
       named (right_of finding none) upload place
       ∙ ap (λ (b : Bool). b || is_place upload place traced.upload traced.place)
-          (has.named refl upload place);
+      (has.named refl upload place);
 }
   where
     right_of : (f : PlaceFinding) → fault_by number traced.upload traced.place f ≡ None → f ≡ Right
@@ -182,8 +182,11 @@ pub fault_behind : (uploads : List (List TapFields)) (named named' : ℕ → ℕ
     → IsFaultBehind uploads named wrong fault → IsFaultBehind uploads named' wrong fault
 fault_behind uploads named named' (Some wrong) fault same is = is
 fault_behind uploads named named' None None same is = λ upload place left.
-    is upload place (record { some = left.some; not_named = same refl upload place
-    ∙ left.not_named })
+    is upload place (record {
+      some = left.some;
+      not_named = same refl upload place
+          ∙ left.not_named;
+    })
 fault_behind uploads named named' None (Some (OtherTap line upload place)) same is = is
 fault_behind uploads named named' None (Some (Repeated line upload place)) same is = is
 fault_behind uploads named named' None (Some (NoLine upload place)) same is = record {
@@ -205,12 +208,15 @@ place_fault_of places wrong fault read has is =
 pub took_other : (so_far after : LinesRead) (kept whole : List ℕ) (read : List ReadLine)
     → HasLines so_far read
     → IsKeptOf kept whole → cut_line kept ≡ None → after.lines ≡ so_far.lines + 1
-        → after.wrong_class ≡ so_far.wrong_class
+    → after.wrong_class ≡ so_far.wrong_class
     → after.names ≡ so_far.names → HasPlaces after.places after.wrong_place read
     → HasLines after (record { line = whole; traced = None } ∷ read)
 took_other so_far after kept whole read has same none count class names places = record {
-  are = (has.are, subst (λ (c : Option TracedLine). TellsTracedTap c None)
-      (sym (kept_cut kept whole None same none)) refl);
+  are = (
+    has.are,
+    subst (λ (c : Option TracedLine). TellsTracedTap c None)
+        (sym (kept_cut kept whole None same none)) refl,
+  );
   count = let before = has.count in omega (arith, before, count);
   columns = record {
     class = class ∙ has.columns.class
@@ -223,24 +229,27 @@ took_other so_far after kept whole read has same none count class names places =
 pub took_cut : (so_far after : LinesRead) (kept whole : List ℕ) (cut : TracedLine)
     (traced : Option TracedTap) (read : List ReadLine)
     → HasLines so_far read → IsKeptOf kept whole → cut_line kept ≡ Some cut
-        → after.lines ≡ so_far.lines + 1
+    → after.lines ≡ so_far.lines + 1
     → after.wrong_class ≡ option_or so_far.wrong_class
-        (class_fault (class_by so_far.names) (so_far.lines + 1) traced)
+    (class_fault (class_by so_far.names) (so_far.lines + 1) traced)
     → after.names ≡ so_far.names → TellsTracedTap (Some cut) traced
     → HasPlaces after.places after.wrong_place (record { line = whole; traced = traced } ∷ read)
     → HasLines after (record { line = whole; traced = traced } ∷ read)
 took_cut so_far after kept whole cut traced read has same is count class names tells places = record {
-  are = (has.are, subst (λ (c : Option TracedLine). TellsTracedTap c traced)
-      (sym (kept_cut kept whole (Some cut) same is)) tells);
+  are = (
+    has.are,
+    subst (λ (c : Option TracedLine). TellsTracedTap c traced)
+        (sym (kept_cut kept whole (Some cut) same is)) tells,
+  );
   count = let before = has.count in omega (arith, before, count);
   columns = record {
     class = class
         ∙ ap (λ (w : Option WrongClass). option_or w
-            (class_fault (class_by so_far.names) (so_far.lines + 1) traced)) has.columns.class
+        (class_fault (class_by so_far.names) (so_far.lines + 1) traced)) has.columns.class
         ∙ ap (λ (n : ℕ). option_or (wrong_class (class_by so_far.names) read)
-            (class_fault (class_by so_far.names) (n + 1) traced)) has.count
+        (class_fault (class_by so_far.names) (n + 1) traced)) has.count
         ∙ ap (λ (n : ClassNames). option_or (wrong_class (class_by n) read)
-            (class_fault (class_by n) (length read + 1) traced)) (sym names);
+        (class_fault (class_by n) (length read + 1) traced)) (sym names);
     places = places;
   };
 }
@@ -249,7 +258,7 @@ took_cut so_far after kept whole cut traced read has same is count class names t
 abbrev pub Traced : Trace → List ℕ → List ℕ → List ℕ → List ℕ → Type 0
 Traced trace file told text text' =
     (more : List ℕ) × (read : List ReadLine) × (text' ≡ text ++ more) × HasTraced trace file
-        (told ++ more) read
+    (told ++ more) read
 
 pub traced_none : (trace : Trace) (file told text : List ℕ) (read : List ReadLine)
     → HasTraced trace file told read
@@ -273,7 +282,7 @@ traced_on middle after file front piece told text text' text'' before next = (
   subst (λ (f : List ℕ). HasTraced after f (told ++ (before.0 ++ next.0)) next.1)
       (append_assoc file front piece)
       (subst (λ (t : List ℕ). HasTraced after ((file ++ front) ++ piece) t next.1)
-          (append_assoc told before.0 next.0) next.3),
+      (append_assoc told before.0 next.0) next.3),
 )
 
 -- a piece that ends no line
@@ -312,7 +321,7 @@ took_line trace after file line told text text' read is ends none (next, same, h
         ∙ ap (λ (l : List ℕ). (lines_read read ++ l ∷ []) ++ lines_of more) (sym same);
     told = ap (λ (t : List ℕ). t ++ untraced_line (is.begun ++ line)) is.told
         ∙ ap (λ (t : List ℕ). untraced_lines (lines_read read) ++ t)
-            (sym (append-nil (untraced_line (is.begun ++ line))))
+        (sym (append-nil (untraced_line (is.begun ++ line))))
         ∙ sym (untraced-append (lines_read read) ((is.begun ++ line) ∷ []))
         ∙ ap (λ (l : List ℕ). untraced_lines (lines_read read ++ l ∷ [])) (sym same);
   },
@@ -327,7 +336,7 @@ kept_none kept begun (inr (left, right)) none = absurd
 abbrev pub Ended : Trace → List ℕ → List ℕ → List ℕ → List ℕ → Type 0
 Ended trace file told text text' =
     (more : List ℕ) × (read : List ReadLine) × (text' ≡ text ++ more) ×
-        (told ++ more ≡ untraced_lines (lines_of file))
+    (told ++ more ≡ untraced_lines (lines_of file))
     × AreLinesOf file read × HasColumns trace.so_far read
 
 pub ended_whole : (trace : Trace) (file told text : List ℕ) (read : List ReadLine)
@@ -338,7 +347,7 @@ ended_whole trace file told text read is none =
     let begun : is.begun ≡ [] = kept_none trace.begun.items is.begun is.kept none in
     let all : lines_of file ≡ lines_read read =
     ap lines_of (sym (append-nil file)) ∙ is.split []
-        ∙ ap (λ (b : List ℕ). lines_read read ++ lines_of (b ++ [])) begun ∙ nothing in (
+    ∙ ap (λ (b : List ℕ). lines_read read ++ lines_of (b ++ [])) begun ∙ nothing in (
       [],
       read,
       sym (append-nil text),
@@ -360,16 +369,19 @@ ended_cut trace after file told text text' read is some (next, same, has) writte
     ap lines_of (sym (append-nil file)) ∙ is.split []
     ∙ ap (λ (b : List ℕ). lines_read read ++ lines_of b) (append-nil is.begun)
     ∙ ap (λ (ls : List (List ℕ)). lines_read read ++ ls)
-        (lines-part is.begun is.lacks (some_begun trace.begun.items is.begun is.kept some)) in (
+    (lines-part is.begun is.lacks (some_begun trace.begun.items is.begun is.kept some)) in (
       untraced_line is.begun,
       next ∷ read,
       written,
       ap (λ (t : List ℕ). t ++ untraced_line is.begun) is.told
           ∙ ap (λ (t : List ℕ). untraced_lines (lines_read read) ++ t)
-              (sym (append-nil (untraced_line is.begun)))
+          (sym (append-nil (untraced_line is.begun)))
           ∙ sym (untraced-append (lines_read read) (is.begun ∷ [])) ∙ ap untraced_lines (sym all),
-      record { split = ap (λ (l : List ℕ). lines_read read ++ l ∷ []) same
-          ∙ sym all; are = has.are },
+      record {
+        split = ap (λ (l : List ℕ). lines_read read ++ l ∷ []) same
+            ∙ sym all;
+        are = has.are;
+      },
       has.columns,
     )
   where
@@ -399,12 +411,12 @@ pub fault_none : (classes : ℕ → List ℕ → List ℕ) (line : ℕ) (cut : T
 unfolding fault_at
 fault_none classes line cut tap same =
     ap (λ (b : Bool). if b then None else Some (fault_at line tap))
-        ((bytes_eq-Decides (classes tap.moment tap.token) cut.class).1 same)
+    ((bytes_eq-Decides (classes tap.moment tap.token) cut.class).1 same)
 
 pub fault_some : (classes : ℕ → List ℕ → List ℕ) (line : ℕ) (cut : TracedLine) (tap : TapFields)
     → (classes tap.moment tap.token ≡ cut.class → ⊥)
     → class_fault classes line (Some (traced_by cut tap)) ≡ Some
-        (record { line = line; moment = tap.moment; token = tap.token })
+    (record { line = line; moment = tap.moment; token = tap.token })
 unfolding fault_at
 fault_some classes line cut tap other = by_test (bytes_eq (classes tap.moment tap.token) cut.class) refl
   where
@@ -417,8 +429,8 @@ fault_some classes line cut tap other = by_test (bytes_eq (classes tap.moment ta
 abbrev ToldOf : Trace → Option PlaceFault → List ℕ → Bool → Option Trace → Bool → Type 0
 ToldOf trace fault file right o looked =
     (read : List ReadLine) × AreColumnsTold (wanted_by o) looked file read
-        (class_text (class_by trace.so_far.names) trace.so_far.wrong_class
-        ++ place_text (uploads_in trace.so_far.places) fault) right
+    (class_text (class_by trace.so_far.names) trace.so_far.wrong_class
+    ++ place_text (uploads_in trace.so_far.places) fault) right
 
 -- what is told of the columns, and whether they are right
 pub columns_told : (trace : Trace) (looked : Bool) (o : Option Trace) (file : List ℕ)
@@ -426,11 +438,11 @@ pub columns_told : (trace : Trace) (looked : Bool) (o : Option Trace) (file : Li
     → classes ≡ not (is_some trace.so_far.wrong_class) → places ≡ not (is_some fault)
     → right ≡ (classes && places)
     → ((read : List ReadLine) → HasPlaces trace.so_far.places trace.so_far.wrong_place read
-        → IsPlaceFault (uploads_in trace.so_far.places) read fault)
+    → IsPlaceFault (uploads_in trace.so_far.places) read fault)
     → (looked ≡ true → HasReadAll o file)
     → (read : List ReadLine) × AreColumnsTold (wanted_by o) looked file read
-        (class_text (class_by trace.so_far.names) trace.so_far.wrong_class
-        ++ place_text (uploads_in trace.so_far.places) fault) right
+    (class_text (class_by trace.so_far.names) trace.so_far.wrong_class
+    ++ place_text (uploads_in trace.so_far.places) fault) right
 columns_told trace looked o file fault right classes places is look of_classes of_places both found
     all = subst (λ (o : Option Trace). ToldOf trace fault file right o looked)
     (sym is)

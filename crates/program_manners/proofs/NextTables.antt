@@ -90,9 +90,13 @@ later_read fares [] told told' texts all (none, same, still) place text at =
     no_place k is = cc
 later_read fares (word ∷ words) told told' texts all
     (first, rest, between, next, loaded, follows, more, whole) zero text at =
-    let same : first ≡ text = some_same (rw whole at at) in
-    (subst IsUtf8 same follows.follows.utf8, (follows.follows.next.meaning,
-    ap meaning_in (sym same) ∙ follows.follows.means.0))
+    let same : first ≡ text = some_same (rw whole at at) in (
+      subst IsUtf8 same follows.follows.utf8,
+      (
+        follows.follows.next.meaning,
+        ap meaning_in (sym same) ∙ follows.follows.means.0,
+      ),
+    )
   where
     some_same : Some first ≡ Some text → first ≡ text
     some_same is = cc
@@ -106,12 +110,28 @@ pub tables_read : (tables : TableNames) (told told' : Option (List Loaded))
     → (place : ℕ) (text : List ℕ) → slice_get texts place ≡ Some text
     → IsUtf8 text × ((meaning : TableMeaning) × (meaning_in text ≡ Ok meaning))
 tables_read tables told told' texts fares loads zero text at =
-    let same : loads.text ≡ text = some_same (rw loads.are_texts at at) in
-    (subst IsUtf8 same loads.utf8, (loads.alone.meaning,
-    ap meaning_in (sym same) ∙ loads.means.0))
+    let same : loads.text ≡ text = some_same (rw loads.are_texts at at) in (
+      subst IsUtf8 same loads.utf8,
+      (
+        loads.alone.meaning,
+        ap meaning_in (sym same) ∙ loads.means.0,
+      ),
+    )
   where
     some_same : Some loads.text ≡ Some text → loads.text ≡ text
     some_same is = cc
 tables_read tables told told' texts fares loads (suc place) text at =
     later_read loads.alone tables.later loads.between told' loads.rest fares loads.loads_later place
     text (rw loads.are_texts at at)
+
+-- the words before one, that one, and those behind it
+pub words_at : (words : List (Bor (List ℕ))) (place : ℕ) (other : Bor (List ℕ))
+    → place < length words
+    → map (λ w. w.now) words ≡ map (λ w. w.now) (take place words)
+    ++ (get_or words place other).now ∷ map (λ w. w.now) (drop (place + 1) words)
+words_at [] place other within = absurd (omega (arith, within))
+words_at (word ∷ words) zero other within = refl
+words_at (word ∷ words) (suc place) other within =
+    let one : suc place + 1 ≡ suc (place + 1) = omega (arith) in
+    rw one (ap (λ (ws : List (List ℕ)). word.now ∷ ws)
+    (words_at words place other (omega (arith, within))))

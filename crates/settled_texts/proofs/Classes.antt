@@ -189,11 +189,12 @@ pub plain_more : (P : List ℕ → Type 0) (texts : List (List ℕ)) (place : �
     → ((k : ℕ) (d : List ℕ) → k < place → P (get_or texts k d)) → P text
     → (k : ℕ) (d : List ℕ) → k < place + 1 → P (get_or texts k d)
 plain_more P texts place text at before is k d below =
-    elim (cases_lt k place)
-    [ inl less ↦ before k d less
-    | inr more ↦ subst P
-    (sym (get_or_from_slice_get texts place text d at)
-    ∙ ap (λ (n : ℕ). get_or texts n d) (omega (arith, more, below))) is ]
+    elim (cases_lt k place) [
+      | inl less ↦ before k d less
+      | inr more ↦ subst P
+          (sym (get_or_from_slice_get texts place text d at)
+          ∙ ap (λ (n : ℕ). get_or texts n d) (omega (arith, more, below))) is
+    ]
 
 -- each text before a place is plain
 pub plain_before : (P : List ℕ → Type 0) (texts : List (List ℕ)) (place : ℕ)

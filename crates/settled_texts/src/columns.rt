@@ -46,7 +46,11 @@ fn put_next<'t>(
 {
     match taps.split_first() {
         Some((traced, left)) => {
-            put_columns(text, names.class_of(traced.tap.moment, &traced.tap.token), traced)?;
+            put_columns(
+                text,
+                names.class_of(traced.tap.moment, &traced.tap.token),
+                traced,
+            )?;
             Ok(left)
         }
         None => Ok(taps),

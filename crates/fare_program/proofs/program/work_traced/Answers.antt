@@ -111,10 +111,10 @@ returns-clause-begun g c =
             loads_files = loaded;
             text = done.1;
             shows = subst (λ (f : Fares). IsTracedLedger (class_by c.in_ok-riders.riders.names) f
-          (map bytes_in c.in_ok-files.files.items) done.1 done.0) c.in_ok-riders.ensures.table
-          (subst (λ (fs : List (Vec ℕ Global)). IsTracedLedger
-          (class_by c.in_ok-riders.riders.names) c.in_ok-riders.riders.table (map bytes_in fs) done.1
-          done.0) c.deref-2.ensures.value done.2);
+                (map bytes_in c.in_ok-files.files.items) done.1 done.0) c.in_ok-riders.ensures.table
+                (subst (λ (fs : List (Vec ℕ Global)). IsTracedLedger
+                (class_by c.in_ok-riders.riders.names) c.in_ok-riders.riders.table (map bytes_in fs) done.1
+                done.0) c.deref-2.ensures.value done.2);
             written = written;
           }),
     ))

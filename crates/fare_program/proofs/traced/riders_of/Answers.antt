@@ -23,8 +23,11 @@ pub of_names-requires-clause-place : goal.of_names-requires-clause-place
 of_names-requires-clause-place c =
     let loads = c.requires.2 in
     let (texts, words) = tables_counted _ _ _ _ _ loads in
-    omega (arith, words,
-    slice_get_within _ c.in-Err.wrong.place _ c.in-Err.ensures.fault.stands)
+    omega (
+      arith,
+      words,
+      slice_get_within _ c.in-Err.wrong.place _ c.in-Err.ensures.fault.stands,
+    )
 
 -- each text is a fare table's, so that it names a default class
 pub of_names-requires-clause-fault : goal.of_names-requires-clause-fault

@@ -1,8 +1,7 @@
-use Rattle.std.proofs.Common.{◌≡◌, ◌∙◌, ◌+◌, ◌<◌, ℕ, List, [], ◌∷◌, ◌++◌, Some, ap, arith, drop, length}
-use Rattle.std.proofs.Common.{map, subst, sym}
+use Rattle.std.proofs.Common.{◌≡◌, ◌∙◌, ◌+◌, ◌<◌, ℕ, List, [], ◌∷◌, ◌++◌, All, Some, ap, arith, drop, length}
+use Rattle.std.proofs.Common.{map, subst, sym, take}
 use Rattle.std.specs.Prelude.{slice_get}
-use Rattle.std.proofs.lemmas.List.{length-map}
-use Rattle.settled_texts.specs.ClassFaults.{HasPlainClasses, IsFaultOf}
+use Rattle.settled_texts.specs.ClassFaults.{HasPlainClasses}
 use Rattle.settled_texts.proofs.Classes.{at_place, behind_first, next_trees, plain_before, plain_more}
 use Rattle.settled_texts.proofs.class_names.ClassNames.of_texts.Goals as goal
 
@@ -14,8 +13,10 @@ loop-place-preserved c =
     let dated = (c.later-from.result.0, c.later-from.result.1.now.meaning) in
     let text = c.deref-in-loop-place.result.now in
     let made = c.in-Ok-next_names.ensures.classes in
+    let within : place + 1 < length c.args.texts.now =
+    omega (arith, c.requires, c.loop-place-test.true, c.later_len-place-end.ensures) in
     let stands : slice_get texts (place + 1) ≡ Some text =
-    at_place (λ t. t.items) c.args.texts.now (place + 1) c.index-texts-place.result ?
+    at_place (λ t. t.items) c.args.texts.now (place + 1) c.index-texts-place.result within
     c.index-texts-place.is
     ∙ ap (λ (t : List ℕ). Some t) (sym c.deref-in-loop-place.ensures.value) in
     record {
@@ -37,8 +38,17 @@ returns-in-Err-next_names-clause-fault c =
     let place = c.loop-place.place in
     let texts = map (λ t. t.items) c.args.texts.now in
     let text = c.deref-in-loop-place.result.now in
+    let at = c.in-Err-next_names.ensures.place in
+    let within : place + 1 < length c.args.texts.now =
+    omega (arith, c.requires, c.loop-place-test.true, c.later_len-place-end.ensures) in
     let stands : slice_get texts (place + 1) ≡ Some text =
-    at_place (λ t. t.items) c.args.texts.now (place + 1) c.index-texts-place.result ?
+    at_place (λ t. t.items) c.args.texts.now (place + 1) c.index-texts-place.result within
     c.index-texts-place.is
     ∙ ap (λ (t : List ℕ). Some t) (sym c.deref-in-loop-place.ensures.value) in
-    ?
+    record {
+      text = text;
+      stands = subst (λ (n : ℕ). slice_get texts n ≡ Some text) (sym at) stands;
+      fault = c.in-Err-next_names.ensures.fault;
+      before = subst (λ (n : ℕ). All HasPlainClasses (take n texts)) (sym at)
+          (plain_before HasPlainClasses texts (place + 1) inv.plain);
+    }
