@@ -7,10 +7,13 @@ use Rattle.program_manners.specs.LineWritten.{LineWritten}
 use Rattle.program_manners.specs.Refusals.{IsOneOf, Refuses}
 use Rattle.program_manners.specs.declared.loading.LoadFault.{LoadFault}
 use Rattle.program_manners.specs.declared.loading.LoadFault.TheVariants as load
+use Rattle.tap_rows.specs.declared.column.Column.{Column}
+use Rattle.tap_rows.specs.declared.column.Column.TheVariants as column
 use Rattle.tool_program.specs.Names.{called, file_named}
 use Rattle.tool_program.specs.declared.fault.Fault.{Fault}
-use Rattle.tool_program.specs.declared.fault.Fault.TheVariants.{Closed, Line, NoMemory, Taps}
-use Rattle.tool_program.specs.declared.fault.Fault.TheVariants.{TooLong, Unread, Unsettled, Write}
+use Rattle.tool_program.specs.declared.fault.Fault.TheVariants.{Changed, Closed, Head, Line}
+use Rattle.tool_program.specs.declared.fault.Fault.TheVariants.{NoMemory, Row, Taps, TooLong}
+use Rattle.tool_program.specs.declared.fault.Fault.TheVariants.{Unread, Unsettled, Write}
 use Rattle.tool_program.specs.declared.output.WriteEnd.{WriteEnd}
 use Rattle.tool_program.specs.declared.output.WriteEnd.TheVariants as writes
 
@@ -29,10 +32,23 @@ wrong_text wrong.OtherToken = codes "its token is not the next one of the report
 wrong_text wrong.MissingToken = codes "the ledger ends, and the report has one more token"
 wrong_text wrong.OtherValidators = codes "the validators have other sums than in the report"
 
+-- what is wrong with a row of a tap table, by its column
+abbrev pub column_text : Column → List ℕ
+column_text column.Fields = codes "there are not three fields"
+column_text column.Token = codes "the token is not 32 hexadecimal digits"
+column_text column.Validator = codes "the validator is no number from 0 to 4294967295"
+column_text column.Moment = codes "the moment is no number of milliseconds below 4102444800000"
+
 -- the line of a fault
 abbrev pub fault_text : Fault → List ℕ
 fault_text (Unread word) = codes "fault: cannot read " ++ called word.now
 fault_text (TooLong word) = codes "fault: " ++ (called word.now ++ codes " is too long")
+fault_text (Head word) = codes "fault: " ++ (called word.now
+    ++ codes " line 1: it is not token,validator,moment")
+fault_text (Row word number wrong) = codes "fault: " ++ (called word.now ++ (codes " line "
+    ++ (decimal number ++ (codes ": " ++ column_text wrong))))
+fault_text (Changed word) = codes "fault: " ++ (called word.now
+    ++ codes " changed while it was read")
 fault_text (Line word number why) = codes "fault: " ++ (called word.now ++ (codes " line "
     ++ (decimal number ++ (codes ": " ++ wrong_text why))))
 fault_text (Unsettled word number) = codes "fault: " ++ (called word.now ++ (codes " line "

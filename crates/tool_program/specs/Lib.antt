@@ -1,4 +1,5 @@
 pub mod Corrections
+pub mod Encode
 pub mod Fault
 pub mod Merge
 pub mod MergeLedgers

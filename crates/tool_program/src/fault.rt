@@ -3,8 +3,8 @@ ghost use Rattle.std.specs.Prelude.{◌≡◌, ℕ, IfErr, List, Option, Some};
 ghost use Rattle.std.specs.Io.KnownBytes.{Keeps};
 ghost use Rattle.program_manners.specs.Refusals.{IsOneOf, Refuses};
 ghost use Rattle.program_manners.specs.declared.loading.LoadFault.{LoadFault as ALoadFault};
-ghost use Rattle.tool_program.specs.Fault.{IsFaultTold, IsRefusal, failed_as, fault_text};
-ghost use Rattle.tool_program.specs.Fault.{is_quiet, wrong_text};
+ghost use Rattle.tool_program.specs.Fault.{IsFaultTold, IsRefusal, column_text, failed_as};
+ghost use Rattle.tool_program.specs.Fault.{fault_text, is_quiet, wrong_text};
 ghost use Rattle.tool_program.specs.Names.{file_named};
 
 use crate::names::Name;
@@ -14,6 +14,7 @@ use program_manners::{Complaints, LoadFault};
 use std::alloc::{AllocError, AllocFailed};
 use std::fmt;
 use std::io::Write;
+use tap_rows::Column;
 
 /// Why a subcommand is given up. A file is named by its word of the command line. Its `Display` is
 /// the fault line without its line feed.
@@ -23,6 +24,12 @@ pub enum Fault<'a> {
     Unread(&'a str),
     /// The file is longer than it may be.
     TooLong(&'a str),
+    /// The first line of the file is not that of a tap table.
+    Head(&'a str),
+    /// The line of this number, from 1, in this tap table, is no tap, by this column.
+    Row(&'a str, u64, Column),
+    /// The tap table was another one when it was read again.
+    Changed(&'a str),
     /// The line of this number, from 1, in this text of a part, is wrong.
     Line(&'a str, u64, Wrong),
     /// The line of this number, from 1, in this ledger, belongs before the line before it.
@@ -71,6 +78,7 @@ impl<'a> Fault<'a> {
             Fault::Closed => true,
             Fault::Unread(_) | Fault::TooLong(_) | Fault::Line(_, _, _) => false,
             Fault::Unsettled(_, _) | Fault::Taps(_, _) => false,
+            Fault::Head(_) | Fault::Row(_, _, _) | Fault::Changed(_) => false,
             Fault::Write | Fault::NoMemory => false,
         }
     }
@@ -116,6 +124,18 @@ fn wrong_text(wrong: Wrong) -> &'static str
     }
 }
 
+/// What is wrong with a row of a tap table, by its column.
+fn column_text(column: Column) -> &'static str
+    ensures { result.now ≡ column_text column }
+{
+    match column {
+        Column::Fields => "there are not three fields",
+        Column::Token => "the token is not 32 hexadecimal digits",
+        Column::Validator => "the validator is no number from 0 to 4294967295",
+        Column::Moment => "the moment is no number of milliseconds below 4102444800000",
+    }
+}
+
 impl fmt::Display for Fault<'_> {
     ghost output = { λ fault. Some (fault_text fault) };
 
@@ -128,6 +148,19 @@ impl fmt::Display for Fault<'_> {
             Fault::TooLong(word) => {
                 let name = Name(word);
                 write!(f, "fault: {name} is too long")
+            }
+            Fault::Head(word) => {
+                let name = Name(word);
+                write!(f, "fault: {name} line 1: it is not token,validator,moment")
+            }
+            Fault::Row(word, number, column) => {
+                let name = Name(word);
+                let why = column_text(*column);
+                write!(f, "fault: {name} line {number}: {why}")
+            }
+            Fault::Changed(word) => {
+                let name = Name(word);
+                write!(f, "fault: {name} changed while it was read")
             }
             Fault::Line(word, number, wrong) => {
                 let name = Name(word);

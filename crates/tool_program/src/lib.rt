@@ -7,12 +7,14 @@
 //! | `source` | where texts come from |
 //! | `output` | where a text goes |
 //! | `fault` | why a subcommand is given up, and the line that says so |
+//! | `encode` | `encode` of a tap table |
 //! | `merge` | `merge` |
 //! | `merge_ledgers` | `merge-ledgers` |
 //! | `corrections` | `corrections` |
 #![tactic(auto)]
 
 mod corrections;
+mod encode;
 mod fault;
 mod merge;
 mod merge_ledgers;
@@ -21,9 +23,10 @@ mod output;
 mod source;
 
 pub use corrections::{CorrectedLedgers, corrections_over};
+pub use encode::encode_over;
 pub use fault::{Fault, finish, say};
 pub use merge::merge_over;
 pub use merge_ledgers::merge_ledgers_over;
 pub use names::{Escaped, Name};
 pub use output::{Output, WriteEnd};
-pub use source::Source;
+pub use source::{Shown, Source};
