@@ -1,4 +1,5 @@
--- Rules that say the same of each tap of a list give it the same trips, windows, charges and replies.
+-- Rules that say the same of each tap of a list give it the same trips, windows, charges and
+-- replies.
 use Rattle.std.proofs.Common.{◌≡◌, ℕ, suc, ◌+◌, ◌<◌, Bool, true, false, ◌&&◌, cond, List, [], ◌∷◌}
 use Rattle.std.proofs.Common.{◌++◌, Option, Some, None, refl, ap, ◌∙◌, All, arith, is_some}
 use Rattle.std.proofs.Common.{length, nat_le, nat_lt, option_map, take, ◌-◌}
@@ -17,10 +18,12 @@ use Rattle.account_rule.specs.Agreement.{AgreeAt, AgreeOn}
 use Rattle.account_rule.specs.Blocks.{blocks_by, blocks_from, last_block}
 use Rattle.account_rule.specs.Replies.{live_reply, replies, replies_after, reply, reply_with}
 use Rattle.account_rule.specs.Replies.{ride_reply}
-use Rattle.account_rule.specs.TokenRules.{TokenRules, permits_of, rules_of, token_class, transfers_of}
+use Rattle.account_rule.specs.TokenRules.{TokenRules, permits_of, rules_of, token_class}
+use Rattle.account_rule.specs.TokenRules.{transfers_of}
 use Rattle.account_rule.specs.Taps.{LiveTap, is_later, live, live_after, live_at, live_tap}
 use Rattle.account_rule.specs.Trips.{continues, ends_in_transfer, last_tap, rides, trips}
-use Rattle.account_rule.specs.Windows.{charge, charged_by, charges, charges_after, is_within, paid_by}
+use Rattle.account_rule.specs.Windows.{charge, charged_by, charges, charges_after, is_within}
+use Rattle.account_rule.specs.Windows.{paid_by}
 use Rattle.account_rule.specs.Windows.{windows}
 use Rattle.account_rule.specs.declared.reason.Charge.{Charge}
 use Rattle.account_rule.specs.declared.reply.Answer.TheVariants.{Stale, Transfer, Unknown}
@@ -240,10 +243,6 @@ replies-alike rules other taps agree =
     replies_after-same rules other [] taps tt (each-all (AgreeOn rules other) taps agree)
 
 -- ---- a table that is not valid yet
-waits_if : (meaning valid : TableMeaning) (also : TableMeaning) (b : Bool) → valid ≡ also
-    → cond b valid meaning ≡ cond b also meaning
-waits_if meaning valid also b same = λ i. cond b (same i) meaning
-
 valid-waits : (meaning : TableMeaning) (later : List (ℕ × TableMeaning)) (from : ℕ)
     (next : TableMeaning) (moment : ℕ) → moment < from
     → valid_at meaning (later ++ (from, next) ∷ []) moment ≡ valid_at meaning later moment

@@ -87,7 +87,7 @@ first-push (y ∷ ys) x =
     lt-ltb 1 (suc (length (ys ++ x ∷ []))) (omega (arith, length-push ys x)) in
     sym (ap (λ b. (y ∷ []) ++ cond b [] (x ∷ [])) long)
 
--- the first elements of the blocks: the new one is among them where its block is then of no other
+-- the first elements of the blocks: the new one is among them if its block is then of no other
 pub firsts-extend : {A : Type 0} (joins : List A → A → Bool) (blocks : List (List A)) (x : A)
     → flat_map (λ block. take 1 block) (extend joins blocks x)
     ≡ flat_map (λ block. take 1 block) blocks

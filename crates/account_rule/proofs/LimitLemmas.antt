@@ -1,6 +1,7 @@
 -- What the rides of a window cost, one after the other, and that no window exceeds its limits.
 use Rattle.std.proofs.Common.{◌≡◌, ℕ, suc, ◌+◌, ◌-◌, ◌<◌, ◌≤◌, true, false, ◌⊎◌, cond, List}
-use Rattle.std.proofs.Common.{[], ◌∷◌, ◌++◌, length, max, min, leb, Some, None, refl, sym, ap, ◌∙◌, inl}
+use Rattle.std.proofs.Common.{[], ◌∷◌, ◌++◌, length, max, min, leb, Some, None, refl, sym, ap, ◌∙◌}
+use Rattle.std.proofs.Common.{inl}
 use Rattle.std.proofs.Common.{inr, arith, All, sum_by, Option}
 use Rattle.std.specs.Prelude.{count_by}
 use Rattle.std.specs.List.{last_or}
@@ -65,7 +66,7 @@ charged terms rides cents =
     ]
 
 -- past the ride limit all rides are alike
-limit_from : (terms : Terms) (rides cents : ℕ) → terms.rides ≤ rides
+pub limit_from : (terms : Terms) (rides cents : ℕ) → terms.rides ≤ rides
     → charge terms rides cents ≡ RideLimitReached
 unfolding charge
 limit_from terms rides cents past =

@@ -207,7 +207,7 @@ ride_of-after rules (first ∷ window) ride terms same bounds =
       | false ↦ λ after. ride_by-some ride.moment (rules.until ride.moment) _ _ after
     ] (charge-after rules (first ∷ window) ride terms same bounds)
 
--- what the account keeps tells the reason
+-- what the account keeps determines the reason
 
 pub why_stale : (rules : TokenRules) (account : Option Kept) (state : Kept) (taps : List TapIn)
     (tap : TapIn) (mode : Mode)

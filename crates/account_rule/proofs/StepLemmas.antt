@@ -28,7 +28,9 @@ use Rattle.account_rule.specs.TokenRules.{token_class, transfers_of}
 use Rattle.account_rule.specs.NoTransfers.{no_transfer_from}
 use Rattle.account_rule.specs.Kept.{IsClass, IsRoomy, Kept, kept_numbers, is_after, kept_of}
 use Rattle.account_rule.specs.Kept.{kept_trip, kept_window}
-use Rattle.account_rule.specs.inside.Kept.{gives, open_window, transfers_in, window_at, with_ride}
+use Rattle.account_rule.specs.inside.Kept.{gives, kept_under, known_tap, open_window}
+use Rattle.account_rule.specs.inside.Kept.{reply_under}
+use Rattle.account_rule.specs.inside.Kept.{transfers_in, window_at, window_under, with_ride}
 use Rattle.account_rule.specs.Stands.{KeepsOf, Stands, window_of}
 use Rattle.account_rule.specs.Taps.{LiveTap, is_later, live_at, live_tap}
 use Rattle.account_rule.specs.Windows.{charge, charges, paid_by, windows}
@@ -70,6 +72,7 @@ same : (rules : TokenRules) (state : Option Kept) (taps : List TapIn) (tap : Tap
 same rules state taps tap stands none later = record {
   last = λ moment. stands.last moment ∙ sym (later moment);
   trip = rw (trip-same rules taps tap none) stands.trip;
+  order = stands.order;
   window = rw (windows-same rules taps tap none) stands.window;
   class = stands.class;
   mode = stands.mode;
@@ -252,6 +255,12 @@ ride_mode_of_trip : (rules : TokenRules) (trip : TripEnd) (tap : LiveTap)
 ride_mode_of_trip rules trip tap is listed =
     let same : tap ≡ trip.ride = cc in subst (λ t. t.mode.place < rules.modes) same listed
 
+order_of_trip : (end trip : TripEnd) → Some end ≡ Some trip
+    → end.ride.moment ≤ end.last.moment → trip.ride.moment ≤ trip.last.moment
+order_of_trip end trip some order =
+    let same : end ≡ trip = cc in
+    subst (λ (t : TripEnd). t.ride.moment ≤ t.last.moment) same order
+
 -- a live tap to which the last trip gives a transfer
 transfer_at : (rules : TokenRules) (state : Kept) (taps : List TapIn) (tap : TapIn) (mode : Mode)
     (class : ℕ) → KeepsOf rules (Some state) taps
@@ -277,6 +286,9 @@ transfer_at rules state taps tap mode class stands known listed after given its 
         last = λ moment. later_live (Some state) taps tap mode moment stands.last known
             (lt-ltb state.last.moment tap.moment after);
         trip = rw (trip-push rules taps tap _ shown, gives_it, ← stands.trip) refl;
+        order = λ trip some.
+            let before : state.ride.moment ≤ state.last.moment = stands.order _ refl in
+            order_of_trip _ trip some (omega arith);
         window = rw (windows-transfer rules taps tap _ shown ends) stands.window;
         class = λ next some. keeps_class rules _ next some its;
         mode = λ trip some. let same : tap_of_trip (Some trip) ≡ Some (live_at tap.moment mode) =
@@ -342,6 +354,7 @@ ride_at rules state taps tap mode class terms window stands known listed after n
       stands = record {
         last = λ moment. later_live state taps tap mode moment stands.last known after;
         trip = rw (trip-push rules taps tap _ shown, gives_none) refl;
+        order = λ trip some. order_of_trip _ trip some (omega arith);
         window = rw (
           last_window-ride rules taps tap _ shown ends,
           window_of-after rules (last_block (windows rules taps)) (live_at tap.moment mode) terms
@@ -473,7 +486,8 @@ pub lacks_same : (fares : Fares) (token : List ℕ) (meaning : TableMeaning) (mo
     ≡ no_transfer_from (transfers_of fares token) trip (live_at moment mode)
 lacks_same fares token meaning moment class mode trip valid is =
     ap (λ place. no_transfer_from (transfers_in meaning place) trip (live_at moment mode)) is
-    ∙ ap (λ m. no_transfer_from (transfers_in m (class_of m token)) trip (live_at moment mode)) valid
+    ∙ ap (λ m. no_transfer_from (transfers_in m (class_of m token)) trip (live_at moment mode))
+    valid
     ∙ sym (lacks_valid fares token moment mode trip)
 
 -- the end of a window is as long after its start as what is valid then says
@@ -521,12 +535,113 @@ next_ride rules account state next taps tap mode until class terms same stands k
     ∙ ap (λ u. window_at (kept_window account) tap.moment u) limit)
     (room-at state.window tap.moment until room) own its bounds)
 
+-- the tap of a moment and a known mode
+abbrev tap_with : ℕ → Option Mode → TapIn
+tap_with moment mode = record { moment = moment; mode = mode }
+
+pub tap_is : (tap : TapIn) (mode : Mode) → tap.mode ≡ Some mode
+    → known_tap tap.moment mode ≡ tap
+unfolding known_tap
+tap_is tap mode known =
+    ap (tap_with tap.moment) (sym known)
+
+-- what a live tap comes to under one meaning: a transfer, or a ride
+pub reply_given : (meaning : TableMeaning) (clock : ClockView) (state : Kept) (tap : LiveTap)
+    → gives (transfers_in meaning state.class) (kept_trip (Some state)) tap ≡ true
+    → reply_under meaning clock state tap ≡ reply_with Transfer 0
+unfolding reply_under
+reply_given meaning clock state tap given = rw given refl
+
+pub kept_given : (meaning : TableMeaning) (clock : ClockView) (state : Kept) (tap : LiveTap)
+    → gives (transfers_in meaning state.class) (kept_trip (Some state)) tap ≡ true
+    → kept_under meaning clock state tap ≡ after_transfer state tap state.class
+unfolding kept_under
+kept_given meaning clock state tap given = rw given refl
+
+pub reply_paid : (meaning : TableMeaning) (clock : ClockView) (state : Kept) (tap : LiveTap)
+    → gives (transfers_in meaning state.class) (kept_trip (Some state)) tap ≡ false
+    → reply_under meaning clock state tap
+    ≡ ride_reply (paid_by (charge (ride_terms meaning state.class tap.mode.place)
+    (window_under meaning clock state tap).rides (window_under meaning clock state tap).cents))
+unfolding reply_under
+reply_paid meaning clock state tap none = rw none refl
+
+pub kept_paid : (meaning : TableMeaning) (clock : ClockView) (state : Kept) (tap : LiveTap)
+    → gives (transfers_in meaning state.class) (kept_trip (Some state)) tap ≡ false
+    → kept_under meaning clock state tap
+    ≡ after_trip tap state.class (with_ride (ride_terms meaning state.class tap.mode.place)
+    (window_under meaning clock state tap))
+unfolding kept_under
+kept_paid meaning clock state tap none = rw none refl
+
+-- a live tap of an account that has a window, by the meaning that is valid and the token's class in it
+pub live_tap_is : (fares : Fares) (token : List ℕ) (clock : ClockView) (account : Option Kept)
+    (state next : Kept) (taps : List TapIn) (tap : TapIn) (mode : Mode) (meaning : TableMeaning)
+    (class : ℕ) (answered : Reply)
+    → account ≡ Some state → KeepsOf (rules_of fares token) account taps
+    → tap.mode ≡ Some mode → mode.place < length fares.meaning.modes
+    → state.last.moment < tap.moment → clock ≡ fares.zone → meaning ≡ meaning_at fares tap.moment
+    → class ≡ class_of (meaning_at fares tap.moment) token
+    → class < length (meaning_at fares tap.moment).classes
+    → (gives (transfers_in meaning class) (kept_trip (Some state)) (live_at tap.moment mode) ≡ false
+    → AreRideTerms (ride_terms meaning class mode.place))
+    → answered ≡ reply_under meaning clock (record state { class = class })
+    (live_at tap.moment mode)
+    → next ≡ kept_under meaning clock (record state { class = class }) (live_at tap.moment mode)
+    → IsStep (rules_of fares token) taps tap answered (Some next)
+unfolding kept_trip rules_of live_at window_under
+live_tap_is fares token clock account state next taps tap mode meaning class answered same stands
+    known below after zone valid is there bounds is_reply is_next =
+    by (gives (transfers_in meaning class) (kept_trip (Some state)) (live_at tap.moment mode)) refl
+  where
+    by : (b : Bool)
+        → gives (transfers_in meaning class) (kept_trip (Some state)) (live_at tap.moment mode) ≡ b
+        → IsStep (rules_of fares token) taps tap answered (Some next)
+    by true given =
+        rw (
+          is_reply,
+          reply_given meaning clock (record state { class = class }) (live_at tap.moment mode) given,
+        )
+        (transfer (rules_of fares token) account state next taps tap mode class same stands known
+        (listed fares token mode below) after
+        (gives_same fares token meaning tap.moment class mode (kept_trip (Some state)) true valid is
+        (sym given))
+        (class_at fares token tap.moment class is there)
+        (is_next
+        ∙ kept_given meaning clock (record state { class = class }) (live_at tap.moment mode) given))
+    by false none =
+        rw (
+          is_reply,
+          reply_paid meaning clock (record state { class = class }) (live_at tap.moment mode) none,
+        )
+        (next_ride (rules_of fares token) account state next taps tap mode
+        (window_end_in clock meaning.window tap.moment) class (ride_terms meaning class mode.place)
+        same stands known (listed fares token mode below)
+        (until_same fares token clock meaning tap.moment zone valid)
+        (gives_none-state (rules_of fares token).transfers account state tap mode same after
+        (gives_same fares token meaning tap.moment class mode (kept_trip (Some state)) false valid is
+        (sym none)))
+        (class_at fares token tap.moment class is there)
+        (terms_same fares token meaning tap.moment class mode valid is) (bounds none)
+        (is_next
+        ∙ kept_paid meaning clock (record state { class = class }) (live_at tap.moment mode) none))
+
+-- what an account that has a window keeps of its last trip
+pub trip_order : (rules : TokenRules) (account : Account) (taps : List TapIn)
+    → account.has_window ≡ true → Stands rules account taps → account.ride ≤ account.last
+unfolding Stands kept_trip live_at
+trip_order rules account taps there stands =
+    let kept = at_state rules (kept_of account) (kept_numbers account) taps
+    (kept-open account there) stands in
+    kept.order _ refl
+
 -- the first ride of an account
 pub first_ride : (rules : TokenRules) (account next : Option Kept) (taps : List TapIn) (tap : TapIn)
     (mode : Mode) (until class : ℕ) (terms : Terms) (answered : Reply)
     → account ≡ None → KeepsOf rules account taps
     → tap.mode ≡ Some mode → mode.place < rules.modes → until ≡ rules.until tap.moment
-    → IsClass rules tap.moment class → rules.terms (live_at tap.moment mode) ≡ terms → AreRideTerms terms
+    → IsClass rules tap.moment class → rules.terms (live_at tap.moment mode) ≡ terms
+    → AreRideTerms terms
     → answered ≡ ride_reply (paid_by (charge terms (open_window tap.moment until).rides
     (open_window tap.moment until).cents))
     → next ≡ Some (after_trip (live_at tap.moment mode) class
@@ -542,3 +657,29 @@ first_ride rules account next taps tap mode until class terms answered fresh sta
     (at_fresh account tap.moment until fresh
     ∙ ap (λ u. window_at (kept_window account) tap.moment u) limit)
     (room-open tap.moment until) its same bounds)
+
+-- the first ride of an account, by the meaning that is valid and the token's class in it
+pub first_ride_is : (fares : Fares) (token : List ℕ) (clock : ClockView) (account next : Option Kept)
+    (taps : List TapIn) (tap : TapIn) (mode : Mode) (meaning : TableMeaning) (class : ℕ)
+    (answered : Reply)
+    → account ≡ None → KeepsOf (rules_of fares token) account taps
+    → tap.mode ≡ Some mode → mode.place < length fares.meaning.modes
+    → clock ≡ fares.zone → meaning ≡ meaning_at fares tap.moment
+    → class ≡ class_of meaning token → class < length meaning.classes
+    → AreRideTerms (ride_terms meaning class mode.place)
+    → answered ≡ ride_reply (paid_by (charge (ride_terms meaning class mode.place)
+    (open_window tap.moment (window_end_in clock meaning.window tap.moment)).rides
+    (open_window tap.moment (window_end_in clock meaning.window tap.moment)).cents))
+    → next ≡ Some (after_trip (live_at tap.moment mode) class
+    (with_ride (ride_terms meaning class mode.place)
+    (open_window tap.moment (window_end_in clock meaning.window tap.moment))))
+    → IsStep (rules_of fares token) taps tap answered next
+first_ride_is fares token clock account next taps tap mode meaning class answered fresh stands known
+    below zone valid is there bounds is_reply is_next =
+    let its : class ≡ class_of (meaning_at fares tap.moment) token = rw valid at is in
+    first_ride (rules_of fares token) account next taps tap mode
+    (window_end_in clock meaning.window tap.moment) class (ride_terms meaning class mode.place)
+    answered fresh stands known (listed fares token mode below)
+    (until_same fares token clock meaning tap.moment zone valid)
+    (class_at fares token tap.moment class its (rw valid at there))
+    (terms_same fares token meaning tap.moment class mode valid its) bounds is_reply is_next

@@ -150,7 +150,7 @@ longer-if true ride given tap =
     lt-ltb 1 (suc (length (given ++ tap ∷ []))) (omega (arith, length-push given tap))
 longer-if false ride given tap = refl
 
--- a trip with the tap, or the tap alone, has a transfer exactly where the trip gives it one
+-- a trip with the tap, or the tap alone, has a transfer exactly if the trip gives it one
 longer-after : (rules : TokenRules) (trip : List LiveTap) (tap : LiveTap)
     → nat_lt 1 (length (cond (continues rules.transfers trip tap) (trip ++ tap ∷ []) (tap ∷ [])))
     ≡ gives rules.transfers (trip_of trip) tap
@@ -158,7 +158,7 @@ unfolding continues gives trip_of
 longer-after rules [] tap = refl
 longer-after rules (ride ∷ given) tap = longer-if _ ride given tap
 
--- a live tap is a transfer exactly where the last trip gives it one
+-- a live tap is a transfer exactly if the last trip gives it one
 pub ends_in_transfer-push : (rules : TokenRules) (taps : List TapIn) (tap : TapIn) (shown : LiveTap)
     → live_tap taps tap ≡ Some shown
     → ends_in_transfer rules (taps ++ tap ∷ []) ≡ gives rules.transfers (last_trip rules taps) shown

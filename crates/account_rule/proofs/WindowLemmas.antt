@@ -11,10 +11,12 @@ use Rattle.account_rule.specs.TokenRules.{TokenRules}
 use Rattle.account_rule.specs.inside.Kept.{open_window, shown_of, window_at, with_ride}
 use Rattle.account_rule.specs.Stands.{window_of}
 use Rattle.account_rule.specs.Taps.{LiveTap}
-use Rattle.account_rule.specs.Windows.{charge, charges, charges_after, is_within, paid_rides}
+use Rattle.account_rule.specs.Windows.{charge, charges, charges_after, is_paid, is_within}
+use Rattle.account_rule.specs.Windows.{paid_rides}
 use Rattle.account_rule.specs.Windows.{shown_window, window_cents}
 use Rattle.account_rule.proofs.BlockLemmas.{length-push}
 use Rattle.account_rule.proofs.LimitLemmas.{cents-push, charge-min, charged, last_charge-push}
+use Rattle.account_rule.proofs.LimitLemmas.{limit_from}
 use Rattle.account_rule.proofs.LimitLemmas.{paid-push, paid_rides-le, window_cents-le}
 
 counted : (rides : ℕ) → min (min rides 1_000 + 1) 1_000 ≡ min (suc rides) 1_000
@@ -109,6 +111,20 @@ charge-after rules (first ∷ window) ride terms same bounds =
       | false ↦ rw (none_yet rules ride.moment)
           (charge-behind rules ride.moment [] ride terms same bounds)
     ]
+
+same_window : (window : Window) (rides cents paid : ℕ) → window.cents ≡ cents → window.paid ≡ paid
+    → record window { rides = rides }
+    ≡ record window { rides = rides; cents = cents; paid = paid }
+same_window window rides cents paid one two = cc
+
+-- past the ride limit a ride is counted, and no more
+pub with_free : (terms : Terms) (window : Window) → terms.rides ≤ window.rides
+    → record window { rides = min (window.rides + 1) 1_000 } ≡ with_ride terms window
+unfolding with_ride is_paid
+with_free terms window limit =
+    rw (limit_from terms window.rides window.cents limit)
+    (same_window window (min (window.rides + 1) 1_000) (window.cents + 0) (window.paid + 0)
+    (omega arith) (omega arith))
 
 -- a window without rides leaves room for one, and one more ride leaves room for the next
 pub room-open : (start until : ℕ) → IsRoomy (open_window start until)

@@ -43,7 +43,7 @@ AreBlocks joins (block ∷ []) = IsBlock joins block
 AreBlocks joins (block ∷ next ∷ blocks) =
     IsBlock joins block × IsApart joins block next × AreBlocks joins (next ∷ blocks)
 
--- the blocks are the list, divided where an element does not join
+-- the blocks are the list, divided before each element that does not join
 pub record AreBlocksOf {A : Type 0} (joins : List A → A → Bool) (xs : List A)
     (blocks : List (List A)) : Type 0 where
   pub whole : flat_map (λ block. block) blocks ≡ xs

@@ -1,5 +1,6 @@
 -- What holds of the trips and the windows of every list of taps.
-use Rattle.std.specs.Prelude.{◌≡◌, ◌↔◌, ℕ, ◌-◌, ◌*◌, ◌≤◌, Bool, true, false, ◌||◌, List, [], ◌∷◌, ◌++◌}
+use Rattle.std.specs.Prelude.{◌≡◌, ◌↔◌, ℕ, ◌-◌, ◌*◌, ◌≤◌, Bool, true, false, ◌||◌, List, [], ◌∷◌}
+use Rattle.std.specs.Prelude.{◌++◌}
 use Rattle.std.specs.Prelude.{nat_le, nat_lt, if◌then◌else◌, filter, map, All, sum_by, count_by}
 use Rattle.std.specs.Prelude.{max, min, slice_get, Some}
 use Rattle.std.specs.List.{flat_map}
@@ -44,8 +45,8 @@ WindowsKeepTheCeiling =
     → All (λ window. All (λ ride. (rules.terms ride).ceiling ≤ ceiling) window
     → window_cents rules.terms window ≤ ceiling) (windows rules taps)
 
--- With each ride the paid rides of a window stay as many as they were, or are at most as many as the
--- ride's limit, and what the window costs stays as it was, or is at most the ride's ceiling.
+-- With each ride the paid rides of a window stay as many as they were, or are at most as many as
+-- the ride's limit, and what the window costs stays as it was, or is at most the ride's ceiling.
 abbrev pub GrowsWithinLimits : (LiveTap → Terms) → List LiveTap → Type 0
 GrowsWithinLimits terms window =
     (before after : List LiveTap) (ride : LiveTap) → window ≡ before ++ ride ∷ after
@@ -53,7 +54,7 @@ GrowsWithinLimits terms window =
     × (window_cents terms (before ++ ride ∷ [])
     ≤ max (window_cents terms before) (terms ride).ceiling)
 
--- each window grows within the limits of its rides, also where these differ
+-- each window grows within the limits of its rides, also if these differ
 abbrev pub WindowsGrowWithinLimits : Type 0
 WindowsGrowWithinLimits =
     (rules : TokenRules) (taps : List TapIn)
@@ -124,8 +125,8 @@ HigherTermsAreNeverCheaper =
     → sum_by (λ reply. reply.cents) (replies rules taps)
     ≤ sum_by (λ reply. reply.cents) (replies (with_terms rules higher) taps)
 
--- the cents of a ride by its place in a window in which all rides have these terms: the rides before
--- it cost a fare each, up to the ceiling
+-- the cents of a ride by its place in a window in which all rides have these terms: the rides
+-- before it cost a fare each, up to the ceiling
 unfoldable pub place_cents : Terms → ℕ → ℕ
 place_cents terms place =
     if nat_le terms.rides place || nat_le terms.ceiling (place * terms.fare)
@@ -137,7 +138,7 @@ pub record IsOfPlace (terms : Terms) (place : ℕ) (charge : Charge) : Type 0 wh
   pub cents : charged_by charge ≡ place_cents terms place
   pub paid : is_paid charge ≡ nat_lt 0 (place_cents terms place)
 
--- where all rides of a window have the same terms, each costs what its place says
+-- if all rides of a window have the same terms, each costs what its place says
 abbrev pub EqualFaresAreChargedByPlaces : Type 0
 EqualFaresAreChargedByPlaces =
     (terms : LiveTap → Terms) (same : Terms) (window : List LiveTap)

@@ -5,7 +5,8 @@ use Rattle.fare_table.specs.declared.mode.Mode.{Mode}
 use Rattle.account_rule.specs.declared.no_transfer.NoTransfer.{NoTransfer}
 use Rattle.account_rule.specs.declared.no_transfer.NoTransfer.TheVariants.{FirstTap, TooLate}
 use Rattle.account_rule.specs.declared.no_transfer.NoTransfer.TheVariants.{AfterTransfer, NoneGiven}
-use Rattle.account_rule.specs.declared.no_transfer.NoTransfer.TheVariants.{NotPermitted, RideTooLate}
+use Rattle.account_rule.specs.declared.no_transfer.NoTransfer.TheVariants.{NotPermitted}
+use Rattle.account_rule.specs.declared.no_transfer.NoTransfer.TheVariants.{RideTooLate}
 use Rattle.account_rule.specs.declared.reason.Charge.{Charge}
 use Rattle.account_rule.specs.declared.reason.Reason.TheVariants.{Ride}
 use Rattle.account_rule.specs.declared.tap.TapIn.{TapIn}

@@ -1,4 +1,4 @@
--- Where each ride gives one transfer: taps in a row are linked or not, and in each longest row of
+-- If each ride gives one transfer: taps in a row are linked or not, and in each longest row of
 -- linked taps every second one is a transfer.
 use Rattle.std.specs.Prelude.{◌≡◌, ◌-◌, Bool, false, ◌&&◌, List, [], ◌∷◌, nat_le}
 use Rattle.std.specs.List.{flat_map}
@@ -30,7 +30,7 @@ evens [] = []
 evens (x ∷ []) = x ∷ []
 evens (x ∷ _ ∷ xs) = x ∷ evens xs
 
--- where each ride gives one transfer, the rides are the taps at even places of the rows
+-- if each ride gives one transfer, the rides are the taps at even places of the rows
 abbrev pub TripsOfOneTransfer : Type 0
 TripsOfOneTransfer =
     (rules : TokenRules) (taps : List TapIn)

@@ -66,8 +66,8 @@ RepliesFollow =
     (rules : TokenRules) (earlier : List TapIn) (tap : TapIn)
     → reply rules earlier tap ≡ replied_by (reason rules earlier tap)
 
--- what gives a transfer is the ride of the last trip before it: it was at the moment and on the mode
--- that are told
+-- what gives a transfer is the ride of the last trip before it: it was at the moment and on the
+-- mode that are named
 abbrev pub GiversAreRides : Type 0
 GiversAreRides =
     (rules : TokenRules) (earlier : List TapIn) (tap : TapIn) (moment : ℕ) (mode : Mode)

@@ -1,12 +1,13 @@
 -- For which lists of taps an account stands.
-use Rattle.std.specs.Prelude.{◌≡◌, ℕ, ◌<◌, List, [], ◌∷◌, length, min, Option, Some, None}
+use Rattle.std.specs.Prelude.{◌≡◌, ℕ, ◌<◌, ◌≤◌, List, [], ◌∷◌, length, min, Option, Some, None}
 use Rattle.std.specs.Option.{ForSome}
 use Rattle.account_rule.specs.declared.account.Account.{Account}
 use Rattle.account_rule.specs.declared.tap.TapIn.{TapIn}
 use Rattle.account_rule.specs.declared.window.Window.{Window}
 use Rattle.account_rule.specs.Trips.{last_trip}
 use Rattle.account_rule.specs.Blocks.{last_block}
-use Rattle.account_rule.specs.Kept.{IsClass, IsRoomy, Kept, is_after, kept_of, kept_trip, kept_window}
+use Rattle.account_rule.specs.Kept.{IsClass, IsRoomy, Kept, is_after, kept_of, kept_trip}
+use Rattle.account_rule.specs.Kept.{kept_window}
 use Rattle.account_rule.specs.TokenRules.{TokenRules}
 use Rattle.account_rule.specs.Taps.{LiveTap, is_later}
 use Rattle.account_rule.specs.Windows.{paid_rides, window_cents, windows}
@@ -24,10 +25,12 @@ window_of rules (first ∷ window) = Some (record {
 
 -- what is kept stands for the list: it is what decides every later reply
 pub record KeepsOf (rules : TokenRules) (kept : Option Kept) (taps : List TapIn) : Type 0 where
-  -- its last moment tells which moments are later than all known taps
+  -- its last moment says which moments are later than all known taps
   pub last : (moment : ℕ) → is_after kept moment ≡ is_later taps moment
   -- its last trip is the list's
   pub trip : kept_trip kept ≡ last_trip rules taps
+  -- its last trip has no tap before its ride
+  pub order : ForSome (kept_trip kept) (λ trip. trip.ride.moment ≤ trip.last.moment)
   -- its window is the last one
   pub window : kept_window kept ≡ window_of rules (last_block (windows rules taps))
   -- its class is the token's at the last live tap

@@ -7,8 +7,8 @@ use Rattle.fare_table.specs.Fares.{transfer_terms}
 use Rattle.fare_table.specs.Until.{until}
 use Rattle.account_rule.specs.Taps.{LiveTap}
 
--- Which taps after a ride are its transfers. What it says of a tap may depend on the tap's moment and
--- mode.
+-- Which taps after a ride are its transfers. What it says of a tap may depend on the tap's moment
+-- and mode.
 pub record TransferRules : Type 0 where
   -- how many transfers the ride before the tap gives
   pub count : LiveTap → ℕ
@@ -17,8 +17,8 @@ pub record TransferRules : Type 0 where
   -- whether there is a transfer from the mode to the tap
   pub permits : Mode → LiveTap → Bool
 
--- What the rule takes from a table for the taps of one token. What it says of a tap may depend on the
--- tap's moment and mode.
+-- What the rule takes from a table for the taps of one token. What it says of a tap may depend on
+-- the tap's moment and mode.
 pub record TokenRules : Type 0 where
   -- how many modes there are
   pub modes : ℕ
@@ -41,7 +41,7 @@ permits_of fares from tap = is_permitted (meaning_at fares tap.moment) from.plac
 unfoldable pub token_class : Fares → List ℕ → ℕ → ℕ
 token_class fares token moment = class_of (meaning_at fares moment) token
 
--- As many transfers as the rides of the token's class give, within their time, where the table permits
+-- As many transfers as the rides of the token's class give, within their time, if the table permits
 -- them: all of this by what is valid at the tap that is asked of.
 unfoldable pub transfers_of : Fares → List ℕ → TransferRules
 transfers_of fares token = record {
@@ -52,8 +52,8 @@ transfers_of fares token = record {
   permits = permits_of fares;
 }
 
--- The rules of the token. What is asked of a tap is asked of what is valid at the tap's moment, and how
--- long a window is at the moment of its first ride.
+-- The rules of the token. What is asked of a tap is asked of what is valid at the tap's moment, and
+-- how long a window is at the moment of its first ride.
 unfoldable pub rules_of : Fares → List ℕ → TokenRules
 rules_of fares token = record {
   modes = length fares.meaning.modes;

@@ -13,7 +13,8 @@ last_tap tap [] = tap
 last_tap tap (next ∷ more) = last_tap next more
 
 -- Whether the tap is a transfer of the trip: its ride gives one more, the tap comes within the time
--- from the ride on, the limit included, and there is a transfer from the mode of the trip's last tap.
+-- from the ride on, the limit included, and there is a transfer from the mode of the trip's last
+-- tap.
 unfoldable pub continues : TransferRules → List LiveTap → LiveTap → Bool
 continues rules [] tap = false
 continues rules (ride ∷ given) tap =

@@ -21,8 +21,8 @@ is_within until (first ∷ _) ride = nat_lt ride.moment (until first.moment)
 unfoldable pub windows : TokenRules → List TapIn → List (List LiveTap)
 windows rules taps = blocks_by (is_within rules.until) (rides rules taps)
 
--- what decides the cents of a ride, by its terms: its window has had so many rides, which cost so
--- many cents
+-- what decides the cents of a ride, by its terms: its window has had this number of rides, which
+-- cost this number of cents
 unfoldable pub charge : Terms → ℕ → ℕ → Charge
 charge terms rides cents =
     if nat_le terms.rides rides then RideLimitReached
@@ -44,8 +44,8 @@ paid_by (CeilingCut place cents) = Some cents
 paid_by (CeilingReached place) = None
 paid_by RideLimitReached = None
 
--- what decides the cents of each of the rides, which follow so many of their window, which cost so
--- many cents
+-- what decides the cents of each of the rides, which follow a number of rides of their window and
+-- their cents
 unfoldable pub charges_after : (LiveTap → Terms) → ℕ → ℕ → List LiveTap → List Charge
 charges_after terms rides cents [] = []
 charges_after terms rides cents (ride ∷ more) =

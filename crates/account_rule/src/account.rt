@@ -1,7 +1,7 @@
 //! The account of one token: what it keeps, and its step.
 
 ghost use Rattle.std.specs.Prelude.{◌≡◌, ℕ, ◌+◌, ◌<◌, ◌≤◌, List, [], ◌∷◌, ◌++◌, length, All, IfSome};
-ghost use Rattle.std.specs.Prelude.{IsTrue, Some};
+ghost use Rattle.std.specs.Prelude.{IsTrue, Some, false};
 ghost use Rattle.std.specs.Option.{ForSome};
 ghost use Rattle.fare_table.specs.Terms.{AreRideTerms};
 ghost use Rattle.fare_table.specs.Fares.{class_of, meaning_at, ride_terms};
@@ -10,8 +10,8 @@ ghost use Rattle.account_rule.specs.declared.tap.TapIn.{TapIn};
 ghost use Rattle.account_rule.specs.Replies.{reply, ride_reply};
 ghost use Rattle.account_rule.specs.TokenRules.{TokenRules, rules_of};
 ghost use Rattle.account_rule.specs.Kept.{IsRoomy, kept_numbers, kept_of, kept_trip};
-ghost use Rattle.account_rule.specs.inside.Kept.{gives, open_window, transfers_in, window_at};
-ghost use Rattle.account_rule.specs.inside.Kept.{with_ride};
+ghost use Rattle.account_rule.specs.inside.Kept.{gives, kept_under, known_tap, open_window};
+ghost use Rattle.account_rule.specs.inside.Kept.{reply_under, transfers_in, window_at, with_ride};
 ghost use Rattle.account_rule.specs.Stands.{Stands, StandsForSome};
 ghost use Rattle.account_rule.specs.Blocks.{last_block};
 ghost use Rattle.account_rule.specs.Taps.{live_at};
@@ -74,8 +74,8 @@ impl Account {
     /// the tap's mode is one of the table's, and its moment lies before 2100-01-01T00:00Z. There is
     /// no order of moments to keep: a tap that comes too late is stale. The step takes no memory.
     /// It asks a tariff for the token's class at the first live tap under it alone, and the clock
-    /// for the window's end where a ride opens a window. No reply costs more than the greatest fare of a
-    /// table.
+    /// for the window's end if a ride opens a window. No reply costs more than the greatest fare of
+    /// a table.
     #[inline(always)]
     pub fn step(&mut self, table: &FareTable, clock: &Clock, token: &[u8], tap: TapIn) -> Reply
         requires clock { clock.now ≡ table.now.zone }
@@ -95,19 +95,16 @@ impl Account {
         let Some(mode) = tap.mode else {
             return Reply::free(Answer::Unknown);
         };
+        if !table.is_first_at(tap.moment) {
+            return self.later_step(table, clock, token, mode, tap.moment);
+        }
         if !self.has_window {
-            return self.first_ride(table.at(tap.moment), clock, token, mode, tap.moment);
+            return self.first_ride(table.first(), clock, token, mode, tap.moment);
         }
         if tap.moment <= self.last {
             return Reply::free(Answer::Stale);
         }
-        let tariff = table.at(tap.moment);
-        let class = self.class_at(table, token, tap.moment);
-        if self.gives_transfer(tariff, class, tap.moment, mode) {
-            self.take_transfer(class, mode, tap.moment);
-            return Reply::free(Answer::Transfer);
-        }
-        Reply::to_ride(self.take_ride(tariff, clock, class, mode, tap.moment))
+        self.live_step(table.first(), clock, mode, tap.moment)
     }
 
     /// The last window, or `None` before the first ride: its paid rides and its cents are within
@@ -154,7 +151,8 @@ impl Account {
         ensures bounds { AreRideTerms (ride_terms tariff.now.meaning self.new.class mode.place) }
         ensures reply { let window = open_window moment (window_end_in clock.now
             tariff.now.meaning.window moment) in
-            result ≡ ride_reply (paid_by (charge (ride_terms tariff.now.meaning self.new.class mode.place)
+            result ≡ ride_reply
+            (paid_by (charge (ride_terms tariff.now.meaning self.new.class mode.place)
             window.rides window.cents)) }
         ensures state { kept_of self.new ≡ Some (record {
           last = live_at moment mode;
@@ -183,6 +181,67 @@ impl Account {
         Reply::to_ride(cents)
     }
 
+    /// What `step` does with a tap at the moment, on the mode.
+    ///
+    /// Kept out of the step, so that a run with one tariff has a compare there and no more.
+    #[cold]
+    #[inline(never)]
+    fn later_step(
+        &mut self,
+        table: &FareTable,
+        clock: &Clock,
+        token: &[u8],
+        mode: Mode,
+        moment: u64,
+    ) -> Reply
+        requires clock { clock.now ≡ table.now.zone }
+        requires token { length token.now ≡ 16 }
+        requires mode { mode.place < length table.now.meaning.modes }
+        requires early { moment < 4_102_444_800_000 }
+        requires stands { StandsForSome (rules_of table.now token.now) self.old }
+        ensures reply { (taps : List TapIn) → Stands (rules_of table.now token.now) self.old taps
+            → result ≡ reply (rules_of table.now token.now) taps (known_tap moment mode) }
+        ensures stands { (taps : List TapIn) → Stands (rules_of table.now token.now) self.old taps
+            → Stands (rules_of table.now token.now) self.new (taps ++ known_tap moment mode ∷ []) }
+        ensures few { result.cents ≤ 100_000 }
+    {
+        if !self.has_window {
+            return self.first_ride(table.at(moment), clock, token, mode, moment);
+        }
+        if moment <= self.last {
+            return Reply::free(Answer::Stale);
+        }
+        self.class = self.class_at(table, token, moment);
+        self.live_step(table.at(moment), clock, mode, moment)
+    }
+
+    /// Takes a live tap at the moment, on the mode, where the tariff is valid then and the class is
+    /// the token's in it, and returns the reply to it.
+    #[inline(always)]
+    fn live_step(&mut self, tariff: &Tariff, clock: &Clock, mode: Mode, moment: u64) -> Reply
+        requires class { self.old.class < length tariff.now.meaning.classes }
+        requires from { self.old.mode.place < length tariff.now.meaning.modes }
+        requires mode { mode.place < length tariff.now.meaning.modes }
+        requires early { moment < 4_102_444_800_000 }
+        requires order { self.old.ride ≤ moment }
+        requires room { IsRoomy self.old.window }
+        ensures bounds { gives (transfers_in tariff.now.meaning self.old.class)
+            (kept_trip (Some (kept_numbers self.old))) (live_at moment mode) ≡ false
+            → AreRideTerms (ride_terms tariff.now.meaning self.old.class mode.place) }
+        ensures few { result.cents ≤ 100_000 }
+        ensures has_window { self.new.has_window ≡ self.old.has_window }
+        ensures reply { result ≡ reply_under tariff.now.meaning clock.now
+            (kept_numbers self.old) (live_at moment mode) }
+        ensures state { kept_numbers self.new ≡ kept_under tariff.now.meaning clock.now
+            (kept_numbers self.old) (live_at moment mode) }
+    {
+        if self.gives_transfer(tariff, moment, mode) {
+            self.take_transfer(mode, moment);
+            return Reply::free(Answer::Transfer);
+        }
+        Reply::to_ride(self.take_ride(tariff, clock, mode, moment))
+    }
+
     /// The place of the token's class in the tariff that is valid at the moment, which is no
     /// earlier than the last live tap: the one that is kept, unless another tariff is valid now.
     #[inline(always)]
@@ -202,93 +261,85 @@ impl Account {
     }
 
     /// Whether the last ride gives a transfer to a live tap at the moment, on the mode, where the
-    /// tariff is valid then and the class is the token's in it.
+    /// tariff is valid then and the class is the token's in it. The time is asked first, since it
+    /// says no most often.
     #[tactic(auto, unfolding(crate::specs::inside::Kept::transfers_in, crate::specs::inside::Kept::gives, crate::specs::Kept::kept_trip, crate::specs::Taps::live_at))]
-    fn gives_transfer(&self, tariff: &Tariff, class: u32, moment: u64, mode: Mode) -> bool
-        requires class { class < length tariff.now.meaning.classes }
+    fn gives_transfer(&self, tariff: &Tariff, moment: u64, mode: Mode) -> bool
+        requires class { self.now.class < length tariff.now.meaning.classes }
         requires from { self.now.mode.place < length tariff.now.meaning.modes }
         requires mode { mode.place < length tariff.now.meaning.modes }
-        ensures gives { result ≡ gives (transfers_in tariff.now.meaning class)
+        requires order { self.now.ride ≤ moment }
+        ensures gives { result ≡ gives (transfers_in tariff.now.meaning self.now.class)
             (kept_trip (Some (kept_numbers self.now))) (live_at moment mode) }
         ensures few { IsTrue result → self.now.given < 9 }
     {
-        let gives = tariff.transfer_terms(class);
-        u32::from(self.given) < gives.taps
-            && moment.saturating_sub(self.ride) <= u64::from(gives.time)
+        let gives = tariff.transfer_terms(self.class);
+        moment - self.ride <= u64::from(gives.time)
+            && u32::from(self.given) < gives.taps
             && tariff.permits(self.mode, mode)
     }
 
     /// Takes a live tap at the moment, on the mode, as a transfer.
-    fn take_transfer(&mut self, class: u32, mode: Mode, moment: u64)
+    fn take_transfer(&mut self, mode: Mode, moment: u64)
         requires few { self.old.given < 9 }
         ensures has_window { self.new.has_window ≡ self.old.has_window }
         ensures state { kept_numbers self.new ≡ record {
           last = live_at moment mode;
           ride = live_at self.old.ride self.old.ride_mode;
           given = self.old.given + 1;
-          class = class;
+          class = self.old.class;
           window = self.old.window;
         } }
     {
         self.last = moment;
         self.mode = mode;
-        self.class = class;
         self.given += 1;
     }
 
     /// Takes a live tap at the moment, on the mode, as a ride, and returns what it costs.
     #[tactic(auto, unfolding(crate::specs::inside::Kept::window_at, crate::specs::inside::Kept::open_window))]
-    fn take_ride(
-        &mut self,
-        tariff: &Tariff,
-        clock: &Clock,
-        class: u32,
-        mode: Mode,
-        moment: u64,
-    ) -> Option<u32>
-        requires class { class < length tariff.now.meaning.classes }
+    fn take_ride(&mut self, tariff: &Tariff, clock: &Clock, mode: Mode, moment: u64) -> Option<u32>
+        requires class { self.old.class < length tariff.now.meaning.classes }
         requires mode { mode.place < length tariff.now.meaning.modes }
         requires early { moment < 4_102_444_800_000 }
         requires room { IsRoomy self.old.window }
-        ensures bounds { AreRideTerms (ride_terms tariff.now.meaning class mode.place) }
+        ensures bounds { AreRideTerms (ride_terms tariff.now.meaning self.old.class mode.place) }
         ensures cost { let window = window_at (Some self.old.window) moment (window_end_in clock.now
             tariff.now.meaning.window moment) in
-            result ≡ paid_by (charge (ride_terms tariff.now.meaning class mode.place) window.rides
-            window.cents) }
+            result ≡ paid_by (charge (ride_terms tariff.now.meaning self.old.class mode.place)
+            window.rides window.cents) }
         ensures has_window { self.new.has_window ≡ self.old.has_window }
         ensures state { kept_numbers self.new ≡ record {
           last = live_at moment mode;
           ride = live_at moment mode;
           given = 0;
-          class = class;
-          window = with_ride (ride_terms tariff.now.meaning class mode.place)
+          class = self.old.class;
+          window = with_ride (ride_terms tariff.now.meaning self.old.class mode.place)
               (window_at (Some self.old.window) moment (window_end_in clock.now
               tariff.now.meaning.window moment));
         } }
     {
+        self.begin_trip(mode, moment);
         if moment >= self.window.until {
             self.window = Window::opened(tariff, clock, moment);
         }
-        let cents = self.window.add_ride(tariff.ride_terms(class, mode));
-        self.begin_trip(class, mode, moment);
-        cents
+        self.window.add_ride(tariff.ride_terms(self.class, mode))
     }
 
     /// Keeps a live tap at the moment, on the mode, as the last ride.
-    fn begin_trip(&mut self, class: u32, mode: Mode, moment: u64)
+    fn begin_trip(&mut self, mode: Mode, moment: u64)
         ensures has_window { self.new.has_window ≡ self.old.has_window }
         ensures state { kept_numbers self.new ≡ record {
           last = live_at moment mode;
           ride = live_at moment mode;
           given = 0;
-          class = class;
+          class = self.old.class;
           window = self.old.window;
         } }
     {
         self.last = moment;
         self.ride = moment;
         self.given = 0;
-        self.class = class;
         self.mode = mode;
         self.ride_mode = mode;
     }

@@ -12,8 +12,8 @@ ghost use Rattle.account_rule.specs.Laws.{WindowsShareTheRides};
 ghost use Rattle.account_rule.specs.NoTransfers.{RidesLackTransfers};
 ghost use Rattle.account_rule.specs.OneTransfer.{TripsOfOneTransfer};
 
-/// The trips are the only blocks into which transfers divide live taps, and the windows the only ones
-/// into which window ends divide rides.
+/// The trips are the only blocks into which transfers divide live taps, and the windows the only
+/// ones into which window ends divide rides.
 pub fn only_blocks()
     ensures trips { TripsAreTheOnlyBlocks }
     ensures windows { WindowsAreTheOnlyBlocks }
@@ -26,8 +26,9 @@ pub fn windows_keep_limits()
     ensures ceiling { WindowsKeepTheCeiling }
 {}
 
-/// With each ride of a window its paid rides stay as many as they were or within the ride's limit, and
-/// its cents stay as they were or within the ride's ceiling, also where the terms of its rides differ.
+/// With each ride of a window its paid rides stay as many as they were or within the ride's limit,
+/// and its cents stay as they were or within the ride's ceiling, also if the terms of its rides
+/// differ.
 pub fn windows_grow_within_limits()
     ensures { WindowsGrowWithinLimits }
 {}
@@ -45,13 +46,13 @@ pub fn higher_terms_are_never_cheaper()
     ensures { HigherTermsAreNeverCheaper }
 {}
 
-/// Where all rides of a window have the same terms, with a fare above 0, each costs what its place in
+/// If all rides of a window have the same terms, with a fare above 0, each costs what its place in
 /// the window says: the rides before it cost a fare each, up to the ceiling.
 pub fn equal_fares_are_charged_by_places()
     ensures { EqualFaresAreChargedByPlaces }
 {}
 
-/// Where each ride gives one transfer, rides and transfers take turns in each longest row of taps of
+/// If each ride gives one transfer, rides and transfers take turns in each longest row of taps of
 /// which the next is in time and permitted after the one before it.
 pub fn trips_of_one_transfer()
     ensures { TripsOfOneTransfer }

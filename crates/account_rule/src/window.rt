@@ -1,6 +1,6 @@
 //! A window of rides, and what its next ride costs.
 
-ghost use Rattle.std.specs.Prelude.{◌≡◌, ◌+◌, ◌<◌, ◌≤◌, IfSome, is_some, unwrap_or};
+ghost use Rattle.std.specs.Prelude.{◌≡◌, ℕ, ◌+◌, ◌<◌, ◌≤◌, IfSome, is_some, min, unwrap_or};
 ghost use Rattle.fare_table.specs.Terms.{AreRideTerms};
 ghost use Rattle.fare_table.specs.Until.{window_end_in};
 ghost use Rattle.account_rule.specs.Kept.{IsRoomy};
@@ -93,13 +93,25 @@ impl Window {
         ensures cost { result ≡ paid_by (charge terms self.old.rides self.old.cents) }
         ensures counts { self.new ≡ with_ride terms self.old }
     {
-        let cents = paid(terms, u32::from(self.rides), self.cents);
-        if let Some(cents) = cents {
-            self.cents += cents;
-            self.paid += 1;
+        if u32::from(self.rides) >= terms.rides {
+            self.count_free_ride();
+            return None;
         }
-        self.rides = (self.rides + 1).min(MAX_RIDES);
-        cents
+        self.rides += 1;
+        let cents = paid_below(terms, self.cents)?;
+        self.cents += cents;
+        self.paid += 1;
+        Some(cents)
+    }
+
+    /// Counts one more ride, for which nothing is paid since the ride limit is reached.
+    fn count_free_ride(&mut self)
+        requires room { self.old.rides ≤ 1_000 }
+        ensures { self.new ≡ record self.old { rides = min (self.old.rides + 1) 1_000 } }
+    {
+        if self.rides < MAX_RIDES {
+            self.rides += 1;
+        }
     }
 
     /// Why its next ride is answered as it is.
@@ -117,8 +129,8 @@ impl Window {
     }
 }
 
-/// What a ride costs, in cents, if all rides of its window have these terms. `place` is the number of
-/// rides before it in the window.
+/// What a ride costs, in cents, if all rides of its window have these terms. `place` is the number
+/// of rides before it in the window.
 #[tactic(auto, unfolding(crate::specs::Windows::charge, crate::specs::Laws::place_cents))]
 pub fn cents_at(terms: Terms, place: u32) -> u32
     requires bounds { AreRideTerms terms }
@@ -152,20 +164,21 @@ fn charge(terms: Terms, rides: u32, cents: u32) -> Charge
     }
 }
 
-/// What is paid for a ride, if its window has had `rides` rides, which cost `cents`; `None` if a
-/// limit is reached. The numbers alone, since this runs at each ride.
+/// What is paid for a ride below the ride limit, if the rides of its window cost `cents`; `None` if
+/// the ceiling is reached. The numbers alone, since this runs at each ride.
 #[tactic(auto, unfolding(crate::specs::Windows::charge, crate::specs::Windows::is_paid))]
-fn paid(terms: Terms, rides: u32, cents: u32) -> Option<u32>
+fn paid_below(terms: Terms, cents: u32) -> Option<u32>
     requires bounds { AreRideTerms terms }
     requires low { cents ≤ 100_000_000 }
-    ensures cost { result ≡ paid_by (charge terms rides cents) }
-    ensures cents { unwrap_or result 0 ≡ charged_by (charge terms rides cents) }
-    ensures some { is_some result ≡ is_paid (charge terms rides cents) }
-    ensures below { IfSome result (λ paid. (rides < terms.rides) × (cents + paid ≤ terms.ceiling)) }
+    ensures cost { (rides : ℕ) → rides < terms.rides
+        → result ≡ paid_by (charge terms rides cents) }
+    ensures cents { (rides : ℕ) → rides < terms.rides
+        → unwrap_or result 0 ≡ charged_by (charge terms rides cents) }
+    ensures some { (rides : ℕ) → rides < terms.rides
+        → is_some result ≡ is_paid (charge terms rides cents) }
+    ensures below { IfSome result (λ paid. cents + paid ≤ terms.ceiling) }
 {
-    if terms.rides <= rides {
-        None
-    } else if terms.ceiling <= cents {
+    if terms.ceiling <= cents {
         None
     } else if terms.ceiling >= cents + terms.fare {
         Some(terms.fare)

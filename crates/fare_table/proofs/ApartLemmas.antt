@@ -17,7 +17,7 @@ use Rattle.fare_table.specs.Validators.{stand_apart}
 use Rattle.fare_table.specs.inside.Validators.{is_rising, last_begun, IsSplitAt}
 use Rattle.fare_table.specs.declared.validators.RangeRest.{RangeRest}
 
--- the range, where it reaches the number
+-- the range, if it reaches the number
 abbrev pub reaching : ℕ → Option (ℕ × RangeRest) → Option (ℕ × RangeRest)
 reaching number None = None
 reaching number (Some range) = if nat_le number range.1.last then Some range else None
@@ -60,7 +60,7 @@ found_step n range next more two ih (inl a) (inl b) =
     let past : nat_le n range.1.last ≡ false = grind (arith, nat_tests, two.ends) in
     rw (a.0, past, ih, b.0, or_twice (last_begun n more) next range)
 
--- the range that has a number is the last one that begins at it or before it, where that reaches it
+-- the range that has a number is the last one that begins at it or before it, if that reaches it
 pub found : (n : ℕ) (ranges : List (ℕ × RangeRest)) → stand_apart ranges ≡ true
     → find (has_number n) ranges ≡ reaching n (last_begun n ranges)
 found n [] stands = refl
@@ -258,7 +258,7 @@ halved n firsts base size d rising split more inside false is = record {
       ];
 }
 
--- half of what is left is taken where its first number is not above the number
+-- half of what is left is taken if its first number is not above the number
 pub split-half : (n : ℕ) (firsts : List ℕ) (base size : ℕ) (d : ℕ) → is_rising firsts ≡ true
     → IsSplitAt n firsts base size → 1 < size → base + size ≤ length firsts
     → IsSplitAt n firsts

@@ -1,7 +1,7 @@
 -- Which of the tables that follow one another is valid at a moment.
 use Rattle.std.proofs.Common.{◌≡◌, ◌<◌, ◌≤◌, ℕ, zero, suc, Bool, true, false, cond, List, [], ◌∷◌}
 use Rattle.std.proofs.Common.{Option, Some, None, All, refl, sym, ap, ◌∙◌, arith, string_bytes, map}
-use Rattle.std.proofs.Common.{◌&&◌, String, Global}
+use Rattle.std.proofs.Common.{◌&&◌, String, Global, get_or, length}
 use Rattle.std.specs.Prelude.{nat_le, slice_get}
 use Rattle.std.specs.String.{string_eq}
 use Rattle.std.proofs.lemmas.Bool.{true≢false}
@@ -10,7 +10,9 @@ use Rattle.std.proofs.lemmas.Bool.{leb-true}
 use Rattle.fare_table.specs.Fares.{Fares, meaning_at, valid_at}
 use Rattle.fare_table.specs.Modes.{same_name}
 use Rattle.fare_table.specs.TableMeaning.{TableMeaning}
-use Rattle.fare_table.specs.inside.Table.{HasModes, begun, first_from, same_names, same_zone}
+use Rattle.fare_table.specs.declared.table.DatedTariff.{DatedTariff}
+use Rattle.fare_table.specs.inside.Table.{HasModes, begun, dated_meaning, first_from, same_names}
+use Rattle.fare_table.specs.inside.Table.{same_zone}
 
 -- before the first date the first table is valid
 pub valid-before : (meaning : TableMeaning) (later : List (ℕ × TableMeaning)) (moment : ℕ)
@@ -25,7 +27,7 @@ valid-before meaning (next ∷ later) moment before =
     by true is = let no = leb-true next.0 moment is in absurd (omega arith)
     by false is = refl
 
--- the table behind so many of those that follow
+-- the table behind some of those that follow
 abbrev pub nth_valid : TableMeaning → List (ℕ × TableMeaning) → ℕ → TableMeaning
 nth_valid meaning later zero = meaning
 nth_valid meaning [] (suc place) = meaning
@@ -54,7 +56,15 @@ nth-get meaning [] place next is = absurd (cc)
 nth-get meaning (one ∷ later) zero next is = let same : one ≡ next = cc in ap (λ n. n.1) same
 nth-get meaning (one ∷ later) (suc place) next is = nth-get one.1 later place next is
 
--- where as many of those that follow have begun, one table is valid
+-- what a tariff says that stands at a place stands there among what all say
+pub got : (items : List DatedTariff) (place : ℕ) (item : DatedTariff) → place < length items
+    → item ≡ get_or items place item
+    → slice_get (map dated_meaning items) place ≡ Some (dated_meaning item)
+got [] place item below is = absurd (omega arith)
+got (one ∷ items) zero item below is = ap (λ d. Some (dated_meaning d)) (sym is)
+got (one ∷ items) (suc place) item below is = got items place item (omega arith) is
+
+-- if the same number of those that follow have begun, one table is valid
 pub valid-same : (fares : Fares) (earlier moment : ℕ)
     → begun earlier fares.later ≡ begun moment fares.later
     → meaning_at fares earlier ≡ meaning_at fares moment
@@ -65,12 +75,11 @@ valid-same fares earlier moment same =
     ∙ sym (valid-begun fares.meaning fares.later moment)
 
 -- before the first date the first table is valid, also at each earlier moment
-pub first-same : (fares : Fares) (earlier moment : ℕ) → earlier ≤ moment
-    → moment < first_from fares.later → meaning_at fares earlier ≡ meaning_at fares moment
+pub first_valid : (fares : Fares) (earlier moment : ℕ) → earlier ≤ moment
+    → moment < first_from fares.later → meaning_at fares earlier ≡ fares.meaning
 unfolding meaning_at
-first-same fares earlier moment order before =
+first_valid fares earlier moment order before =
     valid-before fares.meaning fares.later earlier (omega arith)
-    ∙ sym (valid-before fares.meaning fares.later moment before)
 
 modes_one : (modes : List (List ℕ)) (valid meaning : TableMeaning) (b : Bool)
     → valid.modes ≡ modes → meaning.modes ≡ modes → (cond b valid meaning).modes ≡ modes
@@ -122,12 +131,3 @@ zones-same None (Some other) same = absurd (true≢false (sym same))
 zones-same (Some text) None same = absurd (true≢false (sym same))
 zones-same (Some text) (Some other) same =
     ap (λ t. Some t) (sym ((bytes_decides text other).0 same))
-
-pub zones-other : (text other : Option (List ℕ)) → same_zone text other ≡ false
-    → other ≡ text → ⊥
-zones-other None None different same = true≢false different
-zones-other None (Some other) different same = absurd (cc)
-zones-other (Some text) None different same = absurd (cc)
-zones-other (Some text) (Some other) different same =
-    let one : text ≡ other = cc in
-    true≢false (sym ((bytes_decides text other).1 one) ∙ different)

@@ -10,7 +10,7 @@ use Rattle.std.specs.Prelude.{pos, nat_le, if◌then◌else◌}
 use Rattle.toml.specs.Data.{Data, Items, no_items, item, Members, string, integer, array, table}
 use Rattle.toml.specs.Data.{as_table, get_member, get_item}
 use Rattle.fare_table.proofs.OverlapLemmas.{stands-insert, comes_after, comes_before}
-use Rattle.fare_table.proofs.OverlapLemmas.{free_apart, rest_stands}
+use Rattle.fare_table.proofs.OverlapLemmas.{free_apart, rest_stands, with_one}
 use Rattle.fare_table.proofs.PartLemmas.{bind_ok, parts}
 use Rattle.fare_table.proofs.ReadLemmas.{array-read, is_table, number-read, text-read}
 use Rattle.fare_table.specs.TextRanges.{RangeGives, RangeHas, HasRange, HasValidator, NamesMode}
@@ -40,9 +40,6 @@ other_has n one other ends has = elim (cases_Bool (has_number n other)) [
       absurd (omega (arith, upto, from, ends))
   | inr none ↦ none
 ]
-
-with_one : ℕ × RangeRest → List (ℕ × RangeRest) → List (ℕ × RangeRest)
-with_one range ranges = insert_entry nat_cmp ranges range.0 range.1
 
 found_step : (n : ℕ) (range other : ℕ × RangeRest) (more : List (ℕ × RangeRest))
     → range.0 ≤ range.1.last

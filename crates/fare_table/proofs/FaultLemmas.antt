@@ -1,4 +1,4 @@
--- The fault that the meaning of a tree tells is that of the first row that holds.
+-- The fault that the meaning of a tree reports is that of the first row that holds.
 use Rattle.std.proofs.Common.{◌≡◌, ℕ, zero, suc, ◌+◌, ◌*◌, ◌&&◌, ◌||◌, not, Bool, true, false, List}
 use Rattle.std.proofs.Common.{[], ◌∷◌, ◌++◌, Option, Some, None, Ok, Err, cond, option_map, refl}
 use Rattle.std.proofs.Common.{sym, ap, ◌∙◌, subst, arith, codes, append_assoc, Ordering}
@@ -52,10 +52,10 @@ cond_map : (b : Bool) (r : FaultRow) (o : Option FaultRow)
 cond_map true r o = refl
 cond_map false r o = refl
 
-pub told : (tree : Members) (at : Where) (fault : TableFault) (more : List FaultRow)
+pub reported : (tree : Members) (at : Where) (fault : TableFault) (more : List FaultRow)
     → first_row tree (a_row at fault ∷ more)
     ≡ cond (is_wrong tree at fault) (Some fault) (first_row tree more)
-told tree at fault more =
+reported tree at fault more =
     cond_map (is_wrong tree at fault) (a_row at fault) (find (holds tree) more)
 
 or_map : (a b : Option FaultRow)
@@ -65,9 +65,9 @@ or_map : (a b : Option FaultRow)
 or_map None b = refl
 or_map (Some r) b = refl
 
-pub told_append : (tree : Members) (front back : List FaultRow)
+pub reported_append : (tree : Members) (front back : List FaultRow)
     → first_row tree (front ++ back) ≡ option_or (first_row tree front) (first_row tree back)
-told_append tree front back =
+reported_append tree front back =
     ap (option_map (λ (one : FaultRow). one.1)) (find-append (holds tree) front back)
     ∙ or_map (find (holds tree) front) (find (holds tree) back)
 
@@ -78,10 +78,10 @@ pub steps : {A B : Type 0} (tree : Members) (o : OrFault A) (f : A
     → fault_in (o >>= f) ≡ first_row tree (front ++ back)
 steps tree (Ok a) f front back one two =
     two a refl ∙ ap (λ (x : Option TableFault). option_or x (first_row tree back)) one
-    ∙ sym (told_append tree front back)
+    ∙ sym (reported_append tree front back)
 steps tree (Err e) f front back one two =
     ap (λ (x : Option TableFault). option_or x (first_row tree back)) one
-    ∙ sym (told_append tree front back)
+    ∙ sym (reported_append tree front back)
 
 -- a last step that always goes well
 pub done : {A B : Type 0} (o : OrFault A) (f : A → B)
@@ -97,30 +97,30 @@ needs o kind bounds key =
     cond (is_none o) (Some (Missing key))
     (cond (fails kind o) (Some (Kind key)) (cond (fails bounds o) (Some (Range key)) None))
 
-pub told_needed : (tree : Members) (at : Where) (key : Key)
+pub reported_needed : (tree : Members) (at : Where) (key : Key)
     → first_row tree (needed_rows at key)
     ≡ needs (value_at at key tree) (is_kind key) (is_in_bounds key (members_at at tree)) key
-told_needed tree at key =
-    told tree at (Missing key) (a_row at (Kind key) ∷ a_row at (Range key) ∷ [])
+reported_needed tree at key =
+    reported tree at (Missing key) (a_row at (Kind key) ∷ a_row at (Range key) ∷ [])
     ∙ ap (λ (x : Option TableFault). cond (is_none (value_at at key tree)) (Some (Missing key)) x)
-    (told tree at (Kind key) (a_row at (Range key) ∷ [])
+    (reported tree at (Kind key) (a_row at (Range key) ∷ [])
     ∙ ap (λ (x : Option TableFault).
     cond (fails (is_kind key) (value_at at key tree)) (Some (Kind key)) x)
-    (told tree at (Range key) []))
+    (reported tree at (Range key) []))
 
 -- ---- numbers
-within_tells : (b : Bool) (n : ℕ) (key : Key)
+within_reports : (b : Bool) (n : ℕ) (key : Key)
     → fault_in (if b then Ok n else Err (Range key)) ≡ cond (not b) (Some (Range key)) None
-within_tells true n key = refl
-within_tells false n key = refl
+within_reports true n key = refl
+within_reports false n key = refl
 
-pub number_tells : (o : Option Data) (key : Key) (low high : ℕ)
+pub number_reports : (o : Option Data) (key : Key) (low high : ℕ)
     → fault_in (ok_or o (Missing key) >>= number_in key low high)
     ≡ needs o (λ value. is_some (as_integer value)) (is_from low high) key
-number_tells None key low high = refl
-number_tells (Some (integer z)) key low high =
-    within_tells (int_le (pos low) z && int_le z (pos high)) (unsigned_abs z) key
-number_tells (Some _) key low high = refl
+number_reports None key low high = refl
+number_reports (Some (integer z)) key low high =
+    within_reports (int_le (pos low) z && int_le z (pos high)) (unsigned_abs z) key
+number_reports (Some _) key low high = refl
 
 -- ---- modes
 strings-read : (found : List (List ℕ)) (ds : Items)
@@ -168,11 +168,11 @@ modes_steps (Some (array ds)) =
     ∙ names_if (are_texts ds) (texts ds)
 modes_steps (Some _) = refl
 
-pub modes-told : (tree : Members)
+pub modes-reported : (tree : Members)
     → fault_in (modes_of tree) ≡ first_row tree (needed_rows top the_key.Modes)
 unfolding modes_of
-modes-told tree = modes_steps (get_member (codes "modes") tree)
-    ∙ sym (told_needed tree top the_key.Modes)
+modes-reported tree = modes_steps (get_member (codes "modes") tree)
+    ∙ sym (reported_needed tree top the_key.Modes)
 
 names_known : (o : Option Data) (modes : List (List ℕ))
     → ((ok_or o (Missing the_key.Modes) >>= (λ value. of_kind the_key.Modes (as_array value)))
@@ -245,22 +245,22 @@ any_if : (b c : Bool)
 any_if true c = refl
 any_if false c = refl
 
-transfers_tell : (modes : List (List ℕ)) (found : List (ℕ × ℕ)) (names : List (List ℕ × List ℕ))
+transfers_report : (modes : List (List ℕ)) (found : List (ℕ × ℕ)) (names : List (List ℕ × List ℕ))
     → fault_in (transfers_from modes found names)
     ≡ cond (list_any (is_unknown modes) names) (Some Mode) None
-transfers_tell modes found [] = refl
-transfers_tell modes found (pair ∷ more) =
+transfers_report modes found [] = refl
+transfers_report modes found (pair ∷ more) =
     place_if (position (same_name pair.0) modes) (position (same_name pair.1) modes) (λ places.
     transfers_from modes (with_pair found places.0 places.1) more)
     (cond (list_any (is_unknown modes) more) (Some Mode) None)
-    (λ places. transfers_tell modes (with_pair found places.0 places.1) more)
+    (λ places. transfers_report modes (with_pair found places.0 places.1) more)
     ∙ any_if (is_unknown modes pair) (list_any (is_unknown modes) more)
 
 pairs_if : (b : Bool) (modes : List (List ℕ)) (names : List (List ℕ × List ℕ))
     → fault_in ((if b then Ok names else Err (Kind the_key.Transfers)) >>= transfers_from modes [])
     ≡ cond (not b) (Some (Kind the_key.Transfers))
     (cond (list_any (is_unknown modes) names) (Some Mode) None)
-pairs_if true modes names = transfers_tell modes [] names
+pairs_if true modes names = transfers_report modes [] names
 pairs_if false modes names = refl
 
 abbrev by_pairs : List (List ℕ) → Items → OrFault (List (ℕ × ℕ))
@@ -279,24 +279,24 @@ transfers_steps (Some (array ds)) modes =
     ∙ pairs_if (are_pairs ds) modes (pairs ds)
 transfers_steps (Some _) modes = refl
 
-pub transfers-told : (tree : Members) (modes : List (List ℕ)) → mode_names tree ≡ modes
+pub transfers-reported : (tree : Members) (modes : List (List ℕ)) → mode_names tree ≡ modes
     → fault_in (transfers_of modes tree)
     ≡ first_row tree (a_row top (Missing the_key.Transfers) ∷ a_row top (Kind the_key.Transfers)
     ∷ a_row top Mode ∷ [])
 unfolding transfers_of
-transfers-told tree modes known =
+transfers-reported tree modes known =
     transfers_steps (get_member (codes "transfers") tree) modes
     ∙ ap (λ (names : List (List ℕ)).
     cond (is_none o) (Some (Missing the_key.Transfers))
     (cond (fails (is_kind the_key.Transfers) o) (Some (Kind the_key.Transfers))
     (cond (list_any (is_unknown names) (pairs (items_of o))) (Some Mode) None))) (sym known)
-    ∙ sym (told tree top (Missing the_key.Transfers) (a_row top (Kind the_key.Transfers)
+    ∙ sym (reported tree top (Missing the_key.Transfers) (a_row top (Kind the_key.Transfers)
     ∷ a_row top Mode ∷ [])
     ∙ ap (λ (x : Option TableFault). cond (is_none o) (Some (Missing the_key.Transfers)) x)
-    (told tree top (Kind the_key.Transfers) (a_row top Mode ∷ [])
+    (reported tree top (Kind the_key.Transfers) (a_row top Mode ∷ [])
     ∙ ap (λ (x : Option TableFault).
     cond (fails (is_kind the_key.Transfers) o) (Some (Kind the_key.Transfers)) x)
-    (told tree top Mode [])))
+    (reported tree top Mode [])))
   where
     o : Option Data
     o = get_member (codes "transfers") tree
@@ -317,41 +317,41 @@ stand_next whole n key value more stand k j is = stand (suc k) j (omega (arith, 
 pub stand_all : (whole : Members) → Stand whole 0 whole
 stand_all whole k j is = let same : j ≡ k = omega (arith, is) in ap (λ n. member_at n whole) same
 
-ceiling_tells : (price fare rides : ℕ) (o : Option Data)
+ceiling_reports : (price fare rides : ℕ) (o : Option Data)
     → fault_in (ceiling_of price o >>= (λ ceiling. Ok (terms_by fare rides ceiling)))
     ≡ cond (fails (is_kind the_key.Ceiling) o) (Some (Kind the_key.Ceiling))
     (cond (fails (is_from 1 100_000_000) o) (Some (Range the_key.Ceiling)) None)
-ceiling_tells price fare rides None = refl
-ceiling_tells price fare rides (Some (integer z)) =
+ceiling_reports price fare rides None = refl
+ceiling_reports price fare rides (Some (integer z)) =
     done (within the_key.Ceiling 1 100_000_000 z) (terms_by fare rides)
-    ∙ within_tells (int_le (pos 1) z && int_le z (pos 100_000_000)) (unsigned_abs z)
+    ∙ within_reports (int_le (pos 1) z && int_le z (pos 100_000_000)) (unsigned_abs z)
     the_key.Ceiling
-ceiling_tells price fare rides (Some _) = refl
+ceiling_reports price fare rides (Some _) = refl
 
-pub told_two : (tree : Members) (at : Where) (one two : TableFault)
+pub reported_two : (tree : Members) (at : Where) (one two : TableFault)
     → first_row tree (a_row at one ∷ a_row at two ∷ [])
     ≡ cond (is_wrong tree at one) (Some one) (cond (is_wrong tree at two) (Some two) None)
-told_two tree at one two =
-    told tree at one (a_row at two ∷ [])
-    ∙ ap (λ (x : Option TableFault). cond (is_wrong tree at one) (Some one) x) (told tree at two [])
+reported_two tree at one two =
+    reported tree at one (a_row at two ∷ [])
+    ∙ ap (λ (x : Option TableFault). cond (is_wrong tree at one) (Some one) x) (reported tree at two [])
 
-terms-told : (tree : Members) (n : ℕ)
+terms-reported : (tree : Members) (n : ℕ)
     → fault_in (terms_of (members_at (class n) tree)) ≡ first_row tree (rows_of_terms n)
 unfolding terms_of
-terms-told tree n =
+terms-reported tree n =
     let at = class n in
     let inner = members_at at tree in
     steps tree (number_at (codes "fare") the_key.Fare 1 100_000 inner) _
     (needed_rows at the_key.Fare) (needed_rows at the_key.Rides
     ++ optional_rows at the_key.Ceiling)
-    (number_tells (value_at at the_key.Fare tree) the_key.Fare 1 100_000
-    ∙ sym (told_needed tree at the_key.Fare))
+    (number_reports (value_at at the_key.Fare tree) the_key.Fare 1 100_000
+    ∙ sym (reported_needed tree at the_key.Fare))
     (λ fare is. steps tree (number_at (codes "rides") the_key.Rides 1 1_000 inner) _
     (needed_rows at the_key.Rides) (optional_rows at the_key.Ceiling)
-    (number_tells (value_at at the_key.Rides tree) the_key.Rides 1 1_000
-    ∙ sym (told_needed tree at the_key.Rides))
-    (λ rides is'. ceiling_tells (rides * fare) fare rides (value_at at the_key.Ceiling tree)
-    ∙ sym (told_two tree at (Kind the_key.Ceiling) (Range the_key.Ceiling))))
+    (number_reports (value_at at the_key.Rides tree) the_key.Rides 1 1_000
+    ∙ sym (reported_needed tree at the_key.Rides))
+    (λ rides is'. ceiling_reports (rides * fare) fare rides (value_at at the_key.Ceiling tree)
+    ∙ sym (reported_two tree at (Kind the_key.Ceiling) (Range the_key.Ceiling))))
 
 -- ---- the fares of a class by mode
 mode_if : (o : Option ℕ) (f : ℕ → OrFault (List ℕ)) (rest : Option TableFault)
@@ -368,18 +368,18 @@ cents_if true n f rest same = same n
 cents_if false n f rest same = refl
 
 -- what the rows of one of the fares tell, of its name and number, and then the rest
-abbrev fare_tells : List (List ℕ) → Option (List ℕ × Data) → Option TableFault → Option TableFault
-fare_tells modes o rest =
+abbrev fare_reports : List (List ℕ) → Option (List ℕ × Data) → Option TableFault → Option TableFault
+fare_reports modes o rest =
     cond (holds_of_some (λ (one : List ℕ × Data). not (is_mode modes one.0)) o) (Some Mode)
     (cond (holds_of_some (λ (value : Data). not (is_from 0 100_000 value))
     (option_map (λ (one : List ℕ × Data). one.1) o)) (Some (Range the_key.Fares)) rest)
 
-fares-from-told : (tree : Members) (modes : List (List ℕ)) (n k : ℕ) (fares : List ℕ)
+fares-from-reported : (tree : Members) (modes : List (List ℕ)) (n k : ℕ) (fares : List ℕ)
     (part : Members) → mode_names tree ≡ modes → Stand (fares_in tree n) k part
     → hold_numbers part ≡ true
     → fault_in (fares_from modes fares part) ≡ first_row tree (fare_rows n k part)
-fares-from-told tree modes n k fares no_members known stand numbers = refl
-fares-from-told tree modes n k fares (member name (integer z) more) known stand numbers =
+fares-from-reported tree modes n k fares no_members known stand numbers = refl
+fares-from-reported tree modes n k fares (member name (integer z) more) known stand numbers =
     let at : fare_at tree n k ≡ Some (name, integer z) =
     stand_here (fares_in tree n) k name (integer z) more stand in
     let rest = first_row tree (fare_rows n (suc k) more) in
@@ -389,16 +389,16 @@ fares-from-told tree modes n k fares (member name (integer z) more) known stand 
     (cond (not (int_le (pos 0) z && int_le z (pos 100_000))) (Some (Range the_key.Fares)) rest)
     (λ place. cents_if (int_le (pos 0) z && int_le z (pos 100_000)) (unsigned_abs z)
     (λ cents. fares_from modes (slice_set fares place cents) more) rest
-    (λ cents. fares-from-told tree modes n (suc k) (slice_set fares place cents) more known
+    (λ cents. fares-from-reported tree modes n (suc k) (slice_set fares place cents) more known
     (stand_next (fares_in tree n) k name (integer z) more stand) numbers))
-    ∙ ap (λ (names : List (List ℕ)). fare_tells names (Some (name, integer z)) rest) (sym known)
-    ∙ ap (λ (o : Option (List ℕ × Data)). fare_tells (mode_names tree) o rest) (sym at)
-    ∙ sym (told tree (mode_fare n k) Mode (a_row (mode_fare n k) (Range the_key.Fares)
+    ∙ ap (λ (names : List (List ℕ)). fare_reports names (Some (name, integer z)) rest) (sym known)
+    ∙ ap (λ (o : Option (List ℕ × Data)). fare_reports (mode_names tree) o rest) (sym at)
+    ∙ sym (reported tree (mode_fare n k) Mode (a_row (mode_fare n k) (Range the_key.Fares)
     ∷ fare_rows n (suc k) more)
     ∙ ap (λ (x : Option TableFault).
     cond (is_wrong tree (mode_fare n k) Mode) (Some Mode) x)
-    (told tree (mode_fare n k) (Range the_key.Fares) (fare_rows n (suc k) more)))
-fares-from-told tree modes n k fares (member name _ more) known stand numbers =
+    (reported tree (mode_fare n k) (Range the_key.Fares) (fare_rows n (suc k) more)))
+fares-from-reported tree modes n k fares (member name _ more) known stand numbers =
     absurd (false≢true numbers)
 
 numbers_if : (b : Bool) (modes : List (List ℕ)) (fares : List ℕ) (part : Members)
@@ -420,79 +420,79 @@ fares_steps (Some (table part)) modes fare rest none same =
     (λ numbers. same part refl numbers)
 fares_steps (Some _) modes fare rest none same = refl
 
-fares-told : (tree : Members) (modes : List (List ℕ)) (n fare : ℕ) → mode_names tree ≡ modes
+fares-reported : (tree : Members) (modes : List (List ℕ)) (n fare : ℕ) → mode_names tree ≡ modes
     → fault_in (fares_of modes fare (get_member (codes "fares") (members_at (class n) tree)))
     ≡ first_row tree (rows_of_fares tree n)
-fares-told tree modes n fare known =
+fares-reported tree modes n fare known =
     let o = get_member (codes "fares") (members_at (class n) tree) in
     fares_steps o modes fare (λ part. first_row tree (fare_rows n 0 part)) refl
     (λ part is numbers.
-    fares-from-told tree modes n 0 (replicate 32 fare) part known
+    fares-from-reported tree modes n 0 (replicate 32 fare) part known
     (subst (λ (m : Members). Stand (fares_in tree n) 0 m) (ap members_of is)
     (stand_all (fares_in tree n))) numbers)
-    ∙ sym (told tree (class n) (Kind the_key.Fares) (fare_rows n 0 (fares_in tree n)))
+    ∙ sym (reported tree (class n) (Kind the_key.Fares) (fare_rows n 0 (fares_in tree n)))
 
 -- ---- what the rides of a class give
-number_or_tells : (o : Option Data) (key : Key) (default low high : ℕ)
+number_or_reports : (o : Option Data) (key : Key) (default low high : ℕ)
     → fault_in (number_or default key low high o)
     ≡ cond (fails (λ value. is_some (as_integer value)) o) (Some (Kind key))
     (cond (fails (is_from low high) o) (Some (Range key)) None)
-number_or_tells None key default low high = refl
-number_or_tells (Some (integer z)) key default low high =
-    within_tells (int_le (pos low) z && int_le z (pos high)) (unsigned_abs z) key
-number_or_tells (Some _) key default low high = refl
+number_or_reports None key default low high = refl
+number_or_reports (Some (integer z)) key default low high =
+    within_reports (int_le (pos low) z && int_le z (pos high)) (unsigned_abs z) key
+number_or_reports (Some _) key default low high = refl
 
-ride_transfers-told : (tree : Members) (n : ℕ)
+ride_transfers-reported : (tree : Members) (n : ℕ)
     → fault_in (ride_transfers_of (members_at (class n) tree))
     ≡ first_row tree (rows_of_transfers n)
 unfolding ride_transfers_of
-ride_transfers-told tree n =
+ride_transfers-reported tree n =
     let at = class n in
     let taps = value_at at the_key.RideTransfers tree in
     let minutes = value_at at the_key.TransferMinutes tree in
     steps tree (number_or 1 the_key.RideTransfers 0 9 taps) _
     (optional_rows at the_key.RideTransfers) (optional_rows at the_key.TransferMinutes)
-    (number_or_tells taps the_key.RideTransfers 1 0 9
-    ∙ sym (told_two tree at (Kind the_key.RideTransfers) (Range the_key.RideTransfers)))
+    (number_or_reports taps the_key.RideTransfers 1 0 9
+    ∙ sym (reported_two tree at (Kind the_key.RideTransfers) (Range the_key.RideTransfers)))
     (λ count is. done (number_or 120 the_key.TransferMinutes 1 1_440 minutes) _
-    ∙ number_or_tells minutes the_key.TransferMinutes 120 1 1_440
-    ∙ sym (told_two tree at (Kind the_key.TransferMinutes) (Range the_key.TransferMinutes)))
+    ∙ number_or_reports minutes the_key.TransferMinutes 120 1 1_440
+    ∙ sym (reported_two tree at (Kind the_key.TransferMinutes) (Range the_key.TransferMinutes)))
 
-class-told : (tree : Members) (modes : List (List ℕ)) (n : ℕ) → mode_names tree ≡ modes
+class-reported : (tree : Members) (modes : List (List ℕ)) (n : ℕ) → mode_names tree ≡ modes
     → fault_in (class_of modes (members_at (class n) tree)) ≡ first_row tree (rows_of_class tree n)
 unfolding class_of
-class-told tree modes n known =
+class-reported tree modes n known =
     let inner = members_at (class n) tree in
     steps tree (terms_of inner) _ (rows_of_terms n) (rows_of_fares tree n ++ rows_of_transfers n)
-    (terms-told tree n)
+    (terms-reported tree n)
     (λ terms is. steps tree (fares_of modes terms.fare (get_member (codes "fares") inner)) _
-    (rows_of_fares tree n) (rows_of_transfers n) (fares-told tree modes n terms.fare known)
-    (λ fares is'. done (ride_transfers_of inner) _ ∙ ride_transfers-told tree n))
+    (rows_of_fares tree n) (rows_of_transfers n) (fares-reported tree modes n terms.fare known)
+    (λ fares is'. done (ride_transfers_of inner) _ ∙ ride_transfers-reported tree n))
 
-pub list-from-told : (tree : Members) (modes : List (List ℕ)) (n : ℕ) (earlier : List Class)
+pub list-from-reported : (tree : Members) (modes : List (List ℕ)) (n : ℕ) (earlier : List Class)
     (part : Members) → mode_names tree ≡ modes → Stand (classes_in tree) n part
     → hold_tables part ≡ true
     → fault_in (classes_from modes earlier part) ≡ first_row tree (class_rows tree n part)
-list-from-told tree modes n earlier no_members known stand tables = refl
-list-from-told tree modes n earlier (member name (table inner) more) known stand tables =
+list-from-reported tree modes n earlier no_members known stand tables = refl
+list-from-reported tree modes n earlier (member name (table inner) more) known stand tables =
     let here : members_at (class n) tree ≡ inner =
     ap (λ (o : Option (List ℕ × Data)).
     members_of (option_map (λ (one : List ℕ × Data). one.1) o))
     (stand_here (classes_in tree) n name (table inner) more stand) in
     steps tree (class_of modes inner) (λ one. classes_from modes (earlier ++ one ∷ []) more)
     (rows_of_class tree n) (class_rows tree (suc n) more)
-    (ap (λ (m : Members). fault_in (class_of modes m)) (sym here) ∙ class-told tree modes n known)
-    (λ one is. list-from-told tree modes (suc n) (earlier ++ one ∷ []) more known
+    (ap (λ (m : Members). fault_in (class_of modes m)) (sym here) ∙ class-reported tree modes n known)
+    (λ one is. list-from-reported tree modes (suc n) (earlier ++ one ∷ []) more known
     (stand_next (classes_in tree) n name (table inner) more stand) tables)
-list-from-told tree modes n earlier (member name _ more) known stand tables =
+list-from-reported tree modes n earlier (member name _ more) known stand tables =
     absurd (false≢true tables)
 
-pub list-told : (tree : Members) (modes : List (List ℕ)) (part : Members) (earlier : List Class)
+pub list-reported : (tree : Members) (modes : List (List ℕ)) (part : Members) (earlier : List Class)
     → mode_names tree ≡ modes → classes_in tree ≡ part → hold_tables part ≡ true
     → fault_in (classes_from modes earlier part)
     ≡ first_row tree (class_rows tree 0 (classes_in tree))
-list-told tree modes part earlier known same tables =
-    list-from-told tree modes 0 earlier part known
+list-reported tree modes part earlier known same tables =
+    list-from-reported tree modes 0 earlier part known
     (subst (λ (m : Members). Stand (classes_in tree) 0 m) same (stand_all (classes_in tree))) tables
     ∙ ap (λ (m : Members). first_row tree (class_rows tree 0 m)) (sym same)
 
@@ -521,12 +521,12 @@ classes_steps None tree = refl
 classes_steps (Some (table inner)) tree = tables_if (hold_tables inner) tree inner
 classes_steps (Some _) tree = refl
 
-pub classes-told : (tree : Members)
+pub classes-reported : (tree : Members)
     → fault_in (classes_of tree) ≡ first_row tree (needed_rows top the_key.Classes)
 unfolding classes_of class_need
-classes-told tree =
+classes-reported tree =
     classes_steps (get_member (codes "classes") tree) tree
-    ∙ sym (told_needed tree top the_key.Classes)
+    ∙ sym (reported_needed tree top the_key.Classes)
 
 -- the classes that are read are all tables
 pub classes_tables : (tree classes : Members) → classes_of tree ≡ Ok classes
@@ -552,7 +552,7 @@ classes_tables tree classes is =
     held false m n is = absurd (cc)
 
 -- ---- the default class
--- a class has a place where its name has a value
+-- a class has a place if its name has a value
 some-place : (name : List ℕ) (classes : Members)
     → is_none (place_of name classes) ≡ is_none (get_member name classes)
 some-place name no_members = refl
@@ -574,15 +574,15 @@ some-place name (member key value more) =
     placed Equal place found value same = refl
     placed Greater place found value same = none_of place ∙ same
 
-place_tells : (o : Option ℕ) → fault_in (ok_or o Rider) ≡ cond (is_none o) (Some Rider) None
-place_tells None = refl
-place_tells (Some place) = refl
+place_reports : (o : Option ℕ) → fault_in (ok_or o Rider) ≡ cond (is_none o) (Some Rider) None
+place_reports None = refl
+place_reports (Some place) = refl
 
-pub named-told : (classes : Members) (name : List ℕ)
+pub named-reported : (classes : Members) (name : List ℕ)
     → fault_in (class_named classes name)
     ≡ cond (is_none (get_member name classes)) (Some Rider) None
-named-told classes name =
-    place_tells (place_of name classes)
+named-reported classes name =
+    place_reports (place_of name classes)
     ∙ ap (λ b. cond b (Some Rider) None) (some-place name classes)
 
 default_steps : (o : Option Data) (classes : Members)
@@ -593,24 +593,24 @@ default_steps : (o : Option Data) (classes : Members)
     (cond (fails (is_kind the_key.DefaultClass) o) (Some (Kind the_key.DefaultClass))
     (cond (is_none (get_member (string_of o) classes)) (Some Rider) None))
 default_steps None classes = refl
-default_steps (Some (string s)) classes = named-told classes s
+default_steps (Some (string s)) classes = named-reported classes s
 default_steps (Some _) classes = refl
 
-pub default-told : (tree classes : Members) → classes_in tree ≡ classes
+pub default-reported : (tree classes : Members) → classes_in tree ≡ classes
     → fault_in (default_of classes tree)
     ≡ first_row tree (a_row top (Missing the_key.DefaultClass)
     ∷ a_row top (Kind the_key.DefaultClass) ∷ a_row top Rider ∷ [])
 unfolding default_of
-default-told tree classes same =
+default-reported tree classes same =
     default_steps o classes
     ∙ ap (λ (m : Members).
     cond (is_none o) (Some (Missing the_key.DefaultClass))
     (cond (fails (is_kind the_key.DefaultClass) o) (Some (Kind the_key.DefaultClass))
     (cond (is_none (get_member (string_of o) m)) (Some Rider) None))) (sym same)
-    ∙ sym (told tree top (Missing the_key.DefaultClass) (a_row top (Kind the_key.DefaultClass)
+    ∙ sym (reported tree top (Missing the_key.DefaultClass) (a_row top (Kind the_key.DefaultClass)
     ∷ a_row top Rider ∷ [])
     ∙ ap (λ (x : Option TableFault). cond (is_none o) (Some (Missing the_key.DefaultClass)) x)
-    (told_two tree top (Kind the_key.DefaultClass) Rider))
+    (reported_two tree top (Kind the_key.DefaultClass) Rider))
   where
     o : Option Data
     o = get_member (codes "default_class") tree

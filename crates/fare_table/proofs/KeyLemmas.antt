@@ -14,7 +14,7 @@ is_itself key = (eq_by_cmp_equiv nat_list_cmp_total).refl key
 pub same_bytes : (key other : List ℕ) → is_eq (slice_cmp nat_cmp key other) ≡ true → key ≡ other
 same_bytes key other is = exact_bytes key other ((Equal-is (slice_cmp nat_cmp key other)).0 is)
 
--- the value at a key is the first member's, where the keys are the same, else one of the others
+-- the value at a key is the first member's, if the keys are the same, else one of the others
 pub choice : (r : Ordering) (o : Option Data) (value : Data)
     → match_ordering r o (Some value) o ≡ cond (is_eq r) (Some value) o
 choice Less o value = refl
@@ -36,7 +36,7 @@ member-later key first value more other =
     choice (slice_cmp nat_cmp key first) (get_member key more) value
     ∙ ap (λ b. cond b (Some value) (get_member key more)) other
 
--- where a key has a value
+-- if a key has a value
 pub Found : (key first : List ℕ) (value found : Data) (more : Members) → Type 0
 Found key first value found more =
     ((key ≡ first) × (value ≡ found))

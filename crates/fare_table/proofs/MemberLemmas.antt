@@ -1,4 +1,4 @@
--- What holds of each value in turn, as the specs of a table's members tell it.
+-- What holds of each value in turn, as the specs of a table's members say it.
 use Rattle.std.proofs.Common.{◌≡◌, ◌&&◌, List, [], ◌∷◌, String, Global, Bool, refl, ap}
 use Rattle.std.specs.List.{list_all}
 use Rattle.std.specs.Map.{values_of}

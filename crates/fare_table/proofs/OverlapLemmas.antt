@@ -1,4 +1,4 @@
--- Where a new range shares a number with ranges that stand apart, and that they stay apart without.
+-- When a new range shares a number with ranges that stand apart, and that they stay apart if not.
 use Rattle.std.proofs.Common.{◌≡◌, ◌⊎◌, ℕ, ◌<◌, ◌≤◌, not, Bool, true, false, List, [], ◌∷◌}
 use Rattle.std.proofs.Common.{◌++◌, refl, sym, ap, ◌∙◌, arith, Option, Some, None, cond, inl, inr}
 use Rattle.std.proofs.Common.{le-leb, Ordering, Less, Equal, Greater}
@@ -17,9 +17,6 @@ use Rattle.fare_table.proofs.ApartLemmas.{AreApart, apart, or_twice, begins_firs
 use Rattle.fare_table.specs.Validators.{are_modes_below, stand_apart, share_number}
 use Rattle.fare_table.specs.inside.Validators.{last_begun}
 use Rattle.fare_table.specs.declared.validators.RangeRest.{RangeRest}
-
-Range : Type 0
-Range = ℕ × RangeRest
 
 -- the last element of a list
 abbrev pub last_of : {A : Type 0} → List A → Option A
@@ -139,8 +136,8 @@ shares_step range other next more order two ih back (inl a) (inr d) =
       or-false (nat_le range.0 other.1.last),
     )
 
--- a range shares a number with one of those that stand apart where the last one that begins no
--- later than it ends reaches back to it
+-- a range shares a number with one of those that stand apart if the last one that begins no later
+-- than it ends reaches back to it
 pub shares-last_begun : (range : ℕ × RangeRest) (ranges : List (ℕ × RangeRest))
     → range.0 ≤ range.1.last
     → stand_apart ranges ≡ true
@@ -183,7 +180,8 @@ pub comes_after : (range other : ℕ × RangeRest) → other.0 ≤ other.1.last 
     → nat_cmp range.0 other.0 ≡ Greater
 comes_after range other order after = sym (nat_cmp_is range.0 other.0 Greater (omega arith))
 
-with_one : ℕ × RangeRest → List (ℕ × RangeRest) → List (ℕ × RangeRest)
+-- the ranges and one more, at its place
+unfoldable pub with_one : ℕ × RangeRest → List (ℕ × RangeRest) → List (ℕ × RangeRest)
 with_one range ranges = insert_entry nat_cmp ranges range.0 range.1
 
 one_before : (range other : ℕ × RangeRest) (more : List (ℕ × RangeRest))

@@ -342,7 +342,7 @@ abbrev pub by_strings : Members → Members → OrFault (List (List ℕ × ℕ))
 by_strings classes text =
     if hold_strings text then riders_from classes [] text else Err (Kind the_key.Riders)
 
--- the riders are those of the text's key, or none where it has no such key
+-- the riders are those of the text's key, or none if it has no such key
 unfoldable pub AreRiders : Members → Option Data → List (List ℕ × ℕ) → Type 0
 AreRiders classes o riders =
     ((o ≡ None) × (riders ≡ []))
@@ -447,7 +447,8 @@ class_if tree classes meaning token (Some place) standard are at =
     let c = came_from classes tree meaning.riders token place are at in
     record { class = c.1; is = inl (c.0, c.2); named = c.3 }
 
-pays : (tree : Members) (meaning : TableMeaning) (token : List ℕ) → meaning_of_tree tree ≡ Ok meaning
+pays : (tree : Members) (meaning : TableMeaning) (token : List ℕ)
+    → meaning_of_tree tree ≡ Ok meaning
     → Pays tree token (terms_at meaning token)
 pays tree meaning token is =
     let p = parts tree meaning is in

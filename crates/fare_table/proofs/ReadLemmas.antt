@@ -1,4 +1,4 @@
--- What stands in the text where a step that reads a key came to an end.
+-- What stands in the text if a step that reads a key came to an end.
 use Rattle.std.proofs.Common.{◌≡◌, ℕ, ◌≤◌, ◌&&◌, Bool, true, false, List, Option, Some, None, Ok}
 use Rattle.std.proofs.Common.{Err, refl, ap, arith}
 use Rattle.std.proofs.lemmas.Bool.{and_parts, leb-true}

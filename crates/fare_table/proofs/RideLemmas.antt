@@ -298,7 +298,8 @@ token_class tree meaning token is =
     }
 
 -- ---- the laws
-pub pays-on : (text : List ℕ) (tree : Members) (meaning : TableMeaning) (token name : List ℕ) (mode : ℕ)
+pub pays-on : (text : List ℕ) (tree : Members) (meaning : TableMeaning) (token name : List ℕ)
+    (mode : ℕ)
     → parse_document text ≡ Some tree → meaning_of_tree tree ≡ Ok meaning
     → position (same_name name) meaning.modes ≡ Some mode
     → PaysOn tree token name (ride_terms meaning (class_of meaning token) mode)
@@ -329,7 +330,8 @@ pub rides-give : (tree : Members) (meaning : TableMeaning) (token : List ℕ)
     → Gives tree token (transfer_terms meaning (class_of meaning token))
 rides-give tree meaning token is =
     let t = token_class tree meaning token is in
-    let g = are_given t.element (transfer_terms meaning (class_of meaning token)) t.reads.transfers in
+    let g = are_given t.element (transfer_terms meaning (class_of meaning token))
+    t.reads.transfers in
     record {
       class = t.class;
       is = t.is;

@@ -24,7 +24,7 @@ lookup-by_bytes token (entry ∷ entries) fits all =
     ∙ ap (λ found. cond (is_eq (slice_cmp nat_cmp (bytes_of token) (bytes_of entry.0)))
     (Some entry.1) found) rest
 
--- the same, where the bytes are known by other names
+-- the same, if the bytes are known by other names
 pub found-by_bytes : (token : Token) (entries : List (Token × ℕ)) (bytes : List ℕ)
     (riders : List (List ℕ × ℕ))
     → Fits token → All Fits (keys_of entries) → bytes_of token ≡ bytes → by_bytes entries ≡ riders

@@ -17,13 +17,13 @@ use Rattle.toml.specs.Data.{Data, Items, no_items, item, Members, no_members, me
 use Rattle.toml.specs.Data.{integer, array, table, get_member, get_item, as_str, as_array}
 use Rattle.toml.specs.Parse.{parse_document}
 use Rattle.fare_table.proofs.ElementLemmas.{Reads, by_mode, by_tables, reads}
-use Rattle.fare_table.proofs.FaultLemmas.{Stand, classes-told, classes_tables, default-told, done}
-use Rattle.fare_table.proofs.FaultLemmas.{fails, fault_in, list-told}
-use Rattle.fare_table.proofs.FaultLemmas.{modes-known, modes-told, named-told, needs, number_tells}
-use Rattle.fare_table.proofs.FaultLemmas.{stand_all, stand_here, stand_next, steps, told}
-use Rattle.fare_table.proofs.FaultLemmas.{told_needed, told_two, transfers-told}
+use Rattle.fare_table.proofs.FaultLemmas.{Stand, classes-reported, classes_tables, default-reported, done}
+use Rattle.fare_table.proofs.FaultLemmas.{fails, fault_in, list-reported}
+use Rattle.fare_table.proofs.FaultLemmas.{modes-known, modes-reported, named-reported, needs, number_reports}
+use Rattle.fare_table.proofs.FaultLemmas.{stand_all, stand_here, stand_next, steps, reported}
+use Rattle.fare_table.proofs.FaultLemmas.{reported_needed, reported_two, transfers-reported}
 use Rattle.fare_table.proofs.OverlapLemmas.{stands-insert, comes_after, comes_before}
-use Rattle.fare_table.proofs.OverlapLemmas.{free_apart, rest_stands}
+use Rattle.fare_table.proofs.OverlapLemmas.{free_apart, rest_stands, with_one}
 use Rattle.fare_table.proofs.PayLemmas.{classes_read}
 use Rattle.fare_table.proofs.ReadLemmas.{number-read}
 use Rattle.fare_table.specs.Classes.{class_named, classes_from, classes_of, default_of}
@@ -62,19 +62,19 @@ use Rattle.tap_views.proofs.Choices.{or_swap}
 use Rattle.fare_table.specs.declared.window_span.WindowSpan.{WindowSpan}
 
 -- ---- one element of `validators`
-told_three : (tree : Members) (at : Where) (one two three : TableFault)
+reported_three : (tree : Members) (at : Where) (one two three : TableFault)
     → first_row tree (a_row at one ∷ a_row at two ∷ a_row at three ∷ [])
     ≡ cond (is_wrong tree at one) (Some one)
     (cond (is_wrong tree at two) (Some two) (cond (is_wrong tree at three) (Some three) None))
-told_three tree at one two three =
-    told tree at one (a_row at two ∷ a_row at three ∷ [])
+reported_three tree at one two three =
+    reported tree at one (a_row at two ∷ a_row at three ∷ [])
     ∙ ap (λ (x : Option TableFault). cond (is_wrong tree at one) (Some one) x)
-    (told_two tree at two three)
+    (reported_two tree at two three)
 
-place_tells : (o : Option ℕ) (first last : ℕ)
+place_reports : (o : Option ℕ) (first last : ℕ)
     → fault_in (ok_or o Mode >>= by_mode first last) ≡ cond (not (is_some o)) (Some Mode) None
-place_tells None first last = refl
-place_tells (Some n) first last = refl
+place_reports None first last = refl
+place_reports (Some n) first last = refl
 
 abbrev by_word : List (List ℕ) → ℕ → ℕ → List ℕ → OrFault (ℕ × RangeRest)
 by_word modes first last name = mode_named modes name >>= by_mode first last
@@ -90,43 +90,40 @@ mode_steps : (o : Option Data) (modes : List (List ℕ)) (first last : ℕ)
     ≡ mode_need o modes
 mode_steps None modes first last = refl
 mode_steps (Some (string s)) modes first last =
-    place_tells (position (same_name s) modes) first last
+    place_reports (position (same_name s) modes) first last
 mode_steps (Some _) modes first last = refl
 
 amount_is : (o : Option Data) (n : ℕ) → o ≡ Some (integer (pos n)) → amount_of o ≡ n
 amount_is o n is = ap amount_of is
 
-range-told : (tree : Members) (modes : List (List ℕ)) (n : ℕ) → mode_names tree ≡ modes
+range-reported : (tree : Members) (modes : List (List ℕ)) (n : ℕ) → mode_names tree ≡ modes
     → fault_in (range_of modes (members_at (range n) tree)) ≡ first_row tree (rows_of_range n)
 unfolding range_of
-range-told tree modes n known =
+range-reported tree modes n known =
     let at = range n in
     let inner = members_at at tree in
     let mode_rows = a_row at (Missing the_key.ModeName) ∷ a_row at (Kind the_key.ModeName)
     ∷ a_row at Mode ∷ [] in
     steps tree (number_at (codes "first") the_key.First 0 4_294_967_295 inner) _
     (needed_rows at the_key.First) (needed_rows at the_key.Last ++ mode_rows)
-    (number_tells (value_at at the_key.First tree) the_key.First 0 4_294_967_295
-    ∙ sym (told_needed tree at the_key.First))
+    (number_reports (value_at at the_key.First tree) the_key.First 0 4_294_967_295
+    ∙ sym (reported_needed tree at the_key.First))
     (λ first is.
     let low : amount_of (get_member (codes "first") inner) ≡ first =
     amount_is (get_member (codes "first") inner) first
     (number-read (codes "first") the_key.First 0 4_294_967_295 inner first is).is in
     steps tree (number_at (codes "last") the_key.Last first 4_294_967_295 inner) _
     (needed_rows at the_key.Last) mode_rows
-    (number_tells (value_at at the_key.Last tree) the_key.Last first 4_294_967_295
+    (number_reports (value_at at the_key.Last tree) the_key.Last first 4_294_967_295
     ∙ ap (λ (m : ℕ). needs (value_at at the_key.Last tree) (is_kind the_key.Last)
     (is_from m 4_294_967_295) the_key.Last) (sym low)
-    ∙ sym (told_needed tree at the_key.Last))
+    ∙ sym (reported_needed tree at the_key.Last))
     (λ last is'. mode_steps (value_at at the_key.ModeName tree) modes first last
     ∙ ap (λ (names : List (List ℕ)). mode_need (value_at at the_key.ModeName tree) names)
     (sym known)
-    ∙ sym (told_three tree at (Missing the_key.ModeName) (Kind the_key.ModeName) Mode)))
+    ∙ sym (reported_three tree at (Missing the_key.ModeName) (Kind the_key.ModeName) Mode)))
 
 -- ---- the elements, each with those before it
-
-with_one : ℕ × RangeRest → List (ℕ × RangeRest) → List (ℕ × RangeRest)
-with_one one ranges = insert_entry nat_cmp ranges one.0 one.1
 
 any_step : (test : ℕ × RangeRest → Bool) (one other : ℕ × RangeRest) (more : List (ℕ × RangeRest))
     → one.0 ≤ one.1.last → other.0 ≤ other.1.last → share_number one other ≡ false
@@ -213,33 +210,33 @@ earlier_next tree n one earlier is order stands free are other =
     ∙ ap (λ (b : Bool). b || list_any (share_number other) earlier) (met tree n one other is)
     ∙ ap (λ (b : Bool). meets tree other n || b) (are other)
 
-ranges-told : (tree : Members) (modes : List (List ℕ)) (n : ℕ) (earlier : List (ℕ × RangeRest))
+ranges-reported : (tree : Members) (modes : List (List ℕ)) (n : ℕ) (earlier : List (ℕ × RangeRest))
     (part : Items) → mode_names tree ≡ modes → StandItems (elements_in tree) n part
     → are_tables part ≡ true
     → stand_apart earlier ≡ true → AreEarlier tree n earlier
     → fault_in (ranges_from modes earlier part) ≡ first_row tree (range_rows n part)
 unfolding with_one
-ranges-told tree modes n earlier no_items known stand tables stands are = refl
-ranges-told tree modes n earlier (item (table inner) more) known stand tables stands are =
+ranges-reported tree modes n earlier no_items known stand tables stands are = refl
+ranges-reported tree modes n earlier (item (table inner) more) known stand tables stands are =
     let at : get_item n (elements_in tree) ≡ Some (table inner) = stand zero n (omega arith) in
     let here : members_at (range n) tree ≡ inner = ap members_of at in
     steps tree (range_of modes inner) (λ one.
     with_range earlier one >>= (λ next. ranges_from modes next more)) (rows_of_range n)
     (a_row (range n) Overlap ∷ range_rows (suc n) more)
-    (ap (λ (m : Members). fault_in (range_of modes m)) (sym here) ∙ range-told tree modes n known)
+    (ap (λ (m : Members). fault_in (range_of modes m)) (sym here) ∙ range-reported tree modes n known)
     (λ one is.
     let r = reads modes (table inner) one is in
     let nums = numbers tree modes n inner one here r in
     overlap_if (list_any (share_number one) earlier) (with_one one earlier) (λ next.
     ranges_from modes next more) (first_row tree (range_rows (suc n) more))
-    (λ free. ranges-told tree modes (suc n) (with_one one earlier) more known (λ k j same.
+    (λ free. ranges-reported tree modes (suc n) (with_one one earlier) more known (λ k j same.
     stand (suc k) j (omega (arith, same))) tables
     (stands-insert one earlier r.order stands free)
     (earlier_next tree n one earlier nums r.order stands free are))
     ∙ ap (λ (b : Bool). cond b (Some Overlap) (first_row tree (range_rows (suc n) more))) (are one
     ∙ shared tree n one nums)
-    ∙ sym (told tree (range n) Overlap (range_rows (suc n) more)))
-ranges-told tree modes n earlier (item _ more) known stand tables stands are =
+    ∙ sym (reported tree (range n) Overlap (range_rows (suc n) more)))
+ranges-reported tree modes n earlier (item _ more) known stand tables stands are =
     absurd (false≢true tables)
 
 entries_if : (b : Bool) (modes : List (List ℕ)) (ds : Items) (rest : Option TableFault)
@@ -265,22 +262,22 @@ stand_items : (whole part : Items) → whole ≡ part → StandItems whole 0 par
 stand_items whole part same k j is = let one : j ≡ k = omega (arith, is) in
     ap (λ (n : ℕ). get_item n whole) one ∙ ap (get_item k) same
 
-entries-told : (tree : Members) (modes : List (List ℕ)) → mode_names tree ≡ modes
+entries-reported : (tree : Members) (modes : List (List ℕ)) → mode_names tree ≡ modes
     → fault_in (ranges_of modes tree)
     ≡ first_row tree (a_row top (Missing the_key.Validators)
     ∷ a_row top (Kind the_key.Validators) ∷ range_rows 0 (elements_in tree))
 unfolding ranges_of
-entries-told tree modes known =
+entries-reported tree modes known =
     let o = get_member (codes "validators") tree in
     entries_steps o modes (first_row tree (range_rows 0 (elements_in tree))) (λ ds is tables.
     let same : elements_in tree ≡ ds = ap items_of is in
-    ranges-told tree modes 0 [] ds known (stand_items (elements_in tree) ds same) tables refl
+    ranges-reported tree modes 0 [] ds known (stand_items (elements_in tree) ds same) tables refl
     (λ one.
     refl) ∙ ap (λ (d : Items). first_row tree (range_rows 0 d)) (sym same))
-    ∙ sym (told tree top (Missing the_key.Validators) (a_row top (Kind the_key.Validators)
+    ∙ sym (reported tree top (Missing the_key.Validators) (a_row top (Kind the_key.Validators)
     ∷ range_rows 0 (elements_in tree))
     ∙ ap (λ (x : Option TableFault). cond (is_none o) (Some (Missing the_key.Validators)) x)
-    (told tree top (Kind the_key.Validators) (range_rows 0 (elements_in tree))))
+    (reported tree top (Kind the_key.Validators) (range_rows 0 (elements_in tree))))
 
 -- ---- the riders
 -- the riders are those of the keys before a place
@@ -344,19 +341,19 @@ rider_if None classes name earlier again f rest later are = refl
 rider_if (Some token) classes name earlier again f rest later are =
     assoc (class_named classes name) token (λ rider. with_rider earlier rider.0 rider.1 >>= f)
     ∙ class_if (class_named classes name) (is_none (get_member name classes)) (again token)
-    (λ terms. with_rider earlier token terms >>= f) rest (named-told classes name)
+    (λ terms. with_rider earlier token terms >>= f) rest (named-reported classes name)
     (λ terms. again_if (is_rider earlier token)
     (insert_entry (slice_cmp nat_cmp) earlier token terms) f rest (λ free.
     later token terms refl free)
     ∙ ap (λ (b : Bool). cond b (Some Rider) rest) (are token refl))
 
-riders-told : (tree classes : Members) (n : ℕ) (earlier : List (List ℕ × ℕ)) (part : Members)
+riders-reported : (tree classes : Members) (n : ℕ) (earlier : List (List ℕ × ℕ)) (part : Members)
     → classes_in tree ≡ classes → Stand (riders_in tree) n part
     → hold_strings part ≡ true
     → AreBefore tree n earlier
     → fault_in (riders_from classes earlier part) ≡ first_row tree (rider_rows n part)
-riders-told tree classes n earlier no_members known stand strings are = refl
-riders-told tree classes n earlier (member key (string name) more) known stand strings are =
+riders-reported tree classes n earlier no_members known stand strings are = refl
+riders-reported tree classes n earlier (member key (string name) more) known stand strings are =
     let at : member_at n (riders_in tree) ≡ Some (key, string name) =
     stand_here (riders_in tree) n key (string name) more stand in
     let token : token_at tree n ≡ result_ok (decode_sized key 16) =
@@ -369,7 +366,7 @@ riders-told tree classes n earlier (member key (string name) more) known stand s
     rider_if (result_ok (decode_sized key 16)) classes name earlier (λ t.
     is_earlier (λ place. is_token t (token_at tree place)) n) (λ next.
     riders_from classes next more) (first_row tree (rider_rows (suc n) more))
-    (λ t terms is free. riders-told tree classes (suc n)
+    (λ t terms is free. riders-reported tree classes (suc n)
     (insert_entry (slice_cmp nat_cmp) earlier t terms) more known
     (stand_next (riders_in tree) n key (string name) more stand) strings
     (before_next tree n earlier t terms (token ∙ is) free are))
@@ -386,8 +383,8 @@ riders-told tree classes n earlier (member key (string name) more) known stand s
     || (is_none (get_member
     (string_of (option_map (λ (one : List ℕ × Data). one.1) (member_at n (riders_in tree)))) m)
     || is_again tree n)) (Some Rider) (first_row tree (rider_rows (suc n) more))) (sym known)
-    ∙ sym (told tree (rider n) Rider (rider_rows (suc n) more))
-riders-told tree classes n earlier (member key _ more) known stand strings are =
+    ∙ sym (reported tree (rider n) Rider (rider_rows (suc n) more))
+riders-reported tree classes n earlier (member key _ more) known stand strings are =
     absurd (false≢true strings)
 
 strings_if : (b : Bool) (classes part : Members) (rest : Option TableFault)
@@ -411,17 +408,17 @@ riders_steps (Some _) tree classes rest none same = refl
 stand_members : (whole part : Members) → whole ≡ part → Stand whole 0 part
 stand_members whole part same = subst (λ (m : Members). Stand whole 0 m) same (stand_all whole)
 
-keys-told : (tree classes : Members) → classes_in tree ≡ classes
+keys-reported : (tree classes : Members) → classes_in tree ≡ classes
     → fault_in (riders_of classes tree)
     ≡ first_row tree (a_row top (Kind the_key.Riders) ∷ rider_rows 0 (riders_in tree))
 unfolding riders_of
-keys-told tree classes known =
+keys-reported tree classes known =
     let o = get_member (codes "riders") tree in
     riders_steps o tree classes (λ part. first_row tree (rider_rows 0 part)) refl
     (λ part is strings.
-    riders-told tree classes 0 [] part known
+    riders-reported tree classes 0 [] part known
     (stand_members (riders_in tree) part (ap members_of is)) strings (λ token. refl))
-    ∙ sym (told tree top (Kind the_key.Riders) (rider_rows 0 (riders_in tree)))
+    ∙ sym (reported tree top (Kind the_key.Riders) (rider_rows 0 (riders_in tree)))
 
 -- ---- the zone
 rule_if : (b : Bool) (text : List ℕ)
@@ -438,32 +435,32 @@ zone_steps None = refl
 zone_steps (Some (string s)) = rule_if (is_some (read_whole s)) s
 zone_steps (Some _) = refl
 
-zone-told : (tree : Members)
+zone-reported : (tree : Members)
     → fault_in (zone_of tree)
     ≡ first_row tree (a_row top (Kind the_key.Zone) ∷ a_row top the_fault.Zone ∷ [])
 unfolding zone_of
-zone-told tree = zone_steps (get_member (codes "zone") tree)
-    ∙ sym (told_two tree top (Kind the_key.Zone) the_fault.Zone)
+zone-reported tree = zone_steps (get_member (codes "zone") tree)
+    ∙ sym (reported_two tree top (Kind the_key.Zone) the_fault.Zone)
 
 -- ---- the window
-span_tells : (o : Option WindowSpan)
+span_reports : (o : Option WindowSpan)
     → fault_in (ok_or o (Range the_key.Window))
     ≡ cond (not (is_some o)) (Some (Range the_key.Window)) None
-span_tells None = refl
-span_tells (Some span) = refl
+span_reports None = refl
+span_reports (Some span) = refl
 
 window_steps : (o : Option Data) (beside : Members)
     → fault_in (window_in o)
     ≡ cond (fails (is_kind the_key.Window) o) (Some (Kind the_key.Window))
     (cond (fails (is_in_bounds the_key.Window beside) o) (Some (Range the_key.Window)) None)
 window_steps None beside = refl
-window_steps (Some (string s)) beside = span_tells (span_named s)
+window_steps (Some (string s)) beside = span_reports (span_named s)
 window_steps (Some _) beside = refl
 
-window-told : (tree : Members) → fault_in (window_of tree) ≡ first_row tree window_step
+window-reported : (tree : Members) → fault_in (window_of tree) ≡ first_row tree window_step
 unfolding window_of
-window-told tree = window_steps (get_member (codes "window") tree) tree
-    ∙ sym (told_two tree top (Kind the_key.Window) (Range the_key.Window))
+window-reported tree = window_steps (get_member (codes "window") tree) tree
+    ∙ sym (reported_two tree top (Kind the_key.Window) (Range the_key.Window))
 
 -- ---- the whole
 -- the rows of the classes stand behind those of their table
@@ -476,45 +473,45 @@ regroup tree rest is =
     (sym (append_assoc (needed_rows top the_key.Classes) (class_rows tree 0 (classes_in tree))
     rest))
 
-meaning-told : (tree : Members) → fault_in (meaning_of_tree tree) ≡ first_row tree (rows tree)
+meaning-reported : (tree : Members) → fault_in (meaning_of_tree tree) ≡ first_row tree (rows tree)
 unfolding meaning_of_tree
-meaning-told tree =
+meaning-reported tree =
     let last_rows = zone_step ++ window_step in
     let key_rows = riders_step tree ++ last_rows in
     let entry_rows = validators_step tree ++ key_rows in
     let default_rows = default_step ++ entry_rows in
     let class_step_rows = classes_step tree ++ default_rows in
     steps tree (modes_of tree) _ (needed_rows top the_key.Modes) (transfers_step ++ class_step_rows)
-    (modes-told tree) (λ modes is_modes.
+    (modes-reported tree) (λ modes is_modes.
     let known = modes-known tree modes is_modes in
     steps tree (transfers_of modes tree) _ transfers_step class_step_rows
-    (transfers-told tree modes known) (λ transfers is_transfers.
+    (transfers-reported tree modes known) (λ transfers is_transfers.
     let rest_rows = class_rows tree 0 (classes_in tree) ++ default_rows in
     regroup tree default_rows
-    (steps tree (classes_of tree) _ (needed_rows top the_key.Classes) rest_rows (classes-told tree)
+    (steps tree (classes_of tree) _ (needed_rows top the_key.Classes) rest_rows (classes-reported tree)
     (λ classes is_classes.
     let same : classes_in tree ≡ classes = ap members_of (classes_read tree classes is_classes) in
     let tables = classes_tables tree classes is_classes in
     steps tree (classes_from modes [] classes) _ (class_rows tree 0 (classes_in tree)) default_rows
-    (list-told tree modes classes [] known same tables) (λ list is_list.
+    (list-reported tree modes classes [] known same tables) (λ list is_list.
     steps tree (default_of classes tree) _ default_step entry_rows
-    (default-told tree classes same) (λ standard is_standard.
+    (default-reported tree classes same) (λ standard is_standard.
     steps tree (ranges_of modes tree) _ (validators_step tree) key_rows
-    (entries-told tree modes known) (λ ranges is_ranges.
+    (entries-reported tree modes known) (λ ranges is_ranges.
     steps tree (riders_of classes tree) _ (riders_step tree) last_rows
-    (keys-told tree classes same) (λ riders is_riders.
-    steps tree (zone_of tree) _ zone_step window_step (zone-told tree) (λ zone is_zone.
-    done (window_of tree) _ ∙ window-told tree)))))))))
+    (keys-reported tree classes same) (λ riders is_riders.
+    steps tree (zone_of tree) _ zone_step window_step (zone-reported tree) (λ zone is_zone.
+    done (window_of tree) _ ∙ window-reported tree)))))))))
 
-text_tells : (o : Option Members)
+text_reports : (o : Option Members)
     → fault_in (ok_or o the_fault.Text >>= meaning_of_tree) ≡ first_fault o
-text_tells None = refl
-text_tells (Some tree) = meaning-told tree
+text_reports None = refl
+text_reports (Some tree) = meaning-reported tree
 
-told_fault : {A : Type 0} (o : OrFault A) (fault : TableFault) → (o ≡ Err fault)
+reported_fault : {A : Type 0} (o : OrFault A) (fault : TableFault) → (o ≡ Err fault)
     ↔ (fault_in o ≡ Some fault)
-told_fault {A} (Ok a) fault = (λ is. absurd (cc), λ is. absurd (cc))
-told_fault {A} (Err e) fault = (
+reported_fault {A} (Ok a) fault = (λ is. absurd (cc), λ is. absurd (cc))
+reported_fault {A} (Err e) fault = (
   λ is. ap (λ (x : OrFault A). fault_in x) is,
   λ is. let same : e ≡ fault = cc in ap (λ (f : TableFault). Err f) same,
 )
@@ -522,20 +519,20 @@ told_fault {A} (Err e) fault = (
 pub first-row : (text : List ℕ) (fault : TableFault) → (meaning_in text ≡ Err fault)
     ↔ (first_fault (parse_document text) ≡ Some fault)
 first-row text fault =
-    let both = told_fault (meaning_in text) fault in
-    let told = text_tells (parse_document text) in
-    (λ is. sym told ∙ both.0 is, λ is. both.1 (told ∙ is))
+    let both = reported_fault (meaning_in text) fault in
+    let reported = text_reports (parse_document text) in
+    (λ is. sym reported ∙ both.0 is, λ is. both.1 (reported ∙ is))
 
-told_none : {A : Type 0} (o : OrFault A) → ((a : A) × (o ≡ Ok a)) ↔ (fault_in o ≡ None)
-told_none {A} (Ok a) = (λ is. refl, λ is. (a, refl))
-told_none {A} (Err e) = (λ is. ap (λ (x : OrFault A). fault_in x) is.1, λ is. absurd (cc))
+reported_none : {A : Type 0} (o : OrFault A) → ((a : A) × (o ≡ Ok a)) ↔ (fault_in o ≡ None)
+reported_none {A} (Ok a) = (λ is. refl, λ is. (a, refl))
+reported_none {A} (Err e) = (λ is. ap (λ (x : OrFault A). fault_in x) is.1, λ is. absurd (cc))
 
 pub no-row : (text : List ℕ) → ((meaning : TableMeaning) × (meaning_in text ≡ Ok meaning))
     ↔ (first_fault (parse_document text) ≡ None)
 no-row text =
-    let both = told_none (meaning_in text) in
-    let told = text_tells (parse_document text) in
-    (λ is. sym told ∙ both.0 is, λ is. both.1 (told ∙ is))
+    let both = reported_none (meaning_in text) in
+    let reported = text_reports (parse_document text) in
+    (λ is. sym reported ∙ both.0 is, λ is. both.1 (reported ∙ is))
 
 -- the same of what reading a text answers
 pub first-of-err : {A : Type 0} (P : Type 0) (text : List ℕ) (result : Result A TableFault)

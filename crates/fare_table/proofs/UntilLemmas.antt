@@ -36,7 +36,8 @@ use Rattle.fare_table.specs.Until.{IsWindowEnd}
 use Rattle.fare_table.specs.PosixRule.{posix_rule}
 use Rattle.fare_table.specs.Until.{IsWindowEndBy}
 use Rattle.fare_table.specs.Until.{civil_window_end, day_at, end_day, end_millis, next_month}
-use Rattle.fare_table.specs.Until.{midnight_by, midnight_instant, midnight_nanos, midnight_offset, moment_nanos}
+use Rattle.fare_table.specs.Until.{midnight_by, midnight_instant, midnight_nanos, midnight_offset}
+use Rattle.fare_table.specs.Until.{moment_nanos}
 use Rattle.fare_table.specs.Until.{offsets_by, plain_window_end, until, utc_window_end}
 use Rattle.fare_table.specs.Until.{window_end_by, window_end_in}
 use Rattle.fare_table.specs.Fares.{Fares, meaning_at}
@@ -112,9 +113,9 @@ week-is day later monday after near =
     sum ∙ ap (λ n. day +ℤ pos n) all
 
 -- a test of the order, and what it says
-lt_tells : (a b : ℤ)
+lt_decides : (a b : ℤ)
     → ((int_lt a b ≡ true) × (a <ℤ b)) ⊎ ((int_lt a b ≡ false) × (b ≤ℤ a))
-lt_tells a b = by (int_lt a b) refl
+lt_decides a b = by (int_lt a b) refl
   where
     by : (t : Bool) → int_lt a b ≡ t
         → ((int_lt a b ≡ true) × (a <ℤ b)) ⊎ ((int_lt a b ≡ false) × (b ≤ℤ a))
@@ -128,7 +129,7 @@ next_month-found : (day year : ℤ) (month more found : ℕ) → month ≤ found
     → next_month day year month more ≡ days_from_civil year found 1
 next_month-found day year month zero found above below begun later = absurd (omega arith)
 next_month-found day year month (suc more) found above below begun later =
-    elim (lt_tells day (days_from_civil year month 1)) [
+    elim (lt_decides day (days_from_civil year month 1)) [
       | inl before ↦
           let same : month ≡ found = elim (cases_lt month found) [
             | inl less ↦
@@ -154,7 +155,7 @@ next_month-none : (day year : ℤ) (month more : ℕ)
     → next_month day year month more ≡ days_from_civil (year +ℤ pos 1) 1 1
 next_month-none day year month zero begun = refl
 next_month-none day year month (suc more) begun =
-    elim (lt_tells day (days_from_civil year month 1)) [
+    elim (lt_decides day (days_from_civil year month 1)) [
       | inl before ↦
           let here = begun month (omega arith) (omega arith) in
           absurd (omega (arith, ints, before.1))

@@ -38,7 +38,7 @@ fares_from modes fares (member name value more) = do
   cents ← number_in the_key.Fares 0 100_000 value
   fares_from modes (slice_set fares place cents) more
 
--- the fares by the places of the modes: the class's own, where none is named
+-- the fares by the places of the modes: the class's own, if none is named
 abbrev pub fares_of : List (List ℕ) → ℕ → Option Data → OrFault (List ℕ)
 fares_of modes fare None = Ok (replicate 32 fare)
 fares_of modes fare (Some value) = do
@@ -46,7 +46,7 @@ fares_of modes fare (Some value) = do
   numbers ← if hold_numbers named then Ok named else Err (Kind the_key.Fares)
   fares_from modes (replicate 32 fare) numbers
 
--- what the rides of a class give: one transfer within two hours, where it does not say otherwise
+-- what the rides of a class give: one transfer within two hours, if it does not say otherwise
 unfoldable pub ride_transfers_of : Members → OrFault TransferTerms
 ride_transfers_of element = do
   taps ← number_or 1 the_key.RideTransfers 0 9 (get_member (codes "transfers") element)

@@ -13,8 +13,8 @@ use Rattle.fare_table.specs.declared.terms.Terms.{Terms}
 use Rattle.fare_table.specs.declared.transfer_terms.TransferTerms.{TransferTerms}
 use Rattle.fare_table.specs.declared.validators.RangeRest.{RangeRest}
 
--- what the table's text means, what the texts mean that follow it, each with the moment from which it
--- is valid, and what the clocks of all of them go by
+-- what the table's text means, what the texts mean that follow it, each with the moment from which
+-- it is valid, and what the clocks of all of them go by
 pub record Fares : Type 0 where
   pub meaning : TableMeaning
   pub later : List (ℕ × TableMeaning)

@@ -1,5 +1,5 @@
 -- When a text is no fare table: the rows of the table of faults, in their order. The first row that
--- holds tells the fault.
+-- holds gives the fault.
 use Rattle.std.specs.Prelude.{ℕ, zero, suc, pos, ◌&&◌, ◌||◌, ◌++◌, ◌∷◌, [], Bool, true, false, not}
 use Rattle.std.specs.Prelude.{List, Option, Some, None, codes, int_le, nat_le, option_map, position}
 use Rattle.std.specs.Prelude.{unsigned_abs}
@@ -60,19 +60,19 @@ key_word the_key.Riders = codes "riders"
 key_word the_key.Zone = codes "zone"
 key_word the_key.Window = codes "window"
 
--- the items of a value, where it is an array
+-- the items of a value, if it is an array
 abbrev pub items_of : Option Data → Items
 items_of value = unwrap_or (option_and_then as_array value) no_items
 
--- the members of a value, where it is a table
+-- the members of a value, if it is a table
 abbrev pub members_of : Option Data → Members
 members_of value = unwrap_or (option_and_then as_table value) no_members
 
--- the text of a value, where it is a string
+-- the text of a value, if it is a string
 abbrev pub string_of : Option Data → List ℕ
 string_of value = unwrap_or (option_and_then as_str value) []
 
--- the number of a value, where it is one
+-- the number of a value, if it is one
 abbrev pub amount_of : Option Data → ℕ
 amount_of value = unsigned_abs (unwrap_or (option_and_then as_integer value) (pos 0))
 
@@ -234,7 +234,7 @@ abbrev pub token_at : Members → ℕ → Option (List ℕ)
 token_at tree place =
     option_and_then (λ one. result_ok (decode_sized one.0 16)) (member_at place (riders_in tree))
 
--- the one token is the other one, where there is one
+-- the one token is the other one, if there is one
 abbrev pub is_token : List ℕ → Option (List ℕ) → Bool
 is_token token other = holds_of_some (λ o. is_eq (slice_cmp nat_cmp token o)) other
 
@@ -280,7 +280,7 @@ is_wrong tree at NoMemory = false
 is_wrong tree at Zone = is_no_zone (get_member (codes "zone") tree)
 
 -- ---- the rows, in their order
--- a row: where it looks, and the fault that it tells
+-- a row: where it looks, and the fault that it gives
 abbrev pub FaultRow : Type 0
 FaultRow = Where × TableFault
 
@@ -393,7 +393,8 @@ abbrev pub rows : Members → List FaultRow
 rows tree =
     needed_rows top the_key.Modes
     ++ (transfers_step ++ (classes_step tree
-    ++ (default_step ++ (validators_step tree ++ (riders_step tree ++ (zone_step ++ window_step))))))
+    ++ (default_step
+    ++ (validators_step tree ++ (riders_step tree ++ (zone_step ++ window_step))))))
 
 -- the fault of the first row that holds, if one does
 abbrev pub first_row : Members → List FaultRow → Option TableFault

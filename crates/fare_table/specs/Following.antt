@@ -15,8 +15,8 @@ last_from earlier (next ∷ later) = last_from next.0 later
 abbrev pub with_next : Fares → ℕ → TableMeaning → Fares
 with_next fares from next = record fares { later = fares.later ++ (from, next) ∷ [] }
 
--- The next table can follow from the moment on: the tables before it are valid from earlier moments,
--- the first one from 0 on, it has their zone and their modes, and none follows it already.
+-- The next table can follow from the moment on: the tables before it are valid from earlier
+-- moments, the first one from 0 on, it has their zone and their modes, and none follows it already.
 pub record CanFollow (fares : Fares) (from : ℕ) (next : Fares) : Type 0 where
   pub date : last_from 0 fares.later < from
   pub zone : next.meaning.zone ≡ fares.meaning.zone

@@ -17,7 +17,7 @@ needed name key tree = ok_or (get_member name tree) (Missing key)
 abbrev pub of_kind : {A : Type 0} → Key → Option A → OrFault A
 of_kind key part = ok_or part (Kind key)
 
--- the number, where it lies from `low` to `high`
+-- the number, if it lies from `low` to `high`
 abbrev pub within : Key → ℕ → ℕ → ℤ → OrFault ℕ
 within key low high number =
     if int_le (pos low) number && int_le number (pos high) then Ok (unsigned_abs number)

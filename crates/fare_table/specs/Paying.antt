@@ -12,7 +12,7 @@ pub record NamesRider (tree : Members) (token key class : List ℕ) : Type 0 whe
   pub stands : get_member key riders ≡ Some (string class)
   pub named : token_of_digits key ≡ Ok token
 
--- the class of the key that names the token, else the default class where no key names it
+-- the class of the key that names the token, else the default class if no key names it
 abbrev pub IsClassOf : Members → List ℕ → List ℕ → Type 0
 IsClassOf tree token class =
     ((key : List ℕ) × NamesRider tree token key class)
@@ -47,7 +47,7 @@ pub record IsElementOf (tree : Members) (class : List ℕ) (element : Members) :
   pub listed : get_member (codes "classes") tree ≡ Some (table classes)
   pub stands : get_member class classes ≡ Some (table element)
 
--- the number that stands there, else the one that holds where none stands
+-- the number that stands there, else the one that holds if none stands
 abbrev pub IsNumberOr : ℕ → Option Data → ℕ → Type 0
 IsNumberOr default None number = number ≡ default
 IsNumberOr default (Some value) number = value ≡ integer (pos number)

@@ -48,7 +48,7 @@ riders_from classes earlier (member key value more) = do
   riders ← with_rider earlier rider.0 rider.1
   riders_from classes riders more
 
--- the riders of a value, which is a table of strings; none where there is no value
+-- the riders of a value, which is a table of strings; none if there is no value
 abbrev pub riders_at : Members → Option Data → OrFault (List (List ℕ × ℕ))
 riders_at classes None = Ok []
 riders_at classes (Some value) = do

@@ -17,7 +17,7 @@ joins from to pair = (pair.0 == from) && (pair.1 == to)
 abbrev pub has_pair : List (ℕ × ℕ) → ℕ → ℕ → Bool
 has_pair pairs from to = list_any (joins from to) pairs
 
--- the pairs and one more, where it is not yet among them
+-- the pairs and one more, if it is not yet among them
 abbrev pub with_pair : List (ℕ × ℕ) → ℕ → ℕ → List (ℕ × ℕ)
 with_pair pairs from to = if has_pair pairs from to then pairs else pairs ++ (from, to) ∷ []
 

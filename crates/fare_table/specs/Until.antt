@@ -155,7 +155,7 @@ window_end_by (Some zone) span start = civil_window_end zone span start
 abbrev pub window_end_in : ClockView → WindowSpan → ℕ → ℕ
 window_end_in clock span start = window_end_by clock.rule span start
 
--- the end of a window that starts at the moment: windows are as long as the table says that is valid
--- then
+-- the end of a window that starts at the moment: windows are as long as the table says that is
+-- valid then
 abbrev pub until : Fares → ℕ → ℕ
 until fares start = window_end_in fares.zone (meaning_at fares start).window start

@@ -19,7 +19,7 @@ stand_apart (range ∷ []) = nat_le range.0 range.1.last
 stand_apart (range ∷ next ∷ more) =
     nat_le range.0 range.1.last && nat_lt range.1.last next.0 && stand_apart (next ∷ more)
 
--- each range's mode is one of so many
+-- each range's mode is one of this number of modes
 abbrev pub are_modes_below : ℕ → List (ℕ × RangeRest) → Bool
 are_modes_below count ranges = list_all (λ range. nat_lt range.1.mode count) ranges
 

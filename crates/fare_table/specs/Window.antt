@@ -10,7 +10,7 @@ use Rattle.fare_table.specs.declared.fault.TableFault.TheVariants as the_fault
 use Rattle.fare_table.specs.declared.window_span.WindowSpan.{WindowSpan}
 use Rattle.fare_table.specs.declared.window_span.WindowSpan.TheVariants.{Days}
 
--- the span of windows that the value names, and seven days where there is none
+-- the span of windows that the value names, and seven days if there is none
 abbrev pub window_in : Option Data → OrFault WindowSpan
 window_in None = Ok (Days 7)
 window_in (Some value) = do

@@ -29,7 +29,7 @@ shown_number (ten ∷ (one ∷ [])) =
     else option_and_then (λ tens. option_map (λ ones. tens * 10 + ones) (digit one)) (digit ten)
 shown_number (_ ∷ (_ ∷ (_ ∷ _))) = None
 
--- the number, where it is that of the days of a window
+-- the number, if it is that of the days of a window
 abbrev pub window_days : ℕ → Option ℕ
 window_days number = if nat_le 1 number && nat_le number 31 then Some number else None
 

@@ -20,7 +20,7 @@ IsZoneOf None (Some zone) = ⊥
 IsZoneOf (Some text) None = ⊥
 IsZoneOf (Some text) (Some zone) = read_whole text ≡ Some (tz_view zone)
 
--- the text of a zone, where it reads as a rule
+-- the text of a zone, if it reads as a rule
 abbrev pub zone_in : Option Data → OrFault (Option (List ℕ))
 zone_in None = Ok None
 zone_in (Some value) = do

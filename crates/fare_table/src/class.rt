@@ -7,7 +7,7 @@ use crate::transfer_terms::TransferTerms;
 /// What a rider class pays, and what its rides give.
 #[derive(Clone, Copy)]
 pub struct Class {
-    /// What it pays for the rides of one window, where their modes have no fare of their own.
+    /// What it pays for the rides of one window, if their modes have no fare of their own.
     pub terms: Terms,
     /// The price of one ride in cents by the place of its mode, at most 100,000.
     pub fares: [u32; MAX_MODES],

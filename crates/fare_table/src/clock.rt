@@ -17,7 +17,7 @@ use std::marker::Model;
 /// A day in milliseconds.
 const DAY_MS: u64 = 86_400_000;
 
-/// Tells where the windows of one fare table end. A worker makes its own from the table.
+/// Says where the windows of one fare table end. A worker makes its own from the table.
 #[derive(Drop)]
 pub struct Clock {
     /// The rule of the table's zone, if it names one.
@@ -37,7 +37,8 @@ impl Model for Clock {
 }
 
 impl Clock {
-    ghost use Rattle.std.specs.Prelude.{◌≡◌, ◌<◌, ◌⊎◌, pos, ◌*ℤ◌, ◌<ℤ◌, ◌≤ℤ◌, IfSome, None, option_map};
+    ghost use Rattle.std.specs.Prelude.{◌≡◌, ◌<◌, ◌⊎◌, pos, ◌*ℤ◌, ◌<ℤ◌, ◌≤ℤ◌, IfSome, None};
+    ghost use Rattle.std.specs.Prelude.{option_map};
     ghost use Rattle.jiff.specs.Words.{epoch_day};
     ghost use Rattle.fare_table.specs.inside.PosixRule.{HasRule, rule_of};
     ghost use Rattle.fare_table.specs.WindowSpan.{IsBoundedSpan};
@@ -56,10 +57,10 @@ impl Clock {
     /// 1970-01-01T00:00Z; the moment lies before 2100-01-01T00:00Z. Without a zone a window of `n`
     /// days ends `n * 24` hours later. One of a calendar day, week or month ends at the next 00:00
     /// in UTC of a day, a Monday or the first of a month. With a zone each ends at 00:00 by its
-    /// clocks, and one of `n` days on the `n`th date after the start's (that a window has seven days
-    /// is the MTA's, where it ends is this project's choice). A midnight that clocks skip takes the
-    /// offset before the gap, one that comes twice is the earlier. Each ends at least a millisecond
-    /// after its start. It takes no memory.
+    /// clocks, and one of `n` days on the `n`th date after the start's (seven days are the MTA's
+    /// window; when it ends is this project's choice). A midnight that clocks skip takes the offset
+    /// before the gap, one that comes twice is the earlier. Each ends at least a millisecond after
+    /// its start. It takes no memory.
     #[inline]
     pub fn window_end(&self, span: WindowSpan, moment: u64) -> u64
         requires span { IsBoundedSpan span }
@@ -74,10 +75,10 @@ impl Clock {
         }
     }
 
-    /// The moment of 00:00 of a date, by the zone's clocks or in UTC without a zone, in milliseconds
-    /// since 1970-01-01T00:00Z. A midnight that clocks skip takes the offset before the gap, one that
-    /// comes twice is the earlier. `None` for a date before 1970 or after 2099, and for one that
-    /// begins before 1970-01-01T00:00Z.
+    /// The moment of 00:00 of a date, by the zone's clocks or in UTC without a zone, in
+    /// milliseconds since 1970-01-01T00:00Z. A midnight that clocks skip takes the offset before
+    /// the gap, one that comes twice is the earlier. `None` for a date before 1970 or after 2099,
+    /// and for one that begins before 1970-01-01T00:00Z.
     pub fn midnight(&self, date: Date) -> Option<u64>
         ensures moment { IfSome result (λ moment. moment_nanos moment
             ≡ midnight_by self.now.rule (epoch_day date)) }
@@ -110,7 +111,7 @@ impl Clock {
     }
 
     /// How far the zone's clocks are ahead of UTC at the moment, in milliseconds since
-    /// 1970-01-01T00:00Z; the moment lies before 9999-12-30T22:00Z. `None` where the table names no
+    /// 1970-01-01T00:00Z; the moment lies before 9999-12-30T22:00Z. `None` if the table names no
     /// zone.
     pub fn offset_at(&self, moment: u64) -> Option<Offset>
         requires { moment < 253_402_207_200_000 }
@@ -208,7 +209,7 @@ fn end_date(span: WindowSpan, shown: Date) -> Date
     }
 }
 
-/// The date so many days after this one.
+/// The date this number of days after this one.
 fn days_later(date: Date, days: i64) -> Date
     requires low { neg_ℤ (pos 10) ≤ℤ epoch_day date }
     requires high { epoch_day date ≤ℤ pos 50_100 }

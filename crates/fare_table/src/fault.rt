@@ -109,9 +109,9 @@ impl fmt::Display for Key {
 /// The first fault of a table's text, in the order in which its keys are read: `modes`,
 /// `transfers`, `classes` (class by class in the order of the names: `fare`, `rides`, `ceiling`,
 /// `fares` and in it key by key the mode and the number, `transfers`, `transfer_minutes`),
-/// `default_class`, `validators` (element by element: `first`, `last`, `mode`, the range),
-/// `riders` (in the order of the tokens), `zone`, `window`. Of an array or table the kind of all its elements
-/// comes first.
+/// `default_class`, `validators` (element by element: `first`, `last`, `mode`, the range), `riders`
+/// (in the order of the tokens), `zone`, `window`. Of an array or table the kind of all its
+/// elements comes first.
 #[derive(Clone, Copy, Debug, PartialEq, Eq, Error)]
 pub enum TableFault {
     /// The bytes are no TOML text, or not UTF-8.

@@ -1,5 +1,5 @@
 //! Laws of fare tables. Each function's contract is the law; it has nothing to do, but for
-//! `read_tells_the_first_row`, which reads.
+//! `read_reports_the_first_row`, which reads.
 ghost use Rattle.std.specs.Prelude.{◌≡◌, ◌≢◌, ◌⊎◌, ◌↔◌, ℕ, ◌<◌, ◌≤◌, ◌+ℤ◌, pos, true, List};
 ghost use Rattle.std.specs.Prelude.{Err, None, Ok, Some, IfErr, IfOk, IsErrOf, IsUtf8, position};
 ghost use Rattle.std.specs.Cmp.Lexicographic.{slice_cmp};
@@ -50,8 +50,8 @@ pub fn long_windows_end_at_midnight()
         ≡ midnight_instant zone (day_at zone (moment_nanos start) +ℤ pos count) }
 {}
 
-/// A table permits a transfer from one mode to another exactly where its text lists the pair of
-/// their names.
+/// A table permits a transfer from one mode to another exactly if its text lists the pair of their
+/// names.
 pub fn permitted_pairs_are_listed()
     ensures { (tree : Members) (meaning : TableMeaning) (from to : ℕ)
         → meaning_of_tree tree ≡ Ok meaning
@@ -59,7 +59,7 @@ pub fn permitted_pairs_are_listed()
 {}
 
 /// The mode of a validator is the one that the element of the text's `validators` names which has
-/// it, and none exactly where no element has it. At most one element has it.
+/// it, and none exactly if no element has it. At most one element has it.
 pub fn modes_are_of_ranges()
     ensures some { (tree : Members) (meaning : TableMeaning) (validator mode : ℕ)
         → meaning_of_tree tree ≡ Ok meaning
@@ -115,7 +115,7 @@ pub fn ranges_and_riders_rise()
 
 /// A text has a fault exactly where a row of the table of faults holds, and it is that of the first
 /// such row. Where none holds it has a meaning.
-pub fn first_row_tells_the_fault()
+pub fn first_row_reports_the_fault()
     ensures fault { (text : List ℕ) (fault : TableFault)
         → (meaning_in text ≡ Err fault) ↔ (first_fault (parse_document text) ≡ Some fault) }
     ensures none { (text : List ℕ) → ((meaning : TableMeaning) × (meaning_in text ≡ Ok meaning))
@@ -124,8 +124,8 @@ pub fn first_row_tells_the_fault()
 
 /// The same of `FareTable::read`, which it calls: a text of which a row holds is answered by the
 /// fault of the first such row, or by want of memory. A table is answered only where no row holds.
-pub fn read_tells_the_first_row(alloc: Global, text: &[u8]) -> Result<FareTable, TableFault>
-    ensures told { IsUtf8 text.now → (fault : TableFault)
+pub fn read_reports_the_first_row(alloc: Global, text: &[u8]) -> Result<FareTable, TableFault>
+    ensures reported { IsUtf8 text.now → (fault : TableFault)
         → first_fault (parse_document text.now) ≡ Some fault
         → IsErrOf result fault ⊎ IsErrOf result TableFault.NoMemory }
     ensures first { IfErr result (λ fault. fault ≢ TableFault.NoMemory → IsUtf8 text.now

@@ -42,7 +42,7 @@ impl Riders {
     ghost use Rattle.tap_views.specs.Token.{Fits};
     ghost use Rattle.fare_table.specs.Riders.{by_bytes};
 
-    /// The riders of a map by their tokens. `NoMemory` is answered where a growth is refused.
+    /// The riders of a map by their tokens. `NoMemory` is returned if a growth is refused.
     pub(crate) fn new(alloc: Global, classes: BTreeMap<Token, u32>) -> Result<Riders, NoMemory>
         requires { All Fits (keys_of classes.entries) }
         ensures { IfOk result (λ r. r ≡ by_bytes classes.entries) }

@@ -1,5 +1,5 @@
 //! The fare table and its look-ups.
-ghost use Rattle.std.specs.Prelude.{◌≡◌, ◌≢◌, ◌⊎◌, ◌<◌, ◌≤◌, [], length, option_map, IfSome};
+ghost use Rattle.std.specs.Prelude.{◌≡◌, ◌≢◌, ◌⊎◌, ℕ, ◌<◌, ◌≤◌, [], length, option_map, IfSome};
 ghost use Rattle.std.specs.Prelude.{IfErr, IfOk, IsErrOf, IsTrue, IsUtf8, IsOk, Err, Ok, None, Some};
 ghost use Rattle.std.specs.Prelude.{All, map, slice_get, string_bytes};
 ghost use Rattle.toml.specs.Parse.{parse_document};
@@ -41,7 +41,7 @@ pub struct FareTable {
     /// changes it.
     first: Arc<Tariff>,
     /// The moment from which the next tariff is valid, so that a look-up before it compares once;
-    /// `u64::MAX` where none follows.
+    /// `u64::MAX` if none follows.
     until: u64,
     /// The tariffs that follow, in the order of their dates.
     later: Vec<DatedTariff>,
@@ -67,14 +67,13 @@ impl Model for FareTable {
 struct DatedTariff {
     /// The moment from which it is valid, in milliseconds since 1970-01-01T00:00Z.
     from: u64,
-    /// The tariff.
     tariff: Arc<Tariff>,
 }
 
 impl FareTable {
-    /// Reads a table from its TOML text. The first fault is answered, in the order in which the
+    /// Reads a table from its TOML text. The first fault is returned, in the order in which the
     /// keys are read: modes, transfers, classes, the default class, validators, riders, zone,
-    /// window. `NoMemory` is answered where a growth is refused.
+    /// window. `NoMemory` is returned if a growth is refused.
     pub fn read(alloc: Global, text: &[u8]) -> Result<FareTable, TableFault>
         ensures ok { IfOk result (λ t. IsUtf8 text.now × (meaning_in text.now ≡ Ok t.meaning)) }
         ensures zone { IfOk result (λ t. IsClockOf t.meaning t.zone) }
@@ -87,7 +86,7 @@ impl FareTable {
         ensures refused { IsUtf8 text.now → (e : TableFault) → meaning_in text.now ≡ Err e
             → IsErrOf result e ⊎ IsErrOf result TableFault.NoMemory }
 
-        // The text fault comes only where the text is no TOML, and always where it is not UTF-8.
+        // The text fault comes only if the text is no TOML, and always if it is not UTF-8.
         ensures text { IsErrOf result TableFault.Text → IsUtf8 text.now
             → parse_document text.now ≡ None }
         ensures not_text { ¬ IsUtf8 text.now
@@ -106,7 +105,7 @@ impl FareTable {
     }
 
     /// Reads a table from the TOML tree of its text, so that a caller that has the tree need not
-    /// parse the text again. The first fault is answered, in the order of `read`.
+    /// parse the text again. The first fault is returned, in the order of `read`.
     pub fn of_tree(alloc: Global, tree: &Table) -> Result<FareTable, TableFault>
         ensures ok { IfOk result (λ t. meaning_of_tree (table_view tree.now) ≡ Ok t.meaning) }
         ensures zone { IfOk result (λ t. IsClockOf t.meaning t.zone) }
@@ -118,7 +117,7 @@ impl FareTable {
     }
 
     /// These tables, and one that is valid from the moment on, in milliseconds since
-    /// 1970-01-01T00:00Z. It answers why it cannot follow, where it cannot.
+    /// 1970-01-01T00:00Z. If it cannot follow, the error says why.
     pub fn followed_by(mut self, from: u64, next: FareTable) -> Result<FareTable, FollowFault>
         ensures follows { IfOk result (λ _. CanFollow self from next) }
         ensures tables { IfOk result (λ t. t ≡ with_next self from next.meaning) }
@@ -133,7 +132,7 @@ impl FareTable {
         }
     }
 
-    /// A clock of the zone of all its tariffs, which says where windows end. It always answers,
+    /// A clock of the zone of all its tariffs, which says where windows end. It always returns,
     /// since a rule of a zone takes no memory.
     pub fn clock(&self, _alloc: Global) -> Result<Clock, NoMemory>
         ensures answers { IsOk result }
@@ -142,8 +141,8 @@ impl FareTable {
         Ok(self.first.clock())
     }
 
-    /// An equal table, which shares this one's tariffs. `NoMemory` is answered where a growth is
-    /// refused, or where a tariff is shared too often to be counted.
+    /// An equal table, which shares this one's tariffs. `NoMemory` is returned if a growth is
+    /// refused, or if a tariff is shared too often to be counted.
     pub fn try_clone(&self, alloc: Global) -> Result<FareTable, NoMemory>
         ensures { IfOk result (λ t. t ≡ self.now) }
     {
@@ -167,10 +166,20 @@ impl FareTable {
         ensures meaning { result.now.meaning ≡ meaning_at self.now moment }
         ensures modes { result.now.meaning.modes ≡ self.now.meaning.modes }
     {
-        if moment < self.until {
+        if self.is_first_at(moment) {
             return &self.first;
         }
         self.later_at(moment)
+    }
+
+    /// Whether the first tariff is valid at the moment and at each before it. That it says no costs
+    /// its caller a look-up and no more.
+    #[inline(always)]
+    pub fn is_first_at(&self, moment: u64) -> bool
+        ensures { IsTrue result → (earlier : ℕ) → earlier ≤ moment
+            → meaning_at self.now earlier ≡ self.now.meaning }
+    {
+        moment < self.until
     }
 
     /// The tariff that is valid first. The look-ups below that take no moment are its own.
@@ -180,6 +189,23 @@ impl FareTable {
         &self.first
     }
 
+    /// How many tariffs follow the first one.
+    pub fn later_len(&self) -> usize
+        ensures { result ≡ length self.now.later }
+    {
+        self.later.len()
+    }
+
+    /// The tariff at the place among those that follow the first one, in the order of their dates,
+    /// behind the moment from which it is valid, in milliseconds since 1970-01-01T00:00Z.
+    pub fn later(&self, place: usize) -> (u64, &Tariff)
+        requires { place < length self.now.later }
+        ensures { slice_get self.now.later place ≡ Some (result.0, result.1.now.meaning) }
+    {
+        let dated = &self.later[place];
+        (dated.from, &dated.tariff)
+    }
+
     /// Whether one tariff is valid at both moments: none comes after the earlier one up to the
     /// later one. That it says no costs its caller a look-up and no more.
     #[inline]
@@ -187,17 +213,21 @@ impl FareTable {
         requires { earlier ≤ moment }
         ensures { IsTrue result → meaning_at self.now earlier ≡ meaning_at self.now moment }
     {
-        moment < self.until || self.none_between(earlier, moment)
+        self.is_first_at(moment) || self.none_between(earlier, moment)
     }
 
-    /// The mode of a validator at the moment, or `None` where no range of the tariff has it that is
+    /// The mode of a validator at the moment, or `None` if no range of the tariff has it that is
     /// valid then.
+    #[inline(always)]
     pub fn mode_of(&self, moment: u64, validator: u32) -> Option<Mode>
         ensures mode { option_map (λ m. m.place) result ≡ mode_at self.now moment validator }
         ensures within { IfSome result (λ m. m.place < length self.now.meaning.modes) }
         ensures few { length self.now.meaning.modes ≤ 32 }
     {
-        self.at(moment).mode_of(validator)
+        if self.is_first_at(moment) {
+            return self.first.mode_of(validator);
+        }
+        self.later_mode_of(moment, validator)
     }
 
     /// The mode's name. All tariffs have the same modes.
@@ -286,8 +316,21 @@ impl FareTable {
         self.first.terms_of(token)
     }
 
+    /// What `mode_of` answers. Kept out of it, so that a run with one tariff has a compare where it
+    /// is called and no more.
+    #[cold]
+    #[inline(never)]
+    fn later_mode_of(&self, moment: u64, validator: u32) -> Option<Mode>
+        ensures mode { option_map (λ m. m.place) result ≡ mode_at self.now moment validator }
+        ensures within { IfSome result (λ m. m.place < length self.now.meaning.modes) }
+        ensures few { length self.now.meaning.modes ≤ 32 }
+    {
+        let tariff = self.later_at(moment);
+        tariff.mode_of(validator)
+    }
+
     /// The tariff that is valid at the moment, of those that follow and the first. Kept out of
-    /// `at`, so that a run with one tariff has a compare where it is called and no more.
+    /// `at`, as `later_mode_of` out of `mode_of`.
     #[cold]
     #[inline(never)]
     fn later_at(&self, moment: u64) -> &Tariff
@@ -332,7 +375,7 @@ impl FareTable {
         None
     }
 
-    /// Adds a tariff that is valid from the moment on. Unchanged where memory is refused.
+    /// Adds a tariff that is valid from the moment on. Unchanged if memory is refused.
     fn push(&mut self, from: u64, tariff: Arc<Tariff>) -> Result<(), NoMemory>
         requires { (arc_value tariff).meaning.modes ≡ self.old.meaning.modes }
         ensures { IfOk result (λ _. self.new ≡ with_next self.old from (arc_value tariff).meaning) }
@@ -358,7 +401,7 @@ fn begun(later: &[DatedTariff], moment: u64) -> usize
     count
 }
 
-/// The moment from which the last of the tariffs is valid, and 0 where there is none.
+/// The moment from which the last of the tariffs is valid, and 0 if there is none.
 fn last_from(later: &[DatedTariff]) -> u64
     ensures { result ≡ spec.last_from 0 (map dated_meaning later.now) }
 {

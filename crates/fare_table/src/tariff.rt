@@ -91,7 +91,7 @@ impl Tariff {
         Clock::new(rule(&self.parts.zone))
     }
 
-    /// The mode of a validator, or `None` where no range has it.
+    /// The mode of a validator, or `None` if no range has it.
     pub fn mode_of(&self, validator: u32) -> Option<Mode>
         ensures mode { option_map (λ m. m.place) result ≡ mode_in self.now.meaning validator }
         ensures within { IfSome result (λ m. m.place < length self.now.meaning.modes) }

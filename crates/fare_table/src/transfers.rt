@@ -10,7 +10,6 @@ use tap_views::NoMemory;
 /// Pairs of places of modes, each once, in the order in which they were added.
 #[derive(Drop)]
 pub struct Transfers {
-    /// The pairs.
     pairs: Vec<(u8, u8)>,
     /// Bit `to` of the mask at `from` stands for the pair, so that a look-up reads one mask.
     masks: [u32; MAX_MODES],
@@ -54,7 +53,7 @@ impl Transfers {
         (self.masks[from as usize] >> to) & 1 == 1
     }
 
-    /// Adds a pair that is not yet among them. Unchanged where memory is refused.
+    /// Adds a pair that is not yet among them. Unchanged if memory is refused.
     pub(crate) fn add(&mut self, from: u8, to: u8) -> Result<(), NoMemory>
         requires from { from < 32 }
         requires to { to < 32 }

@@ -55,8 +55,7 @@ impl Ranges {
     ghost use Rattle.fare_table.specs.Fares.{range_at};
     ghost use Rattle.fare_table.specs.Validators.{stand_apart};
 
-    /// The ranges of a map by their first numbers. `NoMemory` is answered where a growth is
-    /// refused.
+    /// The ranges of a map by their first numbers. `NoMemory` is returned if a growth is refused.
     pub(crate) fn new(alloc: Global, ranges: BTreeMap<u32, RangeRest>) -> Result<Ranges, NoMemory>
         requires { stand_apart ranges.entries ≡ true }
         ensures { IfOk result (λ r. r ≡ ranges.entries) }
@@ -194,7 +193,7 @@ fn begun_by_halves(firsts: &[u32], number: u32) -> usize
     base + taken_if_begun(1, firsts[base], number)
 }
 
-/// The places, where the first number is not above the number, else 0. The upper half of the
+/// The places, if the first number is not above the number, else 0. The upper half of the
 /// difference is the mask: a comparison would be compiled to a branch again.
 fn taken_if_begun(places: usize, first: u32, number: u32) -> usize
     requires { places < 0x1_0000_0000 }

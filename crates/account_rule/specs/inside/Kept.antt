@@ -1,17 +1,25 @@
 -- Kept: what private functions alone cite.
 use Rattle.std.specs.Prelude.{ℕ, ◌+◌, ◌-◌, Bool, false, ◌&&◌, if◌then◌else◌, min, nat_le, nat_lt}
 use Rattle.std.specs.Prelude.{Option, Some, None}
-use Rattle.fare_table.specs.Fares.{is_permitted, transfer_terms}
+use Rattle.fare_table.specs.ClockView.{ClockView}
+use Rattle.fare_table.specs.Fares.{is_permitted, ride_terms, transfer_terms}
 use Rattle.fare_table.specs.TableMeaning.{TableMeaning}
+use Rattle.fare_table.specs.Until.{window_end_in}
+use Rattle.fare_table.specs.declared.mode.Mode.{Mode}
 use Rattle.fare_table.specs.declared.terms.Terms.{Terms}
 use Rattle.account_rule.specs.declared.window.Window.{Window}
 use Rattle.account_rule.specs.declared.window.WindowView.{WindowView}
 use Rattle.account_rule.specs.declared.reason.Reason.{Reason}
 use Rattle.account_rule.specs.declared.reason.Reason.TheVariants.{Ride}
+use Rattle.account_rule.specs.declared.reply.Answer.TheVariants.{Transfer}
+use Rattle.account_rule.specs.declared.reply.Reply.{Reply}
+use Rattle.account_rule.specs.Kept.{Kept, kept_trip}
+use Rattle.account_rule.specs.Replies.{reply_with, ride_reply}
+use Rattle.account_rule.specs.declared.tap.TapIn.{TapIn}
 use Rattle.account_rule.specs.Taps.{LiveTap}
 use Rattle.account_rule.specs.TokenRules.{TransferRules}
 use Rattle.account_rule.specs.Trips.{TripEnd}
-use Rattle.account_rule.specs.Windows.{charge, charged_by, is_paid}
+use Rattle.account_rule.specs.Windows.{charge, charged_by, is_paid, paid_by}
 
 -- whether the trip, if there is one, gives a transfer to the tap
 unfoldable pub gives : TransferRules → Option TripEnd → LiveTap → Bool
@@ -21,8 +29,8 @@ gives rules (Some trip) tap =
     && nat_le (tap.moment - trip.ride.moment) (rules.time tap)
     && rules.permits trip.last.mode tap
 
--- what one meaning says of transfers, at each tap: as many as the rides of the class give, within their
--- time, where the pair of modes is permitted
+-- what one meaning says of transfers, at each tap: as many as the rides of the class give, within
+-- their time, if the pair of modes is permitted
 unfoldable pub transfers_in : TableMeaning → ℕ → TransferRules
 transfers_in meaning class = record {
   count = λ tap. (transfer_terms meaning class).taps;
@@ -52,6 +60,37 @@ with_ride terms window = record window {
   paid = window.paid + (if is_paid (charge terms window.rides window.cents) then 1 else 0);
   cents = window.cents + charged_by (charge terms window.rides window.cents);
 }
+
+-- the tap of this moment, at a validator of this mode
+unfoldable pub known_tap : ℕ → Mode → TapIn
+known_tap moment mode = record { moment = moment; mode = Some mode }
+
+-- the window of a live tap that is a ride, by what is kept and what one meaning says
+unfoldable pub window_under : TableMeaning → ClockView → Kept → LiveTap → Window
+window_under meaning clock state tap =
+    window_at (Some state.window) tap.moment (window_end_in clock meaning.window tap.moment)
+
+-- the reply to a live tap, where the kept class is the token's in the meaning
+unfoldable pub reply_under : TableMeaning → ClockView → Kept → LiveTap → Reply
+reply_under meaning clock state tap =
+    if gives (transfers_in meaning state.class) (kept_trip (Some state)) tap
+    then reply_with Transfer 0
+    else ride_reply (paid_by (charge (ride_terms meaning state.class tap.mode.place)
+    (window_under meaning clock state tap).rides (window_under meaning clock state tap).cents))
+
+-- what is kept after the tap
+unfoldable pub kept_under : TableMeaning → ClockView → Kept → LiveTap → Kept
+kept_under meaning clock state tap =
+    if gives (transfers_in meaning state.class) (kept_trip (Some state)) tap
+    then record state { last = tap; given = state.given + 1 }
+    else record {
+      last = tap;
+      ride = tap;
+      given = 0;
+      class = state.class;
+      window = with_ride (ride_terms meaning state.class tap.mode.place)
+          (window_under meaning clock state tap);
+    }
 
 -- why the window's next ride is answered as it is
 unfoldable pub next_reason : Terms → Window → Reason

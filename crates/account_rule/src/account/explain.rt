@@ -62,13 +62,13 @@ impl Account {
             return Reason::Stale { latest: self.last };
         }
         let tariff = table.at(tap.moment);
-        let class = self.class_at(table, token, tap.moment);
-        if self.gives_transfer(tariff, class, tap.moment, mode) {
+        self.class = self.class_at(table, token, tap.moment);
+        if self.gives_transfer(tariff, tap.moment, mode) {
             let given = self.given();
-            self.take_transfer(class, mode, tap.moment);
+            self.take_transfer(mode, tap.moment);
             return given;
         }
-        self.explain_ride(tariff, clock, class, mode, tap.moment)
+        self.explain_ride(tariff, clock, mode, tap.moment)
     }
 
     /// Why a ride at the moment, on the mode, would be no transfer after the taps that the account
@@ -98,7 +98,7 @@ impl Account {
         self.spent(tariff, tariff.class_of(token), moment, mode)
     }
 
-    /// Why the last trip gives no transfer to a ride at the moment, on the mode, where the tariff is
+    /// Why the last trip gives no transfer to a ride at the moment, on the mode, if the tariff is
     /// valid then and the class is the token's in it.
     #[tactic(auto, unfolding(crate::specs::inside::Kept::transfers_in, crate::specs::NoTransfers::no_transfer_from, crate::specs::Kept::kept_trip, crate::specs::Taps::live_at))]
     fn spent(&self, tariff: &Tariff, class: u32, moment: u64, mode: Mode) -> NoTransfer
@@ -142,20 +142,14 @@ impl Account {
     /// Takes a live tap at the moment, on the mode, as a ride, and returns why it costs what it
     /// costs.
     #[tactic(auto, unfolding(crate::specs::inside::Kept::window_at, crate::specs::inside::Kept::open_window))]
-    fn explain_ride(
-        &mut self,
-        tariff: &Tariff,
-        clock: &Clock,
-        class: u32,
-        mode: Mode,
-        moment: u64,
-    ) -> Reason
-        requires class { class < length tariff.now.meaning.classes }
+    fn explain_ride(&mut self, tariff: &Tariff, clock: &Clock, mode: Mode, moment: u64) -> Reason
+        requires class { self.old.class < length tariff.now.meaning.classes }
         requires mode { mode.place < length tariff.now.meaning.modes }
         requires early { moment < 4_102_444_800_000 }
         requires room { IsRoomy self.old.window }
-        ensures bounds { AreRideTerms (ride_terms tariff.now.meaning class mode.place) }
-        ensures reason { result ≡ next_reason (ride_terms tariff.now.meaning class mode.place)
+        ensures bounds { AreRideTerms (ride_terms tariff.now.meaning self.old.class mode.place) }
+        ensures reason { result
+            ≡ next_reason (ride_terms tariff.now.meaning self.old.class mode.place)
             (window_at (Some self.old.window) moment (window_end_in clock.now
             tariff.now.meaning.window moment)) }
         ensures has_window { self.new.has_window ≡ self.old.has_window }
@@ -163,8 +157,8 @@ impl Account {
           last = live_at moment mode;
           ride = live_at moment mode;
           given = 0;
-          class = class;
-          window = with_ride (ride_terms tariff.now.meaning class mode.place)
+          class = self.old.class;
+          window = with_ride (ride_terms tariff.now.meaning self.old.class mode.place)
               (window_at (Some self.old.window) moment (window_end_in clock.now
               tariff.now.meaning.window moment));
         } }
@@ -172,10 +166,10 @@ impl Account {
         if moment >= self.window.until {
             self.window = Window::opened(tariff, clock, moment);
         }
-        let terms = tariff.ride_terms(class, mode);
+        let terms = tariff.ride_terms(self.class, mode);
         let reason = self.window.next_reason(terms);
         self.window.add_ride(terms);
-        self.begin_trip(class, mode, moment);
+        self.begin_trip(mode, moment);
         reason
     }
 }

@@ -21,7 +21,7 @@ fares_of first later = record {
   zone = first.zone;
 }
 
--- the moment from which the first of the tables is valid that follow, and the greatest one where none
+-- the moment from which the first of the tables is valid that follow, and the greatest one if none
 -- does
 abbrev pub first_from : List (ℕ × TableMeaning) → ℕ
 first_from [] = 18_446_744_073_709_551_615
@@ -37,8 +37,8 @@ pub record AreDated (modes : List (List ℕ)) (until : ℕ) (later : List (ℕ �
   pub first : until ≡ first_from later
   pub alike : All (HasModes modes) later
 
--- how many of the tables that follow are valid at the moment or were before, up to the first that is
--- not yet
+-- how many of the tables that follow are valid at the moment or were before, up to the first that
+-- is not yet
 abbrev pub begun : ℕ → List (ℕ × TableMeaning) → ℕ
 begun moment [] = 0
 begun moment (next ∷ later) = if nat_le next.0 moment then suc (begun moment later) else 0

@@ -25,8 +25,8 @@ view_of parts = record {
   zone = record { rule = zone_rule parts.zone };
 }
 
--- at most 32 modes, ranges of modes of the tariff, classes and days of windows within their bounds, a
--- name of each class, and places that have a class
+-- at most 32 modes, ranges of modes of the tariff, classes and days of windows within their bounds,
+-- a name of each class, and places that have a class
 pub record AreSound (parts : TariffData) : Type 0 where
   pub few : length parts.modes.items ≤ 32
   pub known : are_modes_below (length parts.modes.items) parts.ranges ≡ true

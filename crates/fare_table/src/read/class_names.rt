@@ -25,7 +25,7 @@ pub(crate) struct ClassNames<'t> {
 }
 
 impl<'t> ClassNames<'t> {
-    /// The names of these classes. `NoMemory` is answered where a growth is refused.
+    /// The names of these classes. `NoMemory` is returned if a growth is refused.
     pub(crate) fn new(alloc: Global, classes: &'t Table) -> Result<ClassNames<'t>, TableFault>
         ensures same { IfOk result (λ c. table_view c.classes.now ≡ table_view classes.now) }
         ensures refused { IfErr result (λ e. e ≡ TableFault.NoMemory) }
@@ -37,8 +37,8 @@ impl<'t> ClassNames<'t> {
         Ok(ClassNames { classes, names })
     }
 
-    /// The place of the class of this name. A place that `u32` does not hold is answered as refused
-    /// memory, since no memory holds so many classes.
+    /// The place of the class of this name. A place that `u32` does not hold is returned as refused
+    /// memory, since no memory holds that many classes.
     pub(crate) fn place_of(&self, name: &str) -> Result<u32, TableFault>
         ensures place { Answers (λ place. place) result
             (spec.class_named (table_view self.now.classes.now) name.now) }
@@ -65,7 +65,7 @@ fn short_place(place: usize) -> Result<u32, TableFault>
     Ok(place as u32)
 }
 
-/// Copies of the names of these classes, each at its place. `NoMemory` is answered where a growth is
+/// Copies of the names of these classes, each at its place. `NoMemory` is returned if a growth is
 /// refused.
 pub(crate) fn names_of(alloc: Global, classes: &Table) -> Result<Vec<String>, TableFault>
     ensures names { IfOk result

@@ -69,7 +69,7 @@ pub(crate) fn classes_from(
     Ok(found)
 }
 
-/// The class of a value, where it is a table.
+/// The class of a value, if it is a table.
 fn class_in(modes: &[String], value: &Value) -> Result<Class, TableFault>
     requires { length modes.now ≤ 32 }
     ensures class { result ≡ spec.class_in (map string_bytes modes.now) (view value.now) }
@@ -193,8 +193,8 @@ fn ceiling_of(price: u32, value: Option<&Value>) -> Result<u32, TableFault>
     }
 }
 
-/// The place of the class of this name. A place that `u32` does not hold is answered as refused
-/// memory, since no memory holds so many classes.
+/// The place of the class of this name. A place that `u32` does not hold is returned as refused
+/// memory, since no memory holds that many classes.
 pub(crate) fn class_named(classes: &Table, name: &str) -> Result<u32, TableFault>
     ensures place { Answers (λ place. place) result
         (spec.class_named (table_view classes.now) name.now) }

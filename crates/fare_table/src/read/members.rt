@@ -34,14 +34,12 @@ pub(crate) fn of_kind<T>(part: Option<T>, key: Key) -> Result<T, TableFault>
     part.ok_or(TableFault::Kind { key })
 }
 
-/// The string at a key.
 pub(crate) fn text_at<'a>(table: &'a Table, name: &str, key: Key) -> Result<&'a str, TableFault>
     ensures { seen_through (λ s. s.now) result ≡ spec.text_at name.now key (table_view table.now) }
 {
     of_kind(needed(table, name, key)?.as_str(), key)
 }
 
-/// The array at a key.
 pub(crate) fn array_at<'a>(table: &'a Table, name: &str, key: Key) -> Result<&'a Array, TableFault>
     ensures { seen_through (λ v. array_view v.now) result
         ≡ spec.array_at name.now key (table_view table.now) }
@@ -49,7 +47,6 @@ pub(crate) fn array_at<'a>(table: &'a Table, name: &str, key: Key) -> Result<&'a
     of_kind(needed(table, name, key)?.as_array(), key)
 }
 
-/// The table at a key.
 pub(crate) fn table_at<'a>(table: &'a Table, name: &str, key: Key) -> Result<&'a Table, TableFault>
     ensures { seen_through (λ m. table_view m.now) result
         ≡ spec.table_at name.now key (table_view table.now) }
@@ -57,7 +54,6 @@ pub(crate) fn table_at<'a>(table: &'a Table, name: &str, key: Key) -> Result<&'a
     of_kind(needed(table, name, key)?.as_table(), key)
 }
 
-/// Whether the number is from `low` to `high`.
 fn is_within(low: u32, number: i64, high: u32) -> bool
     ensures { result ≡ (int_le (pos low) number && int_le number (pos high)) }
 {

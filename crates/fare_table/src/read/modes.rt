@@ -51,7 +51,7 @@ fn are_mode_names(names: &[String]) -> bool
     is_count(names.len()) && are_short_words(names) && are_distinct(names)
 }
 
-/// Whether a table may have so many modes.
+/// Whether a table may have this number of modes.
 fn is_count(modes: usize) -> bool
     ensures { result ≡ (nat_le 1 modes && nat_le modes 32) }
 {

@@ -18,8 +18,8 @@ use std::collections::BTreeMap;
 use tap_views::Token;
 use toml::{Table, Value};
 
-/// The places of the classes of the riders that the text names, by their tokens; none where it has
-/// no such key.
+/// The places of the classes of the riders that the text names, by their tokens; none if it has no
+/// such key.
 #[tactic(auto, unfolding(crate::specs::Riders::riders_of))]
 pub(crate) fn riders_of(alloc: Global, classes: &Table, table: &Table) -> Result<Riders, TableFault>
     ensures answer { Answers (λ r. r) result

@@ -39,7 +39,7 @@ fn pairs_of(alloc: Global, array: &Array) -> Result<Vec<(&str, &str)>, TableFaul
     Ok(pairs)
 }
 
-/// The two names of a value, where it is an array of two strings.
+/// The two names of a value, if it is an array of two strings.
 fn name_pair(value: &Value) -> Option<(&str, &str)>
     ensures { option_map (λ pair. (pair.0.now, pair.1.now)) result
         ≡ spec.name_pair (view value.now) }

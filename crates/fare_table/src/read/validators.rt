@@ -86,7 +86,7 @@ fn last_upto(ranges: &BTreeMap<u32, RangeRest>, number: u32) -> Option<u32>
     }
 }
 
-/// The range of a value, where it is a table.
+/// The range of a value, if it is a table.
 fn range_in(modes: &[String], value: &Value) -> Result<(u32, RangeRest), TableFault>
     requires { length modes.now ≤ 32 }
     ensures range { result ≡ spec.range_in (map string_bytes modes.now) (view value.now) }

@@ -9,7 +9,7 @@ use crate::fault::{Key, TableFault};
 use crate::window_span::WindowSpan;
 use toml::{Table, Value};
 
-/// The span of the windows of the text; seven days where it has no such key.
+/// The span of the windows of the text; seven days if it has no such key.
 #[tactic(auto, unfolding(crate::specs::Window::window_of))]
 pub(crate) fn window_of(table: &Table) -> Result<WindowSpan, TableFault>
     ensures span { result ≡ spec.window_of (table_view table.now) }

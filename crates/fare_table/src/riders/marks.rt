@@ -10,17 +10,17 @@ use std::collections::BTreeMap;
 use std::marker::Model;
 use tap_views::{NoMemory, Token};
 
-/// The least number of marks for each token. With so many, most other tokens have none at their
+/// The least number of marks for each token. With this number, most other tokens have none at their
 /// place.
 const MARKS_FOR_EACH: usize = 8;
 
-/// A mark for each of some tokens, at the place that its last bits tell.
+/// A mark for each of some tokens, at the place that its last bits give.
 ///
 /// A token without a mark at its place is none of them. One with a mark may be, since tokens share
 /// places: who asks looks further then. So places that many tokens share cost time alone.
 #[derive(Drop)]
 pub(crate) struct RiderMarks {
-    /// A power of two of them, so that a place is found without a division. None where there is no
+    /// A power of two of them, so that a place is found without a division. None if there is no
     /// token.
     marks: Vec<bool>,
 }
@@ -34,7 +34,7 @@ impl Model for RiderMarks {
 }
 
 impl RiderMarks {
-    /// The marks of a map's tokens. `NoMemory` is answered where a growth is refused.
+    /// The marks of a map's tokens. `NoMemory` is returned if a growth is refused.
     pub(crate) fn new(alloc: Global, riders: &BTreeMap<Token, u32>) -> Result<RiderMarks, NoMemory>
         ensures marked { IfOk result
             (λ marks. All (λ token. is_marked marks token ≡ true) (keys_of riders.now.entries)) }
@@ -56,8 +56,8 @@ impl RiderMarks {
     }
 }
 
-/// The place of the token's mark among so many, a power of two: its last bits, which spread well,
-/// since most tokens are random.
+/// The place of the token's mark among this number of marks, a power of two: its last bits, which
+/// spread well, since most tokens are random.
 fn mark_place(token: Token, marks: usize) -> usize
     requires { 0 < marks }
     ensures place { result ≡ mark_place token marks }
@@ -66,8 +66,8 @@ fn mark_place(token: Token, marks: usize) -> usize
     token.low() as usize & (marks - 1)
 }
 
-/// How many marks so many tokens have. A number that `usize` does not hold is also more than memory
-/// holds, so it is answered as refused memory.
+/// How many marks this number of tokens has. A number that `usize` does not hold is also more than
+/// memory holds, so it is returned as refused memory.
 fn marks_for(tokens: usize) -> Result<usize, NoMemory>
     ensures some { IfOk result (λ marks. 0 < tokens → 0 < marks) }
     ensures few { IfOk result (λ marks. marks ≤ 16 * tokens) }

@@ -6,7 +6,7 @@ use crate::validators::RangeRest;
 use std::alloc::Global;
 use tap_views::NoMemory;
 
-/// The steps for each range. With so many, mostly no two ranges end in one step.
+/// The steps for each range. With this number, two ranges rarely end in one step.
 const STEPS_FOR_EACH: u64 = 4;
 
 /// Guesses which of some ranges, which rise and stand apart, has a number.
@@ -14,7 +14,7 @@ const STEPS_FOR_EACH: u64 = 4;
 /// The numbers from the lowest last number of a range to the highest are divided into steps of one
 /// width, a power of two. For each step the place of the first range is kept that ends in it or
 /// behind it. That range has the numbers of the step, or the next one has those behind its end. An
-/// answer is a guess: the caller checks it, and searches if it is wrong. It may be wrong where many
+/// answer is a guess: the caller checks it, and searches if it is wrong. It may be wrong if many
 /// ranges end in one step.
 #[derive(Drop)]
 pub(crate) struct Guesses {
@@ -57,7 +57,7 @@ impl Guesses {
     }
 }
 
-/// The last number of the range, or 0 where there is none.
+/// The last number of the range, or 0 if there is none.
 fn end_of(range: Option<&(u32, RangeRest)>) -> u32 {
     match range {
         Some((_first, rest)) => rest.last,
@@ -95,7 +95,7 @@ fn places_of(
     Ok(places)
 }
 
-/// The width of a step, as a power of two, where the highest last number lies so far above the
+/// The width of a step, as a power of two, if the highest last number lies this far above the
 /// lowest.
 fn width_bits(height: u32, ranges: usize) -> u32
     ensures { result ≤ 32 }

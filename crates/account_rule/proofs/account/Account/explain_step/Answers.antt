@@ -1,6 +1,6 @@
 -- Each way out is one of the rule's four cases: unknown, stale, transfer, ride. The reason is that
 -- case's, and the account then stands for one tap more, as after a step.
-use Rattle.std.proofs.Common.{◌≡◌, List, [], ◌∷◌, ◌++◌, Some, refl, sym, ◌∙◌, arith}
+use Rattle.std.proofs.Common.{◌≡◌, ◌≤◌, List, [], ◌∷◌, ◌++◌, Some, refl, sym, ◌∙◌, arith}
 use Rattle.account_rule.specs.declared.window.Window.{Window}
 use Rattle.fare_table.specs.Fares.{class_of, meaning_at, ride_terms}
 use Rattle.fare_table.specs.Until.{window_end_in}
@@ -18,12 +18,13 @@ use Rattle.account_rule.proofs.StepLemmas.{IsStep, at_fresh, at_kept, at_state, 
 use Rattle.account_rule.proofs.StepLemmas.{class_there, first_ride, gives_none-fresh}
 use Rattle.account_rule.proofs.StepLemmas.{gives_none-state, gives_same, kept-fresh, kept-open}
 use Rattle.account_rule.proofs.StepLemmas.{kept_room, listed, next_ride, stale, stands-open}
-use Rattle.account_rule.proofs.StepLemmas.{terms_same, transfer, unknown, until_same}
+use Rattle.account_rule.proofs.StepLemmas.{terms_same, transfer, trip_order, unknown, until_same}
 use Rattle.account_rule.proofs.WindowLemmas.{room-open}
 use Rattle.account_rule.proofs.FareLemmas.{given-few, ride_reason-few}
 use Rattle.account_rule.proofs.account.Account.explain_step.Goals as goal
 use Rattle.account_rule.proofs.account.Account.explain_step.Goals.{After-explain_ride}
-use Rattle.account_rule.proofs.account.Account.explain_step.Goals.{After-first_ride, After-take_transfer}
+use Rattle.account_rule.proofs.account.Account.explain_step.Goals.{After-first_ride}
+use Rattle.account_rule.proofs.account.Account.explain_step.Goals.{After-take_transfer}
 
 -- the tap's validator is not known
 
@@ -115,9 +116,9 @@ returns-then-tap-self-clause-stands c =
 
 -- the class of the tap
 
-pub class_at-class-requires : goal.class_at-class-requires
+pub class_at-self-requires : goal.class_at-self-requires
 unfolding StandsForSome
-class_at-class-requires c = record {
+class_at-self-requires c = record {
   token = c.requires.token;
   order = omega arith;
   class = class_is c.args.table.now c.args.token.now c.args.self.now c.requires.stands.0
@@ -129,7 +130,7 @@ class_at-class-requires c = record {
 -- the last tap gives a transfer
 
 pub gives_transfer-requires-clause-class : goal.gives_transfer-requires-clause-class
-gives_transfer-requires-clause-class c = rw c.at-tariff-2.ensures.meaning c.class_at-class.ensures.there
+gives_transfer-requires-clause-class c = rw c.at-tariff-2.ensures.meaning c.class_at-self.ensures.there
 
 pub gives_transfer-requires-clause-from : goal.gives_transfer-requires-clause-from
 unfolding StandsForSome Stands kept_trip rules_of live_at
@@ -139,6 +140,13 @@ gives_transfer-requires-clause-from c =
     (kept_numbers c.args.self.now) c.requires.stands.0
     (kept-open c.args.self.now c.if-not-self.false) c.requires.stands.1).mode _ refl)
 
+pub gives_transfer-requires-clause-order : goal.gives_transfer-requires-clause-order
+unfolding StandsForSome
+gives_transfer-requires-clause-order c =
+    let before : c.args.self.now.ride ≤ c.args.self.now.last =
+    trip_order _ c.args.self.now c.requires.stands.0 c.if-not-self.false c.requires.stands.1 in
+    omega arith
+
 pub gives_transfer-requires-clause-mode : goal.gives_transfer-requires-clause-mode
 gives_transfer-requires-clause-mode c =
     rw c.at-tariff-2.ensures.modes (c.requires.mode _ c.in-Some.is)
@@ -147,29 +155,29 @@ is_transfer : (c : After-take_transfer) (taps : List TapIn)
     → Stands (rules_of c.args.table.now c.args.token.now) c.args.self.now taps
     → IsStep (rules_of c.args.table.now c.args.token.now) taps c.args.tap (reply_with Transfer 0)
     (Some (kept_numbers c.take_transfer.new.self))
-unfolding Stands live_at rules_of
+unfolding Stands live_at rules_of kept_trip
 is_transfer c taps stands =
     transfer (rules_of c.args.table.now c.args.token.now) _ _ _ taps c.args.tap c.in-Some.mode
-    c.class_at-class.result (kept-open _ c.if-not-self.false) stands c.in-Some.is
+    c.class_at-self.result (kept-open _ c.if-not-self.false) stands c.in-Some.is
     (listed c.args.table.now c.args.token.now c.in-Some.mode (c.requires.mode _ c.in-Some.is))
     c.if-tap-self.false (gives_same c.args.table.now c.args.token.now c.at-tariff-2.result.now.meaning
-    c.args.tap.moment c.class_at-class.result c.in-Some.mode
+    c.args.tap.moment c.class_at-self.result c.in-Some.mode
     (kept_trip (Some (kept_numbers c.args.self.now))) c.gives_transfer.result
-    c.at-tariff-2.ensures.meaning c.class_at-class.ensures.class c.gives_transfer.ensures.gives
+    c.at-tariff-2.ensures.meaning c.class_at-self.ensures.class c.gives_transfer.ensures.gives
     ∙ c.if-gives_transfer.true)
-    (class_at c.args.table.now c.args.token.now c.args.tap.moment c.class_at-class.result
-    c.class_at-class.ensures.class c.class_at-class.ensures.there) c.take_transfer.ensures.state
+    (class_at c.args.table.now c.args.token.now c.args.tap.moment c.class_at-self.result
+    c.class_at-self.ensures.class c.class_at-self.ensures.there) c.take_transfer.ensures.state
 
 pub returns-then-gives_transfer-clause-reason : goal.returns-then-gives_transfer-clause-reason
-unfolding rules_of Stands live_at
+unfolding rules_of Stands live_at kept_trip
 returns-then-gives_transfer-clause-reason c =
     λ taps stands. c.given-given.ensures
     ∙ why_transfer (rules_of c.args.table.now c.args.token.now) _ _ taps c.args.tap c.in-Some.mode
     (kept-open _ c.if-not-self.false) stands c.in-Some.is c.if-tap-self.false
     (gives_same c.args.table.now c.args.token.now c.at-tariff-2.result.now.meaning
-    c.args.tap.moment c.class_at-class.result c.in-Some.mode
+    c.args.tap.moment c.class_at-self.result c.in-Some.mode
     (kept_trip (Some (kept_numbers c.args.self.now))) c.gives_transfer.result
-    c.at-tariff-2.ensures.meaning c.class_at-class.ensures.class c.gives_transfer.ensures.gives
+    c.at-tariff-2.ensures.meaning c.class_at-self.ensures.class c.gives_transfer.ensures.gives
     ∙ c.if-gives_transfer.true)
 
 pub returns-then-gives_transfer-clause-stands : goal.returns-then-gives_transfer-clause-stands
@@ -188,7 +196,7 @@ returns-then-gives_transfer-clause-some c = (
 
 pub explain_ride-requires-clause-class : goal.explain_ride-requires-clause-class
 explain_ride-requires-clause-class c =
-    rw c.at-tariff-2.ensures.meaning c.class_at-class.ensures.there
+    rw c.at-tariff-2.ensures.meaning c.class_at-self.ensures.there
 
 pub explain_ride-requires-clause-mode : goal.explain_ride-requires-clause-mode
 explain_ride-requires-clause-mode c =
@@ -201,7 +209,7 @@ explain_ride-requires-clause-room c =
     c.requires.stands.1
 
 pub returns-clause-reason : goal.returns-clause-reason
-unfolding rules_of Stands live_at
+unfolding rules_of Stands live_at kept_trip
 returns-clause-reason c =
     let meaning = c.at-tariff-2.result.now.meaning in
     let valid = c.at-tariff-2.ensures.meaning in
@@ -213,12 +221,12 @@ returns-clause-reason c =
     c.requires.clock valid)
     (gives_none-state _ _ _ c.args.tap _ (kept-open _ c.if-not-self.false) c.if-tap-self.false
     (gives_same c.args.table.now c.args.token.now c.at-tariff-2.result.now.meaning
-    c.args.tap.moment c.class_at-class.result c.in-Some.mode
+    c.args.tap.moment c.class_at-self.result c.in-Some.mode
     (kept_trip (Some (kept_numbers c.args.self.now))) c.gives_transfer.result
-    c.at-tariff-2.ensures.meaning c.class_at-class.ensures.class c.gives_transfer.ensures.gives
+    c.at-tariff-2.ensures.meaning c.class_at-self.ensures.class c.gives_transfer.ensures.gives
     ∙ c.if-gives_transfer.false))
-    (terms_same c.args.table.now c.args.token.now meaning c.args.tap.moment c.class_at-class.result
-    c.in-Some.mode valid c.class_at-class.ensures.class) c.explain_ride.ensures.bounds
+    (terms_same c.args.table.now c.args.token.now meaning c.args.tap.moment c.class_at-self.result
+    c.in-Some.mode valid c.class_at-self.ensures.class) c.explain_ride.ensures.bounds
     (at_kept _ _ _ _ (kept-open _ c.if-not-self.false))
 
 next_window : (c : After-explain_ride) → Window
@@ -229,29 +237,29 @@ is_next_ride : (c : After-explain_ride) (taps : List TapIn)
     → Stands (rules_of c.args.table.now c.args.token.now) c.args.self.now taps
     → IsStep (rules_of c.args.table.now c.args.token.now) taps c.args.tap
     (ride_reply (paid_by (charge (ride_terms c.at-tariff-2.result.now.meaning
-    c.class_at-class.result c.in-Some.mode.place)
+    c.class_at-self.result c.in-Some.mode.place)
     (next_window c).rides (next_window c).cents)))
     (Some (kept_numbers c.explain_ride.new.self))
-unfolding rules_of Stands next_window live_at
+unfolding rules_of Stands next_window live_at kept_trip
 is_next_ride c taps stands =
     let meaning = c.at-tariff-2.result.now.meaning in
     let valid = c.at-tariff-2.ensures.meaning in
     next_ride (rules_of c.args.table.now c.args.token.now) (kept_of c.args.self.now) _ _ taps
-    c.args.tap c.in-Some.mode _ c.class_at-class.result _ (kept-open _ c.if-not-self.false) stands
+    c.args.tap c.in-Some.mode _ c.class_at-self.result _ (kept-open _ c.if-not-self.false) stands
     c.in-Some.is
     (listed c.args.table.now c.args.token.now c.in-Some.mode (c.requires.mode _ c.in-Some.is))
     (until_same c.args.table.now c.args.token.now c.args.clock.now meaning c.args.tap.moment
     c.requires.clock valid)
     (gives_none-state _ _ _ c.args.tap _ (kept-open _ c.if-not-self.false) c.if-tap-self.false
     (gives_same c.args.table.now c.args.token.now c.at-tariff-2.result.now.meaning
-    c.args.tap.moment c.class_at-class.result c.in-Some.mode
+    c.args.tap.moment c.class_at-self.result c.in-Some.mode
     (kept_trip (Some (kept_numbers c.args.self.now))) c.gives_transfer.result
-    c.at-tariff-2.ensures.meaning c.class_at-class.ensures.class c.gives_transfer.ensures.gives
+    c.at-tariff-2.ensures.meaning c.class_at-self.ensures.class c.gives_transfer.ensures.gives
     ∙ c.if-gives_transfer.false))
-    (class_at c.args.table.now c.args.token.now c.args.tap.moment c.class_at-class.result
-    c.class_at-class.ensures.class c.class_at-class.ensures.there)
-    (terms_same c.args.table.now c.args.token.now meaning c.args.tap.moment c.class_at-class.result
-    c.in-Some.mode valid c.class_at-class.ensures.class) c.explain_ride.ensures.bounds
+    (class_at c.args.table.now c.args.token.now c.args.tap.moment c.class_at-self.result
+    c.class_at-self.ensures.class c.class_at-self.ensures.there)
+    (terms_same c.args.table.now c.args.token.now meaning c.args.tap.moment c.class_at-self.result
+    c.in-Some.mode valid c.class_at-self.ensures.class) c.explain_ride.ensures.bounds
     c.explain_ride.ensures.state
 
 pub returns-clause-stands : goal.returns-clause-stands

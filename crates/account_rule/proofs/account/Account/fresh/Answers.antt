@@ -14,6 +14,7 @@ unfolding Stands is_after is_later kept_of kept_trip last_trip trip_of kept_wind
 returns-clause-stands c = λ rules. record {
   last = λ moment. refl;
   trip = refl;
+  order = λ trip some. cc;
   window = refl;
   class = λ state some. cc;
   mode = λ trip some. cc;

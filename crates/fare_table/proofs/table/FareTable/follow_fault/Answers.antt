@@ -1,4 +1,5 @@
-use Rattle.std.proofs.Common.{◌≡◌, ◌<◌, Bool, true, false, List, [], ◌∷◌, refl, sym, ◌∙◌, length, map}
+use Rattle.std.proofs.Common.{◌≡◌, ◌<◌, Bool, true, false, List, [], ◌∷◌, refl, sym, ◌∙◌, length}
+use Rattle.std.proofs.Common.{map}
 use Rattle.std.proofs.Common.{◌==◌, arith}
 use Rattle.std.proofs.lemmas.Bool.{eqb-true, true≢false}
 use Rattle.fare_table.specs.declared.table.DatedTariff.{DatedTariff}
@@ -7,7 +8,7 @@ use Rattle.fare_table.specs.inside.Table.{dated_meaning, same_names, same_zone}
 use Rattle.fare_table.proofs.DatedLemmas.{names-other, names-same, zones-same}
 use Rattle.fare_table.proofs.table.FareTable.follow_fault.Goals as goal
 
--- a list of tariffs is empty exactly where that of what they say is
+-- a list of tariffs is empty exactly if that of what they say is
 no_tariff : (later : List DatedTariff) (empty : Bool) → empty ≡ (length later == 0)
     → empty ≡ true → map dated_meaning later ≡ []
 no_tariff [] empty is so = refl
@@ -47,7 +48,8 @@ returns-then-not-is_empty-clause-fault c =
       zones-same _ _ zone,
       names-same _ _ names,
       λ none. a_tariff c.next.inside.later.items
-          c.is_empty.result (rw (← c.next.view_is) at none) (rw c.as_slice.ensures.value at c.is_empty.ensures) c.if-not-is_empty.true,
+          c.is_empty.result (rw (← c.next.view_is) at none)
+          (rw c.as_slice.ensures.value at c.is_empty.ensures) c.if-not-is_empty.true,
     )
 
 pub returns-clause-none : goal.returns-clause-none
@@ -65,6 +67,8 @@ returns-clause-none c = λ _.
       date = date;
       zone = zones-same _ _ zone;
       modes = names-same _ _ names;
-      alone = rw (← c.next.view_is) (no_tariff c.next.inside.later.items c.is_empty.result (rw c.as_slice.ensures.value at c.is_empty.ensures)
+      alone = rw (← c.next.view_is)
+          (no_tariff c.next.inside.later.items c.is_empty.result
+          (rw c.as_slice.ensures.value at c.is_empty.ensures)
           c.if-not-is_empty.false);
     }

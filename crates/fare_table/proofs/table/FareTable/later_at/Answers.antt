@@ -4,16 +4,8 @@ use Rattle.fare_table.specs.declared.table.DatedTariff.{DatedTariff}
 use Rattle.std.specs.Arc.{arc_value}
 use Rattle.fare_table.specs.Fares.{Fares, meaning_at}
 use Rattle.fare_table.specs.inside.Table.{begun, dated_meaning}
-use Rattle.fare_table.proofs.DatedLemmas.{meaning-modes, nth_valid, nth-get, valid-begun}
+use Rattle.fare_table.proofs.DatedLemmas.{got, meaning-modes, nth_valid, nth-get, valid-begun}
 use Rattle.fare_table.proofs.table.FareTable.later_at.Goals as goal
-
--- what stands at a place is got there
-got : (items : List DatedTariff) (place : ℕ) (item : DatedTariff) → place < length items
-    → item ≡ get_or items place item
-    → slice_get (map dated_meaning items) place ≡ Some (dated_meaning item)
-got [] place item below is = absurd (omega arith)
-got (one ∷ items) zero item below is = ap (λ d. Some (dated_meaning d)) (sym is)
-got (one ∷ items) (suc place) item below is = got items place item (omega arith) is
 
 pub returns-then-begun-eq0-clause-meaning : goal.returns-then-begun-eq0-clause-meaning
 unfolding meaning_at
@@ -34,7 +26,8 @@ returns-else-begun-eq0-clause-meaning c =
     let later = map dated_meaning c.self.inside.later.items in
     let place = c.begun-begun.result - 1 in
     let count : begun c.args.moment later ≡ suc place =
-    sym (rw c.deref.ensures.value at c.begun-begun.ensures.count) ∙ omega (arith, c.if-begun-eq0.false) in
+    sym (rw c.deref.ensures.value at c.begun-begun.ensures.count)
+    ∙ omega (arith, c.if-begun-eq0.false) in
     let items = c.self.inside.later.items in
     let bound : c.begun-begun.result ≤ length items =
     rw c.deref.ensures.value at c.begun-begun.ensures.bound in

@@ -1,9 +1,9 @@
 use Rattle.std.specs.Prelude.{IsUtf8}
 use Rattle.fare_table.proofs.RowLemmas.{first-of-err, none-of-ok, first-row}
-use Rattle.fare_table.proofs.laws.read_tells_the_first_row.Goals as goal
+use Rattle.fare_table.proofs.laws.read_reports_the_first_row.Goals as goal
 
-pub returns-clause-told : goal.returns-clause-told
-returns-clause-told c utf8 fault is =
+pub returns-clause-reported : goal.returns-clause-reported
+returns-clause-reported c utf8 fault is =
     c.read.ensures.refused utf8 fault ((first-row c.args.text.now fault).1 is)
 
 pub returns-clause-first : goal.returns-clause-first

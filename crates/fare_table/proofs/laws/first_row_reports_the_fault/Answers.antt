@@ -1,5 +1,5 @@
 use Rattle.fare_table.proofs.RowLemmas.{first-row, no-row}
-use Rattle.fare_table.proofs.laws.first_row_tells_the_fault.Goals as goal
+use Rattle.fare_table.proofs.laws.first_row_reports_the_fault.Goals as goal
 
 pub returns-clause-fault : goal.returns-clause-fault
 returns-clause-fault c = first-row
