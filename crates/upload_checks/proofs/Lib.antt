@@ -1,5 +1,9 @@
 mod DayLemmas
+mod KeptLemmas
 mod LastLemmas
 mod ListLemmas
 mod NearLemmas
+mod OneListLemmas
 mod RepeatLemmas
+mod RunLemmas
+mod VisitLemmas

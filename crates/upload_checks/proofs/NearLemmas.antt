@@ -152,11 +152,11 @@ reached before token validator (t ∷ ts) tap (suc k) pairs inside at test =
     record { moment = more.moment; is = more.is; above = more.above }
 
 -- the near doubles are those with a near tap
-pub told_has : (within : ℕ) (before : List TapFields) (tap : TapFields) (last : Option ℕ)
+pub reported_has : (within : ℕ) (before : List TapFields) (tap : TapFields) (last : Option ℕ)
     → last_moment tap.token tap.validator before ≡ last → (double_of within tap last ≡ [] → ⊥)
     → HasNearTap within before tap
-told_has within before tap None is told = absurd (told refl)
-told_has within before tap (Some moment) is told =
+reported_has within before tap None is reported = absurd (reported refl)
+reported_has within before tap (Some moment) is reported =
     by_found (found None tap.token tap.validator moment before is)
     (nat_le (tap.moment - moment) within)
     refl
@@ -165,7 +165,7 @@ told_has within before tap (Some moment) is told =
         → nat_le (tap.moment - moment) within ≡ b → HasNearTap within before tap
     by_found (inl e) b test = absurd (let no : None ≡ Some moment = e in cc)
     by_found (inr has) false test =
-        absurd (told (ap (λ a. cond a (record { tap = tap; earlier = moment } ∷ []) []) test))
+        absurd (reported (ap (λ a. cond a (record { tap = tap; earlier = moment } ∷ []) []) test))
     by_found (inr has) true test =
         let same = has.same in
         let near : tap.moment - moment ≤ within = grind (arith, nat_tests) in
@@ -177,10 +177,11 @@ told_has within before tap (Some moment) is told =
           near = omega (arith, same, near);
         }
 
-pub near_is_told : (within : ℕ) (before : List TapFields) (tap : TapFields) → Pairs NotLess before
+pub near_is_reported : (within : ℕ) (before : List TapFields) (tap : TapFields)
+    → Pairs NotLess before
     → HasNearTap within before tap
     → double_of within tap (last_moment tap.token tap.validator before) ≡ [] → ⊥
-near_is_told within before tap pairs has none =
+near_is_reported within before tap pairs has none =
     let (k, inside, at) = has.there in
     let last = reached None tap.token tap.validator before has.other k pairs inside at
     (is_its tap.token tap.validator has.other (sym has.token) (sym has.validator)) in
@@ -188,11 +189,11 @@ near_is_told within before tap pairs has none =
     let above = last.above in
     let most : tap.moment - last.moment ≤ within = omega (arith, near, above) in
     let test : nat_le (tap.moment - last.moment) within ≡ true = grind (arith, nat_tests) in
-    let told = ap (double_of within tap) (sym last.is) in
+    let reported = ap (double_of within tap) (sym last.is) in
     let doubles : List NearDouble = record { tap = tap; earlier = last.moment } ∷ [] in
     let one : doubles ≡ double_of within tap (Some last.moment) =
     ap (λ a. cond a doubles []) (sym test) in
-    let no : doubles ≡ [] = one ∙ told ∙ none in
+    let no : doubles ≡ [] = one ∙ reported ∙ none in
     cc
 
 pub pairs_front : (xs ys : List TapFields) → Pairs NotLess (xs ++ ys) → Pairs NotLess xs

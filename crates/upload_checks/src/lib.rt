@@ -1,5 +1,6 @@
 //! What an auditor looks for in uploads: near doubles, taps outside a span of moments, uploads that
-//! are there twice, and days on which validators have no tap. Nothing is changed or left out.
+//! are there twice, and validators of a table without a tap on a day. Nothing is changed or left
+//! out.
 #![tactic(auto)]
 
 mod findings;
@@ -12,4 +13,4 @@ mod silent_days;
 pub use findings::{Findings, look};
 pub use near_doubles::NearDouble;
 pub use repeats::Repeat;
-pub use silent_days::{SilentDay, find_silent_days};
+pub use silent_days::{SilentDays, SilentRun, find_silent_days};

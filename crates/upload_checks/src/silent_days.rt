@@ -1,167 +1,109 @@
-//! Days on which validators have no tap.
+//! Days on which validators of a fare table have no tap.
 
-ghost use Rattle.std.specs.Prelude.{◌≡◌, ◌++◌, ◌∷◌, [], List, IfOk, OnOk, flat_map};
-ghost use Rattle.std.specs.List.Sorted.{IsStrictlySortedBy};
-ghost use Rattle.std.specs.Ordering.{nat_cmp};
-ghost use Rattle.tap_views.specs.declared.encoder.TapFields.{TapFields};
+ghost use Rattle.std.specs.Prelude.{◌≡◌, ◌<◌, ◌≤◌, ◌+◌, ◌||◌, [], ℕ, true, IfOk, OnOk, flat_map};
+ghost use Rattle.fare_table.specs.Validators.{stand_apart};
 ghost use Rattle.upload_checks.specs.SilentDays as spec;
-ghost use Rattle.upload_checks.specs.inside.TappedDays.{AreDaysOf, has_visit_on};
+ghost use Rattle.upload_checks.specs.SilentDays.{are_in, is_in};
+ghost use Rattle.upload_checks.specs.inside.SilentRuns.{AreBelow, touches, with_run};
 
-use fare_table::FareTable;
+use crate::silent_days::tapped_days::TappedDays;
+use fare_table::Tariff;
 use std::alloc::{AllocError, Global};
-use std::collections::BTreeSet;
 use tap_views::{MomentSpan, NoMemory, TapFields};
 
-const DAY_MS: u64 = 86_400_000;
+mod tapped_days;
 
-/// A day on which a validator has no tap.
+/// Validators of consecutive numbers, all in ranges of a fare table, that have no tap on a day.
 #[derive(Clone, Copy, Debug, PartialEq, Eq)]
-pub struct SilentDay {
+pub struct SilentRun {
     /// The day of UTC, by its number since 1970-01-01.
     pub day: u64,
-    pub validator: u32,
+    /// The first of the validators.
+    pub first: u32,
+    /// The last of them.
+    pub last: u32,
 }
 
-/// Whether the tap is within the span, and the table knows its validator.
-fn is_looked_at(table: &FareTable, span: MomentSpan, tap: &TapFields) -> bool
-    ensures { result ≡ spec.is_looked_at table.now span tap.now }
-{
-    span.first <= tap.moment
-        && tap.moment <= span.last
-        && table.mode_of(tap.moment, tap.validator).is_some()
-}
-
-/// The days and the validators of taps that are added list by list.
+/// Which validators have no tap on which days.
 #[derive(Drop)]
-struct TappedDays {
-    days: BTreeSet<u64>,
-    validators: BTreeSet<u32>,
-    /// Which validators have a tap on which day.
-    visits: BTreeSet<(u64, u32)>,
+pub struct SilentDays {
+    /// By day, then by validator. On each day the runs are as few as can be.
+    pub runs: Vec<SilentRun>,
+    /// How many validators all runs have.
+    pub number: u64,
 }
 
-impl TappedDays {
-    fn new(alloc: Global) -> TappedDays
-        ensures { AreDaysOf result [] }
+impl SilentDays {
+    pub(crate) fn new(alloc: Global) -> SilentDays
+        ensures runs { result.runs.items ≡ [] }
+        ensures number { result.number ≡ 0 }
     {
-        TappedDays {
-            days: BTreeSet::new(alloc),
-            validators: BTreeSet::new(alloc),
-            visits: BTreeSet::new(alloc),
+        SilentDays {
+            runs: Vec::new(alloc),
+            number: 0,
         }
     }
 
-    fn add_tap(&mut self, tap: &TapFields) -> Result<(), AllocError>
-        ensures { OnOk result ((taps : List TapFields) → AreDaysOf self.old taps
-            → AreDaysOf self.new (taps ++ tap.now ∷ [])) }
+    /// Adds a run that lies behind all others.
+    pub(crate) fn push(&mut self, run: SilentRun) -> Result<(), AllocError>
+        requires forward { run.first ≤ run.last }
+        requires day { run.day < 47_482 }
+        requires below { AreBelow self.old run.day run.first }
+        ensures below { OnOk result (AreBelow self.new run.day (run.last + 1)) }
+        ensures adds { OnOk result ((day validator : ℕ) → are_in self.new.runs.items day validator
+            ≡ (are_in self.old.runs.items day validator || is_in day validator run)) }
     {
-        let day = tap.moment / DAY_MS;
-        self.days.insert(day)?;
-        self.validators.insert(tap.validator)?;
-        self.visits.insert((day, tap.validator))?;
-        Ok(())
-    }
-
-    /// Adds the next tap, if it is within the span, at a validator that the table knows.
-    fn add_looked_at(
-        &mut self,
-        table: &FareTable,
-        span: MomentSpan,
-        tap: &TapFields,
-    ) -> Result<(), AllocError>
-        ensures { OnOk result ((taps : List TapFields) → AreDaysOf self.old taps
-            → AreDaysOf self.new (taps ++ spec.looked_at table.now span (tap.now ∷ []))) }
-    {
-        if !is_looked_at(table, span, tap) {
-            return Ok(());
-        }
-        self.add_tap(tap)
-    }
-
-    /// Adds those of the next taps that are within the span, at validators that the table knows.
-    fn add(
-        &mut self,
-        table: &FareTable,
-        span: MomentSpan,
-        list: &[TapFields],
-    ) -> Result<(), AllocError>
-        ensures { OnOk result ((taps : List TapFields) → AreDaysOf self.old taps
-            → AreDaysOf self.new (taps ++ spec.looked_at table.now span list.now)) }
-    {
-        for tap in list {
-            self.add_looked_at(table, span, tap)?;
-        }
-        Ok(())
-    }
-
-    /// Appends the validators that have no tap on the day.
-    fn push_silent(&self, day: u64, found: &mut Vec<SilentDay>) -> Result<(), AllocError>
-        ensures { OnOk result (found.new.items ≡ found.old.items
-            ++ spec.silent_by (has_visit_on self.now day) day self.now.validators.keys) }
-    {
-        for validator in self.validators.iter() {
-            if !self.visits.contains(&(day, *validator)) {
-                found.push(SilentDay {
-                    day,
-                    validator: *validator,
-                })?;
-            }
-        }
-        Ok(())
-    }
-
-    /// Of the validators that have a tap, on each day that has one, those that have none on the
-    /// day: by day, then by validator.
-    fn silent(&self, alloc: Global) -> Result<Vec<SilentDay>, AllocError>
-        ensures listed { IfOk result (λ silent. silent.items ≡ flat_map
-            (λ day. spec.silent_by (has_visit_on self.now day) day self.now.validators.keys)
-            self.now.days.keys) }
-        ensures days_rise { OnOk result (IsStrictlySortedBy nat_cmp self.now.days.keys) }
-        ensures validators_rise { OnOk result
-            (IsStrictlySortedBy nat_cmp self.now.validators.keys) }
-    {
-        // proof: the keys of a set rise
-        let _ = self.validators.len();
-        let mut found = Vec::new(alloc);
-        for day in self.days.iter() {
-            self.push_silent(*day, &mut found)?;
-        }
-        Ok(found)
+        self.number += u64::from(run.last) + 1 - u64::from(run.first);
+        push_joined(&mut self.runs, run)
     }
 }
 
-/// The days and validators of the taps that lie in lists, are within the span, and whose validators
-/// the table knows.
-fn tapped_days(
-    alloc: Global,
-    table: &FareTable,
-    span: MomentSpan,
-    lists: &[Vec<TapFields>],
-) -> Result<TappedDays, AllocError>
-    ensures { IfOk result (λ tapped. AreDaysOf tapped
-        (spec.looked_at table.now span (flat_map (λ list. list.items) lists.now))) }
+/// Whether the next run goes on where the run ends.
+fn touches(run: &SilentRun, next: &SilentRun) -> bool
+    ensures { result ≡ touches run.now next.now }
 {
-    let mut tapped = TappedDays::new(alloc);
-    for list in lists {
-        tapped.add(table, span, list.as_slice())?;
-    }
-    Ok(tapped)
+    run.day == next.day && u64::from(run.last) + 1 == u64::from(next.first)
 }
 
-/// Of the taps that lie in lists, those are looked at that are within the span, at validators that
-/// the table knows. Of the validators that have one, on each day of UTC that has one, those that
-/// have none on the day: by day, then by validator. It takes memory for each of them, and time for
-/// each of the validators on each of the days.
+/// Adds the next run, as one with the last if they touch.
+fn push_joined(runs: &mut Vec<SilentRun>, next: SilentRun) -> Result<(), AllocError>
+    ensures { OnOk result (runs.new.items ≡ with_run runs.old.items next) }
+{
+    let Some(last) = runs.pop() else {
+        runs.push(next)?;
+        return Ok(());
+    };
+    if touches(&last, &next) {
+        runs.push(SilentRun {
+            first: last.first,
+            ..next
+        })?;
+        return Ok(());
+    }
+    runs.push(last)?;
+    runs.push(next)?;
+    Ok(())
+}
+
+/// The validators that the table knows and that have no tap on a day. The days are those of UTC on
+/// which one of the taps lies that are looked at, and if `every_day` is set all days of the span.
+/// Looked at are the taps within the span at validators that the table knows; they lie in lists.
+/// It takes memory for each of these taps and each run, and time for each range of the table on
+/// each day.
 pub fn find_silent_days(
     alloc: Global,
-    table: &FareTable,
+    table: &Tariff,
     span: MomentSpan,
+    every_day: bool,
     lists: &[Vec<TapFields>],
-) -> Result<Vec<SilentDay>, NoMemory>
-    ensures { IfOk result (λ silent. spec.AreSilentDays
-        (spec.looked_at table.now span (flat_map (λ list. list.items) lists.now)) silent.items) }
+) -> Result<SilentDays, NoMemory>
+    requires apart { stand_apart table.now.meaning.ranges ≡ true }
+    requires limit { span.last < 4_102_444_800_000 }
+    ensures { IfOk result (λ found. spec.AreSilentDays table.now.meaning every_day span
+        (spec.looked_at table.now.meaning span (flat_map (λ list. list.items) lists.now)) found) }
 {
-    let tapped = tapped_days(alloc, table, span, lists)?;
-    let silent = tapped.silent(alloc)?;
-    Ok(silent)
+    let mut tapped = TappedDays::of(alloc, table, span, lists)?;
+    tapped.add_days(every_day, span)?;
+    let found = tapped.silent(alloc, table.ranges())?;
+    Ok(found)
 }

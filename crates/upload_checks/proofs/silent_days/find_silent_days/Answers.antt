@@ -1,35 +1,35 @@
-use Rattle.std.proofs.Common.{◌≡◌, ◌∙◌, ℕ, Bool, List, ap, flat_map, nat_eq, sym}
-use Rattle.std.specs.BTreeMap.{is_at}
-use Rattle.std.specs.Cmp.{unsigned_tied}
+use Rattle.std.proofs.Common.{◌&&◌, ◌||◌, ◌∙◌, ap, flat_map, sym}
+use Rattle.std.specs.BTreeSet as sorted
 use Rattle.std.specs.List.{list_any}
-use Rattle.std.specs.Ordering.{nat_cmp}
-use Rattle.upload_checks.specs.SilentDays.{silent_by}
+use Rattle.fare_table.specs.Fares.{has_number}
+use Rattle.upload_checks.specs.SilentDays.{is_day_of}
+use Rattle.upload_checks.specs.inside.TappedDays.{visit_cmp}
+use Rattle.upload_checks.proofs.KeptLemmas.{found_by, keys_within, knows_is, looked_days}
 use Rattle.upload_checks.proofs.silent_days.find_silent_days.Goals as goal
 
--- a number is among the keys if the set has it
-among : (keys : List ℕ) (number : ℕ)
-    → list_any (nat_eq number) keys ≡ list_any (is_at (nat_cmp number)) keys
-among keys number =
-    ap (λ (test : ℕ → Bool). list_any test keys) (λ i key. sym (unsigned_tied number key) i)
+pub silent-requires-clause-days : goal.silent-requires-clause-days
+silent-requires-clause-days c =
+    let span = c.args.span in
+    let every_day = c.args.every_day in
+    keys_within c.add_days.new.self.days.keys 47_482
+    (λ day has. looked_days c.args.table.now.meaning every_day span
+    (flat_map (λ list. list.items) c.args.lists.now) c.requires.limit day
+    (sym (c.in_ok-add_days.ensures.days day
+    ∙ ap (λ b. b || (every_day && is_day_of span day)) (c.in_ok-tapped.ensures.days day)) ∙ has))
 
 pub returns : goal.returns
 returns c =
-    let tapped = c.in_ok-tapped.tapped in
-    let days = tapped.days.keys in
-    let validators = tapped.validators.keys in
-    let are = c.in_ok-tapped.ensures in
+    let span = c.args.span in
+    let every_day = c.args.every_day in
+    let meaning = c.args.table.now.meaning in
     record {
-      days = days;
-      are_days = record {
-        rising = c.in_ok-silent.ensures.days_rise;
-        all = λ n. among days n ∙ are.days n;
-      };
-      validators = validators;
-      are_validators = record {
-        rising = c.in_ok-silent.ensures.validators_rise;
-        all = λ n. among validators n ∙ are.validators n;
-      };
-      listed = c.in_ok-silent.ensures.listed
-          ∙ ap (λ (has : ℕ → ℕ → Bool). flat_map (λ day. silent_by (has day) day validators) days)
-          (λ i day validator. are.visits day validator i);
+      all = λ day validator. found_by _ _ _ _ _ _ _ (c.in_ok-found.ensures.all day validator)
+          (c.in_ok-add_days.ensures.days day
+          ∙ ap (λ b. b || (every_day && is_day_of span day)) (c.in_ok-tapped.ensures.days day))
+          (ap (λ ranges. list_any (has_number validator) ranges) c.ranges-2.ensures
+          ∙ sym (knows_is meaning validator))
+          (ap (λ visits. sorted.contains visit_cmp visits (day, validator))
+          c.in_ok-add_days.ensures.visits ∙ c.in_ok-tapped.ensures.visits day validator);
+      apart = c.in_ok-found.ensures.below.apart;
+      number = c.in_ok-found.ensures.below.number;
     }
