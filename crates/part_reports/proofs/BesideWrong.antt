@@ -21,7 +21,7 @@ use Rattle.part_reports.specs.inside.ReportsLeft.{AreBegunReports, AreUnused, Is
 use Rattle.part_reports.specs.inside.ReportsLeft.{IsNoTurn, IsNotTakenAt, IsUsedBy}
 use Rattle.part_reports.specs.inside.ReportsLeft.{ReportAt}
 use Rattle.part_reports.specs.inside.Standings.{StandsInText, Standing}
-use Rattle.part_reports.specs.inside.Told.{AreNumbered, IsOfReader, IsOfText, NamesOneOf}
+use Rattle.part_reports.specs.inside.Reported.{AreNumbered, IsOfReader, IsOfText, NamesOneOf}
 use Rattle.part_reports.specs.inside.WrongBeside.{AddsUpToNoneAt, HasLeftAt, HasNoReport}
 use Rattle.part_reports.specs.inside.WrongBeside.{HasNoReportAt, IsOfEither, IsOfLeft, IsOfPlace}
 use Rattle.part_reports.specs.inside.WrongBeside.{IsWrongOfBoth, NamesNoReport}
@@ -81,12 +81,12 @@ either_weaker first second This That More Write weaker is = absurd is
 either_weaker first second This That More NoMemory weaker is = tt
 
 -- the same of the error of a result, of which it is known that it is of the first text
-pub first_told : {X : Type 0} (result : Result X MergeFault) (first second lines : ℕ)
+pub first_reported : {X : Type 0} (result : Result X MergeFault) (first second lines : ℕ)
     (This That : Type 0) → IfErr result (IsOfReader first lines)
     → IfErr result (λ fault. IsOfTexts fault → This)
     → IfErr result (IsOfEither first second This That)
-first_told (Ok value) first second lines This That of this = tt
-first_told (Err fault) first second lines This That of this =
+first_reported (Ok value) first second lines This That of this = tt
+first_reported (Err fault) first second lines This That of this =
     of_first first second lines This That fault of this
 
 -- ---- a report that is none
@@ -191,7 +191,8 @@ place_wrong texts files ats lefts old now k numbers left_numbers (Line named num
           inl (k, here.0, inr (not_taken_here texts files ats lefts old now k so_far here.1))
       | inr there ↦
           let has = there.1 in
-          let beside = beside_at so_far.merging.parts files lefts k has.left so_far.beside has.there in
+          let beside = beside_at so_far.merging.parts files lefts k has.left so_far.beside
+          has.there in
           inr (
             k,
             there.0,

@@ -26,15 +26,15 @@ use Rattle.part_reports.specs.declared.merging.LineKind.TheVariants.{Entries, To
 use Rattle.part_reports.specs.declared.sums.WholeSums.{WholeSums}
 use Rattle.part_reports.specs.declared.upload_ends.UploadEnds.{UploadEnds}
 use Rattle.part_reports.specs.inside.UploadEnds.{HaveReadEnds}
-use Rattle.part_reports.specs.inside.Fronts.{MayBePart, ToldFront}
+use Rattle.part_reports.specs.inside.Fronts.{MayBePart, ReportedFront}
 use Rattle.part_reports.specs.inside.Kinds.{AreTexts}
 use Rattle.part_reports.specs.inside.Parts.{AreParts, BegunReport, begun_text, left_text}
 use Rattle.part_reports.specs.inside.Standings.{MayFollow, Standing}
 use Rattle.part_reports.proofs.WholeFronts.{whole_text}
-use Rattle.part_reports.proofs.FewParts.{told_may, told_of}
+use Rattle.part_reports.proofs.FewParts.{reported_may, reported_of}
 use Rattle.part_reports.proofs.JoinedTokens.{StandOnce, joined_lines, once_each}
 use Rattle.part_reports.proofs.Orders.{below_not_below}
-use Rattle.part_reports.proofs.PartsBegun.{told_unique}
+use Rattle.part_reports.proofs.PartsBegun.{reported_unique}
 use Rattle.part_reports.proofs.PermutedTokens.{of_token}
 use Rattle.part_reports.specs.inside.Going.{Rise}
 use Rattle.part_reports.proofs.Risings.{falls_from}
@@ -43,7 +43,7 @@ use Rattle.part_reports.proofs.Added.{lines_stand}
 use Rattle.part_reports.proofs.TokenSums.{Sum, line_of, lines_keys, lines_length}
 use Rattle.part_reports.specs.inside.SumsLeft.{left_of}
 use Rattle.part_reports.proofs.WholeReports.{fronts_totals, lines_filtered, parts_taps}
-use Rattle.report_texts.specs.UploadEnds.{taps_told}
+use Rattle.report_texts.specs.UploadEnds.{taps_of_end}
 use Rattle.report_texts.specs.declared.upload_end.UploadEnd.{UploadEnd}
 
 -- texts of ends determine the ends
@@ -70,23 +70,24 @@ part_left part =
 pub fronts_same : (begun : List BegunReport) (parts : List Report)
     → All (λ one. MayBePart one.0) begun
     → All IsPartReport parts → map begun_text begun ≡ map report_text parts
-    → (map (λ one. one.0) begun ≡ map told_of parts) × (map left_text begun ≡ map part_left parts)
+    → (map (λ one. one.0) begun ≡ map reported_of parts)
+    × (map left_text begun ≡ map part_left parts)
 fronts_same [] [] may fit same = (refl, refl)
 fronts_same [] (part ∷ parts) may fit same = absurd (cc)
 fronts_same (one ∷ begun) [] may fit same = absurd (cc)
 fronts_same (one ∷ begun) (part ∷ parts) may fit same =
     let head : begun_text one ≡ report_text part = cc in
     let tail : map begun_text begun ≡ map report_text parts = cc in
-    let first = told_unique one.0 (told_of part) one.1 (flat_map token_line part.tokens)
+    let first = reported_unique one.0 (reported_of part) one.1 (flat_map token_line part.tokens)
     (All-head (λ (one : BegunReport). MayBePart one.0) one begun may)
-    (told_may part (All-head IsPartReport part parts fit))
+    (reported_may part (All-head IsPartReport part parts fit))
     (head ∙ sym (whole_text part.ends part.totals part.validators part.tokens)) in
     let rest = fronts_same begun parts
     (All-tail (λ (one : BegunReport). MayBePart one.0) one begun may)
     (All-tail IsPartReport part parts fit) tail in (
-      ap (λ told. told ∷ map (λ (one : BegunReport). one.0) begun) first.0
-          ∙ ap (λ more. told_of part ∷ more) rest.0,
-      ap (λ (told : ToldFront). (Tokens told.tokens (left_of told.totals), one.1)
+      ap (λ reported. reported ∷ map (λ (one : BegunReport). one.0) begun) first.0
+          ∙ ap (λ more. reported_of part ∷ more) rest.0,
+      ap (λ (reported : ReportedFront). (Tokens reported.tokens (left_of reported.totals), one.1)
           ∷ map left_text begun) first.0
           ∙ ap (λ left. (Tokens (length part.tokens) (left_of part.totals), left)
           ∷ map left_text begun) first.1
@@ -101,7 +102,7 @@ pub reports_taps : (files : List (List ℕ)) (sums : WholeSums) (standings : Lis
 reports_taps files sums standings parts read fit texts =
     let fronts = fronts_same read.begun parts read.may fit (sym read.shown ∙ texts) in
     let totals = read.counted.totals ∙ ap (λ fronts. add_all
-    (map (λ (told : ToldFront). told.totals) fronts)) fronts.0
+    (map (λ (reported : ReportedFront). reported.totals) fronts)) fronts.0
     ∙ ap add_all (fronts_totals parts) in
     ap (λ (s : Sums). s.taps) totals ∙ parts_taps parts
 
@@ -110,10 +111,10 @@ pub uploads_taps : (files : List (List ℕ)) (lists others : List (List UploadEn
     (ends : UploadEnds)
     → files ≡ end_texts 0 lists → HaveReadEnds ends (all_ends lists)
     → All IsUploadEnd (all_ends others) → files ≡ end_texts 0 others
-    → ends.taps ≡ sum_by taps_told (all_ends others)
-uploads_taps files lists others ends told have fit texts =
-    let joined = ends_same 0 others lists fit have.each (sym texts ∙ told) in
-    have.taps ∙ sym (ap (sum_by taps_told) joined)
+    → ends.taps ≡ sum_by taps_of_end (all_ends others)
+uploads_taps files lists others ends reported have fit texts =
+    let joined = ends_same 0 others lists fit have.each (sym texts ∙ reported) in
+    have.taps ∙ sym (ap (sum_by taps_of_end) joined)
 
 -- texts that have a report of the whole have as many taps
 pub same_taps : (end_files report_files : List (List ℕ)) (text : List ℕ)
@@ -122,12 +123,12 @@ pub same_taps : (end_files report_files : List (List ℕ)) (text : List ℕ)
     → IsMerged end_files report_files text → end_files ≡ end_texts 0 lists
     → HaveReadEnds ends (all_ends lists) → AreParts report_files sums standings
     → sums.totals.taps ≡ ends.taps
-same_taps end_files report_files text lists ends sums standings merged told have parts =
-    reports_taps report_files sums standings merged.parts parts merged.told.parts_fit
-    merged.told.parts_told
-    ∙ merged.told.taps
-    ∙ sym (uploads_taps end_files lists merged.ends ends told have merged.told.ends_fit
-    merged.told.ends_told)
+same_taps end_files report_files text lists ends sums standings merged reported have parts =
+    reports_taps report_files sums standings merged.parts parts merged.reported.parts_fit
+    merged.reported.parts_reported
+    ∙ merged.reported.taps
+    ∙ sym (uploads_taps end_files lists merged.ends ends reported have merged.reported.ends_fit
+    merged.reported.ends_reported)
 
 -- ---- the lines of the tokens
 abbrev part_lines : List Report → List (List TokenLine)
@@ -378,11 +379,11 @@ pub joined_too : (end_files report_files : List (List ℕ)) (text : List ℕ) (s
     → (lists : List (List TokenLine)) × (joined : List TokenLine) × AreTexts
     (map left_text parts.begun) lists × IsMergedByToken lists joined
 joined_too end_files report_files text sums standings merged parts =
-    let fronts = fronts_same parts.begun merged.parts parts.may merged.told.parts_fit
-    (sym parts.shown ∙ merged.told.parts_told) in (
+    let fronts = fronts_same parts.begun merged.parts parts.may merged.reported.parts_fit
+    (sym parts.shown ∙ merged.reported.parts_reported) in (
       part_lines merged.parts,
       map line_of merged.whole.tokens,
       subst (λ texts. AreTexts texts (part_lines merged.parts)) (sym fronts.1)
-          (lines_texts merged.parts merged.told.parts_fit),
+          (lines_texts merged.parts merged.reported.parts_fit),
       joined_of merged.parts merged.whole.tokens merged.is.tokens_moved merged.is.tokens_rise,
     )

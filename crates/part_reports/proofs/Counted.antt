@@ -1,4 +1,4 @@
--- Reading a number and so many lines.
+-- Reading a number and that number of lines.
 use Rattle.std.proofs.Common.{◌≡◌, ℕ, ◌<◌, ◌^◌, List, ◌++◌, Option, Some, None, Result, Ok, Err}
 use Rattle.std.proofs.Common.{sym, ap, subst, ◌∙◌, append_assoc}
 use Rattle.part_reports.specs.declared.fault.MergeFault.{MergeFault}
@@ -16,7 +16,8 @@ pub record Counting {V : Type 0} (May : ℕ → V → Type 0) (Whole : V → Typ
 
 abbrev pub IsHeadRead : List ℕ → Option (List ℕ) → Option (List ℕ) → Result ℕ MergeFault → Type 0
 IsHeadRead word text now result = IsRead {T = ℕ} {V =
-    ℕ} (λ told number. told ≡ number) (λ number. number < 2 ^ 64) (number_line word) text now result
+    ℕ} (λ reported number. reported ≡ number) (λ number. number < 2 ^ 64) (number_line word) text
+    now result
 
 abbrev pub counted_text : {V : Type 0} → List ℕ → (V → ℕ) → (V → List ℕ) → V → List ℕ
 counted_text word size lines value = number_line word (size value) ++ lines value

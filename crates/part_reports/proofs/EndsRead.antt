@@ -14,12 +14,12 @@ use Rattle.part_reports.specs.declared.fault.MergeFault.{MergeFault}
 use Rattle.part_reports.specs.declared.upload_ends.UploadEnds.{UploadEnds}
 use Rattle.report_texts.specs.Numbers.{IsUploadEnd}
 use Rattle.part_reports.specs.inside.UploadEnds.{AreEndsAdded, IsNextEnd, HaveMoreEnds}
-use Rattle.part_reports.specs.inside.LinesRead.{IsTold}
+use Rattle.part_reports.specs.inside.LinesRead.{IsReported}
 use Rattle.part_reports.proofs.LinesRead.{through}
 use Rattle.part_reports.proofs.OneLine.{end_line_is_one, taken_one}
 use Rattle.part_reports.proofs.Unique.{end_line_unique}
 use Rattle.report_texts.specs.Report.{upload_line, upload_lines}
-use Rattle.report_texts.specs.UploadEnds.{is_posted, taps_told}
+use Rattle.report_texts.specs.UploadEnds.{is_posted, taps_of_end}
 use Rattle.report_texts.specs.declared.upload_end.UploadEnd.{UploadEnd}
 use Rattle.report_texts.proofs.Parts.{upload_lines-push}
 use Rattle.tap_views.proofs.Lists.{All-front}
@@ -35,16 +35,17 @@ pub next_over : (upload : ℕ) (text after : Option (List ℕ)) (items : List �
 next_over upload None after items line over = tt
 next_over upload (Some text) after items line over = taken_none text (sym line.0 ∙ over)
 
-pub next_told : (upload : ℕ) (text after : Option (List ℕ)) (items line : List ℕ)
-    (told : Option UploadEnd) (end : UploadEnd)
+pub next_reported : (upload : ℕ) (text after : Option (List ℕ)) (items line : List ℕ)
+    (reported : Option UploadEnd) (end : UploadEnd)
     → IsLine text after items → line ≡ items
-    → IsTold (λ (end : UploadEnd). end) IsUploadEnd (upload_line upload) line told
-    → told ≡ Some end
+    → IsReported (λ (end : UploadEnd). end) IsUploadEnd (upload_line upload) line reported
+    → reported ≡ Some end
     → IsNextEnd upload text after items (Ok (Some end))
-next_told upload None after items line told end is same form some = tt
-next_told upload (Some text) after items line told end is same form some =
+next_reported upload None after items line reported end is same form some = tt
+next_reported upload (Some text) after items line reported end is same form some =
     let here = subst
-    (λ told. IsTold (λ (end : UploadEnd). end) IsUploadEnd (upload_line upload) line told) some
+    (λ reported. IsReported (λ (end : UploadEnd). end) IsUploadEnd (upload_line upload) line
+    reported) some
     form in
     record {
       may = here.0;
@@ -56,14 +57,16 @@ next_told upload (Some text) after items line told end is same form some =
     }
 
 pub next_no : (upload : ℕ) (text after : Option (List ℕ)) (items line : List ℕ)
-    (told : Option UploadEnd) (fault : MergeFault) → upload < 2 ^ 64
+    (reported : Option UploadEnd) (fault : MergeFault) → upload < 2 ^ 64
     → IsLine text after items → line ≡ items → ¬ (items ≡ [])
-    → IsTold (λ (end : UploadEnd). end) IsUploadEnd (upload_line upload) line told → told ≡ None
+    → IsReported (λ (end : UploadEnd). end) IsUploadEnd (upload_line upload) line reported
+    → reported ≡ None
     → IsNextEnd upload text after items (Err fault)
-next_no upload None after items line told fault small is same some form none = tt
-next_no upload (Some text) after items line told fault small is same some form none =
+next_no upload None after items line reported fault small is same some form none = tt
+next_no upload (Some text) after items line reported fault small is same some form none =
     let here = subst
-    (λ told. IsTold (λ (end : UploadEnd). end) IsUploadEnd (upload_line upload) line told) none
+    (λ reported. IsReported (λ (end : UploadEnd). end) IsUploadEnd (upload_line upload) line
+    reported) none
     form in
     λ _. (
       λ over. some (is.0 ∙ ap (take_through 10) over),
@@ -99,7 +102,7 @@ adding_first ends (Some text) = record {
   left_is = refl;
 }
 
-All-last : {X : Type 0} (P : X → Type 0) (xs : List X) (y : X) → All P (xs ++ y ∷ []) → P y
+pub All-last : {X : Type 0} (P : X → Type 0) (xs : List X) (y : X) → All P (xs ++ y ∷ []) → P y
 All-last P [] y all = All-head P y [] all
 All-last P (x ∷ xs) y all = All-last P xs y (All-tail P x (xs ++ y ∷ []) all)
 
@@ -107,7 +110,7 @@ All-last P (x ∷ xs) y all = All-last P xs y (All-tail P x (xs ++ y ∷ []) all
 pub record OneAdded (now after : UploadEnds) (line : List ℕ) (end : UploadEnd) : Type 0 where
   pub text : after.text.items ≡ now.text.items ++ line
   pub uploads : after.uploads ≡ now.uploads + 1
-  pub taps : after.taps ≡ now.taps + taps_told end
+  pub taps : after.taps ≡ now.taps + taps_of_end end
   pub posted : IsTrue after.are_posted ↔ (IsTrue now.are_posted × (IsTrue (is_posted end)))
 
 pub adding_more : (before now after : UploadEnds) (text left then_left : Option (List ℕ))
@@ -119,50 +122,50 @@ adding_more before now after None left then_left line items end same adding next
 adding_more before now after (Some text) left then_left line items end same adding next one =
     let here = subst (λ left. IsNextEnd now.uploads left then_left items (Ok (Some end)))
     adding.left_is next in
-    let told = end in
+    let reported = end in
     let number : now.uploads ≡ before.uploads + length adding.more = adding.is.uploads in
-    let line_is : line ≡ upload_line (before.uploads + length adding.more) told =
-    same ∙ here.line_is ∙ ap (λ k. upload_line k told) number in
-    let sums = sum_by-append taps_told adding.more (told ∷ []) in
+    let line_is : line ≡ upload_line (before.uploads + length adding.more) reported =
+    same ∙ here.line_is ∙ ap (λ k. upload_line k reported) number in
+    let sums = sum_by-append taps_of_end adding.more (reported ∷ []) in
     let taps = adding.is.taps in
     let one_taps = one.taps in
     record {
-      more = adding.more ++ told ∷ [];
+      more = adding.more ++ reported ∷ [];
       is = record {
         text = one.text ∙ ap (λ text. text ++ line) adding.is.text
             ∙ ap (λ line. (before.text.items ++ upload_lines before.uploads adding.more) ++ line)
             line_is
             ∙ append_assoc before.text.items (upload_lines before.uploads adding.more)
-            (upload_line (before.uploads + length adding.more) told)
+            (upload_line (before.uploads + length adding.more) reported)
             ∙ ap (λ text. before.text.items ++ text)
-            (sym (upload_lines-push before.uploads adding.more told));
+            (sym (upload_lines-push before.uploads adding.more reported));
         uploads = simp length-append (omega (arith, one.uploads, number));
         taps = omega (arith, sums, taps, one_taps);
         posted = (
           λ yes. let both = one.posted.0 yes in let so_far = adding.is.posted.0 both.0 in (
             so_far.0,
-            All-push (λ (end : UploadEnd). IsTrue (is_posted end)) adding.more told so_far.1
+            All-push (λ (end : UploadEnd). IsTrue (is_posted end)) adding.more reported so_far.1
                 both.1,
           ),
           λ both. one.posted.1 (
             adding.is.posted.1 (
               both.0,
               All-front (λ (end : UploadEnd). IsTrue (is_posted end)) adding.more
-                  (told ∷ []) both.1,
+                  (reported ∷ []) both.1,
             ),
-            All-last (λ (end : UploadEnd). IsTrue (is_posted end)) adding.more told both.1,
+            All-last (λ (end : UploadEnd). IsTrue (is_posted end)) adding.more reported both.1,
           ),
         );
-        each = All-push IsUploadEnd adding.more told adding.is.each here.may;
+        each = All-push IsUploadEnd adding.more reported adding.is.each here.may;
       };
       rest = here.rest;
       shown = adding.shown
           ∙ ap (λ text. upload_lines before.uploads adding.more ++ text) (here.shown
-          ∙ ap (λ k. upload_line k told ++ here.rest) number)
+          ∙ ap (λ k. upload_line k reported ++ here.rest) number)
           ∙ sym (append_assoc (upload_lines before.uploads adding.more)
-          (upload_line (before.uploads + length adding.more) told) here.rest)
+          (upload_line (before.uploads + length adding.more) reported) here.rest)
           ∙ ap (λ text. text ++ here.rest)
-          (sym (upload_lines-push before.uploads adding.more told));
+          (sym (upload_lines-push before.uploads adding.more reported));
       left_is = here.left;
     }
 

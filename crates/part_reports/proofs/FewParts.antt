@@ -20,7 +20,7 @@ use Rattle.part_reports.specs.Reports.{IsNoReport, IsPartReport, Report, report_
 use Rattle.part_reports.specs.Reports.{sums_of_validator}
 use Rattle.part_reports.specs.declared.sums.WholeSums.{WholeSums}
 use Rattle.part_reports.specs.Texts.{AreLeft}
-use Rattle.part_reports.specs.inside.Fronts.{MayBePart, ToldFront}
+use Rattle.part_reports.specs.inside.Fronts.{MayBePart, ReportedFront}
 use Rattle.part_reports.specs.inside.Parts.{BegunReport, IsNoPart, begun_text}
 use Rattle.part_reports.specs.inside.Standings.{Standing}
 use Rattle.part_reports.specs.inside.Sums.{AreFew}
@@ -76,35 +76,40 @@ one_small q (first ∷ list) all rise =
           omega (arith, taps, rest)
     ]
 
-validators_small : (q : ℕ) (fronts : List ToldFront) → All MayBePart fronts
-    → (sums_of_validator q (flat_map (λ told. told.validators) fronts)).taps ≤ length fronts *
+validators_small : (q : ℕ) (fronts : List ReportedFront) → All MayBePart fronts
+    → (sums_of_validator q (flat_map (λ reported. reported.validators) fronts)).taps ≤ length fronts
+    *
     18446744073709551616
 validators_small q [] all = let none = taps_nothing in omega (arith, none)
-validators_small q (told ∷ fronts) all =
-    let first = (All-head MayBePart told fronts all).validators.are in
-    let one = one_small q told.validators first.each first.rise in
-    let rest = validators_small q fronts (All-tail MayBePart told fronts all) in
-    let parts = taps_joined q told.validators (flat_map (λ told. told.validators) fronts) in
+validators_small q (reported ∷ fronts) all =
+    let first = (All-head MayBePart reported fronts all).validators.are in
+    let one = one_small q reported.validators first.each first.rise in
+    let rest = validators_small q fronts (All-tail MayBePart reported fronts all) in
+    let parts = taps_joined q reported.validators
+    (flat_map (λ reported. reported.validators) fronts) in
     omega (arith, one, rest, parts)
 
-totals_small : (fronts : List ToldFront) → All MayBePart fronts
-    → (add_all (map (λ told. told.totals) fronts)).taps ≤ length fronts * 18446744073709551616
+totals_small : (fronts : List ReportedFront) → All MayBePart fronts
+    → (add_all (map (λ reported. reported.totals) fronts)).taps ≤ length
+    fronts * 18446744073709551616
 totals_small [] all = let none = taps_nothing in omega (arith, none)
-totals_small (told ∷ fronts) all =
-    let one = (All-head MayBePart told fronts all).totals.taps in
-    let rest = totals_small fronts (All-tail MayBePart told fronts all) in
+totals_small (reported ∷ fronts) all =
+    let one = (All-head MayBePart reported fronts all).totals.taps in
+    let rest = totals_small fronts (All-tail MayBePart reported fronts all) in
     omega (arith, one, rest)
 
-tokens_small : (fronts : List ToldFront) → All MayBePart fronts
-    → sum_by (λ told. told.tokens) fronts ≤ length fronts * 18446744073709551616
+tokens_small : (fronts : List ReportedFront) → All MayBePart fronts
+    → sum_by (λ reported. reported.tokens) fronts ≤ length fronts * 18446744073709551616
 tokens_small [] all = omega arith
-tokens_small (told ∷ fronts) all =
-    let one = (All-head MayBePart told fronts all).tokens in
-    let rest = tokens_small fronts (All-tail MayBePart told fronts all) in
-    let parts = sum_by-append (λ (told : ToldFront). told.tokens) (told ∷ []) fronts in
+tokens_small (reported ∷ fronts) all =
+    let one = (All-head MayBePart reported fronts all).tokens in
+    let rest = tokens_small fronts (All-tail MayBePart reported fronts all) in
+    let parts = sum_by-append (λ (reported : ReportedFront). reported.tokens) (reported ∷ [])
+    fronts in
     omega (arith, one, rest, parts)
 
-pub few : (fronts : List ToldFront) → All MayBePart fronts → length fronts ≤ 2 ^ 31 → AreFew fronts
+pub few : (fronts : List ReportedFront) → All MayBePart fronts → length fronts ≤ 2 ^ 31
+    → AreFew fronts
 few fronts all short = record {
   totals = (let most = totals_small fronts all in omega (arith, most, short));
   validators = λ q. (let most = validators_small q fronts all in omega (arith, most, short));
@@ -112,8 +117,8 @@ few fronts all short = record {
 }
 
 -- ---- a part's report up to its tokens
-abbrev pub told_of : Report → ToldFront
-told_of part = record {
+abbrev pub reported_of : Report → ReportedFront
+reported_of part = record {
   ends = part.ends;
   totals = part.totals;
   validators =
@@ -121,8 +126,8 @@ told_of part = record {
   tokens = length part.tokens;
 }
 
-pub told_may : (part : Report) → IsPartReport part → MayBePart (told_of part)
-told_may part is = record {
+pub reported_may : (part : Report) → IsPartReport part → MayBePart (reported_of part)
+reported_may part is = record {
   ends = record {
     few = is.number;
     are = record {
@@ -146,7 +151,7 @@ pub map_length : {X Y : Type 0} (f : X → Y) (xs : List X) → length (map f xs
 map_length f [] = refl
 map_length f (x ∷ xs) = let rest = map_length f xs in omega (arith, rest)
 
-middle_at : (before : List (List ℕ)) (file : List ℕ) (after : List (List ℕ))
+pub middle_at : (before : List (List ℕ)) (file : List ℕ) (after : List (List ℕ))
     → slice_get (before ++ file ∷ after) (length before) ≡ Some file
 middle_at [] file after = refl
 middle_at (first ∷ before) file after = middle_at before file after
@@ -181,18 +186,19 @@ no_report remaining items readers x before sources front within here so_far none
           (subst (λ all. slice_get all (length split_files.before) ≡ Some split_files.file)
           (sym split_files.is)
           (middle_at split_files.before split_files.file split_files.after)),
-      λ short part is told.
-          let size : length (fronts ++ told_of part ∷ []) ≡ length done.begun + 1 =
-          length-append fronts (told_of part ∷ []) ∙ ap (λ n. n + 1)
+      λ short part is reported.
+          let size : length (fronts ++ reported_of part ∷ []) ≡ length done.begun + 1 =
+          length-append fronts (reported_of part ∷ []) ∙ ap (λ n. n + 1)
           (map_length (λ (one : BegunReport). one.0) done.begun) in
-          let all_may : All MayBePart (fronts ++ told_of part ∷ []) =
-          All-push MayBePart fronts (told_of part) (All-map MayBePart
-          (λ (one : BegunReport). one.0) done.begun done.may) (told_may part is) in
-          no_part fronts done.counted (told_of part, flat_map token_line part.tokens)
-          (map line_of part.tokens) (told_may part is)
-          (told ∙ sym (whole_text part.ends part.totals part.validators part.tokens))
+          let all_may : All MayBePart (fronts ++ reported_of part ∷ []) =
+          All-push MayBePart fronts (reported_of part) (All-map MayBePart
+          (λ (one : BegunReport). one.0) done.begun done.may) (reported_may part is) in
+          no_part fronts done.counted (reported_of part, flat_map token_line part.tokens)
+          (map line_of part.tokens) (reported_may part is)
+          (reported ∙ sym (whole_text part.ends part.totals part.validators part.tokens))
           (lines_stand part.tokens part.totals is.tokens is.tokens_rise is.tokens_add)
-          (few (fronts ++ told_of part ∷ []) all_may (omega (arith, count, total, size, short))),
+          (few (fronts ++ reported_of part ∷ []) all_may
+          (omega (arith, count, total, size, short))),
     )
 
 -- so the texts are no reports of parts
@@ -204,11 +210,11 @@ pub parts_refused : {R : Type 0} (remaining : R → Option (List ℕ)) (items re
     → (files : List (List ℕ)) → AreLeft remaining items files → length files ≤ 2 ^ 31
     → (parts : List Report) → All IsPartReport parts → ¬ (files ≡ map report_text parts)
 parts_refused remaining items readers x before sources front within here so_far none_there files are
-    short parts may told =
+    short parts may reported =
     let (file, there, none) = no_report remaining items readers x before sources front within here
     so_far none_there files are in
     let (part, part_there, shown) = at_map report_text parts (length readers) file
-    (subst (λ files. slice_get files (length readers) ≡ Some file) told there) in
+    (subst (λ files. slice_get files (length readers) ≡ Some file) reported there) in
     none short part
     (each_at IsPartReport parts (length readers) part (recursion_from_All IsPartReport parts may)
     part_there) (sym shown)

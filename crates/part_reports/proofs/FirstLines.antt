@@ -1,9 +1,11 @@
 -- The next line of a text, and the line feeds before it.
-use Rattle.std.proofs.Common.{◌≡◌, ◌∙◌, ◌+◌, ℕ, zero, suc, List, [], ◌∷◌, ◌++◌, Option}
-use Rattle.std.proofs.Common.{Some, None, append_assoc, arith, ap, length, map, refl, subst, sym}
-use Rattle.std.specs.Prelude.{IfSome, codes, slice_get, slice_set}
+use Rattle.std.proofs.Common.{◌≡◌, ◌≢◌, ◌∙◌, ◌+◌, ℕ, zero, suc, List, [], ◌∷◌, ◌++◌, Option}
+use Rattle.std.proofs.Common.{Some, None, append_assoc, arith, ap, inl, inr, length, map, refl}
+use Rattle.std.proofs.Common.{subst, sym}
+use Rattle.std.specs.Prelude.{Err, IfErr, IfSome, IsErr, Ok, Result, codes, slice_get, slice_set}
 use Rattle.std.specs.Io.BufRead.{take_through}
 use Rattle.std.specs.List.{AllByRecursion, AllZip}
+use Rattle.std.proofs.lemmas.Bool.{true≢false}
 use Rattle.std.proofs.lemmas.List.Elements.{recursion_from_All}
 use Rattle.std.proofs.lemmas.List.Sums.{sum_by-append}
 use Rattle.std.proofs.lemmas.Option.{IfSome_then, MatchOption-at_some}
@@ -11,16 +13,21 @@ use Rattle.tap_views.specs.declared.token.Token.{Token}
 use Rattle.part_reports.specs.Faults.{IsOfTexts}
 use Rattle.part_reports.specs.TokenLines.{TokenLine, text_of}
 use Rattle.part_reports.specs.inside.FirstWrong.{IsCounted, IsCountedAt, IsOfNext, IsWrongLine}
-use Rattle.part_reports.specs.inside.FirstWrong.{line_feeds}
+use Rattle.part_reports.specs.inside.FirstWrong.{IsLineReason, line_feeds}
 use Rattle.part_reports.specs.inside.Least.{IsBelowOthers}
-use Rattle.part_reports.specs.inside.Standings.{IsAtLine, IsFirstLine, IsLineOfKind, IsMoved}
+use Rattle.part_reports.specs.inside.Standings.{IsAtLine, IsBehindOne, IsFirstLine, IsLineOfKind}
+use Rattle.part_reports.specs.inside.Standings.{IsMoved}
 use Rattle.part_reports.specs.inside.Standings.{IsMovedAt, MayFollowToken, Standing, StandsInText}
 use Rattle.part_reports.specs.inside.Standings.{StandsInTextAt, line_with}
-use Rattle.part_reports.specs.inside.Told.{IsOfReader, next_number}
+use Rattle.part_reports.specs.inside.Reported.{IsOfReader, next_number}
 use Rattle.part_reports.specs.declared.fault.MergeFault.{MergeFault}
 use Rattle.part_reports.specs.declared.fault.MergeFault.TheVariants.{Line, Taps, Unread, Write}
 use Rattle.part_reports.specs.declared.fault.MergeFault.TheVariants.{NoMemory}
+use Rattle.part_reports.specs.declared.fault.Wrong.{Wrong}
+use Rattle.part_reports.specs.declared.fault.Wrong.TheVariants.{Order}
 use Rattle.part_reports.specs.declared.merging.LineKind.{LineKind}
+use Rattle.part_reports.specs.declared.merging.LineKind.TheVariants.{Tokens, Entries}
+use Rattle.part_reports.specs.declared.sums_left.SumsLeft.{SumsLeft}
 use Rattle.part_reports.proofs.Firsts.{line_is_one, line_is_some, line_unique}
 use Rattle.part_reports.proofs.Merges.{head_at}
 use Rattle.part_reports.proofs.OneLine.{HasNoFeed, IsOneLine, is_no_feed, taken_one}
@@ -38,19 +45,48 @@ pub next_of : (kind : LineKind) (before : Option Token) (left : Option (List ℕ
     (number text lines : ℕ) (fault : MergeFault) → IsOfReader text lines fault
     → lines ≡ next_number number
     → IfSome left (λ left. IsWrongLine kind before (take_through 10 left))
+    → ((named at : ℕ) (wrong : Wrong) → fault ≡ Line named at wrong
+    → IfSome left (λ left. IsLineReason kind before (take_through 10 left) wrong))
     → IsOfNext kind before left number fault
-next_of kind before left number text lines (Line named at wrong) of same is = (of.1 ∙ same, is)
-next_of kind before left number text lines (Taps reports uploads) of same is = tt
-next_of kind before left number text lines (Unread named) of same is = tt
-next_of kind before left number text lines Write of same is = tt
-next_of kind before left number text lines NoMemory of same is = tt
+next_of kind before left number text lines (Line named at wrong) of same is why =
+    (of.1 ∙ same, is, why named at wrong refl)
+next_of kind before left number text lines (Taps reports uploads) of same is why = tt
+next_of kind before left number text lines (Unread named) of same is why = tt
+next_of kind before left number text lines Write of same is why = tt
+next_of kind before left number text lines NoMemory of same is why = tt
+
+-- the reason of a fault is the one that was found
+pub reason_of : {T : Type 0} (found : Result T Wrong) (Why : Wrong → Type 0) (fault : MergeFault)
+    (text lines : ℕ) → IsErr found → IfErr found (λ wrong. fault ≡ Line text lines wrong)
+    → IfErr found Why → (named at : ℕ) (wrong : Wrong) → fault ≡ Line named at wrong → Why wrong
+reason_of (Ok x) Why fault text lines some line why named at wrong is =
+    absurd (true≢false (sym some))
+reason_of (Err reason) Why fault text lines some line why named at wrong is =
+    let same : Line text lines reason ≡ Line named at wrong = sym line ∙ is in
+    let reasons : reason ≡ wrong = cc in
+    subst Why reasons why
+
+reason_behind : (kind : LineKind) (before : Option Token) (line : List ℕ) (wrong : Wrong)
+    → IsLineReason kind None line wrong → IsLineReason kind before line wrong
+reason_behind (Tokens left rest) before line wrong why =
+    elim why [
+      | inl form ↦ inl form
+      | inr other ↦ elim other [
+        | inl sums ↦ inr (inl sums)
+        | inr order ↦ absurd (cc (order.1.3))
+      ]
+    ]
+reason_behind Entries before line wrong why = tt
 
 -- what may stand nowhere may not stand behind a line
 pub next_behind : (kind : LineKind) (before : Option Token) (left : Option (List ℕ)) (number : ℕ)
     (fault : MergeFault) → IsOfNext kind None left number fault
     → IsOfNext kind before left number fault
-next_behind kind before left number (Line named at wrong) is =
-    (is.0, IfSome_then left is.1 (λ text none behind token first may. none behind token first tt))
+next_behind kind before left number (Line named at wrong) is = (
+  is.0,
+  IfSome_then left is.1 (λ text none behind token first may. none behind token first tt),
+  IfSome_then left is.2 (λ text why. reason_behind kind before (take_through 10 text) wrong why),
+)
 next_behind kind before left number (Taps reports uploads) is = tt
 next_behind kind before left number (Unread named) is = tt
 next_behind kind before left number Write is = tt
@@ -92,6 +128,46 @@ pub order_wrong : (kind : LineKind) (text : List ℕ) (at : Standing) (before : 
 order_wrong kind text at before source wrong behind token first may =
     wrong (subst (MayFollowToken kind before)
     (first_token kind text at at.token source behind token first) may)
+
+-- before a line of tokens some are left
+left_some : (left : ℕ) (rest : SumsLeft) (line : TokenLine) (behind : LineKind)
+    → IsBehindOne (Tokens left rest) line behind → left ≢ 0
+left_some left rest line (Tokens count after) one none = absurd (omega (arith, one.0, none))
+left_some left rest line Entries one none = absurd one
+
+-- why: a report's tokens do not rise
+pub order_reason : (kind : LineKind) (text : List ℕ) (at : Standing) (before : Option Token)
+    → StandsInText (kind, text) at → ¬ (MayFollowToken kind before at.token)
+    → IsLineReason kind before (take_through 10 text) Order
+order_reason Entries text at before source wrong = tt
+order_reason (Tokens left rest) text at before source wrong = by_heads before at.token source wrong
+  where
+    by_heads : (before head : Option Token) → StandsInTextAt (Tokens left rest, text) at head
+        → ¬ (MayFollowToken (Tokens left rest) before head)
+        → IsLineReason (Tokens left rest) before (take_through 10 text) Order
+    by_heads None head source wrong = absurd (wrong tt)
+    by_heads (Some last) None source wrong = absurd (wrong tt)
+    by_heads (Some last) (Some head) here wrong =
+        let line : take_through 10 text ≡ at.line =
+        ap (take_through 10) here.shown ∙ taken_one at.line here.rest
+        (line_is_one (Tokens left rest) (line_with head at.line) here.line) in
+        let some = left_some left rest (line_with head at.line) at.behind here.behind in
+        subst (λ line. IsLineReason (Tokens left rest) (Some last) line Order) (sym line)
+        (inr (inr (
+          refl,
+          (
+            last,
+            head,
+            here.line.sums,
+            refl,
+            some,
+            record {
+              is = here.line.is;
+              shown = here.line.shown;
+            },
+            wrong,
+          ),
+        )))
 
 -- ---- line feeds
 pub feeds_append : (a b : List ℕ) → line_feeds (a ++ b) ≡ line_feeds a + line_feeds b

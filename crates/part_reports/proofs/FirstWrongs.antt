@@ -14,15 +14,16 @@ use Rattle.tap_views.proofs.Lists.{each-append, each-weaker}
 use Rattle.part_reports.specs.TokenLines.{HaveOtherTokens, TokenLine, text_of}
 use Rattle.part_reports.specs.inside.FirstWrong.{IsCounted, IsCountedAt}
 use Rattle.part_reports.specs.inside.FirstWrong.{IsFirstWrongOf, IsOfNext, IsOfNumber, IsWrongLine}
-use Rattle.part_reports.specs.inside.FirstWrong.{line_feeds}
+use Rattle.part_reports.specs.inside.FirstWrong.{IsLineReason, line_feeds}
 use Rattle.part_reports.specs.inside.Going.{IsGoing, Part, Rise}
 use Rattle.part_reports.specs.inside.Kinds.{IsTextOf}
 use Rattle.part_reports.specs.inside.Least.{IsBelowOthers, StandsTwice}
 use Rattle.part_reports.specs.inside.Standings.{IsLineOfKind, MayFollow, Standing}
-use Rattle.part_reports.specs.inside.Told.{NamesOnly}
+use Rattle.part_reports.specs.inside.Reported.{NamesOnly}
 use Rattle.part_reports.specs.declared.fault.MergeFault.{MergeFault}
 use Rattle.part_reports.specs.declared.fault.MergeFault.TheVariants.{Line, Taps, Unread, Write}
 use Rattle.part_reports.specs.declared.fault.MergeFault.TheVariants.{NoMemory}
+use Rattle.part_reports.specs.declared.fault.Wrong.TheVariants.{Twice}
 use Rattle.part_reports.specs.declared.merging.LineKind.{LineKind}
 use Rattle.part_reports.specs.declared.merging.LineKind.TheVariants.{Entries}
 use Rattle.part_reports.proofs.FirstLines.{counted_at, feeds_append, feeds_one}
@@ -37,7 +38,7 @@ use Rattle.part_reports.proofs.Risings.{each_middle, each_push, rise_push}
 use Rattle.part_reports.proofs.TextsWrong.{text_at}
 
 -- ---- the line behind the one at which the text stands
--- where a text stands at a line, the bytes before what is left are those before the lines, and they
+-- if a text stands at a line, the bytes before what is left are those before the lines, and they
 before_left : (file before front text done rest left : List ℕ) → file ≡ before ++ left
     → file ≡ front ++ text → text ≡ done ++ rest → left ≡ rest → before ≡ front ++ done
 before_left file before front text done rest left is whole shown same =
@@ -69,6 +70,10 @@ stuck_first texts files ats old now merging k least are numbers (Line named numb
     MatchOption-at_some (Unit {0})
     (λ left. IsWrongLine part.at.behind part.at.token (take_through 10 left)) at_line.rest
     at_line.left next.1 in
+    let reason : IsLineReason part.at.behind part.at.token (take_through 10 at_line.rest) wrong =
+    MatchOption-at_some (Unit {0})
+    (λ left. IsLineReason part.at.behind part.at.token (take_through 10 left) wrong) at_line.rest
+    at_line.left next.2 in
     let (file, file_there, counted) = counted_at files ats k part.at are (stands ∙ same) in
     let (before, left, left_is, whole, number_is) =
     subst (λ head. IsCountedAt file part.at head) found.token_is counted in
@@ -105,6 +110,8 @@ stuck_first texts files ats old now merging k least are numbers (Line named numb
           is_last = refl;
           wrong = subst (λ head. IsWrongLine part.at.behind head (take_through 10 at_line.rest))
               found.token_is bad;
+          reason = subst (λ head. IsLineReason part.at.behind head (take_through 10 at_line.rest)
+              wrong) found.token_is reason;
         });
       },
     )
@@ -176,7 +183,7 @@ pub twin_first : (texts : List (LineKind × List ℕ)) (files : List (List ℕ))
     (old now : Option (List ℕ)) → IsMerging texts ats old now → (k : ℕ)
     → StandsTwice (map (λ at. at.token) ats) k → AllZip IsCounted files ats
     → (numbers : List ℕ) (fault : MergeFault) → NamesOnly fault (slice_get numbers k)
-    → ((was : Standing) → slice_get ats k ≡ Some was → IsOfNumber was.number fault)
+    → ((was : Standing) → slice_get ats k ≡ Some was → IsOfNumber was.number Twice fault)
     → IsFirstWrongOf texts files numbers fault
 twin_first texts files ats old now merging k twin are numbers (Line named number wrong) only
     has_number
@@ -192,7 +199,8 @@ twin_first texts files ats old now merging k twin are numbers (Line named number
     let line = line_at part.at token in
     let at_line = here part token found.going found.token_is in
     let same : Some at ≡ Some part.at = ap (λ at. Some at) (sym found.is) in
-    let number_of : number ≡ part.at.number = has_number part.at (stands ∙ same) in
+    let named_so = has_number part.at (stands ∙ same) in
+    let number_of : number ≡ part.at.number = named_so.0 in
     let is_line = like_line part.text.0 found.going.kind part.done line found.going.behind
     at_line.line in
     let (file, file_there, counted) = counted_at files ats k part.at are (stands ∙ same) in
@@ -226,8 +234,11 @@ twin_first texts files ats old now merging k twin are numbers (Line named number
             let one = feeds_one part.at.line (line_is_one part.text.0 line is_line) in
             omega (arith, number_of, number_is, feeds, both, one);
         wrong = inr (record {
+          twice = named_so.1;
           line = line;
           left = at_line.rest;
+          behind = part.at.behind;
+          one = at_line.behind;
           shown = at_line.shown;
           is_line = is_line;
           rise = rise_push part.text.0 part.done line found.going.rise

@@ -17,7 +17,7 @@ use Rattle.report_texts.specs.UploadEnds.{is_posted}
 use Rattle.report_texts.specs.declared.upload_end.UploadEnd.{UploadEnd}
 use Rattle.tap_views.proofs.Lists.{All-back}
 
--- so many uploads' lines were read of the text
+-- the lines of this number of uploads were read of the text
 pub record Posted (count : ℕ) (text : List ℕ) (now : Option (List ℕ)) : Type 0 where
   pub ends : List UploadEnd
   pub are : AreSoManyPosted count ends
@@ -52,18 +52,18 @@ ends_one_more ends count end long =
     ∙ sym (lines_more upload_line 0 ends end) ∙ sym (end_lines_from 0 (ends ++ end ∷ []))
 
 -- one upload more
-pub posted_more : (count : ℕ) (text now after : Option (List ℕ)) (told : UploadEnd)
+pub posted_more : (count : ℕ) (text now after : Option (List ℕ)) (reported : UploadEnd)
     → PostedSome count text now
     → IsRead (λ (end : UploadEnd) value. end ≡ value) IsUploadEnd (upload_line count) now after
-    (Ok told)
-    → is_posted told ≡ true
+    (Ok reported)
+    → is_posted reported ≡ true
     → PostedSome (count + 1) text after
-posted_more count None now after told posted read none = tt
-posted_more count (Some text) now after told posted read none =
+posted_more count None now after reported posted read none = tt
+posted_more count (Some text) now after reported posted read none =
     let here = subst (λ now. IsRead (λ (end : UploadEnd) value. end ≡ value) IsUploadEnd
-    (upload_line count) now after (Ok told)) posted.left read in
+    (upload_line count) now after (Ok reported)) posted.left read in
     let end = here.value in
-    let is_told : told ≡ end = here.is in
+    let is_reported : reported ≡ end = here.is in
     record {
       ends = posted.ends ++ end ∷ [];
       are = record {
@@ -71,7 +71,7 @@ posted_more count (Some text) now after told posted read none =
         each = All-push IsUploadEnd posted.ends end posted.are.each here.may;
         posted = All-push (λ (end : UploadEnd). IsTrue (is_posted end)) posted.ends end
             posted.are.posted
-            (ap is_posted (sym is_told) ∙ none);
+            (ap is_posted (sym is_reported) ∙ none);
       };
       rest = here.rest;
       shown = posted.shown ∙ ap (λ text. upload_lines 0 posted.ends ++ text) here.shown
@@ -124,19 +124,19 @@ posted_no_end uploads count text now after fault less posted read =
     now after (Err fault)) is read) of_texts end more may shown)
 
 -- an upload that was not posted
-pub posted_not : (uploads count : ℕ) (text now after : Option (List ℕ)) (told : UploadEnd)
+pub posted_not : (uploads count : ℕ) (text now after : Option (List ℕ)) (reported : UploadEnd)
     (fault : MergeFault) → count < uploads
     → PostedSome count text now
     → IsRead {T = UploadEnd} (λ end value. end ≡ value) IsUploadEnd (upload_line count) now after
-    (Ok told)
-    → is_posted told ≡ false
+    (Ok reported)
+    → is_posted reported ≡ false
     → IsRead {T = Unit {0}} (λ _ _. Unit {0}) (AreSoManyPosted uploads) (upload_lines 0) text after
     (Err fault)
-posted_not uploads count text now after told fault less posted read some =
+posted_not uploads count text now after reported fault less posted read some =
     posted_refused uploads count text now after fault less posted
     (λ left is of_texts end more may none shown.
     let here = subst (λ now. IsRead {T = UploadEnd} (λ end value. end ≡ value) IsUploadEnd
-    (upload_line count) now after (Ok told)) is read in
+    (upload_line count) now after (Ok reported)) is read in
     let same = end_line_unique count here.value end here.rest more here.may may (sym here.shown
     ∙ shown) in
     false≢true (sym some ∙ ap is_posted (here.is ∙ same.0) ∙ none))

@@ -143,12 +143,12 @@ pub merged_whole : (files : List (List ℕ)) (known : List (Option (List ℕ)))
     → (text : List ℕ) × IsMergedLedger files text × Appends old new text
 merged_whole files known ats old mid new same are head merged =
     let behind = lefts_of files known ats same are in
-    let (lists, joined, told, is, written) =
+    let (lists, joined, reported, is, written) =
     merged (map (λ left. (Entries, left)) behind.lefts) behind.sources in (
       head_text ++ text_of joined,
       record {
         parts = lists;
-        each = texts_from files behind.lefts lists behind.shown told;
+        each = texts_from files behind.lefts lists behind.shown reported;
         lines = joined;
         is = is;
         shown = refl;

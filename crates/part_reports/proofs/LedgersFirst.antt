@@ -24,10 +24,11 @@ use Rattle.part_reports.specs.inside.Going.{IsBehindSo, Rise}
 use Rattle.part_reports.specs.inside.Kinds.{IsTextOf}
 use Rattle.part_reports.specs.inside.Standings.{IsAtLine, IsLineOfKind, MayFollowToken, Standing}
 use Rattle.part_reports.specs.inside.Standings.{StandsInText, StandsInTextAt, line_with}
-use Rattle.part_reports.specs.inside.Told.{AreNumbered, IsOfReader, IsOfText, next_number}
+use Rattle.part_reports.specs.inside.Reported.{AreNumbered, IsOfReader, IsOfText, next_number}
 use Rattle.part_reports.specs.declared.fault.MergeFault.{MergeFault}
 use Rattle.part_reports.specs.declared.fault.MergeFault.TheVariants.{Line, Taps, Unread, Write}
 use Rattle.part_reports.specs.declared.fault.MergeFault.TheVariants.{NoMemory}
+use Rattle.part_reports.specs.declared.fault.Wrong.{Wrong}
 use Rattle.part_reports.specs.declared.merging.LineKind.{LineKind}
 use Rattle.part_reports.specs.declared.merging.LineKind.TheVariants.{Tokens, Entries}
 use Rattle.part_reports.proofs.FirstLines.{feeds_append, feeds_one, lines_feeds}
@@ -120,9 +121,9 @@ text_of_file (one ∷ files) (left ∷ lefts) (suc place) file shown there =
     record { left = rest.left; there = rest.there; of = rest.of }
 
 -- ---- of texts behind their head lines
-module _ (files lefts : List (List ℕ)) (place number : ℕ)
+module _ (files lefts : List (List ℕ)) (place number : ℕ) (why : Wrong)
     (shown : AllZip (λ file left. file ≡ head_text ++ left) files lefts)
-    (at : IsFirstWrongAt (map (λ left. (Entries, left)) lefts) files place number) where
+    (at : IsFirstWrongAt (map (λ left. (Entries, left)) lefts) files place number why) where
   found : (left : List ℕ) × (slice_get lefts place ≡ Some left) × ((Entries, left) ≡ at.text)
   found = at_map (λ (left : List ℕ). (Entries, left)) lefts place at.text at.there
 
@@ -151,7 +152,7 @@ module _ (files lefts : List (List ℕ)) (place number : ℕ)
       let lines = lines_feeds Entries at.done each in
       omega (arith, is, both, head, lines)
 
-  goes_wrong : IsStuckBehind at.kind at.done at.rest → GoesWrongAt at.file number
+  goes_wrong : IsStuckBehind at.kind at.done at.rest why → GoesWrongAt at.file number
   goes_wrong stuck =
       let entries : at.kind ≡ Entries = kind_entries at.kind at.done
       (subst (λ all. IsBehindSo all at.kind at.done) kind_is at.behind) in
@@ -170,8 +171,8 @@ module _ (files lefts : List (List ℕ)) (place number : ℕ)
             (none_follows stuck.front stuck.last at.rest wrong line text);
       }
 
-  first_shared : IsTwinBehind (map (λ left. (Entries, left)) lefts) place at.text.0 at.done at.rest
-      → IsFirstSharedAt files place number
+  first_shared : IsTwinBehind (map (λ left. (Entries, left)) lefts) place at.text.0 at.kind at.done
+      at.rest why → IsFirstSharedAt files place number
   first_shared twin =
       let shares = twin.shares in
       let first = file_of files lefts shares.earlier shares.first shown shares.first_there in
@@ -271,7 +272,7 @@ merged_first files known ats numbers (Line named number wrong) same are numbered
     let (place, there, at) =
     first texts files behind.sources (begun_counted files known ats same are)
     in
-    names_first files behind.lefts place number behind.shown at named (numbered place named there)
+    names_first files behind.lefts place number wrong behind.shown at named (numbered place named there)
 merged_first files known ats numbers (Taps reports uploads) same are numbered no_taps first =
     absurd (no_taps tt)
 merged_first files known ats numbers (Unread named) same are numbered no_taps first = tt

@@ -13,7 +13,7 @@ use Rattle.part_reports.specs.TokenLines.{IsMergedByToken, TokenLine, text_of}
 use Rattle.part_reports.specs.inside.BegunLedgers.{AreBegunLedgers}
 use Rattle.part_reports.specs.inside.Kinds.{AreTexts, IsTextOf}
 use Rattle.part_reports.specs.inside.Standings.{StandsInText, Standing}
-use Rattle.part_reports.specs.inside.Told.{AreNumbered, IsOfText}
+use Rattle.part_reports.specs.inside.Reported.{AreNumbered, IsOfText}
 use Rattle.part_reports.specs.inside.WrongTexts.{IsNoTextAt, IsWrongText, SharesTokenAt}
 use Rattle.part_reports.specs.declared.fault.MergeFault.{MergeFault}
 use Rattle.part_reports.specs.declared.fault.MergeFault.TheVariants.{Line, Taps, Unread, Write}
@@ -46,7 +46,7 @@ merged_begun files known ats old mid new text same are head begun merged =
     (texts_to files behind.lefts merged.parts behind.shown merged.each) merged.is))
 
 -- ---- which ledger is named
--- the text behind so many
+-- the text behind this number of texts
 pub file_behind : (front back : List (Option (List ℕ))) (file : Option (List ℕ))
     (files : List (List ℕ))
     → front ++ file ∷ back ≡ map (λ file. Some file) files

@@ -34,7 +34,7 @@ use Rattle.part_reports.proofs.Risings.{begins, falls_to, lines_each}
 use Rattle.part_reports.proofs.Risings.{lines_rise, no_bytes, rise_behind, rise_middle, rise_push}
 
 -- ---- lists that do not fall, by the lines of each token
--- a fact of each line's token, where a line has this token
+-- a fact of each line's token, if a line has this token
 token_by : (P : Token → Type 0) (token : Token) (first : TokenLine) (lines : List TokenLine)
     (line : TokenLine) (more : List TokenLine) (b : Bool) → token_eq token first.token ≡ b
     → P first.token → (lines_of_token token lines ≡ line ∷ more → P token)
@@ -460,9 +460,9 @@ begun_line texts ats old now new k merging least was stands begun lists all are 
     ap (λ (at : Standing). at.token) found.is ∙ head_at ats k was token stands least.there in
     let going = each_at IsGoing parts k part merging.going found.there in
     let line = line_at part.at token in
-    let told : AllZip IsTextOf (map (λ (part : Part). part.text) parts) lists =
+    let reported : AllZip IsTextOf (map (λ (part : Part). part.text) parts) lists =
     subst (λ texts. AllZip IsTextOf texts lists) (sym merging.of_texts) are in
-    let (list, listed, text) = list_at parts lists k part told found.there in
+    let (list, listed, text) = list_at parts lists k part reported found.there in
     let (more, whole, left) = going_line part token going is list text in
     let rise : Rise part.text.0 ((part.done ++ line ∷ []) ++ more) =
     subst (λ lines. Rise part.text.0 lines) whole (lines_rise part.text.0 list text.0) in
@@ -494,7 +494,7 @@ begun_line texts ats old now new k merging least was stands begun lists all are 
     } in
     let (rest, front) = front_of (slice_set parts k next) lists (merging.joined ++ line ∷ []) all
     so_far (continue_set parts lists k next list listed on
-    (all_continue parts lists merging.going told)) merged in
+    (all_continue parts lists merging.going reported)) merged in
     let shown : text_of all ≡ text_of merging.joined ++ (line.text ++ text_of rest) =
     ap text_of (front ∙ append_assoc merging.joined (line ∷ []) rest)
     ∙ flat_map-append (λ (line : TokenLine). line.text) merging.joined (line ∷ rest) in

@@ -137,7 +137,7 @@ merging_first texts ats old are =
 
 -- ---- a token and its lines
 
--- where no line has the token there are none of its lines
+-- if no line has the token, there are none of its lines
 no_lines : (token : Token) (lines : List TokenLine)
     → AllByRecursion (λ line. token_eq token line.token ≡ false) lines
     → lines_of_token token lines ≡ []
@@ -320,7 +320,7 @@ part_at texts ats old new merging k at is =
     (subst (λ ats. slice_get ats k ≡ Some at) (sym merging.of_ats) is) in
     record { part = part; there = there; is = same }
 
--- the source at the place, where a token stands there
+-- the source at the place, if a token stands there
 pub head_at : (ats : List Standing) (k : ℕ) (at : Standing) (token : Token)
     → slice_get ats k ≡ Some at → StandsAt (map (λ at. at.token) ats) k token
     → at.token ≡ Some token
@@ -328,7 +328,7 @@ head_at ats k at token is stands =
     one_at (map (λ (at : Standing). at.token) ats) k at.token (Some token)
     (map_at (λ (at : Standing). at.token) ats k at is) stands
 
--- where the merge goes on at a place
+-- if the merge goes on at a place
 pub record IsNext (parts : List Part) (k : ℕ) (tokens : List (Option Token)) (part : Part)
     (token : Token) (after : Standing) : Type 0 where
   pub there : slice_get parts k ≡ Some part

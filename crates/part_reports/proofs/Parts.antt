@@ -77,7 +77,7 @@ like_order (Tokens all total) Entries done a b is may = elim is [ ]
 like_order Entries (Tokens left rest) done a b is may = elim is [ ]
 like_order Entries Entries done a b is may = may
 
--- the lines behind so many, as lines of what is left
+-- the lines behind the first ones, as lines of what is left
 rest_lines : (all kind : LineKind) (done : List TokenLine) (lines : List TokenLine)
     → IsBehindSo all kind done
     → AreCounted kind lines → AllByRecursion (IsLineOfKind all) lines → Rise all lines

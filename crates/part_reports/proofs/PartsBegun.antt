@@ -17,8 +17,8 @@ use Rattle.shard_book.specs.Shown.{validator_sum}
 use Rattle.shard_book.specs.Sums.{sums_of}
 use Rattle.part_reports.specs.Reports.{added}
 use Rattle.part_reports.specs.inside.SumsLeft.{left_of}
-use Rattle.part_reports.specs.inside.Fronts.{IsFront, MayBePart, MayBeSections, ToldFront}
-use Rattle.part_reports.specs.inside.Fronts.{told_text}
+use Rattle.part_reports.specs.inside.Fronts.{IsFront, MayBePart, MayBeSections, ReportedFront}
+use Rattle.part_reports.specs.inside.Fronts.{reported_text}
 use Rattle.part_reports.specs.inside.Kinds.{IsTextOf}
 use Rattle.part_reports.specs.inside.Parts.{AreParts, BegunReport, IsNoPart, IsPart, begun_text}
 use Rattle.part_reports.specs.inside.Parts.{left_text}
@@ -28,13 +28,13 @@ use Rattle.part_reports.specs.inside.Sums.{AreFew, AreFrontsCounted, WithFront}
 use Rattle.part_reports.proofs.TextsRead.{no_files, split}
 use Rattle.part_reports.proofs.Unique.{number_line_unique, totals_line_unique}
 use Rattle.part_reports.proofs.WholeFronts.{IsUnique, behind_ends, behind_totals, ends_unique}
-use Rattle.part_reports.proofs.WholeFronts.{told_parts, tokens_text, validators_unique}
+use Rattle.part_reports.proofs.WholeFronts.{reported_parts, tokens_text, validators_unique}
 
 -- what stands before the tokens is determined by the text
-pub sections_unique : IsUnique MayBeSections told_text
+pub sections_unique : IsUnique MayBeSections reported_text
 sections_unique a b x y may may_too same =
     let ends = ends_unique a.ends b.ends (behind_ends a x) (behind_ends b y) may.ends may_too.ends
-    (sym (told_parts a x) ∙ same ∙ told_parts b y) in
+    (sym (reported_parts a x) ∙ same ∙ reported_parts b y) in
     let totals = totals_line_unique a.totals b.totals (behind_totals a x) (behind_totals b y)
     may.totals may_too.totals ends.1 in
     let validators = validators_unique a.validators b.validators (tokens_text a.tokens ++ x)
@@ -52,23 +52,23 @@ sections_unique a b x y may may_too same =
       tokens.1,
     )
 
-pub sections : (told : ToldFront) → MayBePart told → MayBeSections told
-sections told may = record {
+pub sections : (reported : ReportedFront) → MayBePart reported → MayBeSections reported
+sections reported may = record {
   ends = may.ends;
   totals = may.totals;
   validators = may.validators;
   tokens = may.tokens;
 }
 
-pub told_unique : IsUnique MayBePart told_text
-told_unique a b x y may may_too same =
+pub reported_unique : IsUnique MayBePart reported_text
+reported_unique a b x y may may_too same =
     sections_unique a b x y (sections a may) (sections b may_too) same
 
 -- what was read is that of a part if the validators add up
 pub front_adds : (text now : Option (List ℕ)) (front : Front)
-    → IsRead IsFront MayBeSections told_text text now (Ok front)
+    → IsRead IsFront MayBeSections reported_text text now (Ok front)
     → sums_of front.totals ≡ added (map validator_sum front.validators.items)
-    → IsRead IsFront MayBePart told_text text now (Ok front)
+    → IsRead IsFront MayBePart reported_text text now (Ok front)
 front_adds None now front read add = tt
 front_adds (Some text) now front read add = record {
   value = read.value;
@@ -87,22 +87,22 @@ front_adds (Some text) now front read add = record {
 
 -- and no front of a part is there if they do not
 pub no_adding : (text now after : Option (List ℕ)) (front : Front) (fault : MergeFault)
-    → IsRead IsFront MayBeSections told_text text now (Ok front)
+    → IsRead IsFront MayBeSections reported_text text now (Ok front)
     → ¬ (sums_of front.totals ≡ added (map validator_sum front.validators.items))
-    → IsRead IsFront MayBePart told_text text after (Err fault)
+    → IsRead IsFront MayBePart reported_text text after (Err fault)
 no_adding None now after front fault read not = tt
 no_adding (Some text) now after front fault read not =
     λ of_texts value rest may shown.
     let same = (sections_unique read.value value read.rest rest read.may (sections value may)
     (sym read.shown ∙ shown)).0 in
-    not (read.is.totals ∙ ap (λ (told : ToldFront). told.totals) same ∙ may.add
-    ∙ ap (λ (told : ToldFront). added told.validators) (sym same)
+    not (read.is.totals ∙ ap (λ (reported : ReportedFront). reported.totals) same ∙ may.add
+    ∙ ap (λ (reported : ReportedFront). added reported.validators) (sym same)
     ∙ ap added (sym read.is.validators))
 
 -- no sections are there, so that no front of a part is
 pub no_sections : (text now after : Option (List ℕ)) (fault : MergeFault)
-    → IsRead IsFront MayBeSections told_text text now (Err fault)
-    → IsRead IsFront MayBePart told_text text after (Err fault)
+    → IsRead IsFront MayBeSections reported_text text now (Err fault)
+    → IsRead IsFront MayBePart reported_text text after (Err fault)
 no_sections None now after fault read = tt
 no_sections (Some text) now after fault read =
     λ of_texts value rest may shown. read of_texts value rest (sections value may) shown
@@ -111,15 +111,15 @@ no_sections (Some text) now after fault read =
 abbrev pub front_kind : Front → LineKind
 front_kind front = Tokens front.tokens (left_of (sums_of front.totals))
 
-abbrev told_kind : ToldFront → LineKind
-told_kind told = Tokens told.tokens (left_of told.totals)
+abbrev reported_kind : ReportedFront → LineKind
+reported_kind reported = Tokens reported.tokens (left_of reported.totals)
 
-kind_is : (front : Front) (told : ToldFront) → IsFront front told
-    → front_kind front ≡ told_kind told
-kind_is front told is = λ i. Tokens (is.tokens i) (left_of (is.totals i))
+kind_is : (front : Front) (reported : ReportedFront) → IsFront front reported
+    → front_kind front ≡ reported_kind reported
+kind_is front reported is = λ i. Tokens (is.tokens i) (left_of (is.totals i))
 
 abbrev FrontRead : Option (List ℕ) → Option (List ℕ) → Result Front MergeFault → Type 0
-FrontRead text now result = IsRead IsFront MayBePart told_text text now result
+FrontRead text now result = IsRead IsFront MayBePart reported_text text now result
 
 -- a text that begins with no report of a part
 pub no_front : (before : WholeSums) (file : Option (List ℕ)) (now : Option (List ℕ))
@@ -137,9 +137,9 @@ pub no_sums : (before after : WholeSums) (file : Option (List ℕ)) (now : Optio
 no_sums before after None now front read full = tt
 no_sums before after (Some file) now front read full =
     λ fronts counted begun lines may shown is few.
-    let same = told_unique read.value begun.0 read.rest begun.1 read.may may (sym read.shown
+    let same = reported_unique read.value begun.0 read.rest begun.1 read.may may (sym read.shown
     ∙ shown) in
-    full fronts read.value counted read.is (subst (λ told. AreFew (fronts ++ told ∷ []))
+    full fronts read.value counted read.is (subst (λ reported. AreFew (fronts ++ reported ∷ []))
     (sym same.0) few)
 
 -- tokens that may not stand there
@@ -151,12 +151,12 @@ pub no_lines : (before : WholeSums) (file : Option (List ℕ)) (now : Option (Li
 no_lines before None now front fault read none_there = tt
 no_lines before (Some file) now front fault read none_there =
     λ fronts counted begun lines may shown is few.
-    let same = told_unique read.value begun.0 read.rest begun.1 read.may may (sym read.shown
+    let same = reported_unique read.value begun.0 read.rest begun.1 read.may may (sym read.shown
     ∙ shown) in
     let here = subst (λ now. IfSome now (λ left. (lines : List TokenLine)
     → ¬ (IsTextOf (front_kind front, left) lines))) read.left none_there in
-    let kind : told_kind begun.0 ≡ front_kind front =
-    sym (kind_is front read.value read.is ∙ ap told_kind same.0) in
+    let kind : reported_kind begun.0 ≡ front_kind front =
+    sym (kind_is front read.value read.is ∙ ap reported_kind same.0) in
     here lines (subst (λ text. IsTextOf text lines) (ap (λ kind. (kind, begun.1)) kind
     ∙ ap (λ left. (front_kind front, left)) (sym same.1)) is)
 

@@ -32,7 +32,7 @@ use Rattle.part_reports.specs.Reports.{sums_found, sums_of_validator}
 use Rattle.part_reports.specs.TokenLines.{TokenLine, text_of}
 use Rattle.part_reports.specs.declared.sums.WholeSums.{WholeSums}
 use Rattle.part_reports.specs.declared.sums_left.SumsLeft.{SumsLeft}
-use Rattle.part_reports.specs.inside.Fronts.{MayBePart, ToldFront}
+use Rattle.part_reports.specs.inside.Fronts.{MayBePart, ReportedFront}
 use Rattle.part_reports.specs.inside.Going.{IsGoing, Part}
 use Rattle.part_reports.specs.inside.Kinds.{HasTokenSums, IsTextOf}
 use Rattle.part_reports.specs.inside.Parts.{IsNoPart, IsPart, begun_text, left_text}
@@ -45,12 +45,12 @@ use Rattle.part_reports.specs.inside.SumsLeft.{left_of, sums_left}
 use Rattle.part_reports.specs.declared.merging.LineKind.{LineKind}
 use Rattle.part_reports.specs.declared.merging.LineKind.TheVariants.{Tokens}
 use Rattle.part_reports.proofs.Added.{leave_sums, lines_stand}
-use Rattle.part_reports.proofs.FewParts.{few, one_small, same_test, told_may, told_of}
+use Rattle.part_reports.proofs.FewParts.{few, one_small, same_test, reported_may, reported_of}
 use Rattle.part_reports.proofs.Groups.{groups_use, head_same, no_stay, no_turn, other_next}
 use Rattle.part_reports.proofs.Groups.{something_left, stays_on, turns_on, use_groups}
 use Rattle.part_reports.proofs.Parts.{going_end, going_first, going_line, going_next, going_stuck}
 use Rattle.part_reports.proofs.Parts.{here, like_line, line_at}
-use Rattle.part_reports.proofs.PartsBegun.{told_unique}
+use Rattle.part_reports.proofs.PartsBegun.{reported_unique}
 use Rattle.part_reports.proofs.Rising.{is_less}
 use Rattle.part_reports.proofs.Risings.{begins, lines_each}
 use Rattle.part_reports.proofs.SumsAdded.{or_nothing_in, other_key, same_key, taps_joined}
@@ -100,15 +100,16 @@ some_token a b is = cc
 abbrev pub part_of : (file : List ℕ) (left : ReportAt) (done : List LineCharge)
     → IsUsedBy file left done → Part
 part_of file left done is =
-    record { text = left_text is.begun; at = left.at; done = map line_of is.told }
+    record { text = left_text is.begun; at = left.at; done = map line_of is.reported }
 
 same_front : (file : List ℕ) (left : ReportAt) (done : List LineCharge)
     → (is : IsUsedBy file left done) → (report : Report) → IsPartReport report
     → file ≡ report_text report
-    → (is.begun.0 ≡ told_of report) × (is.begun.1 ≡ flat_map token_line report.tokens)
+    → (is.begun.0 ≡ reported_of report) × (is.begun.1 ≡ flat_map token_line report.tokens)
 same_front file left done is report fit shown =
-    told_unique is.begun.0 (told_of report) is.begun.1 (flat_map token_line report.tokens) is.may
-    (told_may report fit)
+    reported_unique is.begun.0 (reported_of report) is.begun.1 (flat_map token_line report.tokens)
+    is.may
+    (reported_may report fit)
     (sym is.shown ∙ shown
     ∙ sym (whole_text report.ends report.totals report.validators report.tokens))
 
@@ -119,7 +120,8 @@ report_lines file left done is report fit shown =
     let same = same_front file left done is report fit shown in
     let text : left_text is.begun
     ≡ (Tokens (length report.tokens) (left_of report.totals), flat_map token_line report.tokens) =
-    ap (λ (told : ToldFront). (Tokens told.tokens (left_of told.totals), is.begun.1)) same.0
+    ap (λ (reported : ReportedFront).
+    (Tokens reported.tokens (left_of reported.totals), is.begun.1)) same.0
     ∙ ap (λ (text : List ℕ). (Tokens (length report.tokens) (left_of report.totals), text)) same.1
     in
     subst (λ (text : LineKind × List ℕ). IsTextOf text (map line_of report.tokens)) (sym text)
@@ -159,7 +161,7 @@ record Rest (file : List ℕ) (left : ReportAt) (done : List LineCharge)
   shown : file ≡ report_text report
   add : AddUpTo (done ++ charges) report
   more : List Sum
-  whole : report.tokens ≡ is.told ++ more
+  whole : report.tokens ≡ is.reported ++ more
   spent : UseUp left.token left.rest more charges
   none : left.at.token ≡ None → more ≡ []
   some : (token : Token) → left.at.token ≡ Some token → FirstIs token left.at.line more
@@ -167,21 +169,21 @@ record Rest (file : List ℕ) (left : ReportAt) (done : List LineCharge)
 rest_by : (file : List ℕ) (left : ReportAt) (done : List LineCharge)
     → (is : IsUsedBy file left done) → (charges : List LineCharge)
     → (add : AddUpToText (done ++ charges) file) → (back : List TokenLine)
-    → map line_of add.report.tokens ≡ map line_of is.told ++ back
+    → map line_of add.report.tokens ≡ map line_of is.reported ++ back
     → (left.at.token ≡ None → back ≡ [])
     → ((token : Token) → left.at.token ≡ Some token
     → (behind : List TokenLine) × (back ≡ line_with token left.at.line ∷ behind))
     → Rest file left done is charges
 rest_by file left done is charges add back same no_more one_more =
     let report = add.report in
-    let parts = cut report.tokens (map line_of is.told) back same in
+    let parts = cut report.tokens (map line_of is.reported) back same in
     let fits : All IsTokenSum (parts.first ++ parts.more) =
     subst (λ sums. All IsTokenSum sums) parts.whole add.is_report.tokens in
-    let told : parts.first ≡ is.told =
-    sums_same parts.first is.told (All-front IsTokenSum parts.first parts.more fits) is.fit
+    let reported : parts.first ≡ is.reported =
+    sums_same parts.first is.reported (All-front IsTokenSum parts.first parts.more fits) is.fit
     parts.of_front in
-    let whole : report.tokens ≡ is.told ++ parts.more =
-    parts.whole ∙ ap (λ sums. sums ++ parts.more) told in
+    let whole : report.tokens ≡ is.reported ++ parts.more =
+    parts.whole ∙ ap (λ sums. sums ++ parts.more) reported in
     record {
       report = report;
       fit = add.is_report;
@@ -215,22 +217,22 @@ rest_of file left done is charges add = by_head left.at.token refl
     by_head None end =
         let text = going_end (part_of file left done is) is.going end in
         let kind = (left_text is.begun).0 in
-        let (back, whole, bytes) = begins kind (map line_of is.told)
-        (map line_of add.report.tokens) [] (lines_each kind (map line_of is.told) text.0)
+        let (back, whole, bytes) = begins kind (map line_of is.reported)
+        (map line_of add.report.tokens) [] (lines_each kind (map line_of is.reported) text.0)
         (lines_each kind (map line_of add.report.tokens) lines.0)
-        (sym lines.1 ∙ text.1 ∙ sym (append-nil (text_of (map line_of is.told)))) in
+        (sym lines.1 ∙ text.1 ∙ sym (append-nil (text_of (map line_of is.reported)))) in
         let size = ap length whole in
-        let parts = length-append (map line_of is.told) back in
+        let parts = length-append (map line_of is.reported) back in
         let all = lines.0.0 in
-        let told = text.0.0 in
-        let none : back ≡ [] = nil_from_length back (omega (arith, size, parts, all, told)) in
+        let reported = text.0.0 in
+        let none : back ≡ [] = nil_from_length back (omega (arith, size, parts, all, reported)) in
         rest_by file left done is charges add back whole (λ ends. none)
         (λ token there. none_some token (sym end ∙ there))
     by_head (Some token) there =
         let (behind, whole, bytes) = going_line (part_of file left done is) token is.going there
         (map line_of add.report.tokens) lines in
         rest_by file left done is charges add (line_at left.at token ∷ behind)
-        (whole ∙ append_assoc (map line_of is.told) (line_at left.at token ∷ []) behind)
+        (whole ∙ append_assoc (map line_of is.reported) (line_at left.at token ∷ []) behind)
         (λ end. none_some token (sym end ∙ there))
         (λ other is. (
           behind,
@@ -275,7 +277,7 @@ used_none file before after at used rest nothing part none empty = record {
   begun = part.begun;
   may = part.may;
   shown = part.shown;
-  told = [];
+  reported = [];
   fit = All-nil IsTokenSum;
   going = going_first (left_text part.begun) at part.stands;
   spent = λ tokens charges. subst (λ rest. UseUp None (sums []) tokens charges
@@ -288,12 +290,12 @@ used_none file before after at used rest nothing part none empty = record {
 pub none_begun : (file : List ℕ) (before : WholeSums) → AreFrontsCounted before []
     → IsNoPart before file → IsNoReport file
 none_begun file before nothing no_part report fit shown =
-    no_part [] nothing (told_of report, flat_map token_line report.tokens)
-    (map line_of report.tokens) (told_may report fit)
+    no_part [] nothing (reported_of report, flat_map token_line report.tokens)
+    (map line_of report.tokens) (reported_may report fit)
     (shown ∙ sym (whole_text report.ends report.totals report.validators report.tokens))
     (lines_stand report.tokens report.totals fit.tokens fit.tokens_rise fit.tokens_add)
-    (few (told_of report ∷ [])
-    (All-cons MayBePart (told_of report) [] (told_may report fit) (All-nil MayBePart))
+    (few (reported_of report ∷ [])
+    (All-cons MayBePart (reported_of report) [] (reported_may report fit) (All-nil MayBePart))
     (omega arith))
 
 pub not_begun : (file : List ℕ) (before : WholeSums) (charges : List LineCharge)
@@ -343,12 +345,12 @@ used_next file old mid done token sum before more used is next add one = elim ne
       begun = is.begun;
       may = is.may;
       shown = is.shown;
-      told = is.told;
+      reported = is.reported;
       fit = is.fit;
       going = subst (λ (at : Standing). IsGoing (record {
         text = left_text is.begun;
         at = at;
-        done = map line_of is.told;
+        done = map line_of is.reported;
       })) (ap (λ (left : ReportAt). left.at) (sym same)) is.going;
       spent = λ tokens charges.
           let step = stays_on old.token old.rest more tokens charge charges there
@@ -357,9 +359,9 @@ used_next file old mid done token sum before more used is next add one = elim ne
           sym there ∙ ap (λ (left : ReportAt). left.token) (sym same) in
           let all = is.spent tokens (charge ∷ charges) in (
             λ spent. subst (λ head. UseUp head more tokens charges) head (step.0 (all.0
-                (subst (λ charges. UseUp None (sums []) (is.told ++ tokens) charges)
+                (subst (λ charges. UseUp None (sums []) (is.reported ++ tokens) charges)
                 (append_assoc done (charge ∷ []) charges) spent))),
-            λ spent. subst (λ charges. UseUp None (sums []) (is.told ++ tokens) charges)
+            λ spent. subst (λ charges. UseUp None (sums []) (is.reported ++ tokens) charges)
                 (sym (append_assoc done (charge ∷ []) charges))
                 (all.1 (step.1 (subst (λ head. UseUp head more tokens charges) (sym head) spent))),
           );
@@ -378,16 +380,16 @@ used_next file old mid done token sum before more used is next add one = elim ne
         let has = has_sums file old done is token before turned.there turned.line in
         let line : line_at old.at token ≡ line_of (token, before) =
         ap (λ (text : List ℕ). record { token = token; text = text }) has.shown in
-        let lines : map line_of is.told ++ line_at old.at token ∷ []
-        ≡ map line_of (is.told ++ (token, before) ∷ []) =
-        ap (λ line. map line_of is.told ++ line ∷ []) line
-        ∙ sym (map-append line_of is.told ((token, before) ∷ [])) in
+        let lines : map line_of is.reported ++ line_at old.at token ∷ []
+        ≡ map line_of (is.reported ++ (token, before) ∷ []) =
+        ap (λ line. map line_of is.reported ++ line ∷ []) line
+        ∙ sym (map-append line_of is.reported ((token, before) ∷ [])) in
         record {
           begun = is.begun;
           may = is.may;
           shown = is.shown;
-          told = is.told ++ (token, before) ∷ [];
-          fit = All-push IsTokenSum is.told (token, before) is.fit has.is;
+          reported = is.reported ++ (token, before) ∷ [];
+          fit = All-push IsTokenSum is.reported (token, before) is.fit has.is;
           going = subst (λ (done : List TokenLine). IsGoing (record {
             text = left_text is.begun;
             at = mid.at;
@@ -397,15 +399,15 @@ used_next file old mid done token sum before more used is next add one = elim ne
               let step = turns_on old.token old.rest before more tokens charge charges
               turned.other turned.none add in
               let all = is.spent ((token, before) ∷ tokens) (charge ∷ charges) in
-              let first = append_assoc is.told ((token, before) ∷ []) tokens in
+              let first = append_assoc is.reported ((token, before) ∷ []) tokens in
               let second = append_assoc done (charge ∷ []) charges in (
                 λ spent. subst (λ head. UseUp head more tokens charges) (sym turned.token_is)
                     (step.0 (all.0
                     (subst (λ tokens. UseUp None (sums []) tokens (done ++ charge ∷ charges)) first
                     (subst (λ charges. UseUp None (sums [])
-                    ((is.told ++ (token, before) ∷ []) ++ tokens) charges) second spent)))),
+                    ((is.reported ++ (token, before) ∷ []) ++ tokens) charges) second spent)))),
                 λ spent. subst (λ charges. UseUp None (sums [])
-                    ((is.told ++ (token, before) ∷ []) ++ tokens) charges) (sym second)
+                    ((is.reported ++ (token, before) ∷ []) ++ tokens) charges) (sym second)
                     (subst (λ tokens. UseUp None (sums []) tokens (done ++ charge ∷ charges))
                     (sym first) (all.1 (step.1
                     (subst (λ head. UseUp head more tokens charges) turned.token_is spent)))),
@@ -509,20 +511,20 @@ too_many file old mid done token sum before used charges is next over add =
     let parts = taps_joined sum.validator (map at_validator (done ++ charge ∷ []))
     (map at_validator charges) in
     let whole = ap (λ list. (sums_of_validator sum.validator list).taps) all in
-    let told : sums_of_validator sum.validator (map at_validator (done ++ charge ∷ charges))
+    let reported : sums_of_validator sum.validator (map at_validator (done ++ charge ∷ charges))
     ≡ sums_of_validator sum.validator add.report.validators =
     sym (or_nothing_in (map at_validator (done ++ charge ∷ charges)) sum.validator)
     ∙ ap or_nothing (add.add.validators sum.validator)
     ∙ or_nothing_in add.report.validators sum.validator in
-    let taps = ap (λ (s : Sums). s.taps) told in
+    let taps = ap (λ (s : Sums). s.taps) reported in
     let first = ap (λ (s : Sums). s.taps) front in
     let small = one_small sum.validator add.report.validators add.is_report.validators
     add.is_report.validators_rise in
     omega (arith, most, parts, whole, taps, first, small)
 
 -- ---- the end
-abbrev told_with : ToldFront → ℕ → ToldFront
-told_with front count = record {
+abbrev reported_with : ReportedFront → ℕ → ReportedFront
+reported_with front count = record {
   ends = front.ends;
   totals = front.totals;
   validators = front.validators;
@@ -536,27 +538,27 @@ used_up file left done is none end same =
     let text = going_end (part_of file left done is) is.going end in
     let front = is.begun.0 in
     let may = is.may in
-    let number : front.tokens ≡ length is.told = sym text.0.0 ∙ lines_length is.told in
-    let rises : IsStrictlySortedBy token_cmp (keys_of is.told) =
-    subst (λ keys. IsStrictlySortedBy token_cmp keys) (lines_keys is.told) text.0.2 in
-    let adds : front.totals ≡ added is.told =
-    leave_sums is.told front.totals is.fit text.0.3 in
+    let number : front.tokens ≡ length is.reported = sym text.0.0 ∙ lines_length is.reported in
+    let rises : IsStrictlySortedBy token_cmp (keys_of is.reported) =
+    subst (λ keys. IsStrictlySortedBy token_cmp keys) (lines_keys is.reported) text.0.2 in
+    let adds : front.totals ≡ added is.reported =
+    leave_sums is.reported front.totals is.fit text.0.3 in
     let report : Report = record {
       ends = front.ends;
       totals = front.totals;
       validators = front.validators;
-      tokens = is.told;
+      tokens = is.reported;
     } in
     let shown : begun_text is.begun ≡ report_text report =
-    ap (λ (count : ℕ). begun_text (told_with front count, is.begun.1)) number
-    ∙ ap (λ (text : List ℕ). begun_text (told_of report, text))
-    (text.1 ∙ lines_text is.told)
-    ∙ whole_text front.ends front.totals front.validators is.told in
-    let spent : UseUp None (sums []) is.told done =
-    subst (λ tokens. UseUp None (sums []) tokens done) (append-nil is.told)
-    (subst (λ charges. UseUp None (sums []) (is.told ++ []) charges) (append-nil done)
+    ap (λ (count : ℕ). begun_text (reported_with front count, is.begun.1)) number
+    ∙ ap (λ (text : List ℕ). begun_text (reported_of report, text))
+    (text.1 ∙ lines_text is.reported)
+    ∙ whole_text front.ends front.totals front.validators is.reported in
+    let spent : UseUp None (sums []) is.reported done =
+    subst (λ tokens. UseUp None (sums []) tokens done) (append-nil is.reported)
+    (subst (λ charges. UseUp None (sums []) (is.reported ++ []) charges) (append-nil done)
     ((is.spent [] []).1 (none, refl))) in
-    let groups = use_groups is.told done spent in
+    let groups = use_groups is.reported done spent in
     record {
       report = report;
       is_report = record {
@@ -606,7 +608,7 @@ pub validators_left : (left : ReportAt) → ¬ (AreSame left.used left.validator
 validators_left left other file done is add =
     let same = same_front file left done is add.report add.is_report add.shown in
     other (λ validator. is.used validator ∙ add.add.validators validator
-    ∙ ap (λ (told : ToldFront). sums_found told.validators validator) (sym same.0)
+    ∙ ap (λ (reported : ReportedFront). sums_found reported.validators validator) (sym same.0)
     ∙ sym (is.validators validator))
 
 pub some_left : (left : ReportAt) → is_some left.at.token ≡ true → IsNotUsedUp left

@@ -529,14 +529,14 @@ pub whole : (files report_files : List (List ℕ)) (ledgers reports : List (Opti
 whole files report_files ledgers reports ats lefts old mid new same same_reports are begun head
     merged =
     let behind = lefts_of files ledgers ats same are in
-    let (lists, joined, told, is, summed, written) =
+    let (lists, joined, reported, is, summed, written) =
     merged (map (λ left. (Entries, left)) behind.lefts) report_files behind.sources
     (unused_of report_files reports lefts same_reports begun) in (
       head_text ++ text_of joined,
       record {
         merged = record {
           parts = lists;
-          each = texts_from files behind.lefts lists behind.shown told;
+          each = texts_from files behind.lefts lists behind.shown reported;
           lines = joined;
           is = is;
           shown = refl;

@@ -26,7 +26,7 @@ use Rattle.part_reports.specs.inside.Fronts.{MayBePart, front_text}
 use Rattle.part_reports.specs.inside.Kinds.{AreTexts, IsTextOf}
 use Rattle.part_reports.specs.inside.Parts.{AreParts, BegunReport, IsNoPart, begun_text, left_text}
 use Rattle.part_reports.specs.inside.Standings.{Standing}
-use Rattle.part_reports.specs.inside.Told.{AreNumbered, IsOfText}
+use Rattle.part_reports.specs.inside.Reported.{AreNumbered, IsOfText}
 use Rattle.part_reports.specs.inside.UploadEnds.{AreEndsAdded, HaveReadEnds}
 use Rattle.part_reports.specs.inside.Whole.{validators_in}
 use Rattle.part_reports.specs.inside.WrongTexts.{IsNoTextAt, IsWrongText}
@@ -53,15 +53,16 @@ pub merged_text : (end_files report_files : List (List ℕ)) (lists : List (List
     → All (λ entry. get nat_cmp sums.validators entry.0 ≡ Some entry.1) sums.validators.entries
     → AreTexts (map left_text parts.begun) token_lists → IsMergedByToken token_lists joined
     → (text : List ℕ) × IsMerged end_files report_files text × (text ≡ front ++ text_of joined)
-merged_text end_files report_files lists ends sums standings front token_lists joined told have
+merged_text end_files report_files lists ends sums standings front token_lists joined reported have
     parts taps front_is ordered found texts is =
     let whole = merged end_files report_files lists ends sums standings front token_lists joined
-    (Some []) (Some front) (Some (front ++ text_of joined)) told have parts taps front_is ordered
+    (Some []) (Some front) (Some (front ++ text_of joined)) reported have parts taps front_is
+    ordered
     found texts is refl refl in
     (whole.text, whole.merged, sym whole.appends)
 
 -- ---- which text of ends is named
-texts_length : (first : ℕ) (lists : List (List UploadEnd))
+pub texts_length : (first : ℕ) (lists : List (List UploadEnd))
     → length (end_texts first lists) ≡ length lists
 texts_length first [] = refl
 texts_length first (ends ∷ lists) = ap suc (texts_length (first + length ends) lists)
@@ -95,8 +96,8 @@ ends_wrong remaining items readers x before after text (Line named number wrong)
         after = parts.after;
         shown = parts.is ∙ ap (λ some. some ++ parts.file ∷ parts.after) so_far.1;
         place_is = refl;
-        none = λ ends may told.
-            no_ends ends may (told ∙ ap (λ k. upload_lines k ends) (sym so_far.2.uploads));
+        none = λ ends may reported.
+            no_ends ends may (reported ∙ ap (λ k. upload_lines k ends) (sym so_far.2.uploads));
       },
     )
 ends_wrong remaining items readers x before after text (Taps reports uploads) front within here read
@@ -135,13 +136,14 @@ report_wrong remaining items readers x before sources first text NoMemory front 
     none_there text_is of files are = tt
 
 -- the report of a text behind its front
-record IsReportOf (files : List (List ℕ)) (place : ℕ) (text : LineKind × List ℕ) : Type 0 where
-  file : List ℕ
-  there : slice_get files place ≡ Some file
-  of : (report : Report) → IsPartReport report → file ≡ report_text report
+pub record IsReportOf (files : List (List ℕ)) (place : ℕ) (text : LineKind × List ℕ)
+    : Type 0 where
+  pub file : List ℕ
+  pub there : slice_get files place ≡ Some file
+  pub of : (report : Report) → IsPartReport report → file ≡ report_text report
       → IsTextOf text (map line_of report.tokens)
 
-report_of : (files : List (List ℕ)) (begun : List BegunReport) (place : ℕ)
+pub report_of : (files : List (List ℕ)) (begun : List BegunReport) (place : ℕ)
     (text : LineKind × List ℕ) → All (λ one. MayBePart one.0) begun
     → files ≡ map begun_text begun → slice_get (map left_text begun) place ≡ Some text
     → IsReportOf files place text
@@ -153,12 +155,13 @@ report_of files begun place text may shown is =
       file = begun_text one;
       there = subst (λ files. slice_get files place ≡ Some (begun_text one)) (sym shown)
           (map_at begun_text begun place one there);
-      of = λ report fits told.
+      of = λ report fits reported.
           let fit : All IsPartReport (report ∷ []) =
           All-cons IsPartReport report [] fits (All-nil IsPartReport) in
           let both = fronts_same (one ∷ []) (report ∷ [])
           (All-cons (λ (one : BegunReport). MayBePart one.0) one [] may_one
-          (All-nil (λ (one : BegunReport). MayBePart one.0))) fit (ap (λ text. text ∷ []) told) in
+          (All-nil (λ (one : BegunReport). MayBePart one.0))) fit
+          (ap (λ text. text ∷ []) reported) in
           let lefts : left_text one ∷ [] ≡ part_left report ∷ [] = both.1 in
           let left : left_text one ≡ part_left report = cc in
           subst (λ text. IsTextOf text (map line_of report.tokens)) (sym left ∙ same)
@@ -173,8 +176,8 @@ no_report_at files begun place may shown none =
     record {
       file = found.file;
       there = found.there;
-      wrong = inl (λ short report fits told.
-          none.none (map line_of report.tokens) (found.of report fits told));
+      wrong = inl (λ short report fits reported.
+          none.none (map line_of report.tokens) (found.of report fits reported));
     }
 
 shared_at : (files : List (List ℕ)) (begun : List BegunReport) (place : ℕ)
@@ -191,9 +194,9 @@ shared_at files begun place may shown twin =
         first.file,
         twin.before,
         first.there,
-        λ some more fits fits_too told told_too others.
+        λ some more fits fits_too reported reported_too others.
             twin.share (map line_of some.tokens) (map line_of more.tokens)
-            (first.of some fits told) (found.of more fits_too told_too)
+            (first.of some fits reported) (found.of more fits_too reported_too)
             (All-map (λ (a : TokenLine).
             All (λ (b : TokenLine). a.token ≢ b.token) (map line_of more.tokens)) line_of
             some.tokens

@@ -21,7 +21,7 @@ use Rattle.part_reports.proofs.ListsWritten.{Next, lines_from, lines_begin, flat
 use Rattle.part_reports.proofs.Rising.{rise_more, rise_none, rise_follow}
 use Rattle.part_reports.proofs.Unique.{validator_line_unique}
 
--- so many validators' lines were read of the text
+-- the lines of this number of validators were read of the text
 pub record Rising (count : ℕ) (sums : List (ℕ × Sums)) (text : List ℕ) (now : Option (List ℕ)) :
     Type 0 where
   pub are : AreRising count sums
@@ -44,7 +44,7 @@ rising_first sums (Some text) none = subst (λ sums. RisingSome 0 sums (Some tex
       left = refl;
     })
 
-map_more : (sums : List ValidatorSum) (sum : ValidatorSum)
+pub map_more : (sums : List ValidatorSum) (sum : ValidatorSum)
     → map validator_sum (sums ++ sum ∷ []) ≡ map validator_sum sums ++ validator_sum sum ∷ []
 map_more [] sum = refl
 map_more (first ∷ sums) sum = ap (λ more. validator_sum first ∷ more) (map_more sums sum)

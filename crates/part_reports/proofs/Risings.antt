@@ -71,7 +71,7 @@ rise_middle kind [] line lines rise = may_all kind line.token lines rise.0
 rise_middle kind (first ∷ front) line lines rise = rise_middle kind front line lines rise.1
 
 -- the same, as std says it
-strictly_from : (left : ℕ) (rest : SumsLeft) (lines : List TokenLine)
+pub strictly_from : (left : ℕ) (rest : SumsLeft) (lines : List TokenLine)
     → Rise (Tokens left rest) lines
     → IsStrictlySortedBy token_cmp (map (λ line. line.token) lines)
 unfolding IsStrictlySortedBy
@@ -129,7 +129,7 @@ falls_to (line ∷ (next ∷ lines)) sorted =
     falls_to (next ∷ lines) (rest_falls line (next ∷ lines) sorted) in
     (from_next line next lines (sorted 0 line (omega arith) (omega arith)) rise, rise)
 
--- there are so many lines, and they add up, where that is known
+-- there is this number of lines, and they add up, if that is known
 abbrev pub AreCounted : LineKind → List TokenLine → Type 0
 AreCounted (Tokens left rest) lines =
     (length lines ≡ left) × Leave HasTokenSums lines (sums_left rest) (sums [])

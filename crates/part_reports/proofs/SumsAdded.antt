@@ -21,7 +21,7 @@ use Rattle.shard_book.proofs.SumsLemmas.{add_assoc}
 use Rattle.part_reports.specs.Reports.{sums_found, sums_of_validator}
 use Rattle.part_reports.specs.declared.front.Front.{Front}
 use Rattle.part_reports.specs.declared.sums.WholeSums.{WholeSums}
-use Rattle.part_reports.specs.inside.Fronts.{IsFront, ToldFront}
+use Rattle.part_reports.specs.inside.Fronts.{IsFront, ReportedFront}
 use Rattle.part_reports.specs.inside.Sums.{AreFew, AreSumsOf, AreSmall, AreFrontsCounted, WithFront}
 use Rattle.part_reports.specs.inside.Sums.{WithOne, WithValidators, or_nothing}
 use Rattle.std.proofs.lemmas.List.Concat.{flat_map-append}
@@ -286,63 +286,66 @@ first_full before now after all i sum within is so_far one list are small =
     omega (arith, over, most, same)
 
 -- ---- what a report has before its tokens
-abbrev totals_in : List ToldFront → Sums
-totals_in fronts = add_all (map (λ told. told.totals) fronts)
+abbrev totals_in : List ReportedFront → Sums
+totals_in fronts = add_all (map (λ reported. reported.totals) fronts)
 
-abbrev validators_in : List ToldFront → List (ℕ × Sums)
-validators_in fronts = flat_map (λ told. told.validators) fronts
+abbrev validators_in : List ReportedFront → List (ℕ × Sums)
+validators_in fronts = flat_map (λ reported. reported.validators) fronts
 
-totals_more : (fronts : List ToldFront) (told : ToldFront)
-    → totals_in (fronts ++ told ∷ []) ≡ add_sums (totals_in fronts) told.totals
-totals_more fronts told =
-    ap add_all (map-append (λ (told : ToldFront). told.totals) fronts (told ∷ []))
-    ∙ add_all_more (map (λ told. told.totals) fronts) told.totals
+totals_more : (fronts : List ReportedFront) (reported : ReportedFront)
+    → totals_in (fronts ++ reported ∷ []) ≡ add_sums (totals_in fronts) reported.totals
+totals_more fronts reported =
+    ap add_all (map-append (λ (reported : ReportedFront). reported.totals) fronts (reported ∷ []))
+    ∙ add_all_more (map (λ reported. reported.totals) fronts) reported.totals
 
-validators_more : (fronts : List ToldFront) (told : ToldFront)
-    → validators_in (fronts ++ told ∷ []) ≡ validators_in fronts ++ told.validators
-validators_more fronts told =
-    flat_map-append (λ (told : ToldFront). told.validators) fronts (told ∷ [])
-    ∙ ap (λ more. validators_in fronts ++ more) (append-nil told.validators)
+validators_more : (fronts : List ReportedFront) (reported : ReportedFront)
+    → validators_in (fronts ++ reported ∷ []) ≡ validators_in fronts ++ reported.validators
+validators_more fronts reported =
+    flat_map-append (λ (reported : ReportedFront). reported.validators) fronts (reported ∷ [])
+    ∙ ap (λ more. validators_in fronts ++ more) (append-nil reported.validators)
 
-pub front_added : (before after : WholeSums) (front : Front) (fronts : List ToldFront)
-    (told : ToldFront)
+pub front_added : (before after : WholeSums) (front : Front) (fronts : List ReportedFront)
+    (reported : ReportedFront)
     → after.tokens ≡ before.tokens + front.tokens
     → sums_of after.totals ≡ add_sums (sums_of before.totals) (sums_of front.totals)
     → WithValidators before.validators after.validators front.validators.items true
-    → AreFrontsCounted before fronts → IsFront front told
-    → AreFrontsCounted after (fronts ++ told ∷ [])
-front_added before after front fronts told tokens totals validators counted is =
-    let sums = sum_by-append (λ (told : ToldFront). told.tokens) fronts (told ∷ []) in
+    → AreFrontsCounted before fronts → IsFront front reported
+    → AreFrontsCounted after (fronts ++ reported ∷ [])
+front_added before after front fronts reported tokens totals validators counted is =
+    let sums = sum_by-append (λ (reported : ReportedFront). reported.tokens) fronts
+    (reported ∷ []) in
     let old_tokens = counted.tokens in
     let more_tokens = is.tokens in
     record {
       totals = totals ∙ ap (λ s. add_sums s (sums_of front.totals)) counted.totals
-          ∙ ap (add_sums (totals_in fronts)) is.totals ∙ sym (totals_more fronts told);
+          ∙ ap (add_sums (totals_in fronts)) is.totals ∙ sym (totals_more fronts reported);
       validators = subst (λ list. AreSumsOf after.validators list)
           (ap (λ more. validators_in fronts ++ more) is.validators
-          ∙ sym (validators_more fronts told))
+          ∙ sym (validators_more fronts reported))
           (validators (validators_in fronts) counted.validators);
       tokens = omega (arith, tokens, sums, old_tokens, more_tokens);
     }
 
 pub front_full : (before after : WholeSums) (validators_now : BTreeMap ℕ Totals) (front : Front)
-    (fronts : List ToldFront) (told : ToldFront)
+    (fronts : List ReportedFront) (reported : ReportedFront)
     → WithValidators before.validators validators_now front.validators.items false
-    → AreFrontsCounted before fronts → IsFront front told → ¬ (AreFew (fronts ++ told ∷ []))
-front_full before after validators_now front fronts told full counted is few =
+    → AreFrontsCounted before fronts → IsFront front reported → ¬ (AreFew (fronts ++ reported ∷ []))
+front_full before after validators_now front fronts reported full counted is few =
     full (validators_in fronts) counted.validators
-    (subst (λ list. AreSmall list) (validators_more fronts told
+    (subst (λ list. AreSmall list) (validators_more fronts reported
     ∙ ap (λ more. validators_in fronts ++ more) (sym is.validators)) few.validators)
 
-pub totals_full : (before : WholeSums) (front : Front) (fronts : List ToldFront) (told : ToldFront)
+pub totals_full : (before : WholeSums) (front : Front) (fronts : List ReportedFront)
+    (reported : ReportedFront)
     → 2 ^ 95 < before.totals.taps + front.totals.taps
-    → AreFrontsCounted before fronts → IsFront front told → ¬ (AreFew (fronts ++ told ∷ []))
-totals_full before front fronts told over counted is few =
-    let sums : (totals_in (fronts ++ told ∷ [])).taps ≡ (totals_in fronts).taps + told.totals.taps =
-    ap (λ (s : Sums). s.taps) (totals_more fronts told) in
+    → AreFrontsCounted before fronts → IsFront front reported → ¬ (AreFew (fronts ++ reported ∷ []))
+totals_full before front fronts reported over counted is few =
+    let sums : (totals_in (fronts ++ reported ∷ [])).taps
+    ≡ (totals_in fronts).taps + reported.totals.taps =
+    ap (λ (s : Sums). s.taps) (totals_more fronts reported) in
     let old : before.totals.taps ≡ (totals_in fronts).taps =
     ap (λ (s : Sums). s.taps) counted.totals in
-    let more : front.totals.taps ≡ told.totals.taps = ap (λ (s : Sums). s.taps) is.totals in
+    let more : front.totals.taps ≡ reported.totals.taps = ap (λ (s : Sums). s.taps) is.totals in
     let most = few.totals in
     absurd (omega (arith, over, sums, old, more, most))
 
@@ -352,11 +355,13 @@ pub with_front : (before after : WholeSums) (front : Front) (items : List Valida
     → sums_of after.totals ≡ add_sums (sums_of before.totals) (sums_of front.totals)
     → (well : Bool) → WithValidators before.validators after.validators items well
     → WithFront before after front well
-with_front before after front items same tokens totals true validators = λ fronts told counted is.
-    front_added before after front fronts told tokens totals
+with_front before after front items same tokens totals true validators =
+    λ fronts reported counted is.
+    front_added before after front fronts reported tokens totals
     (subst (λ items. WithValidators before.validators after.validators items true) same validators)
     counted is
-with_front before after front items same tokens totals false validators = λ fronts told counted is.
-    front_full before after after.validators front fronts told
+with_front before after front items same tokens totals false validators =
+    λ fronts reported counted is.
+    front_full before after after.validators front fronts reported
     (subst (λ items. WithValidators before.validators after.validators items false) same validators)
     counted is

@@ -18,7 +18,7 @@ use Rattle.part_reports.specs.inside.UploadEnds.{HaveReadEnds, AreEndsAdded, Hav
 use Rattle.part_reports.proofs.EndsRead.{some_line}
 use Rattle.part_reports.proofs.Unique.{end_line_unique}
 use Rattle.report_texts.specs.Report.{upload_line, upload_lines}
-use Rattle.report_texts.specs.UploadEnds.{is_posted, taps_told}
+use Rattle.report_texts.specs.UploadEnds.{is_posted, taps_of_end}
 use Rattle.report_texts.specs.declared.upload_end.UploadEnd.{UploadEnd}
 use Rattle.tap_views.proofs.Lists.{All-front, All-back}
 
@@ -173,7 +173,7 @@ have_more : (before after : UploadEnds) (list more : List UploadEnd) → HaveRea
     → HaveMoreEnds before after more
     → HaveReadEnds after (list ++ more)
 have_more before after list more have is =
-    let sums = sum_by-append taps_told list more in
+    let sums = sum_by-append taps_of_end list more in
     let taps = have.taps in
     let more_taps = is.taps in
     let at : before.uploads ≡ 0 + length list = omega (arith, have.uploads) in
@@ -196,7 +196,7 @@ have_more before after list more have is =
       each = All-append IsUploadEnd list more have.each is.each;
     }
 
--- the texts of these readers tell ends, which were added up
+-- the texts of these readers contain ends, which were added up
 abbrev pub AreRead : {R : Type 0} → (R → Option (List ℕ)) → List R → UploadEnds → Type 0
 AreRead remaining readers ends = (files : List (List ℕ)) → AreLeft remaining readers files
     → (lists : List (List UploadEnd)) × (files ≡ end_texts 0 lists)
@@ -233,7 +233,7 @@ read_next remaining readers x before after read added files are =
           (have_more before after (all_ends so_far.0) here.0 so_far.2 here.1),
     )
 
--- a text that tells no ends
+-- a text that contains no ends
 pub read_refused : {R : Type 0} (remaining : R → Option (List ℕ)) (items readers : List R) (x : R)
     (before after : UploadEnds) (fault : MergeFault)
     → readers ≡ take (length readers) items → length readers < length items
@@ -243,7 +243,7 @@ pub read_refused : {R : Type 0} (remaining : R → Option (List ℕ)) (items rea
     → (files : List (List ℕ)) → AreLeft remaining items files → (lists : List (List UploadEnd))
     → All IsUploadEnd (all_ends lists) → ¬ (files ≡ end_texts 0 lists)
 read_refused remaining items readers x before after fault front within here read added of_texts
-    files are lists may told =
+    files are lists may reported =
     let all = behind_front items readers x front within here in
     let parts = split remaining readers x (drop (suc (length readers)) items) files
     (subst (λ items. AreLeft remaining items files) all are) in
@@ -252,6 +252,6 @@ read_refused remaining items readers x before after fault front within here read
     of_texts
     in
     let next = texts_at 0 so_far.0 lists parts.file parts.after so_far.2.each may
-    (ap (λ some. some ++ parts.file ∷ parts.after) (sym so_far.1) ∙ sym parts.is ∙ told) in
+    (ap (λ some. some ++ parts.file ∷ parts.after) (sym so_far.1) ∙ sym parts.is ∙ reported) in
     let at : 0 + length (all_ends so_far.0) ≡ before.uploads = omega (arith, so_far.2.uploads) in
     no_ends next.0 next.1 (next.2 ∙ ap (λ k. upload_lines k next.0) at)

@@ -5,7 +5,7 @@ use Rattle.std.specs.Prelude.{slice_get}
 use Rattle.std.specs.List.{AllByRecursion}
 use Rattle.tap_views.specs.declared.token.Token.{Token}
 use Rattle.part_reports.specs.Faults.{IsOfTaps, IsOfTexts}
-use Rattle.part_reports.specs.inside.Told.{NamesOnly}
+use Rattle.part_reports.specs.inside.Reported.{NamesOnly}
 use Rattle.part_reports.specs.TokenLines.{HaveOtherTokens, TokenLine}
 use Rattle.part_reports.specs.inside.Going.{IsGoing, Part}
 use Rattle.part_reports.specs.inside.Kinds.{IsTextOf}

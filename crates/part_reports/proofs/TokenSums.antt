@@ -1,4 +1,4 @@
--- The lines of a report's tokens, and the sums that they tell.
+-- The lines of a report's tokens, and the sums that they contain.
 use Rattle.std.proofs.Common.{◌≡◌, List, [], ◌∷◌, ◌++◌, length, refl, ap, ◌∙◌, arith}
 use Rattle.std.specs.Prelude.{All, flat_map, map}
 use Rattle.std.specs.Map.{keys_of}
@@ -37,17 +37,17 @@ lines_are (sum ∷ sums) all = All-cons IsSumLine (line_of sum) (map line_of sum
     (record { sums = sum.1; is = All-head IsTokenSum sum sums all; shown = refl })
     (lines_are sums (All-tail IsTokenSum sum sums all))
 
--- the sums that lines tell
-pub record Told (lines : List TokenLine) : Type 0 where
+-- the sums that lines contain
+pub record Reported (lines : List TokenLine) : Type 0 where
   pub sums : List Sum
   pub fit : All IsTokenSum sums
   pub is : lines ≡ map line_of sums
 
-pub told : (lines : List TokenLine) → All IsSumLine lines → Told lines
-told [] all = record { sums = []; fit = All-nil IsTokenSum; is = refl }
-told (line ∷ lines) all =
+pub reported : (lines : List TokenLine) → All IsSumLine lines → Reported lines
+reported [] all = record { sums = []; fit = All-nil IsTokenSum; is = refl }
+reported (line ∷ lines) all =
     let first = All-head IsSumLine line lines all in
-    let rest = told lines (All-tail IsSumLine line lines all) in
+    let rest = reported lines (All-tail IsSumLine line lines all) in
     let same : line ≡ line_of (line.token, first.sums) =
     λ i. record { token = line.token; text = first.shown i } in
     record {
@@ -57,7 +57,7 @@ told (line ∷ lines) all =
           rest.is;
     }
 
--- lines tell their sums
+-- lines contain their sums
 pub sums_same : (some more : List Sum) → All IsTokenSum some → All IsTokenSum more
     → map line_of some ≡ map line_of more → some ≡ more
 sums_same [] [] fit fit_too same = refl

@@ -1,4 +1,4 @@
--- What a whole text tells is determined by the text.
+-- What a whole text contains is determined by the text.
 use Rattle.std.proofs.Common.{◌≡◌, ◌∙◌, ℕ, ◌+◌, List, [], ◌∷◌, ◌++◌, length, length-append}
 use Rattle.std.proofs.Common.{append_assoc, append-nil, refl, sym, ap, arith}
 use Rattle.std.specs.Prelude.{codes, flat_map}
@@ -107,8 +107,8 @@ report_unique a b fits fits_too is =
     same_report a b ends totals validators tokens
 
 -- a part's report has numbers that a report of one run can have
-pub told : (report : Report) → IsPartReport report → HasTapNumbers report
-told report part = record {
+pub reported : (report : Report) → IsPartReport report → HasTapNumbers report
+reported report part = record {
   number = part.number;
   ends = part.ends;
   totals = part.totals;
@@ -120,7 +120,7 @@ told report part = record {
 
 pub part_unique : (a b : Report) → IsPartReport a → IsPartReport b
     → report_text a ≡ report_text b → a ≡ b
-part_unique a b part part_too is = report_unique a b (told a part) (told b part_too) is
+part_unique a b part part_too is = report_unique a b (reported a part) (reported b part_too) is
 
 -- ---- ledgers
 some_bytes : (line : TokenLine) (x : List ℕ) → IsLedgerEntryLine line → ¬ ([] ≡ line.text ++ x)

@@ -7,7 +7,8 @@ use Rattle.shard_book.specs.Sums.{Sums}
 use Rattle.tap_views.specs.declared.token.Token.{Token}
 use Rattle.fare_texts.specs.ReportLines.{token_line, number_line, validator_line}
 use Rattle.part_reports.specs.inside.Fronts.{front_text, AreEnds, AreValidators, MayBeSections}
-use Rattle.part_reports.specs.inside.Fronts.{ToldFront, ends_text, told_text, validators_text}
+use Rattle.part_reports.specs.inside.Fronts.{ReportedFront, ends_text, reported_text}
+use Rattle.part_reports.specs.inside.Fronts.{validators_text}
 use Rattle.report_texts.specs.Report.{report, upload_line, upload_lines}
 use Rattle.report_texts.specs.declared.upload_end.UploadEnd.{UploadEnd}
 use Rattle.part_reports.specs.declared.fault.MergeFault.{MergeFault}
@@ -54,19 +55,20 @@ parts h e t v f k rest = simp append_assoc
 abbrev pub tokens_text : ℕ → List ℕ
 tokens_text number = number_line (codes "tokens ") number
 
-abbrev pub behind_ends : ToldFront → List ℕ → List ℕ
-behind_ends told rest = totals_line told.totals
-    ++ (validators_text told.validators ++ (tokens_text told.tokens ++ rest))
+abbrev pub behind_ends : ReportedFront → List ℕ → List ℕ
+behind_ends reported rest = totals_line reported.totals
+    ++ (validators_text reported.validators ++ (tokens_text reported.tokens ++ rest))
 
-abbrev pub behind_totals : ToldFront → List ℕ → List ℕ
-behind_totals told rest = validators_text told.validators ++ (tokens_text told.tokens ++ rest)
+abbrev pub behind_totals : ReportedFront → List ℕ → List ℕ
+behind_totals reported rest =
+    validators_text reported.validators ++ (tokens_text reported.tokens ++ rest)
 
-pub told_parts : (told : ToldFront) (rest : List ℕ)
-    → told_text told ++ rest ≡ ends_text told.ends ++ behind_ends told rest
-told_parts told rest = parts (number_line (codes "uploads ") (length told.ends))
-    (upload_lines 0 told.ends) (totals_line told.totals)
-    (number_line (codes "validators ") (length told.validators))
-    (flat_map validator_line told.validators) (tokens_text told.tokens) rest
+pub reported_parts : (reported : ReportedFront) (rest : List ℕ)
+    → reported_text reported ++ rest ≡ ends_text reported.ends ++ behind_ends reported rest
+reported_parts reported rest = parts (number_line (codes "uploads ") (length reported.ends))
+    (upload_lines 0 reported.ends) (totals_line reported.totals)
+    (number_line (codes "validators ") (length reported.validators))
+    (flat_map validator_line reported.validators) (tokens_text reported.tokens) rest
 
 -- a report's text is the text before its tokens' lines, and these lines
 pub whole_text : (ends : List UploadEnd) (totals : Sums) (validators : List (ℕ × Sums))
@@ -102,82 +104,91 @@ EndsRead text now result = IsRead {T = Unit {0}} (λ _ _. Unit {0}) AreEnds ends
 
 abbrev NumberRead : Option (List ℕ) → Option (List ℕ) → Result ℕ MergeFault → Type 0
 NumberRead text now result = IsRead {T = ℕ} {V =
-    ℕ} (λ told number. told ≡ number) (λ number. number < 2 ^ 64) (number_line (codes "tokens "))
+    ℕ} (λ reported number. reported ≡ number) (λ number. number < 2 ^ 64)
+    (number_line (codes "tokens "))
     text
     now result
 
-pub no_ends : {T : Type 0} (Is : T → ToldFront → Type 0) (text now after : Option (List ℕ))
+pub no_ends : {T : Type 0} (Is : T → ReportedFront → Type 0) (text now after : Option (List ℕ))
     (fault : MergeFault)
-    → EndsRead text now (Err fault) → IsRead Is MayBeSections told_text text after (Err fault)
+    → EndsRead text now (Err fault) → IsRead Is MayBeSections reported_text text after (Err fault)
 no_ends Is None now after fault ends = tt
-no_ends Is (Some text) now after fault ends = λ of_texts told rest may shown.
-    ends of_texts told.ends (behind_ends told rest) may.ends (shown ∙ told_parts told rest)
+no_ends Is (Some text) now after fault ends = λ of_texts reported rest may shown.
+    ends of_texts reported.ends (behind_ends reported rest) may.ends
+    (shown ∙ reported_parts reported rest)
 
-pub no_totals : {T A : Type 0} (Is : T → ToldFront → Type 0) (IsA : A → Sums → Type 0)
+pub no_totals : {T A : Type 0} (Is : T → ReportedFront → Type 0) (IsA : A → Sums → Type 0)
     (text now then_now after : Option (List ℕ)) (fault : MergeFault)
     → EndsRead text now (Ok tt) → IsRead IsA AreCounts totals_line now then_now (Err fault)
-    → IsRead Is MayBeSections told_text text after (Err fault)
+    → IsRead Is MayBeSections reported_text text after (Err fault)
 no_totals Is IsA None now then_now after fault ends totals = tt
-no_totals Is IsA (Some text) now then_now after fault ends totals = λ of_texts told rest may shown.
-    absent IsA AreCounts totals_line now then_now fault told.totals (behind_totals told rest) totals
+no_totals Is IsA (Some text) now then_now after fault ends totals =
+    λ of_texts reported rest may shown.
+    absent IsA AreCounts totals_line now then_now fault reported.totals
+    (behind_totals reported rest) totals
     of_texts may.totals
-    (behind ends_unique text now told.ends (behind_ends told rest) ends may.ends (shown
-    ∙ told_parts told rest))
+    (behind ends_unique text now reported.ends (behind_ends reported rest) ends may.ends (shown
+    ∙ reported_parts reported rest))
 
 -- the text behind the ends and the totals
 behind_two : {A : Type 0} (IsA : A → Sums → Type 0) (a : A) (text : List ℕ)
-    (now then_now : Option (List ℕ)) (told : ToldFront) (rest : List ℕ)
+    (now then_now : Option (List ℕ)) (reported : ReportedFront) (rest : List ℕ)
     → EndsRead (Some text) now (Ok tt) → IsRead IsA AreCounts totals_line now then_now (Ok a)
-    → MayBeSections told → text ≡ told_text told ++ rest
-    → then_now ≡ Some (behind_totals told rest)
-behind_two IsA a text now then_now told rest ends totals may shown =
-    let at = behind ends_unique text now told.ends (behind_ends told rest) ends may.ends (shown
-    ∙ told_parts told rest) in
-    behind totals_line_unique (behind_ends told rest) then_now told.totals (behind_totals told rest)
+    → MayBeSections reported → text ≡ reported_text reported ++ rest
+    → then_now ≡ Some (behind_totals reported rest)
+behind_two IsA a text now then_now reported rest ends totals may shown =
+    let at = behind ends_unique text now reported.ends (behind_ends reported rest) ends may.ends
+    (shown
+    ∙ reported_parts reported rest) in
+    behind totals_line_unique (behind_ends reported rest) then_now reported.totals
+    (behind_totals reported rest)
     (subst (λ now. IsRead IsA AreCounts totals_line now then_now (Ok a)) at totals) may.totals refl
 
-pub no_validators : {T A B : Type 0} (Is : T → ToldFront → Type 0) (IsA : A → Sums → Type 0)
+pub no_validators : {T A B : Type 0} (Is : T → ReportedFront → Type 0) (IsA : A → Sums → Type 0)
     (IsB : B
     → List (ℕ × Sums) → Type 0) (a : A)
     (text now then_now later after : Option (List ℕ)) (fault : MergeFault)
     → EndsRead text now (Ok tt) → IsRead IsA AreCounts totals_line now then_now (Ok a)
     → IsRead IsB AreValidators validators_text then_now later (Err fault)
-    → IsRead Is MayBeSections told_text text after (Err fault)
+    → IsRead Is MayBeSections reported_text text after (Err fault)
 no_validators Is IsA IsB a None now then_now later after fault ends totals validators = tt
 no_validators Is IsA IsB a (Some text) now then_now later after fault ends totals validators =
-    λ of_texts told rest may shown.
-    absent IsB AreValidators validators_text then_now later fault told.validators
-    (tokens_text told.tokens ++ rest) validators of_texts may.validators
-    (behind_two IsA a text now then_now told rest ends totals may shown)
+    λ of_texts reported rest may shown.
+    absent IsB AreValidators validators_text then_now later fault reported.validators
+    (tokens_text reported.tokens ++ rest) validators of_texts may.validators
+    (behind_two IsA a text now then_now reported rest ends totals may shown)
 
-pub no_tokens : {T A B : Type 0} (Is : T → ToldFront → Type 0) (IsA : A → Sums → Type 0) (IsB : B
+pub no_tokens : {T A B : Type 0} (Is : T → ReportedFront → Type 0) (IsA : A → Sums → Type 0)
+    (IsB : B
     → List (ℕ × Sums) → Type 0) (a : A) (b : B)
     (text now then_now later last after : Option (List ℕ)) (fault : MergeFault)
     → EndsRead text now (Ok tt) → IsRead IsA AreCounts totals_line now then_now (Ok a)
     → IsRead IsB AreValidators validators_text then_now later (Ok b)
     → NumberRead later last (Err fault)
-    → IsRead Is MayBeSections told_text text after (Err fault)
+    → IsRead Is MayBeSections reported_text text after (Err fault)
 no_tokens Is IsA IsB a b None now then_now later last after fault ends totals validators tokens = tt
 no_tokens Is IsA IsB a b (Some text) now then_now later last after fault ends totals validators
-    tokens = λ of_texts told rest may shown.
-    let at = behind_two IsA a text now then_now told rest ends totals may shown in
-    absent {T = ℕ} {V = ℕ} (λ told number. told ≡ number) (λ number. number < 2 ^ 64)
-    (number_line (codes "tokens ")) later last fault told.tokens rest tokens of_texts may.tokens
-    (behind validators_unique (behind_totals told rest) later told.validators
-    (tokens_text told.tokens ++ rest)
+    tokens = λ of_texts reported rest may shown.
+    let at = behind_two IsA a text now then_now reported rest ends totals may shown in
+    absent {T = ℕ} {V = ℕ} (λ reported number. reported ≡ number) (λ number. number < 2 ^ 64)
+    (number_line (codes "tokens ")) later last fault reported.tokens rest tokens of_texts may.tokens
+    (behind validators_unique (behind_totals reported rest) later reported.validators
+    (tokens_text reported.tokens ++ rest)
     (subst (λ now. IsRead IsB AreValidators validators_text now later (Ok b)) at validators)
     may.validators refl)
 
 -- all parts were read
-pub whole_front : {T A B : Type 0} (Is : T → ToldFront → Type 0) (IsA : A → Sums → Type 0) (IsB : B
+pub whole_front : {T A B : Type 0} (Is : T → ReportedFront → Type 0) (IsA : A → Sums → Type 0)
+    (IsB : B
     → List (ℕ × Sums) → Type 0) (a : A) (b : B) (number : ℕ) (x : T)
     (text now then_now later last : Option (List ℕ))
     → EndsRead text now (Ok tt) → IsRead IsA AreCounts totals_line now then_now (Ok a)
     → IsRead IsB AreValidators validators_text then_now later (Ok b)
     → NumberRead later last (Ok number)
-    → ((told : ToldFront) → IsA a told.totals → IsB b told.validators → number ≡ told.tokens
-    → Is x told)
-    → IsRead Is MayBeSections told_text text last (Ok x)
+    → ((reported : ReportedFront) → IsA a reported.totals → IsB b reported.validators
+    → number ≡ reported.tokens
+    → Is x reported)
+    → IsRead Is MayBeSections reported_text text last (Ok x)
 whole_front Is IsA IsB a b number x None now then_now later last ends totals validators tokens is =
     tt
 whole_front Is IsA IsB a b number x (Some text) now then_now later last ends totals validators
@@ -187,7 +198,7 @@ whole_front Is IsA IsB a b number x (Some text) now then_now later last ends tot
     let third = subst (λ now. IsRead IsB AreValidators validators_text now later (Ok b)) second.left
     validators in
     let fourth = subst (λ now. NumberRead now last (Ok number)) third.left tokens in
-    let told : ToldFront = record {
+    let reported : ReportedFront = record {
       ends = ends.value;
       totals = second.value;
       validators =
@@ -195,8 +206,8 @@ whole_front Is IsA IsB a b number x (Some text) now then_now later last ends tot
       tokens = fourth.value;
     } in
     record {
-      value = told;
-      is = is told second.is third.is fourth.is;
+      value = reported;
+      is = is reported second.is third.is fourth.is;
       may = record {
         ends = ends.may;
         totals = second.may;
@@ -208,6 +219,6 @@ whole_front Is IsA IsB a b number x (Some text) now then_now later last ends tot
       shown = ends.shown ∙ ap (λ text. ends_text ends.value ++ text) (second.shown
           ∙ ap (λ text. totals_line second.value ++ text)
           (third.shown ∙ ap (λ text. validators_text third.value ++ text) fourth.shown))
-          ∙ sym (told_parts told fourth.rest);
+          ∙ sym (reported_parts reported fourth.rest);
       left = fourth.left;
     }

@@ -26,7 +26,7 @@ use Rattle.report_texts.specs.Numbers.{IsTokenSum}
 use Rattle.part_reports.specs.Reports.{IsMerged, IsPartReport, Report, added, end_texts}
 use Rattle.part_reports.specs.Reports.{all_ends, report_text, sums_of_validator, tokens_of_reports}
 use Rattle.part_reports.specs.Reports.{validators_of_reports}
-use Rattle.part_reports.specs.inside.Fronts.{front_text, MayBePart, ToldFront}
+use Rattle.part_reports.specs.inside.Fronts.{front_text, MayBePart, ReportedFront}
 use Rattle.part_reports.specs.TokenLines.{IsMergedByToken, TokenLine, lines_of_token, text_of}
 use Rattle.part_reports.specs.declared.sums.WholeSums.{WholeSums}
 use Rattle.part_reports.specs.declared.upload_ends.UploadEnds.{UploadEnds}
@@ -38,12 +38,12 @@ use Rattle.part_reports.specs.inside.Sums.{AreSumsOf}
 use Rattle.part_reports.specs.inside.Whole.{validators_in}
 use Rattle.part_reports.proofs.WholeFronts.{whole_text}
 use Rattle.part_reports.proofs.Added.{leave_sums}
-use Rattle.part_reports.proofs.FewParts.{told_of}
+use Rattle.part_reports.proofs.FewParts.{reported_of}
 use Rattle.part_reports.proofs.JoinedTokens.{StandOnce, joined_each, once_all, strictly_rise}
 use Rattle.part_reports.proofs.SumsAdded.{taps_nothing}
 use Rattle.part_reports.proofs.PermutedTokens.{of_token, permuted}
 use Rattle.part_reports.proofs.TokenSums.{Sum, line_of, lines_keys, lines_length, lines_text}
-use Rattle.part_reports.proofs.TokenSums.{sums_same, told}
+use Rattle.part_reports.proofs.TokenSums.{sums_same, reported}
 use Rattle.report_texts.specs.UploadEnds.{is_posted}
 use Rattle.report_texts.specs.declared.upload_end.UploadEnd.{UploadEnd}
 
@@ -53,7 +53,7 @@ pub record PartsOf (begun : List BegunReport) (lists : List (List TokenLine)) : 
   pub parts : List Report
   pub shown : map begun_text begun ≡ map report_text parts
   pub fit : All IsPartReport parts
-  pub fronts : map (λ one. one.0) begun ≡ map told_of parts
+  pub fronts : map (λ one. one.0) begun ≡ map reported_of parts
   pub sums : List Sum
   pub sums_are : sums ≡ tokens_of_reports parts
   pub lines : flat_map (λ list. list) lists ≡ map line_of sums
@@ -85,7 +85,7 @@ parts_of (one ∷ begun) (list ∷ lists) may are =
     are.1 in
     let front = one.0 in
     let fits = All-head (λ (one : BegunReport). MayBePart one.0) one begun may in
-    let of_list = told list are.0.0.1 in
+    let of_list = reported list are.0.0.1 in
     let part : Report = record {
       ends = front.ends;
       totals = front.totals;
@@ -108,7 +108,7 @@ parts_of (one ∷ begun) (list ∷ lists) may are =
     ap (λ n. front_text front.ends front.totals front.validators n ++ one.1) number
     ∙ ap (λ text. front_text front.ends front.totals front.validators (length of_list.sums) ++ text)
     text ∙ whole_text front.ends front.totals front.validators of_list.sums in
-    let same_front : front ≡ told_of part = λ i. record {
+    let same_front : front ≡ reported_of part = λ i. record {
       ends = front.ends;
       totals =
           front.totals;
@@ -134,7 +134,7 @@ parts_of (one ∷ begun) (list ∷ lists) may are =
         tokens_add = adds;
       }) rest.fit;
       fronts = ap (λ front. front ∷ map (λ (one : BegunReport). one.0) begun) same_front
-          ∙ ap (λ more. told_of part ∷ more) rest.fronts;
+          ∙ ap (λ more. reported_of part ∷ more) rest.fronts;
       sums = of_list.sums ++ rest.sums;
       sums_are = ap (λ more. of_list.sums ++ more) rest.sums_are;
       lines = ap (λ some. some ++ flat_map (λ (list : List TokenLine). list) lists) of_list.is
@@ -175,7 +175,7 @@ pub whole_tokens : (lists : List (List TokenLine)) (joined : List TokenLine) (al
     → flat_map (λ list. list) lists ≡ map line_of all → All IsTokenSum all → WholeTokens all joined
 whole_tokens lists joined all is rise each lines fit =
     let every = joined_each IsSumLine (flat_map (λ list. list) lists) joined is.same each in
-    let of_joined = told joined every in
+    let of_joined = reported joined every in
     let once : StandOnce joined = λ token. subst (λ some. length some ≤ 1) (sym (is.same token))
     (once_all lists rise is.apart token) in
     let same : (token : Token) → of_token token all ≡ of_token token of_joined.sums = λ token.
@@ -246,24 +246,26 @@ validators_sums validators list are found =
 
 -- ---- the whole
 pub fronts_totals : (parts : List Report)
-    → map (λ (told : ToldFront). told.totals) (map told_of parts)
+    → map (λ (reported : ReportedFront). reported.totals) (map reported_of parts)
     ≡ map (λ part. part.totals) parts
 fronts_totals [] = refl
 fronts_totals (part ∷ parts) = ap (λ more. part.totals ∷ more) (fronts_totals parts)
 
-fronts_validators : (parts : List Report) → flat_map (λ (told : ToldFront). told.validators)
-    (map told_of parts) ≡ validators_of_reports parts
+fronts_validators : (parts : List Report)
+    → flat_map (λ (reported : ReportedFront). reported.validators)
+    (map reported_of parts) ≡ validators_of_reports parts
 fronts_validators [] = refl
 fronts_validators (part ∷ parts) = ap (λ more. part.validators ++ more) (fronts_validators parts)
 
 fronts_tokens : (parts : List Report)
-    → sum_by (λ (told : ToldFront). told.tokens) (map told_of parts)
+    → sum_by (λ (reported : ReportedFront). reported.tokens) (map reported_of parts)
     ≡ length (tokens_of_reports parts)
 fronts_tokens [] = refl
 fronts_tokens (part ∷ parts) =
     let rest = fronts_tokens parts in
-    let first = sum_by-append (λ (told : ToldFront). told.tokens) (told_of part ∷ [])
-    (map told_of parts)
+    let first = sum_by-append (λ (reported : ReportedFront). reported.tokens)
+    (reported_of part ∷ [])
+    (map reported_of parts)
     in
     let size = length-append part.tokens (tokens_of_reports parts) in
     omega (arith, rest, first, size)
@@ -299,20 +301,22 @@ pub merged : (end_files report_files : List (List ℕ)) (lists : List (List Uplo
     → Appends old mid front → Appends mid new (text_of joined)
     → Written end_files report_files (IsTrue ends.are_posted) old new
 merged end_files report_files lists ends sums standings front token_lists joined old mid new
-    ends_told have parts taps front_is ordered found texts is first second =
+    ends_reported have parts taps front_is ordered found texts is first second =
     let of_parts = parts_of parts.begun token_lists parts.may texts in
     let tokens = whole_tokens token_lists joined of_parts.sums is of_parts.rise of_parts.each
     of_parts.lines of_parts.sums_fit in
     let reports = of_parts.parts in
     let validators : AreSumsOf sums.validators (validators_of_reports reports) =
     subst (λ list. AreSumsOf sums.validators list)
-    (ap (flat_map (λ (told : ToldFront). told.validators)) of_parts.fronts
+    (ap (flat_map (λ (reported : ReportedFront). reported.validators)) of_parts.fronts
     ∙ fronts_validators reports) parts.counted.validators in
     let totals : sums_of sums.totals ≡ add_all (map (λ (part : Report). part.totals) reports) =
-    parts.counted.totals ∙ ap (λ fronts. add_all (map (λ (told : ToldFront). told.totals) fronts))
+    parts.counted.totals
+    ∙ ap (λ fronts. add_all (map (λ (reported : ReportedFront). reported.totals) fronts))
     of_parts.fronts ∙ ap add_all (fronts_totals reports) in
     let number : sums.tokens ≡ length tokens.sums =
-    parts.counted.tokens ∙ ap (sum_by (λ (told : ToldFront). told.tokens)) of_parts.fronts
+    parts.counted.tokens
+    ∙ ap (sum_by (λ (reported : ReportedFront). reported.tokens)) of_parts.fronts
     ∙ fronts_tokens reports ∙ ap length (sym of_parts.sums_are)
     ∙ sym (length_permutation of_parts.sums tokens.sums tokens.moved) in
     let whole : Report = record {
@@ -329,10 +333,10 @@ merged end_files report_files lists ends sums standings front token_lists joined
       merged = record {
         ends = lists;
         parts = reports;
-        told = record {
-          ends_told = ends_told;
+        reported = record {
+          ends_reported = ends_reported;
           ends_fit = have.each;
-          parts_told = parts.shown ∙ of_parts.shown;
+          parts_reported = parts.shown ∙ of_parts.shown;
           parts_fit = of_parts.fit;
           taps = sym taps_of ∙ taps ∙ have.taps;
         };

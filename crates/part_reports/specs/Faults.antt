@@ -28,12 +28,12 @@ text_named (Unread text) = Some text
 text_named Write = None
 text_named NoMemory = None
 
--- the number of the text at the place of a list, if the first one has this number: as far as 64 bits
--- go
+-- the number of the text at the place of a list, if the first one has this number: as far as 64
+-- bits go
 abbrev pub number_from : ℕ → ℕ → ℕ
 number_from first place = min (first + place) (2 ^ 64 - 1)
 
--- it names no other text than one of so many, of which the first one has this number
+-- it names no other text than one of a number of texts, of which the first one has this number
 abbrev pub NamesAmong : ℕ → ℕ → MergeFault → Type 0
 NamesAmong first count fault = IfSome (text_named fault)
     (λ text. (place : ℕ) × (place < count) × (text ≡ number_from first place))

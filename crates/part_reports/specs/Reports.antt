@@ -1,5 +1,6 @@
 -- Reports of parts, and the report of the whole that they are merged into.
-use Rattle.std.specs.Prelude.{◌≡◌, ◌≢◌, ℕ, ◌+◌, ◌<◌, ◌≤◌, ◌⊎◌, ◌^◌, List, [], ◌∷◌, ◌++◌, All, IsTrue}
+use Rattle.std.specs.Prelude.{◌≡◌, ◌≢◌, ℕ, ◌+◌, ◌<◌, ◌≤◌, ◌⊎◌, ◌^◌, List, [], ◌∷◌, ◌++◌, All}
+use Rattle.std.specs.Prelude.{IsTrue}
 use Rattle.std.specs.Prelude.{◌==◌, filter, slice_get}
 use Rattle.std.specs.Prelude.{length, map, flat_map, sum_by, Option, Some, None, if◌then◌else◌}
 use Rattle.std.specs.List.Sorted.{IsPermutation, IsStrictlySortedBy}
@@ -11,14 +12,14 @@ use Rattle.tap_views.specs.Token.{token_cmp}
 use Rattle.tap_views.specs.declared.token.Token.{Token}
 use Rattle.report_texts.specs.Numbers.{IsUploadEnd, AreCounts, IsValidatorSum, IsTokenSum}
 use Rattle.report_texts.specs.Report.{report, upload_lines}
-use Rattle.report_texts.specs.UploadEnds.{is_posted, taps_told}
+use Rattle.report_texts.specs.UploadEnds.{is_posted, taps_of_end}
 use Rattle.report_texts.specs.declared.upload_end.UploadEnd.{UploadEnd}
 use Rattle.part_reports.specs.Faults.{number_from}
 use Rattle.part_reports.specs.declared.fault.MergeFault.{MergeFault}
 use Rattle.part_reports.specs.declared.fault.MergeFault.TheVariants.{Line, Taps, Unread, Write}
 use Rattle.part_reports.specs.declared.fault.MergeFault.TheVariants.{NoMemory}
 
--- what a report tells: how each upload ended, the totals, and the sums of each validator and of
+-- what a report contains: how each upload ended, the totals, and the sums of each validator and of
 -- each token
 pub record Report : Type 0 where
   pub ends : List UploadEnd
@@ -28,7 +29,7 @@ pub record Report : Type 0 where
 
 -- the report's text
 abbrev pub report_text : Report → List ℕ
-report_text told = report told.ends told.totals told.validators told.tokens
+report_text reported = report reported.ends reported.totals reported.validators reported.tokens
 
 -- the numbers of the report's lines can be those of taps, with any ends, and in any order
 pub record HasTapNumbers (report : Report) : Type 0 where
@@ -70,23 +71,23 @@ end_texts first (ends ∷ more) = upload_lines first ends ∷ end_texts (first +
 abbrev pub all_ends : List (List UploadEnd) → List UploadEnd
 all_ends ends = flat_map (λ some. some) ends
 
--- The texts tell how the uploads ended, and they tell reports of parts. The reports have as many
--- taps as the uploads.
-pub record AreTold (end_files report_files : List (List ℕ)) (ends : List (List UploadEnd))
+-- The texts contain how the uploads ended, and they contain reports of parts. The reports have as
+-- many taps as the uploads.
+pub record AreReported (end_files report_files : List (List ℕ)) (ends : List (List UploadEnd))
     (parts : List Report) : Type 0 where
-  pub ends_told : end_files ≡ end_texts 0 ends
+  pub ends_reported : end_files ≡ end_texts 0 ends
   pub ends_fit : All IsUploadEnd (all_ends ends)
-  pub parts_told : report_files ≡ map report_text parts
+  pub parts_reported : report_files ≡ map report_text parts
   pub parts_fit : All IsPartReport parts
-  pub taps : sum_by (λ part. part.totals.taps) parts ≡ sum_by taps_told (all_ends ends)
+  pub taps : sum_by (λ part. part.totals.taps) parts ≡ sum_by taps_of_end (all_ends ends)
 
--- So many taps the reports have, and so many the uploads: whatever reports of parts, and whatever
--- ends of uploads, these texts are.
+-- The reports have this number of taps, and the uploads that number: whatever reports of parts, and
+-- whatever ends of uploads, these texts are.
 pub record HaveTaps (end_files report_files : List (List ℕ)) (reports uploads : ℕ) : Type 0 where
   pub of_reports : (parts : List Report) → All IsPartReport parts
       → report_files ≡ map report_text parts → reports ≡ sum_by (λ part. part.totals.taps) parts
   pub of_uploads : (ends : List (List UploadEnd)) → All IsUploadEnd (all_ends ends)
-      → end_files ≡ end_texts 0 ends → uploads ≡ sum_by taps_told (all_ends ends)
+      → end_files ≡ end_texts 0 ends → uploads ≡ sum_by taps_of_end (all_ends ends)
 
 -- the validators of all parts with their sums, part by part
 abbrev pub validators_of_reports : List Report → List (ℕ × Sums)
@@ -125,11 +126,11 @@ pub record IsWholeReport (uploads : List UploadEnd) (parts : List Report) (whole
   pub tokens_rise : IsStrictlySortedBy token_cmp (keys_of whole.tokens)
 
 -- the text is the report of the whole, of the parts whose reports these texts are and of the
--- uploads whose ends these texts tell
+-- uploads whose ends these texts contain
 pub record IsMerged (end_files report_files : List (List ℕ)) (text : List ℕ) : Type 0 where
   pub ends : List (List UploadEnd)
   pub parts : List Report
-  pub told : AreTold end_files report_files ends parts
+  pub reported : AreReported end_files report_files ends parts
   pub whole : Report
   pub is : IsWholeReport (all_ends ends) parts whole
   pub shown : text ≡ report_text whole
@@ -153,8 +154,8 @@ pub record IsWrongReportAt (files : List (List ℕ)) (place : ℕ) : Type 0 wher
       ⊎ ((earlier : ℕ) × (first : List ℕ) × (earlier < place)
       × (slice_get files earlier ≡ Some first) × ReportsShareToken first file)
 
--- the text at this place is wrong: those before it tell ends of uploads, and it does not tell those
--- of the next uploads
+-- the text at this place is wrong: those before it contain ends of uploads, and it does not contain
+-- those of the next uploads
 pub record AreWrongEndsAt (files : List (List ℕ)) (place : ℕ) : Type 0 where
   pub before : List (List UploadEnd)
   pub fit : All IsUploadEnd (all_ends before)

@@ -1,11 +1,11 @@
--- Lines that each tell of a token, in lists that are merged.
+-- Lines that are each of a token, in lists that are merged.
 use Rattle.std.specs.Prelude.{◌≡◌, ◌≢◌, ℕ, List, All, Some, filter, flat_map, slice_get}
 use Rattle.std.specs.List.Sorted.{IsSortedBy}
 use Rattle.std.specs.Ordering.{is_lt}
 use Rattle.tap_views.specs.Token.{token_cmp, token_eq}
 use Rattle.tap_views.specs.declared.token.Token.{Token}
 
--- a line, with its line feed, and the token of which it tells
+-- a line, with its line feed, and its token
 pub record TokenLine : Type 0 where
   pub token : Token
   pub text : List ℕ

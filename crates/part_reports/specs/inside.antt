@@ -6,12 +6,13 @@ pub mod Going
 pub mod Kinds
 pub mod Least
 pub mod Parts
+pub mod ReadTo
 pub mod ReportsLeft
 pub mod LinesRead
 pub mod Standings
 pub mod Sums
 pub mod SumsLeft
-pub mod Told
+pub mod Reported
 pub mod UploadEnds
 pub mod Whole
 pub mod WrongBeside

@@ -1,10 +1,16 @@
 //! What a part's report has before the lines of its tokens.
 
-ghost use Rattle.std.specs.Prelude.{◌≡◌, ◌<◌, ◌^◌, ◌↔◌, All, IfErr, IsTrue, flat_map, map};
+ghost use Rattle.std.specs.Prelude.{◌≡◌, ◌<◌, ◌^◌, ◌↔◌, ℕ, List, [], All, IfErr, IsTrue};
+ghost use Rattle.std.specs.Prelude.{MatchResult, OnOk, flat_map, length, map};
 ghost use Rattle.fare_texts.specs.Counts.{totals_line};
 ghost use Rattle.shard_book.specs.Shown.{validator_sum};
-ghost use Rattle.shard_book.specs.Sums.{sums_of};
-ghost use Rattle.part_reports.specs.inside.Told.{IsOfReader};
+ghost use Rattle.shard_book.specs.Sums.{Sums, sums_of};
+ghost use Rattle.part_reports.specs.FirstWrongLines.{OfNothing, OfTotals, OfUploads, OfValidators};
+ghost use Rattle.part_reports.specs.inside.ReadTo.{AreSectionsRead, AreUploadsRead};
+ghost use Rattle.part_reports.specs.inside.ReadTo.{AreValidatorsRead, IsFirstWrong, IsFrontRead};
+ghost use Rattle.part_reports.specs.inside.ReadTo.{IsOfForm, IsReadTo};
+ghost use Rattle.part_reports.specs.inside.Reported.{IsOfReader, next_number};
+ghost use Rattle.report_texts.specs.declared.upload_end.UploadEnd.{UploadEnd as AnEnd};
 ghost use Rattle.report_texts.specs.Numbers.{AreCounts, IsUploadEnd, IsValidatorSum};
 ghost use Rattle.fare_texts.specs.ReportLines.{number_line, validator_line};
 ghost use Rattle.report_texts.specs.Report.{upload_line, upload_lines};
@@ -12,7 +18,7 @@ ghost use Rattle.part_reports.specs.inside.Fronts.{AreEnds, AreSoManyPosted, Are
 ghost use Rattle.part_reports.specs.inside.Fronts.{AreValidators, IsFront, MayBePart};
 ghost use Rattle.part_reports.specs.inside.Fronts.{MayBeSections};
 ghost use Rattle.part_reports.specs.inside.Fronts.{MayFollowValidators};
-ghost use Rattle.part_reports.specs.inside.Fronts.{ends_text, told_text, validators_text};
+ghost use Rattle.part_reports.specs.inside.Fronts.{ends_text, reported_text, validators_text};
 ghost use Rattle.part_reports.specs.Reports.{added};
 ghost use Rattle.part_reports.specs.inside.LinesRead.{IsRead};
 
@@ -27,9 +33,7 @@ use std::io::BufRead;
 /// What a part's report has before the lines of its tokens.
 #[derive(Drop)]
 pub(crate) struct Front {
-    /// The totals.
     pub(crate) totals: Totals,
-    /// The sums of each validator.
     pub(crate) validators: Vec<ValidatorSum>,
     /// How many tokens there are.
     pub(crate) tokens: u64,
@@ -38,13 +42,15 @@ pub(crate) struct Front {
 /// Reads a line that is a word and a number.
 fn next_head<R: BufRead + Drop>(reader: &mut LineReader<R>, word: &[u8]) -> Result<u64, MergeFault>
     requires one_line { All (λ byte. ¬ (byte ≡ 10)) word.now }
-    ensures read { IsRead (λ told number. told ≡ number) (λ number. number < 2 ^ 64)
+    ensures read { IsRead (λ reported number. reported ≡ number) (λ number. number < 2 ^ 64)
         (number_line word.now) (R.remaining reader.old.from) (R.remaining reader.new.from) result }
     ensures text { reader.new.text ≡ reader.old.text }
-    ensures told { IfErr result (IsOfReader reader.new.text reader.new.lines) }
+    ensures reported { IfErr result (IsOfReader reader.new.text reader.new.lines) }
+    ensures lines { OnOk result (reader.new.lines ≡ next_number reader.old.lines) }
+    ensures form { IfErr result (IsOfForm reader.old.lines) }
 {
     reader.next()?;
-    reader.told(head_of(reader.line(), word))
+    reader.reported(head_of(reader.line(), word))
 }
 
 /// Reads the line of an upload's end.
@@ -52,38 +58,45 @@ fn next_end<R: BufRead + Drop>(
     reader: &mut LineReader<R>,
     upload: u64,
 ) -> Result<UploadEnd, MergeFault>
-    ensures read { IsRead (λ end told. end ≡ told) IsUploadEnd (upload_line upload)
+    ensures read { IsRead (λ end reported. end ≡ reported) IsUploadEnd (upload_line upload)
         (R.remaining reader.old.from) (R.remaining reader.new.from) result }
     ensures text { reader.new.text ≡ reader.old.text }
-    ensures told { IfErr result (IsOfReader reader.new.text reader.new.lines) }
+    ensures reported { IfErr result (IsOfReader reader.new.text reader.new.lines) }
+    ensures lines { OnOk result (reader.new.lines ≡ next_number reader.old.lines) }
+    ensures form { IfErr result (IsOfForm reader.old.lines) }
 {
     reader.next()?;
-    reader.told(end_of(reader.line(), upload))
+    reader.reported(end_of(reader.line(), upload))
 }
 
 /// Reads the line of totals.
 fn next_totals<R: BufRead + Drop>(reader: &mut LineReader<R>) -> Result<Totals, MergeFault>
-    ensures read { IsRead (λ totals told. sums_of totals ≡ told) AreCounts totals_line
+    ensures read { IsRead (λ totals reported. sums_of totals ≡ reported) AreCounts totals_line
         (R.remaining reader.old.from) (R.remaining reader.new.from) result }
     ensures text { reader.new.text ≡ reader.old.text }
-    ensures told { IfErr result (IsOfReader reader.new.text reader.new.lines) }
+    ensures reported { IfErr result (IsOfReader reader.new.text reader.new.lines) }
+    ensures lines { OnOk result (reader.new.lines ≡ next_number reader.old.lines) }
+    ensures form { IfErr result (IsOfForm reader.old.lines) }
 {
     reader.next()?;
-    reader.told(totals_of(reader.line()))
+    reader.reported(totals_of(reader.line()))
 }
 
 /// Reads the line of a validator.
 fn next_validator<R: BufRead + Drop>(reader: &mut LineReader<R>) -> Result<ValidatorSum, MergeFault>
-    ensures read { IsRead (λ sum told. validator_sum sum ≡ told) IsValidatorSum validator_line
+    ensures read { IsRead
+        (λ sum reported. validator_sum sum ≡ reported) IsValidatorSum validator_line
         (R.remaining reader.old.from) (R.remaining reader.new.from) result }
     ensures text { reader.new.text ≡ reader.old.text }
-    ensures told { IfErr result (IsOfReader reader.new.text reader.new.lines) }
+    ensures reported { IfErr result (IsOfReader reader.new.text reader.new.lines) }
+    ensures lines { OnOk result (reader.new.lines ≡ next_number reader.old.lines) }
+    ensures form { IfErr result (IsOfForm reader.old.lines) }
 {
     reader.next()?;
-    reader.told(validator_sum_of(reader.line()))
+    reader.reported(validator_sum_of(reader.line()))
 }
 
-/// Reads the lines of so many uploads, each of which was posted.
+/// Reads the lines of this number of uploads, each of which was posted.
 fn read_posted<R: BufRead + Drop>(
     reader: &mut LineReader<R>,
     uploads: u64,
@@ -91,7 +104,11 @@ fn read_posted<R: BufRead + Drop>(
     ensures read { IsRead (λ _ _. Unit {0}) (AreSoManyPosted uploads) (upload_lines 0)
         (R.remaining reader.old.from) (R.remaining reader.new.from) result }
     ensures text { reader.new.text ≡ reader.old.text }
-    ensures told { IfErr result (IsOfReader reader.new.text reader.new.lines) }
+    ensures reported { IfErr result (IsOfReader reader.new.text reader.new.lines) }
+    ensures first { (file : List ℕ)
+        → IsReadTo file (OfUploads uploads []) (R.remaining reader.old.from) reader.old.lines
+        → MatchResult result (λ _. AreUploadsRead file uploads (R.remaining reader.new.from)
+        reader.new.lines) (IsFirstWrong file) }
 {
     for upload in 0..uploads {
         let end = next_end(reader, upload)?;
@@ -107,7 +124,11 @@ fn read_uploads<R: BufRead + Drop>(reader: &mut LineReader<R>) -> Result<(), Mer
     ensures read { IsRead (λ _ _. Unit {0}) AreEnds ends_text
         (R.remaining reader.old.from) (R.remaining reader.new.from) result }
     ensures text { reader.new.text ≡ reader.old.text }
-    ensures told { IfErr result (IsOfReader reader.new.text reader.new.lines) }
+    ensures reported { IfErr result (IsOfReader reader.new.text reader.new.lines) }
+    ensures first { (file : List ℕ)
+        → IsReadTo file OfNothing (R.remaining reader.old.from) reader.old.lines
+        → MatchResult result (λ _. (uploads : ℕ) × AreUploadsRead file uploads
+        (R.remaining reader.new.from) reader.new.lines) (IsFirstWrong file) }
 {
     let uploads = next_head(reader, b"uploads ")?;
     read_posted(reader, uploads)
@@ -123,17 +144,23 @@ fn may_follow(sums: &[ValidatorSum], sum: &ValidatorSum) -> bool
     }
 }
 
-/// Reads the lines of so many validators, which rise.
+/// Reads the lines of this number of validators, which rise.
 fn read_rising<R: BufRead + Drop>(
     alloc: Global,
     reader: &mut LineReader<R>,
     number: u64,
 ) -> Result<Vec<ValidatorSum>, MergeFault>
-    ensures read { IsRead (λ sums told. AreSums sums.items told) (AreRising number)
+    ensures read { IsRead (λ sums reported. AreSums sums.items reported) (AreRising number)
         (flat_map validator_line)
         (R.remaining reader.old.from) (R.remaining reader.new.from) result }
     ensures text { reader.new.text ≡ reader.old.text }
-    ensures told { IfErr result (IsOfReader reader.new.text reader.new.lines) }
+    ensures reported { IfErr result (IsOfReader reader.new.text reader.new.lines) }
+    ensures first { (file : List ℕ) (ends : List AnEnd) (totals : Sums)
+        → IsReadTo file (OfValidators ends totals number []) (R.remaining reader.old.from)
+        reader.old.lines
+        → MatchResult result (λ sums. (length sums.items ≡ number)
+        × AreValidatorsRead file ends totals number sums.items (R.remaining reader.new.from)
+        reader.new.lines) (IsFirstWrong file) }
 {
     let mut sums: Vec<ValidatorSum> = Vec::new(alloc);
     for _ in 0..number {
@@ -151,10 +178,15 @@ fn read_validators<R: BufRead + Drop>(
     alloc: Global,
     reader: &mut LineReader<R>,
 ) -> Result<Vec<ValidatorSum>, MergeFault>
-    ensures read { IsRead (λ sums told. AreSums sums.items told) AreValidators validators_text
+    ensures read { IsRead
+        (λ sums reported. AreSums sums.items reported) AreValidators validators_text
         (R.remaining reader.old.from) (R.remaining reader.new.from) result }
     ensures text { reader.new.text ≡ reader.old.text }
-    ensures told { IfErr result (IsOfReader reader.new.text reader.new.lines) }
+    ensures reported { IfErr result (IsOfReader reader.new.text reader.new.lines) }
+    ensures first { (file : List ℕ) (ends : List AnEnd) (totals : Sums)
+        → IsReadTo file (OfTotals ends totals) (R.remaining reader.old.from) reader.old.lines
+        → MatchResult result (λ sums. AreValidatorsRead file ends totals (length sums.items)
+        sums.items (R.remaining reader.new.from) reader.new.lines) (IsFirstWrong file) }
 {
     let number = next_head(reader, b"validators ")?;
     read_rising(alloc, reader, number)
@@ -165,10 +197,14 @@ fn read_sections<R: BufRead + Drop>(
     alloc: Global,
     reader: &mut LineReader<R>,
 ) -> Result<Front, MergeFault>
-    ensures read { IsRead IsFront MayBeSections told_text
+    ensures read { IsRead IsFront MayBeSections reported_text
         (R.remaining reader.old.from) (R.remaining reader.new.from) result }
     ensures text { reader.new.text ≡ reader.old.text }
-    ensures told { IfErr result (IsOfReader reader.new.text reader.new.lines) }
+    ensures reported { IfErr result (IsOfReader reader.new.text reader.new.lines) }
+    ensures first { (file : List ℕ)
+        → IsReadTo file OfNothing (R.remaining reader.old.from) reader.old.lines
+        → MatchResult result (λ front. AreSectionsRead file front (R.remaining reader.new.from)
+        reader.new.lines) (IsFirstWrong file) }
 {
     read_uploads(reader)?;
     let totals = next_totals(reader)?;
@@ -201,10 +237,14 @@ pub(crate) fn read_front<R: BufRead + Drop>(
     alloc: Global,
     reader: &mut LineReader<R>,
 ) -> Result<Front, MergeFault>
-    ensures read { IsRead IsFront MayBePart told_text
+    ensures read { IsRead IsFront MayBePart reported_text
         (R.remaining reader.old.from) (R.remaining reader.new.from) result }
     ensures text { reader.new.text ≡ reader.old.text }
-    ensures told { IfErr result (IsOfReader reader.new.text reader.new.lines) }
+    ensures reported { IfErr result (IsOfReader reader.new.text reader.new.lines) }
+    ensures first { (file : List ℕ)
+        → IsReadTo file OfNothing (R.remaining reader.old.from) reader.old.lines
+        → MatchResult result (λ front. IsFrontRead file front (R.remaining reader.new.from)
+        reader.new.lines) (IsFirstWrong file) }
 {
     let front = read_sections(alloc, reader)?;
     if !add_up(&front.totals, &front.validators) {

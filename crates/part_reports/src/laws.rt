@@ -6,7 +6,7 @@ ghost use Rattle.part_reports.specs.Ledgers.{IsPartLedger};
 ghost use Rattle.part_reports.specs.Reports.{HasTapNumbers, IsPartReport, Report, report_text};
 ghost use Rattle.part_reports.specs.TokenLines.{TokenLine};
 
-/// Two reports that tell something else have other texts.
+/// Two reports with other contents have other texts.
 pub fn texts_differ()
     ensures any { (a b : Report) → HasTapNumbers a → HasTapNumbers b
         → report_text a ≡ report_text b → a ≡ b }

@@ -1,4 +1,4 @@
-//! The line of a ledger: the token of which it tells.
+//! The line of a ledger, and its token.
 
 ghost use Rattle.std.specs.Prelude.{◌≡◌, ◌++◌, ℕ, List, MatchOption};
 ghost use Rattle.std.specs.Io.BufRead.{take_through};

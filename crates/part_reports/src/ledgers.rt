@@ -11,7 +11,7 @@ ghost use Rattle.part_reports.specs.Texts.{AreLeft};
 ghost use Rattle.part_reports.specs.inside.BegunLedgers.{AreBegunLedgers, IsBegunLedger};
 ghost use Rattle.part_reports.specs.inside.BegunLedgers.{IsOfFirstLines};
 ghost use Rattle.part_reports.specs.inside.Standings.{standing};
-ghost use Rattle.part_reports.specs.inside.Told.{AreNumbered, IsOfText, text_number};
+ghost use Rattle.part_reports.specs.inside.Reported.{AreNumbered, IsOfText, text_number};
 
 use crate::fault::{MergeFault, Wrong};
 use crate::line_reader::LineReader;
@@ -33,7 +33,7 @@ fn begin_ledger<R: BufRead + Drop>(
         → IfSome (R.remaining from) IsNoLedger) }
     ensures no_taps { IfErr result (λ fault. ¬ (IsOfTaps fault)) }
     ensures number { IfOk result (λ source. text_number source ≡ text) }
-    ensures told { IfErr result (IsOfText text) }
+    ensures reported { IfErr result (IsOfText text) }
     ensures first { IfErr result (λ fault. IfSome (R.remaining from)
         (λ file. IsOfFirstLines file fault)) }
 {
@@ -85,7 +85,7 @@ pub fn merge_ledgers<R: BufRead + Drop, W: Write>(
     ensures whole { OnOk result ((files : List (List ℕ))
         → AreLeft R.remaining ledgers.items files → (text : List ℕ) × IsMergedLedger files text
         × Appends (W.contents out.old) (W.contents out.new) text) }
-    // A fault of the texts comes only where no text is the ledger of the whole.
+    // A fault of the texts comes only if no text is the ledger of the whole.
     ensures refused { IfErr result (λ fault. IsOfTexts fault → (files : List (List ℕ))
         → AreLeft R.remaining ledgers.items files → (text : List ℕ)
         → ¬ (IsMergedLedger files text)) }

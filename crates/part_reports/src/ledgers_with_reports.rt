@@ -15,7 +15,7 @@ ghost use Rattle.part_reports.specs.inside.ReportsLeft.{AreBegunReports, AreSumm
 ghost use Rattle.part_reports.specs.inside.ReportsLeft.{AreUsedUp, HasLeft, IsNotTakenAt};
 ghost use Rattle.part_reports.specs.inside.ReportsLeft.{IsTakenAt, report_at};
 ghost use Rattle.part_reports.specs.inside.Standings.{StandsInText, standing};
-ghost use Rattle.part_reports.specs.inside.Told.{AreNumbered, NamesOneOf, text_number};
+ghost use Rattle.part_reports.specs.inside.Reported.{AreNumbered, NamesOneOf, text_number};
 ghost use Rattle.part_reports.specs.inside.WrongBeside.{IsOfLeft, IsOfPlace, IsWrongOfBoth};
 ghost use Rattle.part_reports.specs.inside.WrongBeside.{NamesNoReport, left_number};
 ghost use Rattle.part_reports.specs.declared.merging.LineKind.{LineKind as AKind};
@@ -69,7 +69,7 @@ fn take_at<R: BufRead + Drop>(
         (map (report_at R.remaining) lefts.old)) }
     ensures no_taps { IfErr result (λ fault. ¬ (IsOfTaps fault)) }
     ensures numbers { map left_number lefts.new ≡ map left_number lefts.old }
-    ensures told { IfErr result (IsOfPlace at (map text_number sources.now)
+    ensures reported { IfErr result (IsOfPlace at (map text_number sources.now)
         (map left_number lefts.old) (map (standing R.remaining) sources.now)
         (map (report_at R.remaining) lefts.old)) }
 {
@@ -92,7 +92,7 @@ fn finish_all<R: BufRead + Drop>(
     ensures refused { IfErr result (λ fault. IsOfTexts fault
         → HasLeft (map (report_at R.remaining) lefts.now)) }
     ensures no_taps { IfErr result (λ fault. ¬ (IsOfTaps fault)) }
-    ensures told { IfErr result (IsOfLeft (map text_number sources.now)
+    ensures reported { IfErr result (IsOfLeft (map text_number sources.now)
         (map (report_at R.remaining) lefts.now)) }
 {
     for at in 0..lefts.len() {

@@ -4,7 +4,7 @@ ghost use Rattle.std.specs.Prelude.{◌≡◌, [], Some, None, Ok, IfErr, IfOk, 
 ghost use Rattle.std.specs.Prelude.{IsTrue, OnOk, ◌↔◌};
 ghost use Rattle.std.specs.Io.BufRead.{drop_through, take_through};
 ghost use Rattle.part_reports.specs.Faults.{IsOfTaps, IsOfTexts};
-ghost use Rattle.part_reports.specs.inside.Told.{IsOfReader, next_number};
+ghost use Rattle.part_reports.specs.inside.Reported.{IsOfReader, next_number};
 ghost use Rattle.part_reports.specs.declared.fault.MergeFault.TheVariants.{Line, Unread};
 ghost use Rattle.part_reports.specs.declared.fault.Wrong.TheVariants.{Form};
 
@@ -21,7 +21,7 @@ pub(crate) struct LineReader<R: BufRead + Drop> {
     text: usize,
     /// How many lines were read.
     lines: u64,
-    /// The line that was read last, with its line feed; empty where the text has ended.
+    /// The line that was read last, with its line feed; empty if the text has ended.
     line: Vec<u8>,
 }
 
@@ -47,7 +47,7 @@ impl<R: BufRead + Drop> LineReader<R> {
             × (R.remaining self.new.from ≡ Some (drop_through 10 left)))) }
         ensures text { self.new.text ≡ self.old.text }
         ensures lines { OnOk result (self.new.lines ≡ next_number self.old.lines) }
-        ensures told { IfErr result (IsOfReader self.new.text self.new.lines) }
+        ensures reported { IfErr result (IsOfReader self.new.text self.new.lines) }
         ensures fault { IfErr result (λ fault. (¬ (IsOfTexts fault)) × ¬ (IsOfTaps fault)) }
     {
         self.line.clear();
@@ -78,7 +78,7 @@ impl<R: BufRead + Drop> LineReader<R> {
     /// The fault of a read that failed.
     pub(crate) fn unread(&self) -> MergeFault
         ensures other { (¬ (IsOfTexts result)) × ¬ (IsOfTaps result) }
-        ensures told { IsOfReader self.now.text self.now.lines result }
+        ensures reported { IsOfReader self.now.text self.now.lines result }
         ensures text { result ≡ Unread self.now.text }
     {
         MergeFault::Unread(self.text)
@@ -88,7 +88,7 @@ impl<R: BufRead + Drop> LineReader<R> {
     pub(crate) fn fault(&self, wrong: Wrong) -> MergeFault
         ensures texts { IsOfTexts result }
         ensures other { ¬ (IsOfTaps result) }
-        ensures told { IsOfReader self.now.text self.now.lines result }
+        ensures reported { IsOfReader self.now.text self.now.lines result }
         ensures line { result ≡ Line self.now.text self.now.lines wrong }
     {
         MergeFault::Line {
@@ -98,31 +98,30 @@ impl<R: BufRead + Drop> LineReader<R> {
         }
     }
 
-    /// What is told of the line that was read last; the line's fault if it is wrong.
-    pub(crate) fn right<T: Drop>(&self, told: Result<T, Wrong>) -> Result<T, MergeFault>
-        ensures value { IfOk result (λ value. told ≡ Ok value) }
-        ensures wrong { IfErr result (λ fault. IsErr told) }
-        ensures told { IfErr result (IsOfReader self.now.text self.now.lines) }
-        ensures line { IfErr result (λ fault. IfErr told (λ wrong.
+    /// What is read of the line that was read last; the line's fault if it is wrong.
+    pub(crate) fn right<T: Drop>(&self, reported: Result<T, Wrong>) -> Result<T, MergeFault>
+        ensures value { IfOk result (λ value. reported ≡ Ok value) }
+        ensures wrong { IfErr result (λ fault. IsErr reported) }
+        ensures reported { IfErr result (IsOfReader self.now.text self.now.lines) }
+        ensures line { IfErr result (λ fault. IfErr reported (λ wrong.
             fault ≡ Line self.now.text self.now.lines wrong)) }
     {
-        match told {
-            Ok(told) => Ok(told),
+        match reported {
+            Ok(reported) => Ok(reported),
             Err(wrong) => Err(self.fault(wrong)),
         }
     }
 
-    /// What a form tells of the line that was read last; the line's fault where it has not that
-    /// form.
-    pub(crate) fn told<T: Drop>(&self, told: Option<T>) -> Result<T, MergeFault>
-        ensures value { IfOk result (λ value. told ≡ Some value) }
-        ensures none { IfErr result (λ fault. told ≡ None) }
-        ensures told { IfErr result (IsOfReader self.now.text self.now.lines) }
+    /// What a form reads of the line that was read last; the line's fault if it has not that form.
+    pub(crate) fn reported<T: Drop>(&self, reported: Option<T>) -> Result<T, MergeFault>
+        ensures value { IfOk result (λ value. reported ≡ Some value) }
+        ensures none { IfErr result (λ fault. reported ≡ None) }
+        ensures reported { IfErr result (IsOfReader self.now.text self.now.lines) }
         ensures line { IfErr result (λ fault.
             fault ≡ Line self.now.text self.now.lines Form) }
     {
-        match told {
-            Some(told) => Ok(told),
+        match reported {
+            Some(reported) => Ok(reported),
             None => Err(self.fault(Wrong::Form)),
         }
     }

@@ -1,17 +1,17 @@
 //! Lines of several texts in order of tokens, merged into one text.
 
-ghost use Rattle.std.specs.Prelude.{◌≡◌, ℕ, List, None, Some, IfErr, IfOk, IfSome, MatchOption};
-ghost use Rattle.std.specs.Prelude.{IsTrue, MatchResult, OnErr, OnOk, Option, ◌<◌, ◌↔◌, length};
-ghost use Rattle.std.specs.Prelude.{map, slice_get};
+ghost use Rattle.std.specs.Prelude.{◌≡◌, ◌≢◌, ℕ, List, [], None, Some, IfErr, IfOk, IfSome};
+ghost use Rattle.std.specs.Prelude.{IsTrue, MatchOption, MatchResult, OnErr, OnOk, Option, ◌<◌};
+ghost use Rattle.std.specs.Prelude.{◌↔◌, length, map, slice_get};
 ghost use Rattle.std.specs.Io.BufRead.{take_through};
 ghost use Rattle.std.specs.List.{AllZip};
 ghost use Rattle.std.specs.Io.KnownBytes.{Appends};
 ghost use Rattle.part_reports.specs.Faults.{IsOfTaps, IsOfTexts};
 ghost use Rattle.fare_texts.specs.WrittenOut.{Begins};
-ghost use Rattle.part_reports.specs.inside.Told.{IsOfReader, IsOfText, NamesOneOf, NamesOnly};
-ghost use Rattle.part_reports.specs.inside.FirstWrong.{IsCounted, IsFirstWrongOf, IsOfNext};
-ghost use Rattle.part_reports.specs.inside.FirstWrong.{IsOfNumber};
-ghost use Rattle.part_reports.specs.inside.Told.{next_number, text_number};
+ghost use Rattle.part_reports.specs.inside.Reported.{IsOfReader, IsOfText, NamesOneOf, NamesOnly};
+ghost use Rattle.part_reports.specs.inside.FirstWrong.{IsCounted, IsFirstWrongOf, IsLineReason};
+ghost use Rattle.part_reports.specs.inside.FirstWrong.{IsOfNext, IsOfNumber};
+ghost use Rattle.part_reports.specs.inside.Reported.{next_number, text_number};
 ghost use Rattle.part_reports.specs.inside.WrongTexts.{IsWrongText};
 ghost use Rattle.part_reports.specs.TokenLines.{IsMergedByToken, TokenLine, text_of};
 ghost use Rattle.part_reports.specs.inside.Kinds.{AreTexts, IsTextOf};
@@ -36,7 +36,7 @@ use tap_views::Token;
 /// What the lines are.
 #[derive(Clone, Copy, Debug, PartialEq, Eq)]
 pub(crate) enum LineKind {
-    /// The tokens of a report, each once: so many lines are left to read, and what they add up to.
+    /// The tokens of a report, each once: how many lines are left to read, and what they add up to.
     Tokens { left: u64, rest: SumsLeft },
     /// The entries of a ledger.
     Entries,
@@ -55,11 +55,13 @@ pub(crate) struct OrderedText<R: BufRead + Drop> {
 
 /// What the lines are behind a line of a report's token, and the token.
 fn behind_token(left: u64, rest: SumsLeft, line: &[u8]) -> Result<(LineKind, Token), Wrong>
-    ensures { MatchResult result
-        (λ told. (text : List ℕ) → line.now ≡ take_through 10 text
-        → IsFirstLine (Tokens left rest) line.now told.0 (Some told.1))
+    ensures reported { MatchResult result
+        (λ reported. (text : List ℕ) → line.now ≡ take_through 10 text
+        → IsFirstLine (Tokens left rest) line.now reported.0 (Some reported.1))
         (λ wrong. (behind : LineKind) (token : Token)
         → ¬ (IsFirstLine (Tokens left rest) line.now behind (Some token))) }
+    ensures why { IfErr result (λ wrong. line.now ≢ []
+        → IsLineReason (Tokens left rest) None line.now wrong) }
 {
     let Some(left) = left.checked_sub(1) else {
         return Err(Wrong::Form);
@@ -75,11 +77,12 @@ fn behind_token(left: u64, rest: SumsLeft, line: &[u8]) -> Result<(LineKind, Tok
 
 /// What the lines are behind one of them, and the token of that line.
 fn behind_line(lines: LineKind, line: &[u8]) -> Result<(LineKind, Token), Wrong>
-    ensures { MatchResult result
-        (λ told. (text : List ℕ) → line.now ≡ take_through 10 text
-        → IsFirstLine lines line.now told.0 (Some told.1))
+    ensures reported { MatchResult result
+        (λ reported. (text : List ℕ) → line.now ≡ take_through 10 text
+        → IsFirstLine lines line.now reported.0 (Some reported.1))
         (λ wrong. (behind : LineKind) (token : Token)
         → ¬ (IsFirstLine lines line.now behind (Some token))) }
+    ensures why { IfErr result (λ wrong. line.now ≢ [] → IsLineReason lines None line.now wrong) }
 {
     match lines {
         LineKind::Tokens { left, rest } => behind_token(left, rest, line),
@@ -92,7 +95,8 @@ fn behind_line(lines: LineKind, line: &[u8]) -> Result<(LineKind, Token), Wrong>
 
 /// What is wrong if the text ends here; nothing if it may end.
 fn wrong_end(lines: LineKind) -> Option<Wrong>
-    ensures { MatchOption result (MayEnd lines) (λ wrong. ¬ (MayEnd lines)) }
+    ensures may { MatchOption result (MayEnd lines) (λ wrong. ¬ (MayEnd lines)) }
+    ensures why { IfSome result (IsLineReason lines None []) }
 {
     match lines {
         LineKind::Tokens { left, rest } => {
@@ -108,14 +112,15 @@ fn wrong_end(lines: LineKind) -> Option<Wrong>
     }
 }
 
-/// What the first line of a text tells, which is empty where the text has ended: what the lines
-/// behind it are, and its token. What is wrong if such a line may not stand there.
+/// What the first line of a text says, which is empty if the text has ended: what the lines behind
+/// it are, and its token. What is wrong if such a line may not stand there.
 fn first_of(lines: LineKind, line: &[u8]) -> Result<(LineKind, Option<Token>), Wrong>
-    ensures { MatchResult result
-        (λ told. (text : List ℕ) → line.now ≡ take_through 10 text
-        → IsFirstLine lines line.now told.0 told.1)
+    ensures reported { MatchResult result
+        (λ reported. (text : List ℕ) → line.now ≡ take_through 10 text
+        → IsFirstLine lines line.now reported.0 reported.1)
         (λ wrong. (behind : LineKind) (token : Option Token)
         → ¬ (IsFirstLine lines line.now behind token)) }
+    ensures why { IfErr result (IsLineReason lines None line.now) }
 {
     if line.is_empty() {
         return match wrong_end(lines) {
@@ -162,7 +167,7 @@ impl<R: BufRead + Drop> OrderedText<R> {
             (λ left. (list : List TokenLine) → ¬ (IsTextOf (lines, left) list))) }
         ensures no_taps { IfErr result (λ fault. ¬ (IsOfTaps fault)) }
         ensures text { IfOk result (λ source. source.reader.text ≡ reader.text) }
-        ensures told { IfErr result (IsOfText reader.text) }
+        ensures reported { IfErr result (IsOfText reader.text) }
         ensures lines { IfOk result (λ source. source.reader.lines ≡ next_number reader.lines) }
         ensures next { IfErr result (IsOfNext lines None (R.remaining reader.from) reader.lines) }
     {
@@ -184,7 +189,7 @@ impl<R: BufRead + Drop> OrderedText<R> {
             (λ left. (list : List TokenLine) → ¬ (IsTextOf (self.old.lines, left) list))) }
         ensures no_taps { IfErr result (λ fault. ¬ (IsOfTaps fault)) }
         ensures text { self.new.reader.text ≡ self.old.reader.text }
-        ensures told { IfErr result (IsOfReader self.new.reader.text self.new.reader.lines) }
+        ensures reported { IfErr result (IsOfReader self.new.reader.text self.new.reader.lines) }
         ensures lines { OnOk result (self.new.reader.lines ≡ next_number self.old.reader.lines) }
         ensures next { IfErr result (IsOfNext self.old.lines None
             (R.remaining self.old.reader.from) self.old.reader.lines) }
@@ -209,7 +214,7 @@ impl<R: BufRead + Drop> OrderedText<R> {
             → IfSome self.old.token (λ before. ¬ (MayFollowAll self.old.lines before list)))) }
         ensures no_taps { IfErr result (λ fault. ¬ (IsOfTaps fault)) }
         ensures text { self.new.reader.text ≡ self.old.reader.text }
-        ensures told { IfErr result (IsOfReader self.new.reader.text self.new.reader.lines) }
+        ensures reported { IfErr result (IsOfReader self.new.reader.text self.new.reader.lines) }
         ensures lines { OnOk result (self.new.reader.lines ≡ next_number self.old.reader.lines) }
         // A line that is refused is the next one, and it is wrong behind this line.
         ensures next { IfErr result (IsOfNext self.old.lines self.old.token
@@ -225,8 +230,8 @@ impl<R: BufRead + Drop> OrderedText<R> {
     }
 }
 
-/// Which token is below all others; none where there is none. If one stands twice, that is a
-/// mistake: it gives the later of the two places.
+/// Which token is below all others; none if there is none. If one stands twice, that is a mistake:
+/// it gives the later of the two places.
 pub(crate) fn least(tokens: &[Option<Token>]) -> Result<Option<usize>, usize>
     ensures { MatchResult result (IsLeast tokens.now) (StandsTwice tokens.now) }
 {
@@ -258,7 +263,7 @@ pub(crate) fn fault_in<R: BufRead + Drop>(
     ensures no_taps { ¬ (IsOfTaps result) }
     ensures named { NamesOnly result (slice_get (map text_number sources.now) at) }
     ensures number { (was : Standing) → slice_get (map (standing R.remaining) sources.now) at
-        ≡ Some was → IsOfNumber was.number result }
+        ≡ Some was → IsOfNumber was.number wrong result }
 {
     match sources.get(at) {
         Some(source) => source.reader.fault(wrong),

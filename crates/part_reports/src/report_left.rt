@@ -12,7 +12,7 @@ ghost use Rattle.part_reports.specs.inside.ReportsLeft.{IsRestOf, IsTaken, IsUse
 ghost use Rattle.part_reports.specs.inside.ReportsLeft.{report_at};
 ghost use Rattle.part_reports.specs.inside.Standings.{line_with};
 ghost use Rattle.part_reports.specs.inside.SumsLeft.{sums_left};
-ghost use Rattle.part_reports.specs.inside.Told.{IsOfReader, IsOfText};
+ghost use Rattle.part_reports.specs.inside.Reported.{IsOfReader, IsOfText};
 ghost use Rattle.part_reports.specs.inside.WrongBeside.{HasNoReport, IsOfEither, left_number};
 
 use crate::charge::charge_of;
@@ -72,7 +72,7 @@ impl<R: BufRead + Drop> ReportLeft<R> {
             → IfSome (R.remaining from) IsNoReport) }
         ensures no_taps { IfErr result (λ fault. ¬ (IsOfTaps fault)) }
         ensures number { IfOk result (λ left. left_number left ≡ text) }
-        ensures told { IfErr result (IsOfText text) }
+        ensures reported { IfErr result (IsOfText text) }
     {
         let mut sums = no_sums(alloc);
         let report = read_part(alloc, &mut sums, from, text)?;
@@ -94,7 +94,7 @@ impl<R: BufRead + Drop> ReportLeft<R> {
             → IsNoRest token (report_at R.remaining self.old)) }
         ensures no_taps { IfErr result (λ fault. ¬ (IsOfTaps fault)) }
         ensures number { left_number self.new ≡ left_number self.old }
-        ensures told { IfErr result (IsOfEither ledger.now.text (left_number self.old)
+        ensures reported { IfErr result (IsOfEither ledger.now.text (left_number self.old)
             (IsNoRest token (report_at R.remaining self.old))
             (HasNoReport (report_at R.remaining self.old))) }
     {
@@ -107,7 +107,7 @@ impl<R: BufRead + Drop> ReportLeft<R> {
         let sum = self
             .report
             .reader
-            .told(token_sum_of(self.report.reader.line()))?;
+            .reported(token_sum_of(self.report.reader.line()))?;
         self.report.advance()?;
         self.token = Some(token);
         Ok(SumsLeft::of(&sum.totals))
@@ -121,7 +121,7 @@ impl<R: BufRead + Drop> ReportLeft<R> {
             → IsNoRest token (report_at R.remaining self.old)) }
         ensures no_taps { IfErr result (λ fault. ¬ (IsOfTaps fault)) }
         ensures number { left_number self.new ≡ left_number self.old }
-        ensures told { IfErr result (IsOfEither ledger.now.text (left_number self.old)
+        ensures reported { IfErr result (IsOfEither ledger.now.text (left_number self.old)
             (IsNoRest token (report_at R.remaining self.old))
             (HasNoReport (report_at R.remaining self.old))) }
     {
@@ -142,11 +142,11 @@ impl<R: BufRead + Drop> ReportLeft<R> {
         ensures no_taps { IfErr result (λ fault. ¬ (IsOfTaps fault)) }
         ensures number { left_number self.new ≡ left_number self.old }
         // A line that is refused is the ledger's, or the report is none.
-        ensures told { IfErr result (IsOfEither ledger.now.text (left_number self.old)
+        ensures reported { IfErr result (IsOfEither ledger.now.text (left_number self.old)
             (IsNotTaken (line_with token ledger.now.line.items) (report_at R.remaining self.old))
             (HasNoReport (report_at R.remaining self.old))) }
     {
-        let charge = ledger.told(charge_of(ledger.line()))?;
+        let charge = ledger.reported(charge_of(ledger.line()))?;
         let before = self.rest_of(token, ledger)?;
         match before.behind(&charge.totals) {
             Some(rest) => self.rest = rest,
@@ -165,7 +165,7 @@ impl<R: BufRead + Drop> ReportLeft<R> {
         ensures refused { IfErr result (λ fault. IsOfTexts fault
             → IsNotUsedUp (report_at R.remaining self.now)) }
         ensures no_taps { IfErr result (λ fault. ¬ (IsOfTaps fault)) }
-        ensures told { IfErr result (IsOfReader ledger.now.text ledger.now.lines) }
+        ensures reported { IfErr result (IsOfReader ledger.now.text ledger.now.lines) }
     {
         if !self.rest.is_nothing() {
             return Err(ledger.fault(Wrong::LessThanReport));

@@ -2,7 +2,8 @@
 
 ghost use Rattle.std.specs.Prelude.{◌≡◌, ◌<◌, ◌≤◌, ◌^◌, ℕ, List, Some, All, IfErr, IfOk};
 ghost use Rattle.std.specs.Prelude.{IfSome, IsTrue, OnErr, OnOk, ◌++◌, flat_map, length, map, ◌↔◌};
-ghost use Rattle.std.specs.Prelude.{◌⊎◌};
+ghost use Rattle.std.specs.Prelude.{◌⊎◌, MatchResult};
+ghost use Rattle.std.specs.List.{AllZip};
 ghost use Rattle.std.specs.Io.KnownBytes.{Appends};
 ghost use Rattle.part_reports.specs.Faults.{IsOfTaps, IsOfTexts, NamesAmong, number_from};
 ghost use Rattle.part_reports.specs.declared.fault.MergeFault.TheVariants.{Taps};
@@ -15,9 +16,12 @@ ghost use Rattle.std.specs.Ordering.{nat_cmp};
 ghost use Rattle.part_reports.specs.Reports.{CannotBeMerged, IsMerged, IsPartReport, Report};
 ghost use Rattle.part_reports.specs.Reports.{HaveTaps, NamesWrongText, all_ends};
 ghost use Rattle.part_reports.specs.Reports.{report_text};
+ghost use Rattle.part_reports.specs.FirstWrongLines.{NamesFirstWrong};
 ghost use Rattle.fare_texts.specs.WrittenOut.{Begins};
 ghost use Rattle.part_reports.specs.Texts.{AreLeft};
-ghost use Rattle.part_reports.specs.inside.Told.{AreNumbered, IsOfText, text_number};
+ghost use Rattle.part_reports.specs.inside.Reported.{AreNumbered, IsOfText, text_number};
+ghost use Rattle.part_reports.specs.inside.FirstWrong.{IsCounted};
+ghost use Rattle.part_reports.specs.inside.ReadTo.{IsFirstWrongBehind, NamesFirstWrongReport};
 ghost use Rattle.part_reports.specs.inside.WrongTexts.{NamesWrongReport};
 ghost use Rattle.part_reports.specs.inside.UploadEnds.{HaveReadEnds};
 ghost use Rattle.part_reports.specs.inside.Parts.{AreParts, IsNoPart, IsPart};
@@ -51,7 +55,7 @@ struct BegunReports<R: BufRead + Drop> {
     sources: Vec<OrderedText<R>>,
 }
 
-/// Reads the report of a part up to the line of its first token, and adds what it tells.
+/// Reads the report of a part up to the line of its first token, and adds what it contains.
 pub(crate) fn read_part<R: BufRead + Drop>(
     alloc: Global,
     sums: &mut WholeSums,
@@ -64,7 +68,10 @@ pub(crate) fn read_part<R: BufRead + Drop>(
         → IfSome (R.remaining from) (IsNoPart sums.old)) }
     ensures other { IfErr result (λ fault. ¬ (IsOfTaps fault)) }
     ensures number { IfOk result (λ source. text_number source ≡ text) }
-    ensures told { IfErr result (IsOfText text) }
+    ensures reported { IfErr result (IsOfText text) }
+    ensures first { IfSome (R.remaining from) (λ file. MatchResult result
+        (λ source. IsCounted file (standing R.remaining source))
+        (IsFirstWrongBehind sums.old file)) }
 {
     let mut reader = LineReader::new(alloc, from, text);
     let front = read_front(alloc, &mut reader)?;
@@ -96,6 +103,11 @@ fn read_parts<R: BufRead + Drop>(
     ensures named { IfErr result (NamesAmong first (length texts.items)) }
     ensures wrong { IfErr result (λ fault. (files : List (List ℕ))
         → AreLeft R.remaining texts.items files → NamesWrongReport first files fault) }
+    ensures counted { IfOk result (λ parts. (files : List (List ℕ))
+        → AreLeft R.remaining texts.items files
+        → AllZip IsCounted files (map (standing R.remaining) parts.sources.items)) }
+    ensures first_wrong { IfErr result (λ fault. (files : List (List ℕ))
+        → AreLeft R.remaining texts.items files → NamesFirstWrongReport first files fault) }
 {
     let mut sums = no_sums(alloc);
     let mut sources = Vec::new(alloc);
@@ -182,6 +194,10 @@ pub fn merge<R: BufRead + Drop, W: Write>(
     ensures wrong { IfErr result (λ fault. (end_files report_files : List (List ℕ))
         → AreLeft R.remaining ends.items end_files → AreLeft R.remaining reports.items report_files
         → NamesWrongText end_files report_files fault) }
+    // The line that it names is the first wrong one of its text, for the reason that it has.
+    ensures first_wrong { IfErr result (λ fault. (end_files report_files : List (List ℕ))
+        → AreLeft R.remaining ends.items end_files → AreLeft R.remaining reports.items report_files
+        → NamesFirstWrong end_files report_files fault) }
 {
     let first = ends.len();
     let ends = read_ends(alloc, ends)?;

@@ -20,7 +20,6 @@ const MAX_WHOLE_TAPS: u128 = 1 << 95;
 /// What the reports of all parts have before their tokens, added up.
 #[derive(Drop)]
 pub(crate) struct WholeSums {
-    /// The totals.
     pub(crate) totals: Totals,
     /// The sums of each validator.
     pub(crate) validators: BTreeMap<u32, Totals>,
@@ -39,7 +38,7 @@ pub(crate) fn no_sums(alloc: Global) -> WholeSums
     }
 }
 
-/// Adds other totals. False where the sum is more than any run has, and then nothing was added.
+/// Adds other totals. False if the sum is more than any run has, and then nothing was added.
 fn add(sum: &mut Totals, more: &Totals) -> bool
     ensures added { result ≡ true
         → sums_of sum.new ≡ add_sums (sums_of sum.old) (sums_of more.now) }
@@ -54,7 +53,7 @@ fn add(sum: &mut Totals, more: &Totals) -> bool
     }
 }
 
-/// The sums that a validator has; those of nothing where it has none.
+/// The sums that a validator has; those of nothing if it has none.
 fn kept_of(validators: &BTreeMap<u32, Totals>, validator: u32) -> Totals
     ensures { sums_of result
         ≡ or_nothing (option_map sums_of (get nat_cmp validators.now validator)) }
@@ -65,7 +64,7 @@ fn kept_of(validators: &BTreeMap<u32, Totals>, validator: u32) -> Totals
     }
 }
 
-/// Adds the sums of a validator. False where they are more than any run has.
+/// Adds the sums of a validator. False if they are more than any run has.
 pub(crate) fn add_validator(
     validators: &mut BTreeMap<u32, Totals>,
     sum: &ValidatorSum,
@@ -80,7 +79,7 @@ pub(crate) fn add_validator(
     Ok(true)
 }
 
-/// Adds the sums of validators. False where they are more than any run has.
+/// Adds the sums of validators. False if they are more than any run has.
 fn add_validators(
     validators: &mut BTreeMap<u32, Totals>,
     sums: &[ValidatorSum],
@@ -95,8 +94,7 @@ fn add_validators(
     Ok(true)
 }
 
-/// Adds what the report of a part has before its tokens. False where sums are more than any run
-/// has.
+/// Adds what the report of a part has before its tokens. False if sums are more than any run has.
 pub(crate) fn add_front(sums: &mut WholeSums, front: &Front) -> Result<bool, AllocError>
     ensures { IfOk result (WithFront sums.old sums.new front.now) }
 {

@@ -2,7 +2,7 @@
 
 ghost use Rattle.std.specs.Prelude.{◌≡◌, ◌+◌, ◌*◌, ◌<◌, ◌≤◌, ◌↔◌, [], ◌++◌, IsTrue, OnOk};
 ghost use Rattle.std.specs.Prelude.{length, vec_len};
-ghost use Rattle.report_texts.specs.UploadEnds.{is_posted, taps_told};
+ghost use Rattle.report_texts.specs.UploadEnds.{is_posted, taps_of_end};
 
 pub(crate) mod read;
 
@@ -45,7 +45,7 @@ impl UploadEnds {
         requires { 0 < length line.now }
         ensures text { OnOk result (self.new.text.items ≡ self.old.text.items ++ line.now) }
         ensures uploads { OnOk result (self.new.uploads ≡ self.old.uploads + 1) }
-        ensures taps { OnOk result (self.new.taps ≡ self.old.taps + taps_told end) }
+        ensures taps { OnOk result (self.new.taps ≡ self.old.taps + taps_of_end end) }
         ensures posted { OnOk result (IsTrue self.new.are_posted
             ↔ (IsTrue self.old.are_posted × IsTrue (is_posted end))) }
     {

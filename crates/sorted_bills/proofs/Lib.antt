@@ -1,7 +1,9 @@
 pub mod Counted
+pub mod LedgerBegun
 pub mod OpenBills
 pub mod OwnTaps
 mod Parts
+mod Rest
 pub mod Settled
 pub mod Takings
-mod Told
+mod Explained

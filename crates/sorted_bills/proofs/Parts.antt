@@ -20,7 +20,7 @@ use Rattle.settlement.specs.inside.Apart.{AreBelow}
 use Rattle.settlement.specs.inside.Billing.{HaveBillRoom}
 use Rattle.settlement.proofs.Ranges.{posted_below}
 use Rattle.settlement.proofs.TokenRuns.{less_up, posted_length, tokens_posted, up_less}
-use Rattle.settled_texts.specs.Telling.{NoTapFallsFrom, last_token}
+use Rattle.settled_texts.specs.ExplainedTaps.{NoTapFallsFrom, last_token}
 use Rattle.sorted_bills.specs.inside.Charged.{IsPart}
 use Rattle.sorted_bills.specs.declared.part.Part.{Part}
 
@@ -96,7 +96,7 @@ billed_both fares taps others old more new below one other added =
     (subst (λ (ts : List Token). AreBelow (map token_of_tap taps) ts)
     (sym (tokens_posted fares [] others)) below)))
 
--- a part of so many taps at most is one of more
+-- a part with a bound on its taps has each higher bound
 pub part_within : (fares : Fares) (known : List (Option (List ℕ))) (few most : ℕ) (part : Part)
     → IsPart fares known few part → few ≤ most → IsPart fares known most part
 part_within fares known few most part is up = record {

@@ -12,7 +12,7 @@ use Rattle.tap_views.specs.declared.token.Token.{Token}
 use Rattle.fare_texts.specs.Lines.{IsUpTo}
 use Rattle.settlement.specs.Posted.{HasName, token_of_tap}
 use Rattle.settlement.proofs.TokenRuns.{named_token}
-use Rattle.settled_texts.specs.Telling.{NoTapFallsFrom, last_token}
+use Rattle.settled_texts.specs.ExplainedTaps.{NoTapFallsFrom, last_token}
 use Rattle.sorted_taps.specs.Merges.{IsTapTaken}
 use Rattle.sorted_taps.specs.declared.reader.TapReader.{TapReader}
 use Rattle.sorted_taps.proofs.Spans.{taken_append}

@@ -8,4 +8,4 @@ pub mod OwnTaps
 pub mod Printed
 pub mod Ranges
 pub mod Taken
-pub mod Told
+pub mod Explained

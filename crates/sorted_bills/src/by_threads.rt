@@ -48,8 +48,8 @@ fn part_at<F: Placed>(
     }
 }
 
-/// The parts of all ranges between the tokens of the list, the last one first, each made by a thread
-/// of its own.
+/// The parts of all ranges between the tokens of the list, the last one first, each made by a
+/// thread of its own.
 fn parts_of<R: Threads + Sync, F: Placed + Sync>(
     rt: &R,
     alloc: Global,
@@ -66,7 +66,8 @@ fn parts_of<R: Threads + Sync, F: Placed + Sync>(
         alloc,
         last + 1,
         &|place: usize| -> Option<Part>
-            ensures { IfSome result (IsPart table.entry.now (map F.bytes files.entry.now) (2 ^ 73)) }
+            ensures { IfSome result
+                (IsPart table.entry.now (map F.bytes files.entry.now) (2 ^ 73)) }
         {
             part_at(
                 alloc,

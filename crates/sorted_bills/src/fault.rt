@@ -27,7 +27,7 @@ pub enum BillFault {
     /// beginning of the text may have been written.
     #[error("{0}")]
     Late(SortedFault),
-    /// A write failed. Nothing is known of how much of the text was written.
+    /// A write failed. A beginning of the text was written, it is not known how much.
     #[error("cannot write")]
     Write,
 }

@@ -3,8 +3,11 @@
 ghost use Rattle.std.specs.Prelude.{◌≡◌, true, ℕ, List, IfErr, IfOk, OnOk, Some, map};
 ghost use Rattle.std.specs.Io.KnownBytes.{Appends};
 ghost use Rattle.report_texts.specs.UploadEnds.{ArePlainEnds, are_posted};
+ghost use Rattle.report_texts.specs.declared.upload_end.UploadEnd.{UploadEnd as AnEnd};
 ghost use Rattle.sorted_bills.specs.Faults.{IsBeforeText, IsBillFault};
-ghost use Rattle.sorted_bills.specs.Ledgers.{IsLedgerOfFiles};
+ghost use Rattle.sorted_bills.specs.Ledgers.{AreBytes, IsLedgerOfFiles};
+ghost use Rattle.sorted_bills.specs.declared.fault.BillFault.TheVariants.{Write as AFailedWrite};
+ghost use Rattle.fare_texts.specs.WrittenOut.{Begins};
 
 use crate::fault::BillFault;
 use crate::file_checks::check_all;
@@ -12,7 +15,7 @@ use crate::rounds::{Rounds, write_ranges};
 use crate::taker::Taker;
 use crate::tap_numbers::{count, ends_of};
 use fare_table::FareTable;
-use fare_texts::{Teller, head_with_room, pass_on};
+use fare_texts::{Explainer, head_with_room, pass_on};
 use placed_files::Placed;
 use report_texts::UploadEnd;
 use settled_texts::{STRIDE_ROOM_BYTES, least_token};
@@ -33,11 +36,11 @@ use std::thread::Threads;
 /// changed.
 ///
 /// Of several workers, 64 at most, each makes the lines of a range of the tokens in memory, and
-/// these go out in order. Then each takes the next range. A worker takes up to 16 MiB for lines, and
-/// some 32 KiB for each file of `sort`. Of more than 256 files this thread makes all lines. Where the
-/// ranges begin is a guess that suits files in batches of 512 taps. Each range must begin where the
-/// one before it ends, to the tap: if not, or if a worker is refused, this thread makes the lines of
-/// that range. So the text does not depend on the workers.
+/// these go out in order. Then each takes the next range. A worker takes up to 16 MiB for lines,
+/// and some 32 KiB for each file of `sort`. Of more than 256 files this thread makes all lines.
+/// Where the ranges begin is a guess that suits files in batches of 512 taps. Each range must begin
+/// where the one before it ends, to the tap: if not, or if a worker is refused, this thread makes
+/// the lines of that range. So the text does not depend on the workers.
 pub fn write_sorted_ledger<R: Threads + Sync, F: Placed + Sync, W: Write>(
     rt: &R,
     alloc: Global,
@@ -53,12 +56,22 @@ pub fn write_sorted_ledger<R: Threads + Sync, F: Placed + Sync, W: Write>(
         → map F.bytes files.now ≡ map Some all → ArePlainEnds all ends.items) }
     ensures posted { IfOk result (λ ends. are_posted ends.items ≡ true) }
     ensures kept { IfErr result (λ fault. IsBeforeText fault → out.new ≡ out.old) }
+    // If a write failed, a beginning of the ledger was written.
+    ensures begun { IfErr result (λ fault. fault ≡ AFailedWrite → (text : List ℕ)
+        × ((all : List (List ℕ)) → map F.bytes files.now ≡ map Some all → AreBytes all
+        → IsLedgerOfFiles table.now all text)
+        × Begins (W.contents out.old) (W.contents out.new) text) }
+    ensures sorted { IfErr result (λ fault. fault ≡ AFailedWrite → (all : List (List ℕ))
+        → map F.bytes files.now ≡ map Some all → (ends : List AnEnd) × ArePlainEnds all ends
+        × (are_posted ends ≡ true)) }
     ensures fault { IfErr result (λ fault. (all : List (List ℕ))
         → map F.bytes files.now ≡ map Some all → IsBillFault all fault) }
 {
     // proof: taps that are taken to the ends of the files are their settled taps
     crate::laws::taken_taps_are_settled();
     settlement::laws::posted_taps();
+    // proof: where a write fails, the taps that were not taken yet go on to a merged list
+    sorted_taps::laws::merged_is_canonical();
     let stamps = stamps_of(alloc, files)?;
     let mut window = vec![in alloc; 0u8; WINDOW_BYTES]?;
     let numbers = check_all(rt, alloc, files, &mut window, workers)?;
@@ -67,7 +80,7 @@ pub fn write_sorted_ledger<R: Threads + Sync, F: Placed + Sync, W: Write>(
     let clock = table.clock(alloc)?;
     let mut text = head_with_room(alloc, STRIDE_ROOM_BYTES)?;
     let mut taker = Taker::begin(alloc, files, window)?;
-    let mut teller = Teller::of(least_token());
+    let mut explainer = Explainer::of(least_token());
     let mut rounds = Rounds::of(alloc, files, counted, workers);
     write_ranges(
         rt,
@@ -75,7 +88,7 @@ pub fn write_sorted_ledger<R: Threads + Sync, F: Placed + Sync, W: Write>(
         &mut text,
         table,
         &clock,
-        &mut teller,
+        &mut explainer,
         &mut taker,
         files,
         &rounds.bounds,

@@ -1,19 +1,18 @@
 //! The lines of taps of merged files, one after the other.
 
-ghost use Rattle.std.specs.Prelude.{◌≡◌, ◌+◌, ◌≤◌, ◌<◌, ◌^◌, ℕ, List, Option, IfErr, OnOk};
+ghost use Rattle.std.specs.Prelude.{◌≡◌, ◌+◌, ◌≤◌, ◌<◌, ◌^◌, ℕ, List, Option, IfErr, OnErr, OnOk};
 ghost use Rattle.std.specs.Prelude.{length, map, string_bytes};
-ghost use Rattle.std.specs.Io.KnownBytes.{append_known};
 ghost use Rattle.tap_views.specs.declared.token.Token.{Token};
 ghost use Rattle.shard_book.specs.declared.entry.Entry.{Entry};
 ghost use Rattle.sorted_taps.specs.declared.reader.TapReader.{TapReader};
 ghost use Rattle.sorted_bills.specs.Faults.{IsBeforeText, IsBillFault};
 ghost use Rattle.sorted_bills.specs.inside.Taken.{IsReady};
-ghost use Rattle.sorted_bills.specs.inside.Told.{AreToldSoFar};
+ghost use Rattle.sorted_bills.specs.inside.Explained.{AreExplainedSoFar, IsBegunSoFar};
 
 use crate::fault::BillFault;
 use crate::taker::Taker;
 use fare_table::{Clock, FareTable};
-use fare_texts::Teller;
+use fare_texts::Explainer;
 use placed_files::Placed;
 use settled_texts::write_taps;
 use std::io::Write;
@@ -22,11 +21,11 @@ use tap_views::Token;
 /// Takes the taps of the files that have tokens below the bound, or all if there is none, posts
 /// them, and appends their lines to `text`. The lines in `text` may go out first. More taps than
 /// are left are refused.
-pub(crate) fn tell_below<F: Placed, W: Write>(
+pub(crate) fn explain_below<F: Placed, W: Write>(
     text: &mut String,
     table: &FareTable,
     clock: &Clock,
-    teller: &mut Teller,
+    explainer: &mut Explainer,
     taker: &mut Taker,
     files: &[F],
     below: Option<Token>,
@@ -35,27 +34,33 @@ pub(crate) fn tell_below<F: Placed, W: Write>(
 ) -> Result<(), BillFault>
     requires clock { clock.now ≡ table.now.zone }
     requires ready { IsReady (length files.now) taker.old }
-    requires room { teller.old.number + left.old < 2 ^ 64 }
-    requires told { (earlier : List Entry) × (begun : List TapReader) × (from : Token)
-        × (before : Option (List ℕ))
-        × AreToldSoFar table.now (map F.bytes files.now) earlier begun from before
-        taker.old.merge.readers.items teller.old
-        (append_known (W.contents out.old) (string_bytes text.old)) }
+    requires room { explainer.old.number + left.old < 2 ^ 64 }
+    requires explained { (earlier : List Entry) × (begun : List TapReader) × (from : Token)
+        × (start : Option (List ℕ)) × (waited : List ℕ)
+        × AreExplainedSoFar table.now (map F.bytes files.now) earlier begun from start waited
+        taker.old.merge.readers.items explainer.old
+        (W.contents out.old) (string_bytes text.old) }
     ensures ready { OnOk result (IsReady (length files.now) taker.new) }
-    ensures few { OnOk result (teller.new.number + left.new ≤ teller.old.number + left.old) }
-    ensures told { OnOk result ((earlier : List Entry) (begun : List TapReader) (from : Token)
-        (before : Option (List ℕ))
-        → AreToldSoFar table.now (map F.bytes files.now) earlier begun from before
-        taker.old.merge.readers.items teller.old
-        (append_known (W.contents out.old) (string_bytes text.old))
-        → AreToldSoFar table.now (map F.bytes files.now) earlier begun from before
-        taker.new.merge.readers.items teller.new
-        (append_known (W.contents out.new) (string_bytes text.new))) }
+    ensures few { OnOk result (explainer.new.number + left.new ≤ explainer.old.number + left.old) }
+    ensures explained { OnOk result ((earlier : List Entry) (begun : List TapReader) (from : Token)
+        (start : Option (List ℕ)) (waited : List ℕ)
+        → AreExplainedSoFar table.now (map F.bytes files.now) earlier begun from start waited
+        taker.old.merge.readers.items explainer.old
+        (W.contents out.old) (string_bytes text.old)
+        → AreExplainedSoFar table.now (map F.bytes files.now) earlier begun from start waited
+        taker.new.merge.readers.items explainer.new
+        (W.contents out.new) (string_bytes text.new)) }
+    ensures begun { OnErr result ((earlier : List Entry) (begun : List TapReader) (from : Token)
+        (start : Option (List ℕ)) (waited : List ℕ)
+        → AreExplainedSoFar table.now (map F.bytes files.now) earlier begun from start waited
+        taker.old.merge.readers.items explainer.old (W.contents out.old) (string_bytes text.old)
+        → IsBegunSoFar table.now (map F.bytes files.now) earlier begun from start waited
+        (W.contents out.new)) }
     ensures fault { IfErr result (λ fault. IsBeforeText fault → ⊥) }
     ensures of_files { IfErr result (λ fault. (all : List (List ℕ)) → IsBillFault all fault) }
 {
     for _ in 0..u64::MAX {
-        taker.take(files, teller.token, below)?;
+        taker.take(files, explainer.token, below)?;
         if taker.taps.is_empty() {
             return Ok(());
         }
@@ -64,7 +69,7 @@ pub(crate) fn tell_below<F: Placed, W: Write>(
             return Err(BillFault::Changed);
         }
         *left -= number;
-        write_taps(text, table, clock, teller, &taker.taps, out)?;
+        write_taps(text, table, clock, explainer, &taker.taps, out)?;
     }
     Err(BillFault::Changed)
 }

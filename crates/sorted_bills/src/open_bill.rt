@@ -8,7 +8,7 @@ ghost use Rattle.tap_views.specs.declared.encoder.TapFields.{TapFields};
 ghost use Rattle.fare_texts.specs.Lines.{IsUpTo};
 ghost use Rattle.settlement.specs.Bills.{IsBillOf};
 ghost use Rattle.settlement.specs.Posted.{posted, token_of_tap};
-ghost use Rattle.settled_texts.specs.Telling.{NoTapFallsFrom, last_token};
+ghost use Rattle.settled_texts.specs.ExplainedTaps.{NoTapFallsFrom, last_token};
 ghost use Rattle.sorted_bills.specs.inside.OpenBills.{HasRoomFor, IsOpenBill};
 
 use fare_table::{Clock, FareTable};

@@ -22,8 +22,8 @@ pub(crate) struct OwnTaps {
     pub(crate) numbers: Vec<u64>,
 }
 
-/// The token's taps of the file at the place. None if there is no such file, if it is not sorted, or
-/// if memory is refused.
+/// The token's taps of the file at the place. None if there is no such file, if it is not sorted,
+/// or if memory is refused.
 fn own_at<F: Placed>(alloc: Global, token: Token, files: &[F], place: usize) -> Option<OwnTaps>
     ensures { IfSome result (IsOwnAt token (map F.bytes files.now) place) }
 {

@@ -3,14 +3,14 @@
 ghost use Rattle.std.specs.Prelude.{◌≡◌, ◌+◌, ◌≤◌, [], All, IfOk, None, OnOk, length, map};
 ghost use Rattle.std.specs.Prelude.{string_bytes};
 ghost use Rattle.fare_table.specs.Fares.{Fares};
-ghost use Rattle.fare_texts.specs.Tellers.{HasTold};
+ghost use Rattle.fare_texts.specs.Explainers.{HasExplained};
 ghost use Rattle.sorted_bills.specs.inside.Ranges.{AreLinesAnywhere, IsRange};
 
 use crate::fault::BillFault;
-use crate::lines_below::tell_below;
+use crate::lines_below::explain_below;
 use crate::taker::Taker;
 use fare_table::{Clock, FareTable};
-use fare_texts::{Teller, pass_on};
+use fare_texts::{Explainer, pass_on};
 use placed_files::Placed;
 use settled_texts::least_token;
 use sorted_taps::{Span, WINDOW_BYTES, copies_of};
@@ -23,8 +23,8 @@ use tap_views::Token;
 /// The most taps of a range, so that its lines stay few.
 const MOST_TAPS: u64 = 65_536;
 
-/// The least token but one: a range without a lower bound begins with it, since the teller of the
-/// whole ledger begins with the least one. If a tap has that one, the range is not made.
+/// The least token but one: a range without a lower bound begins with it, since the explainer of
+/// the whole ledger begins with the least one. If a tap has that one, the range is not made.
 fn second_token() -> Token {
     let mut bytes = [0; 16];
     bytes[15] = 1;
@@ -40,7 +40,7 @@ pub(crate) struct Range {
     /// not made whole.
     pub(crate) span: Option<Span>,
     /// It has come past the taps.
-    pub(crate) teller: Teller,
+    pub(crate) explainer: Explainer,
     /// The number of the taps, at least that of those of the last token.
     pub(crate) number: u64,
     /// Lines that wait.
@@ -51,7 +51,7 @@ pub(crate) struct Range {
 /// Appends the lines of the taps from one token on and below another to the list, which has none
 /// yet, and returns where the readers of the files stood before these taps and behind them. The
 /// text has room for lines that wait. More taps than are left are refused.
-fn tell_span<F: Placed>(
+fn explain_span<F: Placed>(
     alloc: Global,
     table: &FareTable,
     clock: &Clock,
@@ -59,24 +59,24 @@ fn tell_span<F: Placed>(
     from: Option<Token>,
     below: Option<Token>,
     text: &mut String,
-    teller: &mut Teller,
+    explainer: &mut Explainer,
     left: &mut u64,
     lines: &mut Vec<u8>,
 ) -> Result<Span, BillFault>
     requires clock { clock.now ≡ table.now.zone }
     requires none { (lines.old.items ≡ []) × (string_bytes text.old ≡ []) }
-    requires fresh { (fares : Fares) → HasTold fares teller.old [] }
-    requires number { teller.old.number ≡ 0 }
+    requires fresh { (fares : Fares) → HasExplained fares explainer.old [] }
+    requires number { explainer.old.number ≡ 0 }
     requires most { left.old ≤ 65_536 }
-    ensures few { OnOk result (teller.new.number + left.new ≤ left.old) }
+    ensures few { OnOk result (explainer.new.number + left.new ≤ left.old) }
     ensures lines { IfOk result (λ span. AreLinesAnywhere table.now (map F.bytes files.now)
-        teller.old.token span teller.new lines.new.items) }
+        explainer.old.token span explainer.new lines.new.items) }
 {
     let window = vec![in alloc; 0u8; WINDOW_BYTES]?;
     let mut taker = Taker::near(alloc, files, from, window)?;
     let begin = copies_of(alloc, taker.merge.readers())?;
-    tell_below(
-        text, table, clock, teller, &mut taker, files, below, left, lines,
+    explain_below(
+        text, table, clock, explainer, &mut taker, files, below, left, lines,
     )?;
     pass_on(text, lines)?;
     let end = taker.into_readers();
@@ -91,7 +91,7 @@ impl Range {
         Range {
             first: least_token(),
             span: None,
-            teller: Teller::of(least_token()),
+            explainer: Explainer::of(least_token()),
             number: 0,
             text: String::new(alloc),
             lines: Vec::new(alloc),
@@ -116,10 +116,10 @@ impl Range {
         let mut left = MOST_TAPS;
         self.span = None;
         self.first = first;
-        self.teller = Teller::of(first);
+        self.explainer = Explainer::of(first);
         self.text.clear();
         self.lines.clear();
-        let Ok(span) = tell_span(
+        let Ok(span) = explain_span(
             alloc,
             table,
             clock,
@@ -127,7 +127,7 @@ impl Range {
             from,
             below,
             &mut self.text,
-            &mut self.teller,
+            &mut self.explainer,
             &mut left,
             &mut self.lines,
         ) else {

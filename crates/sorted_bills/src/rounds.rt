@@ -1,8 +1,7 @@
 //! The lines of all taps of merged files, in rounds of a range of the tokens a thread.
 
 ghost use Rattle.std.specs.Prelude.{◌≡◌, ◌+◌, ◌≤◌, ◌<◌, ◌^◌, ℕ, All, List, Option, IfErr, IfOk};
-ghost use Rattle.std.specs.Prelude.{IfSome, None, OnOk, length, map, string_bytes};
-ghost use Rattle.std.specs.Io.KnownBytes.{append_known};
+ghost use Rattle.std.specs.Prelude.{IfSome, None, OnErr, OnOk, length, map, string_bytes};
 ghost use Rattle.fare_table.specs.Fares.{Fares};
 ghost use Rattle.tap_views.specs.declared.token.Token.{Token};
 ghost use Rattle.shard_book.specs.declared.entry.Entry.{Entry};
@@ -13,16 +12,16 @@ ghost use Rattle.sorted_bills.specs.Faults.{IsBeforeText, IsBillFault};
 ghost use Rattle.sorted_bills.specs.inside.Following.{DoesFollow};
 ghost use Rattle.sorted_bills.specs.inside.Ranges.{IsBehind, IsRange};
 ghost use Rattle.sorted_bills.specs.inside.Taken.{IsReady};
-ghost use Rattle.sorted_bills.specs.inside.Told.{AreToldSoFar};
+ghost use Rattle.sorted_bills.specs.inside.Explained.{AreExplainedSoFar, IsBegunSoFar};
 
 use crate::by_threads::MAX_WORKERS;
 use crate::fault::BillFault;
-use crate::lines_below::tell_below;
+use crate::lines_below::explain_below;
 use crate::part::is_below;
 use crate::range::{Range, make_ranges};
 use crate::taker::Taker;
 use fare_table::{Clock, FareTable};
-use fare_texts::{Teller, pass_on, write_out};
+use fare_texts::{Explainer, pass_on, write_out};
 use placed_files::Placed;
 use sorted_taps::{Merge, SortedFault, Span, are_at_end, bounds_of, joined};
 use std::alloc::Global;
@@ -114,11 +113,12 @@ fn next_merge(
     range: &mut Range,
     files: usize,
 ) -> Option<Merge>
-    ensures range { (fares : Fares) (known : List (Option (List ℕ))) → IsRange fares known range.new }
+    ensures range { (fares : Fares) (known : List (Option (List ℕ)))
+        → IsRange fares known range.new }
     ensures ranked { IfSome result (λ next. IsRanked next.readers.items next.heads.items) }
     ensures number { IfSome result (λ next. length next.readers.items ≡ files) }
     ensures same { IfSome result (λ next. (range.new.lines ≡ range.old.lines)
-        × (range.new.teller ≡ range.old.teller) × (range.new.number ≡ range.old.number)) }
+        × (range.new.explainer ≡ range.old.explainer) × (range.new.number ≡ range.old.number)) }
     ensures follows { IfSome result (λ next. (fares : Fares) (known : List (Option (List ℕ)))
         → IsRange fares known range.old
         → DoesFollow fares known merge.now.readers.items token left range.old next) }
@@ -138,7 +138,7 @@ fn write_range<F: Placed, W: Write>(
     text: &mut String,
     table: &FareTable,
     clock: &Clock,
-    teller: &mut Teller,
+    explainer: &mut Explainer,
     taker: &mut Taker,
     files: &[F],
     range: &mut Range,
@@ -148,37 +148,52 @@ fn write_range<F: Placed, W: Write>(
 ) -> Result<(), BillFault>
     requires clock { clock.now ≡ table.now.zone }
     requires ready { IsReady (length files.now) taker.old }
-    requires room { teller.old.number + left.old < 2 ^ 64 }
-    requires told { (earlier : List Entry) × (begun : List TapReader) × (from : Token)
-        × (before : Option (List ℕ))
-        × AreToldSoFar table.now (map F.bytes files.now) earlier begun from before
-        taker.old.merge.readers.items teller.old
-        (append_known (W.contents out.old) (string_bytes text.old)) }
+    requires room { explainer.old.number + left.old < 2 ^ 64 }
+    requires explained { (earlier : List Entry) × (begun : List TapReader) × (from : Token)
+        × (start : Option (List ℕ)) × (waited : List ℕ)
+        × AreExplainedSoFar table.now (map F.bytes files.now) earlier begun from start waited
+        taker.old.merge.readers.items explainer.old
+        (W.contents out.old) (string_bytes text.old) }
     requires range { IsRange table.now (map F.bytes files.now) range.old }
     ensures range { IsRange table.now (map F.bytes files.now) range.new }
     ensures ready { OnOk result (IsReady (length files.now) taker.new) }
-    ensures few { OnOk result (teller.new.number + left.new ≤ teller.old.number + left.old) }
-    ensures told { OnOk result ((earlier : List Entry) (begun : List TapReader) (from : Token)
-        (before : Option (List ℕ))
-        → AreToldSoFar table.now (map F.bytes files.now) earlier begun from before
-        taker.old.merge.readers.items teller.old
-        (append_known (W.contents out.old) (string_bytes text.old))
-        → AreToldSoFar table.now (map F.bytes files.now) earlier begun from before
-        taker.new.merge.readers.items teller.new
-        (append_known (W.contents out.new) (string_bytes text.new))) }
+    ensures few { OnOk result (explainer.new.number + left.new ≤ explainer.old.number + left.old) }
+    ensures explained { OnOk result ((earlier : List Entry) (begun : List TapReader) (from : Token)
+        (start : Option (List ℕ)) (waited : List ℕ)
+        → AreExplainedSoFar table.now (map F.bytes files.now) earlier begun from start waited
+        taker.old.merge.readers.items explainer.old
+        (W.contents out.old) (string_bytes text.old)
+        → AreExplainedSoFar table.now (map F.bytes files.now) earlier begun from start waited
+        taker.new.merge.readers.items explainer.new
+        (W.contents out.new) (string_bytes text.new)) }
+    ensures begun { OnErr result ((earlier : List Entry) (begun : List TapReader) (from : Token)
+        (start : Option (List ℕ)) (waited : List ℕ)
+        → AreExplainedSoFar table.now (map F.bytes files.now) earlier begun from start waited
+        taker.old.merge.readers.items explainer.old (W.contents out.old) (string_bytes text.old)
+        → IsBegunSoFar table.now (map F.bytes files.now) earlier begun from start waited
+        (W.contents out.new)) }
     ensures fault { IfErr result (λ fault. IsBeforeText fault → ⊥) }
     ensures of_files { IfErr result (λ fault. (all : List (List ℕ)) → IsBillFault all fault) }
 {
-    match next_merge(alloc, &taker.merge, teller.token, *left, range, files.len()) {
+    match next_merge(
+        alloc,
+        &taker.merge,
+        explainer.token,
+        *left,
+        range,
+        files.len(),
+    ) {
         Some(next) => {
             pass_on(text, out)?;
             write_out(&range.lines, out)?;
             *left -= range.number;
-            *teller = range.teller;
+            *explainer = range.explainer;
             taker.merge = next;
             Ok(())
         }
-        None => tell_below(text, table, clock, teller, taker, files, below, left, out),
+        None => explain_below(
+            text, table, clock, explainer, taker, files, below, left, out,
+        ),
     }
 }
 
@@ -215,7 +230,7 @@ fn write_place<R: Threads + Sync, F: Placed + Sync, W: Write>(
     text: &mut String,
     table: &FareTable,
     clock: &Clock,
-    teller: &mut Teller,
+    explainer: &mut Explainer,
     taker: &mut Taker,
     files: &[F],
     bounds: &[Token],
@@ -226,35 +241,43 @@ fn write_place<R: Threads + Sync, F: Placed + Sync, W: Write>(
 ) -> Result<(), BillFault>
     requires clock { clock.now ≡ table.now.zone }
     requires ready { IsReady (length files.now) taker.old }
-    requires room { teller.old.number + left.old < 2 ^ 64 }
-    requires told { (earlier : List Entry) × (begun : List TapReader) × (from : Token)
-        × (before : Option (List ℕ))
-        × AreToldSoFar table.now (map F.bytes files.now) earlier begun from before
-        taker.old.merge.readers.items teller.old
-        (append_known (W.contents out.old) (string_bytes text.old)) }
+    requires room { explainer.old.number + left.old < 2 ^ 64 }
+    requires explained { (earlier : List Entry) × (begun : List TapReader) × (from : Token)
+        × (start : Option (List ℕ)) × (waited : List ℕ)
+        × AreExplainedSoFar table.now (map F.bytes files.now) earlier begun from start waited
+        taker.old.merge.readers.items explainer.old
+        (W.contents out.old) (string_bytes text.old) }
     requires ranges { All (IsRange table.now (map F.bytes files.now)) ranges.old }
     ensures ranges { OnOk result (All (IsRange table.now (map F.bytes files.now)) ranges.new) }
     ensures ready { OnOk result (IsReady (length files.now) taker.new) }
-    ensures few { OnOk result (teller.new.number + left.new ≤ teller.old.number + left.old) }
-    ensures told { OnOk result ((earlier : List Entry) (begun : List TapReader) (from : Token)
-        (before : Option (List ℕ))
-        → AreToldSoFar table.now (map F.bytes files.now) earlier begun from before
-        taker.old.merge.readers.items teller.old
-        (append_known (W.contents out.old) (string_bytes text.old))
-        → AreToldSoFar table.now (map F.bytes files.now) earlier begun from before
-        taker.new.merge.readers.items teller.new
-        (append_known (W.contents out.new) (string_bytes text.new))) }
+    ensures few { OnOk result (explainer.new.number + left.new ≤ explainer.old.number + left.old) }
+    ensures explained { OnOk result ((earlier : List Entry) (begun : List TapReader) (from : Token)
+        (start : Option (List ℕ)) (waited : List ℕ)
+        → AreExplainedSoFar table.now (map F.bytes files.now) earlier begun from start waited
+        taker.old.merge.readers.items explainer.old
+        (W.contents out.old) (string_bytes text.old)
+        → AreExplainedSoFar table.now (map F.bytes files.now) earlier begun from start waited
+        taker.new.merge.readers.items explainer.new
+        (W.contents out.new) (string_bytes text.new)) }
+    ensures begun { OnErr result ((earlier : List Entry) (begun : List TapReader) (from : Token)
+        (start : Option (List ℕ)) (waited : List ℕ)
+        → AreExplainedSoFar table.now (map F.bytes files.now) earlier begun from start waited
+        taker.old.merge.readers.items explainer.old (W.contents out.old) (string_bytes text.old)
+        → IsBegunSoFar table.now (map F.bytes files.now) earlier begun from start waited
+        (W.contents out.new)) }
     ensures fault { IfErr result (λ fault. IsBeforeText fault → ⊥) }
     ensures of_files { IfErr result (λ fault. (all : List (List ℕ)) → IsBillFault all fault) }
 {
     let below = bounds.get(place).copied();
     if ranges.is_empty() {
-        return tell_below(text, table, clock, teller, taker, files, below, left, out);
+        return explain_below(
+            text, table, clock, explainer, taker, files, below, left, out,
+        );
     }
     let index = index_at(rt, alloc, table, clock, files, bounds, ranges, place);
     let range = &mut ranges[index];
     write_range(
-        alloc, text, table, clock, teller, taker, files, range, below, left, out,
+        alloc, text, table, clock, explainer, taker, files, range, below, left, out,
     )
 }
 
@@ -267,7 +290,7 @@ pub(crate) fn write_ranges<R: Threads + Sync, F: Placed + Sync, W: Write>(
     text: &mut String,
     table: &FareTable,
     clock: &Clock,
-    teller: &mut Teller,
+    explainer: &mut Explainer,
     taker: &mut Taker,
     files: &[F],
     bounds: &[Token],
@@ -277,30 +300,36 @@ pub(crate) fn write_ranges<R: Threads + Sync, F: Placed + Sync, W: Write>(
 ) -> Result<(), BillFault>
     requires clock { clock.now ≡ table.now.zone }
     requires ready { IsReady (length files.now) taker.old }
-    requires room { teller.old.number + counted < 2 ^ 64 }
-    requires told { (earlier : List Entry) × (begun : List TapReader) × (from : Token)
-        × (before : Option (List ℕ))
-        × AreToldSoFar table.now (map F.bytes files.now) earlier begun from before
-        taker.old.merge.readers.items teller.old
-        (append_known (W.contents out.old) (string_bytes text.old)) }
+    requires room { explainer.old.number + counted < 2 ^ 64 }
+    requires explained { (earlier : List Entry) × (begun : List TapReader) × (from : Token)
+        × (start : Option (List ℕ)) × (waited : List ℕ)
+        × AreExplainedSoFar table.now (map F.bytes files.now) earlier begun from start waited
+        taker.old.merge.readers.items explainer.old
+        (W.contents out.old) (string_bytes text.old) }
     requires ranges { All (IsRange table.now (map F.bytes files.now)) ranges.old }
     ensures end { OnOk result (AreAtEnd taker.new.merge.readers.items) }
-    ensures told { OnOk result ((earlier : List Entry) (begun : List TapReader) (from : Token)
-        (before : Option (List ℕ))
-        → AreToldSoFar table.now (map F.bytes files.now) earlier begun from before
-        taker.old.merge.readers.items teller.old
-        (append_known (W.contents out.old) (string_bytes text.old))
-        → AreToldSoFar table.now (map F.bytes files.now) earlier begun from before
-        taker.new.merge.readers.items teller.new
-        (append_known (W.contents out.new) (string_bytes text.new))) }
+    ensures explained { OnOk result ((earlier : List Entry) (begun : List TapReader) (from : Token)
+        (start : Option (List ℕ)) (waited : List ℕ)
+        → AreExplainedSoFar table.now (map F.bytes files.now) earlier begun from start waited
+        taker.old.merge.readers.items explainer.old
+        (W.contents out.old) (string_bytes text.old)
+        → AreExplainedSoFar table.now (map F.bytes files.now) earlier begun from start waited
+        taker.new.merge.readers.items explainer.new
+        (W.contents out.new) (string_bytes text.new)) }
+    ensures begun { OnErr result ((earlier : List Entry) (begun : List TapReader) (from : Token)
+        (start : Option (List ℕ)) (waited : List ℕ)
+        → AreExplainedSoFar table.now (map F.bytes files.now) earlier begun from start waited
+        taker.old.merge.readers.items explainer.old (W.contents out.old) (string_bytes text.old)
+        → IsBegunSoFar table.now (map F.bytes files.now) earlier begun from start waited
+        (W.contents out.new)) }
     ensures fault { IfErr result (λ fault. IsBeforeText fault → ⊥) }
     ensures of_files { IfErr result (λ fault. (all : List (List ℕ)) → IsBillFault all fault) }
 {
     let mut left = counted;
     for place in 0..bounds.len() + 1 {
         write_place(
-            rt, alloc, text, table, clock, teller, taker, files, bounds, ranges, place, &mut left,
-            out,
+            rt, alloc, text, table, clock, explainer, taker, files, bounds, ranges, place,
+            &mut left, out,
         )?;
     }
     if left > 0 || !are_at_end(taker.merge.readers()) {

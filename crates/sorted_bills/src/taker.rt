@@ -1,10 +1,11 @@
 //! Taps of merged files, taken some at a time.
 
-ghost use Rattle.std.specs.Prelude.{◌≡◌, ◌≤◌, ◌<◌, [], true, ℕ, List, IfOk, IsTrue, OnOk, None, Some};
+ghost use Rattle.std.specs.Prelude.{◌≡◌, ◌≤◌, ◌<◌, [], true, ℕ, List, IfOk, IsTrue, OnOk, None};
+ghost use Rattle.std.specs.Prelude.{Some};
 ghost use Rattle.std.specs.Prelude.{length, map};
 ghost use Rattle.fare_texts.specs.Lines.{IsUpTo};
 ghost use Rattle.settlement.specs.Posted.{HasName, token_of_tap};
-ghost use Rattle.settled_texts.specs.Telling.{NoTapFallsFrom};
+ghost use Rattle.settled_texts.specs.ExplainedTaps.{NoTapFallsFrom};
 ghost use Rattle.sorted_taps.specs.Heads.{IsRanked};
 ghost use Rattle.sorted_taps.specs.Merges.{AreAtEnd, AreBegun};
 ghost use Rattle.sorted_taps.specs.Reading.{window_bytes};
@@ -148,8 +149,8 @@ impl Taker {
         Ok(Taker::of(alloc, merge, window)?)
     }
 
-    /// At about the first tap with this token or a higher one, or at the first of all if there is no
-    /// token. The window has `WINDOW_BYTES` at least.
+    /// At about the first tap with this token or a higher one, or at the first of all if there is
+    /// no token. The window has `WINDOW_BYTES` at least.
     pub(crate) fn near<F: Placed>(
         alloc: Global,
         files: &[F],
@@ -188,9 +189,9 @@ impl Taker {
         merge.into_readers()
     }
 
-    /// Takes the next taps, in place of those taken last: only those with tokens below the bound, if
-    /// there is one, and otherwise none only at the ends of all files. Their tokens do not fall from
-    /// this one on.
+    /// Takes the next taps, in place of those taken last: only those with tokens below the bound,
+    /// if there is one, and otherwise none only at the ends of all files. Their tokens do not fall
+    /// from this one on.
     pub(crate) fn take<F: Placed>(
         &mut self,
         files: &[F],

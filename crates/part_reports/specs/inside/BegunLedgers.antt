@@ -16,7 +16,7 @@ pub record IsBegunLedger (file : List ℕ) (at : Standing) : Type 0 where
   pub stands : StandsInText (Entries, left) at
   pub number : at.number ≡ 2
 
--- each text does, where it is known
+-- each text does, if it is known
 abbrev pub AreBegunLedgers : List (Option (List ℕ)) → List Standing → Type 0
 AreBegunLedgers files ats =
     AllZip (λ file at. IfSome file (λ file. IsBegunLedger file at)) files ats

@@ -16,7 +16,7 @@ use Rattle.report_texts.specs.declared.upload_end.UploadEnd.{UploadEnd}
 use Rattle.part_reports.specs.Reports.{added}
 use Rattle.part_reports.specs.declared.front.Front.{Front}
 
--- so many uploads ended so, and each was posted
+-- this number of uploads ended so, and each was posted
 pub record AreSoManyPosted (count : ℕ) (ends : List UploadEnd) : Type 0 where
   pub number : length ends ≡ count
   pub each : All IsUploadEnd ends
@@ -31,7 +31,7 @@ pub record AreEnds (ends : List UploadEnd) : Type 0 where
 abbrev pub ends_text : List UploadEnd → List ℕ
 ends_text = uploads_section
 
--- so many validators, which rise
+-- this number of validators, which rise
 pub record AreRising (count : ℕ) (validators : List (ℕ × Sums)) : Type 0 where
   pub number : length validators ≡ count
   pub each : All IsValidatorSum validators
@@ -63,33 +63,34 @@ front_text ends totals validators tokens =
     ++ (validators_section validators ++ number_line (codes "tokens ") tokens))
 
 -- a report up to the lines of its tokens
-pub record ToldFront : Type 0 where
+pub record ReportedFront : Type 0 where
   pub ends : List UploadEnd
   pub totals : Sums
   pub validators : List (ℕ × Sums)
   pub tokens : ℕ
 
 -- each section may be that of a part
-pub record MayBeSections (told : ToldFront) : Type 0 where
-  pub ends : AreEnds told.ends
-  pub totals : AreCounts told.totals
-  pub validators : AreValidators told.validators
-  pub tokens : told.tokens < 2 ^ 64
+pub record MayBeSections (reported : ReportedFront) : Type 0 where
+  pub ends : AreEnds reported.ends
+  pub totals : AreCounts reported.totals
+  pub validators : AreValidators reported.validators
+  pub tokens : reported.tokens < 2 ^ 64
 
 -- it may be that of a part: the validators add up to the totals, too
-pub record MayBePart (told : ToldFront) : Type 0 where
-  pub ends : AreEnds told.ends
-  pub totals : AreCounts told.totals
-  pub validators : AreValidators told.validators
-  pub add : told.totals ≡ added told.validators
-  pub tokens : told.tokens < 2 ^ 64
+pub record MayBePart (reported : ReportedFront) : Type 0 where
+  pub ends : AreEnds reported.ends
+  pub totals : AreCounts reported.totals
+  pub validators : AreValidators reported.validators
+  pub add : reported.totals ≡ added reported.validators
+  pub tokens : reported.tokens < 2 ^ 64
 
 -- its text
-abbrev pub told_text : ToldFront → List ℕ
-told_text told = front_text told.ends told.totals told.validators told.tokens
+abbrev pub reported_text : ReportedFront → List ℕ
+reported_text reported =
+    front_text reported.ends reported.totals reported.validators reported.tokens
 
 -- this was read of it
-pub record IsFront (front : Front) (told : ToldFront) : Type 0 where
-  pub totals : sums_of front.totals ≡ told.totals
-  pub validators : AreSums front.validators.items told.validators
-  pub tokens : front.tokens ≡ told.tokens
+pub record IsFront (front : Front) (reported : ReportedFront) : Type 0 where
+  pub totals : sums_of front.totals ≡ reported.totals
+  pub validators : AreSums front.validators.items reported.validators
+  pub tokens : front.tokens ≡ reported.tokens

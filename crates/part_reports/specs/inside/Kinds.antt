@@ -30,8 +30,8 @@ Leave Has (line ∷ lines) before after =
     (its : Sums) × (more : Sums) × Has line its × (before ≡ add_sums its more)
     × Leave Has lines more after
 
--- the lines are of this kind: so many of a report's tokens, which rise and add up to what is left
--- of the totals, or a ledger's, which do not fall
+-- the lines are of this kind: this number of a report's tokens, which rise and add up to what is
+-- left of the totals, or a ledger's, which do not fall
 abbrev pub AreLines : LineKind → List TokenLine → Type 0
 AreLines (Tokens left rest) lines =
     (length lines ≡ left) × All IsSumLine lines

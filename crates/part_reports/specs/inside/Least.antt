@@ -15,7 +15,7 @@ pub record IsBelowOthers (tokens : List (Option Token)) (place : ℕ) : Type 0 w
   pub others : (other : ℕ) (above : Token) → other ≢ place → StandsAt tokens other above
       → token_cmp token above ≡ Less
 
--- the place whose token is below all others; none where there is no token
+-- the place whose token is below all others; none if there is no token
 abbrev pub IsLeast : List (Option Token) → Option ℕ → Type 0
 IsLeast tokens None = (place : ℕ) (token : Token) → ¬ (StandsAt tokens place token)
 IsLeast tokens (Some place) = IsBelowOthers tokens place

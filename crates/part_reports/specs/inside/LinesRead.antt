@@ -1,14 +1,14 @@
--- What reading a part of a text does, where the text is known.
+-- What reading a part of a text does, if the text is known.
 use Rattle.std.specs.Prelude.{◌≡◌, ℕ, List, ◌++◌, Option, Some, None, Result, Ok, Err}
 use Rattle.std.specs.Prelude.{MatchOption, ⊤}
 use Rattle.part_reports.specs.declared.fault.MergeFault.{MergeFault}
 use Rattle.part_reports.specs.Faults.{IsOfTexts}
 
--- what a form tells of a line: a value that may stand there and is written so, or no such value is
-abbrev pub IsTold : {T V : Type 0} → (T → V) → (V → Type 0) → (V → List ℕ) → List ℕ → Option T
+-- what a form says of a line: a value that may stand there and is written so, or no such value is
+abbrev pub IsReported : {T V : Type 0} → (T → V) → (V → Type 0) → (V → List ℕ) → List ℕ → Option T
     → Type 0
-IsTold {V = V} of MayStand written line told =
-    MatchOption told ((value : V) → MayStand value → ¬ (line ≡ written value))
+IsReported {V = V} of MayStand written line reported =
+    MatchOption reported ((value : V) → MayStand value → ¬ (line ≡ written value))
     (λ x. MayStand (of x) × (line ≡ written (of x)))
 
 -- the text begins with a value that may stand there, and this is left of it behind the value

@@ -74,11 +74,12 @@ pub record IsUsedBy (file : List ℕ) (left : ReportAt) (done : List LineCharge)
   pub begun : BegunReport
   pub may : MayBePart begun.0
   pub shown : file ≡ begun_text begun
-  pub told : List (Token × Sums)
-  pub fit : All IsTokenSum told
-  pub going : IsGoing (record { text = left_text begun; at = left.at; done = map sum_line told })
+  pub reported : List (Token × Sums)
+  pub fit : All IsTokenSum reported
+  pub going : IsGoing
+      (record { text = left_text begun; at = left.at; done = map sum_line reported })
   pub spent : (tokens : List (Token × Sums)) (charges : List LineCharge)
-      → UseUp None (sums []) (told ++ tokens) (done ++ charges)
+      → UseUp None (sums []) (reported ++ tokens) (done ++ charges)
       ↔ UseUp left.token left.rest tokens charges
   pub used : AreSumsOf left.used (map at_validator done)
   pub validators : AreSumsOf left.validators begun.0.validators

@@ -11,7 +11,7 @@ use Rattle.part_reports.specs.Ledgers.{IsLedgerEntryLine}
 use Rattle.part_reports.specs.TokenLines.{TokenLine}
 use Rattle.part_reports.specs.inside.Kinds.{HasTokenSums, IsSumLine, IsTextOf}
 use Rattle.part_reports.specs.inside.SumsLeft.{sums_left}
-use Rattle.part_reports.specs.inside.Told.{next_number}
+use Rattle.part_reports.specs.inside.Reported.{next_number}
 use Rattle.part_reports.specs.declared.merging.LineKind.{LineKind}
 use Rattle.part_reports.specs.declared.merging.LineKind.TheVariants.{Tokens, Entries}
 use Rattle.part_reports.specs.declared.merging.OrderedText.{OrderedText}
@@ -65,7 +65,7 @@ IsBehindOne Entries line Entries = Unit {0}
 abbrev pub line_with : Token → List ℕ → TokenLine
 line_with token text = record { token = token; text = text }
 
--- the line may stand first in a text of this kind, or be empty where the text is: of which kind the
+-- the line may stand first in a text of this kind, or be empty if the text is: of which kind the
 -- lines behind it are, and its token
 abbrev pub IsFirstLine : LineKind → List ℕ → LineKind → Option Token → Type 0
 IsFirstLine kind line behind None = (line ≡ []) × MayEnd kind

@@ -13,20 +13,20 @@ use Rattle.shard_book.specs.declared.sums.totals.Totals.{Totals}
 use Rattle.part_reports.specs.declared.front.Front.{Front}
 use Rattle.part_reports.specs.declared.sums.WholeSums.{WholeSums}
 use Rattle.part_reports.specs.Reports.{sums_found, sums_of_validator}
-use Rattle.part_reports.specs.inside.Fronts.{IsFront, ToldFront}
+use Rattle.part_reports.specs.inside.Fronts.{IsFront, ReportedFront}
 
 -- the map has these sums
 abbrev pub AreSumsOf : BTreeMap ℕ Totals → List (ℕ × Sums) → Type 0
 AreSumsOf validators list =
     (q : ℕ) → option_map sums_of (get nat_cmp validators q) ≡ sums_found list q
 
--- what these reports tell, added up
-pub record AreFrontsCounted (whole : WholeSums) (fronts : List ToldFront) : Type 0 where
-  pub totals : sums_of whole.totals ≡ add_all (map (λ told. told.totals) fronts)
-  pub validators : AreSumsOf whole.validators (flat_map (λ told. told.validators) fronts)
-  pub tokens : whole.tokens ≡ sum_by (λ told. told.tokens) fronts
+-- what these reports contain, added up
+pub record AreFrontsCounted (whole : WholeSums) (fronts : List ReportedFront) : Type 0 where
+  pub totals : sums_of whole.totals ≡ add_all (map (λ reported. reported.totals) fronts)
+  pub validators : AreSumsOf whole.validators (flat_map (λ reported. reported.validators) fronts)
+  pub tokens : whole.tokens ≡ sum_by (λ reported. reported.tokens) fronts
 
--- a list's sums, and those of nothing where there are none
+-- a list's sums, and those of nothing if there are none
 abbrev pub or_nothing : Option Sums → Sums
 or_nothing None = sums []
 or_nothing (Some some) = some
@@ -53,15 +53,15 @@ WithValidators before after added false = (list : List (ℕ × Sums)) → AreSum
     → ¬ (AreSmall (list ++ map validator_sum added))
 
 -- these reports have no more than any run has
-pub record AreFew (fronts : List ToldFront) : Type 0 where
-  pub totals : (add_all (map (λ told. told.totals) fronts)).taps ≤ 2 ^ 95
-  pub validators : AreSmall (flat_map (λ told. told.validators) fronts)
-  pub tokens : sum_by (λ told. told.tokens) fronts < 2 ^ 128
+pub record AreFew (fronts : List ReportedFront) : Type 0 where
+  pub totals : (add_all (map (λ reported. reported.totals) fronts)).taps ≤ 2 ^ 95
+  pub validators : AreSmall (flat_map (λ reported. reported.validators) fronts)
+  pub tokens : sum_by (λ reported. reported.tokens) fronts < 2 ^ 128
 
--- what a report tells was added; or it would be more than any run has
+-- what a report contains was added; or it would be more than any run has
 abbrev pub WithFront : WholeSums → WholeSums → Front → Bool → Type 0
-WithFront before after front true = (fronts : List ToldFront) (told : ToldFront)
-    → AreFrontsCounted before fronts → IsFront front told
-    → AreFrontsCounted after (fronts ++ told ∷ [])
-WithFront before after front false = (fronts : List ToldFront) (told : ToldFront)
-    → AreFrontsCounted before fronts → IsFront front told → ¬ (AreFew (fronts ++ told ∷ []))
+WithFront before after front true = (fronts : List ReportedFront) (reported : ReportedFront)
+    → AreFrontsCounted before fronts → IsFront front reported
+    → AreFrontsCounted after (fronts ++ reported ∷ [])
+WithFront before after front false = (fronts : List ReportedFront) (reported : ReportedFront)
+    → AreFrontsCounted before fronts → IsFront front reported → ¬ (AreFew (fronts ++ reported ∷ []))

@@ -1,13 +1,16 @@
 //! Reads how the uploads of the whole ended.
 
-ghost use Rattle.std.specs.Prelude.{◌≡◌, ◌<◌, ℕ, List, All, IfErr, IfOk, IsSome, length};
+ghost use Rattle.std.specs.Prelude.{◌≡◌, ◌<◌, ℕ, List, All, IfErr, IfOk, IfSome, IsSome, OnOk};
+ghost use Rattle.std.specs.Prelude.{length};
 ghost use Rattle.part_reports.specs.Faults.{IsOfTaps, IsOfTexts, NamesAmong};
-ghost use Rattle.part_reports.specs.inside.Told.{IsOfReader};
+ghost use Rattle.part_reports.specs.inside.ReadTo.{IsOfForm, NamesFirstWrongEnds};
+ghost use Rattle.part_reports.specs.inside.Reported.{IsOfReader, next_number};
 ghost use Rattle.report_texts.specs.Numbers.{IsUploadEnd};
 ghost use Rattle.report_texts.specs.declared.upload_end.UploadEnd.{UploadEnd as AnEnd};
 ghost use Rattle.part_reports.specs.Reports.{NamesWrongText, end_texts, all_ends};
 ghost use Rattle.part_reports.specs.Texts.{AreLeft};
 ghost use Rattle.part_reports.specs.inside.UploadEnds.{HaveReadEnds, AreEndsAdded, IsNextEnd};
+ghost use Rattle.part_reports.specs.inside.UploadEnds.{IsFirstNoEnd};
 
 use crate::fault::MergeFault;
 use crate::line_reader::LineReader;
@@ -16,7 +19,7 @@ use report_texts::{UploadEnd, end_of};
 use std::alloc::Global;
 use std::io::BufRead;
 
-/// Reads the end of the upload of this number; none where the text is over.
+/// Reads the end of the upload of this number; none if the text is over.
 fn next_end<R: BufRead + Drop>(
     lines: &mut LineReader<R>,
     upload: u64,
@@ -25,24 +28,28 @@ fn next_end<R: BufRead + Drop>(
         lines.new.line.items result }
     ensures some { IfOk result (λ end. IsSome end → 0 < length lines.new.line.items) }
     ensures text { lines.new.text ≡ lines.old.text }
-    ensures told { IfErr result (IsOfReader lines.new.text lines.new.lines) }
+    ensures reported { IfErr result (IsOfReader lines.new.text lines.new.lines) }
+    ensures lines { OnOk result (lines.new.lines ≡ next_number lines.old.lines) }
+    ensures form { IfErr result (IsOfForm lines.old.lines) }
 {
     lines.next()?;
     if lines.is_over() {
         return Ok(None);
     }
-    let end = lines.told(end_of(lines.line(), upload))?;
+    let end = lines.reported(end_of(lines.line(), upload))?;
     Ok(Some(end))
 }
 
-/// Adds the ends of the next uploads, which the lines of the text tell.
+/// Adds the ends of the next uploads, which the lines of the text contain.
 fn read_more<R: BufRead + Drop>(
     ends: &mut UploadEnds,
     lines: &mut LineReader<R>,
 ) -> Result<(), MergeFault>
     ensures added { AreEndsAdded ends.old ends.new (R.remaining lines.old.from) result }
     ensures text { lines.new.text ≡ lines.old.text }
-    ensures told { IfErr result (IsOfReader lines.new.text lines.new.lines) }
+    ensures reported { IfErr result (IsOfReader lines.new.text lines.new.lines) }
+    ensures first { IfErr result (λ fault. IfSome (R.remaining lines.old.from)
+        (λ text. IsFirstNoEnd ends.old.uploads lines.old.lines text fault)) }
 {
     for _ in 0..u64::MAX {
         match next_end(lines, ends.uploads)? {
@@ -59,7 +66,7 @@ pub(crate) fn read_ends<R: BufRead + Drop>(
     alloc: Global,
     texts: Vec<R>,
 ) -> Result<UploadEnds, MergeFault>
-    ensures told { IfOk result (λ ends. (files : List (List ℕ))
+    ensures reported { IfOk result (λ ends. (files : List (List ℕ))
         → AreLeft R.remaining texts.items files → (lists : List (List AnEnd))
         × (files ≡ end_texts 0 lists) × HaveReadEnds ends (all_ends lists)) }
     ensures refused { IfErr result (λ fault. IsOfTexts fault → (files : List (List ℕ))
@@ -69,6 +76,8 @@ pub(crate) fn read_ends<R: BufRead + Drop>(
     ensures named { IfErr result (NamesAmong 0 (length texts.items)) }
     ensures wrong { IfErr result (λ fault. (files report_files : List (List ℕ))
         → AreLeft R.remaining texts.items files → NamesWrongText files report_files fault) }
+    ensures first_wrong { IfErr result (λ fault. (files : List (List ℕ))
+        → AreLeft R.remaining texts.items files → NamesFirstWrongEnds files fault) }
 {
     let mut ends = UploadEnds::new(alloc);
     let mut number: usize = 0;

@@ -6,7 +6,7 @@ use Rattle.tap_views.specs.declared.token.Token.{Token}
 use Rattle.fare_texts.specs.Lines.{IsUpTo}
 use Rattle.settlement.specs.Bills.{IsBillOf}
 use Rattle.settlement.specs.Posted.{HasName, posted, token_of_tap}
-use Rattle.settled_texts.specs.Telling.{NoTapFallsFrom, last_token}
+use Rattle.settled_texts.specs.ExplainedTaps.{NoTapFallsFrom, last_token}
 use Rattle.sorted_taps.specs.Spans.{IsSpanOf}
 use Rattle.sorted_taps.specs.declared.reader.TapReader.{TapReader}
 use Rattle.sorted_bills.specs.inside.OpenBills.{IsOpenBill}

@@ -17,6 +17,6 @@ pub record DoesFollow (fares : Fares) (known : List (Option (List ℕ))) (reader
   pub span : Span
   pub above : token_cmp token range.first ≡ Less
   pub fits : range.number ≤ left
-  pub few : range.teller.number ≤ range.number
-  pub lines : AreLinesAnywhere fares known range.first span range.teller range.lines.items
+  pub few : range.explainer.number ≤ range.number
+  pub lines : AreLinesAnywhere fares known range.first span range.explainer range.lines.items
   pub behind : IsBehind readers span next

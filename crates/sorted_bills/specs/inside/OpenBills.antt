@@ -1,5 +1,6 @@
 -- Bills to which taps are added one by one: what private functions alone cite.
-use Rattle.std.specs.Prelude.{◌≡◌, ◌==◌, ◌+◌, ◌^◌, ◌<◌, ◌≤◌, ℕ, true, false, All, List, [], ◌∷◌, ◌++◌}
+use Rattle.std.specs.Prelude.{◌≡◌, ◌==◌, ◌+◌, ◌^◌, ◌<◌, ◌≤◌, ℕ, true, false, All, List, [], ◌∷◌}
+use Rattle.std.specs.Prelude.{◌++◌}
 use Rattle.std.specs.Prelude.{length, map}
 use Rattle.fare_table.specs.Fares.{Fares}
 use Rattle.tap_views.specs.declared.encoder.TapFields.{TapFields}

@@ -4,9 +4,9 @@ use Rattle.fare_table.specs.Fares.{Fares}
 use Rattle.tap_views.specs.declared.encoder.TapFields.{TapFields}
 use Rattle.tap_views.specs.declared.token.Token.{Token}
 use Rattle.fare_texts.specs.Lines.{AreUpTo, IsUpTo}
-use Rattle.fare_texts.specs.declared.teller.Teller.{Teller}
+use Rattle.fare_texts.specs.declared.explainer.Explainer.{Explainer}
 use Rattle.settlement.specs.Posted.{HasName}
-use Rattle.settled_texts.specs.Telling.{AreTold, NoTapFallsFrom, last_token}
+use Rattle.settled_texts.specs.ExplainedTaps.{AreExplained, NoTapFallsFrom, last_token}
 use Rattle.shard_book.specs.Entry.{own}
 use Rattle.shard_book.specs.declared.entry.Entry.{Entry}
 use Rattle.sorted_taps.specs.Spans.{HaveCome, IsSpanOf}
@@ -16,34 +16,35 @@ use Rattle.sorted_taps.specs.declared.span.Span.{Span}
 use Rattle.sorted_bills.specs.declared.range.Range.{Range}
 
 -- these are the lines of taps that follow some entries, whose tokens do not fall from this one on;
--- the teller has come past all of them
+-- the explainer has come past all of them
 pub record AreLinesFrom (fares : Fares) (earlier : List Entry) (first : Token)
-    (taps : List TapFields) (teller : Teller) (lines : List ℕ) : Type 0 where
+    (taps : List TapFields) (explainer : Explainer) (lines : List ℕ) : Type 0 where
   pub named : All HasName taps
   pub no_fall : NoTapFallsFrom first taps
-  pub told : AreTold fares earlier taps teller lines
-  pub up : IsUpTo (last_token first taps) teller.token
+  pub explained : AreExplained fares earlier taps explainer lines
+  pub up : IsUpTo (last_token first taps) explainer.token
 
 -- the lines are those of the taps of the span
 pub record AreLinesOfSpan (fares : Fares) (known : List (Option (List ℕ))) (earlier : List Entry)
-    (first : Token) (span : Span) (teller : Teller) (lines : List ℕ) : Type 0 where
+    (first : Token) (span : Span) (explainer : Explainer) (lines : List ℕ) : Type 0 where
   pub taps : List TapFields
   pub spanned : (files : List (List ℕ)) → known ≡ map Some files → IsSpanOf files taps span
-  pub lines_are : AreLinesFrom fares earlier first taps teller lines
+  pub lines_are : AreLinesFrom fares earlier first taps explainer lines
 
 -- the lines are those of the span, after whatever entries of lower tokens
-abbrev pub AreLinesAnywhere : Fares → List (Option (List ℕ)) → Token → Span → Teller → List ℕ → Type 0
-AreLinesAnywhere fares known first span teller lines = (earlier : List Entry)
+abbrev pub AreLinesAnywhere : Fares → List (Option (List ℕ)) → Token → Span → Explainer → List ℕ
+    → Type 0
+AreLinesAnywhere fares known first span explainer lines = (earlier : List Entry)
     → own first earlier ≡ [] → AreUpTo earlier first
-    → AreLinesOfSpan fares known earlier first span teller lines
+    → AreLinesOfSpan fares known earlier first span explainer lines
 
 -- if the range was made, its lines are those of its span, after whatever entries of lower tokens
 abbrev pub IsRange : Fares → List (Option (List ℕ)) → Range → Type 0
-IsRange fares known range = IfSome range.span (λ span. (range.teller.number ≤ range.number)
-    × AreLinesAnywhere fares known range.first span range.teller range.lines.items)
+IsRange fares known range = IfSome range.span (λ span. (range.explainer.number ≤ range.number)
+    × AreLinesAnywhere fares known range.first span range.explainer range.lines.items)
 
--- who has come to where the readers stand, has come to where the merge stands, after the taps of the
--- span
+-- who has come to where the readers stand, has come to where the merge stands, after the taps of
+-- the span
 abbrev pub IsBehind : List TapReader → Span → Merge → Type 0
 IsBehind readers span next = (files : List (List ℕ)) (begun : List TapReader)
     (before taps : List TapFields) → HaveCome files begun before readers → IsSpanOf files taps span

@@ -8,32 +8,32 @@ use Rattle.part_reports.specs.Ledgers.{IsNoLedger}
 use Rattle.part_reports.specs.inside.BegunLedgers.{IsBegunLedger, IsOfFirstLines}
 use Rattle.part_reports.specs.inside.Standings.{standing}
 use Rattle.part_reports.proofs.LedgerTexts.{behind_head, no_head, no_lines}
-use Rattle.part_reports.specs.inside.Told.{IsOfText, next_number}
+use Rattle.part_reports.specs.inside.Reported.{IsOfText, next_number}
 use Rattle.part_reports.proofs.Firsts.{taken_and_left}
 use Rattle.part_reports.proofs.LedgersFirst.{first_other, head_wrong, ok_both, second_wrong}
-use Rattle.part_reports.proofs.ToldOf.{of_text}
+use Rattle.part_reports.proofs.ReportedOf.{of_text}
 use Rattle.part_reports.proofs.ledgers.begin_ledger.Goals as goal
 
-pub returns-in_err-next-clause-told : goal.returns-in_err-next-clause-told
-returns-in_err-next-clause-told g c =
+pub returns-in_err-next-clause-reported : goal.returns-in_err-next-clause-reported
+returns-in_err-next-clause-reported g c =
     let p = err_from_is_err_and c.from_residual.result c.from_residual.ensures.1 in
     rw (p.1, p.2) (of_text _ _ _ _ (c.next.ensures.text ∙ c.new-reader.ensures.text)
-    c.in_err-next.ensures.told)
+    c.in_err-next.ensures.reported)
 
 pub returns-then-eq-clause-number : goal.returns-then-eq-clause-number
 returns-then-eq-clause-number g c =
     IfOk-weaker c.begin.result _ _ (λ source same.
     same ∙ c.next.ensures.text ∙ c.new-reader.ensures.text) c.begin.ensures.text
 
-pub returns-then-eq-clause-told : goal.returns-then-eq-clause-told
-returns-then-eq-clause-told g c =
+pub returns-then-eq-clause-reported : goal.returns-then-eq-clause-reported
+returns-then-eq-clause-reported g c =
     IfErr-weaker c.begin.result _ _ (λ fault of.
     subst (λ text. IsOfText text fault) (c.next.ensures.text ∙ c.new-reader.ensures.text) of)
-    c.begin.ensures.told
+    c.begin.ensures.reported
 
-pub returns-else-eq-clause-told : goal.returns-else-eq-clause-told
-returns-else-eq-clause-told g c =
-    of_text _ _ _ _ (c.next.ensures.text ∙ c.new-reader.ensures.text) c.fault.ensures.told
+pub returns-else-eq-clause-reported : goal.returns-else-eq-clause-reported
+returns-else-eq-clause-reported g c =
+    of_text _ _ _ _ (c.next.ensures.text ∙ c.new-reader.ensures.text) c.fault.ensures.reported
 
 pub returns-then-eq-clause-begun : goal.returns-then-eq-clause-begun
 returns-then-eq-clause-begun g c =
@@ -84,7 +84,8 @@ returns-else-eq-clause-first g c =
     subst (λ known. IfSome known (λ file. IsOfFirstLines file c.fault.result))
     (ap remaining c.new-reader.ensures.from)
     (IfSome_then (remaining c.new-reader.result.from) c.in_ok-next.ensures.line (λ file read.
-    head_wrong file c.next.new.self.text c.next.new.self.lines c.fault.result c.fault.ensures.told
+    head_wrong file c.next.new.self.text c.next.new.self.lines c.fault.result
+    c.fault.ensures.reported
     lines (λ e. other (c.line.ensures ∙ read.0 ∙ e ∙ sym c.head_line.ensures
     ∙ sym c.as_bytes.ensures.value))))
 

@@ -4,12 +4,12 @@ use Rattle.std.proofs.lemmas.List.{length_push, map-append, nil_from_length}
 use Rattle.std.proofs.lemmas.Result.{err_from_is_err_and}
 use Rattle.part_reports.specs.inside.BegunLedgers.{AreBegunLedgers}
 use Rattle.part_reports.specs.inside.Standings.{standing}
-use Rattle.part_reports.specs.inside.Told.{AreNumbered, text_number}
+use Rattle.part_reports.specs.inside.Reported.{AreNumbered, text_number}
 use Rattle.part_reports.proofs.FewParts.{map_length}
 use Rattle.part_reports.proofs.LedgerTexts.{begun_push, no_ledgers}
 use Rattle.part_reports.proofs.LedgersFirst.{first_lines}
 use Rattle.part_reports.proofs.LedgersWrong.{first_wrong}
-use Rattle.part_reports.proofs.ToldOf.{below_count, numbered_none, numbered_push}
+use Rattle.part_reports.proofs.ReportedOf.{below_count, numbered_none, numbered_push}
 use Rattle.part_reports.proofs.ledgers.begin_ledgers.Goals as goal
 
 pub loop-from-init : goal.loop-from-init
@@ -87,7 +87,7 @@ returns-in_err-begin_ledger-clause-named g c =
     omega (arith, c.len-text.ensures, c.loop-from.sources.ok.0) in
     rw (p.1, p.2) (below_count (length c.args.ledgers.items) c.len-text.result
     _
-    (omega (arith, all, count, size)) c.in_err-begin_ledger.ensures.told)
+    (omega (arith, all, count, size)) c.in_err-begin_ledger.ensures.reported)
 
 pub returns-in_err-begin_ledger-clause-wrong : goal.returns-in_err-begin_ledger-clause-wrong
 returns-in_err-begin_ledger-clause-wrong g c =
@@ -103,7 +103,7 @@ returns-in_err-begin_ledger-clause-wrong g c =
     ∙ c.loop-from.invariant.all) ∙ same)
     (size ∙ c.loop-from.invariant.count
     ∙ sym (map_length remaining c.loop-from.yielded))
-    c.in_err-begin_ledger.ensures.told c.in_err-begin_ledger.ensures.refused)
+    c.in_err-begin_ledger.ensures.reported c.in_err-begin_ledger.ensures.refused)
 
 pub returns-clause-begun : goal.returns-clause-begun
 returns-clause-begun g c =
@@ -140,4 +140,4 @@ returns-in_err-begin_ledger-clause-first g c =
     ∙ c.loop-from.invariant.all) ∙ same)
     (size ∙ c.loop-from.invariant.count
     ∙ sym (map_length remaining c.loop-from.yielded))
-    c.in_err-begin_ledger.ensures.told c.in_err-begin_ledger.ensures.first)
+    c.in_err-begin_ledger.ensures.reported c.in_err-begin_ledger.ensures.first)

@@ -1,7 +1,7 @@
 use Rattle.std.proofs.Common.{◌≡◌, ◌++◌, length, map}
 use Rattle.part_reports.specs.inside.BegunLedgers.{AreBegunLedgers}
 use Rattle.part_reports.specs.inside.Standings.{standing}
-use Rattle.part_reports.specs.inside.Told.{AreNumbered, text_number}
+use Rattle.part_reports.specs.inside.Reported.{AreNumbered, text_number}
 use Rattle.part_reports.proofs.ledgers.begin_ledgers.Given as goal
 
 abbrev pub invariant-loop-from : goal.invariant-loop-from

@@ -8,13 +8,13 @@ use Rattle.part_reports.specs.Faults.{text_named}
 use Rattle.part_reports.specs.Ledgers.{NamesFirstWrongLine, NamesWrongLedger}
 use Rattle.fare_texts.specs.WrittenOut.{Begins}
 use Rattle.part_reports.specs.inside.Standings.{standing}
-use Rattle.part_reports.specs.inside.Told.{AreNumbered, text_number}
+use Rattle.part_reports.specs.inside.Reported.{AreNumbered, text_number}
 use Rattle.part_reports.proofs.FewParts.{map_length}
 use Rattle.part_reports.proofs.LedgerTexts.{merged_none, merged_whole}
 use Rattle.part_reports.proofs.LedgersFirst.{err_both, merged_first}
 use Rattle.part_reports.proofs.LedgersWrong.{head_begun, merged_begun, merged_wrong}
 use Rattle.fare_texts.proofs.Beginnings.{begins_nothing}
-use Rattle.part_reports.proofs.ToldOf.{below_numbered}
+use Rattle.part_reports.proofs.ReportedOf.{below_numbered}
 use Rattle.part_reports.proofs.ledgers.merge_ledgers.Goals as goal
 
 pub returns-in_err-sources-clause-refused : goal.returns-in_err-sources-clause-refused

@@ -5,11 +5,11 @@ use Rattle.std.proofs.lemmas.List.{length_push, map-append, nil_from_length}
 use Rattle.std.proofs.lemmas.Result.{err_from_is_err_and}
 use Rattle.part_reports.specs.inside.ReportsLeft.{AreBegunReports, report_at}
 use Rattle.part_reports.specs.Faults.{number_from}
-use Rattle.part_reports.specs.inside.Told.{AreNumbered}
+use Rattle.part_reports.specs.inside.Reported.{AreNumbered}
 use Rattle.part_reports.specs.inside.WrongBeside.{left_number}
 use Rattle.part_reports.proofs.BesideWrong.{report_none}
 use Rattle.part_reports.proofs.FewParts.{map_length}
-use Rattle.part_reports.proofs.ToldOf.{among_of, numbered_none, numbered_push}
+use Rattle.part_reports.proofs.ReportedOf.{among_of, numbered_none, numbered_push}
 use Rattle.part_reports.proofs.ReportsMerged.{no_reports, reports_push}
 use Rattle.part_reports.proofs.ledgers_with_reports.begin_reports.Goals as goal
 
@@ -96,7 +96,7 @@ returns-in_err-begin-clause-named g c =
     omega (arith, c.saturating_add-text.ensures, size) in
     rw (p.1, p.2) (among_of c.args.first (length c.args.reports.items)
     (length c.loop-from.lefts.items) c.saturating_add-text.result _ (omega (arith, all, count))
-    place c.in_err-begin.ensures.told)
+    place c.in_err-begin.ensures.reported)
 
 pub returns-in_err-begin-clause-wrong : goal.returns-in_err-begin-clause-wrong
 returns-in_err-begin-clause-wrong g c =
@@ -115,7 +115,7 @@ returns-in_err-begin-clause-wrong g c =
     ∙ c.loop-from.invariant.all) ∙ same)
     (place ∙ ap (number_from c.args.first) (c.loop-from.invariant.count
     ∙ sym (map_length remaining c.loop-from.yielded)))
-    c.in_err-begin.ensures.told c.in_err-begin.ensures.none)
+    c.in_err-begin.ensures.reported c.in_err-begin.ensures.none)
 
 pub returns-clause-count : goal.returns-clause-count
 returns-clause-count g c =

@@ -1,7 +1,7 @@
 use Rattle.std.proofs.Common.{◌≡◌, ◌++◌, length, map}
 use Rattle.part_reports.specs.Faults.{number_from}
 use Rattle.part_reports.specs.inside.ReportsLeft.{AreBegunReports, report_at}
-use Rattle.part_reports.specs.inside.Told.{AreNumbered}
+use Rattle.part_reports.specs.inside.Reported.{AreNumbered}
 use Rattle.part_reports.specs.inside.WrongBeside.{left_number}
 use Rattle.part_reports.proofs.ledgers_with_reports.begin_reports.Given as goal
 

@@ -5,7 +5,7 @@ use Rattle.std.proofs.lemmas.Result.{err_from_is_err_and}
 use Rattle.part_reports.specs.inside.ReportsLeft.{report_at}
 use Rattle.part_reports.proofs.Places.{map_at}
 use Rattle.part_reports.proofs.ReportsMerged.{all_up, up_more}
-use Rattle.part_reports.specs.inside.Told.{text_number}
+use Rattle.part_reports.specs.inside.Reported.{text_number}
 use Rattle.part_reports.proofs.BesideWrong.{at_item, of_left}
 use Rattle.part_reports.proofs.ledgers_with_reports.finish_all.Goals as goal
 
@@ -52,8 +52,8 @@ returns-clause-all g c =
     (omega (arith, size, done))
 
 -- ---- of which text a fault is
-pub returns-in_err-finish-in-Some-clause-told : goal.returns-in_err-finish-in-Some-clause-told
-returns-in_err-finish-in-Some-clause-told g c =
+pub returns-in_err-finish-in-Some-clause-reported : goal.returns-in_err-finish-in-Some-clause-reported
+returns-in_err-finish-in-Some-clause-reported g c =
     let remaining = g.R.Read.remaining in
     let sources = c.args.sources.now in
     let lefts = c.args.lefts.now in
@@ -65,7 +65,7 @@ returns-in_err-finish-in-Some-clause-told g c =
     (text_number c.in-Some.source.now) c.in-Some.source.now.reader.lines _
     (map_at text_number sources at c.in-Some.source.now
     (at_item sources at c.get.result c.in-Some.source c.in-Some.is c.get.ensures.lookup))
-    c.in_err-finish-in-Some.ensures.told
+    c.in_err-finish-in-Some.ensures.reported
     (λ of_texts. record {
       left = report_at remaining left;
       there = map_at (report_at remaining) lefts at left

@@ -9,12 +9,12 @@ use Rattle.part_reports.specs.inside.ReportsLeft.{AreBegunReports, report_at}
 use Rattle.part_reports.specs.inside.Standings.{standing}
 use Rattle.part_reports.specs.Faults.{NamesAmong, number_from}
 use Rattle.part_reports.specs.LedgersWithReports.{NamesWrongBeside}
-use Rattle.part_reports.specs.inside.Told.{AreNumbered, text_number}
+use Rattle.part_reports.specs.inside.Reported.{AreNumbered, text_number}
 use Rattle.part_reports.specs.inside.WrongBeside.{left_number}
 use Rattle.part_reports.proofs.BesideWrong.{among_below, counted_files, ledger_beside}
 use Rattle.part_reports.proofs.BesideWrong.{merged_beside, report_beside}
 use Rattle.part_reports.proofs.FewParts.{map_length}
-use Rattle.part_reports.proofs.ToldOf.{among_numbered, below_numbered}
+use Rattle.part_reports.proofs.ReportedOf.{among_numbered, below_numbered}
 use Rattle.part_reports.proofs.ReportsMerged.{ledgers_number, no_charges, no_whole, reports_number}
 use Rattle.part_reports.proofs.LedgersWrong.{head_begun, merged_begun}
 use Rattle.fare_texts.proofs.Beginnings.{begins_nothing}

@@ -4,7 +4,7 @@ use Rattle.std.proofs.lemmas.Result.{IfErr-weaker, on_ok_weaker}
 use Rattle.part_reports.specs.inside.ReportsLeft.{report_at}
 use Rattle.part_reports.specs.inside.Standings.{standing}
 use Rattle.part_reports.proofs.Places.{map_at, map_kept, map_of_set}
-use Rattle.part_reports.specs.inside.Told.{text_number}
+use Rattle.part_reports.specs.inside.Reported.{text_number}
 use Rattle.part_reports.specs.inside.WrongBeside.{left_number}
 use Rattle.part_reports.proofs.BesideWrong.{of_place}
 use Rattle.part_reports.proofs.ledgers_with_reports.take_at.Goals as goal
@@ -62,8 +62,8 @@ returns-in-Some-clause-numbers g c =
     (slice_get-get_or lefts at c.index-lefts-at.result (omega arith)) c.take.ensures.number
 
 -- ---- of which text a fault is
-pub returns-in-Some-clause-told : goal.returns-in-Some-clause-told
-returns-in-Some-clause-told g c =
+pub returns-in-Some-clause-reported : goal.returns-in-Some-clause-reported
+returns-in-Some-clause-reported g c =
     let remaining = g.R.Read.remaining in
     let sources = c.args.sources.now in
     let lefts = c.args.lefts.now in
@@ -90,4 +90,4 @@ returns-in-Some-clause-told g c =
       left = report_at remaining left;
       there = map_at (report_at remaining) lefts at left left_there;
       none = none;
-    })) c.take.ensures.told
+    })) c.take.ensures.reported

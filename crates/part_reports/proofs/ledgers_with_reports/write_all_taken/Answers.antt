@@ -6,7 +6,7 @@ use Rattle.std.specs.Prelude.{map, slice_get}
 use Rattle.part_reports.specs.TokenLines.{text_of}
 use Rattle.part_reports.specs.inside.ReportsLeft.{report_at}
 use Rattle.part_reports.specs.inside.Standings.{standing}
-use Rattle.part_reports.specs.inside.Told.{NamesOneOf, NamesOnly, text_number}
+use Rattle.part_reports.specs.inside.Reported.{NamesOneOf, NamesOnly, text_number}
 use Rattle.part_reports.specs.inside.WrongBeside.{IsOfLeft, IsOfPlace, left_number}
 use Rattle.fare_texts.proofs.Beginnings.{begins_nothing}
 use Rattle.part_reports.proofs.MergedBefore.{begun_least, begun_so_far}
@@ -16,7 +16,7 @@ use Rattle.part_reports.proofs.ReportsMerged.{something_left}
 use Rattle.part_reports.proofs.BesideWrong.{left_named, left_wrong, place_named, place_wrong}
 use Rattle.part_reports.proofs.BesideWrong.{text_wrong}
 use Rattle.part_reports.proofs.TextsWrong.{stuck_is_wrong, twin_is_wrong}
-use Rattle.part_reports.proofs.ToldOf.{one_of}
+use Rattle.part_reports.proofs.ReportedOf.{one_of}
 use Rattle.part_reports.proofs.ledgers_with_reports.write_all_taken.Goals as goal
 use Rattle.tap_views.proofs.Choices.{OnErr_any}
 
@@ -50,12 +50,12 @@ returns-in_err-take_at-in-Ok-Some-clause-refused g c =
     let remaining = g.R.Read.remaining in
     let p = err_from_is_err_and c.from_residual-in_err-take_at-in-Ok-Some.result
     c.from_residual-in_err-take_at-in-Ok-Some.ensures.1 in
-    rw (p.1, p.2) (λ of_texts texts files are unused lists joined told is summed.
+    rw (p.1, p.2) (λ of_texts texts files are unused lists joined reported is summed.
     not_taken texts files (map (standing remaining) c.loop.sources)
     (map (report_at remaining) c.loop.lefts) (g.W.Write.contents c.args.out.now)
     (g.W.Write.contents c.loop.out) c.in-Ok-Some.at
     (c.loop.invariant.merging texts files are unused)
-    (c.in_err-take_at-in-Ok-Some.ensures.refused of_texts) lists told summed)
+    (c.in_err-take_at-in-Ok-Some.ensures.refused of_texts) lists reported summed)
 
 pub returns-in_err-write_at-in-Ok-Some-clause-refused :
     goal.returns-in_err-write_at-in-Ok-Some-clause-refused
@@ -67,10 +67,10 @@ returns-in_err-write_at-in-Ok-Some-clause-refused g c =
     c.in-Ok-Some.ensures c.in-Ok-Some.field-0-is in
     let p = err_from_is_err_and c.from_residual-in_err-write_at-in-Ok-Some.result
     c.from_residual-in_err-write_at-in-Ok-Some.ensures.1 in
-    rw (p.1, p.2) (λ of_texts texts files are unused lists joined told is summed.
+    rw (p.1, p.2) (λ of_texts texts files are unused lists joined reported is summed.
     merging_stuck texts (map (standing remaining) sources) (g.W.Write.contents c.args.out.now)
     (g.W.Write.contents c.loop.out) (c.loop.invariant.merging texts files are unused).merging
-    c.in-Ok-Some.at least (c.in_err-write_at-in-Ok-Some.ensures.refused of_texts) lists told)
+    c.in-Ok-Some.at least (c.in_err-write_at-in-Ok-Some.ensures.refused of_texts) lists reported)
 
 pub returns-in-Ok-None-clause-merged : goal.returns-in-Ok-None-clause-merged
 returns-in-Ok-None-clause-merged g c =
@@ -92,11 +92,11 @@ returns-in-Ok-None-clause-refused g c =
     c.in-Ok-None.field-0 None c.deref.ensures.value c.loop.invariant.same
     c.in-Ok-None.ensures c.in-Ok-None.field-0-is in
     IfErr-weaker c.finish_all.result _ _
-    (λ fault refused of_texts texts files are unused lists joined told is summed.
+    (λ fault refused of_texts texts files are unused lists joined reported is summed.
     something_left texts files (map (standing remaining) sources)
     (map (report_at remaining) c.loop.lefts) (g.W.Write.contents c.args.out.now)
     (g.W.Write.contents c.loop.out) (c.loop.invariant.merging texts files are unused) none
-    (refused of_texts) lists told summed) c.finish_all.ensures.refused
+    (refused of_texts) lists reported summed) c.finish_all.ensures.refused
 
 pub returns-in-Err-clause-refused : goal.returns-in-Err-clause-refused
 returns-in-Err-clause-refused g c =
@@ -104,10 +104,11 @@ returns-in-Err-clause-refused g c =
     let sources = c.loop.sources in
     let twin = twin_of remaining sources c.deref.result.now c.loop.tokens.items c.in-Err.at
     c.deref.ensures.value c.loop.invariant.same c.in-Err.ensures in
-    λ of_texts texts files are unused lists joined told is summed.
+    λ of_texts texts files are unused lists joined reported is summed.
     merging_twin texts (map (standing remaining) sources)
     (g.W.Write.contents c.args.out.now) (g.W.Write.contents c.loop.out)
-    (c.loop.invariant.merging texts files are unused).merging c.in-Err.at twin lists joined told is
+    (c.loop.invariant.merging texts files are unused).merging c.in-Err.at twin lists joined reported
+    is
 
 pub loop-preserved : goal.loop-preserved
 loop-preserved g c =
@@ -137,7 +138,7 @@ loop-preserved g c =
 pub returns-in_err-tokens-clause-refused : goal.returns-in_err-tokens-clause-refused
 returns-in_err-tokens-clause-refused g c =
     let p = err_from_is_err_and c.from_residual.result c.from_residual.ensures.1 in
-    rw (p.1, p.2) (λ of_texts texts files are unused lists joined told is summed. of_texts)
+    rw (p.1, p.2) (λ of_texts texts files are unused lists joined reported is summed. of_texts)
 
 pub write_at-requires-clause-within : goal.write_at-requires-clause-within
 write_at-requires-clause-within g c =
@@ -150,7 +151,7 @@ write_at-requires-clause-within g c =
 pub returns-in_err-tokens-clause-begun : goal.returns-in_err-tokens-clause-begun
 returns-in_err-tokens-clause-begun g c =
     let p = err_from_is_err_and c.from_residual.result c.from_residual.ensures.1 in
-    rw p.1 (λ texts files are unused lists joined told is.
+    rw p.1 (λ texts files are unused lists joined reported is.
     begins_nothing (g.W.Write.contents c.args.out.now) (text_of joined))
 
 pub returns-in_err-take_at-in-Ok-Some-clause-begun :
@@ -158,10 +159,10 @@ pub returns-in_err-take_at-in-Ok-Some-clause-begun :
 returns-in_err-take_at-in-Ok-Some-clause-begun g c =
     let p = err_from_is_err_and c.from_residual-in_err-take_at-in-Ok-Some.result
     c.from_residual-in_err-take_at-in-Ok-Some.ensures.1 in
-    rw p.1 (λ texts files are unused lists joined told is.
+    rw p.1 (λ texts files are unused lists joined reported is.
     begun_so_far texts (map (standing g.R.Read.remaining) c.loop.sources)
     (g.W.Write.contents c.args.out.now) (g.W.Write.contents c.loop.out)
-    (c.loop.invariant.merging texts files are unused).merging lists joined told is)
+    (c.loop.invariant.merging texts files are unused).merging lists joined reported is)
 
 pub returns-in_err-write_at-in-Ok-Some-clause-begun :
     goal.returns-in_err-write_at-in-Ok-Some-clause-begun
@@ -173,30 +174,30 @@ returns-in_err-write_at-in-Ok-Some-clause-begun g c =
     c.in-Ok-Some.ensures c.in-Ok-Some.field-0-is in
     let p = err_from_is_err_and c.from_residual-in_err-write_at-in-Ok-Some.result
     c.from_residual-in_err-write_at-in-Ok-Some.ensures.1 in
-    rw p.1 (λ texts files are unused lists joined told is.
+    rw p.1 (λ texts files are unused lists joined reported is.
     begun_least texts (map (standing remaining) sources) (g.W.Write.contents c.args.out.now)
     (g.W.Write.contents c.loop.out) (g.W.Write.contents c.write_at.new.out) c.in-Ok-Some.at
     (c.loop.invariant.merging texts files are unused).merging least
-    c.in_err-write_at-in-Ok-Some.ensures.begun lists joined told is)
+    c.in_err-write_at-in-Ok-Some.ensures.begun lists joined reported is)
 
 pub returns-in-Ok-None-clause-begun : goal.returns-in-Ok-None-clause-begun
 returns-in-Ok-None-clause-begun g c = OnErr_any c.finish_all.result _
-    (λ texts files are unused lists joined told is.
+    (λ texts files are unused lists joined reported is.
     begun_so_far texts (map (standing g.R.Read.remaining) c.loop.sources)
     (g.W.Write.contents c.args.out.now) (g.W.Write.contents c.loop.out)
-    (c.loop.invariant.merging texts files are unused).merging lists joined told is)
+    (c.loop.invariant.merging texts files are unused).merging lists joined reported is)
 
 pub returns-in-Err-clause-begun : goal.returns-in-Err-clause-begun
-returns-in-Err-clause-begun g c = λ texts files are unused lists joined told is.
+returns-in-Err-clause-begun g c = λ texts files are unused lists joined reported is.
     begun_so_far texts (map (standing g.R.Read.remaining) c.loop.sources)
     (g.W.Write.contents c.args.out.now) (g.W.Write.contents c.loop.out)
-    (c.loop.invariant.merging texts files are unused).merging lists joined told is
+    (c.loop.invariant.merging texts files are unused).merging lists joined reported is
 
 pub returns-clause-begun : goal.returns-clause-begun
-returns-clause-begun g c = λ texts files are unused lists joined told is.
+returns-clause-begun g c = λ texts files are unused lists joined reported is.
     begun_so_far texts (map (standing g.R.Read.remaining) c.loop.sources)
     (g.W.Write.contents c.args.out.now) (g.W.Write.contents c.loop.out)
-    (c.loop.invariant.merging texts files are unused).merging lists joined told is
+    (c.loop.invariant.merging texts files are unused).merging lists joined reported is
 
 -- ---- which text is named
 pub returns-in_err-take_at-in-Ok-Some-clause-named :
@@ -214,7 +215,7 @@ returns-in_err-take_at-in-Ok-Some-clause-named g c =
     (subst (λ numbers. IsOfPlace c.in-Ok-Some.at (map text_number c.loop.sources) numbers
     (map (standing remaining) c.loop.sources) (map (report_at remaining) c.loop.lefts)
     c.in_err-take_at-in-Ok-Some.field-0.0) c.loop.invariant.lefts
-    c.in_err-take_at-in-Ok-Some.ensures.told)))
+    c.in_err-take_at-in-Ok-Some.ensures.reported)))
 
 pub returns-in_err-write_at-in-Ok-Some-clause-named :
     goal.returns-in_err-write_at-in-Ok-Some-clause-named
@@ -227,10 +228,10 @@ returns-in_err-write_at-in-Ok-Some-clause-named g c =
 pub returns-in-Ok-None-clause-named : goal.returns-in-Ok-None-clause-named
 returns-in-Ok-None-clause-named g c =
     let lefts = map (report_at g.R.Read.remaining) c.loop.lefts in
-    IfErr-weaker c.finish_all.result _ _ (λ fault told.
+    IfErr-weaker c.finish_all.result _ _ (λ fault reported.
     inl (left_named (map text_number c.args.sources.now) lefts fault
-    (subst (λ numbers. IsOfLeft numbers lefts fault) c.loop.invariant.texts told)))
-    c.finish_all.ensures.told
+    (subst (λ numbers. IsOfLeft numbers lefts fault) c.loop.invariant.texts reported)))
+    c.finish_all.ensures.reported
 
 pub returns-in-Err-clause-named : goal.returns-in-Err-clause-named
 returns-in-Err-clause-named g c =
@@ -254,7 +255,7 @@ returns-in_err-take_at-in-Ok-Some-clause-wrong g c =
     ats lefts c.in_err-take_at-in-Ok-Some.field-0.0) c.loop.invariant.texts
     (subst (λ numbers. IsOfPlace c.in-Ok-Some.at (map text_number c.loop.sources) numbers
     ats lefts c.in_err-take_at-in-Ok-Some.field-0.0) c.loop.invariant.lefts
-    c.in_err-take_at-in-Ok-Some.ensures.told)))
+    c.in_err-take_at-in-Ok-Some.ensures.reported)))
 
 pub returns-in_err-write_at-in-Ok-Some-clause-wrong :
     goal.returns-in_err-write_at-in-Ok-Some-clause-wrong
@@ -285,13 +286,13 @@ returns-in-Ok-None-clause-wrong g c =
     let none = least_of remaining sources c.deref.result.now c.loop.tokens.items
     c.in-Ok-None.field-0 None c.deref.ensures.value c.loop.invariant.same
     c.in-Ok-None.ensures c.in-Ok-None.field-0-is in
-    IfErr-weaker c.finish_all.result _ _ (λ fault told texts files are unused.
+    IfErr-weaker c.finish_all.result _ _ (λ fault reported texts files are unused.
     left_wrong texts files (map (standing remaining) sources) lefts
     (g.W.Write.contents c.args.out.now) (g.W.Write.contents c.loop.out)
     (map text_number c.args.sources.now) (map left_number c.args.lefts.now) fault
     (c.loop.invariant.merging texts files are unused) none
-    (subst (λ numbers. IsOfLeft numbers lefts fault) c.loop.invariant.texts told))
-    c.finish_all.ensures.told
+    (subst (λ numbers. IsOfLeft numbers lefts fault) c.loop.invariant.texts reported))
+    c.finish_all.ensures.reported
 
 pub returns-in-Err-clause-wrong : goal.returns-in-Err-clause-wrong
 returns-in-Err-clause-wrong g c = λ texts files are unused.

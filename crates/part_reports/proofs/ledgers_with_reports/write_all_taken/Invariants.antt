@@ -2,7 +2,7 @@ use Rattle.std.proofs.Common.{◌≡◌, ℕ, List, map}
 use Rattle.std.specs.List.{AllZip}
 use Rattle.part_reports.specs.inside.ReportsLeft.{AreUnused, report_at}
 use Rattle.part_reports.specs.inside.Standings.{StandsInText, standing}
-use Rattle.part_reports.specs.inside.Told.{text_number}
+use Rattle.part_reports.specs.inside.Reported.{text_number}
 use Rattle.part_reports.specs.inside.WrongBeside.{left_number}
 use Rattle.part_reports.specs.declared.merging.LineKind.{LineKind}
 use Rattle.part_reports.proofs.ReportsMerged.{IsMergingBeside}

@@ -6,10 +6,10 @@ use Rattle.std.proofs.lemmas.Result.{err_from_is_err_and}
 use Rattle.fare_texts.specs.WrittenOut.{Begins}
 use Rattle.part_reports.specs.inside.Standings.{MayFollowToken, Standing, standing}
 use Rattle.part_reports.specs.inside.FirstWrong.{IsOfNext}
-use Rattle.part_reports.specs.inside.Told.{NamesOnly, text_number}
+use Rattle.part_reports.specs.inside.Reported.{NamesOnly, text_number}
 use Rattle.fare_texts.proofs.Beginnings.{begins_whole}
 use Rattle.part_reports.proofs.Places.{map_at, map_kept, map_of_set, one_at}
-use Rattle.part_reports.proofs.ToldOf.{of_text, only_of}
+use Rattle.part_reports.proofs.ReportedOf.{of_text, only_of}
 use Rattle.part_reports.proofs.merging.write_at.Goals as goal
 
 pub returns-in_err-tokens-clause-refused : goal.returns-in_err-tokens-clause-refused
@@ -74,7 +74,7 @@ returns-in_err-tokens-clause-named g c =
     rw (p.1, p.2) (only_of source.reader.text (slice_get (map text_number sources) at) _
     (map_at text_number sources at source
     (slice_get-get_or sources at c.index-sources-at.result c.requires.within))
-    (of_text _ _ _ _ c.advance.ensures.text c.in_err-tokens.ensures.told))
+    (of_text _ _ _ _ c.advance.ensures.text c.in_err-tokens.ensures.reported))
 
 pub returns-clause-texts : goal.returns-clause-texts
 returns-clause-texts g c =

@@ -4,14 +4,14 @@ use Rattle.std.proofs.lemmas.Result.{err_from_is_err_and}
 use Rattle.std.specs.Prelude.{map, slice_get}
 use Rattle.part_reports.specs.TokenLines.{text_of}
 use Rattle.part_reports.specs.inside.Standings.{standing}
-use Rattle.part_reports.specs.inside.Told.{NamesOneOf, NamesOnly, text_number}
+use Rattle.part_reports.specs.inside.Reported.{NamesOneOf, NamesOnly, text_number}
 use Rattle.fare_texts.proofs.Beginnings.{begins_nothing}
 use Rattle.part_reports.proofs.MergedBefore.{begun_least, begun_so_far}
 use Rattle.part_reports.proofs.Merges.{least_of, merging_end, merging_first, merging_next}
 use Rattle.part_reports.proofs.Merges.{merging_stuck, merging_twin, twin_of}
 use Rattle.part_reports.proofs.FirstLines.{counted_on}
 use Rattle.part_reports.proofs.FirstWrongs.{stuck_first, twin_first}
-use Rattle.part_reports.proofs.ToldOf.{one_of}
+use Rattle.part_reports.proofs.ReportedOf.{one_of}
 use Rattle.part_reports.proofs.TextsWrong.{stuck_is_wrong, twin_is_wrong}
 use Rattle.part_reports.proofs.merging.write_merged.Goals as goal
 
@@ -37,10 +37,10 @@ returns-in_err-write_at-in-Ok-Some-clause-refused g c =
     c.in-Ok-Some.ensures c.in-Ok-Some.field-0-is in
     let p = err_from_is_err_and c.from_residual-in_err-write_at-in-Ok-Some.result
     c.from_residual-in_err-write_at-in-Ok-Some.ensures.1 in
-    rw (p.1, p.2) (λ of_texts texts are lists joined told is.
+    rw (p.1, p.2) (λ of_texts texts are lists joined reported is.
     merging_stuck texts (map (standing remaining) sources) (g.W.Write.contents c.args.out.now)
     (g.W.Write.contents c.loop.out) (c.loop.invariant.merging texts are) c.in-Ok-Some.at least
-    (c.in_err-write_at-in-Ok-Some.ensures.refused of_texts) lists told)
+    (c.in_err-write_at-in-Ok-Some.ensures.refused of_texts) lists reported)
 
 pub returns-in-Ok-None-clause-merged : goal.returns-in-Ok-None-clause-merged
 returns-in-Ok-None-clause-merged g c =
@@ -59,9 +59,10 @@ returns-in-Err-clause-refused g c =
     let sources = c.loop.sources in
     let twin = twin_of remaining sources c.deref.result.now c.loop.tokens.items c.in-Err.at
     c.deref.ensures.value c.loop.invariant.same c.in-Err.ensures in
-    λ of_texts texts are lists joined told. merging_twin texts (map (standing remaining) sources)
+    λ of_texts texts are lists joined reported. merging_twin texts
+    (map (standing remaining) sources)
     (g.W.Write.contents c.args.out.now) (g.W.Write.contents c.loop.out)
-    (c.loop.invariant.merging texts are) c.in-Err.at twin lists joined told
+    (c.loop.invariant.merging texts are) c.in-Err.at twin lists joined reported
 
 pub loop-preserved : goal.loop-preserved
 loop-preserved g c =
@@ -93,7 +94,7 @@ loop-preserved g c =
 pub returns-in_err-tokens-clause-begun : goal.returns-in_err-tokens-clause-begun
 returns-in_err-tokens-clause-begun g c =
     let p = err_from_is_err_and c.from_residual.result c.from_residual.ensures.1 in
-    rw p.1 (λ texts are lists joined told is.
+    rw p.1 (λ texts are lists joined reported is.
     begins_nothing (g.W.Write.contents c.args.out.now) (text_of joined))
 
 pub returns-in_err-write_at-in-Ok-Some-clause-begun :
@@ -107,22 +108,22 @@ returns-in_err-write_at-in-Ok-Some-clause-begun g c =
     c.in-Ok-Some.ensures c.in-Ok-Some.field-0-is in
     let p = err_from_is_err_and c.from_residual-in_err-write_at-in-Ok-Some.result
     c.from_residual-in_err-write_at-in-Ok-Some.ensures.1 in
-    rw p.1 (λ texts are lists joined told is.
+    rw p.1 (λ texts are lists joined reported is.
     begun_least texts ats (g.W.Write.contents c.args.out.now) (g.W.Write.contents c.loop.out)
     (g.W.Write.contents c.write_at.new.out) c.in-Ok-Some.at (c.loop.invariant.merging texts are)
-    least c.in_err-write_at-in-Ok-Some.ensures.begun lists joined told is)
+    least c.in_err-write_at-in-Ok-Some.ensures.begun lists joined reported is)
 
 pub returns-in-Err-clause-begun : goal.returns-in-Err-clause-begun
-returns-in-Err-clause-begun g c = λ texts are lists joined told is.
+returns-in-Err-clause-begun g c = λ texts are lists joined reported is.
     begun_so_far texts (map (standing g.R.Read.remaining) c.loop.sources)
     (g.W.Write.contents c.args.out.now) (g.W.Write.contents c.loop.out)
-    (c.loop.invariant.merging texts are) lists joined told is
+    (c.loop.invariant.merging texts are) lists joined reported is
 
 pub returns-clause-begun : goal.returns-clause-begun
-returns-clause-begun g c = λ texts are lists joined told is.
+returns-clause-begun g c = λ texts are lists joined reported is.
     begun_so_far texts (map (standing g.R.Read.remaining) c.loop.sources)
     (g.W.Write.contents c.args.out.now) (g.W.Write.contents c.loop.out)
-    (c.loop.invariant.merging texts are) lists joined told is
+    (c.loop.invariant.merging texts are) lists joined reported is
 
 -- ---- which text is named
 pub returns-in_err-write_at-in-Ok-Some-clause-named :

@@ -6,8 +6,8 @@ use Rattle.part_reports.proofs.SumsAdded.{totals_full, with_front}
 use Rattle.part_reports.proofs.sums.add_front.Goals as goal
 
 pub returns-then-not-add : goal.returns-then-not-add
-returns-then-not-add c = λ fronts told counted is. totals_full c.args.sums.now c.args.front.now
-    fronts told (c.add.ensures.kept c.if-not-add.true) counted is
+returns-then-not-add c = λ fronts reported counted is. totals_full c.args.sums.now c.args.front.now
+    fronts reported (c.add.ensures.kept c.if-not-add.true) counted is
 
 pub returns : goal.returns
 returns c =

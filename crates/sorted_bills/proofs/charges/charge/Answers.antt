@@ -4,8 +4,8 @@ use Rattle.std.proofs.Common.{length-append}
 use Rattle.std.proofs.lemmas.Result.{err_from_is_err_and}
 use Rattle.tap_views.specs.declared.encoder.TapFields.{TapFields}
 use Rattle.tap_views.specs.declared.token.Token.{Token}
-use Rattle.settled_texts.specs.Telling.{NoTapFallsFrom, last_token}
-use Rattle.settled_texts.proofs.Tellings.{last_append}
+use Rattle.settled_texts.specs.ExplainedTaps.{NoTapFallsFrom, last_token}
+use Rattle.settled_texts.proofs.TapsExplained.{last_append}
 use Rattle.sorted_bills.specs.inside.OpenBills.{IsOpenBill}
 use Rattle.sorted_bills.proofs.Counted.{late_no_write, late_says_nothing}
 use Rattle.sorted_bills.proofs.Takings.{Early, both_taken, fall_both, last_taken, none_taken}

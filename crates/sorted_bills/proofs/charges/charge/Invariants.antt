@@ -1,6 +1,6 @@
 use Rattle.std.proofs.Common.{◌≡◌, ◌*◌, ◌≤◌, List, length, map}
 use Rattle.tap_views.specs.declared.encoder.TapFields.{TapFields}
-use Rattle.settled_texts.specs.Telling.{NoTapFallsFrom, last_token}
+use Rattle.settled_texts.specs.ExplainedTaps.{NoTapFallsFrom, last_token}
 use Rattle.sorted_bills.specs.inside.OpenBills.{IsOpenBill}
 use Rattle.sorted_bills.specs.inside.Taken.{AreTapsTaken, IsReady}
 use Rattle.sorted_bills.proofs.charges.charge.Given as goal

@@ -3,41 +3,45 @@ use Rattle.std.proofs.Common.{ℕ, All, List, [], ◌++◌, map, string_bytes, s
 use Rattle.std.proofs.Common.{◌^◌, ◌<◌}
 use Rattle.std.specs.Prelude.{sum}
 use Rattle.std.proofs.lemmas.Result.{err_from_is_err_and}
-use Rattle.std.specs.Io.KnownBytes.{Appends, append_known}
+use Rattle.std.specs.Io.KnownBytes.{Appends}
 use Rattle.report_texts.specs.UploadEnds.{ArePlainEnds}
 use Rattle.report_texts.specs.declared.upload_end.UploadEnd.{UploadEnd}
 use Rattle.report_texts.specs.declared.upload_end.UploadEnd.TheVariants.{Posted}
 use Rattle.fare_texts.specs.LedgerLines.{head_text}
 use Rattle.fare_texts.proofs.Along.{ledger_along}
-use Rattle.fare_texts.proofs.Beginnings.{waits_out}
+use Rattle.fare_texts.proofs.Beginnings.{goes_last}
 use Rattle.fare_texts.proofs.PieceWriting.{come_first}
 use Rattle.settlement.specs.Posted.{posted}
 use Rattle.settled_texts.proofs.Rows.{posted_falls}
 use Rattle.sorted_taps.proofs.Spans.{at_end_too}
 use Rattle.sorted_bills.specs.declared.range.Range.{Range}
 use Rattle.sorted_bills.specs.inside.Ranges.{IsRange}
-use Rattle.sorted_bills.proofs.Counted.{counted_ends, late_says_nothing, too_many}
-use Rattle.sorted_bills.proofs.Told.{told_begun}
+use Rattle.sorted_bills.proofs.Counted.{counted_ends, late_no_write, late_says_nothing, too_many}
+use Rattle.sorted_bills.proofs.Explained.{begun_waiting, explained_begun}
+use Rattle.sorted_bills.proofs.LedgerBegun.{ledger_begun}
+use Rattle.sorted_bills.specs.inside.Explained.{IsBegunSoFar}
 use Rattle.sorted_bills.proofs.ledger.write_sorted_ledger.Goals as goal
 
 pub write_ranges-requires-clause-room : goal.write_ranges-requires-clause-room
 write_ranges-requires-clause-room g c =
-    let none = c.of-teller.ensures.none in
+    let none = c.of-explainer.ensures.none in
     let few = c.in_ok-counted.ensures.few.1 in
     omega (arith, none, few)
 
-pub write_ranges-requires-clause-told : goal.write_ranges-requires-clause-told
-write_ranges-requires-clause-told g c κs within =
+pub write_ranges-requires-clause-explained : goal.write_ranges-requires-clause-explained
+write_ranges-requires-clause-explained g c κs within =
     let fares = c.args.table.now in
-    let teller = c.of-teller.result in
+    let explainer = c.of-explainer.result in
     let readers = c.in_ok-taker.taker.merge.readers.items in
-    let bytes = append_known (g.W.Write.contents c.args.out.now) (string_bytes c.in_ok-text.text) in (
+    let bytes = g.W.Write.contents c.args.out.now in
+    let waits = string_bytes c.in_ok-text.text in (
       [],
       readers,
-      teller.token,
+      explainer.token,
       bytes,
-      told_begun fares (map g.F.Placed.bytes c.args.files.now) [] readers teller bytes
-          (come_first fares teller (c.of-teller.ensures.told fares)),
+      waits,
+      explained_begun fares (map g.F.Placed.bytes c.args.files.now) [] readers explainer bytes waits
+          (come_first fares explainer (c.of-explainer.ensures.explained fares)),
     )
 
 pub write_ranges-requires-clause-ranges : goal.write_ranges-requires-clause-ranges
@@ -50,31 +54,33 @@ write_ranges-requires-clause-ranges g c κs within =
 pub returns-clause-ok : goal.returns-clause-ok
 returns-clause-ok g c =
     let fares = c.args.table.now in
-    let teller = c.of-teller.result in
+    let explainer = c.of-explainer.result in
     let begun = c.in_ok-taker.taker.merge.readers.items in
     let end = c.write_ranges.new.taker.merge.readers.items in
-    let bytes = append_known (g.W.Write.contents c.args.out.now) (string_bytes c.in_ok-text.text) in
-    let told = c.in_ok-write_ranges.ensures.told [] begun teller.token bytes
-    (told_begun fares (map g.F.Placed.bytes c.args.files.now) [] begun teller bytes
-    (come_first fares teller (c.of-teller.ensures.told fares))) in
-    let history = posted fares told.taps in (
-      head_text ++ told.lines,
+    let bytes = g.W.Write.contents c.args.out.now in
+    let waits = string_bytes c.in_ok-text.text in
+    let explained = c.in_ok-write_ranges.ensures.explained [] begun explainer.token bytes waits
+    (explained_begun fares (map g.F.Placed.bytes c.args.files.now) [] begun explainer bytes waits
+    (come_first fares explainer (c.of-explainer.ensures.explained fares))) in
+    let history = posted fares explained.taps in (
+      head_text ++ explained.lines,
       λ all are.
-          let way = told.come all are in
+          let way = explained.come all are in
           record {
             history = history;
-            is_settled = c.posted_taps.ensures.history fares all told.taps
-                (c.taken_taps_are_settled.ensures all begun way.to told.taps
+            is_settled = c.posted_taps.ensures.history fares all explained.taps
+                (c.taken_taps_are_settled.ensures all begun way.to explained.taps
                 (c.in_ok-taker.ensures.begun all are) way.taken
-                (at_end_too way.to end way.stand c.in_ok-write_ranges.ensures.end) told.named);
-            over = ledger_along fares history told.lines
-                (posted_falls fares teller.token told.taps told.no_fall) told.told.are;
+                (at_end_too way.to end way.stand c.in_ok-write_ranges.ensures.end) explained.named);
+            over = ledger_along fares history explained.lines
+                (posted_falls fares explainer.token explained.taps explained.no_fall)
+                explained.explained.are;
           },
       subst (λ (head : List ℕ). Appends (g.W.Write.contents c.args.out.now)
-          (g.W.Write.contents c.pass_on.new.out) (head ++ told.lines)) c.in_ok-text.ensures
-          (waits_out (g.W.Write.contents c.args.out.now) (g.W.Write.contents c.write_ranges.new.out)
+          (g.W.Write.contents c.pass_on.new.out) (head ++ explained.lines)) c.in_ok-text.ensures
+          (goes_last (g.W.Write.contents c.args.out.now) (g.W.Write.contents c.write_ranges.new.out)
           (g.W.Write.contents c.pass_on.new.out) (string_bytes c.in_ok-text.text)
-          (string_bytes c.write_ranges.new.text) told.lines told.appended
+          (string_bytes c.write_ranges.new.text) explained.lines explained.gone
           c.in_ok-pass_on.ensures.whole),
     )
 
@@ -98,3 +104,99 @@ returns-in_err-taker-clause-fault g c =
     let p = err_from_is_err_and c.from_residual-in_err-taker.result
     c.from_residual-in_err-taker.ensures.1 in
     rw (p.1, p.2) (λ all are. late_says_nothing all c.in_err-taker.field-0.0)
+
+-- ---- a beginning was written
+pub returns-in_err-write_ranges-clause-begun : goal.returns-in_err-write_ranges-clause-begun
+returns-in_err-write_ranges-clause-begun g c =
+    let p = err_from_is_err_and c.from_residual-in_err-write_ranges.result
+    c.from_residual-in_err-write_ranges.ensures.1 in
+    let fares = c.args.table.now in
+    let known = map g.F.Placed.bytes c.args.files.now in
+    let explainer = c.of-explainer.result in
+    let begun = c.in_ok-taker.taker.merge.readers.items in
+    let bytes = g.W.Write.contents c.args.out.now in
+    let waits = string_bytes c.in_ok-text.text in
+    rw (p.1) (λ is_write.
+    ledger_begun fares known c.in_ok-numbers.numbers.items begun explainer.token bytes
+    (g.W.Write.contents c.write_ranges.new.out) c.merged_is_canonical.ensures
+    c.in_ok-numbers.ensures.sorted
+    c.in_ok-taker.ensures.begun
+    (c.of-explainer.ensures.token ∙ c.least_token.ensures)
+    (λ all taps settled. c.posted_taps.ensures.history fares all taps settled)
+    (subst (λ head. IsBegunSoFar fares known [] begun explainer.token bytes head
+    (g.W.Write.contents c.write_ranges.new.out)) c.in_ok-text.ensures
+    (c.in_err-write_ranges.ensures.begun [] begun explainer.token bytes waits
+    (explained_begun fares known [] begun explainer bytes waits
+    (come_first fares explainer (c.of-explainer.ensures.explained fares))))))
+
+pub returns-in_err-pass_on-clause-begun : goal.returns-in_err-pass_on-clause-begun
+returns-in_err-pass_on-clause-begun g c =
+    let p = err_from_is_err_and c.from_residual-in_err-pass_on.result
+    c.from_residual-in_err-pass_on.ensures.1 in
+    let fares = c.args.table.now in
+    let known = map g.F.Placed.bytes c.args.files.now in
+    let explainer = c.of-explainer.result in
+    let begun = c.in_ok-taker.taker.merge.readers.items in
+    let bytes = g.W.Write.contents c.args.out.now in
+    let waits = string_bytes c.in_ok-text.text in
+    rw (p.1) (λ is_write.
+    ledger_begun fares known c.in_ok-numbers.numbers.items begun explainer.token bytes
+    (g.W.Write.contents c.pass_on.new.out) c.merged_is_canonical.ensures
+    c.in_ok-numbers.ensures.sorted
+    c.in_ok-taker.ensures.begun
+    (c.of-explainer.ensures.token ∙ c.least_token.ensures)
+    (λ all taps settled. c.posted_taps.ensures.history fares all taps settled)
+    (subst (λ head. IsBegunSoFar fares known [] begun explainer.token bytes head
+    (g.W.Write.contents c.pass_on.new.out)) c.in_ok-text.ensures
+    (begun_waiting fares known [] begun explainer.token bytes waits
+    c.write_ranges.new.taker.merge.readers.items c.write_ranges.new.explainer
+    (g.W.Write.contents c.write_ranges.new.out) (g.W.Write.contents c.pass_on.new.out)
+    (string_bytes c.write_ranges.new.text)
+    (c.in_ok-write_ranges.ensures.explained [] begun explainer.token bytes waits
+    (explained_begun fares known [] begun explainer bytes waits
+    (come_first fares explainer (c.of-explainer.ensures.explained fares))))
+    c.in_err-pass_on.ensures.begun)))
+
+pub returns-in_err-write_ranges-clause-sorted : goal.returns-in_err-write_ranges-clause-sorted
+returns-in_err-write_ranges-clause-sorted g c =
+    let p = err_from_is_err_and c.from_residual-in_err-write_ranges.result
+    c.from_residual-in_err-write_ranges.ensures.1 in
+    rw (p.1) (λ is_write all are. (
+      c.in_ok-ends.ends.items,
+      subst (λ (ends : List UploadEnd). ArePlainEnds all ends)
+          (sym (c.in_ok-ends.ensures.ends ∙ ap (map Posted) c.deref-2.ensures.value))
+          (counted_ends all c.in_ok-numbers.numbers.items (c.in_ok-numbers.ensures.sorted all are)),
+      c.in_ok-ends.ensures.posted,
+    ))
+
+pub returns-in_err-pass_on-clause-sorted : goal.returns-in_err-pass_on-clause-sorted
+returns-in_err-pass_on-clause-sorted g c =
+    let p = err_from_is_err_and c.from_residual-in_err-pass_on.result
+    c.from_residual-in_err-pass_on.ensures.1 in
+    rw (p.1) (λ is_write all are. (
+      c.in_ok-ends.ends.items,
+      subst (λ (ends : List UploadEnd). ArePlainEnds all ends)
+          (sym (c.in_ok-ends.ensures.ends ∙ ap (map Posted) c.deref-2.ensures.value))
+          (counted_ends all c.in_ok-numbers.numbers.items (c.in_ok-numbers.ensures.sorted all are)),
+      c.in_ok-ends.ensures.posted,
+    ))
+
+-- ---- other faults
+pub returns-in_err-numbers-clause-sorted : goal.returns-in_err-numbers-clause-sorted
+returns-in_err-numbers-clause-sorted g c =
+    let p = err_from_is_err_and c.from_residual-in_err-numbers.result
+    c.from_residual-in_err-numbers.ensures.1 in
+    rw (p.1, p.2) (λ is_write all are. absurd (cc))
+
+pub returns-in_err-counted-clause-sorted : goal.returns-in_err-counted-clause-sorted
+returns-in_err-counted-clause-sorted g c =
+    let p = err_from_is_err_and c.from_residual-in_err-counted.result
+    c.from_residual-in_err-counted.ensures.1 in
+    let many = c.in_err-counted.ensures.many in
+    rw (p.1, p.2, many.0) (λ is_write all are. absurd (cc))
+
+pub returns-in_err-taker-clause-begun : goal.returns-in_err-taker-clause-begun
+returns-in_err-taker-clause-begun g c =
+    let p = err_from_is_err_and c.from_residual-in_err-taker.result
+    c.from_residual-in_err-taker.ensures.1 in
+    rw (p.1, p.2) (λ is_write. absurd (late_no_write c.in_err-taker.field-0.0 is_write))

@@ -1,6 +1,6 @@
 -- The range is found to come next.
 use Rattle.std.proofs.Common.{refl, sym}
-use Rattle.sorted_bills.proofs.Told.{range_follows}
+use Rattle.sorted_bills.proofs.Explained.{range_follows}
 use Rattle.sorted_bills.proofs.rounds.next_merge.Goals as goal
 
 pub returns-clause-follows : goal.returns-clause-follows

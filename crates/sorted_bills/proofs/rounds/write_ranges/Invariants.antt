@@ -1,25 +1,26 @@
 use Rattle.std.proofs.Common.{◌+◌, ◌≤◌, ℕ, All, List, length, map, string_bytes}
 use Rattle.std.specs.Prelude.{Option}
-use Rattle.std.specs.Io.KnownBytes.{append_known}
 use Rattle.tap_views.specs.declared.token.Token.{Token}
 use Rattle.shard_book.specs.declared.entry.Entry.{Entry}
 use Rattle.sorted_taps.specs.declared.reader.TapReader.{TapReader}
 use Rattle.sorted_bills.specs.inside.Ranges.{IsRange}
 use Rattle.sorted_bills.specs.inside.Taken.{IsReady}
-use Rattle.sorted_bills.specs.inside.Told.{AreToldSoFar}
+use Rattle.sorted_bills.specs.inside.Explained.{AreExplainedSoFar}
 use Rattle.sorted_bills.proofs.rounds.write_ranges.Given as goal
 
--- the taps of the ranges before the place were told
+-- the taps of the ranges before the place were explained
 abbrev pub invariant-loop-place : goal.invariant-loop-place
 invariant-loop-place g l = record {
   ready : IsReady (length l.files) l.taker;
-  few : l.teller.number + l.left ≤ l.fn.teller.number + l.counted;
+  few : l.explainer.number + l.left ≤ l.fn.explainer.number + l.counted;
   ranges : All (IsRange l.table (map g.F.Placed.bytes l.files)) l.ranges;
-  told : (earlier : List Entry) (begun : List TapReader) (from : Token) (before : Option (List ℕ))
-      → AreToldSoFar l.table (map g.F.Placed.bytes l.files) earlier begun from before
-      l.fn.taker.merge.readers.items l.fn.teller
-      (append_known (g.W.Write.contents l.fn.out) (string_bytes l.fn.text))
-      → AreToldSoFar l.table (map g.F.Placed.bytes l.files) earlier begun from before
-      l.taker.merge.readers.items l.teller
-      (append_known (g.W.Write.contents l.out) (string_bytes l.text));
+  explained : (earlier : List Entry) (begun : List TapReader) (from : Token)
+      (start : Option (List ℕ))
+      (waited : List ℕ)
+      → AreExplainedSoFar l.table (map g.F.Placed.bytes l.files) earlier begun from start waited
+      l.fn.taker.merge.readers.items l.fn.explainer
+      (g.W.Write.contents l.fn.out) (string_bytes l.fn.text)
+      → AreExplainedSoFar l.table (map g.F.Placed.bytes l.files) earlier begun from start waited
+      l.taker.merge.readers.items l.explainer
+      (g.W.Write.contents l.out) (string_bytes l.text);
 }

@@ -5,8 +5,8 @@ use Rattle.tap_views.specs.declared.encoder.TapFields.{TapFields}
 use Rattle.tap_views.specs.declared.token.Token.{Token}
 use Rattle.fare_texts.specs.Lines.{IsUpTo}
 use Rattle.settlement.specs.Posted.{token_of_tap}
-use Rattle.settled_texts.specs.Telling.{NoTapFallsFrom, last_token}
-use Rattle.settled_texts.proofs.Tellings.{last_append}
+use Rattle.settled_texts.specs.ExplainedTaps.{NoTapFallsFrom, last_token}
+use Rattle.settled_texts.proofs.TapsExplained.{last_append}
 use Rattle.sorted_taps.specs.Merges.{AreAtEnd, IsTapTaken}
 use Rattle.sorted_taps.specs.declared.merge.Merge.{Merge}
 use Rattle.sorted_bills.specs.inside.Taken.{AreTapsTaken}

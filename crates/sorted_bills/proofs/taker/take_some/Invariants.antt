@@ -1,11 +1,11 @@
 use Rattle.std.proofs.Common.{◌≡◌, ◌≤◌, length, map}
-use Rattle.settled_texts.specs.Telling.{NoTapFallsFrom, last_token}
+use Rattle.settled_texts.specs.ExplainedTaps.{NoTapFallsFrom, last_token}
 use Rattle.sorted_taps.specs.Heads.{IsRanked}
 use Rattle.sorted_taps.specs.Reading.{window_bytes}
 use Rattle.sorted_bills.specs.inside.Taken.{AreTapsTaken}
 use Rattle.sorted_bills.proofs.taker.take_some.Given as goal
 
--- so many taps were taken, and the last of them has the last token
+-- as many taps were taken as rounds were made, and the last of them has the last token
 abbrev pub invariant-loop-place : goal.invariant-loop-place
 invariant-loop-place g l = record {
   window : window_bytes ≤ length l.window;

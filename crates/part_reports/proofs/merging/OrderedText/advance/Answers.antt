@@ -1,8 +1,13 @@
+use Rattle.std.proofs.Common.{◌≡◌, ◌∙◌, subst, sym}
+use Rattle.std.specs.Io.BufRead.{take_through}
 use Rattle.std.proofs.lemmas.Bool.{false≢true}
 use Rattle.std.proofs.lemmas.Option.{IfSome_then}
 use Rattle.std.proofs.lemmas.Result.{err_from_is_err_and}
+use Rattle.part_reports.specs.declared.fault.MergeFault.TheVariants.{Line}
+use Rattle.part_reports.specs.declared.fault.Wrong.TheVariants.{Order}
+use Rattle.part_reports.specs.inside.FirstWrong.{IsLineReason}
 use Rattle.part_reports.specs.inside.Standings.{MayFollowToken, standing}
-use Rattle.part_reports.proofs.FirstLines.{next_behind, next_of, order_wrong}
+use Rattle.part_reports.proofs.FirstLines.{next_behind, next_of, order_reason, order_wrong}
 use Rattle.part_reports.proofs.Firsts.{no_order}
 use Rattle.part_reports.proofs.merging.OrderedText.advance.Goals as goal
 
@@ -33,6 +38,13 @@ returns-else-may_stand-clause-next g c =
     false≢true (c.if-may_stand.ensures.1 may) in
     next_of lines before (g.R.Read.remaining c.args.self.now.reader.from)
     c.args.self.now.reader.lines c.read.new.self.reader.text c.read.new.self.reader.lines _
-    c.fault.ensures.told c.in_ok-read.ensures.lines
+    c.fault.ensures.reported c.in_ok-read.ensures.lines
     (IfSome_then (g.R.Read.remaining c.args.self.now.reader.from) c.in_ok-read.ensures.read
     (λ text source. order_wrong lines text at before source wrong))
+    (λ named number why is.
+    let line : Line named number why ≡ Line c.read.new.self.reader.text c.read.new.self.reader.lines
+    Order = sym is ∙ c.fault.ensures.line in
+    let reason : Order ≡ why = cc in
+    IfSome_then (g.R.Read.remaining c.args.self.now.reader.from) c.in_ok-read.ensures.read
+    (λ text source. subst (IsLineReason lines before (take_through 10 text)) reason
+    (order_reason lines text at before source wrong)))

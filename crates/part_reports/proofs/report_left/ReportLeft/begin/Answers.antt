@@ -40,7 +40,7 @@ returns-in_err-report-clause-none g c =
     (λ file no_part. none_begun file c.no_sums-sums.result c.no_sums-sums.ensures no_part))
 
 -- ---- of which text a fault is
-pub returns-in_err-report-clause-told : goal.returns-in_err-report-clause-told
-returns-in_err-report-clause-told g c =
+pub returns-in_err-report-clause-reported : goal.returns-in_err-report-clause-reported
+returns-in_err-report-clause-reported g c =
     let p = err_from_is_err_and c.from_residual.result c.from_residual.ensures.1 in
-    rw (p.1, p.2) c.in_err-report.ensures.told
+    rw (p.1, p.2) c.in_err-report.ensures.reported

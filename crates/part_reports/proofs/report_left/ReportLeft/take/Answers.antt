@@ -10,7 +10,7 @@ use Rattle.part_reports.specs.inside.SumsLeft.{sums_left}
 use Rattle.part_reports.proofs.ChargeLines.{one_charge}
 use Rattle.part_reports.proofs.ReportsLeft.{no_charge, too_many, too_much, used_next}
 use Rattle.part_reports.specs.inside.WrongBeside.{left_number}
-use Rattle.part_reports.proofs.BesideWrong.{either_weaker, first_told, of_first}
+use Rattle.part_reports.proofs.BesideWrong.{either_weaker, first_reported, of_first}
 use Rattle.part_reports.proofs.report_left.ReportLeft.take.Goals as goal
 
 pub returns-in_err-charge-clause-refused : goal.returns-in_err-charge-clause-refused
@@ -37,10 +37,10 @@ returns-in-None-clause-refused g c =
     let remaining = g.R.Read.remaining in
     let token = c.args.token in
     let sum = c.in_ok-charge.charge in
-    let told = MatchOption-at_some _ _ sum c.in_ok-charge.ensures.value c.charge_of.ensures in
+    let reported = MatchOption-at_some _ _ sum c.in_ok-charge.ensures.value c.charge_of.ensures in
     let own : IsChargeOf (line_with token c.args.ledger.now.line.items) (charge_with token sum) =
     subst (λ line. IsChargeOf (line_with token line) (charge_with token sum)) c.line.ensures
-    (told token) in
+    (reported token) in
     λ of_texts file done used charge is more add.
     let same = one_charge (line_with token c.args.ledger.now.line.items) charge
     (charge_with token sum) is own in
@@ -54,10 +54,10 @@ returns-else-branch-clause-refused g c =
     let remaining = g.R.Read.remaining in
     let token = c.args.token in
     let sum = c.in_ok-charge.charge in
-    let told = MatchOption-at_some _ _ sum c.in_ok-charge.ensures.value c.charge_of.ensures in
+    let reported = MatchOption-at_some _ _ sum c.in_ok-charge.ensures.value c.charge_of.ensures in
     let own : IsChargeOf (line_with token c.args.ledger.now.line.items) (charge_with token sum) =
     subst (λ line. IsChargeOf (line_with token line) (charge_with token sum)) c.line.ensures
-    (told token) in
+    (reported token) in
     let mid = report_at remaining c.rest_of.new.self in
     let over : WithOne mid.used c.add_validator.new.validators sum false =
     subst (λ well. WithOne mid.used c.add_validator.new.validators sum well) c.if-branch.false
@@ -75,10 +75,10 @@ returns-then-branch-clause-taken g c =
     let remaining = g.R.Read.remaining in
     let token = c.args.token in
     let sum = c.in_ok-charge.charge in
-    let told = MatchOption-at_some _ _ sum c.in_ok-charge.ensures.value c.charge_of.ensures in
+    let reported = MatchOption-at_some _ _ sum c.in_ok-charge.ensures.value c.charge_of.ensures in
     let own : IsChargeOf (line_with token c.args.ledger.now.line.items) (charge_with token sum) =
     subst (λ line. IsChargeOf (line_with token line) (charge_with token sum)) c.line.ensures
-    (told token) in
+    (reported token) in
     let mid = report_at remaining c.rest_of.new.self in
     let one : WithOne mid.used c.add_validator.new.validators sum true =
     subst (λ well. WithOne mid.used c.add_validator.new.validators sum well) c.if-branch.true
@@ -92,15 +92,15 @@ returns-then-branch-clause-taken g c =
     )
 
 -- ---- of which text a fault is
-pub returns-in_err-charge-clause-told : goal.returns-in_err-charge-clause-told
-returns-in_err-charge-clause-told g c =
+pub returns-in_err-charge-clause-reported : goal.returns-in_err-charge-clause-reported
+returns-in_err-charge-clause-reported g c =
     let p = err_from_is_err_and c.from_residual.result c.from_residual.ensures.1 in
-    first_told c.from_residual.result c.args.ledger.now.text (left_number c.args.self.now)
-    c.args.ledger.now.lines _ _ (rw (p.1, p.2) c.in_err-charge.ensures.told)
+    first_reported c.from_residual.result c.args.ledger.now.text (left_number c.args.self.now)
+    c.args.ledger.now.lines _ _ (rw (p.1, p.2) c.in_err-charge.ensures.reported)
     (returns-in_err-charge-clause-refused g c)
 
-pub returns-in_err-before-clause-told : goal.returns-in_err-before-clause-told
-returns-in_err-before-clause-told g c =
+pub returns-in_err-before-clause-reported : goal.returns-in_err-before-clause-reported
+returns-in_err-before-clause-reported g c =
     let p = err_from_is_err_and c.from_residual-in_err-before.result
     c.from_residual-in_err-before.ensures.1 in
     let left = report_at g.R.Read.remaining c.args.self.now in
@@ -108,14 +108,14 @@ returns-in_err-before-clause-told g c =
     (λ none file done used charge is more add.
     no_charge file left done charge more used
     (subst (λ token. IsNoRest token left) (sym is.token) none) add)
-    c.in_err-before.ensures.told)
+    c.in_err-before.ensures.reported)
 
-pub returns-in-None-clause-told : goal.returns-in-None-clause-told
-returns-in-None-clause-told g c =
+pub returns-in-None-clause-reported : goal.returns-in-None-clause-reported
+returns-in-None-clause-reported g c =
     of_first c.args.ledger.now.text (left_number c.args.self.now) c.args.ledger.now.lines _ _ _
-    c.fault.ensures.told (returns-in-None-clause-refused g c)
+    c.fault.ensures.reported (returns-in-None-clause-refused g c)
 
-pub returns-else-branch-clause-told : goal.returns-else-branch-clause-told
-returns-else-branch-clause-told g c =
+pub returns-else-branch-clause-reported : goal.returns-else-branch-clause-reported
+returns-else-branch-clause-reported g c =
     of_first c.args.ledger.now.text (left_number c.args.self.now) c.args.ledger.now.lines _ _ _
-    c.fault-else-branch.ensures.told (returns-else-branch-clause-refused g c)
+    c.fault-else-branch.ensures.reported (returns-else-branch-clause-refused g c)

@@ -49,7 +49,7 @@ returns-clause-next g c =
     let sum = c.in_ok-sum.sum in
     let none : sums_left c.args.self.now.rest ≡ sums [] = search rules in
     let there : report.token ≡ Some c.args.token = search rules in
-    let told = MatchOption-at_some _ _ sum c.in_ok-sum.ensures.value c.token_sum_of.ensures in
+    let reported = MatchOption-at_some _ _ sum c.in_ok-sum.ensures.value c.token_sum_of.ensures in
     let same : sums_left c.of.result ≡ _ = ap sums_left c.of.ensures in
     inr (record {
       other = c.requires.other;
@@ -57,8 +57,8 @@ returns-clause-next g c =
       there = there;
       line = record {
         name = sum.token;
-        is = subst (λ (sums : Sums). IsTokenSum (sum.token, sums)) (sym same) told.0;
-        shown = sym c.line.ensures ∙ told.1
+        is = subst (λ (sums : Sums). IsTokenSum (sum.token, sums)) (sym same) reported.0;
+        shown = sym c.line.ensures ∙ reported.1
             ∙ ap (λ (sums : Sums). token_line (sum.token, sums)) (sym same);
       };
       moved = record {
@@ -73,31 +73,31 @@ returns-clause-next g c =
     })
 
 -- ---- of which text a fault is
-pub returns-then-not-is_nothing-clause-told : goal.returns-then-not-is_nothing-clause-told
-returns-then-not-is_nothing-clause-told g c =
+pub returns-then-not-is_nothing-clause-reported : goal.returns-then-not-is_nothing-clause-reported
+returns-then-not-is_nothing-clause-reported g c =
     let some : ¬ (sums_left c.args.self.now.rest ≡ sums []) = search rules in
     of_first c.args.ledger.now.text (left_number c.args.self.now) c.args.ledger.now.lines _ _ _
-    c.fault.ensures.told (λ of_texts. (c.requires.other, inl some))
+    c.fault.ensures.reported (λ of_texts. (c.requires.other, inl some))
 
-pub returns-then-not-is_token-clause-told : goal.returns-then-not-is_token-clause-told
-returns-then-not-is_token-clause-told g c =
+pub returns-then-not-is_token-clause-reported : goal.returns-then-not-is_token-clause-reported
+returns-then-not-is_token-clause-reported g c =
     let elsewhere : c.args.self.now.report.token ≢ Some c.args.token = search rules in
     of_first c.args.ledger.now.text (left_number c.args.self.now) c.args.ledger.now.lines _ _ _
-    c.fault-then-not-is_token.ensures.told (λ of_texts. (c.requires.other, inr (inl elsewhere)))
+    c.fault-then-not-is_token.ensures.reported (λ of_texts. (c.requires.other, inr (inl elsewhere)))
 
-pub returns-in_err-sum-clause-told : goal.returns-in_err-sum-clause-told
-returns-in_err-sum-clause-told g c =
+pub returns-in_err-sum-clause-reported : goal.returns-in_err-sum-clause-reported
+returns-in_err-sum-clause-reported g c =
     let p = err_from_is_err_and c.from_residual.result
     c.from_residual.ensures.1 in
     let there : c.args.self.now.report.token ≡ Some c.args.token = search rules in
     let none = MatchOption-at_none _ _ c.in_err-sum.ensures.none c.token_sum_of.ensures in
     rw (p.1, p.2) (of_second c.args.ledger.now.text (left_number c.args.self.now)
-    c.args.self.now.report.reader.lines _ _ _ c.in_err-sum.ensures.told
+    c.args.self.now.report.reader.lines _ _ _ c.in_err-sum.ensures.reported
     (λ of_texts. none_by_turn (report_at g.R.Read.remaining c.args.self.now) c.args.token there
     (inl (λ before line. none (line.name, before) line.is (c.line.ensures ∙ line.shown)))))
 
-pub returns-in_err-advance-clause-told : goal.returns-in_err-advance-clause-told
-returns-in_err-advance-clause-told g c =
+pub returns-in_err-advance-clause-reported : goal.returns-in_err-advance-clause-reported
+returns-in_err-advance-clause-reported g c =
     let p = err_from_is_err_and c.from_residual-in_err-advance.result
     c.from_residual-in_err-advance.ensures.1 in
     let there : c.args.self.now.report.token ≡ Some c.args.token = search rules in
@@ -106,6 +106,6 @@ returns-in_err-advance-clause-told g c =
     (IsNoRest c.args.token left) (HasNoReport left) c.in_err-advance.field-0.0)
     c.advance.ensures.text
     (of_second c.args.ledger.now.text _ c.advance.new.self.reader.lines _ _ _
-    c.in_err-advance.ensures.told
+    c.in_err-advance.ensures.reported
     (λ of_texts. none_by_turn left c.args.token there
     (inr (c.in_err-advance.ensures.refused of_texts)))))

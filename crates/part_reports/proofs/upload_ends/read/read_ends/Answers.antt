@@ -6,7 +6,10 @@ use Rattle.std.proofs.lemmas.Iterator.Adapters.{YieldsList-from_vec}
 use Rattle.std.proofs.lemmas.Iterator.Consumers.{YieldsList-turn}
 use Rattle.part_reports.proofs.TextsRead.{front_more, have_none, read_none, read_next, read_refused}
 use Rattle.part_reports.proofs.ReportsWrong.{ends_wrong}
-use Rattle.part_reports.proofs.ToldOf.{among_of, of_text}
+use Rattle.part_reports.proofs.ReportedOf.{among_of, of_text}
+use Rattle.std.specs.Prelude.{IfSome}
+use Rattle.part_reports.specs.inside.UploadEnds.{IsFirstNoEnd}
+use Rattle.part_reports.proofs.EndsRight.{ends_first}
 use Rattle.part_reports.proofs.upload_ends.read.read_ends.Goals as goal
 
 pub loop-from-init : goal.loop-from-init
@@ -66,7 +69,7 @@ returns-in_err-read_more-clause-named g c =
     c.loop-from.invariant.number
     (of_text c.loop-from.number c.read_more.new.lines.text c.read_more.new.lines.lines
     c.in_err-read_more.field-0.0 (c.read_more.ensures.text ∙ c.new-lines.ensures.text)
-    c.in_err-read_more.ensures.told))
+    c.in_err-read_more.ensures.reported))
 
 pub returns-in_err-read_more-clause-wrong : goal.returns-in_err-read_more-clause-wrong
 returns-in_err-read_more-clause-wrong g c =
@@ -84,4 +87,24 @@ returns-in_err-read_more-clause-wrong g c =
     c.loop-from.invariant.number
     (of_text c.loop-from.number c.read_more.new.lines.text c.read_more.new.lines.lines
     c.in_err-read_more.field-0.0 (c.read_more.ensures.text ∙ c.new-lines.ensures.text)
-    c.in_err-read_more.ensures.told))
+    c.in_err-read_more.ensures.reported))
+
+-- ---- which line is wrong
+pub returns-in_err-read_more-clause-first_wrong : goal.returns-in_err-read_more-clause-first_wrong
+returns-in_err-read_more-clause-first_wrong g c =
+    let items = c.args.texts.items in
+    let all = YieldsList-from_vec items (search rules) (search rules) in
+    let turn = YieldsList-turn all c.loop-from.yielded c.loop-from.from-iterator
+    c.loop-from.yielded_by c.next.result c.next.new.self c.in-Some.from c.in-Some.is
+    c.next.ensures.steps in
+    let p = err_from_is_err_and c.from_residual.result c.from_residual.ensures.1 in
+    rw (p.1, p.2) (ends_first g.R.Read.remaining items c.loop-from.yielded c.in-Some.from
+    c.loop-from.ends c.loop-from.number c.new-lines.result.lines c.in_err-read_more.field-0.0
+    c.loop-from.invariant.front turn.0 turn.1 c.loop-from.invariant.read
+    (subst (λ from. IfSome (g.R.Read.remaining from) (λ text. IsFirstNoEnd c.loop-from.ends.uploads
+    c.new-lines.result.lines text c.in_err-read_more.field-0.0)) c.new-lines.ensures.from
+    c.in_err-read_more.ensures.first) c.new-lines.ensures.lines
+    c.loop-from.invariant.number
+    (of_text c.loop-from.number c.read_more.new.lines.text c.read_more.new.lines.lines
+    c.in_err-read_more.field-0.0 (c.read_more.ensures.text ∙ c.new-lines.ensures.text)
+    c.in_err-read_more.ensures.reported))

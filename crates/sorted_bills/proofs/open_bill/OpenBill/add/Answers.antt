@@ -2,8 +2,8 @@ use Rattle.std.proofs.Common.{List, [], ◌∷◌, ◌++◌, take, refl, sym, ap
 use Rattle.std.proofs.Common.{append_assoc, append-nil, arith, length-append}
 use Rattle.std.proofs.lemmas.List.{length-take, take_all, take_more}
 use Rattle.tap_views.specs.declared.encoder.TapFields.{TapFields}
-use Rattle.settled_texts.specs.Telling.{last_token}
-use Rattle.settled_texts.proofs.Tellings.{fall_here, last_append}
+use Rattle.settled_texts.specs.ExplainedTaps.{last_token}
+use Rattle.settled_texts.proofs.TapsExplained.{fall_here, last_append}
 use Rattle.sorted_bills.specs.inside.OpenBills.{IsOpenBill}
 use Rattle.sorted_bills.proofs.open_bill.OpenBill.add.Goals as goal
 

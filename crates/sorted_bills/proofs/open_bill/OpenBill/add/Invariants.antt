@@ -1,6 +1,6 @@
 use Rattle.std.proofs.Common.{◌≡◌, List, ◌++◌, take}
 use Rattle.tap_views.specs.declared.encoder.TapFields.{TapFields}
-use Rattle.settled_texts.specs.Telling.{last_token}
+use Rattle.settled_texts.specs.ExplainedTaps.{last_token}
 use Rattle.sorted_bills.specs.inside.OpenBills.{IsOpenBill}
 use Rattle.sorted_bills.proofs.open_bill.OpenBill.add.Given as goal
 

@@ -9,6 +9,7 @@ returns g c =
       omega (arith, few),
       subst (λ (t : Token). AreLinesAnywhere c.args.table.now
           (map g.F.Placed.bytes c.args.files.now) t
-          c.in-Ok.span c.tell_span.new.teller c.tell_span.new.lines.items) c.of-self.ensures.token
+          c.in-Ok.span c.explain_span.new.explainer c.explain_span.new.lines.items)
+          c.of-self.ensures.token
           c.in-Ok.ensures.lines,
     )

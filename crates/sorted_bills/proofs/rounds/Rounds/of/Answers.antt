@@ -1,4 +1,4 @@
-use Rattle.sorted_bills.proofs.Told.{none_made}
+use Rattle.sorted_bills.proofs.Explained.{none_made}
 use Rattle.sorted_bills.proofs.rounds.Rounds.of.Goals as goal
 
 pub returns-in-Ok : goal.returns-in-Ok

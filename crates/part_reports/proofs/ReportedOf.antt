@@ -7,7 +7,8 @@ use Rattle.part_reports.specs.Faults.{NamesAmong, number_from, text_named}
 use Rattle.part_reports.specs.declared.fault.MergeFault.{MergeFault}
 use Rattle.part_reports.specs.declared.fault.MergeFault.TheVariants.{Line, Taps, Unread, Write}
 use Rattle.part_reports.specs.declared.fault.MergeFault.TheVariants.{NoMemory}
-use Rattle.part_reports.specs.inside.Told.{AreNumbered, IsOfReader, IsOfText, NamesOneOf, NamesOnly}
+use Rattle.part_reports.specs.inside.Reported.{AreNumbered, IsOfReader, IsOfText, NamesOneOf}
+use Rattle.part_reports.specs.inside.Reported.{NamesOnly}
 use Rattle.part_reports.proofs.Places.{none_at_nil}
 
 pub of_text : (text other lines : ℕ) (fault : MergeFault) → other ≡ text
@@ -72,7 +73,7 @@ among_numbered first count numbers (Unread named) are size one =
 among_numbered first count numbers Write are size one = tt
 among_numbered first count numbers NoMemory are size one = tt
 
--- a text of so many
+-- one of the texts
 pub below_count : (count place : ℕ) (fault : MergeFault) → place < count → IsOfText place fault
     → IfSome (text_named fault) (λ text. text < count)
 below_count count place (Line named number wrong) within of =
