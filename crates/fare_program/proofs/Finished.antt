@@ -1,8 +1,9 @@
--- What was done stays done where what was written is kept.
+-- What was done stays done if what was written is kept.
 use Rattle.std.proofs.Common.{◌≡◌, ℕ, List, Bool, true, false, Option}
 use Rattle.std.specs.Prelude.{MatchBool}
 use Rattle.std.specs.Io.KnownBytes.{Keeps}
 use Rattle.std.proofs.KnownBytes.{Appends-kept}
+use Rattle.program_manners.specs.TableWords.{TableNames}
 use Rattle.program_manners.specs.Loads.{Loaded}
 use Rattle.fare_program.specs.Options.{Asked, lists}
 use Rattle.fare_program.specs.Program.{Does, RunsListing, RunsService, RunsSorted, RunsTraced}
@@ -11,11 +12,11 @@ kept_by : (b : Bool) (A B C D : Type 0) → (A → C) × (B → D) → MatchBool
 kept_by true A B C D both is = both.0 is
 kept_by false A B C D both is = both.1 is
 
-kept_listing : (table : Option (List ℕ)) (names : List (List ℕ)) (told told' : Option (List Loaded))
+kept_listing : (table : Option TableNames) (names : List (List ℕ)) (loaded loaded' : Option (List Loaded))
     (out out' last : Option (List ℕ)) (well : Bool) → Keeps out' last
-    → RunsListing table names told told' out out' well
-    → RunsListing table names told told' out last well
-kept_listing table names told told' out out' last well kept done = record {
+    → RunsListing table names loaded loaded' out out' well
+    → RunsListing table names loaded loaded' out last well
+kept_listing table names loaded loaded' out out' last well kept done = record {
   fares = done.fares;
   files = done.files;
   loads = done.loads;
@@ -24,10 +25,10 @@ kept_listing table names told told' out out' last well kept done = record {
   written = Appends-kept out out' last done.text done.written kept;
 }
 
-kept_service : (asked : Asked) (told told' : Option (List Loaded))
+kept_service : (asked : Asked) (loaded loaded' : Option (List Loaded))
     (out out' last : Option (List ℕ)) (well : Bool) → Keeps out' last
-    → RunsService asked told told' out out' well → RunsService asked told told' out last well
-kept_service asked told told' out out' last well kept done = record {
+    → RunsService asked loaded loaded' out out' well → RunsService asked loaded loaded' out last well
+kept_service asked loaded loaded' out out' last well kept done = record {
   fares = done.fares;
   files = done.files;
   loads = done.loads;
@@ -39,10 +40,10 @@ kept_service asked told told' out out' last well kept done = record {
 }
 
 kept_sorted : (asked : Asked) (known : List ℕ → Option (List ℕ))
-    (told told' : Option (List Loaded)) (out out' last : Option (List ℕ)) (well : Bool)
-    → Keeps out' last → RunsSorted asked known told told' out out' well
-    → RunsSorted asked known told told' out last well
-kept_sorted asked known told told' out out' last well kept done = record {
+    (loaded loaded' : Option (List Loaded)) (out out' last : Option (List ℕ)) (well : Bool)
+    → Keeps out' last → RunsSorted asked known loaded loaded' out out' well
+    → RunsSorted asked known loaded loaded' out last well
+kept_sorted asked known loaded loaded' out out' last well kept done = record {
   fares = done.fares;
   loads = done.loads;
   token = done.token;
@@ -53,18 +54,18 @@ kept_sorted asked known told told' out out' last well kept done = record {
   is_well = done.is_well;
 }
 
-kept_traced : (asked : Asked) (told told' : Option (List Loaded))
+kept_traced : (asked : Asked) (loaded loaded' : Option (List Loaded))
     (out out' last : Option (List ℕ)) (well : Bool) → Keeps out' last
-    → RunsTraced asked told told' out out' well → RunsTraced asked told told' out last well
-kept_traced asked told told' out out' last well kept done = record {
-  name = done.name;
-  is_named = done.is_named;
-  table = done.table;
+    → RunsTraced asked loaded loaded' out out' well → RunsTraced asked loaded loaded' out last well
+kept_traced asked loaded loaded' out out' last well kept done = record {
+  tables = done.tables;
+  are_named = done.are_named;
+  texts = done.texts;
   between = done.between;
-  loads_table = done.loads_table;
   fares = done.fares;
-  means = done.means;
+  loads_tables = done.loads_tables;
   tree = done.tree;
+  later = done.later;
   parsed = done.parsed;
   classes = done.classes;
   are_classes = done.are_classes;
@@ -76,17 +77,17 @@ kept_traced asked told told' out out' last well kept done = record {
 }
 
 pub does_kept : (asked : Asked) (known : List ℕ → Option (List ℕ))
-    (told told' : Option (List Loaded)) (out out' last : Option (List ℕ)) (well : Bool)
-    → Keeps out' last → Does asked known told told' out out' well
-    → Does asked known told told' out last well
-does_kept asked known told told' out out' last well kept done =
+    (loaded loaded' : Option (List Loaded)) (out out' last : Option (List ℕ)) (well : Bool)
+    → Keeps out' last → Does asked known loaded loaded' out out' well
+    → Does asked known loaded loaded' out last well
+does_kept asked known loaded loaded' out out' last well kept done =
     kept_by asked.traced _ _ _ _ (
-      kept_traced asked told told' out out' last well kept,
+      kept_traced asked loaded loaded' out out' last well kept,
       kept_by (lists asked) _ _ _ _ (
-        kept_listing asked.table asked.files told told' out out' last well kept,
+        kept_listing asked.table asked.files loaded loaded' out out' last well kept,
         kept_by asked.sorted _ _ _ _ (
-          kept_sorted asked known told told' out out' last well kept,
-          kept_service asked told told' out out' last well kept,
+          kept_sorted asked known loaded loaded' out out' last well kept,
+          kept_service asked loaded loaded' out out' last well kept,
         ),
       ),
     ) done

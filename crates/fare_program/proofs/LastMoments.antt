@@ -38,7 +38,7 @@ livenesses-push before [] tap = rw append-nil refl
 livenesses-push before (t ∷ taps) tap =
     rw (livenesses-push (before ++ t ∷ []) taps tap, append_assoc) refl
 
--- what a known tap of the token changes, where every known tap so far is before m or not
+-- what a known tap of the token changes, by whether every known tap so far is before m
 same_token : (o : Option ℕ) (moment m : ℕ) (all : Bool) → is_after_last o m ≡ all
     → is_after_last (if is_after_last o moment then Some moment else o) m
     ≡ (all && (nat_lt moment m && true))

@@ -15,7 +15,7 @@ use Rattle.shard_book.proofs.RisingLemmas.{rising-is, rising-only}
 use Rattle.shard_book.proofs.SameEntries.{same_entries}
 use Rattle.tap_views.proofs.TokenLemmas.{token_cmp-total, token_cmp-ties}
 use Rattle.fare_service.specs.Outcomes.{OutcomeView}
-use Rattle.fare_texts.specs.Ledger.{AreLinesOfEach, IsLedgerOfBooks, IsLedgerOver, tokens_told}
+use Rattle.fare_texts.specs.Ledger.{AreLinesOfEach, IsLedgerOfBooks, IsLedgerOver, ledger_tokens}
 use Rattle.fare_texts.proofs.ByToken.{each_same}
 
 same_tokens : (entries others : List Entry)
@@ -32,11 +32,11 @@ same_tokens entries others same =
           (map token_of others) moved;
     })
 
-same_told : (entries others : List Entry) → ((token : Token) → own token entries ≡ own token others)
+same_reported : (entries others : List Entry) → ((token : Token) → own token entries ≡ own token others)
     → (only : Option Token)
-    → tokens_told only entries ≡ tokens_told only others
-same_told entries others same None = same_tokens entries others same
-same_told entries others same (Some token) = refl
+    → ledger_tokens only entries ≡ ledger_tokens only others
+same_reported entries others same None = same_tokens entries others same
+same_reported entries others same (Some token) = refl
 
 pub ledger_same : (fares : Fares) (outcome : OutcomeView) (history : List Entry)
     (only : Option Token) (text : List ℕ)
@@ -50,7 +50,7 @@ ledger_same fares outcome history only text same table is =
     record {
       lines = over.lines;
       of_each = subst (λ (ts : List Token). AreLinesOfEach fares history ts over.lines)
-          (same_told all history same only)
-          (each_same fares all history (tokens_told only all) over.lines same over.of_each);
+          (same_reported all history same only)
+          (each_same fares all history (ledger_tokens only all) over.lines same over.of_each);
       whole = over.whole;
     }

@@ -14,3 +14,4 @@ pub mod Finished
 pub mod SortedRuns
 pub mod Works
 pub mod WritesFailed
+pub mod TableCauses

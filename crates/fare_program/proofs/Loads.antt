@@ -3,18 +3,18 @@ use Rattle.std.proofs.Common.{◌≡◌, ◌∙◌, ◌<◌, ℕ, List, [], ◌�
 use Rattle.std.proofs.Common.{Option, Some, Bor}
 use Rattle.std.proofs.lemmas.List.{map-append}
 use Rattle.fare_program.specs.Program.{LoadsFiles, names_to_load}
-use Rattle.program_manners.specs.Loads.{Loaded, TellsOne}
-use Rattle.program_manners.proofs.LoadsOn.{tells_on}
+use Rattle.program_manners.specs.Loads.{Loaded, LoadsOne}
+use Rattle.program_manners.proofs.LoadsOn.{loads_more}
 
 pub loads_push : (names : List (Option (List ℕ))) (name : Option (List ℕ))
-    (told told' told'' : Option (List Loaded)) (files : List (List ℕ)) (bytes : List ℕ)
-    → LoadsFiles names told told' files → TellsOne told' told'' name bytes
-    → LoadsFiles (names ++ name ∷ []) told told'' (files ++ bytes ∷ [])
-loads_push names name told told' told'' files bytes all one = record {
+    (loaded loaded' loaded'' : Option (List Loaded)) (files : List (List ℕ)) (bytes : List ℕ)
+    → LoadsFiles names loaded loaded' files → LoadsOne loaded' loaded'' name bytes
+    → LoadsFiles (names ++ name ∷ []) loaded loaded'' (files ++ bytes ∷ [])
+loads_push names name loaded loaded' loaded'' files bytes all one = record {
   loads = all.loads ++ record { name = name; bytes = bytes } ∷ [];
   named = map-append (λ load. load.name) all.loads _ ∙ ap (λ xs. xs ++ name ∷ []) all.named;
   bytes = map-append (λ load. load.bytes) all.loads _ ∙ ap (λ xs. xs ++ bytes ∷ []) all.bytes;
-  told_is = tells_on told told' told'' all.loads _ all.told_is one;
+  is_loaded = loads_more loaded loaded' loaded'' all.loads _ all.is_loaded one;
 }
 
 names_are : (names : List (Bor (List ℕ)))

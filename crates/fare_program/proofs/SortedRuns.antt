@@ -5,6 +5,7 @@ use Rattle.std.specs.Prelude.{MatchBool, is_some, ◌||◌}
 use Rattle.fare_table.specs.Fares.{Fares}
 use Rattle.tap_views.specs.declared.token.Token.{Token}
 use Rattle.program_manners.specs.Loads.{Loaded}
+use Rattle.program_manners.specs.TableWords.{TableNames}
 use Rattle.fare_program.specs.Fault.{charge_mistake_of, explain_mistake, first_of_two}
 use Rattle.fare_program.specs.Fault.{ledger_mistake, mistake}
 use Rattle.fare_program.specs.Fault.{settle_mistake, sorted_mistake, sorted_mistake_of}
@@ -21,7 +22,7 @@ use Rattle.fare_program.specs.inside.ChargedSorted.{IsChargedSorted}
 pub one_table : (a b : Fares) → Some a ≡ Some b → a ≡ b
 one_table a b same = cc
 
--- where the first of two is none, neither is one
+-- if the first of two is none, neither is one
 neither : (a b : Option Fault) → first_of_two a b ≡ None → (a ≡ None) × (b ≡ None)
 neither None b is = (refl, is)
 neither (Some fault) b is = cc
@@ -34,7 +35,7 @@ settles true false files is right = cc
 settles true true files is right = refl
 
 -- what is settled is not listed, and there is a table
-has_table_named : (settle list : Bool) (table : Option (List ℕ)) → settle ≡ true
+has_table_named : (settle list : Bool) (table : Option TableNames) → settle ≡ true
     → charge_mistake_of SettleNoTable SettleList settle list table ≡ None
     → (list ≡ false) × (is_some table ≡ true)
 has_table_named false list table is right = cc
@@ -54,10 +55,10 @@ charges asked right sorted =
     (settles asked.sorted asked.settle asked.files sorted live)
     settle
 
-loaded_table : (table : Option (List ℕ)) (told told' : Option (List Loaded)) (fares : Option Fares)
-    → is_some table ≡ true → LoadsTable table told told' fares → (f : Fares) × (fares ≡ Some f)
-loaded_table None told told' fares some loads = cc
-loaded_table (Some name) told told' fares some loads = (loads.1, loads.4)
+loaded_table : (table : Option TableNames) (loaded loaded' : Option (List Loaded)) (fares : Option Fares)
+    → is_some table ≡ true → LoadsTable table loaded loaded' fares → (f : Fares) × (fares ≡ Some f)
+loaded_table None loaded loaded' fares some loads = cc
+loaded_table (Some name) loaded loaded' fares some loads = (loads.1, loads.3)
 
 -- a traced ledger is settled
 traced_settles : (traced ledger settle sorted : Bool) (token : Option (List ℕ)) → traced ≡ true
@@ -81,56 +82,56 @@ traced_table asked right traced =
 
 -- a traced ledger was asked for, and written
 pub does_traced : (asked : Asked) (known : List ℕ → Option (List ℕ))
-    (told told' : Option (List Loaded))
+    (loaded loaded' : Option (List Loaded))
     (out out' : Option (List ℕ)) (well : Bool) → asked.traced ≡ true
-    → RunsTraced asked told told' out out' well → Does asked known told told' out out' well
-does_traced asked known told told' out out' well traced runs =
-    subst (λ (b : Bool). MatchBool b (RunsTraced asked told told' out out' well)
-    (DoesUntraced asked known told told' out out' well)) (sym traced) runs
+    → RunsTraced asked loaded loaded' out out' well → Does asked known loaded loaded' out out' well
+does_traced asked known loaded loaded' out out' well traced runs =
+    subst (λ (b : Bool). MatchBool b (RunsTraced asked loaded loaded' out out' well)
+    (DoesUntraced asked known loaded loaded' out out' well)) (sym traced) runs
 
 -- what was done is no traced ledger, and none was asked for
 pub does_untraced : (asked : Asked) (known : List ℕ → Option (List ℕ))
-    (told told' : Option (List Loaded))
+    (loaded loaded' : Option (List Loaded))
     (out out' : Option (List ℕ)) (well : Bool) → asked.traced ≡ false
-    → DoesUntraced asked known told told' out out' well → Does asked known told told' out out' well
-does_untraced asked known told told' out out' well untraced done =
-    subst (λ (b : Bool). MatchBool b (RunsTraced asked told told' out out' well)
-    (DoesUntraced asked known told told' out out' well)) (sym untraced) done
+    → DoesUntraced asked known loaded loaded' out out' well → Does asked known loaded loaded' out out' well
+does_untraced asked known loaded loaded' out out' well untraced done =
+    subst (λ (b : Bool). MatchBool b (RunsTraced asked loaded loaded' out out' well)
+    (DoesUntraced asked known loaded loaded' out out' well)) (sym untraced) done
 
 -- the table that is named was loaded
-pub has_table : (asked : Asked) (told told' : Option (List Loaded)) (fares : Option Fares)
-    → mistake asked ≡ None → asked.sorted ≡ true → LoadsTable asked.table told told' fares
+pub has_table : (asked : Asked) (loaded loaded' : Option (List Loaded)) (fares : Option Fares)
+    → mistake asked ≡ None → asked.sorted ≡ true → LoadsTable asked.table loaded loaded' fares
     → (f : Fares) × (fares ≡ Some f)
-has_table asked told told' fares right sorted loads =
-    loaded_table asked.table told told' fares (charges asked right sorted).1 loads
+has_table asked loaded loaded' fares right sorted loads =
+    loaded_table asked.table loaded loaded' fares (charges asked right sorted).1 loads
 
-no_list : (list : Bool) (table : Option (List ℕ)) → list ≡ false → is_some table ≡ true
+no_list : (list : Bool) (table : Option TableNames) → list ≡ false → is_some table ≡ true
     → (list || not (is_some table)) ≡ false
 no_list true table none some = cc
 no_list false None none some = cc
 no_list false (Some name) none some = refl
 
 pub does_sorted : (asked : Asked) (known : List ℕ → Option (List ℕ))
-    (told between : Option (List Loaded))
+    (loaded between : Option (List Loaded))
     (fares : Option Fares) (token : Option Token) (out out' : Option (List ℕ)) (well : Bool)
-    → mistake asked ≡ None → asked.sorted ≡ true → LoadsTable asked.table told between fares
+    → mistake asked ≡ None → asked.sorted ≡ true → LoadsTable asked.table loaded between fares
     → IsTokenIn asked.token token
     → (well ≡ true) × ((f : Fares) → fares ≡ Some f
     → IsChargedSorted asked (map known asked.files) f token out out')
-    → DoesUntraced asked known told between out out' well
-does_sorted asked known told between fares token out out' well right sorted loads is_token made =
+    → DoesUntraced asked known loaded between out out' well
+does_sorted asked known loaded between fares token out out' well right sorted loads is_token made =
     let (list, some) = charges asked right sorted in
-    let (f, is) = has_table asked told between fares right sorted loads in
+    let (f, is) = has_table asked loaded between fares right sorted loads in
     let done = made.1 f is in
     subst (λ (b : Bool). MatchBool b
-    (RunsListing asked.table asked.files told between out out' well)
-    (MatchBool asked.sorted (RunsSorted asked known told between out out' well)
-    (RunsService asked told between out out' well)))
+    (RunsListing asked.table asked.files loaded between out out' well)
+    (MatchBool asked.sorted (RunsSorted asked known loaded between out out' well)
+    (RunsService asked loaded between out out' well)))
     (sym (no_list asked.list asked.table list some))
-    (subst (λ (b : Bool). MatchBool b (RunsSorted asked known told between out out' well)
-    (RunsService asked told between out out' well)) (sym sorted) (record {
+    (subst (λ (b : Bool). MatchBool b (RunsSorted asked known loaded between out out' well)
+    (RunsService asked loaded between out out' well)) (sym sorted) (record {
       fares = f;
-      loads = subst (LoadsTable asked.table told between) is loads;
+      loads = subst (LoadsTable asked.table loaded between) is loads;
       token = token;
       is_token = is_token;
       text = done.text;

@@ -10,7 +10,8 @@ use Rattle.fare_program.specs.Program.{DoesUntraced, IsTokenIn, LoadsFiles, Load
 use Rattle.fare_program.specs.Program.{RunsService, RunsSorted, ShowsAsked, names_to_load}
 use Rattle.fare_program.specs.Uploads.{IsListing}
 use Rattle.fare_program.specs.inside.ChargedAhead.{IsChargedAhead}
-use Rattle.program_manners.specs.Loads.{Loaded, Tells}
+use Rattle.program_manners.specs.TableWords.{TableNames}
+use Rattle.program_manners.specs.Loads.{Loaded, LoadsAll}
 
 -- what is appended to bytes that were kept is appended
 pub appends_to_kept : (a b c : Option (List ℕ)) (text : List ℕ) → Keeps a b → Appends b c text
@@ -21,38 +22,38 @@ appends_to_kept (Some x) (Some y) None text kept added = absurd added
 appends_to_kept (Some x) (Some y) (Some z) text kept added = added ∙ ap (λ l. l ++ text) kept
 
 -- with fares, and without the flag, the service is asked for
-serves : (list : Bool) (table : Option (List ℕ)) (told told' : Option (List Loaded))
-    (fares : Option Fares) (f : Fares) → list ≡ false → LoadsTable table told told' fares
+serves : (list : Bool) (table : Option TableNames) (loaded_before loaded_before' : Option (List Loaded))
+    (fares : Option Fares) (f : Fares) → list ≡ false → LoadsTable table loaded_before loaded_before' fares
     → fares ≡ Some f → (list || not (is_some table)) ≡ false
-serves true table told told' fares f flag loads is = cc
-serves false None told told' fares f flag loads is = let none = loads.0 in cc
-serves false (Some name) told told' fares f flag loads is = refl
+serves true table loaded_before loaded_before' fares f flag loads is = cc
+serves false None loaded_before loaded_before' fares f flag loads is = let none = loads.0 in cc
+serves false (Some name) loaded_before loaded_before' fares f flag loads is = refl
 
 -- with the flag, or without fares, a listing is asked for
-lists_by : (list : Bool) (table : Option (List ℕ)) (told told' : Option (List Loaded))
-    (fares : Option Fares) → LoadsTable table told told' fares → (list ≡ true) ⊎ (fares ≡ None)
+lists_by : (list : Bool) (table : Option TableNames) (loaded_before loaded_before' : Option (List Loaded))
+    (fares : Option Fares) → LoadsTable table loaded_before loaded_before' fares → (list ≡ true) ⊎ (fares ≡ None)
     → (list || not (is_some table)) ≡ true
-lists_by true table told told' fares loads is = refl
-lists_by false None told told' fares loads is = refl
-lists_by false (Some name) told told' fares loads (inl e) = cc
-lists_by false (Some name) told told' fares loads (inr e) = let some = loads.4 in cc
+lists_by true table loaded_before loaded_before' fares loads is = refl
+lists_by false None loaded_before loaded_before' fares loads is = refl
+lists_by false (Some name) loaded_before loaded_before' fares loads (inl e) = cc
+lists_by false (Some name) loaded_before loaded_before' fares loads (inr e) = let some = loads.3 in cc
 
 module _ (asked : Asked) (known : List ℕ → Option (List ℕ))
-    (told between told' : Option (List Loaded))
+    (loaded_before between loaded_before' : Option (List Loaded))
     (out mid out' : Option (List ℕ)) (well : Bool) (fares : Option Fares)
-    (loads : LoadsTable asked.table told between fares)
+    (loads : LoadsTable asked.table loaded_before between fares)
     (kept : Keeps out mid) where
   pub does_list : (files : List (List ℕ))
-      → LoadsFiles (names_to_load asked.files) between told' files
+      → LoadsFiles (names_to_load asked.files) between loaded_before' files
       → (asked.list ≡ true) ⊎ (fares ≡ None)
       → (text : List ℕ) × IsListing fares files text well × Appends mid out' text
-      → DoesUntraced asked known told told' out out' well
+      → DoesUntraced asked known loaded_before loaded_before' out out' well
   does_list files loaded flag done =
       subst (λ (b : Bool). MatchBool b
-      (RunsListing asked.table asked.files told told' out out' well)
-      (MatchBool asked.sorted (RunsSorted asked known told told' out out' well)
-      (RunsService asked told told' out out' well)))
-      (sym (lists_by asked.list asked.table told between fares loads flag)) (record {
+      (RunsListing asked.table asked.files loaded_before loaded_before' out out' well)
+      (MatchBool asked.sorted (RunsSorted asked known loaded_before loaded_before' out out' well)
+      (RunsService asked loaded_before loaded_before' out out' well)))
+      (sym (lists_by asked.list asked.table loaded_before between fares loads flag)) (record {
         fares = fares;
         files = files;
         loads = record { between = between; loads_table = loads; loads_files = loaded };
@@ -62,23 +63,23 @@ module _ (asked : Asked) (known : List ℕ → Option (List ℕ))
       })
 
   pub does_charge : (f : Fares) (files : List (List ℕ)) (token : Option Token) → fares ≡ Some f
-      → LoadsFiles (names_to_load asked.files) between told' files → IsTokenIn asked.token token
+      → LoadsFiles (names_to_load asked.files) between loaded_before' files → IsTokenIn asked.token token
       → asked.list ≡ false → asked.sorted ≡ false
       → (text : List ℕ) × ShowsAsked asked f files token text well × Appends mid out' text
-      → DoesUntraced asked known told told' out out' well
+      → DoesUntraced asked known loaded_before loaded_before' out out' well
   does_charge f files token is loaded is_token flag live done =
       subst (λ (b : Bool). MatchBool b
-      (RunsListing asked.table asked.files told told' out out' well)
-      (MatchBool asked.sorted (RunsSorted asked known told told' out out' well)
-      (RunsService asked told told' out out' well)))
-      (sym (serves asked.list asked.table told between fares f flag loads is))
-      (subst (λ (b : Bool). MatchBool b (RunsSorted asked known told told' out out' well)
-      (RunsService asked told told' out out' well)) (sym live) (record {
+      (RunsListing asked.table asked.files loaded_before loaded_before' out out' well)
+      (MatchBool asked.sorted (RunsSorted asked known loaded_before loaded_before' out out' well)
+      (RunsService asked loaded_before loaded_before' out out' well)))
+      (sym (serves asked.list asked.table loaded_before between fares f flag loads is))
+      (subst (λ (b : Bool). MatchBool b (RunsSorted asked known loaded_before loaded_before' out out' well)
+      (RunsService asked loaded_before loaded_before' out out' well)) (sym live) (record {
         fares = f;
         files = files;
         loads = record {
           between = between;
-          loads_table = subst (LoadsTable asked.table told between) is loads;
+          loads_table = subst (LoadsTable asked.table loaded_before between) is loads;
           loads_files = loaded;
         };
         token = token;
@@ -111,32 +112,32 @@ named_length (name ∷ names) some = omega (arith, all names)
     all [] = refl
     all (x ∷ others) = omega (arith, all others)
 
--- a source that keeps no loads tells nothing of them
-pub untold : (names : List (List ℕ)) (told : Option (List Loaded)) (files : List (List ℕ))
-    → told ≡ None
+-- a source that keeps no loads says nothing of them
+pub unreported : (names : List (List ℕ)) (loaded_before : Option (List Loaded)) (files : List (List ℕ))
+    → loaded_before ≡ None
     → 0 < length files → length files ≡ length names
-    → LoadsFiles (names_to_load names) told told files
-untold names told files none some same =
+    → LoadsFiles (names_to_load names) loaded_before loaded_before files
+unreported names loaded_before files none some same =
     let (loads, named, bytes) = loads_of (names_to_load names) files
     (same ∙ sym (named_length names (omega (arith, some, same)))) in record {
       loads = loads;
       named = named;
       bytes = bytes;
-      told_is = subst (λ (t : Option (List Loaded)). Tells t t loads) (sym none) tt;
+      is_loaded = subst (λ (t : Option (List Loaded)). LoadsAll t t loads) (sym none) tt;
     }
 
 pub does_ahead : (asked : Asked) (known : List ℕ → Option (List ℕ)) (keeps : Bool)
-    (told between : Option (List Loaded))
+    (loaded_before between : Option (List Loaded))
     (table : Option Fares) (token : Option Token) (out out' : Option (List ℕ)) (well : Bool)
-    → LoadsTable asked.table told between table → (keeps ≡ false → between ≡ None)
+    → LoadsTable asked.table loaded_before between table → (keeps ≡ false → between ≡ None)
     → IsTokenIn asked.token token → IsChargedAhead asked keeps table token out out' well
-    → Keeps out out → asked.sorted ≡ false → DoesUntraced asked known told between out out' well
-does_ahead asked known keeps told between table token out out' well loads none is_token is kept
+    → Keeps out out → asked.sorted ≡ false → DoesUntraced asked known loaded_before between out out' well
+does_ahead asked known keeps loaded_before between table token out out' well loads none is_token is kept
     live =
-    does_charge asked known told between between out out out' well table loads kept is.fares
+    does_charge asked known loaded_before between between out out out' well table loads kept is.fares
     is.files token
     is.is_table
-    (untold asked.files between is.files (none is.kept_none) is.some is.number) is_token
+    (unreported asked.files between is.files (none is.kept_none) is.some is.number) is_token
     is.lists_none live (
       is.text,
       is.shows,

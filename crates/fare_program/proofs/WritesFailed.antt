@@ -17,7 +17,7 @@ use Rattle.fare_program.specs.declared.fault.Fault.TheVariants.{Write, NoMemory}
 use Rattle.fare_program.specs.inside.Fault.{printed_as}
 use Rattle.fare_program.proofs.Works.{appends_to_kept}
 
--- only a write that failed is told so
+-- only a write that failed is reported so
 pub of_write : (fault : PrintFault) → printed_as fault ≡ Write → fault ≡ print.Write
 of_write print.Write is = refl
 of_write print.NoMemory is = cc
@@ -71,23 +71,23 @@ grown_by true A B P one other is = one is
 grown_by false A B P one other is = other is
 
 -- what was done is a text that was written
-does_write : (asked : Asked) (known : List ℕ → Option (List ℕ)) (told told' : Option (List Loaded))
-    (out out' : Option (List ℕ)) (well : Bool) → Does asked known told told' out out' well
+does_write : (asked : Asked) (known : List ℕ → Option (List ℕ)) (loaded loaded' : Option (List Loaded))
+    (out out' : Option (List ℕ)) (well : Bool) → Does asked known loaded loaded' out out' well
     → (text : List ℕ) × Appends out out' text
-does_write asked known told told' out out' well done =
-    grown_by asked.traced (RunsTraced asked told told' out out' well) _ _
+does_write asked known loaded loaded' out out' well done =
+    grown_by asked.traced (RunsTraced asked loaded loaded' out out' well) _ _
     (λ runs. (runs.text, runs.written))
-    (grown_by (lists asked) (RunsListing asked.table asked.files told told' out out' well) _ _
+    (grown_by (lists asked) (RunsListing asked.table asked.files loaded loaded' out out' well) _ _
     (λ runs. (runs.text, runs.written))
-    (grown_by asked.sorted (RunsSorted asked known told told' out out' well)
-    (RunsService asked told told' out out' well) _ (λ runs. (runs.text, runs.written))
+    (grown_by asked.sorted (RunsSorted asked known loaded loaded' out out' well)
+    (RunsService asked loaded loaded' out out' well) _ (λ runs. (runs.text, runs.written))
     (λ runs. (runs.text, runs.written)))) done
 
 pub begun_done : (asked : Asked) (known : List ℕ → Option (List ℕ))
-    (told told' : Option (List Loaded)) (out out' : Option (List ℕ)) (well : Bool)
-    → Does asked known told told' out out' well → HasBegun asked known told told' out out'
-begun_done asked known told told' out out' well done =
-    let (text, written) = does_write asked known told told' out out' well done in (
+    (loaded loaded' : Option (List Loaded)) (out out' : Option (List ℕ)) (well : Bool)
+    → Does asked known loaded loaded' out out' well → HasBegun asked known loaded loaded' out out'
+begun_done asked known loaded loaded' out out' well done =
+    let (text, written) = does_write asked known loaded loaded' out out' well done in (
       well,
-      begun_whole out out' text (λ all. Does asked known told told' out all well) written done,
+      begun_whole out out' text (λ all. Does asked known loaded loaded' out all well) written done,
     )

@@ -1,9 +1,13 @@
 -- Why the program gives up is the case.
-use Rattle.std.specs.Prelude.{◌≡◌, ◌⊎◌, ◌<◌, ℕ, List, [], ◌∷◌, Option, Some, true, false}
-use Rattle.std.specs.Prelude.{codes, length, map, slice_get}
+use Rattle.std.specs.Prelude.{◌≡◌, ◌≢◌, ◌⊎◌, ◌<◌, ℕ, List, [], ◌∷◌, Option, None, Some, true, false}
+use Rattle.std.specs.Prelude.{All, codes, length, map, slice_get, take}
+use Rattle.fare_table.specs.Fares.{Fares}
 use Rattle.placed_files.specs.declared.unopened.Unopened.{Unopened}
-use Rattle.program_manners.specs.Loads.{Loaded, TellsOne}
-use Rattle.program_manners.specs.Refusals.{IsOneOf, RefusesTable, TellsRefusal}
+use Rattle.program_manners.specs.Loads.{Loaded}
+use Rattle.program_manners.specs.Refusals.{IsOneOf, HasRefused}
+use Rattle.program_manners.specs.TableLoads.{LoadsTables}
+use Rattle.program_manners.specs.TableRefusals.{RefusesNamed, RefusesOnly, RefusesToFollow}
+use Rattle.program_manners.specs.TableWords.{TableNames, file_named}
 use Rattle.program_manners.specs.declared.loading.LoadFault.{LoadFault}
 use Rattle.sorted_bills.specs.Faults.{HaveTooManyTaps}
 use Rattle.settled_texts.specs.Classes.{has_plain_classes}
@@ -13,18 +17,26 @@ use Rattle.toml.specs.Data.{Members}
 use Rattle.toml.specs.Parse.{parse_document}
 use Rattle.fare_program.specs.Options.{Asked}
 use Rattle.fare_program.specs.declared.fault.Fault.{Fault}
-use Rattle.fare_program.specs.declared.fault.Fault.TheVariants.{File, Table, ClassName, Unopened as AtOpening}
-use Rattle.fare_program.specs.declared.fault.Fault.TheVariants.{Unsorted, TooManyTaps, Late}
-use Rattle.fare_program.specs.declared.fault.Fault.TheVariants.{Uploads, Gather, Write, NoMemory}
+use Rattle.fare_program.specs.declared.fault.Fault.TheVariants.{ClassName, File, Follow, Gather}
+use Rattle.fare_program.specs.declared.fault.Fault.TheVariants.{Late, NamedClass, NamedTable}
+use Rattle.fare_program.specs.declared.fault.Fault.TheVariants.{NoMemory, Table, TooManyTaps}
+use Rattle.fare_program.specs.declared.fault.Fault.TheVariants.{Unopened as AtOpening, Unsorted}
+use Rattle.fare_program.specs.declared.fault.Fault.TheVariants.{Uploads, Write}
 
--- what fault lines call the files to be loaded: standard input, where none is named
-abbrev pub names_told : List (List ℕ) → List (List ℕ)
-names_told [] = codes "standard input" ∷ []
-names_told (name ∷ names) = name ∷ names
+-- what fault lines call the files to be loaded: standard input, if none is named
+abbrev pub names_reported : List (List ℕ) → List (List ℕ)
+names_reported [] = codes "standard input" ∷ []
+names_reported (name ∷ names) = name ∷ names
 
--- the name is that of the fare table, or of a file to be loaded
-abbrev pub IsNameTold : Asked → List ℕ → Type 0
-IsNameTold asked name = (asked.table ≡ Some name) ⊎ IsOneOf name (names_told asked.files)
+-- the names of the files of fare tables
+abbrev pub table_files : Option TableNames → List (List ℕ)
+table_files None = []
+table_files (Some tables) = tables.first ∷ map file_named tables.later
+
+-- the name is that of a fare table's file, or of a file to be loaded
+abbrev pub IsNameReported : Asked → List ℕ → Type 0
+IsNameReported asked name =
+    IsOneOf name (table_files asked.table) ⊎ IsOneOf name (names_reported asked.files)
 
 -- Of sorted files under these names, of which this is known, the one of this name is the first that
 -- is not sorted, for this reason.
@@ -54,29 +66,61 @@ abbrev pub HasOtherNames : List ℕ → Type 0
 HasOtherNames text =
     (tree : Members) × (parse_document text ≡ Some tree) × (has_plain_classes tree ≡ false)
 
--- The file of this name was loaded, and a class that its text names cannot stand in a ledger.
-pub record RefusesNames (name : List ℕ) (told told' : Option (List Loaded)) : Type 0 where
-  pub bytes : List ℕ
-  pub told_is : TellsOne told told' (Some name) bytes
-  pub other : HasOtherNames bytes
+-- All tables were loaded. A class that the text of this place names cannot stand in a ledger, and each
+-- class of the texts before it can.
+pub record RefusesClass (tables : TableNames) (loaded loaded' : Option (List Loaded)) (place : ℕ)
+    : Type 0 where
+  pub texts : List (List ℕ)
+  pub fares : Fares
+  pub loads : LoadsTables tables loaded loaded' texts fares
+  pub text : List ℕ
+  pub stands : slice_get texts place ≡ Some text
+  pub other : HasOtherNames text
+  pub before : All (λ earlier. ¬ HasOtherNames earlier) (take place texts)
+
+-- The one table has a class that cannot stand in a ledger.
+pub record RefusesTheNames (asked : Asked) (loaded loaded' : Option (List Loaded)) : Type 0 where
+  pub tables : TableNames
+  pub are_named : asked.table ≡ Some tables
+  pub alone : tables.later ≡ []
+  pub place : ℕ
+  pub refused : RefusesClass tables loaded loaded' place
+
+-- Of several tables, the one of this name is the first that has a class that cannot stand in a ledger.
+pub record RefusesNames (asked : Asked) (loaded loaded' : Option (List Loaded)) (name : List ℕ)
+    : Type 0 where
+  pub tables : TableNames
+  pub are_named : asked.table ≡ Some tables
+  pub several : tables.later ≢ []
+  pub place : ℕ
+  pub named : slice_get (table_files asked.table) place ≡ Some name
+  pub refused : RefusesClass tables loaded loaded' place
 
 -- The fault is the right one for what is asked for. A file that is named is one of the words, and
 -- one that the source refused so. A table fault is the first one of the text that was loaded under
--- the table's name, and a class's name is refused only for a traced ledger, and if that text has one
--- that no ledger can have. There are too many uploads only above 65,535. Only a write and want of
--- memory may fail at any time.
+-- the table's name, behind those of the tables before it. A class's name is refused only for a traced
+-- ledger, and if a text has one that no ledger can have. There are too many uploads only above
+-- 65,535. Only a write and want of memory may fail at any time.
 abbrev pub IsRightFault : Asked → (List ℕ → Option (List ℕ)) → Option (List Loaded)
     → Option (List Loaded) → Option (Option (List ℕ) × LoadFault) → Fault → Type 0
-IsRightFault asked under told told' refused (File file) =
-    IsNameTold asked file.name.now × TellsRefusal refused file.name.now file.fault
-IsRightFault asked under told told' refused (Table fault) =
-    (name : List ℕ) × (asked.table ≡ Some name) × RefusesTable name told told' fault
-IsRightFault asked under told told' refused ClassName = (asked.traced ≡ true)
-    × ((name : List ℕ) × (asked.table ≡ Some name) × RefusesNames name told told')
-IsRightFault asked under told told' refused Uploads =
+IsRightFault asked under loaded loaded' refused (File file) =
+    IsNameReported asked file.name.now × HasRefused refused file.name.now file.fault
+IsRightFault asked under loaded loaded' refused (Table fault) =
+    (tables : TableNames) × (asked.table ≡ Some tables) × RefusesOnly tables loaded loaded' fault
+IsRightFault asked under loaded loaded' refused (NamedTable line) =
+    (tables : TableNames) × (asked.table ≡ Some tables)
+    × RefusesNamed tables loaded loaded' line.name.now line.fault
+IsRightFault asked under loaded loaded' refused (Follow line) =
+    (tables : TableNames) × (asked.table ≡ Some tables)
+    × RefusesToFollow tables loaded loaded' line.word.now line.fault
+IsRightFault asked under loaded loaded' refused ClassName =
+    (asked.traced ≡ true) × RefusesTheNames asked loaded loaded'
+IsRightFault asked under loaded loaded' refused (NamedClass line) =
+    (asked.traced ≡ true) × RefusesNames asked loaded loaded' line.0.now
+IsRightFault asked under loaded loaded' refused Uploads =
     (asked.settle ≡ false) × (65535 < length asked.files)
-IsRightFault asked under told told' refused (Gather fault) = asked.settle ≡ false
-IsRightFault asked under told told' refused Write = Unit {0}
-IsRightFault asked under told told' refused NoMemory = Unit {0}
-IsRightFault asked under told told' refused fault =
+IsRightFault asked under loaded loaded' refused (Gather fault) = asked.settle ≡ false
+IsRightFault asked under loaded loaded' refused Write = Unit {0}
+IsRightFault asked under loaded loaded' refused NoMemory = Unit {0}
+IsRightFault asked under loaded loaded' refused fault =
     (asked.sorted ≡ true) × IsRightOfSorted asked.files (map under asked.files) fault

@@ -1,10 +1,14 @@
 -- The fault lines, without their line feeds, and their statuses.
 use Rattle.std.specs.Prelude.{ℕ, List, Bool, true, false, Option, Some, None, codes}
-use Rattle.std.specs.Prelude.{if◌then◌else◌, is_ok, is_some, [], ◌∷◌}
+use Rattle.std.specs.Prelude.{if◌then◌else◌, is_ok, is_some, [], ◌∷◌, ◌++◌}
 use Rattle.hex.specs.Hex.{decode_sized}
 use Rattle.fare_service.specs.declared.faults.GatherFault.{GatherFault}
 use Rattle.fare_service.specs.declared.faults.GatherFault.TheVariants as gather
-use Rattle.program_manners.specs.Lines.{load_text, table_text}
+use Rattle.std.specs.Option.{option_and_then}
+use Rattle.program_manners.specs.Lines.{follow_text, load_text, named_class_text}
+use Rattle.program_manners.specs.Lines.{named_table_text, table_text}
+use Rattle.program_manners.specs.TableWords.{TableNames, date_text, wrong_word}
+use Rattle.program_manners.specs.declared.table_words.DateFault.{DateFault}
 use Rattle.fare_program.specs.Options.{Asked}
 use Rattle.fare_program.specs.SortedFaults.{late_text, sorted_text, unopened_text}
 use Rattle.fare_program.specs.declared.fault.Fault.{Fault}
@@ -16,7 +20,8 @@ use Rattle.fare_program.specs.declared.fault.Fault.TheVariants.{SortedNoSettle, 
 use Rattle.fare_program.specs.declared.fault.Fault.TheVariants.{TracedNoLedger, TracedNoSettle}
 use Rattle.fare_program.specs.declared.fault.Fault.TheVariants.{TracedToken, TracedSorted, ClassName}
 use Rattle.fare_program.specs.declared.fault.Fault.TheVariants.{File, Table, Unopened, Unsorted}
-use Rattle.fare_program.specs.declared.fault.Fault.TheVariants.{TooManyTaps, Late}
+use Rattle.fare_program.specs.declared.fault.Fault.TheVariants.{TooManyTaps, Late, Date, Follow}
+use Rattle.fare_program.specs.declared.fault.Fault.TheVariants.{NamedClass, NamedTable}
 use Rattle.fare_program.specs.declared.fault.Fault.TheVariants.{Uploads, Gather, Write, NoMemory}
 
 -- a run whose workers' shares were not gathered
@@ -44,7 +49,11 @@ fault_text TracedToken = codes "fault: --traced cannot be used with --token"
 fault_text TracedSorted = codes "fault: --traced cannot be used with --sorted"
 fault_text (File file) = load_text file.name.now file.fault
 fault_text (Table fault) = table_text fault
+fault_text (Date wrong) = codes "fault: " ++ date_text wrong.word.now wrong.fault
+fault_text (NamedTable line) = named_table_text line.name.now line.fault
+fault_text (Follow line) = follow_text line.word.now line.fault
 fault_text ClassName = codes "fault: table has a class name that no ledger can have"
+fault_text (NamedClass line) = named_class_text line.0.now
 fault_text (Unopened file) = unopened_text file.name.now file.fault
 fault_text (Unsorted file) = sorted_text file.name.now file.fault
 fault_text TooManyTaps = codes "fault: too many taps"
@@ -71,6 +80,7 @@ status_of TracedNoLedger = 2
 status_of TracedNoSettle = 2
 status_of TracedToken = 2
 status_of TracedSorted = 2
+status_of (Date wrong) = 2
 status_of _ = 1
 
 -- the text of sorted files was broken off: one of them was refused after all were checked
@@ -80,7 +90,7 @@ IsLate _ = ⊥
 
 -- What is wrong with the token that is asked for, if anything: first its digits, and then that
 -- there is no table.
-abbrev pub token_mistake_of : Option (List ℕ) → Option (List ℕ) → Option Fault
+abbrev pub token_mistake_of : Option (List ℕ) → Option TableNames → Option Fault
 token_mistake_of None table = None
 token_mistake_of (Some digits) table =
     if is_ok (decode_sized digits 16) then (if is_some table then None else Some NoTable)
@@ -92,24 +102,24 @@ token_mistake asked = token_mistake_of asked.token asked.table
 
 -- What is wrong with what is asked for and needs a table: first that there is none, and then that
 -- the taps are to be listed.
-abbrev pub charge_mistake_of : Fault → Fault → Bool → Bool → Option (List ℕ) → Option Fault
+abbrev pub charge_mistake_of : Fault → Fault → Bool → Bool → Option TableNames → Option Fault
 charge_mistake_of untabled listed false list table = None
 charge_mistake_of untabled listed true list None = Some untabled
-charge_mistake_of untabled listed true false (Some name) = None
-charge_mistake_of untabled listed true true (Some name) = Some listed
+charge_mistake_of untabled listed true false (Some tables) = None
+charge_mistake_of untabled listed true true (Some tables) = Some listed
 
--- what is wrong with settling where it is asked for
+-- what is wrong with settling if it is asked for
 abbrev pub settle_mistake : Asked → Option Fault
 settle_mistake asked =
     charge_mistake_of SettleNoTable SettleList asked.settle asked.list asked.table
 
--- what is wrong with the ledger where it is asked for
+-- what is wrong with the ledger if it is asked for
 abbrev pub ledger_mistake : Asked → Option Fault
 ledger_mistake asked =
     charge_mistake_of LedgerNoTable LedgerList asked.ledger asked.list asked.table
 
--- What is wrong with an explained statement where it is asked for: first that there is no token,
--- then that the taps are to be listed, and then that the ledger is asked for.
+-- What is wrong with an explained statement if it is asked for: first that there is no token, then
+-- that the taps are to be listed, and then that the ledger is asked for.
 abbrev pub explain_mistake_of : Bool → Bool → Bool → Option (List ℕ) → Option Fault
 explain_mistake_of false list ledger token = None
 explain_mistake_of true list ledger None = Some ExplainNoToken
@@ -121,8 +131,8 @@ explain_mistake_of true false false (Some digits) = None
 abbrev pub explain_mistake : Asked → Option Fault
 explain_mistake asked = explain_mistake_of asked.explain asked.list asked.ledger asked.token
 
--- What is wrong with sorted files where they are asked for: first that the taps are not to be
--- settled, and then that no file is named, for standard input is none.
+-- What is wrong with sorted files if they are asked for: first that the taps are not to be settled,
+-- and then that no file is named, for standard input is none.
 abbrev pub sorted_mistake_of : Bool → Bool → List (List ℕ) → Option Fault
 sorted_mistake_of false settle files = None
 sorted_mistake_of true false files = Some SortedNoSettle
@@ -133,9 +143,9 @@ sorted_mistake_of true true (file ∷ files) = None
 abbrev pub sorted_mistake : Asked → Option Fault
 sorted_mistake asked = sorted_mistake_of asked.sorted asked.settle asked.files
 
--- What is wrong with a traced ledger where it is asked for: first that the ledger is not, then that
--- the taps are not to be settled, then that a token is asked for, and then that the files are sorted
--- ones.
+-- What is wrong with a traced ledger if it is asked for: first that the ledger is not, then that
+-- the taps are not to be settled, then that a token is asked for, and then that the files are
+-- sorted ones.
 abbrev pub traced_mistake_of : Bool → Bool → Bool → Option (List ℕ) → Bool → Option Fault
 traced_mistake_of false ledger settle token sorted = None
 traced_mistake_of true false settle token sorted = Some TracedNoLedger
@@ -154,10 +164,15 @@ abbrev pub first_of_two : Option Fault → Option Fault → Option Fault
 first_of_two None other = other
 first_of_two (Some fault) other = Some fault
 
--- what is wrong with what is asked for, if anything: the token is looked at first, then settling,
--- then the ledger, then the explained statement, then sorted files, then a traced ledger
+-- what is wrong with what is asked for, if anything, but for the dates of tables: the token is looked
+-- at first, then settling, then the ledger, then the explained statement, then sorted files, then a
+-- traced ledger
 abbrev pub mistake : Asked → Option Fault
 mistake asked =
     first_of_two (token_mistake asked) (first_of_two (settle_mistake asked)
     (first_of_two (ledger_mistake asked) (first_of_two (explain_mistake asked)
     (first_of_two (sorted_mistake asked) (traced_mistake asked)))))
+
+-- the first word of a fare table that has a wrong date, or none if one is wanted
+abbrev pub wrong_date : Asked → Option (List ℕ × DateFault)
+wrong_date asked = option_and_then wrong_word asked.table

@@ -5,8 +5,8 @@ use Rattle.fare_program.specs.Options.{Asked, lists}
 use Rattle.fare_program.specs.declared.note.Note.{Note}
 use Rattle.fare_program.specs.declared.note.Note.TheVariants.{ReadsInput, FollowsFileOrder}
 
--- The note on these files: standard input is read where none is named. The order of several files
--- can change the bill, unless it is free of it.
+-- The note on these files: standard input is read if none is named. The order of several files can
+-- change the bill, unless it is free of it.
 abbrev pub note_on_files : List (List ℕ) → Bool → Option Note
 note_on_files [] is_free = Some ReadsInput
 note_on_files (_ ∷ []) is_free = None

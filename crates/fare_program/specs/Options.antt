@@ -10,21 +10,22 @@ use Rattle.clap.specs.declared.builder.action.ArgAction.TheVariants.{Append}
 use Rattle.clap.specs.declared.error.kind.ErrorKind.TheVariants.{DisplayHelp, DisplayVersion}
 use Rattle.program_manners.specs.ListedWords.{with_files}
 use Rattle.program_manners.specs.Words.{flag_rule, list_option, named_app, null_flag, number_rule}
-use Rattle.program_manners.specs.Words.{option_rule, positional_rule}
+use Rattle.program_manners.specs.TableWords.{TableNames, tables_in}
+use Rattle.program_manners.specs.Words.{option_rule, positional_rule, repeated_rule}
 
--- `--table F`
+-- `--table F`, as often as wanted
 abbrev pub table_option : Rule
-table_option = option_rule (codes "table")
+table_option = repeated_rule (codes "table")
 
 -- `--list`
 abbrev pub list_flag : Rule
 list_flag = flag_rule (codes "list")
 
--- `--workers N`, a number of 1 to 16; 2 where it is not given
+-- `--workers N`, a number of 1 to 16; 2 if it is not given
 abbrev pub workers_option : Rule
 workers_option = number_rule (codes "workers") (pos 16) (codes "2")
 
--- `--shards N`, a number of 1 to 64; 8 where it is not given
+-- `--shards N`, a number of 1 to 64; 8 if it is not given
 abbrev pub shards_option : Rule
 shards_option = number_rule (codes "shards") (pos 64) (codes "8")
 
@@ -77,9 +78,9 @@ abbrev pub AsksForText : List Text → Type 0
 AsksForText words =
     IsAmong DisplayHelp (fault_of program words) ⊎ IsAmong DisplayVersion (fault_of program words)
 
--- the file of the fare table that the words name, if any
-abbrev pub table_named : List Text → Option Text
-table_named words = first_of (codes "table") (matches_of program words)
+-- the words of `--table`, if any
+abbrev pub tables_named : List Text → Option TableNames
+tables_named words = tables_in (unwrap_or (all_of (codes "table") (matches_of program words)) [])
 
 -- the token that the words name, if any, as it is written
 abbrev pub token_named : List Text → Option Text
@@ -103,7 +104,7 @@ number_of name rows = option_map_or number_in_text (one_of name rows) 0
 
 -- what a command line asks for
 pub record Asked : Type 0 where
-  pub table : Option Text
+  pub table : Option TableNames
   pub list : Bool
   pub workers : ℕ
   pub shards : ℕ
@@ -118,7 +119,7 @@ pub record Asked : Type 0 where
 -- what these words ask for
 abbrev pub asked_by : List Text → Asked
 asked_by words = record {
-  table = table_named words;
+  table = tables_named words;
   list = is_given (codes "list") (matches_of program words);
   workers = number_of (codes "workers") (matches_of program words);
   shards = number_of (codes "shards") (matches_of program words);
@@ -143,6 +144,6 @@ abbrev pub ListsAddFiles : Type 0
 ListsAddFiles = (program_name : Text) (words names : List Text)
     → AddsFiles (program_name ∷ words) names
 
--- The taps are listed by the flag, or where there is no table. Else the service runs.
+-- The taps are listed by the flag, or if there is no table. Else the service runs.
 abbrev pub lists : Asked → Bool
 lists asked = asked.list || not (is_some asked.table)

@@ -4,7 +4,6 @@ use Rattle.std.specs.Prelude.{None, Some, Ok, MatchBool}
 use Rattle.std.specs.Io.KnownBytes.{Appends, Keeps}
 use Rattle.hex.specs.Hex.{decode_sized}
 use Rattle.fare_table.specs.Fares.{Fares}
-use Rattle.fare_table.specs.Meaning.{Means}
 use Rattle.tap_views.specs.Token.{bytes_of}
 use Rattle.tap_views.specs.declared.token.Token.{Token}
 use Rattle.report_texts.specs.declared.upload_end.UploadEnd.{UploadEnd}
@@ -21,73 +20,75 @@ use Rattle.fare_program.specs.declared.fault.Fault.{Fault}
 use Rattle.fare_program.specs.declared.fault.Fault.TheVariants.{Write}
 use Rattle.fare_texts.specs.Explained.{IsExplainedOf}
 use Rattle.fare_texts.specs.Ledger.{IsLedgerOfBooks}
-use Rattle.program_manners.specs.Loads.{Loaded, Tells, TellsOne}
+use Rattle.program_manners.specs.Loads.{Loaded, LoadsAll}
+use Rattle.program_manners.specs.TableLoads.{LoadsTables}
+use Rattle.program_manners.specs.TableWords.{TableNames}
 use Rattle.program_manners.specs.LineWritten.{LineWritten}
 use Rattle.fare_program.specs.Uploads.{IsListing}
 use Rattle.toml.specs.Data.{Members}
-use Rattle.toml.specs.Parse.{parse_document}
-use Rattle.settled_texts.specs.Classes.{class_of_token}
+use Rattle.settled_texts.specs.Classes.{AreTrees, class_of_token, tree_at}
 use Rattle.settled_texts.specs.Ledgers.{IsTracedLedger}
 
--- Where a table is named, its file was loaded under that name, and its text means these fares.
-abbrev pub LoadsTable : Option (List ℕ) → Option (List Loaded) → Option (List Loaded) → Option Fares
-    → Type 0
-LoadsTable None told told' fares = (fares ≡ None) × (told' ≡ told)
-LoadsTable (Some name) told told' fares = (bytes : List ℕ) × (meaning : Fares)
-    × TellsOne told told' (Some name) bytes × Means bytes meaning × (fares ≡ Some meaning)
+-- If tables are named, their files were loaded in order: the first table, and each later one from
+-- its date on. Their texts mean these fares.
+abbrev pub LoadsTable : Option TableNames → Option (List Loaded) → Option (List Loaded)
+    → Option Fares → Type 0
+LoadsTable None loaded loaded' fares = (fares ≡ None) × (loaded' ≡ loaded)
+LoadsTable (Some tables) loaded loaded' fares = (texts : List (List ℕ)) × (all : Fares)
+    × LoadsTables tables loaded loaded' texts all × (fares ≡ Some all)
 
--- the names under which files are loaded: standard input, which has no name, where none is named
+-- the names under which files are loaded: standard input, which has no name, if none is named
 abbrev pub names_to_load : List (List ℕ) → List (Option (List ℕ))
 names_to_load [] = None ∷ []
 names_to_load (name ∷ names) = map Some (name ∷ names)
 
 -- A file of each of these names was loaded, in their order.
-pub record LoadsFiles (names : List (Option (List ℕ))) (told told' : Option (List Loaded))
+pub record LoadsFiles (names : List (Option (List ℕ))) (loaded loaded' : Option (List Loaded))
     (files : List (List ℕ)) : Type 0 where
   pub loads : List Loaded
   pub named : map (λ load. load.name) loads ≡ names
   pub bytes : map (λ load. load.bytes) loads ≡ files
-  pub told_is : Tells told told' loads
+  pub is_loaded : LoadsAll loaded loaded' loads
 
--- The named table was loaded, then the named files, or standard input where none is named.
-pub record Loads (table : Option (List ℕ)) (names : List (List ℕ))
-    (told told' : Option (List Loaded)) (fares : Option Fares) (files : List (List ℕ))
+-- The named tables were loaded, then the named files, or standard input if none is named.
+pub record Loads (table : Option TableNames) (names : List (List ℕ))
+    (loaded loaded' : Option (List Loaded)) (fares : Option Fares) (files : List (List ℕ))
     : Type 0 where
   pub between : Option (List Loaded)
-  pub loads_table : LoadsTable table told between fares
-  pub loads_files : LoadsFiles (names_to_load names) between told' files
+  pub loads_table : LoadsTable table loaded between fares
+  pub loads_files : LoadsFiles (names_to_load names) between loaded' files
 
--- Table and files were loaded; what was appended to the writer is the listing of these files, with
--- the validators known that the table knows. It is clean where no file has a layout fault.
-pub record RunsListing (table : Option (List ℕ)) (names : List (List ℕ))
-    (told told' : Option (List Loaded)) (out out' : Option (List ℕ)) (clean : Bool) : Type 0 where
+-- Tables and files were loaded; what was appended to the writer is the listing of these files, with
+-- the validators known that the table knows. It is clean if no file has a layout fault.
+pub record RunsListing (table : Option TableNames) (names : List (List ℕ))
+    (loaded loaded' : Option (List Loaded)) (out out' : Option (List ℕ)) (clean : Bool) : Type 0 where
   pub fares : Option Fares
   pub files : List (List ℕ)
-  pub loads : Loads table names told told' fares files
+  pub loads : Loads table names loaded loaded' fares files
   pub text : List ℕ
   pub listing : IsListing fares files text clean
   pub written : Appends out out' text
 
--- the text is the statement of this token, explained where that is asked for
+-- the text is the statement of this token, explained if that is asked for
 abbrev pub ShowsStatement : Bool → Token → OutcomeView → List ℕ → Type 0
 ShowsStatement explain token outcome text =
     MatchBool explain (IsExplainedOf outcome.books token text) (IsStatementOf outcome token text)
 
--- the text is the report with these ends of uploads, or the statement of this token, explained
--- where that is asked for
+-- the text is the report with these ends of uploads, or the statement of this token, explained if
+-- that is asked for
 abbrev pub ShowsWith : Bool → Option Token → List UploadEnd → OutcomeView → List ℕ → Type 0
 ShowsWith explain None ends outcome text = text ≡ report_with ends outcome
 ShowsWith explain (Some token) ends outcome text = ShowsStatement explain token outcome text
 
 -- The text is what is asked for of an outcome, with these ends of uploads: the ledger of its books,
--- or that of this token; else the report, or the statement of this token, explained where that is
+-- or that of this token; else the report, or the statement of this token, explained if that is
 -- asked for.
 abbrev pub ShowsOf : Asked → Option Token → List UploadEnd → OutcomeView → List ℕ → Type 0
 ShowsOf asked token ends outcome text = MatchBool asked.ledger
     (IsLedgerOfBooks outcome.books token text) (ShowsWith asked.explain token ends outcome text)
 
--- Where no token has taps in two of the files, the text is what is asked for of the plain history of
--- the files: the report, the statement of this token, explained where that is asked for, or the
+-- If no token has taps in two of the files, the text is what is asked for of the plain history of
+-- the files: the report, the statement of this token, explained if that is asked for, or the
 -- ledger. That is a function of the files and the table: no schedule, no number of workers and no
 -- number of shards has a part in it.
 abbrev pub ShowsPlain : Asked → Fares → List (List ℕ) → Option Token → List ℕ → Type 0
@@ -102,8 +103,8 @@ IsTokenIn (Some digits) (Some token) = decode_sized digits 16 ≡ Ok (bytes_of t
 IsTokenIn _ _ = ⊥
 
 -- A service was run over the files as they are, and the text is what is asked for of its outcome.
--- It is well where each upload was posted whole. A text that is well is then that of the plain
--- history of the files, where no token has taps in two of them.
+-- It is well if each upload was posted whole. A text that is well is then that of the plain history
+-- of the files, if no token has taps in two of them.
 pub record ShowsLiveRun (asked : Asked) (fares : Fares) (files : List (List ℕ))
     (token : Option Token) (text : List ℕ) (well : Bool) : Type 0 where
   pub outcome : OutcomeView
@@ -119,26 +120,26 @@ ShowsAsked asked fares files token text well = MatchBool asked.settle
     (ShowsSettled asked fares files token text well)
     (ShowsLiveRun asked fares files token text well)
 
--- Table and files were loaded, and their taps posted; what was appended to the writer is the
+-- Tables and files were loaded, and their taps posted; what was appended to the writer is the
 -- report, the statement of the token that is asked for, or the ledger, whichever is asked for.
-pub record RunsService (asked : Asked) (told told' : Option (List Loaded))
+pub record RunsService (asked : Asked) (loaded loaded' : Option (List Loaded))
     (out out' : Option (List ℕ)) (well : Bool) : Type 0 where
   pub fares : Fares
   pub files : List (List ℕ)
-  pub loads : Loads asked.table asked.files told told' (Some fares) files
+  pub loads : Loads asked.table asked.files loaded loaded' (Some fares) files
   pub token : Option Token
   pub is_token : IsTokenIn asked.token token
   pub text : List ℕ
   pub shows : ShowsAsked asked fares files token text well
   pub written : Appends out out' text
 
--- The named table was loaded, and the named files were opened, each of which has its taps in
+-- The named tables were loaded, and the named files were opened, each of which has its taps in
 -- canonical order. What was appended to the writer is what is asked for of the settled history of
--- the files, where what stands under their names is known. All is well.
+-- the files, if what stands under their names is known. All is well.
 pub record RunsSorted (asked : Asked) (known : List ℕ → Option (List ℕ))
-    (told told' : Option (List Loaded)) (out out' : Option (List ℕ)) (well : Bool) : Type 0 where
+    (loaded loaded' : Option (List Loaded)) (out out' : Option (List ℕ)) (well : Bool) : Type 0 where
   pub fares : Fares
-  pub loads : LoadsTable asked.table told told' (Some fares)
+  pub loads : LoadsTable asked.table loaded loaded' (Some fares)
   pub token : Option Token
   pub is_token : IsTokenIn asked.token token
   pub text : List ℕ
@@ -147,51 +148,54 @@ pub record RunsSorted (asked : Asked) (known : List ℕ → Option (List ℕ))
   pub written : Appends out out' text
   pub is_well : well ≡ true
 
--- The named table was loaded, and then the files. What was appended to the writer is the traced
--- ledger of the files, with the classes that the table's text names.
-pub record RunsTraced (asked : Asked) (told told' : Option (List Loaded))
+-- The named tables were loaded, and then the files. What was appended to the writer is the traced
+-- ledger of the files, with the class of each token that the text names which is valid at the tap's
+-- moment.
+pub record RunsTraced (asked : Asked) (loaded loaded' : Option (List Loaded))
     (out out' : Option (List ℕ)) (well : Bool) : Type 0 where
-  pub name : List ℕ
-  pub is_named : asked.table ≡ Some name
-  pub table : List ℕ
+  pub tables : TableNames
+  pub are_named : asked.table ≡ Some tables
+  pub texts : List (List ℕ)
   pub between : Option (List Loaded)
-  pub loads_table : TellsOne told between (Some name) table
   pub fares : Fares
-  pub means : Means table fares
+  pub loads_tables : LoadsTables tables loaded between texts fares
   pub tree : Members
-  pub parsed : parse_document table ≡ Some tree
-  pub classes : List ℕ → List ℕ
-  pub are_classes : (token : List ℕ) → class_of_token tree token ≡ Some (classes token)
+  pub later : List (ℕ × Members)
+  pub parsed : AreTrees fares texts tree later
+  pub classes : ℕ → List ℕ → List ℕ
+  pub are_classes : (moment : ℕ) (token : List ℕ)
+      → class_of_token (tree_at tree later moment) token ≡ Some (classes moment token)
   pub files : List (List ℕ)
-  pub loads_files : LoadsFiles (names_to_load asked.files) between told' files
+  pub loads_files : LoadsFiles (names_to_load asked.files) between loaded' files
   pub text : List ℕ
   pub shows : IsTracedLedger classes fares files text well
   pub written : Appends out out' text
 
 -- What is asked for beside a traced ledger was done, of files that were loaded, or of sorted files.
--- What stands under a name of a sorted file is given, where it is known.
+-- What stands under a name of a sorted file is given, if it is known.
 abbrev pub DoesUntraced : Asked → (List ℕ → Option (List ℕ)) → Option (List Loaded) → Option (List Loaded)
     → Option (List ℕ) → Option (List ℕ) → Bool → Type 0
-DoesUntraced asked known told told' out out' well = MatchBool (lists asked)
-    (RunsListing asked.table asked.files told told' out out' well)
-    (MatchBool asked.sorted (RunsSorted asked known told told' out out' well)
-    (RunsService asked told told' out out' well))
+DoesUntraced asked known loaded loaded' out out' well = MatchBool (lists asked)
+    (RunsListing asked.table asked.files loaded loaded' out out' well)
+    (MatchBool asked.sorted (RunsSorted asked known loaded loaded' out out' well)
+    (RunsService asked loaded loaded' out out' well))
 
 -- What is asked for was done: a traced ledger was written, or something else.
 abbrev pub Does : Asked → (List ℕ → Option (List ℕ)) → Option (List Loaded) → Option (List Loaded)
     → Option (List ℕ) → Option (List ℕ) → Bool → Type 0
-Does asked known told told' out out' well = MatchBool asked.traced
-    (RunsTraced asked told told' out out' well) (DoesUntraced asked known told told' out out' well)
+Does asked known loaded loaded' out out' well = MatchBool asked.traced
+    (RunsTraced asked loaded loaded' out out' well) (DoesUntraced asked known loaded loaded' out out' well)
 
--- The program gave up: the fault's line was told, and nothing was written but where a write failed.
+-- The program gave up: the fault's line was reported, and nothing was written unless a write
+-- failed.
 pub record GaveUp (fault : Fault) (said said' : Option (List ℕ)) (failed : Bool)
     (out out' : Option (List ℕ)) : Type 0 where
-  pub line_told : LineWritten said said' failed (fault_text fault)
+  pub line_reported : LineWritten said said' failed (fault_text fault)
   pub kept : fault ≢ Write → Keeps out out'
 
--- The program gave up on what is asked for: the fault's line was told, and nothing was written but
--- where a write failed, or where a sorted file was refused after all were checked.
+-- The program gave up on what is asked for: the fault's line was reported, and nothing was written
+-- unless a write failed, or a sorted file was refused after all were checked.
 pub record GaveUpOn (asked : Asked) (fault : Fault) (said said' : Option (List ℕ)) (failed : Bool)
     (out out' : Option (List ℕ)) : Type 0 where
-  pub line_told : LineWritten said said' failed (fault_text fault)
+  pub line_reported : LineWritten said said' failed (fault_text fault)
   pub kept : fault ≢ Write → (asked.sorted ≡ true → IsLate fault → ⊥) → Keeps out out'

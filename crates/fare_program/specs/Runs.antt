@@ -1,11 +1,14 @@
 -- What is promised of a run of the program, as a caller of `main_over` passes it on.
-use Rattle.std.specs.Prelude.{◌≡◌, ◌≤◌, ◌⊎◌, ℕ, Bool, true, false, List, Option, Some, is_some}
+use Rattle.std.specs.Prelude.{◌≡◌, ◌≤◌, ◌⊎◌, ◌++◌, ℕ, Bool, true, false, List, None, Option, Some}
+use Rattle.std.specs.Prelude.{codes, is_some}
 use Rattle.std.specs.Io.KnownBytes.{Keeps}
 use Rattle.program_manners.specs.Loads.{Loaded}
+use Rattle.program_manners.specs.TableWords.{date_text}
 use Rattle.program_manners.specs.declared.loading.LoadFault.{LoadFault}
-use Rattle.fare_program.specs.Begun.{HasBegun, IsSortedLedger}
+use Rattle.program_manners.specs.declared.table_words.DateFault.{DateFault}
+use Rattle.fare_program.specs.Begun.{AreOfBytes, HasBegun}
 use Rattle.fare_program.specs.Causes.{IsRightFault}
-use Rattle.fare_program.specs.Fault.{mistake, status_of}
+use Rattle.fare_program.specs.Fault.{fault_text, mistake, status_of, wrong_date}
 use Rattle.fare_program.specs.Options.{AsksForText, Parses, asked_by}
 use Rattle.fare_program.specs.Program.{Does, GaveUp, GaveUpOn}
 use Rattle.fare_program.specs.declared.fault.Fault.{Fault}
@@ -17,27 +20,33 @@ use Rattle.fare_program.specs.declared.fault.Fault.TheVariants.{NoMemory, Write}
 -- whether the output was flushed, of whether a word failed to be said, and of the status. `Silent`
 -- is that the standard error is as it was.
 pub record IsRun (words : List (List ℕ)) (under : List ℕ → Option (List ℕ))
-    (told told' : Option (List Loaded)) (refused : Option (Option (List ℕ) × LoadFault))
+    (loaded loaded' : Option (List Loaded)) (refused : Option (Option (List ℕ) × LoadFault))
     (out out' said said' : Option (List ℕ)) (flushed failed : Bool) (Silent : Type 0) (status : ℕ)
     : Type 0 where
-  pub done : Parses words → status ≡ 0 → Does (asked_by words) under told told' out out' true
+  pub done : Parses words → status ≡ 0 → Does (asked_by words) under loaded loaded' out out' true
   pub helped : ¬ Parses words → status ≡ 0 → AsksForText words
   pub wrong_words : ¬ Parses words → (¬ AsksForText words)
       → (status ≡ 2) ⊎ ((status ≡ 1) × GaveUp NoMemory said said' failed out out')
   pub mistaken : (first : Fault) → Parses words → mistake (asked_by words) ≡ Some first
       → ((status ≡ 2) × GaveUp first said said' failed out out')
       ⊎ ((status ≡ 1) × GaveUp NoMemory said said' failed out out')
-  pub right : status ≡ 2 → (¬ Parses words) ⊎ (is_some (mistake (asked_by words)) ≡ true)
+  pub mis_dated : (word : List ℕ) (why : DateFault) → Parses words
+      → mistake (asked_by words) ≡ None → wrong_date (asked_by words) ≡ Some (word, why)
+      → ((status ≡ 2) × (fault : Fault) × (fault_text fault ≡ codes "fault: " ++ date_text word why)
+      × GaveUp fault said said' failed out out')
+      ⊎ ((status ≡ 1) × GaveUp NoMemory said said' failed out out')
+  pub right : status ≡ 2 → (¬ Parses words) ⊎ ((is_some (mistake (asked_by words)) ≡ true)
+      ⊎ (is_some (wrong_date (asked_by words)) ≡ true))
   pub faults : status ≡ 1
-      → (Parses words × Does (asked_by words) under told told' out out' false
+      → (Parses words × Does (asked_by words) under loaded loaded' out out' false
       × (flushed ≡ true) × Silent)
       ⊎ ((fault : Fault) × (status_of fault ≡ 1)
-      × (Parses words → IsRightFault (asked_by words) under told told' refused fault)
-      × (Parses words → fault ≡ Write → ¬ (IsSortedLedger (asked_by words))
-      → HasBegun (asked_by words) under told told' out out')
+      × (Parses words → IsRightFault (asked_by words) under loaded loaded' refused fault)
+      × (Parses words → fault ≡ Write → AreOfBytes (asked_by words) under
+      → HasBegun (asked_by words) under loaded loaded' out out')
       × GaveUpOn (asked_by words) fault said said' failed out out')
   pub flush : Parses words → status ≡ 0 → flushed ≡ true
   pub quiet : status ≡ 0 → Silent
-  pub unloaded : status ≡ 2 → told' ≡ told
+  pub unloaded : status ≡ 2 → loaded' ≡ loaded
   pub unwritten : status ≡ 2 → Keeps out out'
   pub bounded : status ≤ 2

@@ -13,7 +13,7 @@ use Rattle.fare_program.specs.Options.{Asked}
 use Rattle.report_texts.specs.UploadEnds.{are_posted}
 
 -- the text is the report over this history of the files, or the statement of this token, explained
--- where that is asked for
+-- if that is asked for
 abbrev pub IsTextOver : Bool → Option Token → Fares → List (List ℕ) → List Entry → List ℕ
     → Type 0
 IsTextOver explain None fares files history text = IsReportOver files history text
@@ -22,13 +22,13 @@ IsTextOver explain (Some token) fares files history text =
     (IsStatementOver fares history token text)
 
 -- The text is what is asked for of this history of the files: the ledger, or that of this token;
--- else the report, or the statement of this token, explained where that is asked for.
+-- else the report, or the statement of this token, explained if that is asked for.
 abbrev pub ShowsOver : Asked → Option Token → Fares → List (List ℕ) → List Entry → List ℕ → Type 0
 ShowsOver asked token fares files history text =
     MatchBool asked.ledger (IsLedgerOver fares history token text)
     (IsTextOver asked.explain token fares files history text)
 
--- The text shows what is asked for of the settled history of the files. It is well where each file
+-- The text shows what is asked for of the settled history of the files. It is well if each file
 -- ends posted whole.
 pub record ShowsSettled (asked : Asked) (fares : Fares) (files : List (List ℕ))
     (token : Option Token) (text : List ℕ) (well : Bool) : Type 0 where

@@ -61,7 +61,7 @@ AreReadings (file ∷ files) (reading ∷ readings) =
 AreReadings _ _ = ⊥
 
 -- The text lists the files: the lines of each in their order, of all their batches up to the first
--- layout fault, and then the counts. It is clean where no file has a layout fault.
+-- layout fault, and then the counts. It is clean if no file has a layout fault.
 pub record IsListing (fares : Option Fares) (files : List (List ℕ)) (text : List ℕ) (clean : Bool)
     : Type 0 where
   pub readings : List GoodBatchesView

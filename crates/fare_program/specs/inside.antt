@@ -8,4 +8,5 @@ pub mod Listing
 pub mod Options
 pub mod PostedFiles
 pub mod Settling
+pub mod Tables
 pub mod Uploads

@@ -53,8 +53,8 @@ pub(crate) fn write_billed<'a, W: Write>(
     Ok(are_posted(&ends))
 }
 
-/// Writes the report of the settled history of the uploads, which so many workers make. Says whether
-/// each file was posted whole.
+/// Writes the report of the settled history of the uploads, which this number of workers make. Says
+/// whether each file was posted whole.
 pub(crate) fn write_bill<'a, R: Threads + RandomSource + Sync, U: Uploads + Sync, W: Write>(
     rt: &R,
     alloc: Global,

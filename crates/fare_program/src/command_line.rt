@@ -11,7 +11,8 @@ ghost use Rattle.program_manners.specs.Words.{list_option, null_flag};
 use crate::options::Options;
 use clap::{ArgAction, ArgMatches, Command, Error};
 use program_manners::{
-    add_list_args, flag_arg, names_in, new_command, number_arg, option_arg, positional_arg,
+    TableWords, add_list_args, flag_arg, names_in, new_command, number_arg, option_arg,
+    positional_arg, repeated_arg,
 };
 use std::alloc::{AllocError, Global};
 
@@ -46,6 +47,7 @@ Examples:
   omny_cli --table table.toml --settle --token 000000000000000000000000000000a1 a.tap b.tap
   omny_cli --table table.toml --settle --sorted monday.tap tuesday.tap
   omny_cli --table table.toml --settle --ledger --traced a.tap b.tap
+  omny_cli --table old.toml --table new.toml@2026-01-04 --settle a.tap b.tap
   find week -name '*.tap' -print0 | omny_cli --table table.toml --settle --files-from - -0
   omny_cli a.tap
 
@@ -57,7 +59,7 @@ Exit status:
   2  the command line is wrong";
 
 /// The help of `--table`.
-const TABLE_HELP: &str = "The fare table, a TOML file [default: every validator is known]";
+const TABLE_HELP: &str = "The fare table, then G@2026-01-04 [default: every validator is known]";
 
 /// The help of `--list`.
 const LIST_HELP: &str = "List the taps, also where there is a fare table";
@@ -94,7 +96,7 @@ const FILE_HELP: &str =
 fn command<'a>(alloc: Global) -> Result<Command<'a>, AllocError>
     ensures { IfOk result (λ command. app_of command ≡ program) }
 {
-    let table = option_arg(alloc, "table", "F", TABLE_HELP);
+    let table = repeated_arg(alloc, "table", "F", TABLE_HELP);
     let list = flag_arg(alloc, "list", LIST_HELP);
     let workers = number_arg(alloc, "workers", 16, "2", WORKERS_HELP);
     let shards = number_arg(alloc, "shards", 64, "8", SHARDS_HELP);
@@ -169,8 +171,9 @@ impl<'a> Options<'a> {
         ensures kinds { FailsBy (fault_of program (map string_bytes words.entry.now)) result }
     {
         let matches = matched(alloc, words)?;
+        let tables = names_in(alloc, &matches, "table")?;
         Ok(Options {
-            table: matches.get_str("table"),
+            table: TableWords::of(alloc, &tables)?,
             list: flag_in(&matches, "list"),
             workers: number_in(&matches, "workers"),
             shards: number_in(&matches, "shards"),

@@ -3,11 +3,11 @@ ghost use Rattle.std.specs.Prelude.{◌≡◌, ◌≢◌, ℕ, List, Option, Som
 ghost use Rattle.fare_service.specs.declared.faults.GatherFault.{GatherFault};
 ghost use Rattle.fare_service.specs.declared.lending.Unlent.{Unlent};
 ghost use Rattle.fare_program.specs.Fault.{IsLate, fault_text, gather_text, status_of};
-ghost use Rattle.fare_program.specs.Causes.{IsNameTold, IsRightFault, IsRightOfSorted};
+ghost use Rattle.fare_program.specs.Causes.{IsNameReported, IsRightFault, IsRightOfSorted};
 ghost use Rattle.fare_program.specs.Options.{Asked};
 ghost use Rattle.sorted_bills.specs.Faults.{IsBeforeText, IsBillFault};
 ghost use Rattle.program_manners.specs.Loads.{Loaded};
-ghost use Rattle.program_manners.specs.Refusals.{IsOneOf, TellsRefusal};
+ghost use Rattle.program_manners.specs.Refusals.{IsOneOf, HasRefused};
 ghost use Rattle.program_manners.specs.declared.loading.LoadFault.{LoadFault as ALoadFault};
 ghost use Rattle.program_manners.specs.Lines.{load_text, table_text};
 
@@ -15,7 +15,9 @@ use crate::sorted_fault::{LateFault, UnopenedFile, UnsortedFile};
 use fare_service::{GatherFault, OpenFault, PrintFault, RunFault};
 use fare_table::TableFault;
 use placed_files::Unopened;
-use program_manners::{FileFault, LoadFault, TableLine};
+use program_manners::{
+    FileFault, FollowLine, LoadFault, NamedClassLine, NamedTableLine, TableLine, WrongWord,
+};
 use sorted_bills::BillFault;
 use std::fmt;
 use tap_views::NoMemory;
@@ -57,8 +59,16 @@ pub(crate) enum Fault<'a> {
     File(FileFault<'a>),
     /// The fare table's text is no table.
     Table(TableFault),
+    /// The word of a fare table has a wrong date, or none if one is wanted.
+    Date(WrongWord<'a>),
+    /// The text of one of several fare tables is no table.
+    NamedTable(NamedTableLine<'a>),
+    /// A fare table cannot follow those before it.
+    Follow(FollowLine<'a>),
     /// The fare table has a class whose name cannot stand in a ledger.
     ClassName,
+    /// One of several fare tables has a class whose name cannot stand in a ledger.
+    NamedClass(NamedClassLine<'a>),
     /// A sorted file was not opened.
     Unopened(UnopenedFile<'a>),
     /// A file is not read as taps in canonical order, and each file before it is.
@@ -84,9 +94,9 @@ impl<'a> Fault<'a> {
         ensures unwritten { result ≢ Fault.Write }
         ensures status { status_of result ≡ 1 }
         ensures right { (asked : Asked) (under : List ℕ → Option (List ℕ))
-            (told after : Option (List Loaded)) (refused : Option (Option (List ℕ) × ALoadFault))
-            → IsNameTold asked name.entry.now → TellsRefusal refused name.entry.now fault
-            → IsRightFault asked under told after refused result }
+            (loaded after : Option (List Loaded)) (refused : Option (Option (List ℕ) × ALoadFault))
+            → IsNameReported asked name.entry.now → HasRefused refused name.entry.now fault
+            → IsRightFault asked under loaded after refused result }
     {
         Fault::File(FileFault { name, fault })
     }
@@ -167,8 +177,11 @@ impl<'a> Fault<'a> {
             Fault::ExplainNoToken | Fault::ExplainList | Fault::ExplainLedger => 2,
             Fault::SortedNoSettle | Fault::SortedNoFile => 2,
             Fault::TracedNoLedger | Fault::TracedNoSettle => 2,
-            Fault::TracedToken | Fault::TracedSorted => 2,
-            _ => 1,
+            Fault::TracedToken | Fault::TracedSorted | Fault::Date(_) => 2,
+            Fault::File(_) | Fault::Table(_) | Fault::NamedTable(_) | Fault::Follow(_) => 1,
+            Fault::ClassName | Fault::NamedClass(_) => 1,
+            Fault::Unopened(_) | Fault::Unsorted(_) | Fault::TooManyTaps | Fault::Late(_) => 1,
+            Fault::Uploads | Fault::Gather(_) | Fault::Write | Fault::NoMemory => 1,
         }
     }
 }
@@ -244,6 +257,10 @@ impl fmt::Display for Fault<'_> {
             Fault::TracedSorted => f.write_str("fault: --traced cannot be used with --sorted"),
             Fault::File(fault) => fault.fmt(f),
             Fault::Table(fault) => TableLine(*fault).fmt(f),
+            Fault::Date(wrong) => write!(f, "fault: {wrong}"),
+            Fault::NamedTable(line) => line.fmt(f),
+            Fault::Follow(line) => line.fmt(f),
+            Fault::NamedClass(line) => line.fmt(f),
             Fault::ClassName => f.write_str(
                 "fault: table has a class name that no ledger can have",
             ),

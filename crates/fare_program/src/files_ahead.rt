@@ -17,7 +17,7 @@ pub trait Disk {
     /// A file that was opened to be read at any offset.
     type File: Placed + Sync + Drop;
 
-    // What the file of a name has, where that is known. It does not change.
+    // What the file of a name has, if that is known. It does not change.
     ghost bytes_under: { Self → List ℕ → Option (List ℕ) } = { λ _ _. None };
 
     /// The file of this name, opened to be read at any offset.
@@ -28,7 +28,7 @@ pub trait Disk {
     fn size_ahead(&self, name: &str) -> Option<u64>;
 
     /// Adds some tokens of the file of this name to a sample, as big-endian numbers. Any serve, and
-    /// none, as where the file cannot be read.
+    /// none do, as for a file that cannot be read.
     fn push_sample(
         &self,
         alloc: Global,
@@ -40,7 +40,7 @@ pub trait Disk {
     fn read(&self, alloc: Global, name: &str) -> Result<Vec<u8>, LoadFault>;
 
     /// All bytes of the file of this name, read into the memory of `room`. What stands there is
-    /// overwritten, and more room is asked for where the file is no shorter.
+    /// overwritten, and more room is asked for if the file is no shorter.
     fn read_into(&self, name: &str, room: Vec<u8>) -> Result<Vec<u8>, LoadFault>;
 
     /// Notes how much is to be charged, before anything is. It serves whoever watches the run:
@@ -56,7 +56,7 @@ pub trait Disk {
 pub enum Amount {
     /// So many taps.
     Taps(u64),
-    /// Uploads of so many bytes.
+    /// Uploads of this number of bytes.
     Bytes(u64),
 }
 
@@ -69,7 +69,7 @@ pub struct FileAhead {
     pub loaded: Result<Vec<u8>, LoadFault>,
 }
 
-/// Takes the next file of the list, which stands last there, where it has this name.
+/// Takes the next file of the list, which stands last there, if it has this name.
 pub(crate) fn take_next(
     ahead: &mut Vec<FileAhead>,
     name: &str,
@@ -101,8 +101,8 @@ fn count_ahead<D: Disk>(disk: &D, names: &[&str]) -> usize
 }
 
 /// Keeps what came of a file, and says whether the next one is to be read too: a fault ends all
-/// loading when it is due. Where memory was refused, nothing is kept, so that the file is read
-/// when it is due.
+/// loading when it is due. If memory was refused, nothing is kept, so that the file is read when it
+/// is due.
 fn keep(
     part: &mut Vec<FileAhead>,
     name: String,
@@ -138,7 +138,7 @@ fn read_some<D: Disk>(alloc: Global, disk: &D, names: &[&str]) -> Vec<FileAhead>
     part
 }
 
-/// Reads these files by so many threads at most, each some of them.
+/// Reads these files by this number of threads at most, each some of them.
 fn read_by_threads<R: Threads + Sync, D: Disk + Sync>(
     rt: &R,
     alloc: Global,
@@ -164,9 +164,9 @@ fn read_by_threads<R: Threads + Sync, D: Disk + Sync>(
     Ok(ahead)
 }
 
-/// Reads files before they are due, by so many threads at most, and gives what came of them, the
-/// first one last. One thread reads none: it would gain nothing. Where memory is refused, fewer are
-/// read or none; where a thread is, another reads its part.
+/// Reads files before they are due, by this number of threads at most, and returns what was read,
+/// the first one last. One thread reads none: it would gain nothing. If memory is refused, fewer
+/// are read or none; if a thread is, another reads its part.
 pub fn read_ahead<R: Threads + Sync, D: Disk + Sync>(
     rt: &R,
     alloc: Global,

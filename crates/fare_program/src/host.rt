@@ -10,7 +10,7 @@ use std::fs;
 use std::fs::File;
 use std::io::{ErrorKind, Read};
 
-/// How many bytes more are asked for where a file is longer than its size said.
+/// How many bytes more are asked for if a file is longer than its size said.
 const MORE_BYTES: usize = 65_536;
 
 impl Disk for HostRuntime {

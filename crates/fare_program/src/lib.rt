@@ -7,7 +7,7 @@
 //! | `command_line`, `options` | what a command line asks for; its words, as `clap` reads them |
 //! | `named_list`, `laws` | the list of files that the words name, and what it adds to them |
 //! | `source`, `files_ahead` | whole files from a source; those that are read before their turns |
-//! | `host`, `sampling` | the system's files and standard input as a source; a sample of a file's tokens |
+//! | `host`, `sampling` | the system's files and standard input; a sample of a file's tokens |
 //! | `named_files` | files that are read while their taps are settled |
 //! | `listing` | the liveness of each tap, from those before it |
 //! | `lines`, `uploads` | the text of a listing |
@@ -15,6 +15,7 @@
 //! | `settle`, `bill` | what is asked for of settled files, whose taps are charged in one order |
 //! | `settled_token` | what is asked for of one token of settled files |
 //! | `sorted`, `sorted_fault` | what is asked for of sorted files, and why they are not charged |
+//! | `tables` | fare tables that are loaded in the order of their words |
 //! | `traced` | the traced ledger of files |
 //! | `posting` | the text that is asked for of files, posted as they are or settled |
 //! | `output` | texts written out whole |
@@ -47,6 +48,7 @@ mod settled_token;
 mod sorted;
 mod sorted_fault;
 mod source;
+mod tables;
 mod traced;
 mod uploads;
 

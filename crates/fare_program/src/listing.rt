@@ -71,7 +71,7 @@ fn is_later(last: &BTreeMap<[u8; 16], u64>, token: &[u8; 16], moment: u64) -> bo
     }
 }
 
-/// Keeps the moment as the token's last one where it is later than that, and says whether it is.
+/// Keeps the moment as the token's last one if it is later than that, and says whether it is.
 fn advance(
     last: &mut BTreeMap<[u8; 16], u64>,
     token: [u8; 16],

@@ -9,7 +9,7 @@ ghost use Rattle.fare_program.specs.inside.ChargedAhead.{IsBegunAhead, IsCharged
 
 use crate::fault::Fault;
 use crate::files_ahead::{Amount, Disk};
-use crate::noting::NotingGate;
+use crate::noting::NotingGatekeeper;
 use crate::options::Options;
 use crate::posting::charge_lent;
 use crate::settle::charge_settled;
@@ -32,7 +32,6 @@ pub(crate) struct NamedFiles<'a, D> {
     pub(crate) alloc: Global,
     /// Where the files lie.
     pub(crate) disk: &'a D,
-    /// Their names.
     pub(crate) names: &'a [&'a str],
     /// The size of each in bytes, as it was seen before.
     pub(crate) sizes: &'a [u64],
@@ -141,22 +140,22 @@ fn charge_named<'a, R: Threads + Wait + RandomSource + Sync, D: Disk + Sync, W: 
         return charge_settled(rt, alloc, options, table, token, uploads, out);
     }
     let own = table.try_clone(alloc)?;
-    let gate = NotingGate::new(uploads.disk, uploads.sizes);
+    let keeper = NotingGatekeeper::new(uploads.disk, uploads.sizes);
     let lent = NamedFiles {
         alloc,
         disk: uploads.disk,
         names: uploads.names,
         sizes: uploads.sizes,
     };
-    charge_lent(rt, alloc, options, own, token, lent, &gate, out)
+    charge_lent(rt, alloc, options, own, token, lent, &keeper, out)
 }
 
-/// Charges the named files while they are read, and writes what is asked for, where that can be
-/// done: the source keeps no loads, and all files may be read before they are due. Says whether each
-/// file was posted whole.
+/// Charges the named files while they are read, and writes what is asked for, if that can be done:
+/// the source keeps no loads, and all files may be read before they are due. Says whether each file
+/// was posted whole.
 ///
-/// Where it says nothing, nothing was written. Then the files are to be loaded in their turns: so the
-/// fault that is told is that of the first file in the order of the words.
+/// If it says nothing, nothing was written. Then the files are to be loaded in their turns: so the
+/// fault that is reported is that of the first file in the order of the words.
 pub(crate) fn charge_ahead<'a, R: Threads + Wait + RandomSource + Sync, D: Disk + Sync, W: Write>(
     rt: &R,
     alloc: Global,

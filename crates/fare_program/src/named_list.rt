@@ -10,7 +10,7 @@ use program_manners::{ListFault, ListWords};
 use std::alloc::Global;
 
 /// The list of files that the words name, if they name one. Words that are no command line name
-/// none: the program tells why, or shows its help.
+/// none: the program says why, or shows its help.
 ///
 /// # Errors
 ///

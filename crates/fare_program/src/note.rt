@@ -1,6 +1,6 @@
 //! What a person should know of a run before it begins.
 ghost use Rattle.std.specs.Prelude.{◌≡◌, ◌⊎◌, Some, None, IfOk, is_some, map, string_bytes, true};
-ghost use Rattle.fare_program.specs.Fault.{mistake};
+ghost use Rattle.fare_program.specs.Fault.{mistake, wrong_date};
 ghost use Rattle.fare_program.specs.Notes.{note_of, note_text};
 ghost use Rattle.fare_program.specs.Options.{Parses, asked_by};
 ghost use Rattle.fare_program.specs.inside.Options.{asked_of};
@@ -13,7 +13,7 @@ use std::fmt;
 use tap_views::NoMemory;
 
 /// What a person should know of a run before it begins. Its `Display` is the line without its line
-/// feed. No run tells it itself.
+/// feed. No run prints it itself.
 #[derive(Clone, Copy, Debug, PartialEq, Eq)]
 pub enum Note {
     /// No FILE is named, so that the standard input is read.
@@ -24,13 +24,15 @@ pub enum Note {
 
 impl Note {
     /// The note on what the words ask for, if there is one. There is none on words that are no
-    /// command line, or that have a mistake.
+    /// command line, or that have a mistake or a wrong date of a table.
     pub fn of(alloc: Global, words: &[String]) -> Result<Option<Note>, NoMemory>
         ensures right { Parses (map string_bytes words.now)
             → mistake (asked_by (map string_bytes words.now)) ≡ None
+            → wrong_date (asked_by (map string_bytes words.now)) ≡ None
             → IfOk result (λ note. note ≡ note_of (asked_by (map string_bytes words.now))) }
         ensures wrong { (¬ Parses (map string_bytes words.now))
-            ⊎ (is_some (mistake (asked_by (map string_bytes words.now))) ≡ true)
+            ⊎ ((is_some (mistake (asked_by (map string_bytes words.now))) ≡ true)
+            ⊎ (is_some (wrong_date (asked_by (map string_bytes words.now))) ≡ true))
             → IfOk result (λ note. note ≡ None) }
     {
         let options = match Options::read(alloc, words) {

@@ -3,7 +3,7 @@
 ghost use Rattle.std.specs.Prelude.{◌≡◌, ◌<◌, Some, length, map, slice_get, IfOk};
 
 use crate::files_ahead::{Amount, Disk};
-use fare_service::Gate;
+use fare_service::Gatekeeper;
 use settlement::{LoadedUploads, Uploads};
 use std::alloc::{AllocError, Global};
 use tap_views::NoMemory;
@@ -26,24 +26,24 @@ pub(crate) fn sizes_in(alloc: Global, files: &[Vec<u8>]) -> Result<Vec<u64>, NoM
     Ok(sizes)
 }
 
-/// A gate that keeps nobody waiting. Behind it each upload is noted that was posted.
+/// A gatekeeper that keeps nobody waiting. Behind it each upload is noted that was posted.
 #[derive(Clone, Copy)]
-pub(crate) struct NotingGate<'a, D> {
+pub(crate) struct NotingGatekeeper<'a, D> {
     /// Where they are noted.
     disk: &'a D,
     /// The size of each upload in bytes.
     sizes: &'a [u64],
 }
 
-impl<'a, D: Disk> NotingGate<'a, D> {
-    /// The gate to uploads of these sizes, of which none is posted.
+impl<'a, D: Disk> NotingGatekeeper<'a, D> {
+    /// The gatekeeper to uploads of these sizes, of which none is posted.
     pub(crate) fn new(disk: &'a D, sizes: &'a [u64]) -> Self {
         disk.note_all(Amount::Bytes(sum_of(sizes)));
-        NotingGate { disk, sizes }
+        NotingGatekeeper { disk, sizes }
     }
 }
 
-impl<D: Disk> Gate for NotingGate<'_, D> {
+impl<D: Disk> Gatekeeper for NotingGatekeeper<'_, D> {
     type Begun = u32;
 
     ghost begins = { λ begun. begun };

@@ -1,11 +1,13 @@
 //! What a command line asks for.
 ghost use Rattle.std.specs.Prelude.{◌≤◌};
 
+use program_manners::TableWords;
+
 /// What the words ask for.
 #[derive(Drop)]
 pub(crate) struct Options<'a> {
-    /// The file of the fare table, where one is named.
-    pub(crate) table: Option<&'a str>,
+    /// The words of the fare table and of those that follow it, if one is named.
+    pub(crate) table: Option<TableWords<'a>>,
     /// Whether the taps are listed, also by a table.
     pub(crate) list: bool,
     /// How many workers post the uploads, 1 to 16.

@@ -10,11 +10,11 @@ ghost use Rattle.fare_program.specs.Program.{ShowsAsked, ShowsOf, ShowsStatement
 
 use crate::fault::Fault;
 use crate::files_ahead::Disk;
-use crate::noting::{NotedUploads, NotingGate, sizes_in};
+use crate::noting::{NotedUploads, NotingGatekeeper, sizes_in};
 use crate::options::Options;
 use crate::run::{are_posted, post_live};
 use crate::settle::charge_settled;
-use fare_service::{Gate, LentUploads, Outcome};
+use fare_service::{Gatekeeper, LentUploads, Outcome};
 use fare_table::FareTable;
 use fare_texts::{write_explained, write_ledger};
 use std::alloc::Global;
@@ -25,7 +25,7 @@ use std::sync::Wait;
 use std::thread::Threads;
 use tap_views::Token;
 
-/// Prints the statement of the token, explained where that is asked for.
+/// Prints the statement of the token, explained if that is asked for.
 #[tactic(auto, using(crate::proofs::WritesFailed::of_write))]
 fn print_statement<'a, W: Write>(
     alloc: Global,
@@ -52,8 +52,8 @@ fn print_statement<'a, W: Write>(
     Ok(())
 }
 
-/// Prints the report, or the statement of the token where one is asked for, explained where that is
-/// asked for.
+/// Prints the report, or the statement of the token if one is asked for, explained if that is asked
+/// for.
 #[tactic(auto, using(crate::proofs::WritesFailed::of_write))]
 fn print<'a, R: Threads + Sync, W: Write>(
     rt: &R,
@@ -81,7 +81,7 @@ fn print<'a, R: Threads + Sync, W: Write>(
 }
 
 /// Prints what is asked for: the ledger, or that of the token; else the report, or the statement of
-/// the token, explained where that is asked for.
+/// the token, explained if that is asked for.
 #[tactic(auto, using(crate::proofs::WritesFailed::of_write))]
 fn print_asked<'a, R: Threads + Sync, W: Write>(
     rt: &R,
@@ -117,7 +117,7 @@ pub(crate) fn charge_lent<
     'a,
     R: Threads + Wait + RandomSource + Sync,
     U: LentUploads + Drop + Sync,
-    G: Gate + Sync,
+    G: Gatekeeper + Sync,
     W: Write,
 >(
     rt: &R,
@@ -126,7 +126,7 @@ pub(crate) fn charge_lent<
     table: FareTable,
     token: Option<Token>,
     uploads: U,
-    gate: &G,
+    keeper: &G,
     out: &mut W,
 ) -> Result<bool, Fault<'a>>
     requires { (asked_of options.now).settle ≡ false }
@@ -145,13 +145,13 @@ pub(crate) fn charge_lent<
     ensures fault { IfErr result (λ fault. fault ≢ Fault.Write
         → Keeps (W.contents out.old) (W.contents out.new)) }
 {
-    let outcome = post_live(rt, alloc, table, options, uploads, gate)?;
+    let outcome = post_live(rt, alloc, table, options, uploads, keeper)?;
     print_asked(rt, alloc, options, &outcome, token, out)?;
     Ok(are_posted(outcome.ends()))
 }
 
-/// Posts the files, settled where that is asked for, and writes what is asked for. Says whether
-/// each file was posted whole. What is charged is noted on the disk.
+/// Posts the files, settled if that is asked for, and writes what is asked for. Says whether each
+/// file was posted whole. What is charged is noted on the disk.
 pub(crate) fn charge<'a, R: Threads + Wait + RandomSource + Sync, D: Disk + Sync, W: Write>(
     rt: &R,
     alloc: Global,
@@ -180,7 +180,7 @@ pub(crate) fn charge<'a, R: Threads + Wait + RandomSource + Sync, D: Disk + Sync
         return charge_settled(rt, alloc, options, &table, token, &uploads, out);
     }
     let sizes = sizes_in(alloc, &files)?;
-    let gate = NotingGate::new(disk, &sizes);
+    let keeper = NotingGatekeeper::new(disk, &sizes);
     charge_lent(
         rt,
         alloc,
@@ -188,7 +188,7 @@ pub(crate) fn charge<'a, R: Threads + Wait + RandomSource + Sync, D: Disk + Sync
         table,
         token,
         files.as_slice(),
-        &gate,
+        &keeper,
         out,
     )
 }

@@ -4,21 +4,25 @@ ghost use Rattle.std.specs.Prelude.{List, Option, true, false, None, Some, IfErr
 ghost use Rattle.std.specs.Prelude.{Bool, is_some, map, option_map, string_bytes};
 ghost use Rattle.clap.specs.Words.{kind_of};
 ghost use Rattle.std.specs.Io.KnownBytes.{Appends, Keeps};
-ghost use Rattle.fare_program.specs.Causes.{IsNameTold, IsRightFault};
+ghost use Rattle.fare_program.specs.Causes.{IsNameReported, IsRightFault};
 ghost use Rattle.fare_program.specs.inside.Causes.{IsOfOutput};
 ghost use Rattle.fare_program.specs.Fault.{IsLate, charge_mistake_of, explain_mistake, fault_text};
 ghost use Rattle.fare_program.specs.Fault.{mistake, sorted_mistake, status_of, token_mistake};
-ghost use Rattle.fare_program.specs.Fault.{traced_mistake};
-ghost use Rattle.fare_program.specs.inside.Fault.{IsLoadLine, IsTableLine, IsWhyOf};
+ghost use Rattle.fare_program.specs.Fault.{traced_mistake, wrong_date};
+ghost use Rattle.fare_program.specs.inside.Fault.{IsLoadLine, IsWhyOf};
 ghost use Rattle.fare_program.specs.Options.{Asked, AsksForText, Parses, asked_by};
 ghost use Rattle.fare_program.specs.inside.Options.{asked_of};
 ghost use Rattle.fare_program.specs.Program.{Does, GaveUp, GaveUpOn, IsTokenIn, LoadsFiles};
-ghost use Rattle.fare_program.specs.Begun.{HasBegun, IsBegun, IsSortedLedger};
+ghost use Rattle.fare_program.specs.Begun.{AreOfBytes, HasBegun, IsBegun};
 ghost use Rattle.fare_texts.specs.WrittenOut.{Begins};
 ghost use Rattle.fare_program.specs.Program.{DoesUntraced, LoadsTable, RunsTraced, names_to_load};
-ghost use Rattle.program_manners.specs.Loads.{Loaded, TellsOne};
+ghost use Rattle.program_manners.specs.Loads.{Loaded, LoadsOne};
 ghost use Rattle.program_manners.specs.LineWritten.{LineWritten};
+ghost use Rattle.program_manners.specs.TableViews.{names_of};
+ghost use Rattle.program_manners.specs.TableWords.{date_text, wrong_word};
 ghost use Rattle.program_manners.specs.Words.{IsRequest};
+ghost use Rattle.program_manners.specs.declared.table_words.DateFault.{DateFault};
+ghost use Rattle.std.specs.Option.{option_and_then};
 ghost use Rattle.fare_program.specs.Uploads.{IsListing};
 
 use crate::fault::Fault;
@@ -29,13 +33,14 @@ use crate::output::write_text;
 use crate::posting::charge;
 use crate::sorted::work_sorted;
 use crate::source::Source;
+use crate::tables::load_tables;
 use crate::traced::{Riders, charge_traced, riders_of};
 use crate::uploads::listing_text;
 use clap::Error;
 use clap::error::ErrorKind;
 use fare_table::FareTable;
 use hex::FromHex;
-use program_manners::{Complaints, Output, STANDARD_INPUT, show_answer};
+use program_manners::{Complaints, Output, STANDARD_INPUT, TableWords, show_answer};
 use std::alloc::Global;
 use std::io::Write;
 use std::marker::Sync;
@@ -44,18 +49,18 @@ use std::sync::Wait;
 use std::thread::Threads;
 use tap_views::{NoMemory, Token};
 
-/// How many threads read files at once, or as many as there are workers where these are more. What
-/// is loaded does not depend on it.
+/// How many threads read files at once, or as many as there are workers if these are more. What is
+/// loaded does not depend on it.
 const READERS: u32 = 4;
 
 /// All bytes of the file of this name.
-fn load_named<'a, S: Source>(source: &mut S, name: &'a str) -> Result<Vec<u8>, Fault<'a>>
-    ensures ok { IfOk result (λ bytes. TellsOne (S.loaded source.old) (S.loaded source.new)
+pub(crate) fn load_named<'a, S: Source>(source: &mut S, name: &'a str) -> Result<Vec<u8>, Fault<'a>>
+    ensures ok { IfOk result (λ bytes. LoadsOne (S.loaded source.old) (S.loaded source.new)
         (Some name.entry.now) bytes.items) }
     ensures fault { IfErr result (λ fault. IsLoadLine name.entry.now (fault_text fault)) }
     ensures right { IfErr result (λ fault. (asked : Asked) (under : List ℕ → Option (List ℕ))
-        (told after : Option (List Loaded)) → IsNameTold asked name.entry.now
-        → IsRightFault asked under told after (S.refused source.new) fault) }
+        (loaded after : Option (List Loaded)) → IsNameReported asked name.entry.now
+        → IsRightFault asked under loaded after (S.refused source.new) fault) }
     ensures unwritten { IfErr result (λ fault. fault ≢ Fault.Write) }
     ensures status { IfErr result (λ fault. status_of fault ≡ 1) }
 {
@@ -67,12 +72,12 @@ fn load_named<'a, S: Source>(source: &mut S, name: &'a str) -> Result<Vec<u8>, F
 
 /// All bytes of standard input.
 fn load_input<'a, S: Source>(source: &mut S) -> Result<Vec<u8>, Fault<'a>>
-    ensures ok { IfOk result (λ bytes. TellsOne (S.loaded source.old) (S.loaded source.new)
+    ensures ok { IfOk result (λ bytes. LoadsOne (S.loaded source.old) (S.loaded source.new)
         None bytes.items) }
     ensures fault { IfErr result (λ fault. IsLoadLine (codes "standard input") (fault_text fault)) }
     ensures right { IfErr result (λ fault. (asked : Asked) (under : List ℕ → Option (List ℕ))
-        (told after : Option (List Loaded)) → asked.files ≡ []
-        → IsRightFault asked under told after (S.refused source.new) fault) }
+        (loaded after : Option (List Loaded)) → asked.files ≡ []
+        → IsRightFault asked under loaded after (S.refused source.new) fault) }
     ensures unwritten { IfErr result (λ fault. fault ≢ Fault.Write) }
     ensures status { IfErr result (λ fault. status_of fault ≡ 1) }
 {
@@ -82,33 +87,31 @@ fn load_input<'a, S: Source>(source: &mut S) -> Result<Vec<u8>, Fault<'a>>
     }
 }
 
-/// The table of this name, read, where one is named.
+/// The tables of these words, if there are some.
 fn load_table<'a, S: Source>(
     alloc: Global,
-    name: Option<&'a str>,
+    words: &Option<TableWords<'a>>,
     source: &mut S,
 ) -> Result<Option<FareTable>, Fault<'a>>
-    ensures ok { IfOk result (λ table. LoadsTable (option_map (λ n. n.now) name.entry)
+    requires { option_and_then wrong_word (option_map names_of words.now) ≡ None }
+    ensures ok { IfOk result (λ table. LoadsTable (option_map names_of words.now)
         (S.loaded source.old) (S.loaded source.new) table) }
-    ensures fault { IfErr result (λ fault. MatchOption name.entry ⊥ (λ n.
-        IsLoadLine n.now (fault_text fault) ⊎ IsTableLine (fault_text fault))) }
     ensures right { IfErr result (λ fault. (asked : Asked) (under : List ℕ → Option (List ℕ))
-        → asked.table ≡ option_map (λ n. n.now) name.entry
+        → asked.table ≡ option_map names_of words.now
         → IsRightFault asked under (S.loaded source.old) (S.loaded source.new)
         (S.refused source.new) fault) }
     ensures unwritten { IfErr result (λ fault. fault ≢ Fault.Write) }
     ensures status { IfErr result (λ fault. status_of fault ≡ 1) }
 {
-    let Some(name) = name else {
+    let Some(words) = words else {
         return Ok(None);
     };
-    let text = load_named(source, name)?;
-    let table = FareTable::read(alloc, &text)?;
-    Ok(Some(table))
+    let tables = load_tables(alloc, words, source)?;
+    Ok(Some(tables.fares))
 }
 
-/// The files of these names, in their order, or standard input where there is none. Several files
-/// may be read at once.
+/// The files of these names, in their order, or standard input if there is none. Several files may
+/// be read at once.
 fn load_files<'a, R: Threads + Sync, D: Disk + Sync, S: Source>(
     rt: &R,
     alloc: Global,
@@ -120,8 +123,8 @@ fn load_files<'a, R: Threads + Sync, D: Disk + Sync, S: Source>(
     ensures ok { IfOk result (λ files. LoadsFiles (names_to_load (map (λ n. n.now) names.now))
         (S.loaded source.old) (S.loaded source.new) (map (λ f. f.items) files.items)) }
     ensures right { IfErr result (λ fault. (asked : Asked) (under : List ℕ → Option (List ℕ))
-        (told after : Option (List Loaded)) → asked.files ≡ map (λ n. n.now) names.now
-        → IsRightFault asked under told after (S.refused source.new) fault) }
+        (loaded after : Option (List Loaded)) → asked.files ≡ map (λ n. n.now) names.now
+        → IsRightFault asked under loaded after (S.refused source.new) fault) }
     ensures unwritten { IfErr result (λ fault. fault ≢ Fault.Write) }
     ensures status { IfErr result (λ fault. status_of fault ≡ 1) }
 {
@@ -148,7 +151,7 @@ fn push(files: &mut Vec<Vec<u8>>, bytes: Vec<u8>) -> Result<(), NoMemory>
     Ok(())
 }
 
-/// How many threads read files before they are due. Settled files are loaded in their turns, where
+/// How many threads read files before they are due. Settled files are loaded in their turns, if
 /// they were not read while they were settled.
 fn readers_for(options: &Options<'_>) -> usize {
     if options.settle {
@@ -177,8 +180,8 @@ fn asked_token<'a>(options: &Options<'a>) -> Result<Option<Token>, Fault<'a>>
     Ok(Some(Token::of(&token)))
 }
 
-/// Looks whether what needs a table may be done, where that is asked for: there is a table to
-/// charge by, and the taps are not to be listed.
+/// Looks whether what needs a table may be done, if that is asked for: there is a table to charge
+/// by, and the taps are not to be listed.
 fn check_charged<'a>(
     options: &Options<'a>,
     asked: bool,
@@ -205,7 +208,7 @@ fn check_charged<'a>(
     Ok(())
 }
 
-/// Looks whether the statement may be explained, where that is asked for: there is a token, and
+/// Looks whether the statement may be explained, if that is asked for: there is a token, and
 /// neither a listing nor the ledger is asked for.
 fn check_explain<'a>(options: &Options<'a>) -> Result<(), Fault<'a>>
     ensures right { OnOk result (explain_mistake (asked_of options.now) ≡ None) }
@@ -227,7 +230,7 @@ fn check_explain<'a>(options: &Options<'a>) -> Result<(), Fault<'a>>
     Ok(())
 }
 
-/// Looks whether the files may be sorted ones, where that is asked for: the taps are to be settled,
+/// Looks whether the files may be sorted ones, if that is asked for: the taps are to be settled,
 /// and a file is named.
 fn check_sorted<'a>(options: &Options<'a>) -> Result<(), Fault<'a>>
     ensures right { OnOk result (sorted_mistake (asked_of options.now) ≡ None) }
@@ -246,7 +249,7 @@ fn check_sorted<'a>(options: &Options<'a>) -> Result<(), Fault<'a>>
     Ok(())
 }
 
-/// Looks whether the ledger may be traced, where that is asked for: it is the settled one of all
+/// Looks whether the ledger may be traced, if that is asked for: it is the settled one of all
 /// tokens, of files that are loaded.
 fn check_traced<'a>(options: &Options<'a>) -> Result<(), Fault<'a>>
     ensures right { OnOk result (traced_mistake (asked_of options.now) ≡ None) }
@@ -271,11 +274,29 @@ fn check_traced<'a>(options: &Options<'a>) -> Result<(), Fault<'a>>
     Ok(())
 }
 
-/// Looks for a mistake in what is asked for, and gives the token whose statement is, if any.
+/// Looks at the dates of the fare tables, behind all other mistakes in what is asked for.
+fn check_dates<'a>(options: &Options<'a>) -> Result<(), Fault<'a>>
+    ensures right { OnOk result (wrong_date (asked_of options.now) ≡ None) }
+    ensures fault { IfErr result (λ fault. MatchOption (wrong_date (asked_of options.now)) ⊥
+        (λ wrong. (fault_text fault ≡ codes "fault: " ++ date_text wrong.0 wrong.1)
+        × (status_of fault ≡ 2))) }
+{
+    let Some(tables) = &options.table else {
+        return Ok(());
+    };
+    match tables.wrong_word() {
+        Some(wrong) => Err(Fault::Date(wrong)),
+        None => Ok(()),
+    }
+}
+
+/// Looks for a mistake in what is asked for, and then for a wrong date of a fare table. Gives the
+/// token whose statement is asked for, if any.
 pub(crate) fn checked<'a>(options: &Options<'a>) -> Result<Option<Token>, Fault<'a>>
     ensures token { IfOk result (IsTokenIn (asked_of options.now).token) }
     ensures right { OnOk result (mistake (asked_of options.now) ≡ None) }
-    ensures fault { IfErr result (λ fault. mistake (asked_of options.now) ≡ Some fault) }
+    ensures dates { OnOk result (wrong_date (asked_of options.now) ≡ None) }
+    ensures fault { IfErr result (IsWhyOf (asked_of options.now)) }
     ensures status { IfErr result (λ fault. status_of fault ≡ 2) }
 {
     let token = asked_token(options)?;
@@ -294,6 +315,7 @@ pub(crate) fn checked<'a>(options: &Options<'a>) -> Result<Option<Token>, Fault<
     check_explain(options)?;
     check_sorted(options)?;
     check_traced(options)?;
+    check_dates(options)?;
     Ok(token)
 }
 
@@ -333,24 +355,24 @@ fn work_by_table<'a, R: Threads + Wait + RandomSource + Sync, D: Disk + Sync, S:
     source: &mut S,
     out: &mut W,
 ) -> Result<bool, Fault<'a>>
-    ensures ok { IfOk result (λ well. (told : Option (List Loaded)) (before : Option (List ℕ))
-        → LoadsTable (asked_of options.now).table told (S.loaded source.old) table
+    ensures ok { IfOk result (λ well. (loaded : Option (List Loaded)) (before : Option (List ℕ))
+        → LoadsTable (asked_of options.now).table loaded (S.loaded source.old) table
         → IsTokenIn (asked_of options.now).token token → Keeps before (W.contents out.old)
         → (asked_of options.now).sorted ≡ false
-        → DoesUntraced (asked_of options.now) (D.bytes_under disk.now) told (S.loaded source.new)
+        → DoesUntraced (asked_of options.now) (D.bytes_under disk.now) loaded (S.loaded source.new)
         before (W.contents out.new) well) }
     ensures begun { IfErr result (λ fault. fault ≡ Fault.Write
-        → (told : Option (List Loaded)) (before : Option (List ℕ))
-        → LoadsTable (asked_of options.now).table told (S.loaded source.old) table
+        → (loaded : Option (List Loaded)) (before : Option (List ℕ))
+        → LoadsTable (asked_of options.now).table loaded (S.loaded source.old) table
         → IsTokenIn (asked_of options.now).token token → Keeps before (W.contents out.old)
         → (asked_of options.now).sorted ≡ false
         → (well : Bool) × IsBegun before (W.contents out.new) (λ whole.
-        DoesUntraced (asked_of options.now) (D.bytes_under disk.now) told (S.loaded source.new)
+        DoesUntraced (asked_of options.now) (D.bytes_under disk.now) loaded (S.loaded source.new)
         before whole well)) }
     ensures fault { IfErr result (λ fault. fault ≢ Fault.Write
         → Keeps (W.contents out.old) (W.contents out.new)) }
-    ensures right { IfErr result (λ fault. (told : Option (List Loaded))
-        → IsRightFault (asked_of options.now) (D.bytes_under disk.now) told
+    ensures right { IfErr result (λ fault. (loaded : Option (List Loaded))
+        → IsRightFault (asked_of options.now) (D.bytes_under disk.now) loaded
         (S.loaded source.new) (S.refused source.new) fault) }
     ensures status { IfErr result (λ fault. status_of fault ≡ 1) }
 {
@@ -371,7 +393,7 @@ fn work_by_table<'a, R: Threads + Wait + RandomSource + Sync, D: Disk + Sync, S:
     }
 }
 
-/// Loads the table and then the files, and writes their traced ledger. Says whether no file has a
+/// Loads the tables and then the files, and writes their traced ledger. Says whether no file has a
 /// layout fault.
 fn work_traced<'a, R: Threads + Sync, D: Disk + Sync, S: Source, W: Write>(
     rt: &R,
@@ -382,6 +404,7 @@ fn work_traced<'a, R: Threads + Sync, D: Disk + Sync, S: Source, W: Write>(
     out: &mut W,
 ) -> Result<bool, Fault<'a>>
     requires table { is_some (asked_of options.now).table ≡ true }
+    requires dates { wrong_date (asked_of options.now) ≡ None }
     ensures ok { IfOk result (λ well. RunsTraced (asked_of options.now) (S.loaded source.old)
         (S.loaded source.new) (W.contents out.old) (W.contents out.new) well) }
     ensures begun { IfErr result (λ fault. fault ≡ Fault.Write → (well : Bool)
@@ -395,19 +418,19 @@ fn work_traced<'a, R: Threads + Sync, D: Disk + Sync, S: Source, W: Write>(
         (S.loaded source.new) (S.refused source.new) fault) }
     ensures status { IfErr result (λ fault. status_of fault ≡ 1) }
 {
-    let Some(name) = options.table else {
+    let Some(words) = &options.table else {
         unreachable!();
     };
-    let text = load_named(source, name)?;
-    let riders = riders_of(alloc, &text)?;
+    let tables = load_tables(alloc, words, source)?;
+    let riders = riders_of(alloc, words, tables)?;
     let files = load_files(rt, alloc, disk, &options.files, READERS as usize, source)?;
     charge_traced(alloc, &riders, &files, out)
 }
 
 /// Does what is asked for, and says whether each upload was listed without a layout fault, or
-/// posted whole. The token is looked at first, then settling, then the table is loaded, then the
-/// files, which may be settled while they are read, and all memory is taken before the first byte is
-/// written. Sorted files are opened, and read in pieces.
+/// posted whole. The token is looked at first, then settling, then the dates of tables. Then the
+/// tables are loaded, and the files, which may be settled while they are read, and all memory is
+/// taken before the first byte is written. Sorted files are opened, and read in pieces.
 fn work<'a, R: Threads + Wait + RandomSource + Sync, D: Disk + Sync, S: Source, W: Write>(
     rt: &R,
     alloc: Global,
@@ -420,6 +443,7 @@ fn work<'a, R: Threads + Wait + RandomSource + Sync, D: Disk + Sync, S: Source, 
         Does (asked_of options.now) (D.bytes_under disk.now) (S.loaded source.old)
         (S.loaded source.new) (W.contents out.old) (W.contents out.new) well) }
     ensures right { OnOk result (mistake (asked_of options.now) ≡ None) }
+    ensures dates { OnOk result (wrong_date (asked_of options.now) ≡ None) }
 
     // Only a write that fails leaves something of a text behind, or a sorted file that is refused
     // after all were checked.
@@ -429,7 +453,7 @@ fn work<'a, R: Threads + Wait + RandomSource + Sync, D: Disk + Sync, S: Source, 
 
     // What a write that failed left is a beginning of the text that is asked for.
     ensures begun { IfErr result (λ fault. fault ≡ Fault.Write
-        → ¬ (IsSortedLedger (asked_of options.now))
+        → AreOfBytes (asked_of options.now) (D.bytes_under disk.now)
         → HasBegun (asked_of options.now) (D.bytes_under disk.now) (S.loaded source.old)
         (S.loaded source.new) (W.contents out.old) (W.contents out.new)) }
 
@@ -448,7 +472,7 @@ fn work<'a, R: Threads + Wait + RandomSource + Sync, D: Disk + Sync, S: Source, 
     if options.traced {
         return work_traced(rt, alloc, disk, options, source, out);
     }
-    let table = load_table(alloc, options.table, source)?;
+    let table = load_table(alloc, &options.table, source)?;
     if options.sorted {
         return work_sorted(rt, alloc, disk, options, table, token, out);
     }
@@ -459,13 +483,13 @@ fn work<'a, R: Threads + Wait + RandomSource + Sync, D: Disk + Sync, S: Source, 
     }
 }
 
-/// Says why the program gives up, where that can be written, and gives the status.
-fn tell<E: Write>(err: &mut Complaints<E>, fault: &Fault) -> u8
+/// Says why the program gives up, if that can be written, and gives the status.
+fn report<E: Write>(err: &mut Complaints<E>, fault: &Fault) -> u8
     ensures status { result ≡ status_of fault.now }
     ensures line { LineWritten (E.contents err.old.writer) (E.contents err.new.writer)
         err.new.failed (fault_text fault.now) }
 {
-    err.tell_line(*fault);
+    err.report_line(*fault);
     fault.status()
 }
 
@@ -489,7 +513,7 @@ fn show<W: Write, E: Write>(error: &Error, out: &mut Output<W>, err: &mut Compla
 {
     match show_answer(error, out, err) {
         Ok(status) => status,
-        Err(_) => tell(err, &Fault::Write),
+        Err(_) => report(err, &Fault::Write),
     }
 }
 
@@ -507,15 +531,15 @@ fn finish<W: Write, E: Write>(is_well: bool, out: &mut Output<W>, err: &mut Comp
     match out.finish() {
         Ok(()) if is_well => 0,
         Ok(()) => 1,
-        Err(_) => tell(err, &Fault::Write),
+        Err(_) => report(err, &Fault::Write),
     }
 }
 
 /// The whole program: reads the words, of which the first is the program's name, loads what they
 /// name from the source, where several workers may read files from the disk before their turns,
 /// does what they ask for, and writes its text to `out`, and mistakes and faults to `err`. Gives
-/// the status: 0 where all is well, 1 after a fault, or a text that tells of one, 2 where the words
-/// are no command line.
+/// the status: 0 if all is well, 1 after a fault, or a text that reports one, 2 if the words are no
+/// command line.
 pub fn main_over<
     R: Threads + Wait + RandomSource + Sync,
     D: Disk + Sync,
@@ -538,20 +562,20 @@ pub fn main_over<
         (W.contents out.new.writer)
         true }
 
-    // Words that are no command line end well only where they ask for help or the version.
+    // Words that are no command line end well only if they ask for help or the version.
     ensures helped { ¬ Parses (map string_bytes words.now) → result ≡ 0
         → AsksForText (map string_bytes words.now) }
 
     // Words that are no command line have status 2, if they ask for neither. Only want of memory,
-    // where the words are read, may come before it.
+    // while the words are read, may come before it.
     ensures wrong_words { ¬ Parses (map string_bytes words.now)
         → (¬ AsksForText (map string_bytes words.now))
         → (result ≡ 2) ⊎ ((result ≡ 1) × GaveUp Fault.NoMemory (E.contents err.old.writer)
         (E.contents err.new.writer) err.new.failed (W.contents out.old.writer)
         (W.contents out.new.writer)) }
 
-    // The first mistake in what is asked for is told, with status 2. Only want of memory, where the
-    // words are read, may come before it.
+    // The first mistake in what is asked for is reported, with status 2. Only want of memory, while
+    // the words are read, may come before it.
     ensures mistaken { (first : Fault) → Parses (map string_bytes words.now)
         → mistake (asked_by (map string_bytes words.now)) ≡ Some first
         → ((result ≡ 2) × GaveUp first (E.contents err.old.writer) (E.contents err.new.writer)
@@ -560,21 +584,33 @@ pub fn main_over<
         (E.contents err.new.writer) err.new.failed (W.contents out.old.writer)
         (W.contents out.new.writer)) }
 
-    // Only such a mistake, or words that are no command line, have status 2.
+    // The first word of a fare table with a wrong date, or with none if one is wanted, is reported
+    // if there is no such mistake.
+    ensures mis_dated { (word : List ℕ) (why : DateFault) → Parses (map string_bytes words.now)
+        → mistake (asked_by (map string_bytes words.now)) ≡ None
+        → wrong_date (asked_by (map string_bytes words.now)) ≡ Some (word, why)
+        → ((result ≡ 2) × (fault : Fault)
+        × (fault_text fault ≡ codes "fault: " ++ date_text word why)
+        × GaveUp fault (E.contents err.old.writer) (E.contents err.new.writer) err.new.failed
+        (W.contents out.old.writer) (W.contents out.new.writer))
+        ⊎ ((result ≡ 1) × GaveUp Fault.NoMemory (E.contents err.old.writer)
+        (E.contents err.new.writer) err.new.failed (W.contents out.old.writer)
+        (W.contents out.new.writer)) }
+
+    // Only such mistakes, or words that are no command line, have status 2.
     ensures right { result ≡ 2 → (¬ Parses (map string_bytes words.now))
-        ⊎ (is_some (mistake (asked_by (map string_bytes words.now))) ≡ true) }
+        ⊎ ((is_some (mistake (asked_by (map string_bytes words.now))) ≡ true)
+        ⊎ (is_some (wrong_date (asked_by (map string_bytes words.now))) ≡ true)) }
 
     // A text that ends well was flushed.
     ensures flushed { Parses (map string_bytes words.now) → result ≡ 0
         → out.new.is_flushed ≡ true }
 
-    // With status 1 the whole text was written and flushed, and tells of an upload that is not
-    // well, and nothing was said on `err`; or a fault was told, which is the right one, and nothing
-    // was written but where a write failed, or where a sorted file was refused after all were
-    // checked.
-    // What a write that failed left is a beginning of the text that is asked for: nothing else was
-    // written before the fault, and nothing behind it. Of the ledger of all tokens of sorted files
-    // that is not said.
+    // With status 1 the whole text was written and flushed, and reports an upload that is not well,
+    // and nothing was said on `err`; or a fault was reported, which is the right one, and nothing
+    // was written unless a write failed, or a sorted file was refused after all were checked. What
+    // a write that failed left is a beginning of the text that is asked for: nothing else was
+    // written before the fault, and nothing behind it.
     ensures faults { result ≡ 1
         → (Parses (map string_bytes words.now)
         × Does (asked_by (map string_bytes words.now)) (D.bytes_under disk.now)
@@ -586,7 +622,7 @@ pub fn main_over<
         → IsRightFault (asked_by (map string_bytes words.now)) (D.bytes_under disk.now)
         (S.loaded source.old) (S.loaded source.new) (S.refused source.new) fault)
         × (Parses (map string_bytes words.now) → fault ≡ Fault.Write
-        → ¬ (IsSortedLedger (asked_by (map string_bytes words.now)))
+        → AreOfBytes (asked_by (map string_bytes words.now)) (D.bytes_under disk.now)
         → HasBegun (asked_by (map string_bytes words.now)) (D.bytes_under disk.now)
         (S.loaded source.old) (S.loaded source.new) (W.contents out.old.writer)
         (W.contents out.new.writer))
@@ -594,7 +630,7 @@ pub fn main_over<
         (E.contents err.new.writer) err.new.failed (W.contents out.old.writer)
         (W.contents out.new.writer)) }
 
-    // Nothing is said on `err` where all is well.
+    // Nothing is said on `err` if all is well.
     ensures quiet { result ≡ 0 → err.new ≡ err.old }
 
     // A mistake in the words loads nothing and writes nothing to `out`.
@@ -608,6 +644,6 @@ pub fn main_over<
     };
     match work(rt, alloc, disk, &options, source, out) {
         Ok(is_well) => finish(is_well, out, err),
-        Err(fault) => tell(err, &fault),
+        Err(fault) => report(err, &fault),
     }
 }

@@ -13,7 +13,7 @@ ghost use Rattle.fare_program.specs.inside.PostedFiles.{IsLiveRun};
 
 use crate::fault::Fault;
 use crate::options::Options;
-use fare_service::{Gate, LentUploads, Outcome, Service, UploadEnd, laws};
+use fare_service::{Gatekeeper, LentUploads, Outcome, Service, UploadEnd, laws};
 use fare_table::FareTable;
 use shard_book::laws::one_rising_list;
 use std::alloc::Global;
@@ -27,14 +27,14 @@ pub(crate) fn outcome_of<
     'a,
     R: Threads + Wait + RandomSource + Sync,
     U: LentUploads + Drop + Sync,
-    G: Gate + Sync,
+    G: Gatekeeper + Sync,
 >(
     rt: &R,
     alloc: Global,
     table: FareTable,
     options: &Options<'a>,
     uploads: U,
-    gate: &G,
+    keeper: &G,
 ) -> Result<Outcome, Fault<'a>>
     ensures run { IfOk result (HasRunOver table options.now.shards (U.known uploads)
         options.now.workers) }
@@ -44,13 +44,13 @@ pub(crate) fn outcome_of<
         Ok(opened) => opened,
         Err(fault) => return Err(Fault::of_open(fault)),
     };
-    match service.run(rt, alloc, share, options.workers, gate) {
+    match service.run(rt, alloc, share, options.workers, keeper) {
         Ok(outcome) => Ok(outcome),
         Err(fault) => Err(Fault::of_run(fault)),
     }
 }
 
-/// The law that where no token has taps in two files, what is shown of an outcome is shown over the
+/// The law that if no token has taps in two files, what is shown of an outcome is shown over the
 /// plain history of the files. Reads no tap and no entry.
 fn shows_plain(outcome: &Outcome)
     ensures { (files : List (List ℕ)) (fares : Fares) (shards workers : ℕ) (asked : Asked)
@@ -69,14 +69,14 @@ pub(crate) fn post_live<
     'a,
     R: Threads + Wait + RandomSource + Sync,
     U: LentUploads + Drop + Sync,
-    G: Gate + Sync,
+    G: Gatekeeper + Sync,
 >(
     rt: &R,
     alloc: Global,
     table: FareTable,
     options: &Options<'a>,
     uploads: U,
-    gate: &G,
+    keeper: &G,
 ) -> Result<Outcome, Fault<'a>>
     ensures live { IfOk result (λ outcome. (files : List (List ℕ))
         × AreLentAs (U.known uploads) files
@@ -84,8 +84,8 @@ pub(crate) fn post_live<
     ensures fault { IfErr result (IsRunFailure (length (U.known uploads))) }
     ensures status { IfErr result (λ fault. status_of fault ≡ 1) }
 {
-    let outcome = outcome_of(rt, alloc, table, options, uploads, gate)?;
-    // proof: where no token has taps in two files, what is shown does not depend on the schedule
+    let outcome = outcome_of(rt, alloc, table, options, uploads, keeper)?;
+    // proof: if no token has taps in two files, what is shown does not depend on the schedule
     shows_plain(&outcome);
     Ok(outcome)
 }

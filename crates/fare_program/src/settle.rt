@@ -24,8 +24,8 @@ use std::random::RandomSource;
 use std::thread::Threads;
 use tap_views::Token;
 
-/// Writes the ledger of the settled history of the uploads, which so many workers make. Says whether
-/// each file was posted whole.
+/// Writes the ledger of the settled history of the uploads, which this number of workers make. Says
+/// whether each file was posted whole.
 fn write_ledger<'a, R: Threads + Sync, U: Uploads + Sync, W: Write>(
     rt: &R,
     alloc: Global,

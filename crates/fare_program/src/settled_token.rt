@@ -1,4 +1,4 @@
-//! What is told of one token of settled files, from its taps alone.
+//! What is printed of one token of settled files, from its taps alone.
 ghost use Rattle.std.specs.Prelude.{Bool, ◌≡◌, ◌≢◌, ℕ, List, All, Some, IfErr, IfOk, MatchBool, OnOk};
 ghost use Rattle.std.specs.Io.KnownBytes.{Appends, Keeps};
 ghost use Rattle.fare_texts.specs.WrittenOut.{Begins};
@@ -26,7 +26,7 @@ use std::marker::Sync;
 use std::thread::Threads;
 use tap_views::{TapFields, Token};
 
-/// Writes the statement of a token that has these taps, explained where that is asked for.
+/// Writes the statement of a token that has these taps, explained if that is asked for.
 #[tactic(auto, using(crate::proofs::WritesFailed::of_write))]
 fn write_statement<'a, W: Write>(
     alloc: Global,
@@ -62,8 +62,8 @@ fn write_statement<'a, W: Write>(
     Ok(())
 }
 
-/// Writes the ledger of a token that has these taps, or its statement, explained where that is
-/// asked for.
+/// Writes the ledger of a token that has these taps, or its statement, explained if that is asked
+/// for.
 #[tactic(auto, using(crate::proofs::WritesFailed::of_write))]
 pub(crate) fn write_text<'a, W: Write>(
     alloc: Global,

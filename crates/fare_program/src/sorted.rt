@@ -6,6 +6,7 @@ ghost use Rattle.fare_table.specs.Fares.{Fares};
 ghost use Rattle.fare_program.specs.Causes.{IsRightOfSorted};
 ghost use Rattle.fare_program.specs.Fault.{IsLate, status_of};
 ghost use Rattle.fare_program.specs.inside.ChargedSorted.{IsBegunSorted, IsChargedSorted};
+ghost use Rattle.sorted_bills.specs.Ledgers.{KnownAreBytes};
 ghost use Rattle.fare_program.specs.inside.Options.{asked_of};
 
 use crate::bill::write_billed;
@@ -56,7 +57,7 @@ fn open_files<'a, D: Disk>(
     Ok(files)
 }
 
-/// Writes the report of the files, which so many workers make.
+/// Writes the report of the files, which this number of workers make.
 fn write_report<'a, R: Threads + RandomSource + Sync, F: Placed + Sync, W: Write>(
     rt: &R,
     alloc: Global,
@@ -88,7 +89,7 @@ fn write_report<'a, R: Threads + RandomSource + Sync, F: Placed + Sync, W: Write
     }
 }
 
-/// Writes the ledger of the files, which so many workers make.
+/// Writes the ledger of the files, which this number of workers make.
 fn write_ledger<'a, R: Threads + Sync, F: Placed + Sync, W: Write>(
     rt: &R,
     alloc: Global,
@@ -99,6 +100,10 @@ fn write_ledger<'a, R: Threads + Sync, F: Placed + Sync, W: Write>(
 ) -> Result<(), Fault<'a>>
     ensures ok { OnOk result ((asked_of options.now).ledger ≡ true
         → IsChargedSorted (asked_of options.now) (map F.bytes files.now) table.now None
+        (W.contents out.old) (W.contents out.new)) }
+    ensures begun { IfErr result (λ fault. fault ≡ Fault.Write
+        → (asked_of options.now).ledger ≡ true → KnownAreBytes (map F.bytes files.now)
+        → IsBegunSorted (asked_of options.now) (map F.bytes files.now) table.now None
         (W.contents out.old) (W.contents out.new)) }
     ensures right { IfErr result (IsRightOfSorted (asked_of options.now).files
         (map F.bytes files.now)) }
@@ -156,7 +161,7 @@ fn charge_all<'a, R: Threads + RandomSource + Sync, F: Placed + Sync, W: Write>(
     ensures ok { OnOk result (IsChargedSorted (asked_of options.now) (map F.bytes files.now)
         table.now None (W.contents out.old) (W.contents out.new)) }
     ensures begun { IfErr result (λ fault. fault ≡ Fault.Write
-        → ((asked_of options.now).ledger ≡ true → ⊥)
+        → ((asked_of options.now).ledger ≡ true → KnownAreBytes (map F.bytes files.now))
         → IsBegunSorted (asked_of options.now) (map F.bytes files.now) table.now None
         (W.contents out.old) (W.contents out.new)) }
     ensures right { IfErr result (IsRightOfSorted (asked_of options.now).files
@@ -184,7 +189,8 @@ fn charge_sorted<'a, R: Threads + RandomSource + Sync, F: Placed + Sync, W: Writ
     ensures ok { OnOk result (IsChargedSorted (asked_of options.now) (map F.bytes files.now)
         table.now token (W.contents out.old) (W.contents out.new)) }
     ensures begun { IfErr result (λ fault. fault ≡ Fault.Write
-        → ((asked_of options.now).ledger ≡ true → token ≡ None → ⊥)
+        → ((asked_of options.now).ledger ≡ true → token ≡ None
+        → KnownAreBytes (map F.bytes files.now))
         → IsBegunSorted (asked_of options.now) (map F.bytes files.now) table.now token
         (W.contents out.old) (W.contents out.new)) }
     ensures right { IfErr result (IsRightOfSorted (asked_of options.now).files
@@ -217,7 +223,8 @@ pub(crate) fn work_sorted<'a, R: Threads + RandomSource + Sync, D: Disk, W: Writ
         (map (D.bytes_under disk.now) (asked_of options.now).files) fares token
         (W.contents out.old) (W.contents out.new))) }
     ensures begun { IfErr result (λ fault. fault ≡ Fault.Write
-        → ((asked_of options.now).ledger ≡ true → token ≡ None → ⊥)
+        → ((asked_of options.now).ledger ≡ true → token ≡ None
+        → KnownAreBytes (map (D.bytes_under disk.now) (asked_of options.now).files))
         → (fares : Fares) → table ≡ Some fares → IsBegunSorted (asked_of options.now)
         (map (D.bytes_under disk.now) (asked_of options.now).files) fares token
         (W.contents out.old) (W.contents out.new)) }

@@ -6,7 +6,7 @@ use program_manners::LoadFault;
 /// Where the program's bytes come from.
 pub trait Source {
     ghost use Rattle.std.specs.Prelude.{◌≡◌, ℕ, List, IfErr, IfOk, Option, None, Some, false};
-    ghost use Rattle.program_manners.specs.Loads.{Loaded, TellsOne};
+    ghost use Rattle.program_manners.specs.Loads.{Loaded, LoadsOne};
     ghost use Rattle.program_manners.specs.Refusals.{Refuses};
     ghost use Rattle.program_manners.specs.declared.loading.LoadFault.{LoadFault as AFault};
 
@@ -21,20 +21,20 @@ pub trait Source {
         ensures { result ≡ false → loaded self.now ≡ None };
 
     /// Takes what was read of the next files before they are due, the first one last. None is
-    /// loaded by it: each is given, or its fault told, when it is loaded by its name.
+    /// loaded by it: each is given, or its fault reported, when it is loaded by its name.
     fn keep_ahead(&mut self, ahead: Vec<FileAhead>)
         ensures { loaded self.new ≡ loaded self.old };
 
-    /// All bytes of the file of this name. What a fault leaves loaded is not told.
+    /// All bytes of the file of this name. No clause says what a fault leaves loaded.
     fn load(&mut self, name: &str) -> Result<Vec<u8>, LoadFault>
-        ensures told { IfOk result (λ bytes.
-            TellsOne (loaded self.old) (loaded self.new) (Some name.now) bytes.items) }
+        ensures reported { IfOk result (λ bytes.
+            LoadsOne (loaded self.old) (loaded self.new) (Some name.now) bytes.items) }
         ensures fault { IfErr result
             (λ fault. Refuses (refused self.new) (Some name.now) fault) };
 
-    /// All bytes of standard input. What a fault leaves loaded is not told.
+    /// All bytes of standard input. No clause says what a fault leaves loaded.
     fn input(&mut self) -> Result<Vec<u8>, LoadFault>
-        ensures told { IfOk result (λ bytes.
-            TellsOne (loaded self.old) (loaded self.new) None bytes.items) }
+        ensures reported { IfOk result (λ bytes.
+            LoadsOne (loaded self.old) (loaded self.new) None bytes.items) }
         ensures fault { IfErr result (λ fault. Refuses (refused self.new) None fault) };
 }

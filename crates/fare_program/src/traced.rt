@@ -1,24 +1,31 @@
 //! The traced ledger of files.
-ghost use Rattle.std.specs.Prelude.{Bool, ◌≡◌, ◌≢◌, ℕ, List, IfErr, IfOk, Some, map};
+ghost use Rattle.std.specs.Prelude.{Bool, ◌≡◌, ◌≢◌, ◌≤◌, ℕ, List, Option, IfErr, IfOk, Some, length};
+ghost use Rattle.std.specs.Prelude.{map, true};
 ghost use Rattle.std.specs.Io.KnownBytes.{Appends, Keeps};
 ghost use Rattle.fare_texts.specs.WrittenOut.{Begins};
 ghost use Rattle.toml.specs.Data.{Members};
-ghost use Rattle.toml.specs.Parse.{parse_document};
-ghost use Rattle.fare_table.specs.Meaning.{Means};
-ghost use Rattle.fare_program.specs.Causes.{HasOtherNames};
+ghost use Rattle.fare_program.specs.Causes.{IsRightFault};
 ghost use Rattle.fare_program.specs.Fault.{status_of};
-ghost use Rattle.fare_program.specs.inside.Causes.{IsOfOutput, IsRightOfText};
-ghost use Rattle.settled_texts.specs.Classes.{class_of_token};
+ghost use Rattle.fare_program.specs.Options.{Asked};
+ghost use Rattle.fare_program.specs.inside.Causes.{IsOfOutput};
+ghost use Rattle.fare_program.specs.inside.Tables.{IsClassFault, IsClassFaultAt};
+ghost use Rattle.program_manners.specs.Loads.{Loaded};
+ghost use Rattle.program_manners.specs.TableLoads.{LoadsTables};
+ghost use Rattle.program_manners.specs.TableViews.{names_of};
+ghost use Rattle.program_manners.specs.declared.loading.LoadFault.{LoadFault};
+ghost use Rattle.settled_texts.specs.Classes.{AreTrees};
 ghost use Rattle.settled_texts.specs.Ledgers.{IsTracedLedger};
-ghost use Rattle.settled_texts.specs.Names.{class_by};
+ghost use Rattle.settled_texts.specs.Names.{HasClasses, class_by};
 
 use crate::fault::Fault;
+use crate::tables::Tables;
 use fare_table::FareTable;
-use settled_texts::{ClassFault, ClassNames, write_traced_ledger};
+use program_manners::{NamedClassLine, TableWord, TableWords};
+use settled_texts::{ClassFault, ClassNames, WrongNames, write_traced_ledger};
 use std::alloc::Global;
 use std::io::Write;
 
-/// A fare table, and the names of its classes.
+/// Fare tables that follow one another, and the names of their classes.
 #[derive(Drop)]
 pub(crate) struct Riders {
     /// The fares.
@@ -27,36 +34,65 @@ pub(crate) struct Riders {
     pub(crate) names: ClassNames,
 }
 
-/// Why the names of classes were not read. The text was read as a fare table before, so that it is
+/// Why the names of classes were not read. The texts were read as fare tables before, so that each is
 /// TOML, and names a default class.
-fn of_names<'a>(fault: ClassFault) -> Fault<'a>
-    requires { fault ≢ ClassFault.Text }
+fn of_names<'a>(words: &TableWords<'a>, wrong: WrongNames) -> Fault<'a>
+    requires fault { wrong.fault ≢ ClassFault.Text }
+    requires place { wrong.place ≤ length (names_of words.now).later }
     ensures unwritten { result ≢ Fault.Write }
     ensures status { status_of result ≡ 1 }
-    ensures right { (text : List ℕ) → (fault ≡ ClassFault.Name → HasOtherNames text)
-        → IsRightOfText text result }
+    ensures right { IsClassFault (names_of words.now) wrong result }
 {
-    match fault {
+    match wrong.fault {
         ClassFault::Text => unreachable!(),
-        ClassFault::Name => Fault::ClassName,
+        ClassFault::Name => of_class(words, wrong.place),
         ClassFault::NoMemory => Fault::NoMemory,
     }
 }
 
-/// The fare table of a text, and the names of its classes.
-pub(crate) fn riders_of<'a>(alloc: Global, text: &[u8]) -> Result<Riders, Fault<'a>>
-    ensures table { IfOk result (λ riders. Means text.now riders.table) }
-    ensures names { IfOk result (λ riders. (tree : Members)
-        × (parse_document text.now ≡ Some tree)
-        × ((token : List ℕ) → class_of_token tree token ≡ Some (class_by riders.names token))) }
-    ensures right { IfErr result (IsRightOfText text.now) }
+/// The fault of a class that the table at this place names.
+fn of_class<'a>(words: &TableWords<'a>, place: usize) -> Fault<'a>
+    requires place { place ≤ length (names_of words.now).later }
+    ensures unwritten { result ≢ Fault.Write }
+    ensures status { status_of result ≡ 1 }
+    ensures right { IsClassFaultAt (names_of words.now) place result }
+{
+    if words.later.as_slice().is_empty() {
+        return Fault::ClassName;
+    }
+    if place == 0 {
+        return Fault::NamedClass(NamedClassLine(words.first));
+    }
+    Fault::NamedClass(NamedClassLine(TableWord::of(words.later[place - 1]).name))
+}
+
+/// The fare tables of these words, and the names of their classes.
+pub(crate) fn riders_of<'a>(
+    alloc: Global,
+    words: &TableWords<'a>,
+    tables: Tables,
+) -> Result<Riders, Fault<'a>>
+    requires { (loaded after : Option (List Loaded)) × LoadsTables (names_of words.now) loaded after
+        (map (λ t. t.items) tables.texts.items) tables.fares }
+    ensures table { IfOk result (λ riders. riders.table ≡ tables.fares) }
+    ensures names { IfOk result (λ riders. (tree : Members) × (later : List (ℕ × Members))
+        × AreTrees tables.fares (map (λ t. t.items) tables.texts.items) tree later
+        × HasClasses riders.names tree later) }
+    ensures right { IfErr result (λ fault. (asked : Asked) (under : List ℕ → Option (List ℕ))
+        (loaded after : Option (List Loaded)) (refused : Option (Option (List ℕ) × LoadFault))
+        → asked.table ≡ Some (names_of words.now) → asked.traced ≡ true
+        → LoadsTables (names_of words.now) loaded after
+        (map (λ t. t.items) tables.texts.items) tables.fares
+        → IsRightFault asked under loaded after refused fault) }
     ensures unwritten { IfErr result (λ fault. fault ≢ Fault.Write) }
     ensures status { IfErr result (λ fault. status_of fault ≡ 1) }
 {
-    let table = FareTable::read(alloc, text)?;
-    match ClassNames::read(alloc, text) {
-        Ok(names) => Ok(Riders { table, names }),
-        Err(fault) => Err(of_names(fault)),
+    match ClassNames::of_texts(alloc, &tables.fares, &tables.texts) {
+        Ok(names) => Ok(Riders {
+            table: tables.fares,
+            names,
+        }),
+        Err(wrong) => Err(of_names(words, wrong)),
     }
 }
 

@@ -117,7 +117,7 @@ fn list_uploads(
 }
 
 /// The text of a listing of these files, and whether none of them has a layout fault. Validators
-/// are known by the table, where there is one, and else all of them are.
+/// are known by the table, if there is one, and else all of them are.
 pub(crate) fn listing_text(
     alloc: Global,
     table: Option<&FareTable>,

@@ -49,7 +49,7 @@ begins_kept a b c text begun kept = record {
   written = Appends-kept a b c begun.front begun.written kept;
 }
 
--- a beginning of a text, and so many bytes more of the rest
+-- a beginning of a text, and some bytes more of the rest
 pub begun_more : (text front rest left : List ℕ) (count : ℕ) → text ≡ front ++ rest
     → left ≡ take (length rest - count) (drop count rest)
     → text ≡ (front ++ take count rest) ++ left
@@ -99,13 +99,7 @@ pub goes_empty : (a b : Option (List ℕ)) (old new : List ℕ) → Appends a b 
 goes_empty a b old new written empty =
     record { front = old; whole = ap (λ t. old ++ t) (sym empty); written = written }
 
--- what has gone out is a beginning of all
-pub goes_begun : (a b : Option (List ℕ)) (old new text : List ℕ) → GoesOut a old b new text
-    → Begins a b (old ++ text)
-goes_begun a b old new text gone =
-    record { front = gone.front; rest = new; whole = gone.whole; written = gone.written }
-
--- and where a beginning of what waits goes out too
+-- and if a beginning of what waits goes out too
 pub goes_then : (a b c : Option (List ℕ)) (old new x : List ℕ) → GoesOut a old b new x
     → Begins b c new → Begins a c (old ++ x)
 goes_then a b c old new x gone begun = record {
@@ -123,7 +117,7 @@ goes_then_on a b c old new x y gone begun =
     subst (λ t. Begins a c t) (append_assoc old x y)
     (begins_front a c (old ++ x) y (goes_then a b c old new x gone begun))
 
--- and where a beginning of what waits and of a text behind it goes out
+-- and if a beginning of what waits and of a text behind it goes out
 pub goes_begins : (a b c : Option (List ℕ)) (old new x y : List ℕ) → GoesOut a old b new x
     → Begins b c (new ++ y) → Begins a c (old ++ (x ++ y))
 goes_begins a b c old new x y gone begun = record {

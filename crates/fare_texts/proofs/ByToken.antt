@@ -29,8 +29,8 @@ use Rattle.fare_texts.proofs.Rising.{own_push, up_apart, up_itself, up_push, up_
 abbrev ties : Token → Token → Bool
 ties key token = eq_by_cmp token_cmp key token
 
--- What the text of entries is that follow those before, while the lines of a token are told: first
--- the other lines of that token, and then those of each later token.
+-- What the text of entries is that follow those before, while the lines of a token are written:
+-- first the other lines of that token, and then those of each later token.
 record RestOfToken (fares : Fares) (whole : List Entry) (token : Token) (before rest : List Entry)
     (text : List ℕ) : Type 0 where
   pub own_lines : List ℕ
@@ -45,9 +45,10 @@ record RestOfToken (fares : Fares) (whole : List Entry) (token : Token) (before 
 
 module _ (fares : Fares) (whole before : List Entry) (entry : Entry) (rest : List Entry)
     (line more text : List ℕ)
-    (is : whole ≡ before ++ entry ∷ rest) (told : IsLineAfter fares before entry line) (shown : text
+    (is : whole ≡ before ++ entry ∷ rest) (explained : IsLineAfter fares before entry line)
+    (shown : text
     ≡ line ++ more) where
-  -- the entry is of the token whose lines are told
+  -- the entry is of the token whose lines are written
   same_case : (token : Token) → token_eq entry.token token ≡ true
       → RestOfToken fares whole token (before ++ entry ∷ []) rest more
       → RestOfToken fares whole token before (entry ∷ rest) text
@@ -62,7 +63,7 @@ module _ (fares : Fares) (whole before : List Entry) (entry : Entry) (rest : Lis
               g.own_lines,
               subst (λ (t : Token).
                   IsLedgerLine fares t (length (own t before) + 1) entry
-                  (reason_after fares t (own t before) entry) line) same told,
+                  (reason_after fares t (own t before) entry) line) same explained,
               subst (λ (es : List Entry). AreLedgerLinesAfter fares token es (own token rest)
                   g.own_lines)
                   (own_push token before entry here) g.of_own,
@@ -98,7 +99,7 @@ module _ (fares : Fares) (whole before : List Entry) (entry : Entry) (rest : Lis
         g.own_lines,
         subst (λ (es : List Entry).
             IsLedgerLine fares entry.token (length es + 1) entry
-            (reason_after fares entry.token es entry) line) none told,
+            (reason_after fares entry.token es entry) line) none explained,
         subst (λ (es : List Entry).
             AreLedgerLinesAfter fares entry.token es (own entry.token rest) g.own_lines) pushed
             g.of_own,
@@ -117,7 +118,7 @@ module _ (fares : Fares) (whole before : List Entry) (entry : Entry) (rest : Lis
     shown ∙ ap (λ t. line ++ t) g.shown ∙ sym (append_assoc line g.own_lines g.other_lines),
   )
 
-  -- the entry is of a later token than the one whose lines were told
+  -- the entry is of a later token than the one whose lines were written
   next_case : (token : Token) → AreUpTo before token → IsUpTo token entry.token
       → NoFallFrom entry.token rest → token_eq entry.token token ≡ false
       → token_eq token entry.token ≡ false
@@ -168,19 +169,19 @@ rest_of_token : (fares : Fares) (whole : List Entry) (token : Token) (before res
 rest_of_token fares whole token before [] text is up no_fall none =
     no_more fares whole token before text none
 rest_of_token fares whole token before (entry ∷ rest) text is up no_fall
-    (line, more, told, along, shown) =
+    (line, more, explained, along, shown) =
     let longer : whole ≡ (before ++ entry ∷ []) ++ rest =
     is ∙ sym (append_assoc before (entry ∷ []) rest) in
     ⊎_elim
     (λ (here : token_eq entry.token token ≡ true).
     let same : entry.token ≡ token = same_token entry.token token here in
-    same_case fares whole before entry rest line more text is told shown token here
+    same_case fares whole before entry rest line more text is explained shown token here
     (rest_of_token fares whole token (before ++ entry ∷ []) rest more longer
     (up_push before entry token up
     (subst (λ (t : Token). IsUpTo t token) (sym same) (up_itself token)))
     (subst (λ (t : Token). NoFallFrom t rest) same no_fall.1) along))
     (λ (apart : token_eq entry.token token ≡ false).
-    next_case fares whole before entry rest line more text is told shown token up no_fall.0
+    next_case fares whole before entry rest line more text is explained shown token up no_fall.0
     no_fall.1
     apart (token_eq-sym token entry.token ∙ apart)
     (rest_of_token fares whole entry.token (before ++ entry ∷ []) rest more longer
@@ -195,16 +196,16 @@ each_token : (fares : Fares) (entries : List Entry) (text : List ℕ) → NoFall
     × AreLinesOfEach fares entries order text
 unfolding IsStrictlySortedBy
 each_token fares [] text no_fall none = ([], record { rises = tt; same = λ key. refl }, none)
-each_token fares (entry ∷ rest) text no_fall (line, more, told, along, shown) =
+each_token fares (entry ∷ rest) text no_fall (line, more, explained, along, shown) =
     let g = rest_of_token fares (entry ∷ rest) entry.token (entry ∷ []) rest more refl
     (up_itself entry.token, tt) no_fall along in (
       entry.token ∷ g.others,
       record { rises = g.rises; same = g.members },
-      each_lines fares (entry ∷ rest) [] entry rest line more text refl told shown
+      each_lines fares (entry ∷ rest) [] entry rest line more text refl explained shown
           (own_none entry.token) g,
     )
 
--- the same tokens' lines, where each token has the same entries
+-- the same tokens' lines, if each token has the same entries
 pub each_same : (fares : Fares) (entries others : List Entry) (order : List Token) (text : List ℕ)
     → ((token : Token) → own token entries ≡ own token others)
     → AreLinesOfEach fares entries order text → AreLinesOfEach fares others order text

@@ -129,7 +129,7 @@ known rules taps tap mode is = ⊎_elim
     (windows-same rules taps tap (not_later taps tap stale)))
     (cases_Bool (is_later taps tap.moment))
 
--- one tap more ends the last window, where it is a ride that opens another
+-- one tap more ends the last window, if it is a ride that opens another
 pub earlier-push : (rules : TokenRules) (taps : List TapIn) (tap : TapIn)
     → earlier_windows rules (taps ++ tap ∷ [])
     ≡ earlier_windows rules taps

@@ -12,6 +12,7 @@ pub mod Parts
 pub mod Rising
 pub mod Sorting
 pub mod StatementLines
+pub mod TermsLines
 pub mod TextsExist
 pub mod Whole
 pub mod PieceWriting

@@ -1,9 +1,8 @@
--- One line after another: what the teller has come to, and what was written.
+-- One line after another: what the explainer has come to, and what was written.
 use Rattle.std.proofs.Common.{◌≡◌, ℕ, ◌+◌, ◌<◌, true, false, List, [], ◌∷◌, ◌++◌, Option, Some}
-use Rattle.std.proofs.Common.{None, length, take, drop, get_or, refl, sym, ap, subst, ◌∙◌}
+use Rattle.std.proofs.Common.{length, take, drop, get_or, refl, sym, ap, subst, ◌∙◌}
 use Rattle.std.proofs.Common.{append_assoc, append-nil, add-one, drop-cons, arith}
 use Rattle.std.specs.Prelude.{slice_get}
-use Rattle.std.specs.Io.KnownBytes.{Appends, Keeps, append_known}
 use Rattle.std.proofs.lemmas.List.{get_or-map, length-map, take-append-drop}
 use Rattle.std.proofs.Math.Seq.{take-suc}
 use Rattle.fare_table.specs.Fares.{Fares}
@@ -12,49 +11,50 @@ use Rattle.tap_views.specs.Token.{token_eq}
 use Rattle.shard_book.specs.declared.entry.Entry.{Entry}
 use Rattle.tap_views.specs.declared.token.Token.{Token}
 use Rattle.tap_views.proofs.TokenLemmas.{token_eq-refl}
-use Rattle.fare_texts.specs.Tellers.{HasTold}
+use Rattle.fare_texts.specs.Explainers.{HasExplained}
 use Rattle.fare_texts.specs.WrittenOut.{Begins, GoesOut}
 use Rattle.fare_texts.specs.Lines.{AreLinesAlong, AreUpTo, HasCome, IsLineAfter, IsUpTo, NoFall}
 use Rattle.fare_texts.specs.Lines.{NoFallFrom}
 use Rattle.fare_texts.specs.inside.Spots.{entry_at_spot, entries_at_spots}
 use Rattle.fare_texts.specs.declared.spot.Spot.{Spot}
 use Rattle.shard_book.specs.Book.{Book}
-use Rattle.fare_texts.specs.declared.teller.Teller.{Teller}
+use Rattle.fare_texts.specs.declared.explainer.Explainer.{Explainer}
 use Rattle.fare_texts.proofs.Rising.{none_below, own_push, up_itself, up_push, up_weaker}
 use Rattle.fare_texts.proofs.Beginnings.{goes_then_on}
 use Rattle.fare_texts.proofs.TextsExist.{along_exist}
 
--- ---- the teller
-pub come_first : (fares : Fares) (teller : Teller) → HasTold fares teller []
-    → HasCome fares teller []
+-- ---- the explainer
+pub come_first : (fares : Fares) (explainer : Explainer) → HasExplained fares explainer []
+    → HasCome fares explainer []
 unfolding own
-come_first fares teller told = record { told = told; up = tt }
+come_first fares explainer explained = record { explained = explained; up = tt }
 
-pub come_on : (fares : Fares) (old new : Teller) (earlier : List Entry) → HasCome fares old earlier
-    → IsUpTo old.token new.token → token_eq old.token new.token ≡ false → HasTold fares new []
+pub come_on : (fares : Fares) (old new : Explainer) (earlier : List Entry)
+    → HasCome fares old earlier
+    → IsUpTo old.token new.token → token_eq old.token new.token ≡ false → HasExplained fares new []
     → HasCome fares new earlier
 come_on fares old new earlier come to apart fresh =
     let none : [] ≡ own new.token earlier =
     sym (none_below earlier old.token new.token come.up to apart) in
     record {
-      told = subst (λ (es : List Entry). HasTold fares new es) none fresh;
+      explained = subst (λ (es : List Entry). HasExplained fares new es) none fresh;
       up = up_weaker earlier old.token new.token come.up to;
     }
 
--- the teller has come one entry further in its token's entries
-pub come_next : (fares : Fares) (old new : Teller) (earlier : List Entry) (entry : Entry)
+-- the explainer has come one entry further in its token's entries
+pub come_next : (fares : Fares) (old new : Explainer) (earlier : List Entry) (entry : Entry)
     → old.token ≡ entry.token
     → new.token ≡ old.token → HasCome fares old earlier
-    → HasTold fares new (own old.token earlier ++ entry ∷ [])
+    → HasExplained fares new (own old.token earlier ++ entry ∷ [])
     → HasCome fares new (earlier ++ entry ∷ [])
-come_next fares old new earlier entry same token come told =
+come_next fares old new earlier entry same token come explained =
     let here : token_eq entry.token old.token ≡ true =
     ap (λ (t : Token). token_eq t old.token) (sym same) ∙ token_eq-refl old.token in
     let all = earlier ++ entry ∷ [] in
     record {
-      told = subst (λ (t : Token). HasTold fares new (own t all)) (sym token)
-          (subst (λ (es : List Entry). HasTold fares new es)
-          (sym (own_push old.token earlier entry here)) told);
+      explained = subst (λ (t : Token). HasExplained fares new (own t all)) (sym token)
+          (subst (λ (es : List Entry). HasExplained fares new es)
+          (sym (own_push old.token earlier entry here)) explained);
       up = subst (λ (t : Token). AreUpTo all t) (sym token)
           (up_push earlier entry old.token come.up
           (subst (λ (t : Token). IsUpTo t old.token) same (up_itself old.token)));
@@ -89,15 +89,16 @@ along_push fares earlier [] entry text line empty is = (
   refl,
   ap (λ t. t ++ line) empty ∙ sym (append-nil line),
 )
-along_push fares earlier (first ∷ entries) entry text line (start, rest, told, along, whole) is = (
-  start,
-  rest ++ line,
-  told,
-  along_push fares (earlier ++ first ∷ []) entries entry rest line along
-      (subst (λ (es : List Entry). IsLineAfter fares es entry line)
-      (sym (append_assoc earlier (first ∷ []) entries)) is),
-  ap (λ t. t ++ line) whole ∙ append_assoc start rest line,
-)
+along_push fares earlier (first ∷ entries) entry text line (start, rest, explained, along, whole)
+    is = (
+      start,
+      rest ++ line,
+      explained,
+      along_push fares (earlier ++ first ∷ []) entries entry rest line along
+          (subst (λ (es : List Entry). IsLineAfter fares es entry line)
+          (sym (append_assoc earlier (first ∷ []) entries)) is),
+      ap (λ t. t ++ line) whole ∙ append_assoc start rest line,
+    )
 
 -- what stands before, at and from a place of what stands at spots
 pub seen_taken : (books : List Book) (list : List Spot) (place : ℕ) (other : Spot)
@@ -168,7 +169,7 @@ along_all fares entries place written along =
           others.1),
     )
 
--- where a beginning of what waits goes out, what has gone out is a beginning of all lines
+-- if a beginning of what waits goes out, what has gone out is a beginning of all lines
 pub lines_begun : (fares : Fares) (entries : List Entry) (place : ℕ) (written : List ℕ)
     (a b c : Option (List ℕ)) (old new : List ℕ)
     → AreLinesAlong fares [] (take place entries) written → GoesOut a old b new written
@@ -179,21 +180,3 @@ lines_begun fares entries place written a b c old new along gone begun =
     (written ++ all.0, all.1, goes_then_on a b c old new written all.0 gone begun)
 
 -- ---- the bytes
-pub grown : (a b : Option (List ℕ)) (text longer written line : List ℕ)
-    → Appends a (append_known b text) written → longer ≡ text ++ line
-    → Appends a (append_known b longer) (written ++ line)
-grown None b text longer written line p e = tt
-grown (Some x) None text longer written line p e = absurd p
-grown (Some x) (Some y) text longer written line p e =
-    ap (λ t. y ++ t) e ∙ sym (append_assoc y text line) ∙ ap (λ t. t ++ line) p
-    ∙ append_assoc x written line
-
--- what was written, and what waited until the end, was appended
-pub last_out : (a b c : Option (List ℕ)) (first text left written : List ℕ)
-    → Appends (append_known a first) (append_known b text) written
-    → Keeps (append_known b text) (append_known c left) → left ≡ [] → Appends a c (first ++ written)
-last_out None b c first text left written p q e = tt
-last_out (Some x) None c first text left written p q e = absurd p
-last_out (Some x) (Some y) None first text left written p q e = absurd q
-last_out (Some x) (Some y) (Some z) first text left written p q e =
-    sym (append-nil z) ∙ ap (λ t. z ++ t) (sym e) ∙ q ∙ p ∙ append_assoc x first written

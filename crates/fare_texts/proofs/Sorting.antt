@@ -40,7 +40,7 @@ no_fall : (books : List Book) (list : List Spot) → IsSortedByKey (key books) t
 no_fall books [] sorted = tt
 no_fall books (first ∷ list) sorted = rise_from books first list sorted
 
--- tokens tie in the order where they are the same
+-- tokens tie in the order if they are the same
 tied : (a b : Token) → (not (is_lt (token_cmp a b)) && not (is_lt (token_cmp b a))) ≡ token_eq b a
 tied a b = grind (arith, nat_tests)
 
@@ -66,7 +66,7 @@ own_seen books token (first ∷ list) =
     by true rest = ap (λ (es : List Entry). entry_at_spot books first ∷ es) rest
     by false rest = rest
 
--- one of a list that passes a test, where some element does
+-- one of a list that passes a test, if some element does
 some_passes : {X : Type 0} (test : X → Bool) (list : List X) → list_any test list ≡ true
     → (x : X) × (test x ≡ true)
 some_passes test [] is = absurd (false≢true is)
@@ -80,7 +80,7 @@ some_passes {X} test (x ∷ list) is =
     by true here rest = (x, here)
     by false not_here rest = rest not_here
 
--- nothing is kept where no element passes
+-- nothing is kept if no element passes
 none_pass : {X : Type 0} (test : X → Bool) (list : List X) → list_any test list ≡ false
     → filter test list ≡ []
 none_pass test [] none = refl
@@ -96,7 +96,7 @@ none_pass {X} test (x ∷ list) none =
     by false not_here rest =
         ap (λ (b : Bool). cond b (x ∷ filter test list) (filter test list)) not_here ∙ rest not_here
 
--- where a spot has an entry of the token, the sort keeps the order of the token's
+-- if a spot has an entry of the token, the sort keeps the order of the token's
 kept_some : (books : List Book) (token : Token) (old new : List Spot) (one : Spot)
     → key books one ≡ token → IsStableByKey (key books) token_cmp old new
     → filter (is_at books token) new ≡ filter (is_at books token) old

@@ -174,7 +174,7 @@ line_exists fares token number entry why =
         moment = moment.0;
         is = moment.1;
         reason_fields = fields.0;
-        told = fields.1;
+        explained = fields.1;
         shown = refl;
       },
     )

@@ -1,11 +1,12 @@
 -- A token's explained statement: the lines of its statement with the reason behind each, the
--- token's terms before the lines, and all its windows.
+-- token's terms by each table before the lines, and all its windows.
 use Rattle.std.specs.Prelude.{◌≡◌, ℕ, List, [], ◌∷◌, ◌++◌, Option, Some, None, codes, flat_map, map}
 use Rattle.std.specs.Prelude.{slice_get}
 use Rattle.std.specs.Fmt.{decimal}
 use Rattle.std.specs.Option.{option_to_list}
 use Rattle.fare_table.specs.ClockView.{ClockView}
 use Rattle.fare_table.specs.Fares.{Fares, terms_at}
+use Rattle.fare_table.specs.TableMeaning.{TableMeaning}
 use Rattle.fare_table.specs.declared.terms.Terms.{Terms}
 use Rattle.account_rule.specs.TokenRules.{TokenRules, rules_of}
 use Rattle.account_rule.specs.Windows.{last_window, shown_window, windows}
@@ -39,11 +40,36 @@ unfoldable pub earlier_windows : TokenRules → List TapIn → List WindowView
 earlier_windows rules taps =
     flat_map (λ window. option_to_list (shown_window rules window)) (but_last (windows rules taps))
 
--- `terms fare 300 rides 12 ceiling 3500`, with the end of the line
-unfoldable pub terms_line : Terms → List ℕ
-terms_line terms =
-    codes "terms fare " ++ (decimal terms.fare ++ (codes " rides " ++ (decimal terms.rides
+-- ` fare 300 rides 12 ceiling 3500`, with the end of the line
+unfoldable pub terms_words : Terms → List ℕ
+terms_words terms =
+    codes " fare " ++ (decimal terms.fare ++ (codes " rides " ++ (decimal terms.rides
     ++ (codes " ceiling " ++ (decimal terms.ceiling ++ codes "\n")))))
+
+-- `terms fare 300 rides 12 ceiling 3500`, with the end of the line
+abbrev pub terms_line : Terms → List ℕ
+terms_line terms = codes "terms" ++ terms_words terms
+
+-- `terms from 2026-01-04T05:00:00.000Z fare 310 rides 12 ceiling 3500`, with the end of the line:
+-- the terms that are valid from the moment on
+pub record IsLaterTerms (from : ℕ) (terms : Terms) (line : List ℕ) : Type 0 where
+  pub moment : List ℕ
+  pub is : IsMomentText from moment
+  pub shown : line ≡ codes "terms from " ++ (moment ++ terms_words terms)
+
+-- a line for each table that follows, in their order, with what the rider's class of that table
+-- pays
+abbrev pub AreLaterTerms : List ℕ → List (ℕ × TableMeaning) → List ℕ → Type 0
+AreLaterTerms token [] text = text ≡ []
+AreLaterTerms token (next ∷ later) text =
+    (line : List ℕ) × (rest : List ℕ) × IsLaterTerms next.0 (terms_at next.1 token) line
+    × AreLaterTerms token later rest × (text ≡ line ++ rest)
+
+-- the terms of the token: of the first table, and of each that follows
+pub record AreTermsLines (fares : Fares) (token : List ℕ) (text : List ℕ) : Type 0 where
+  pub later : List ℕ
+  pub of_later : AreLaterTerms token fares.later later
+  pub whole : text ≡ terms_line (terms_at fares.meaning token) ++ later
 
 -- the entry's line of a statement, then its reason, why a ride is no transfer, and under a zone
 -- what clocks showed, as `2024-03-08T17:00:00.000Z subway 1000 paid 300 because .., no transfer
@@ -53,7 +79,7 @@ pub record IsExplainedLine (fares : Fares) (entry : Entry) (why : Reason)
   pub moment : List ℕ
   pub is : IsMomentText entry.moment moment
   pub reason_words : List ℕ
-  pub told : IsReasonWords fares why reason_words
+  pub explained : IsReasonWords fares why reason_words
   pub lack : List ℕ
   pub lacks : IsNoTransferEnd fares entry.moment why none lack
   pub local : List ℕ
@@ -114,11 +140,13 @@ pub record IsExplained (fares : Fares) (token : Token) (entries : List Entry) (t
     : Type 0 where
   pub lines : List ℕ
   pub of_entries : AreExplainedAfter fares token [] entries lines
+  pub terms : List ℕ
+  pub of_terms : AreTermsLines fares (bytes_of token) terms
   pub windows : List ℕ
   pub of_windows : AreWindowLines fares.zone (rules_of fares (bytes_of token))
       (map (tap_of fares) entries) windows
-  pub whole : text ≡ statement_head token ++ (terms_line (terms_at fares.meaning (bytes_of token))
-      ++ (lines ++ (totals_line (sums entries) ++ windows)))
+  pub whole : text ≡ statement_head token ++ (terms ++ (lines ++ (totals_line (sums entries)
+      ++ windows)))
 
 -- the explained statement of a token over a history
 abbrev pub IsExplainedOver : Fares → List Entry → Token → List ℕ → Type 0

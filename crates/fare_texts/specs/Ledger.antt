@@ -10,9 +10,9 @@ use Rattle.fare_texts.specs.LedgerLines.{AreLedgerLines, head_text}
 
 -- whose lines a ledger has: those of the one token that is asked for, or of all tokens of the
 -- history, rising, each once
-abbrev pub tokens_told : Option Token → List Entry → List Token
-tokens_told None history = tokens history
-tokens_told (Some token) history = token ∷ []
+abbrev pub ledger_tokens : Option Token → List Entry → List Token
+ledger_tokens None history = tokens history
+ledger_tokens (Some token) history = token ∷ []
 
 -- for each of these tokens, one after another, the lines of its own entries, in history order
 abbrev pub AreLinesOfEach : Fares → List Entry → List Token → List ℕ → Type 0
@@ -25,7 +25,7 @@ AreLinesOfEach fares history (token ∷ others) text =
 pub record IsLedgerOver (fares : Fares) (history : List Entry) (only : Option Token)
     (text : List ℕ) : Type 0 where
   pub lines : List ℕ
-  pub of_each : AreLinesOfEach fares history (tokens_told only history) lines
+  pub of_each : AreLinesOfEach fares history (ledger_tokens only history) lines
   pub whole : text ≡ head_text ++ lines
 
 -- the ledger of books: that of the entries of all of them, book by book, under the table of the

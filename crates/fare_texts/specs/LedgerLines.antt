@@ -29,7 +29,7 @@ abbrev pub name_or_empty : List (List ℕ) → Option ℕ → List ℕ
 name_or_empty names None = []
 name_or_empty names (Some place) = slice_index_or names place []
 
--- the name of a validator's mode at a moment, or nothing where the table does not know the validator
+-- the name of a validator's mode at a moment, or nothing if the table does not know the validator
 abbrev pub mode_field : Fares → ℕ → ℕ → List ℕ
 mode_field fares moment validator =
     name_or_empty fares.meaning.modes (mode_at fares moment validator)
@@ -42,15 +42,16 @@ line_head token number =
 -- `,1000,subway,paid,300,`
 unfoldable pub entry_fields : Fares → Entry → List ℕ
 entry_fields fares entry =
-    codes "," ++ (decimal entry.validator ++ (codes "," ++ (mode_field fares entry.moment entry.validator
+    codes "," ++ (decimal entry.validator
+    ++ (codes "," ++ (mode_field fares entry.moment entry.validator
     ++ (codes "," ++ (answer_text entry.answer
     ++ (codes "," ++ (decimal entry.cents ++ codes ",")))))))
 
--- `,1,full,`, where the ride's place in its window counts from 1
+-- `,1,full,`: the ride's place in its window, from 1
 unfoldable pub place_fields : ℕ → List ℕ → List ℕ
 place_fields place word = codes "," ++ (decimal (place + 1) ++ (codes "," ++ (word ++ codes ",")))
 
--- a ride's place and what decided its cents; no place where the ride limit is reached
+-- a ride's place and what decided its cents; no place if the ride limit is reached
 abbrev pub ride_rest : Charge → List ℕ
 ride_rest (Full place cents) = place_fields place (codes "full")
 ride_rest (CeilingCut place cents) = place_fields place (codes "ceiling-cut")
@@ -84,7 +85,7 @@ pub record IsLedgerLine (fares : Fares) (token : Token) (number : ℕ) (entry : 
   pub moment : List ℕ
   pub is : IsMomentText entry.moment moment
   pub reason_fields : List ℕ
-  pub told : IsReasonFields why reason_fields
+  pub explained : IsReasonFields why reason_fields
   pub shown : line ≡ line_head token number
       ++ (moment ++ (entry_fields fares entry ++ (reason_fields ++ codes "\n")))
 

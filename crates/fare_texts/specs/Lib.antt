@@ -10,6 +10,6 @@ pub mod PrintFaults
 pub mod ReasonWords
 pub mod ReportLines
 pub mod StatementText
-pub mod Tellers
+pub mod Explainers
 pub mod WrittenOut
 pub mod inside

@@ -7,8 +7,8 @@ use Rattle.tap_views.specs.Token.{token_cmp}
 use Rattle.shard_book.specs.declared.entry.Entry.{Entry}
 use Rattle.tap_views.specs.declared.token.Token.{Token}
 use Rattle.fare_texts.specs.LedgerLines.{IsLedgerLineAfter}
-use Rattle.fare_texts.specs.Tellers.{HasTold}
-use Rattle.fare_texts.specs.declared.teller.Teller.{Teller}
+use Rattle.fare_texts.specs.Explainers.{HasExplained}
+use Rattle.fare_texts.specs.declared.explainer.Explainer.{Explainer}
 
 -- the first token is not above the second
 abbrev pub IsUpTo : Token → Token → Type 0
@@ -41,7 +41,7 @@ AreLinesAlong fares earlier (entry ∷ entries) text =
     (line : List ℕ) × (rest : List ℕ) × IsLineAfter fares earlier entry line
     × AreLinesAlong fares (earlier ++ entry ∷ []) entries rest × (text ≡ line ++ rest)
 
--- of these entries, the teller has told those of its token; no token of theirs is above it
-pub record HasCome (fares : Fares) (teller : Teller) (earlier : List Entry) : Type 0 where
-  pub told : HasTold fares teller (own teller.token earlier)
-  pub up : AreUpTo earlier teller.token
+-- of these entries, the explainer has taken those of its token; no token of theirs is above it
+pub record HasCome (fares : Fares) (explainer : Explainer) (earlier : List Entry) : Type 0 where
+  pub explained : HasExplained fares explainer (own explainer.token earlier)
+  pub up : AreUpTo earlier explainer.token

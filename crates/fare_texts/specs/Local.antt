@@ -11,7 +11,7 @@ use Rattle.fare_table.specs.ClockView.{ClockView}
 use Rattle.fare_table.specs.Until.{moment_nanos, seconds_ahead}
 
 -- `2024-03-08T12:00:00-05:00`: what the zone's clocks show at the moment, with places of a second
--- where it has some, and how far they are ahead of UTC
+-- if it has some, and how far they are ahead of UTC
 pub record IsClockText (zone : PosixRule) (moment : ℕ) (text : List ℕ) : Type 0 where
   pub offset : Offset
   pub ahead : offset.seconds ≡ seconds_ahead zone moment

@@ -29,7 +29,7 @@ abbrev pub name_of : List (List ℕ) → Option ℕ → List ℕ
 name_of names None = codes "-"
 name_of names (Some place) = slice_index_or names place []
 
--- the name of a validator's mode at a moment, or `-` where the table does not know the validator
+-- the name of a validator's mode at a moment, or `-` if the table does not know the validator
 abbrev pub mode_text : Fares → ℕ → ℕ → List ℕ
 mode_text fares moment validator =
     name_of fares.meaning.modes (mode_at fares moment validator)
@@ -42,7 +42,8 @@ statement_head token = codes "statement " ++ (encode_lower (bytes_of token) ++ c
 unfoldable pub entry_words : Fares → Entry → List ℕ
 entry_words fares entry =
     codes " " ++ (mode_text fares entry.moment entry.validator ++ (codes " "
-    ++ (decimal entry.validator ++ (codes " " ++ (answer_text entry.answer ++ (codes " " ++ decimal entry.cents))))))
+    ++ (decimal entry.validator ++ (codes " " ++ (answer_text entry.answer
+    ++ (codes " " ++ decimal entry.cents))))))
 
 -- `2024-03-08T17:00:00.000Z subway 1000 paid 300`
 pub record IsEntryLine (fares : Fares) (entry : Entry) (line : List ℕ) : Type 0 where

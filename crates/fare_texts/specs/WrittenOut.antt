@@ -1,4 +1,4 @@
--- What stands where a text is written out.
+-- What a text that is written out has so far.
 use Rattle.std.specs.Prelude.{◌≡◌, ℕ, List, ◌++◌, Option}
 use Rattle.std.specs.Io.KnownBytes.{Appends}
 

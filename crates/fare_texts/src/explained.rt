@@ -5,12 +5,13 @@ ghost use Rattle.std.specs.Prelude.{length};
 ghost use Rattle.std.specs.Prelude.{string_bytes};
 ghost use Rattle.std.specs.Io.KnownBytes.{Appends};
 ghost use Rattle.shard_book.specs.Sums.{sums, sums_of};
-ghost use Rattle.fare_texts.specs.Explained.{IsExplained, IsExplainedOf, terms_line};
+ghost use Rattle.fare_texts.specs.Explained.{IsExplained, IsExplainedOf};
 ghost use Rattle.fare_texts.specs.PrintFaults.{KeepsUnlessWrite};
 ghost use Rattle.fare_texts.specs.WrittenOut.{Begins};
 ghost use Rattle.fare_texts.specs.declared.print_fault.PrintFault.TheVariants.{Write as ForWrite};
 
 mod lines;
+mod terms;
 mod window_lines;
 mod windows;
 
@@ -18,24 +19,14 @@ use crate::entries::own_of;
 use crate::ledger::table_of;
 use crate::lines::pass_on;
 use crate::{PrintFault, write_statement_head, write_totals};
-use fare_table::{FareTable, Terms};
+use fare_table::FareTable;
 use lines::write_lines;
 use shard_book::{Entry, ShardBook, totals_of_entries};
-use std::alloc::{AllocError, Global};
+use std::alloc::Global;
 use std::io::Write;
 use tap_views::{NoMemory, Token};
+use terms::write_terms;
 use window_lines::write_windows;
-
-/// Appends the line of the token's terms.
-#[tactic(auto, unfolding(crate::specs::Explained::terms_line))]
-fn write_terms(text: &mut String, terms: Terms) -> Result<(), AllocError>
-    ensures { OnOk result (string_bytes text.new ≡ string_bytes text.old ++ terms_line terms) }
-{
-    let fare = terms.fare;
-    let rides = terms.rides;
-    let ceiling = terms.ceiling;
-    writeln!(text, "terms fare {fare} rides {rides} ceiling {ceiling}")
-}
 
 /// The explained statement of a token that has these entries.
 fn text_of(
@@ -50,7 +41,7 @@ fn text_of(
     let bytes = token.bytes();
     let mut text = String::new(alloc);
     write_statement_head(&mut text, token)?;
-    write_terms(&mut text, table.terms_of(&bytes))?;
+    write_terms(&mut text, table, &bytes)?;
     write_lines(&mut text, table, &clock, token, entries)?;
     write_totals(&mut text, &totals_of_entries(entries))?;
     write_windows(alloc, &mut text, table, &clock, token, entries)?;
@@ -89,7 +80,8 @@ fn explained_text(alloc: Global, books: &[ShardBook], token: Token) -> Result<St
     Ok(text)
 }
 
-/// Writes the explained statement of a token: the head line, the token's terms, its entries, each
+/// Writes the explained statement of a token: the head line, the token's terms by each
+/// table, its entries, each
 /// with the account rule's reason for it after its earlier entries, their totals, and all its
 /// windows, the last one last. Under a zone each entry and each window has its local times too. All
 /// memory is taken before the first byte is written: on a fault of memory nothing was.

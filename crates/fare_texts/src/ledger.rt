@@ -37,7 +37,7 @@ pub(crate) fn table_of(books: &[ShardBook]) -> &FareTable
     books[0].table()
 }
 
-/// The head line, in a text with room for a piece and so many bytes more.
+/// The head line, in a text with room for a piece and these bytes more.
 pub fn head_with_room(alloc: Global, more: usize) -> Result<String, NoMemory>
     requires { more < 2 ^ 32 }
     ensures { IfOk result (λ text. string_bytes text ≡ head_text) }

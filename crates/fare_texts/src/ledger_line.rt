@@ -56,7 +56,7 @@ fn write_fields(text: &mut String, table: &FareTable, entry: &Entry) -> Result<(
     write!(text, ",{validator},{mode},{answer},{cents},")
 }
 
-/// The name of the validator's mode at the moment, or nothing where the table does not know the
+/// The name of the validator's mode at the moment, or nothing if the table does not know the
 /// validator.
 fn mode_field(table: &FareTable, moment: u64, validator: u32) -> &str
     ensures { result.now ≡ mode_field table.now moment validator }

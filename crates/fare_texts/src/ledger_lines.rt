@@ -3,7 +3,7 @@
 ghost use Rattle.std.specs.Prelude.{◌≡◌, ◌++◌, OnOk, List, ℕ, codes, string_bytes};
 ghost use Rattle.fare_texts.specs.LedgerLines.{AreLedgerLines, head_text};
 
-use crate::teller::Teller;
+use crate::explainer::Explainer;
 use fare_table::{Clock, FareTable};
 use shard_book::Entry;
 use tap_views::{NoMemory, Token};
@@ -28,9 +28,9 @@ pub fn write_token_lines(
     ensures { OnOk result ((written : List ℕ) × AreLedgerLines table.now token entries.now written
         × (string_bytes text.new ≡ string_bytes text.old ++ written)) }
 {
-    let mut teller = Teller::of(token);
+    let mut explainer = Explainer::of(token);
     for entry in entries {
-        teller.write_next(text, table, clock, entry)?;
+        explainer.write_next(text, table, clock, entry)?;
     }
     Ok(())
 }

@@ -13,14 +13,14 @@ ghost use Rattle.tap_views.specs.declared.token.Token.{Token};
 ghost use Rattle.shard_book.specs.declared.entry.Entry.{Entry};
 
 use crate::spot::Spot;
-use crate::{PrintFault, Teller, write_out};
+use crate::{Explainer, PrintFault, write_out};
 use fare_table::{Clock, FareTable};
 use shard_book::ShardBook;
 use std::io::Write;
 use tap_views::Token;
 
-/// How many bytes wait at least before they are written out: so many that a write is little beside
-/// them.
+/// How many bytes wait at least before they are written out: enough that a write costs little
+/// beside them.
 pub const PIECE_BYTES: usize = 65_536;
 
 /// Writes out what waits in the text, whose room stays.
@@ -39,7 +39,7 @@ pub fn pass_on<W: Write>(text: &mut String, out: &mut W) -> Result<(), PrintFaul
     Ok(())
 }
 
-/// Writes out what waits in the text, where it is a piece: `PIECE_BYTES` or more.
+/// Writes out what waits in the text, if it is a piece: `PIECE_BYTES` or more.
 pub fn pass_piece<W: Write>(text: &mut String, out: &mut W) -> Result<(), PrintFault>
     ensures kept { OnOk result (Keeps (append_known (W.contents out.old) (string_bytes text.old))
         (append_known (W.contents out.new) (string_bytes text.new))) }
@@ -56,16 +56,16 @@ pub fn pass_piece<W: Write>(text: &mut String, out: &mut W) -> Result<(), PrintF
 }
 
 #[inline]
-/// Goes on with the token of the next entry, which is not below the teller's own: another token
+/// Goes on with the token of the next entry, which is not below the explainer's own: another token
 /// begins afresh.
-pub fn go_on_to(teller: &mut Teller, token: Token)
-    ensures come { (fares : Fares) (earlier : List Entry) → HasCome fares teller.old earlier
-        → IsUpTo teller.old.token token → HasCome fares teller.new earlier }
-    ensures token { teller.new.token ≡ token }
-    ensures few { teller.new.number ≤ teller.old.number }
+pub fn go_on_to(explainer: &mut Explainer, token: Token)
+    ensures come { (fares : Fares) (earlier : List Entry) → HasCome fares explainer.old earlier
+        → IsUpTo explainer.old.token token → HasCome fares explainer.new earlier }
+    ensures token { explainer.new.token ≡ token }
+    ensures few { explainer.new.number ≤ explainer.old.number }
 {
-    if teller.token != token {
-        *teller = Teller::of(token);
+    if explainer.token != token {
+        *explainer = Explainer::of(token);
     }
 }
 
@@ -91,13 +91,13 @@ fn write_pieces<W: Write>(
         × Begins (W.contents out.old) (W.contents out.new) (string_bytes text.old ++ lines)) }
     ensures fault { IfErr result (λ fault. fault ≡ ForWrite) }
 {
-    let mut teller = Teller::of(first);
+    let mut explainer = Explainer::of(first);
     for spot in spots {
         pass_piece(text, out)?;
         let entry = spot.entry(books);
-        go_on_to(&mut teller, entry.token);
+        go_on_to(&mut explainer, entry.token);
         // The text has room for a line, so that none is refused.
-        let Ok(()) = teller.write_next(text, table, clock, &entry) else {
+        let Ok(()) = explainer.write_next(text, table, clock, &entry) else {
             return Err(PrintFault::Write);
         };
     }

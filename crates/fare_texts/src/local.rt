@@ -17,8 +17,7 @@ use jiff::tz::Offset;
 use std::alloc::AllocError;
 
 /// Appends the words and what clocks of the table's zone show at the moment, in milliseconds since
-/// 1970-01-01T00:00Z, as `2024-03-08T12:00:00-05:00`. Appends nothing where the table names no
-/// zone.
+/// 1970-01-01T00:00Z, as `2024-03-08T12:00:00-05:00`. Appends nothing if the table names no zone.
 pub fn write_local(
     text: &mut String,
     clock: &Clock,

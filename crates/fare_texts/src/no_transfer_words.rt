@@ -80,7 +80,7 @@ fn write_ride_too_late(text: &mut String, ride: u64, gap: u64) -> Result<(), All
     write_gap(text, gap)
 }
 
-/// Appends ` is 2 h 3 min 10 s earlier`, for so many milliseconds.
+/// Appends ` is 2 h 3 min 10 s earlier`, for these milliseconds.
 #[tactic(auto, unfolding(crate::specs::NoTransferWords::gap_words))]
 fn write_gap(text: &mut String, gap: u64) -> Result<(), AllocError>
     ensures { OnOk result (string_bytes text.new ≡ string_bytes text.old ++ gap_words gap) }

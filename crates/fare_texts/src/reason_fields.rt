@@ -2,7 +2,8 @@
 //! moment that it points at.
 
 ghost use Rattle.std.specs.Prelude.{◌≡◌, ◌+◌, ◌++◌, List, ℕ, OnOk, string_bytes};
-ghost use Rattle.fare_texts.specs.LedgerLines.{IsReasonFields, IsPointing, IsRideFields, place_fields};
+ghost use Rattle.fare_texts.specs.LedgerLines.{IsReasonFields, IsPointing, IsRideFields};
+ghost use Rattle.fare_texts.specs.LedgerLines.{place_fields};
 ghost use Rattle.fare_texts.specs.LedgerLines.{ride_rest};
 
 use crate::write_moment;

@@ -21,7 +21,7 @@ pub(crate) struct Spot {
     bits: u64,
 }
 
-/// What stands where no entry is.
+/// What stands at a place without an entry.
 fn nothing() -> Entry
     ensures { result ≡ no_entry }
 {
@@ -38,7 +38,7 @@ fn nothing() -> Entry
 }
 
 impl Spot {
-    /// The spot of an entry. Places that do not fit, of some 2^48 entries, are told as want of
+    /// The spot of an entry. Places that do not fit, of some 2^48 entries, are reported as want of
     /// memory.
     pub(crate) fn of(book: usize, place: u64) -> Result<Self, NoMemory>
         ensures book { IfOk result (λ spot. book_at spot ≡ book) }

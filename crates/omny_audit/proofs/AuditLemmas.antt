@@ -1,4 +1,4 @@
--- What is told of a ledger and of a report, by its parts.
+-- What is found of a ledger and of a report, by its parts.
 use Rattle.std.proofs.Common.{◌≡◌, ◌∙◌, ℕ, Bool, true, false, List, [], Option, Some, None, refl}
 use Rattle.std.proofs.Common.{sym, ap, subst}
 use Rattle.std.specs.Prelude.{◌↔◌, ◌&&◌, ◌||◌, is_some, not}
@@ -11,7 +11,7 @@ use Rattle.ledger_check.specs.Ledger.{IsLedgerOf}
 use Rattle.omny_audit.specs.Findings.{FindingsDecide, FullFindingsDecide, IsFindingOf}
 use Rattle.omny_audit.specs.Findings.{IsRightLedger}
 use Rattle.omny_audit.specs.Reports.{HasOwnReport, IsAudit, IsReportLine, IsRightAudit}
-use Rattle.omny_audit.specs.Traced.{AreColumnsTold, HasRightColumns, HasRightPlaces, IsFaultBehind}
+use Rattle.omny_audit.specs.Traced.{AreColumnsReported, HasRightColumns, HasRightPlaces, IsFaultBehind}
 use Rattle.omny_audit.specs.Traced.{IsPlaceFault, ReadLine, Wanted, have_place, wrong_class}
 use Rattle.omny_audit.specs.Traced.{wrong_place}
 use Rattle.omny_audit.specs.declared.traced.PlaceFault.{PlaceFault}
@@ -39,18 +39,18 @@ own_of verdicts fares ledger None legal rest fits entries line is of = tt
 own_of verdicts fares ledger (Some report) false rest fits entries line is of =
     absurd (false_true (sym line.1 ∙ is))
 own_of verdicts fares ledger (Some report) true rest fits entries line is of =
-    (verdicts entries report line.verdict (line.true_of entries of)).0 (sym line.told ∙ is)
+    (verdicts entries report line.verdict (line.true_of entries of)).0 (sym line.reported ∙ is)
 
 -- and that of the ledger's entries is right
 fits_of : ReportVerdictsDecide → (fares : Fares) (ledger : List ℕ) (report : Option (List ℕ))
     (legal : Bool) (rest : List ℕ) (fits : Bool) (entries : List Entry) → legal ≡ true
     → IsReportLine fares ledger report legal rest fits → IsLedgerOf fares entries ledger
     → HasOwnReport report entries → fits ≡ true
-fits_of verdicts fares ledger None legal rest fits entries told line of own = line.1
-fits_of verdicts fares ledger (Some report) false rest fits entries told line of own =
-    absurd (false_true told)
-fits_of verdicts fares ledger (Some report) true rest fits entries told line of own =
-    line.told ∙ (verdicts entries report line.verdict (line.true_of entries of)).1 own
+fits_of verdicts fares ledger None legal rest fits entries reported line of own = line.1
+fits_of verdicts fares ledger (Some report) false rest fits entries reported line of own =
+    absurd (false_true reported)
+fits_of verdicts fares ledger (Some report) true rest fits entries reported line of own =
+    line.reported ∙ (verdicts entries report line.verdict (line.true_of entries of)).1 own
 
 -- columns that are right
 none_of : {A : Type 0} (wrong : Option A) → not (is_some wrong) ≡ true → wrong ≡ None
@@ -85,13 +85,13 @@ right_places (Some uploads) read fault is has =
     by_fault (Some (NoLine upload place)) is = absurd (has.1 upload place is.is)
 
 columns_right : (wanted : Option Wanted) (looked : Bool) (file : List ℕ)
-    (read : List ReadLine) (told : List ℕ) (right : Bool)
-    → AreColumnsTold wanted looked file read told right → right ≡ true
+    (read : List ReadLine) (reported : List ℕ) (right : Bool)
+    → AreColumnsReported wanted looked file read reported right → right ≡ true
     → HasRightColumns wanted file read
-columns_right None looked file read told right is holds = tt
-columns_right (Some wanted) false file read told right is holds = absurd
+columns_right None looked file read reported right is holds = tt
+columns_right (Some wanted) false file read reported right is holds = absurd
     (false_true (sym is.1 ∙ holds))
-columns_right (Some wanted) true file read told right is holds =
+columns_right (Some wanted) true file read reported right is holds =
     let parts = and_parts (not (is_some (wrong_class wanted.classes read))) (not (is_some is.1))
     (sym is.4 ∙ holds) in (
       is.0,
@@ -101,12 +101,12 @@ columns_right (Some wanted) true file read told right is holds =
     )
 
 right_columns : (wanted : Option Wanted) (looked : Bool) (file : List ℕ)
-    (read : List ReadLine) (told : List ℕ) (right : Bool)
-    → looked ≡ true → AreColumnsTold wanted looked file read told right
+    (read : List ReadLine) (reported : List ℕ) (right : Bool)
+    → looked ≡ true → AreColumnsReported wanted looked file read reported right
     → HasRightColumns wanted file read → right ≡ true
-right_columns None looked file read told right look is has = is.1
-right_columns (Some wanted) false file read told right look is has = absurd (false_true look)
-right_columns (Some wanted) true file read told right look is has =
+right_columns None looked file read reported right look is has = is.1
+right_columns (Some wanted) false file read reported right look is has = absurd (false_true look)
+right_columns (Some wanted) true file read reported right look is has =
     is.4 ∙ ap (λ (w : Option WrongClass). not (is_some w) && not (is_some is.1)) has.1
     ∙ ap (λ (f : Option PlaceFault). not (is_some f)) (right_places wanted.uploads read is.1 is.2
     has.2)

@@ -78,9 +78,9 @@ end_well (Some good) taps legal rest well entries even is
     ∙ ap (λ (s : List TapFields). are_none [] s) none.1
 
 pub decides : RecountsDecide → ((good taps : List TapFields) → Even good taps)
-    → (fares : Fares) (text : List ℕ) (good : Option (List TapFields)) (told : List ℕ) (well : Bool)
-    → IsFullFinding fares text good told well → (well ≡ true) ↔ IsRightLedger fares text good
-decides recounts even fares text good told well finding =
+    → (fares : Fares) (text : List ℕ) (good : Option (List TapFields)) (reported : List ℕ) (well : Bool)
+    → IsFullFinding fares text good reported well → (well ≡ true) ↔ IsRightLedger fares text good
+decides recounts even fares text good reported well finding =
     let taken = finding.taken in
     let taps = taps_from taken in
     let all = recounts fares text taken finding.recount in

@@ -1,8 +1,11 @@
 pub mod AuditLemmas
 pub mod FindingLemmas
 pub mod FullFindingLemmas
+pub mod Handing
+pub mod LoadedTables
 pub mod ProgramLemmas
 pub mod ReadLemmas
+pub mod TableFaults
 pub mod TapLines
 pub mod TraceLemmas
 pub mod Written

@@ -8,48 +8,57 @@ use Rattle.std.specs.Io.KnownBytes.{Consumes, IsAtEnd, Keeps}
 use Rattle.std.specs.Fmt.{option_append}
 use Rattle.std.specs.Str.{bytes_eq}
 use Rattle.ledger_check.specs.Columns.{has_traced_head, traced_head}
-use Rattle.std.specs.Result.{IsErrAnd, IsErrOf}
-use Rattle.fare_table.specs.declared.fault.TableFault.{TableFault}
+use Rattle.fare_table.specs.Fares.{Fares}
 use Rattle.std.proofs.lemmas.Bool.Decides.{nat_tests}
 use Rattle.std.proofs.lemmas.List.{map-append, take-append-le}
 use Rattle.clap.specs.Words.{Text}
 use Rattle.ledger_check.specs.Balances.{AreGoodFields}
 use Rattle.tap_views.specs.declared.encoder.TapFields.{TapFields}
 use Rattle.omny_audit.specs.Fault.{IsRightFault, NamesOneOf, is_unwritten, named_by}
-use Rattle.omny_audit.specs.Options.{AuditAsked, files_of, named_file}
+use Rattle.omny_audit.specs.Options.{AuditAsked, files_of, named_file, table_files}
 use Rattle.omny_audit.specs.declared.fault.Fault.{Fault}
-use Rattle.omny_audit.specs.declared.fault.Fault.TheVariants.{ClassName, File, Ledger, Table, Write}
-use Rattle.omny_audit.specs.declared.fault.Fault.TheVariants.{Closed, NoMemory}
+use Rattle.omny_audit.specs.declared.fault.Fault.TheVariants.{ClassName, Closed, Date, File, Follow}
+use Rattle.omny_audit.specs.declared.fault.Fault.TheVariants.{Ledger, NamedClass, NamedTable, NoMemory}
+use Rattle.omny_audit.specs.declared.fault.Fault.TheVariants.{Table, Write}
 use Rattle.omny_audit.specs.Program.{AreGoodFieldsOfAll, AreGoodFieldsOfEach, AreWanted}
 use Rattle.omny_audit.specs.Program.{IsRightAuditFault, IsTracedAs}
 use Rattle.omny_audit.specs.Program.{LoadsNamedFiles, LoadsReport, compared}
 use Rattle.omny_audit.specs.Source.{OpensOne}
 use Rattle.omny_audit.specs.Traced.{Wanted}
+use Rattle.omny_audit.proofs.TableFaults.{classes_are_right}
+use Rattle.settled_texts.specs.ClassFaults.{IsWrongAt}
+use Rattle.settled_texts.specs.declared.class_names.WrongNames.{WrongNames}
+use Rattle.program_manners.specs.TableLoads.{LoadsTables}
+use Rattle.program_manners.specs.TableViews.{wrong_of}
+use Rattle.program_manners.specs.TableWords.{TableNames, date_text, wrong_word}
+use Rattle.program_manners.specs.declared.table_words.DateFault.{DateFault}
+use Rattle.program_manners.specs.declared.table_words.WrongWord.{WrongWord}
 use Rattle.program_manners.specs.Refusals.{IsOneOf}
 use Rattle.program_manners.proofs.Refusals.{is_one_at}
-use Rattle.omny_audit.specs.inside.Fault.{IsRightOfNames, is_of_loading}
+use Rattle.omny_audit.specs.inside.Fault.{is_of_loading}
+use Rattle.omny_audit.specs.inside.Tables.{IsClassFault}
 use Rattle.omny_audit.specs.inside.Source.{IsAllOf}
-use Rattle.program_manners.specs.Loads.{Loaded, Tells, TellsOne}
+use Rattle.program_manners.specs.Loads.{Loaded, LoadsAll, LoadsOne}
 use Rattle.program_manners.specs.declared.loading.LoadFault.{LoadFault}
-use Rattle.program_manners.proofs.LoadsOn.{tells_on}
+use Rattle.program_manners.proofs.LoadsOn.{loads_more}
 
-pub tells_none : (told : Option (List Loaded)) → Tells told told []
-tells_none None = tt
-tells_none (Some before) = sym (append-nil before)
+pub reports_none : (loaded : Option (List Loaded)) → LoadsAll loaded loaded []
+reports_none None = tt
+reports_none (Some before) = sym (append-nil before)
 
 -- one more file that was loaded
-pub loads_push : (names : List Text) (name : Text) (told told' told'' : Option (List Loaded))
+pub loads_push : (names : List Text) (name : Text) (loaded loaded' loaded'' : Option (List Loaded))
     (files : List (List ℕ)) (bytes : List ℕ)
-    → LoadsNamedFiles names told told' files → TellsOne told' told'' (Some name) bytes
-    → LoadsNamedFiles (names ++ name ∷ []) told told'' (files ++ bytes ∷ [])
-loads_push names name told told' told'' files bytes all one = record {
+    → LoadsNamedFiles names loaded loaded' files → LoadsOne loaded' loaded'' (Some name) bytes
+    → LoadsNamedFiles (names ++ name ∷ []) loaded loaded'' (files ++ bytes ∷ [])
+loads_push names name loaded loaded' loaded'' files bytes all one = record {
   loads = all.loads ++ record { name = Some name; bytes = bytes } ∷ [];
   named = map-append (λ (load : Loaded). load.name) all.loads _
       ∙ ap (λ (xs : List (Option Text)). xs ++ Some name ∷ []) all.named
       ∙ sym (map-append Some names (name ∷ []));
   bytes = map-append (λ (load : Loaded). load.bytes) all.loads _
       ∙ ap (λ (xs : List (List ℕ)). xs ++ bytes ∷ []) all.bytes;
-  told_is = tells_on told told' told'' all.loads _ all.told_is one;
+  is_loaded = loads_more loaded loaded' loaded'' all.loads _ all.is_loaded one;
 }
 
 -- and the taps of one more
@@ -66,14 +75,14 @@ posted_push (first ∷ uploads) good upload taps all one = (
   ap (λ (xs : List TapFields). xs ++ taps) all.4 ∙ append_assoc all.0 all.1 taps,
 )
 
--- what a reader had is what the source tells
+-- what a reader had is what the source has as loaded
 pub opened : (before after : Option (List Loaded)) (name : Option Text) (left : Option (List ℕ))
     (text : List ℕ) → OpensOne before after name left
-    → IsAllOf left text → TellsOne before after name text
+    → IsAllOf left text → LoadsOne before after name text
 opened None after name left text opens all = tt
 opened (Some before) after name None text opens all = absurd opens
 opened (Some before) after name (Some known) text opens all =
-    subst (λ (t : List ℕ). TellsOne (Some before) after name t) all opens
+    subst (λ (t : List ℕ). LoadsOne (Some before) after name t) all opens
 
 -- the taps of each upload, one more
 pub each_push : (uploads : List (List ℕ)) (lists : List (List TapFields)) (upload : List ℕ)
@@ -89,7 +98,7 @@ each_push (first ∷ uploads) (list ∷ lists) upload taps all one =
 not_zero : (n : ℕ) → nat_eq (suc n) 0 ≡ false
 not_zero n = grind (arith, nat_tests)
 
--- taps are compared where uploads are named
+-- taps are compared if uploads are named
 pub compared_is : {A : Type 0} (names : List (Bor Text)) (good : A) (has : Bool)
     → has ≡ not (nat_eq (length names) 0)
     → (if has then Some good else None) ≡ compared (map (λ n. n.now) names) good
@@ -100,11 +109,11 @@ compared_is (name ∷ names) good has is =
 
 -- a fault that names one at a place names one of the names
 pub names_at : (names : List (Bor Text)) (k : ℕ) (d : Bor Text) (fault : Fault) → k < length names
-    → IfSome (named_by fault) (λ told. told ≡ (get_or names k d).now)
+    → IfSome (named_by fault) (λ reported. reported ≡ (get_or names k d).now)
     → NamesOneOf (map (λ n. n.now) names) fault
 names_at names k d fault within is = weaker (named_by fault) is
   where
-    weaker : (o : Option Text) → IfSome o (λ told. told ≡ (get_or names k d).now)
+    weaker : (o : Option Text) → IfSome o (λ reported. reported ≡ (get_or names k d).now)
         → IfSome o (λ name. IsOneOf name (map (λ n. n.now) names))
     weaker None is = tt
     weaker (Some name) is = is_one_at names k d name within is
@@ -125,6 +134,16 @@ is_one_last : (name : Text) (names : List Text) (last : Text) → name ≡ last
 is_one_last name [] last is = inl is
 is_one_last name (n ∷ names) last is = inr (is_one_last name names last is)
 
+-- the fault is about a file of the tables
+pub at_tables : (asked : AuditAsked) (fault : Fault) → NamesOneOf (table_files asked.table) fault
+    → NamesOneOf (files_of asked) fault
+at_tables asked fault is = weaker (named_by fault) is
+  where
+    weaker : (o : Option Text) → IfSome o (λ name. IsOneOf name (table_files asked.table))
+        → IfSome o (λ name. IsOneOf name (files_of asked))
+    weaker None is = tt
+    weaker (Some name) is = is_one_left name (table_files asked.table) _ is
+
 pub at_uploads : (asked : AuditAsked) (fault : Fault) → NamesOneOf asked.uploads fault
     → NamesOneOf (files_of asked) fault
 at_uploads asked fault is = weaker (named_by fault) is
@@ -132,8 +151,8 @@ at_uploads asked fault is = weaker (named_by fault) is
     weaker : (o : Option Text) → IfSome o (λ name. IsOneOf name asked.uploads)
         → IfSome o (λ name. IsOneOf name (files_of asked))
     weaker None is = tt
-    weaker (Some name) is =
-        inr (is_one_left name (asked.uploads ++ named_file asked.report) _
+    weaker (Some name) is = is_one_right name (table_files asked.table) _
+        (is_one_left name (asked.uploads ++ named_file asked.report) _
         (is_one_left name asked.uploads (named_file asked.report) is))
 
 pub at_report : (asked : AuditAsked) (fault : Fault) → NamesOneOf (named_file asked.report) fault
@@ -143,49 +162,44 @@ at_report asked fault is = weaker (named_by fault) is
     weaker : (o : Option Text) → IfSome o (λ name. IsOneOf name (named_file asked.report))
         → IfSome o (λ name. IsOneOf name (files_of asked))
     weaker None is = tt
-    weaker (Some name) is =
-        inr (is_one_left name (asked.uploads ++ named_file asked.report) _
+    weaker (Some name) is = is_one_right name (table_files asked.table) _
+        (is_one_left name (asked.uploads ++ named_file asked.report) _
         (is_one_right name asked.uploads (named_file asked.report) is))
 
 -- a fault about the one file that is named
-pub names_single : (name : Text) (fault : Fault) → IfSome (named_by fault) (λ told. told ≡ name)
+pub names_single : (name : Text) (fault : Fault) → IfSome (named_by fault) (λ reported. reported ≡ name)
     → NamesOneOf (name ∷ []) fault
 names_single name fault is = weaker (named_by fault) is
   where
-    weaker : (o : Option Text) → IfSome o (λ told. told ≡ name)
+    weaker : (o : Option Text) → IfSome o (λ reported. reported ≡ name)
         → IfSome o (λ other. IsOneOf other (name ∷ []))
     weaker None is = tt
     weaker (Some other) is = inl is
 
 pub at_ledger : (asked : AuditAsked) (fault : Fault)
-    → IfSome (named_by fault) (λ told. told ≡ unwrap_or asked.ledger (codes "standard input"))
+    → IfSome (named_by fault) (λ reported. reported ≡ unwrap_or asked.ledger (codes "standard input"))
     → NamesOneOf (files_of asked) fault
 at_ledger asked fault is = weaker (named_by fault) is
   where
     weaker : (o : Option Text)
-        → IfSome o (λ told. told ≡ unwrap_or asked.ledger (codes "standard input"))
+        → IfSome o (λ reported. reported ≡ unwrap_or asked.ledger (codes "standard input"))
         → IfSome o (λ name. IsOneOf name (files_of asked))
     weaker None is = tt
-    weaker (Some name) is = inr (is_one_last name (asked.uploads ++ named_file asked.report) _ is)
+    weaker (Some name) is = is_one_right name (table_files asked.table) _
+        (is_one_last name (asked.uploads ++ named_file asked.report) _ is)
 
 -- a fault that names nothing names no other
 pub names_none : (names : List Text) (fault : Fault) → named_by fault ≡ None
     → NamesOneOf names fault
 names_none names fault none = rw none tt
 
--- a fault that is handed on
-pub handed_on : {A : Type 0} (r : Result A Fault) (fault : Fault) (P : Fault → Type 0)
-    → IsErrAnd r (λ e. e ≡ fault) → P fault → IfErr r P
-handed_on (Ok x) fault P same is = tt
-handed_on (Err e) fault P same is = subst P (sym same) is
-
 -- the same names, lent twice
-pub loads_same : (names same : List (Bor Text)) (told told' : Option (List Loaded))
+pub loads_same : (names same : List (Bor Text)) (loaded loaded' : Option (List Loaded))
     (files : List (List ℕ)) → names ≡ same
-    → LoadsNamedFiles (map (λ n. n.now) names) told told' files
-    → LoadsNamedFiles (map (λ n. n.now) same) told told' files
-loads_same names same told told' files is loads =
-    subst (λ (ns : List (Bor Text)). LoadsNamedFiles (map (λ n. n.now) ns) told told' files) is
+    → LoadsNamedFiles (map (λ n. n.now) names) loaded loaded' files
+    → LoadsNamedFiles (map (λ n. n.now) same) loaded loaded' files
+loads_same names same loaded loaded' files is loads =
+    subst (λ (ns : List (Bor Text)). LoadsNamedFiles (map (λ n. n.now) ns) loaded loaded' files) is
     loads
 
 pub names_same : (names same : List (Bor Text)) (fault : Fault) → names ≡ same
@@ -194,16 +208,20 @@ names_same names same fault is one =
     subst (λ (ns : List (Bor Text)). NamesOneOf (map (λ n. n.now) ns) fault) is one
 
 -- a fault that comes after all files were loaded
-pub right_later : (table : Text) (told told' : Option (List Loaded))
+pub right_later : (tables : TableNames) (before after : Option (List Loaded))
     (refused : Option (Option (List ℕ) × LoadFault)) (fault : Fault)
-    → is_of_loading fault ≡ false → IsRightFault table told told' refused fault
-right_later table told told' refused (File file) later = absurd (cc)
-right_later table told told' refused Ledger later = tt
-right_later table told told' refused (Table fault) later = absurd (cc)
-right_later table told told' refused ClassName later = absurd (cc)
-right_later table told told' refused Write later = tt
-right_later table told told' refused Closed later = tt
-right_later table told told' refused NoMemory later = tt
+    → is_of_loading fault ≡ false → IsRightFault tables before after refused fault
+right_later tables before after refused (File file) later = absurd (cc)
+right_later tables before after refused Ledger later = tt
+right_later tables before after refused (Date wrong) later = absurd (cc)
+right_later tables before after refused (Table fault) later = absurd (cc)
+right_later tables before after refused (NamedTable line) later = absurd (cc)
+right_later tables before after refused (Follow line) later = absurd (cc)
+right_later tables before after refused ClassName later = absurd (cc)
+right_later tables before after refused (NamedClass line) later = absurd (cc)
+right_later tables before after refused Write later = tt
+right_later tables before after refused Closed later = tt
+right_later tables before after refused NoMemory later = tt
 
 -- what two clauses say of an error
 pub both_err : {A : Type 0} (r : Result A Fault) (P Q R : Fault → Type 0)
@@ -212,11 +230,11 @@ both_err (Ok x) P Q R both p q = tt
 both_err (Err e) P Q R both p q = both e p q
 
 -- a fault of loading is no write that failed
-pub written_first : (asked : AuditAsked) (told told' : Option (List Loaded))
+pub written_first : (asked : AuditAsked) (loaded loaded' : Option (List Loaded))
     (refused : Option (Option (List ℕ) × LoadFault)) (fault : Fault) (out out' : Option (List ℕ))
-    → is_unwritten fault ≡ false → IsRightFault asked.table told told' refused fault
-    → IsRightAuditFault asked told told' refused fault out out'
-written_first asked told told' refused fault out out' written right = record {
+    → is_unwritten fault ≡ false → IsRightFault asked.table loaded loaded' refused fault
+    → IsRightAuditFault asked loaded loaded' refused fault out out'
+written_first asked loaded loaded' refused fault out out' written right = record {
   right = right;
   begun = λ all un. absurd (apart (sym written ∙ un));
 }
@@ -230,7 +248,7 @@ pub lent_name : (name : Option (Bor Text)) (usual : Bor Text)
 lent_name None usual = refl
 lent_name (Some n) usual = refl
 
--- what is left behind where a write failed
+-- what a write that failed left
 pub unwritten_on : {A : Type 0} (r : Result A Fault) (P : Type 0) → P
     → IfErr r (λ fault. is_unwritten fault ≡ true → P)
 unwritten_on (Ok x) P is = tt
@@ -271,70 +289,66 @@ headed (Some before) after name (Some xs) (Some ys) head file opens reads enough
     enough
 
 -- a ledger that was opened, whose first bytes were read first
-pub record ReadsLedger (before after : Option (List Loaded)) (name : Option Text) (table : List ℕ)
-    (uploads : Option (List (List TapFields))) (wanted : Option Wanted) (file : List ℕ)
+pub record ReadsLedger (before after : Option (List Loaded)) (name : Option Text) (fares : Fares)
+    (texts : List (List ℕ)) (uploads : Option (List (List TapFields))) (wanted : Option Wanted)
+    (file : List ℕ)
     : Type 0 where
-  pub told : TellsOne before after name file
+  pub is_loaded : LoadsOne before after name file
   pub traced : Bool
   pub is_traced : IsTracedAs before file traced
-  pub are_wanted : AreWanted table traced uploads wanted
+  pub are_wanted : AreWanted fares texts traced uploads wanted
 
 pub reads_ledger : (before after : Option (List Loaded)) (name : Option Text)
-    (left left' whole : Option (List ℕ)) (head begun table lent file : List ℕ)
+    (left left' whole : Option (List ℕ)) (head begun : List ℕ) (fares : Fares)
+    (texts : List (List ℕ)) (file : List ℕ)
     (kept uploads : Option (List (List TapFields))) (wanted : Option Wanted)
     → OpensOne before after name left
     → Consumes left left' head → IsAtEnd left' ⊎ (length traced_head ≤ length head)
-    → begun ≡ head → lent ≡ table → kept ≡ uploads → whole ≡ option_append (Some head) left'
-    → IsAllOf whole file → AreWanted lent (has_traced_head begun) kept wanted
-    → ReadsLedger before after name table uploads wanted file
-reads_ledger before after name left left' whole head begun table lent file kept uploads wanted opens
-    reads enough same_head same_table same_uploads is all named =
+    → begun ≡ head → kept ≡ uploads → whole ≡ option_append (Some head) left'
+    → IsAllOf whole file → AreWanted fares texts (has_traced_head begun) kept wanted
+    → ReadsLedger before after name fares texts uploads wanted file
+reads_ledger before after name left left' whole head begun fares texts file kept uploads wanted
+    opens reads enough same_head same_uploads is all named =
     let rest = subst (λ (w : Option (List ℕ)). IsAllOf w file) is all in
     record {
-      told = opened before after name left file opens (chained left left' head file reads rest);
+      is_loaded = opened before after name left file opens (chained left left' head file reads rest);
       traced = has_traced_head head;
       is_traced = headed before after name left left' head file opens reads enough rest;
-      are_wanted = subst (λ (u : Option (List (List TapFields))). AreWanted table
+      are_wanted = subst (λ (u : Option (List (List TapFields))). AreWanted fares texts
           (has_traced_head head) u wanted) same_uploads
-          (subst (λ (t : List ℕ). AreWanted t (has_traced_head head) kept wanted) same_table
-          (subst (λ (h : List ℕ). AreWanted lent (has_traced_head h) kept wanted) same_head named));
+          (subst (λ (h : List ℕ). AreWanted fares texts (has_traced_head h) kept wanted) same_head
+          named);
     }
 
--- what was loaded after the table, where the ledger was opened
-pub loaded_report : (name : Option Text) (told told' : Option (List Loaded))
-    (report : Option (List ℕ)) → LoadsReport name told told' report
-    → (more : List Loaded) × Tells told told' more
-loaded_report None told told' report is =
-    ([], subst (λ (t : Option (List Loaded)). Tells told t []) (sym is.0) (tells_none told))
-loaded_report (Some name) told told' report is = (_, is.1)
+-- what was loaded after the table, once the ledger was opened
+pub loaded_report : (name : Option Text) (loaded loaded' : Option (List Loaded))
+    (report : Option (List ℕ)) → LoadsReport name loaded loaded' report
+    → (more : List Loaded) × LoadsAll loaded loaded' more
+loaded_report None loaded loaded' report is =
+    ([], subst (λ (t : Option (List Loaded)). LoadsAll loaded t []) (sym is.0) (reports_none loaded))
+loaded_report (Some name) loaded loaded' report is = (_, is.1)
 
 pub loaded_ledger : (before after : Option (List Loaded)) (name : Option Text)
     (left : Option (List ℕ)) → OpensOne before after name left
-    → (more : List Loaded) × Tells before after more
+    → (more : List Loaded) × LoadsAll before after more
 loaded_ledger None after name left opens = ([], tt)
 loaded_ledger (Some before) after name None opens = absurd opens
 loaded_ledger (Some before) after name (Some text) opens = (_, opens)
 
 -- the names of the classes are not had, for the right reason
-pub right_of_names : (asked : AuditAsked) (text : List ℕ) (later : List Loaded)
-    (told told' : Option (List Loaded)) (refused : Option (Option (List ℕ) × LoadFault))
-    (fault : Fault) (out out' : Option (List ℕ))
-    → Tells told told' (record { name = Some asked.table; bytes = text } ∷ later)
-    → IsRightOfNames text fault → is_unwritten fault ≡ false
-    → IsRightAuditFault asked told told' refused fault out out'
-right_of_names asked text later told told' refused fault out out' loads right written =
-    written_first asked told told' refused fault out out' written (by_fault fault right)
-  where
-    by_fault : (fault : Fault) → IsRightOfNames text fault
-        → IsRightFault asked.table told told' refused fault
-    by_fault (File file) right = absurd right
-    by_fault Ledger right = tt
-    by_fault (Table fault) right = absurd right
-    by_fault ClassName right =
-        record { bytes = text; later = later; told_is = loads; names = right }
-    by_fault Write right = tt
-    by_fault Closed right = tt
-    by_fault NoMemory right = tt
+pub right_of_names : (asked : AuditAsked) (before between after : Option (List Loaded))
+    (refused : Option (Option (List ℕ) × LoadFault)) (texts : List (List ℕ)) (fares : Fares)
+    → LoadsTables asked.table before between texts fares
+    → (later : List Loaded) → LoadsAll between after later
+    → (wrong : WrongNames) → IsWrongAt texts wrong
+    → (fault : Fault) (out out' : Option (List ℕ)) → IsClassFault asked.table wrong fault
+    → is_unwritten fault ≡ false
+    → IsRightAuditFault asked before after refused fault out out'
+right_of_names asked before between after refused texts fares loads later more wrong at fault out
+    out' is written =
+    written_first asked before after refused fault out out' written
+    (classes_are_right asked.table before between after refused texts fares loads later more wrong
+    at fault is)
 
 -- the places that are kept are those of the uploads that are named
 pub kept_lists : (names same : List (Bor Text)) (kept : Option (List (List TapFields))) (has : Bool)
@@ -345,3 +359,24 @@ kept_lists names same kept has uploads lists is are named lent =
     is ∙ ap (λ (u : List (List TapFields)). if has then Some u else None) are
     ∙ compared_is names lists has named
     ∙ ap (λ (ns : List (Bor Text)). compared (map (λ n. n.now) ns) lists) lent
+
+-- no word of a table is wrong
+pub no_wrong_word : (asked : AuditAsked) (found : Option WrongWord)
+    → option_map wrong_of found ≡ wrong_word asked.table → found ≡ None
+    → wrong_word asked.table ≡ None
+no_wrong_word asked found is none = sym is ∙ ap (option_map wrong_of) none
+
+-- the word that is reported is the first wrong one
+pub first_wrong : (asked other : AuditAsked) (found : Option WrongWord) (wrong : WrongWord)
+    → asked ≡ other → option_map wrong_of found ≡ wrong_word asked.table → found ≡ Some wrong
+    → wrong_word other.table ≡ Some (wrong_of wrong)
+first_wrong asked other found wrong same is some =
+    sym (ap (λ (a : AuditAsked). wrong_word a.table) same) ∙ sym is ∙ ap (option_map wrong_of) some
+
+pub same_wrong : (wrong : WrongWord) (word : List ℕ) (why : DateFault) (Said : List ℕ → Type 0)
+    → Some (wrong_of wrong) ≡ Some (word, why)
+    → Said (codes "fault: " ++ date_text wrong.word.now wrong.fault)
+    → Said (codes "fault: " ++ date_text word why)
+same_wrong wrong word why Said same said =
+    let both : wrong_of wrong ≡ (word, why) = cc in
+    subst (λ (w : List ℕ × DateFault). Said (codes "fault: " ++ date_text w.0 w.1)) both said

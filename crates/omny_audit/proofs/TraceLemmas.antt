@@ -23,9 +23,9 @@ use Rattle.ledger_check.specs.Places.{tap_at, uploads_of}
 use Rattle.ledger_check.specs.declared.places.PlaceFinding.{PlaceFinding}
 use Rattle.ledger_check.specs.declared.places.PlaceFinding.TheVariants.{Right, Another, Again}
 use Rattle.ledger_check.specs.declared.places.Places.{Places}
-use Rattle.omny_audit.specs.Traced.{AreColumnsTold, AreLinesOf, AreRead, IsFaultBehind, IsPlaceFault}
+use Rattle.omny_audit.specs.Traced.{AreColumnsReported, AreLinesOf, AreRead, IsFaultBehind, IsPlaceFault}
 use Rattle.omny_audit.specs.Traced.{ReadLine, class_text, place_text}
-use Rattle.omny_audit.specs.Traced.{TellsTracedTap, TracedTap, Wanted, class_fault, fault_by}
+use Rattle.omny_audit.specs.Traced.{NamesTracedTap, TracedTap, Wanted, class_fault, fault_by}
 use Rattle.omny_audit.specs.Traced.{have_place, lines_read, place_fault, traced_by, wrong_class}
 use Rattle.omny_audit.specs.Traced.{wrong_place}
 use Rattle.omny_audit.specs.inside.Traced.{HasColumns, HasLines, HasPlaces, HasReadAll, HasReadAs}
@@ -58,7 +58,7 @@ long_other line long =
     other_line line (λ is. let size = ap (λ (t : List ℕ). length t) is in let short = head_short in
     omega (arith, long, size, short))
 
--- what a line tells, of which this was kept
+-- the tap that a line names, of which this was kept
 kept_long : (kept whole : List ℕ) → IsKeptOf kept whole → 352 < length kept → 352 < length whole
 kept_long kept whole (inl same) long = subst (λ (l : List ℕ). 352 < length l) same long
 kept_long kept whole (inr (left, right)) long = right
@@ -83,7 +83,7 @@ or_none : (wrong : Option WrongClass) → option_or wrong None ≡ wrong
 or_none None = refl
 or_none (Some wrong) = refl
 
--- places, where a line tells no tap, or no uploads are named
+-- places, if a line names no tap, or no uploads are named
 or_no_fault : (fault : Option PlaceFault) → option_or fault None ≡ fault
 or_no_fault None = refl
 or_no_fault (Some fault) = refl
@@ -164,7 +164,7 @@ wanted_same a b names uploads =
     ap (λ (n : ClassNames). wanted_with (class_by n) (uploads_in a.places)) names
     ∙ ap (wanted_with (class_by b.names)) uploads
   where
-    wanted_with : (List ℕ → List ℕ) → Option (List (List TapFields)) → Wanted
+    wanted_with : (ℕ → List ℕ → List ℕ) → Option (List (List TapFields)) → Wanted
     wanted_with classes uploads = record { classes = classes; uploads = uploads }
 
 -- places that are the same
@@ -214,7 +214,7 @@ pub took_other : (so_far after : LinesRead) (kept whole : List ℕ) (read : List
 took_other so_far after kept whole read has same none count class names places = record {
   are = (
     has.are,
-    subst (λ (c : Option TracedLine). TellsTracedTap c None)
+    subst (λ (c : Option TracedLine). NamesTracedTap c None)
         (sym (kept_cut kept whole None same none)) refl,
   );
   count = let before = has.count in omega (arith, before, count);
@@ -232,14 +232,14 @@ pub took_cut : (so_far after : LinesRead) (kept whole : List ℕ) (cut : TracedL
     → after.lines ≡ so_far.lines + 1
     → after.wrong_class ≡ option_or so_far.wrong_class
     (class_fault (class_by so_far.names) (so_far.lines + 1) traced)
-    → after.names ≡ so_far.names → TellsTracedTap (Some cut) traced
+    → after.names ≡ so_far.names → NamesTracedTap (Some cut) traced
     → HasPlaces after.places after.wrong_place (record { line = whole; traced = traced } ∷ read)
     → HasLines after (record { line = whole; traced = traced } ∷ read)
-took_cut so_far after kept whole cut traced read has same is count class names tells places = record {
+took_cut so_far after kept whole cut traced read has same is count class names reports places = record {
   are = (
     has.are,
-    subst (λ (c : Option TracedLine). TellsTracedTap c traced)
-        (sym (kept_cut kept whole (Some cut) same is)) tells,
+    subst (λ (c : Option TracedLine). NamesTracedTap c traced)
+        (sym (kept_cut kept whole (Some cut) same is)) reports,
   );
   count = let before = has.count in omega (arith, before, count);
   columns = record {
@@ -256,40 +256,40 @@ took_cut so_far after kept whole cut traced read has same is count class names t
 
 -- a text that was read, and more of it
 abbrev pub Traced : Trace → List ℕ → List ℕ → List ℕ → List ℕ → Type 0
-Traced trace file told text text' =
+Traced trace file reported text text' =
     (more : List ℕ) × (read : List ReadLine) × (text' ≡ text ++ more) × HasTraced trace file
-    (told ++ more) read
+    (reported ++ more) read
 
-pub traced_none : (trace : Trace) (file told text : List ℕ) (read : List ReadLine)
-    → HasTraced trace file told read
-    → Traced trace (file ++ []) told text text
-traced_none trace file told text read is = (
+pub traced_none : (trace : Trace) (file reported text : List ℕ) (read : List ReadLine)
+    → HasTraced trace file reported read
+    → Traced trace (file ++ []) reported text text
+traced_none trace file reported text read is = (
   [],
   read,
   sym (append-nil text),
-  subst (λ (f : List ℕ). HasTraced trace f (told ++ []) read) (sym (append-nil file))
-      (subst (λ (t : List ℕ). HasTraced trace file t read) (sym (append-nil told)) is),
+  subst (λ (f : List ℕ). HasTraced trace f (reported ++ []) read) (sym (append-nil file))
+      (subst (λ (t : List ℕ). HasTraced trace file t read) (sym (append-nil reported)) is),
 )
 
-pub traced_on : (middle after : Trace) (file front piece told text text' text'' : List ℕ)
-    → (before : Traced middle (file ++ front) told text text')
-    → Traced after ((file ++ front) ++ piece) (told ++ before.0) text' text''
-    → Traced after (file ++ (front ++ piece)) told text text''
-traced_on middle after file front piece told text text' text'' before next = (
+pub traced_on : (middle after : Trace) (file front piece reported text text' text'' : List ℕ)
+    → (before : Traced middle (file ++ front) reported text text')
+    → Traced after ((file ++ front) ++ piece) (reported ++ before.0) text' text''
+    → Traced after (file ++ (front ++ piece)) reported text text''
+traced_on middle after file front piece reported text text' text'' before next = (
   before.0 ++ next.0,
   next.1,
   next.2 ∙ ap (λ (t : List ℕ). t ++ next.0) before.2 ∙ append_assoc text before.0 next.0,
-  subst (λ (f : List ℕ). HasTraced after f (told ++ (before.0 ++ next.0)) next.1)
+  subst (λ (f : List ℕ). HasTraced after f (reported ++ (before.0 ++ next.0)) next.1)
       (append_assoc file front piece)
       (subst (λ (t : List ℕ). HasTraced after ((file ++ front) ++ piece) t next.1)
-      (append_assoc told before.0 next.0) next.3),
+      (append_assoc reported before.0 next.0) next.3),
 )
 
 -- a piece that ends no line
-pub traced_part : (trace after : Trace) (file piece told text : List ℕ) (read : List ReadLine)
-    → (is : HasTraced trace file told read) → Lacks 10 piece → after.so_far ≡ trace.so_far
-    → IsKeptOf after.begun.items (is.begun ++ piece) → Traced after (file ++ piece) told text text
-traced_part trace after file piece told text read is lacks same kept = (
+pub traced_part : (trace after : Trace) (file piece reported text : List ℕ) (read : List ReadLine)
+    → (is : HasTraced trace file reported read) → Lacks 10 piece → after.so_far ≡ trace.so_far
+    → IsKeptOf after.begun.items (is.begun ++ piece) → Traced after (file ++ piece) reported text text
+traced_part trace after file piece reported text read is lacks same kept = (
   [],
   read,
   sym (append-nil text),
@@ -299,16 +299,16 @@ traced_part trace after file piece told text read is lacks same kept = (
     kept = kept;
     lacks = lacks-append 10 is.begun piece is.lacks lacks;
     split = split_part (lines_read read) file is.begun piece is.split;
-    told = append-nil told ∙ is.told;
+    reported = append-nil reported ∙ is.reported;
   },
 )
 
 -- one line more was read, and what is read in its place
-pub took_line : (trace after : Trace) (file line told text text' : List ℕ) (read : List ReadLine)
-    → (is : HasTraced trace file told read) → IsLine line → after.begun.items ≡ []
+pub took_line : (trace after : Trace) (file line reported text text' : List ℕ) (read : List ReadLine)
+    → (is : HasTraced trace file reported read) → IsLine line → after.begun.items ≡ []
     → ((next : ReadLine) × (next.line ≡ is.begun ++ line) × HasLines after.so_far (next ∷ read))
-    → text' ≡ text ++ untraced_line (is.begun ++ line) → Traced after (file ++ line) told text text'
-took_line trace after file line told text text' read is ends none (next, same, has) written = (
+    → text' ≡ text ++ untraced_line (is.begun ++ line) → Traced after (file ++ line) reported text text'
+took_line trace after file line reported text text' read is ends none (next, same, has) written = (
   untraced_line (is.begun ++ line),
   next ∷ read,
   written,
@@ -319,7 +319,7 @@ took_line trace after file line told text text' read is ends none (next, same, h
     lacks = tt;
     split = λ more. split_line_at (lines_read read) file is.begun line is.split is.lacks ends more
         ∙ ap (λ (l : List ℕ). (lines_read read ++ l ∷ []) ++ lines_of more) (sym same);
-    told = ap (λ (t : List ℕ). t ++ untraced_line (is.begun ++ line)) is.told
+    reported = ap (λ (t : List ℕ). t ++ untraced_line (is.begun ++ line)) is.reported
         ∙ ap (λ (t : List ℕ). untraced_lines (lines_read read) ++ t)
         (sym (append-nil (untraced_line (is.begun ++ line))))
         ∙ sym (untraced-append (lines_read read) ((is.begun ++ line) ∷ []))
@@ -334,16 +334,16 @@ kept_none kept begun (inr (left, right)) none = absurd
 
 -- all that there was, read
 abbrev pub Ended : Trace → List ℕ → List ℕ → List ℕ → List ℕ → Type 0
-Ended trace file told text text' =
+Ended trace file reported text text' =
     (more : List ℕ) × (read : List ReadLine) × (text' ≡ text ++ more) ×
-    (told ++ more ≡ untraced_lines (lines_of file))
+    (reported ++ more ≡ untraced_lines (lines_of file))
     × AreLinesOf file read × HasColumns trace.so_far read
 
-pub ended_whole : (trace : Trace) (file told text : List ℕ) (read : List ReadLine)
-    → HasTraced trace file told read
-    → trace.begun.items ≡ [] → Ended trace file told text text
+pub ended_whole : (trace : Trace) (file reported text : List ℕ) (read : List ReadLine)
+    → HasTraced trace file reported read
+    → trace.begun.items ≡ [] → Ended trace file reported text text
 unfolding lines_of
-ended_whole trace file told text read is none =
+ended_whole trace file reported text read is none =
     let begun : is.begun ≡ [] = kept_none trace.begun.items is.begun is.kept none in
     let all : lines_of file ≡ lines_read read =
     ap lines_of (sym (append-nil file)) ∙ is.split []
@@ -351,7 +351,7 @@ ended_whole trace file told text read is none =
       [],
       read,
       sym (append-nil text),
-      append-nil told ∙ is.told ∙ ap untraced_lines (sym all),
+      append-nil reported ∙ is.reported ∙ ap untraced_lines (sym all),
       record { split = sym all; are = is.lines.are },
       is.lines.columns,
     )
@@ -360,11 +360,11 @@ ended_whole trace file told text read is none =
     nothing = append-nil (lines_read read)
 
 -- the line that its end cuts was read too
-pub ended_cut : (trace after : Trace) (file told text text' : List ℕ) (read : List ReadLine)
-    → (is : HasTraced trace file told read) → 0 < length trace.begun.items
+pub ended_cut : (trace after : Trace) (file reported text text' : List ℕ) (read : List ReadLine)
+    → (is : HasTraced trace file reported read) → 0 < length trace.begun.items
     → ((next : ReadLine) × (next.line ≡ is.begun) × HasLines after.so_far (next ∷ read))
-    → text' ≡ text ++ untraced_line is.begun → Ended after file told text text'
-ended_cut trace after file told text text' read is some (next, same, has) written =
+    → text' ≡ text ++ untraced_line is.begun → Ended after file reported text text'
+ended_cut trace after file reported text text' read is some (next, same, has) written =
     let all : lines_of file ≡ lines_read read ++ is.begun ∷ [] =
     ap lines_of (sym (append-nil file)) ∙ is.split []
     ∙ ap (λ (b : List ℕ). lines_read read ++ lines_of b) (append-nil is.begun)
@@ -373,7 +373,7 @@ ended_cut trace after file told text text' read is some (next, same, has) writte
       untraced_line is.begun,
       next ∷ read,
       written,
-      ap (λ (t : List ℕ). t ++ untraced_line is.begun) is.told
+      ap (λ (t : List ℕ). t ++ untraced_line is.begun) is.reported
           ∙ ap (λ (t : List ℕ). untraced_lines (lines_read read) ++ t)
           (sym (append-nil (untraced_line is.begun)))
           ∙ sym (untraced-append (lines_read read) (is.begun ∷ [])) ∙ ap untraced_lines (sym all),
@@ -390,63 +390,63 @@ ended_cut trace after file told text text' read is some (next, same, has) writte
     some_begun kept begun (inr (left, right)) some = omega (arith, right)
 
 -- what is read of a file that goes on
-pub reads_more : (trace : Option Trace) (file told : List ℕ) → HasReadAs trace file told
+pub reads_more : (trace : Option Trace) (file reported : List ℕ) → HasReadAs trace file reported
     → (more : List ℕ)
-    → (rest : List ℕ) × (read_as (is_some (wanted_by trace)) (file ++ more) ≡ told ++ rest)
-reads_more None file told is more = (more, ap (λ (t : List ℕ). t ++ more) (sym is))
-reads_more (Some trace) file told (read, is) more = (
+    → (rest : List ℕ) × (read_as (is_some (wanted_by trace)) (file ++ more) ≡ reported ++ rest)
+reads_more None file reported is more = (more, ap (λ (t : List ℕ). t ++ more) (sym is))
+reads_more (Some trace) file reported (read, is) more = (
   untraced_lines (lines_of (is.begun ++ more)),
   ap untraced_lines (is.split more)
       ∙ untraced-append (lines_read read) (lines_of (is.begun ++ more))
-      ∙ ap (λ (t : List ℕ). t ++ untraced_lines (lines_of (is.begun ++ more))) (sym is.told),
+      ∙ ap (λ (t : List ℕ). t ++ untraced_lines (lines_of (is.begun ++ more))) (sym is.reported),
 )
 
 -- the fault of a line, by its class
-fault_at : ℕ → List ℕ → WrongClass
-fault_at line token = record { line = line; token = token }
+fault_at : ℕ → TapFields → WrongClass
+fault_at line tap = record { line = line; moment = tap.moment; token = tap.token }
 
-pub fault_none : (classes : List ℕ → List ℕ) (line : ℕ) (cut : TracedLine) (tap : TapFields)
-    → classes tap.token ≡ cut.class
+pub fault_none : (classes : ℕ → List ℕ → List ℕ) (line : ℕ) (cut : TracedLine) (tap : TapFields)
+    → classes tap.moment tap.token ≡ cut.class
     → class_fault classes line (Some (traced_by cut tap)) ≡ None
 unfolding fault_at
 fault_none classes line cut tap same =
-    ap (λ (b : Bool). if b then None else Some (fault_at line tap.token))
-    ((bytes_eq-Decides (classes tap.token) cut.class).1 same)
+    ap (λ (b : Bool). if b then None else Some (fault_at line tap))
+    ((bytes_eq-Decides (classes tap.moment tap.token) cut.class).1 same)
 
-pub fault_some : (classes : List ℕ → List ℕ) (line : ℕ) (cut : TracedLine) (tap : TapFields)
-    → (classes tap.token ≡ cut.class → ⊥)
+pub fault_some : (classes : ℕ → List ℕ → List ℕ) (line : ℕ) (cut : TracedLine) (tap : TapFields)
+    → (classes tap.moment tap.token ≡ cut.class → ⊥)
     → class_fault classes line (Some (traced_by cut tap)) ≡ Some
-    (record { line = line; token = tap.token })
+    (record { line = line; moment = tap.moment; token = tap.token })
 unfolding fault_at
-fault_some classes line cut tap other = by_test (bytes_eq (classes tap.token) cut.class) refl
+fault_some classes line cut tap other = by_test (bytes_eq (classes tap.moment tap.token) cut.class) refl
   where
-    by_test : (b : Bool) → bytes_eq (classes tap.token) cut.class ≡ b
-        → class_fault classes line (Some (traced_by cut tap)) ≡ Some (fault_at line tap.token)
-    by_test true same = absurd (other ((bytes_eq-Decides (classes tap.token) cut.class).0 same))
-    by_test false same = ap (λ (b : Bool). if b then None else Some (fault_at line tap.token)) same
+    by_test : (b : Bool) → bytes_eq (classes tap.moment tap.token) cut.class ≡ b
+        → class_fault classes line (Some (traced_by cut tap)) ≡ Some (fault_at line tap)
+    by_test true same = absurd (other ((bytes_eq-Decides (classes tap.moment tap.token) cut.class).0 same))
+    by_test false same = ap (λ (b : Bool). if b then None else Some (fault_at line tap)) same
 
--- this is told of the columns, for some lines of the file
-abbrev ToldOf : Trace → Option PlaceFault → List ℕ → Bool → Option Trace → Bool → Type 0
-ToldOf trace fault file right o looked =
-    (read : List ReadLine) × AreColumnsTold (wanted_by o) looked file read
+-- this is reported of the columns, for some lines of the file
+abbrev ReportedOf : Trace → Option PlaceFault → List ℕ → Bool → Option Trace → Bool → Type 0
+ReportedOf trace fault file right o looked =
+    (read : List ReadLine) × AreColumnsReported (wanted_by o) looked file read
     (class_text (class_by trace.so_far.names) trace.so_far.wrong_class
     ++ place_text (uploads_in trace.so_far.places) fault) right
 
--- what is told of the columns, and whether they are right
-pub columns_told : (trace : Trace) (looked : Bool) (o : Option Trace) (file : List ℕ)
+-- what is reported of the columns, and whether they are right
+pub columns_reported : (trace : Trace) (looked : Bool) (o : Option Trace) (file : List ℕ)
     (fault : Option PlaceFault) (right classes places : Bool) → o ≡ Some trace → looked ≡ true
     → classes ≡ not (is_some trace.so_far.wrong_class) → places ≡ not (is_some fault)
     → right ≡ (classes && places)
     → ((read : List ReadLine) → HasPlaces trace.so_far.places trace.so_far.wrong_place read
     → IsPlaceFault (uploads_in trace.so_far.places) read fault)
     → (looked ≡ true → HasReadAll o file)
-    → (read : List ReadLine) × AreColumnsTold (wanted_by o) looked file read
+    → (read : List ReadLine) × AreColumnsReported (wanted_by o) looked file read
     (class_text (class_by trace.so_far.names) trace.so_far.wrong_class
     ++ place_text (uploads_in trace.so_far.places) fault) right
-columns_told trace looked o file fault right classes places is look of_classes of_places both found
-    all = subst (λ (o : Option Trace). ToldOf trace fault file right o looked)
+columns_reported trace looked o file fault right classes places is look of_classes of_places both found
+    all = subst (λ (o : Option Trace). ReportedOf trace fault file right o looked)
     (sym is)
-    (subst (λ (l : Bool). ToldOf trace fault file right (Some trace) l) (sym look)
+    (subst (λ (l : Bool). ReportedOf trace fault file right (Some trace) l) (sym look)
     (let known = subst (λ (o : Option Trace). HasReadAll o file) is (all look) in (
       known.0,
       (

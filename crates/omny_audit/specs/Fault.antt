@@ -1,22 +1,32 @@
--- The fault lines, without their line feeds. Each has the status 1.
+-- The fault lines, without their line feeds. Each has the status 1, but that of a wrong date has 2.
 use Rattle.std.specs.Prelude.{ℕ, List, Bool, true, false, codes}
-use Rattle.std.specs.Prelude.{◌≡◌, ◌∷◌, Option, None, Some, IfSome}
+use Rattle.std.specs.Prelude.{◌≡◌, ◌≢◌, ◌++◌, [], All, Option, None, Some, IfSome, slice_get, take}
 use Rattle.toml.specs.Data.{Members}
 use Rattle.toml.specs.Parse.{parse_document}
-use Rattle.program_manners.specs.Lines.{load_text, table_text}
-use Rattle.program_manners.specs.Loads.{Loaded, Tells}
+use Rattle.fare_table.specs.Fares.{Fares}
+use Rattle.program_manners.specs.Lines.{follow_text, load_text, named_class_text, named_table_text}
+use Rattle.program_manners.specs.Lines.{table_text}
+use Rattle.program_manners.specs.TableLoads.{LoadsTables}
+use Rattle.program_manners.specs.TableRefusals.{RefusesNamed, RefusesOnly, RefusesToFollow}
+use Rattle.program_manners.specs.TableWords.{TableNames, date_text}
+use Rattle.omny_audit.specs.Options.{table_files}
+use Rattle.program_manners.specs.Loads.{Loaded, LoadsAll}
 use Rattle.program_manners.specs.declared.loading.LoadFault.{LoadFault}
-use Rattle.program_manners.specs.Refusals.{IsOneOf, RefusesTable, TellsRefusal}
+use Rattle.program_manners.specs.Refusals.{IsOneOf, HasRefused}
 use Rattle.settled_texts.specs.Classes.{has_plain_classes}
 use Rattle.omny_audit.specs.declared.fault.Fault.{Fault}
-use Rattle.omny_audit.specs.declared.fault.Fault.TheVariants.{ClassName, File, Ledger, Table}
-use Rattle.omny_audit.specs.declared.fault.Fault.TheVariants.{Write, Closed, NoMemory}
+use Rattle.omny_audit.specs.declared.fault.Fault.TheVariants.{ClassName, Date, File, Follow, Ledger, Table}
+use Rattle.omny_audit.specs.declared.fault.Fault.TheVariants.{Write, Closed, NamedClass, NamedTable, NoMemory}
 
 -- the line that the program writes of a fault
 abbrev pub audit_fault_text : Fault → List ℕ
 audit_fault_text (File file) = load_text file.name.now file.fault
 audit_fault_text Ledger = codes "fault: cannot read the ledger"
+audit_fault_text (Date wrong) = codes "fault: " ++ date_text wrong.word.now wrong.fault
 audit_fault_text (Table fault) = table_text fault
+audit_fault_text (NamedTable line) = named_table_text line.name.now line.fault
+audit_fault_text (Follow line) = follow_text line.word.now line.fault
+audit_fault_text (NamedClass line) = named_class_text line.0.now
 audit_fault_text ClassName = codes "fault: table has a class name that no ledger can have"
 audit_fault_text Write = codes "fault: cannot write"
 audit_fault_text Closed = codes "fault: cannot write"
@@ -28,7 +38,7 @@ is_unwritten Write = true
 is_unwritten Closed = true
 is_unwritten _ = false
 
--- whether who reads the text has closed it, so that nothing is told
+-- whether who reads the text has closed it, so that nothing is reported
 abbrev pub is_quiet : Fault → Bool
 is_quiet Closed = true
 is_quiet _ = false
@@ -36,6 +46,8 @@ is_quiet _ = false
 -- the name of the file that the fault is about, if any
 abbrev pub named_by : Fault → Option (List ℕ)
 named_by (File file) = Some file.name.now
+named_by (NamedTable line) = Some line.name.now
+named_by (NamedClass line) = Some line.0.now
 named_by _ = None
 
 -- the fault is about no other file than one of these names
@@ -48,23 +60,39 @@ pub record NamesUnplainClass (text : List ℕ) : Type 0 where
   pub parsed : parse_document text ≡ Some tree
   pub unplain : has_plain_classes tree ≡ false
 
--- the file of this name was loaded first, and its text names such a class
-pub record LoadsUnplainClass (name : List ℕ) (told told' : Option (List Loaded)) : Type 0 where
-  pub bytes : List ℕ
+-- The tables were loaded first. The text at this place names such a class, and none before it does.
+pub record LoadsUnplainClass (tables : TableNames) (loaded loaded' : Option (List Loaded)) (place : ℕ)
+    : Type 0 where
+  pub texts : List (List ℕ)
+  pub fares : Fares
+  pub between : Option (List Loaded)
+  pub loads : LoadsTables tables loaded between texts fares
   pub later : List Loaded
-  pub told_is : Tells told told' (record { name = Some name; bytes = bytes } ∷ later)
-  pub names : NamesUnplainClass bytes
+  pub is_loaded : LoadsAll between loaded' later
+  pub text : List ℕ
+  pub stands : slice_get texts place ≡ Some text
+  pub names : NamesUnplainClass text
+  pub before : All (λ earlier. ¬ NamesUnplainClass earlier) (take place texts)
 
 -- The fault is the right one: a file that is named is one that the source refused so, a table fault
--- is the first one of the text that was loaded under the table's name, and that of a class's name
--- comes only if this text names one that cannot stand in a ledger.
-abbrev pub IsRightFault : List ℕ → Option (List Loaded) → Option (List Loaded)
+-- is the first one of the text that was loaded under the table's name, behind the tables before it,
+-- and that of a class's name comes only if a table's text names one that cannot stand in a ledger.
+abbrev pub IsRightFault : TableNames → Option (List Loaded) → Option (List Loaded)
     → Option (Option (List ℕ) × LoadFault) → Fault → Type 0
-IsRightFault table told told' refused (File file) =
-    TellsRefusal refused file.name.now file.fault
-IsRightFault table told told' refused Ledger = Unit {0}
-IsRightFault table told told' refused (Table fault) = RefusesTable table told told' fault
-IsRightFault table told told' refused ClassName = LoadsUnplainClass table told told'
-IsRightFault table told told' refused Write = Unit {0}
-IsRightFault table told told' refused Closed = Unit {0}
-IsRightFault table told told' refused NoMemory = Unit {0}
+IsRightFault tables loaded loaded' refused (File file) =
+    HasRefused refused file.name.now file.fault
+IsRightFault tables loaded loaded' refused Ledger = Unit {0}
+IsRightFault tables loaded loaded' refused (Date wrong) = ⊥
+IsRightFault tables loaded loaded' refused (Table fault) = RefusesOnly tables loaded loaded' fault
+IsRightFault tables loaded loaded' refused (NamedTable line) =
+    RefusesNamed tables loaded loaded' line.name.now line.fault
+IsRightFault tables loaded loaded' refused (Follow line) =
+    RefusesToFollow tables loaded loaded' line.word.now line.fault
+IsRightFault tables loaded loaded' refused ClassName =
+    (tables.later ≡ []) × (place : ℕ) × LoadsUnplainClass tables loaded loaded' place
+IsRightFault tables loaded loaded' refused (NamedClass line) = (tables.later ≢ [])
+    × (place : ℕ) × (slice_get (table_files tables) place ≡ Some line.0.now)
+    × LoadsUnplainClass tables loaded loaded' place
+IsRightFault tables loaded loaded' refused Write = Unit {0}
+IsRightFault tables loaded loaded' refused Closed = Unit {0}
+IsRightFault tables loaded loaded' refused NoMemory = Unit {0}

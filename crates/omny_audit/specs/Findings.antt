@@ -26,9 +26,9 @@ abbrev pub agrees : Option Difference → Bool
 agrees None = true
 agrees (Some difference) = false
 
--- What follows the line of the verdict, which is legal or not: nothing, or, where it is legal and
--- there are uploads, the line of the difference. It is well where the ledger is legal and there is
--- no difference.
+-- What follows the line of the verdict, which is legal or not: nothing, or, if it is legal and
+-- there are uploads, the line of the difference. It is well if the ledger is legal and there is no
+-- difference.
 abbrev pub IsDifferenceLine : Fares → List ℕ → Option (List TapFields) → Bool → List ℕ → Bool
     → Type 0
 IsDifferenceLine fares text good false rest well = (rest ≡ []) × (well ≡ false)
@@ -37,14 +37,14 @@ IsDifferenceLine fares text (Some good) true rest well =
     (difference : Option Difference) × IsDifferenceText difference rest
     × (well ≡ agrees difference) × IsDifferenceOf fares text good difference
 
--- what is told of the text, beside the good taps of the uploads, if there are uploads: a true
+-- what is found of the text, beside the good taps of the uploads, if there are uploads: a true
 -- verdict, and the difference
 pub record IsFinding (fares : Fares) (text : List ℕ) (good : Option (List TapFields))
-    (told : List ℕ) (well : Bool) : Type 0 where
+    (reported : List ℕ) (well : Bool) : Type 0 where
   pub verdict : Verdict
   pub is_verdict : IsVerdict fares text verdict
   pub rest : List ℕ
-  pub shown : told ≡ verdict_text verdict ++ rest
+  pub shown : reported ≡ verdict_text verdict ++ rest
   pub second : IsDifferenceLine fares text good (is_legal verdict) rest well
 
 -- the ledger's taps are those of the uploads in some order, if there are uploads
@@ -57,15 +57,15 @@ abbrev pub IsRightLedger : Fares → List ℕ → Option (List TapFields) → Ty
 IsRightLedger fares text good =
     (entries : List Entry) × IsLedgerOf fares entries text × HasGoodTaps good entries
 
--- what is found is well exactly where the text is right
+-- what is found is well exactly if the text is right
 abbrev pub FindingsDecide : Type 0
 FindingsDecide =
-    (fares : Fares) (text : List ℕ) (good : Option (List TapFields)) (told : List ℕ)
-    (well : Bool) → IsFinding fares text good told well
+    (fares : Fares) (text : List ℕ) (good : Option (List TapFields)) (reported : List ℕ)
+    (well : Bool) → IsFinding fares text good reported well
     → (well ≡ true) ↔ IsRightLedger fares text good
 
 -- What follows a recount, which found the ledger legal or not: nothing, or, if there are uploads,
--- how the taps that its lines tell differ from theirs. It is well if the ledger is legal and there
+-- how the taps that its lines name differ from theirs. It is well if the ledger is legal and there
 -- is no difference.
 abbrev pub IsDifferencesEnd : Option (List TapFields) → List TapFields → Bool → List ℕ → Bool
     → Type 0
@@ -75,24 +75,24 @@ IsDifferencesEnd (Some good) taps legal rest well =
     × AreLacking taps good surplus × IsDifferencesText missing surplus rest
     × (well ≡ (legal && are_none missing surplus))
 
--- what is told of all lines of the text, beside the good taps of the uploads, if there are uploads:
--- a recount, and the differences
+-- what is found of all lines of the text, beside the good taps of the uploads, if there are
+-- uploads: a recount, and the differences
 pub record IsFullFinding (fares : Fares) (text : List ℕ) (good : Option (List TapFields))
-    (told : List ℕ) (well : Bool) : Type 0 where
+    (reported : List ℕ) (well : Bool) : Type 0 where
   pub taken : List TakenLine
   pub recount : IsRecount fares text taken
   pub rest : List ℕ
-  pub shown : told ≡ recount_text taken ++ rest
+  pub shown : reported ≡ recount_text taken ++ rest
   pub second : IsDifferencesEnd good (taps_from taken) (nat_eq (wrong_count taken) 0) rest well
 
 -- the finding, of all lines or up to the first wrong one
 abbrev pub IsFindingOf : Bool → Fares → List ℕ → Option (List TapFields) → List ℕ → Bool → Type 0
-IsFindingOf true fares text good told well = IsFullFinding fares text good told well
-IsFindingOf false fares text good told well = IsFinding fares text good told well
+IsFindingOf true fares text good reported well = IsFullFinding fares text good reported well
+IsFindingOf false fares text good reported well = IsFinding fares text good reported well
 
 -- what is found of all lines is well exactly if the text is right
 abbrev pub FullFindingsDecide : Type 0
 FullFindingsDecide =
-    (fares : Fares) (text : List ℕ) (good : Option (List TapFields)) (told : List ℕ)
-    (well : Bool) → IsFullFinding fares text good told well
+    (fares : Fares) (text : List ℕ) (good : Option (List TapFields)) (reported : List ℕ)
+    (well : Bool) → IsFullFinding fares text good reported well
     → (well ≡ true) ↔ IsRightLedger fares text good

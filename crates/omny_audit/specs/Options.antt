@@ -1,17 +1,18 @@
 -- The command line, and what its words ask for.
 use Rattle.std.specs.Prelude.{◌≡◌, ◌⊎◌, Bool, List, [], ◌∷◌, ◌++◌, Option, None, Some, codes}
-use Rattle.std.specs.Prelude.{if◌then◌else◌, option_and_then, true, unwrap_or}
+use Rattle.std.specs.Prelude.{if◌then◌else◌, map, option_and_then, true, unwrap_or}
 use Rattle.std.specs.Str.{bytes_eq}
 use Rattle.clap.specs.Words.{App, IsAmong, Rule, Text, all_of, fault_of, first_of, matches_of}
 use Rattle.clap.specs.Words.{with_rule}
 use Rattle.clap.specs.declared.builder.action.ArgAction.TheVariants.{Set}
 use Rattle.clap.specs.declared.error.kind.ErrorKind.TheVariants.{DisplayHelp, DisplayVersion}
 use Rattle.program_manners.specs.Words.{files_rule, flag_rule, is_given, list_option, named_app}
-use Rattle.program_manners.specs.Words.{null_flag, option_rule, positional_rule}
+use Rattle.program_manners.specs.TableWords.{TableNames, file_named, tables_in}
+use Rattle.program_manners.specs.Words.{null_flag, option_rule, positional_rule, repeated_rule}
 
--- `--table F`, which has to be given
+-- `--table F`, as often as wanted, and at least once
 abbrev pub required_table_option : Rule
-required_table_option = record (option_rule (codes "table")) { required = true }
+required_table_option = record (repeated_rule (codes "table")) { required = true }
 
 -- `--all`
 abbrev pub all_flag : Rule
@@ -50,19 +51,27 @@ AsksForAuditText words =
 abbrev pub not_dash : Text → Option Text
 not_dash text = if bytes_eq text (codes "-") then None else Some text
 
+-- no words of `--table`, which no command line has
+abbrev pub no_tables : TableNames
+no_tables = record { first = []; later = [] }
+
+-- the words of `--table` among these
+abbrev pub tables_or_none : List Text → TableNames
+tables_or_none words = unwrap_or (tables_in words) no_tables
+
 -- what a command line asks for
 pub record AuditAsked : Type 0 where
-  pub table : Text
+  pub table : TableNames
   pub all : Bool
   pub uploads : List Text
   pub report : Option Text
   pub ledger : Option Text
 
--- the words' table, which no command line goes without; whether all wrong lines are asked for; their
+-- the words' tables, without which no command line is; whether all wrong lines are asked for; their
 -- uploads, in order; the file of the report, if one is named; and that of the ledger, if one is named
 abbrev pub audit_asked_by : List Text → AuditAsked
 audit_asked_by words = record {
-  table = unwrap_or (first_of (codes "table") (matches_of audit_program words)) [];
+  table = tables_or_none (unwrap_or (all_of (codes "table") (matches_of audit_program words)) []);
   all = is_given (codes "all") (matches_of audit_program words);
   uploads = unwrap_or (all_of (codes "uploads") (matches_of audit_program words)) [];
   report = first_of (codes "report") (matches_of audit_program words);
@@ -74,8 +83,12 @@ abbrev pub named_file : Option Text → List Text
 named_file None = []
 named_file (Some name) = name ∷ []
 
--- the files that are asked for: the table, the uploads in order, the report and the ledger
+-- the files of the tables
+abbrev pub table_files : TableNames → List Text
+table_files tables = tables.first ∷ map file_named tables.later
+
+-- the files that are asked for: the tables, the uploads in order, the report and the ledger
 abbrev pub files_of : AuditAsked → List Text
 files_of asked =
-    asked.table ∷ ((asked.uploads ++ named_file asked.report)
+    table_files asked.table ++ ((asked.uploads ++ named_file asked.report)
     ++ unwrap_or asked.ledger (codes "standard input") ∷ [])

@@ -4,37 +4,29 @@ use Rattle.std.specs.Prelude.{MatchBool, Option, None, Some}
 use Rattle.std.specs.Io.KnownBytes.{Appends, Keeps}
 use Rattle.clap.specs.Words.{Text}
 use Rattle.fare_table.specs.Fares.{Fares}
-use Rattle.fare_table.specs.Meaning.{Means}
 use Rattle.ledger_check.specs.Balances.{AreGoodFields}
 use Rattle.ledger_check.specs.Columns.{has_traced_head}
-use Rattle.settled_texts.specs.Classes.{class_of_token}
+use Rattle.settled_texts.specs.Classes.{AreTrees, class_of_token, tree_at}
 use Rattle.toml.specs.Data.{Members}
-use Rattle.toml.specs.Parse.{parse_document}
 use Rattle.tap_views.specs.declared.encoder.TapFields.{TapFields}
 use Rattle.omny_audit.specs.Reports.{IsAudit, IsRightAudit}
 use Rattle.omny_audit.specs.Fault.{IsRightFault, audit_fault_text, is_quiet, is_unwritten}
 use Rattle.omny_audit.specs.Options.{AuditAsked}
 use Rattle.fare_texts.specs.WrittenOut.{Begins}
 use Rattle.omny_audit.specs.Traced.{ReadLine, Wanted}
-use Rattle.program_manners.specs.Loads.{Loaded, Tells, TellsOne}
+use Rattle.program_manners.specs.Loads.{Loaded, LoadsAll, LoadsOne}
 use Rattle.program_manners.specs.LineWritten.{LineWritten}
+use Rattle.program_manners.specs.TableLoads.{LoadsTables}
 use Rattle.program_manners.specs.declared.loading.LoadFault.{LoadFault}
 use Rattle.omny_audit.specs.declared.fault.Fault.{Fault}
 
--- The file of this name was loaded, and its text means these fares.
-pub record LoadsRequiredTable (name : Text) (told told' : Option (List Loaded)) (fares : Fares)
-    : Type 0 where
-  pub bytes : List ℕ
-  pub told_is : TellsOne told told' (Some name) bytes
-  pub means : Means bytes fares
-
 -- A file of each of these names was loaded, in their order.
-pub record LoadsNamedFiles (names : List Text) (told told' : Option (List Loaded))
+pub record LoadsNamedFiles (names : List Text) (loaded loaded' : Option (List Loaded))
     (files : List (List ℕ)) : Type 0 where
   pub loads : List Loaded
   pub named : map (λ load. load.name) loads ≡ map Some names
   pub bytes : map (λ load. load.bytes) loads ≡ files
-  pub told_is : Tells told told' loads
+  pub is_loaded : LoadsAll loaded loaded' loads
 
 -- the fields of the good taps of the uploads, one upload after another
 abbrev pub AreGoodFieldsOfAll : List (List ℕ) → List TapFields → Type 0
@@ -50,7 +42,7 @@ AreGoodFieldsOfEach (upload ∷ uploads) [] = ⊥
 AreGoodFieldsOfEach (upload ∷ uploads) (taps ∷ lists) =
     AreGoodFields upload taps × AreGoodFieldsOfEach uploads lists
 
--- what a ledger is compared with, where uploads are named
+-- what a ledger is compared with, if uploads are named
 abbrev pub compared : {A : Type 0} → List Text → A → Option A
 compared [] good = None
 compared (name ∷ names) good = Some good
@@ -58,35 +50,38 @@ compared (name ∷ names) good = Some good
 -- a file was loaded, if it is named
 abbrev pub LoadsReport : Option Text → Option (List Loaded) → Option (List Loaded)
     → Option (List ℕ) → Type 0
-LoadsReport None told told' report = (told' ≡ told) × (report ≡ None)
-LoadsReport (Some name) told told' report =
-    (text : List ℕ) × TellsOne told told' (Some name) text × (report ≡ Some text)
+LoadsReport None loaded loaded' report = (loaded' ≡ loaded) × (report ≡ None)
+LoadsReport (Some name) loaded loaded' report =
+    (text : List ℕ) × LoadsOne loaded loaded' (Some name) text × (report ≡ Some text)
 
--- Whether the ledger is a traced one. Where the source keeps no list, it is not known what was read.
+-- Whether the ledger is a traced one. If the source keeps no list, it is not known what was read.
 abbrev pub IsTracedAs : Option (List Loaded) → List ℕ → Bool → Type 0
 IsTracedAs None ledger traced = ⊤
 IsTracedAs (Some loads) ledger traced = traced ≡ has_traced_head ledger
 
--- If the ledger is traced, these are the classes that the text of the table names for tokens, and
--- these uploads.
-abbrev pub AreWanted : List ℕ → Bool → Option (List (List TapFields)) → Option Wanted → Type 0
-AreWanted table false uploads wanted = wanted ≡ None
-AreWanted table true uploads None = ⊥
-AreWanted table true uploads (Some wanted) =
-    (tree : Members) × (parse_document table ≡ Some tree)
-    × ((token : List ℕ) → class_of_token tree token ≡ Some (wanted.classes token))
+-- If the ledger is traced, these are the classes that the texts of the tables name for tokens at each
+-- moment, and these uploads.
+abbrev pub AreWanted : Fares → List (List ℕ) → Bool → Option (List (List TapFields)) → Option Wanted
+    → Type 0
+AreWanted fares texts false uploads wanted = wanted ≡ None
+AreWanted fares texts true uploads None = ⊥
+AreWanted fares texts true uploads (Some wanted) =
+    (tree : Members) × (later : List (ℕ × Members)) × AreTrees fares texts tree later
+    × ((moment : ℕ) (token : List ℕ)
+    → class_of_token (tree_at tree later moment) token ≡ Some (wanted.classes moment token))
     × (wanted.uploads ≡ uploads)
 
--- The table was loaded, then the uploads, then the report, if it is named, and then all of the
--- ledger. The text is what is told of the ledger beside the good taps of the uploads, if uploads are
--- named, and of the report. It says that all is well, or not.
-pub record HasFound (asked : AuditAsked) (told told' : Option (List Loaded)) (text : List ℕ)
+-- The tables were loaded, then the uploads, then the report, if it is named, and then all of the
+-- ledger. The text is what is found of the ledger beside the good taps of the uploads, if uploads
+-- are named, and of the report. It says that all is well, or not.
+pub record HasFound (asked : AuditAsked) (loaded loaded' : Option (List Loaded)) (text : List ℕ)
     (well : Bool) : Type 0 where
   pub after_table : Option (List Loaded)
   pub after_uploads : Option (List Loaded)
   pub after_report : Option (List Loaded)
   pub fares : Fares
-  pub loads_table : LoadsRequiredTable asked.table told after_table fares
+  pub texts : List (List ℕ)
+  pub loads_tables : LoadsTables asked.table loaded after_table texts fares
   pub uploads : List (List ℕ)
   pub loads_uploads : LoadsNamedFiles asked.uploads after_table after_uploads uploads
   pub good : List TapFields
@@ -96,13 +91,13 @@ pub record HasFound (asked : AuditAsked) (told told' : Option (List Loaded)) (te
   pub report : Option (List ℕ)
   pub loads_report : LoadsReport asked.report after_uploads after_report report
   pub ledger : List ℕ
-  pub loads_ledger : TellsOne after_report told' asked.ledger ledger
-  -- a traced ledger's columns are held against the classes that the table's text names, and against
+  pub loads_ledger : LoadsOne after_report loaded' asked.ledger ledger
+  -- a traced ledger's columns are held against the classes that the tables' texts name, and against
   -- the places of the uploads' taps, if uploads are named
   pub traced : Bool
   pub is_traced : IsTracedAs after_report ledger traced
   pub wanted : Option Wanted
-  pub are_wanted : AreWanted loads_table.bytes traced (compared asked.uploads lists) wanted
+  pub are_wanted : AreWanted fares texts traced (compared asked.uploads lists) wanted
   pub read : List ReadLine
   pub audit : IsAudit asked.all fares wanted ledger read (compared asked.uploads good) report text
       well
@@ -112,37 +107,37 @@ pub record HasFound (asked : AuditAsked) (told told' : Option (List Loaded)) (te
       ↔ IsRightAudit fares wanted ledger read (compared asked.uploads good) report
 
 -- what was appended to the writer is the text of what was found
-pub record Audits (asked : AuditAsked) (told told' : Option (List Loaded))
+pub record Audits (asked : AuditAsked) (loaded loaded' : Option (List Loaded))
     (out out' : Option (List ℕ)) (well : Bool) : Type 0 where
   pub text : List ℕ
-  pub found : HasFound asked told told' text well
+  pub found : HasFound asked loaded loaded' text well
   pub written : Appends out out' text
 
 -- what was appended to the writer is a beginning of that text
-pub record BeginsAudit (asked : AuditAsked) (told told' : Option (List Loaded))
+pub record BeginsAudit (asked : AuditAsked) (loaded loaded' : Option (List Loaded))
     (out out' : Option (List ℕ)) : Type 0 where
   pub text : List ℕ
   pub well : Bool
-  pub found : HasFound asked told told' text well
+  pub found : HasFound asked loaded loaded' text well
   pub begun : Begins out out' text
 
--- The fault's line was told, unless a write of it failed. Where who reads the text has closed it,
--- nothing is told.
-abbrev pub IsFaultTold : Fault → Option (List ℕ) → Option (List ℕ) → Bool → Type 0
-IsFaultTold fault said said' failed = MatchBool (is_quiet fault) (said' ≡ said)
+-- The fault's line was reported, unless a write of it failed. If who reads the text has closed it,
+-- nothing is reported.
+abbrev pub IsFaultReported : Fault → Option (List ℕ) → Option (List ℕ) → Bool → Type 0
+IsFaultReported fault said said' failed = MatchBool (is_quiet fault) (said' ≡ said)
     (LineWritten said said' failed (audit_fault_text fault))
 
--- The program gave up: the fault was told, and nothing was written, unless a write failed or all
--- wrong lines are asked for, which are written as they are found.
+-- The program gave up: the fault was reported, and nothing was written, unless a write failed or
+-- all wrong lines are asked for, which are written as they are found.
 pub record AuditGaveUp (all : Bool) (fault : Fault) (said said' : Option (List ℕ)) (failed : Bool)
     (out out' : Option (List ℕ)) : Type 0 where
-  pub line_told : IsFaultTold fault said said' failed
+  pub line_reported : IsFaultReported fault said said' failed
   pub kept : all ≡ false → is_unwritten fault ≡ false → Keeps out out'
 
--- The fault is the right one. Where a write failed, what it left is a beginning of the right text,
+-- The fault is the right one. If a write failed, what it left is a beginning of the right text,
 -- unless all wrong lines are asked for.
-pub record IsRightAuditFault (asked : AuditAsked) (told told' : Option (List Loaded))
+pub record IsRightAuditFault (asked : AuditAsked) (loaded loaded' : Option (List Loaded))
     (refused : Option (Option (List ℕ) × LoadFault)) (fault : Fault) (out out' : Option (List ℕ))
     : Type 0 where
-  pub right : IsRightFault asked.table told told' refused fault
-  pub begun : asked.all ≡ false → is_unwritten fault ≡ true → BeginsAudit asked told told' out out'
+  pub right : IsRightFault asked.table loaded loaded' refused fault
+  pub begun : asked.all ≡ false → is_unwritten fault ≡ true → BeginsAudit asked loaded loaded' out out'

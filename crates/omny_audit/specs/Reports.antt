@@ -1,4 +1,4 @@
--- What is told of a ledger and of the report that is held beside it.
+-- What is found of a ledger and of the report that is held beside it.
 use Rattle.std.specs.Prelude.{◌≡◌, ◌↔◌, ◌&&◌, ◌||◌, ℕ, Bool, true, false, List, [], ◌++◌, codes}
 use Rattle.std.specs.Prelude.{is_some, Option, None, Some}
 use Rattle.std.specs.Fmt.{decimal}
@@ -6,7 +6,7 @@ use Rattle.fare_table.specs.Fares.{Fares}
 use Rattle.ledger_check.specs.Columns.{read_as}
 use Rattle.ledger_check.specs.Ledger.{IsLedger, IsLedgerOf}
 use Rattle.omny_audit.specs.Findings.{HasGoodTaps, IsFindingOf}
-use Rattle.omny_audit.specs.Traced.{AreColumnsTold, HasRightColumns, ReadLine, Wanted}
+use Rattle.omny_audit.specs.Traced.{AreColumnsReported, HasRightColumns, ReadLine, Wanted}
 use Rattle.report_check.specs.Reports.{IsReportOfLedger, IsReportVerdict, is_of_ledger}
 use Rattle.report_check.specs.declared.verdict.ReportVerdict.{ReportVerdict}
 use Rattle.report_check.specs.declared.verdict.ReportVerdict.TheVariants.{OfLedger, Wants, NoLine}
@@ -26,11 +26,11 @@ report_text (Taps line uploads ledger) =
     codes "wrong report line " ++ (decimal line ++ (codes ": the uploads have "
     ++ (decimal uploads ++ (codes " taps, the ledger " ++ (decimal ledger ++ codes "\n")))))
 
--- what is told of the report: a verdict that is true beside whatever entries the ledger has
+-- what is found of the report: a verdict that is true beside whatever entries the ledger has
 pub record IsReportFinding (fares : Fares) (ledger report rest : List ℕ) (fits : Bool) : Type 0 where
   pub verdict : ReportVerdict
   pub shown : rest ≡ report_text verdict
-  pub told : fits ≡ is_of_ledger verdict
+  pub reported : fits ≡ is_of_ledger verdict
   pub true_of : (entries : List Entry) → IsLedgerOf fares entries ledger
       → IsReportVerdict entries report verdict
 
@@ -42,10 +42,10 @@ IsReportLine fares ledger (Some report) false rest fits = (rest ≡ []) × (fits
 IsReportLine fares ledger (Some report) true rest fits =
     IsReportFinding fares ledger report rest fits
 
--- What is told of a ledger's file, of which these lines were read, if it is traced: what is found of
--- the ledger that is read of it, beside the good taps of the uploads, if there are uploads; behind it
--- what is found of the columns, if the ledger is traced, and legal or asked for all its lines; and
--- behind it what is found of the report, if there is one. All is well if all of this is.
+-- What is found of a ledger's file, of which these lines were read, if it is traced: what is found
+-- of the ledger that is read of it, beside the good taps of the uploads, if there are uploads;
+-- behind it what is found of the columns, if the ledger is traced, and legal or asked for all its
+-- lines; and behind it what is found of the report, if there is one. All is well if all of this is.
 pub record IsAudit (all : Bool) (fares : Fares) (wanted : Option Wanted) (file : List ℕ)
     (read : List ReadLine) (good : Option (List TapFields)) (report : Option (List ℕ))
     (text : List ℕ) (well : Bool) : Type 0 where
@@ -56,7 +56,7 @@ pub record IsAudit (all : Bool) (fares : Fares) (wanted : Option Wanted) (file :
   pub is_legal : (legal ≡ true) ↔ IsLedger fares (read_as (is_some wanted) file)
   pub columns : List ℕ
   pub right : Bool
-  pub are_columns : AreColumnsTold wanted (all || legal) file read columns right
+  pub are_columns : AreColumnsReported wanted (all || legal) file read columns right
   pub rest : List ℕ
   pub fits : Bool
   pub report_line : IsReportLine fares (read_as (is_some wanted) file) report (legal && right)
@@ -77,7 +77,7 @@ IsRightAudit fares wanted file read good report =
     (entries : List Entry) × IsLedgerOf fares entries (read_as (is_some wanted) file)
     × HasGoodTaps good entries × HasRightColumns wanted file read × HasOwnReport report entries
 
--- all is well exactly where all is right
+-- all is well exactly if all is right
 abbrev pub AuditsDecide : Type 0
 AuditsDecide =
     (all : Bool) (fares : Fares) (wanted : Option Wanted) (file : List ℕ)

@@ -1,4 +1,4 @@
--- The lines that tell a verdict, and how the ledger's taps differ from those of the uploads.
+-- The lines that report a verdict, and how the ledger's taps differ from those of the uploads.
 use Rattle.std.specs.Prelude.{◌≡◌, ℕ, List, [], ◌∷◌, ◌++◌, codes, string_bytes, Option, None, Some}
 use Rattle.std.specs.Prelude.{◌&&◌, Bool, MatchBool, length, nat_eq}
 use Rattle.std.specs.Fmt.{decimal}
@@ -36,8 +36,8 @@ pub record IsTapText (tap : TapFields) (text : List ℕ) : Type 0 where
 abbrev pub IsTapLineOf : List ℕ → TapFields → List ℕ → Type 0
 IsTapLineOf words tap text = (rest : List ℕ) × IsTapText tap rest × (text ≡ words ++ rest)
 
--- `all taps of the uploads`; `missing tap ..`, where the uploads have it more often than the
--- ledger, `surplus tap ..`, where the ledger has it more often
+-- `all taps of the uploads`; `missing tap ..`, if the uploads have it more often than the ledger,
+-- `surplus tap ..`, if the ledger has it more often
 abbrev pub IsDifferenceText : Option Difference → List ℕ → Type 0
 IsDifferenceText None text = text ≡ codes "all taps of the uploads\n"
 IsDifferenceText (Some (Missing tap)) text = IsTapLineOf (codes "missing tap ") tap text

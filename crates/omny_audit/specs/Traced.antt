@@ -32,47 +32,48 @@ traced_by cut tap = record {
   place = cut.place;
 }
 
--- a line that has not the form of a traced one tells no tap, and a line that has it tells the one
--- of its fields, if these tell one
-abbrev pub TellsTracedTap : Option TracedLine → Option TracedTap → Type 0
-TellsTracedTap None traced = traced ≡ None
-TellsTracedTap (Some cut) traced =
+-- a line that has not the form of a traced one names no tap, and a line that has it names the one
+-- of its fields, if these name one
+abbrev pub NamesTracedTap : Option TracedLine → Option TracedTap → Type 0
+NamesTracedTap None traced = traced ≡ None
+NamesTracedTap (Some cut) traced =
     (tap : Option TapFields) × IsTapOfLine (cut.fields ++ 10 ∷ []) tap
     × (traced ≡ option_map (traced_by cut) tap)
 
--- a line that was read, and what it tells
+-- a line that was read, and what it names
 pub record ReadLine : Type 0 where
   pub line : List ℕ
   pub traced : Option TracedTap
 
--- what is told of each line is what it tells; the lines stand last first
+-- what is kept of each line is what it names; the lines stand last first
 abbrev pub AreRead : List ReadLine → Type 0
 AreRead [] = Unit {0}
-AreRead (read ∷ earlier) = AreRead earlier × TellsTracedTap (cut_line read.line) read.traced
+AreRead (read ∷ earlier) = AreRead earlier × NamesTracedTap (cut_line read.line) read.traced
 
 -- the lines, the first one first
 abbrev pub lines_read : List ReadLine → List (List ℕ)
 lines_read [] = []
 lines_read (read ∷ earlier) = lines_read earlier ++ read.line ∷ []
 
--- the fault of a line that has another class than the one of its token
-abbrev pub class_fault : (List ℕ → List ℕ) → ℕ → Option TracedTap → Option WrongClass
+-- the fault of a line that has another class than the one of its token at its moment
+abbrev pub class_fault : (ℕ → List ℕ → List ℕ) → ℕ → Option TracedTap → Option WrongClass
 class_fault classes line None = None
-class_fault classes line (Some traced) = if bytes_eq (classes traced.tap.token) traced.class then None
-    else Some (record { line = line; token = traced.tap.token })
+class_fault classes line (Some traced) =
+    if bytes_eq (classes traced.tap.moment traced.tap.token) traced.class then None
+    else Some (record { line = line; moment = traced.tap.moment; token = traced.tap.token })
 
--- the first line that has another class than the one of its token
-abbrev pub wrong_class : (List ℕ → List ℕ) → List ReadLine → Option WrongClass
+-- the first line that has another class than the one of its token at its moment
+abbrev pub wrong_class : (ℕ → List ℕ → List ℕ) → List ReadLine → Option WrongClass
 wrong_class classes [] = None
 wrong_class classes (read ∷ earlier) =
     option_or (wrong_class classes earlier) (class_fault classes (length earlier + 1) read.traced)
 
 -- `all classes of the table`, or `line 4 has another class than adult`
-unfoldable pub class_text : (List ℕ → List ℕ) → Option WrongClass → List ℕ
+unfoldable pub class_text : (ℕ → List ℕ → List ℕ) → Option WrongClass → List ℕ
 class_text classes None = codes "all classes of the table\n"
 class_text classes (Some fault) =
     codes "line " ++ (decimal fault.line ++ (codes " has another class than "
-    ++ (classes fault.token ++ codes "\n")))
+    ++ (classes fault.moment fault.token ++ codes "\n")))
 
 -- whether the line has this upload and place
 abbrev pub has_place : ℕ → ℕ → Option TracedTap → Bool
@@ -142,15 +143,15 @@ place_fault_text (Some (NoLine upload place)) =
     codes "no line has upload " ++ (decimal upload ++ (codes " place " ++ (decimal place
     ++ codes "\n")))
 
--- what is told of the places, if there are uploads
+-- what is reported of the places, if there are uploads
 abbrev pub place_text : Option (List (List TapFields)) → Option PlaceFault → List ℕ
 place_text None fault = []
 place_text (Some uploads) fault = place_fault_text fault
 
--- what the columns of a traced ledger are held against: the class of each token, and the good taps of
--- each upload, if there are uploads
+-- what the columns of a traced ledger are held against: the class of each token at a moment, and the
+-- good taps of each upload, if there are uploads
 pub record Wanted : Type 0 where
-  pub classes : List ℕ → List ℕ
+  pub classes : ℕ → List ℕ → List ℕ
   pub uploads : Option (List (List TapFields))
 
 -- the lines of the file were read
@@ -158,14 +159,14 @@ pub record AreLinesOf (file : List ℕ) (read : List ReadLine) : Type 0 where
   pub split : lines_read read ≡ lines_of file
   pub are : AreRead read
 
--- What is told of the columns of a file, of which these lines were read: nothing of a ledger that is
--- not traced, which has right ones, and nothing of one that is not looked at.
-abbrev pub AreColumnsTold : Option Wanted → Bool → List ℕ → List ReadLine → List ℕ → Bool → Type 0
-AreColumnsTold None looked file read told right = (told ≡ []) × (right ≡ true)
-AreColumnsTold (Some wanted) false file read told right = (told ≡ []) × (right ≡ false)
-AreColumnsTold (Some wanted) true file read told right =
+-- What is reported of the columns of a file, of which these lines were read: nothing of a ledger
+-- that is not traced, which has right ones, and nothing of one that is not looked at.
+abbrev pub AreColumnsReported : Option Wanted → Bool → List ℕ → List ReadLine → List ℕ → Bool → Type 0
+AreColumnsReported None looked file read reported right = (reported ≡ []) × (right ≡ true)
+AreColumnsReported (Some wanted) false file read reported right = (reported ≡ []) × (right ≡ false)
+AreColumnsReported (Some wanted) true file read reported right =
     AreLinesOf file read × (fault : Option PlaceFault) × IsPlaceFault wanted.uploads read fault
-    × (told ≡ class_text wanted.classes (wrong_class wanted.classes read)
+    × (reported ≡ class_text wanted.classes (wrong_class wanted.classes read)
     ++ place_text wanted.uploads fault)
     × (right ≡ (not (is_some (wrong_class wanted.classes read)) && not (is_some fault)))
 

@@ -5,3 +5,4 @@ pub mod Options
 pub mod Reports
 pub mod Source
 pub mod Traced
+pub mod Tables

@@ -49,23 +49,23 @@ fn end_verdict(
     text: &mut Vec<u8>,
 ) -> Result<Verdict, Fault<'static>>
     requires clock { clock.now ≡ table.now.zone }
-    requires fed { (told : List ℕ) × HasFed table.now checker.old told
-        × HasSummedFor table.now report.old told }
+    requires fed { (reported : List ℕ) × HasFed table.now checker.old reported
+        × HasSummedFor table.now report.old reported }
 
     // Of all that was read so far.
-    ensures verdict { IfOk result (λ verdict. (file told : List ℕ) → HasReadAs trace.old file told
-        → HasFed table.now checker.old told
+    ensures verdict { IfOk result (λ verdict. (file reported : List ℕ) → HasReadAs trace.old file reported
+        → HasFed table.now checker.old reported
         → IsVerdict table.now (read_as (is_some (wanted_by trace.new)) file) verdict) }
-    ensures struck { IfOk result (λ verdict. (file told : List ℕ) (good : List TapFields)
-        → HasReadAs trace.old file told → HasStruck table.now checker.old balance.old told good
+    ensures struck { IfOk result (λ verdict. (file reported : List ℕ) (good : List TapFields)
+        → HasReadAs trace.old file reported → HasStruck table.now checker.old balance.old reported good
         → IsTrue (is_legal verdict) → (entries : List Entry)
         → IsLedgerOf table.now entries (read_as (is_some (wanted_by trace.new)) file)
         → IsBalance balance.new good (map tap_of_entry entries)) }
-    ensures sums { IfOk result (λ verdict. (file told : List ℕ) → HasReadAs trace.old file told
-        → HasSummedFor table.now report.old told → IsTrue (is_legal verdict)
-        → (good : List TapFields) → HasStruck table.now checker.old balance.old told good
+    ensures sums { IfOk result (λ verdict. (file reported : List ℕ) → HasReadAs trace.old file reported
+        → HasSummedFor table.now report.old reported → IsTrue (is_legal verdict)
+        → (good : List TapFields) → HasStruck table.now checker.old balance.old reported good
         → HasSummedFor table.now report.new (read_as (is_some (wanted_by trace.new)) file)) }
-    ensures all { IfOk result (λ verdict. (file told : List ℕ) → HasReadAs trace.old file told
+    ensures all { IfOk result (λ verdict. (file reported : List ℕ) → HasReadAs trace.old file reported
         → HasReadAll trace.new file) }
     ensures wanted { wanted_by trace.new ≡ wanted_by trace.old }
     ensures report { text_of report.new ≡ text_of report.old }
@@ -98,7 +98,7 @@ pub(crate) fn verdict_of<R: Read>(
     requires good { (good : List TapFields) × IsBalance balance.old good [] }
     requires trace { HasReadAs trace.old [] [] }
     requires sums { HasSummedFor table.now report.old [] }
-    ensures told { IfOk result (λ verdict. (file : List ℕ)
+    ensures reported { IfOk result (λ verdict. (file : List ℕ)
         × IsAllOf (R.remaining reader.old) file
         × IsVerdict table.now (read_as (is_some (wanted_by trace.new)) file) verdict
         × StrikesOut table.now (read_as (is_some (wanted_by trace.new)) file) balance.old
@@ -143,7 +143,7 @@ pub(crate) fn verdict_of<R: Read>(
 }
 
 /// Whether the verdict is `legal`.
-fn tells_legal(verdict: &Verdict) -> bool
+fn reports_legal(verdict: &Verdict) -> bool
     ensures { result ≡ is_legal verdict.now }
 {
     match verdict {
@@ -162,7 +162,7 @@ fn is_even(difference: &Option<Difference>) -> bool
     }
 }
 
-/// What is told of the verdict and, where it is legal and there are uploads, of their taps; and
+/// What is reported of the verdict and, if it is legal and there are uploads, of their taps; and
 /// whether all is well.
 fn finding_text(
     alloc: Global,
@@ -170,27 +170,27 @@ fn finding_text(
     balance: &Balance,
     has_uploads: bool,
 ) -> Result<(String, bool), AllocError>
-    ensures { IfOk result (λ told. (fares : Fares) (text : List ℕ) (good : List TapFields)
+    ensures { IfOk result (λ reported. (fares : Fares) (text : List ℕ) (good : List TapFields)
         → IsVerdict fares text verdict.now
         → (IsTrue (is_legal verdict.now) → (entries : List Entry) → IsLedgerOf fares entries text
         → IsBalance balance.now good (map tap_of_entry entries))
         → IsFinding fares text (if has_uploads then Some good else None)
-        (string_bytes told.0) told.1) }
+        (string_bytes reported.0) reported.1) }
 {
     let mut text = verdict_line(alloc, verdict)?;
-    if !tells_legal(verdict) {
+    if !reports_legal(verdict) {
         return Ok((text, false));
     }
     if !has_uploads {
         return Ok((text, true));
     }
-    let told = balance.difference();
-    write_difference(&mut text, &told)?;
-    Ok((text, is_even(&told)))
+    let reported = balance.difference();
+    write_difference(&mut text, &reported)?;
+    Ok((text, is_even(&reported)))
 }
 
-/// What is told of the verdict, of the taps and, where it is legal, of the columns of a traced ledger
-/// and of the report, if there is one; and whether all is well.
+/// What is reported of the verdict, of the taps and, if it is legal, of the columns of a traced
+/// ledger and of the report, if there is one; and whether all is well.
 fn audit_text(
     alloc: Global,
     verdict: &Verdict,
@@ -201,7 +201,7 @@ fn audit_text(
 ) -> Result<(Vec<u8>, bool), NoMemory>
     requires { is_legal verdict.now ≡ true → (fares : Fares) × (text : List ℕ)
         × HasSummedFor fares report text × IsLedger fares text }
-    ensures { IfOk result (λ told. (fares : Fares) (file : List ℕ) (good : List TapFields)
+    ensures { IfOk result (λ reported. (fares : Fares) (file : List ℕ) (good : List TapFields)
         → IsVerdict fares (read_as (is_some (wanted_by trace.now)) file) verdict.now
         → ((is_legal verdict.now ≡ true)
         ↔ IsLedger fares (read_as (is_some (wanted_by trace.now)) file))
@@ -213,12 +213,12 @@ fn audit_text(
         → (is_legal verdict.now ≡ true → HasReadAll trace.now file)
         → (read : List ReadLine)
         × IsAudit false fares (wanted_by trace.now) file read
-        (if has_uploads then Some good else None) (text_of report) told.0.items told.1) }
+        (if has_uploads then Some good else None) (text_of report) reported.0.items reported.1) }
 {
     let found = finding_text(alloc, verdict, balance, has_uploads)?;
     let is_sound = found.1;
     let mut text = found.0.into_bytes();
-    let is_legal = tells_legal(verdict);
+    let is_legal = reports_legal(verdict);
     let is_right = write_columns(alloc, &mut text, is_legal, trace)?;
     let is_whole = are_both(is_legal, is_right);
     let fits = write_report_line(alloc, &mut text, is_whole, report)?;
@@ -243,11 +243,11 @@ pub(crate) fn audit_over<R: Read, W: Write>(
     requires good { (good : List TapFields) × IsBalance balance good [] }
     requires trace { HasReadAs trace [] [] }
     requires sums { HasSummedFor table.now report [] }
-    ensures told { IfOk result (λ well. (file : List ℕ) × IsAllOf (R.remaining reader.old) file
-        × ((good : List TapFields) → IsBalance balance good [] → (told : List ℕ)
+    ensures reported { IfOk result (λ well. (file : List ℕ) × IsAllOf (R.remaining reader.old) file
+        × ((good : List TapFields) → IsBalance balance good [] → (reported : List ℕ)
         × (read : List ReadLine) × IsAudit false table.now (wanted_by trace) file read
-        (if has_uploads then Some good else None) (text_of report) told well
-        × Appends (W.contents out.old) (W.contents out.new) told)) }
+        (if has_uploads then Some good else None) (text_of report) reported well
+        × Appends (W.contents out.old) (W.contents out.new) reported)) }
 
     // Only a write that fails leaves something of a text behind.
     ensures fault { IfErr result (λ fault. is_unwritten fault ≡ false
@@ -255,10 +255,10 @@ pub(crate) fn audit_over<R: Read, W: Write>(
     // And what it leaves is a beginning of the right text.
     ensures begun { IfErr result (λ fault. is_unwritten fault ≡ true → (file : List ℕ)
         × IsAllOf (R.remaining reader.old) file
-        × ((good : List TapFields) → IsBalance balance good [] → (told : List ℕ) × (well : Bool)
+        × ((good : List TapFields) → IsBalance balance good [] → (reported : List ℕ) × (well : Bool)
         × (read : List ReadLine) × IsAudit false table.now (wanted_by trace) file read
-        (if has_uploads then Some good else None) (text_of report) told well
-        × Begins (W.contents out.old) (W.contents out.new) told)) }
+        (if has_uploads then Some good else None) (text_of report) reported well
+        × Begins (W.contents out.old) (W.contents out.new) reported)) }
     ensures named { IfErr result (λ fault. named_by fault ≡ None) }
     ensures later { IfErr result (λ fault. is_of_loading fault ≡ false) }
 {
@@ -273,7 +273,7 @@ pub(crate) fn audit_over<R: Read, W: Write>(
         &mut trace,
         &mut report,
     )?;
-    let told = audit_text(alloc, &verdict, &balance, has_uploads, &trace, report)?;
-    write_text(out, told.0.as_slice())?;
-    Ok(told.1)
+    let reported = audit_text(alloc, &verdict, &balance, has_uploads, &trace, report)?;
+    write_text(out, reported.0.as_slice())?;
+    Ok(reported.1)
 }

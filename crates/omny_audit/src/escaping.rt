@@ -111,7 +111,7 @@ impl<W: Write + Drop> Escaping<W> {
         }
     }
 
-    /// Lets all bytes go out. Where that fails nobody can be told.
+    /// Lets all bytes go out. If that fails, it cannot be reported.
     pub(crate) fn finish(mut self) {
         if self.has_feed {
             let _ = self.push(b'\n');

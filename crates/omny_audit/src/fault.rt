@@ -2,13 +2,16 @@
 ghost use Rattle.std.specs.Prelude.{◌≡◌, ℕ, IfSome, List, Option, Some, false};
 ghost use Rattle.omny_audit.specs.Fault.{IsRightFault, audit_fault_text, is_quiet, is_unwritten};
 ghost use Rattle.omny_audit.specs.Fault.{named_by};
-ghost use Rattle.program_manners.specs.Refusals.{TellsRefusal};
+ghost use Rattle.program_manners.specs.Refusals.{HasRefused};
 ghost use Rattle.program_manners.specs.Loads.{Loaded};
 ghost use Rattle.program_manners.specs.declared.loading.LoadFault.{LoadFault as ALoadFault};
 ghost use Rattle.program_manners.specs.Lines.{load_text};
+ghost use Rattle.program_manners.specs.TableWords.{TableNames};
 
 use fare_table::TableFault;
-use program_manners::{FileFault, LoadFault, TableLine};
+use program_manners::{
+    FileFault, FollowLine, LoadFault, NamedClassLine, NamedTableLine, TableLine, WrongWord,
+};
 use std::alloc::AllocError;
 use std::fmt;
 use tap_views::NoMemory;
@@ -20,10 +23,18 @@ pub(crate) enum Fault<'a> {
     File(FileFault<'a>),
     /// A read of the ledger failed.
     Ledger,
+    /// The word of a fare table has a wrong date, or none if one is wanted.
+    Date(WrongWord<'a>),
     /// The fare table's text is no table.
     Table(TableFault),
+    /// The text of one of several fare tables is no table.
+    NamedTable(NamedTableLine<'a>),
+    /// A fare table cannot follow those before it.
+    Follow(FollowLine<'a>),
     /// The fare table's text names a class that no traced ledger can have.
     ClassName,
+    /// The text of one of several fare tables names a class that no traced ledger can have.
+    NamedClass(NamedClassLine<'a>),
     /// A write failed.
     Write,
     /// Who reads the text has closed it.
@@ -36,17 +47,17 @@ impl<'a> Fault<'a> {
     /// Why the file of this name was not loaded.
     pub(crate) fn of_load(name: &'a str, fault: LoadFault) -> Fault<'a>
         ensures line { audit_fault_text result ≡ load_text name.entry.now fault }
-        ensures named { IfSome (named_by result) (λ told. told ≡ name.entry.now) }
+        ensures named { IfSome (named_by result) (λ reported. reported ≡ name.entry.now) }
         ensures unwritten { is_unwritten result ≡ false }
-        ensures right { (table : List ℕ) (told after : Option (List Loaded))
+        ensures right { (table : TableNames) (loaded after : Option (List Loaded))
             (refused : Option (Option (List ℕ) × ALoadFault))
-            → TellsRefusal refused name.entry.now fault
-            → IsRightFault table told after refused result }
+            → HasRefused refused name.entry.now fault
+            → IsRightFault table loaded after refused result }
     {
         Fault::File(FileFault { name, fault })
     }
 
-    /// Whether who reads the text has closed it, so that nothing is told.
+    /// Whether who reads the text has closed it, so that nothing is reported.
     pub(crate) fn is_quiet(&self) -> bool
         ensures { result ≡ is_quiet self.now }
     {
@@ -54,6 +65,8 @@ impl<'a> Fault<'a> {
             Fault::Closed => true,
             Fault::File(_) | Fault::Ledger | Fault::Table(_) => false,
             Fault::ClassName | Fault::Write | Fault::NoMemory => false,
+            Fault::Date(_) | Fault::NamedTable(_) => false,
+            Fault::Follow(_) | Fault::NamedClass(_) => false,
         }
     }
 }
@@ -96,6 +109,10 @@ impl fmt::Display for Fault<'_> {
             Fault::File(fault) => fault.fmt(f),
             Fault::Ledger => f.write_str("fault: cannot read the ledger"),
             Fault::Table(fault) => TableLine(*fault).fmt(f),
+            Fault::Date(wrong) => write!(f, "fault: {wrong}"),
+            Fault::NamedTable(line) => line.fmt(f),
+            Fault::Follow(line) => line.fmt(f),
+            Fault::NamedClass(line) => line.fmt(f),
             Fault::ClassName => {
                 f.write_str("fault: table has a class name that no ledger can have")
             }

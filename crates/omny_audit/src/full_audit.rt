@@ -19,7 +19,7 @@ ghost use Rattle.omny_audit.specs.Reports.{IsAudit, IsReportLine};
 ghost use Rattle.omny_audit.specs.inside.Reports.{HasSummedFor, text_of};
 ghost use Rattle.omny_audit.specs.inside.Findings.{HasRecountedAll};
 ghost use Rattle.omny_audit.specs.inside.Source.{IsAllOf};
-ghost use Rattle.omny_audit.specs.Traced.{AreColumnsTold, ReadLine};
+ghost use Rattle.omny_audit.specs.Traced.{AreColumnsReported, ReadLine};
 ghost use Rattle.omny_audit.specs.inside.Traced.{HasReadAll, HasReadAs, wanted_by};
 
 use crate::fault::Fault;
@@ -37,7 +37,7 @@ use tap_views::{NoMemory, TapFields};
 /// How many bytes one read asks for.
 const PIECE_BYTES: usize = 65_536;
 
-/// Reads what the end of the file leaves, and appends the rest of what is told. The text is replaced.
+/// Reads what the end of the file leaves, and appends the rest of the report. The text is replaced.
 /// Says whether no line is wrong.
 fn end_recount(
     alloc: Global,
@@ -49,7 +49,7 @@ fn end_recount(
     trace: &mut Option<Trace>,
     report: &mut Option<ReportWithSums>,
     text: &mut Vec<u8>,
-    told: &mut String,
+    reported: &mut String,
 ) -> Result<bool, Fault<'static>>
     requires clock { clock.now ≡ table.now.zone }
     requires fed { (before written : List ℕ) × (good : List TapFields)
@@ -57,14 +57,14 @@ fn end_recount(
         × HasSummedFor table.now report.old before }
 
     // Of all that was read so far.
-    ensures told { IfOk result (λ legal. (file before written : List ℕ) (good : List TapFields)
+    ensures reported { IfOk result (λ legal. (file before written : List ℕ) (good : List TapFields)
         → HasReadAs trace.old file before
         → HasRecounted table.now recount.old has_uploads full.old before written good
         → (taken : List TakenLine)
         × IsRecount table.now (read_as (is_some (wanted_by trace.new)) file) taken
         × (legal ≡ nat_eq (wrong_count taken) 0)
         × (has_uploads ≡ true → IsFullBalance full.new good (taps_from taken))
-        × (more : List ℕ) × (string_bytes told.new ≡ string_bytes told.old ++ more)
+        × (more : List ℕ) × (string_bytes reported.new ≡ string_bytes reported.old ++ more)
         × (written ++ more ≡ recount_text taken)) }
     ensures sums { IfOk result (λ legal. (file before : List ℕ) → HasReadAs trace.old file before
         → HasSummedFor table.now report.old before
@@ -78,15 +78,15 @@ fn end_recount(
 {
     read_end(trace, text)?;
     let left = text.as_slice();
-    recount.feed(table, clock, left, has_uploads, full, told)?;
+    recount.feed(table, clock, left, has_uploads, full, reported)?;
     add_piece(alloc, table, left, report)?;
-    let legal = recount.finish(told)?;
+    let legal = recount.finish(reported)?;
     Ok(legal)
 }
 
-/// Recounts all that the reader has left, and writes what is told of its lines as they come. The
-/// taps that they tell are struck out, if there are uploads. It keeps no more of the text than one
-/// read gives. Says whether no line is wrong.
+/// Recounts all that the reader has left, and writes what is reported of its lines as they come.
+/// The taps that they name are struck out, if there are uploads. It keeps no more of the text than
+/// one read gives. Says whether no line is wrong.
 fn recount_all<R: Read, W: Write>(
     alloc: Global,
     table: &FareTable,
@@ -105,7 +105,7 @@ fn recount_all<R: Read, W: Write>(
         × (has_uploads ≡ true → IsFullBalance full.old good []) }
 
     // Of all good taps that the balance can have.
-    ensures told { IfOk result (λ legal. (file : List ℕ) × IsAllOf (R.remaining reader.old) file
+    ensures reported { IfOk result (λ legal. (file : List ℕ) × IsAllOf (R.remaining reader.old) file
         × ((good : List TapFields) → (has_uploads ≡ true → IsFullBalance full.old good [])
         → HasRecountedAll table.now has_uploads full.new
         (read_as (is_some (wanted_by trace.new)) file) good legal (W.contents out.old)
@@ -118,14 +118,14 @@ fn recount_all<R: Read, W: Write>(
     ensures later { IfErr result (λ fault. is_of_loading fault ≡ false) }
 {
     let mut recount = Recount::new(alloc);
-    let mut told = String::new(alloc);
+    let mut reported = String::new(alloc);
     let mut text = Vec::new(alloc);
     let mut step = [0u8; PIECE_BYTES];
     for _piece in 0..u64::MAX {
         let Ok(count) = reader.read(&mut step) else {
             return Err(Fault::Ledger);
         };
-        told.clear();
+        reported.clear();
         if count == 0 {
             let legal = end_recount(
                 alloc,
@@ -137,31 +137,31 @@ fn recount_all<R: Read, W: Write>(
                 trace,
                 report,
                 &mut text,
-                &mut told,
+                &mut reported,
             )?;
-            write_piece(out, told.as_str())?;
+            write_piece(out, reported.as_str())?;
             return Ok(legal);
         }
         read_piece(trace, &step[..count], &mut text)?;
         let part = text.as_slice();
-        recount.feed(table, clock, part, has_uploads, full, &mut told)?;
+        recount.feed(table, clock, part, has_uploads, full, &mut reported)?;
         add_piece(alloc, table, part, report)?;
-        write_piece(out, told.as_str())?;
+        write_piece(out, reported.as_str())?;
     }
     Err(Fault::Ledger)
 }
 
-/// What is told of the taps behind a recount, if there are uploads; and whether all is well.
+/// What is reported of the taps behind a recount, if there are uploads; and whether all is well.
 fn differences_text(
     alloc: Global,
     full: &FullBalance,
     has_uploads: bool,
     legal: bool,
 ) -> Result<(String, bool), AllocError>
-    ensures { IfOk result (λ told. (good taps : List TapFields)
+    ensures { IfOk result (λ reported. (good taps : List TapFields)
         → (has_uploads ≡ true → IsFullBalance full.now good taps)
         → IsDifferencesEnd (if has_uploads then Some good else None) taps legal
-        (string_bytes told.0) told.1) }
+        (string_bytes reported.0) reported.1) }
 {
     let mut text = String::new(alloc);
     if !has_uploads {
@@ -179,8 +179,9 @@ fn differences_text(
     Ok((text, is_even))
 }
 
-/// What is told of the taps behind a recount, if there are uploads, of the columns of a traced ledger,
-/// and of the report, if there is one and nothing of the ledger is wrong; and whether all is well.
+/// What is reported of the taps behind a recount, if there are uploads, of the columns of a traced
+/// ledger, and of the report, if there is one and nothing of the ledger is wrong; and whether all
+/// is well.
 fn end_text(
     alloc: Global,
     full: &FullBalance,
@@ -191,16 +192,16 @@ fn end_text(
 ) -> Result<(Vec<u8>, bool), NoMemory>
     requires { legal ≡ true → (fares : Fares) × (text : List ℕ)
         × HasSummedFor fares report text × IsLedger fares text }
-    ensures { IfOk result (λ told. (ending columns rest : List ℕ) × (sound right fits : Bool)
+    ensures { IfOk result (λ reported. (ending columns rest : List ℕ) × (sound right fits : Bool)
         × ((good taps : List TapFields)
         → (has_uploads ≡ true → IsFullBalance full.now good taps)
         → IsDifferencesEnd (if has_uploads then Some good else None) taps legal ending sound)
         × ((file : List ℕ) → HasReadAll trace.now file → (read : List ReadLine)
-        × AreColumnsTold (wanted_by trace.now) true file read columns right)
+        × AreColumnsReported (wanted_by trace.now) true file read columns right)
         × ((fares : Fares) (text : List ℕ) → (legal ≡ true → HasSummedFor fares report text)
         → IsReportLine fares text (text_of report) (legal && right) rest fits)
-        × (told.0.items ≡ (ending ++ columns) ++ rest)
-        × (told.1 ≡ (sound && (right && fits)))) }
+        × (reported.0.items ≡ (ending ++ columns) ++ rest)
+        × (reported.1 ≡ (sound && (right && fits)))) }
 {
     let ending = differences_text(alloc, full, has_uploads, legal)?;
     let is_sound = ending.1;
@@ -232,11 +233,11 @@ pub(crate) fn full_audit_over<R: Read, W: Write>(
     requires sums { HasSummedFor table.now report [] }
 
     // Of all good taps that the balance can have.
-    ensures told { IfOk result (λ well. (file : List ℕ) × IsAllOf (R.remaining reader.old) file
-        × ((good : List TapFields) → IsBalance balance good [] → (told : List ℕ)
+    ensures reported { IfOk result (λ well. (file : List ℕ) × IsAllOf (R.remaining reader.old) file
+        × ((good : List TapFields) → IsBalance balance good [] → (reported : List ℕ)
         × (read : List ReadLine) × IsAudit true table.now (wanted_by trace) file read
-        (if has_uploads then Some good else None) (text_of report) told well
-        × Appends (W.contents out.old) (W.contents out.new) told)) }
+        (if has_uploads then Some good else None) (text_of report) reported well
+        × Appends (W.contents out.old) (W.contents out.new) reported)) }
     ensures named { IfErr result (λ fault. named_by fault ≡ None) }
     ensures later { IfErr result (λ fault. is_of_loading fault ≡ false) }
 {
@@ -254,7 +255,7 @@ pub(crate) fn full_audit_over<R: Read, W: Write>(
         &mut report,
         out,
     )?;
-    let told = end_text(alloc, &full, has_uploads, legal, &trace, report)?;
-    write_text(out, told.0.as_slice())?;
-    Ok(told.1)
+    let reported = end_text(alloc, &full, has_uploads, legal, &trace, report)?;
+    write_text(out, reported.0.as_slice())?;
+    Ok(reported.1)
 }

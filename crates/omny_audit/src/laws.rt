@@ -3,8 +3,8 @@
 ghost use Rattle.omny_audit.specs.Findings.{FindingsDecide, FullFindingsDecide};
 ghost use Rattle.omny_audit.specs.Reports.{AuditsDecide};
 
-/// What is found is well exactly where the text is, whole, a ledger of legal histories under the
-/// table and, if there are uploads, its taps are theirs in some order.
+/// What is found is well exactly if the text is, whole, a ledger of legal histories under the table
+/// and, if there are uploads, its taps are theirs in some order.
 pub fn findings_decide()
     ensures { FindingsDecide }
 {

@@ -1,6 +1,6 @@
-//! The program for auditors: checks a ledger under a fare table, and tells whether it is, whole,
-//! the ledger of legal histories, or which of its lines is the first that no such ledger has there;
-//! and whether its taps are those of some uploads, and a report its own.
+//! The program for auditors: checks a ledger under a fare table, and says whether it is, whole, the
+//! ledger of legal histories, or which of its lines is the first that no such ledger has there; and
+//! whether its taps are those of some uploads, and a report its own.
 //!
 //! | module | what it does |
 //! |---|---|
@@ -11,6 +11,7 @@
 //! | `source` | where the table, the uploads, the report and the ledger come from |
 //! | `files` | the files and the standard input of the system as a source |
 //! | `options` | the words of the command line, as `clap` reads them |
+//! | `tables` | fare tables that are loaded in the order of their words |
 //! | `text` | the lines of a finding |
 //! | `traced` | a traced ledger, read as a ledger, and its columns |
 //! | `output` | texts, written out |
@@ -30,6 +31,7 @@ mod output;
 mod program;
 mod report;
 mod source;
+mod tables;
 mod text;
 mod traced;
 
@@ -42,7 +44,7 @@ use std::io::Write;
 use std::process::ExitCode;
 
 /// The words of the command line with the names of the list that they name, if they name one. The
-/// error is the status, where it was told why there are none.
+/// error is the status, when it was reported why there are none.
 fn words_with_list<E: Write>(rt: &HostRuntime, err: &mut Complaints<E>) -> Result<Vec<String>, u8> {
     let words = match words_of(rt) {
         Ok(words) => words,

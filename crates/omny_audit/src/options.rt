@@ -6,13 +6,14 @@ ghost use Rattle.clap.specs.Words.{rows_of, rule_of};
 ghost use Rattle.omny_audit.specs.Options.{ParsesForAudit, audit_asked_by, not_dash, audit_program};
 ghost use Rattle.omny_audit.specs.inside.Options.{IsRightList, IsWrongList, are_input};
 ghost use Rattle.omny_audit.specs.inside.Options.{audit_asked_of};
-ghost use Rattle.omny_audit.specs.Options.{required_table_option};
+ghost use Rattle.omny_audit.specs.Options.{required_table_option, tables_or_none};
+ghost use Rattle.program_manners.specs.TableViews.{names_of};
 ghost use Rattle.program_manners.specs.ListWords.{list_asked, view_of};
 
 use clap::{Arg, ArgAction, ArgMatches, Command, Error};
 use program_manners::{
-    ListFault, ListWords, add_list_args, files_arg, flag_arg, flag_in, names_in, new_command,
-    option_arg, positional_arg,
+    ListFault, ListWords, TableWords, add_list_args, files_arg, flag_arg, flag_in, names_in,
+    new_command, option_arg, positional_arg, repeated_arg,
 };
 use std::alloc::{AllocError, Global};
 
@@ -65,6 +66,7 @@ Examples:
   find week -name '*.tap' -print0 | omny_audit --table table.toml ledger.csv --files-from - -0
   omny_audit --all --table table.toml ledger.csv
   omny_audit --table table.toml --report bill.txt ledger.csv
+  omny_audit --table old.toml --table new.toml@2026-01-04 ledger.csv
   omny_cli --table table.toml --ledger a.tap b.tap | omny_audit --table table.toml --uploads a.tap b.tap
 
 Exit status:
@@ -77,8 +79,8 @@ Exit status:
 /// What the words ask for.
 #[derive(Drop)]
 pub(crate) struct Options<'a> {
-    /// The file of the fare table.
-    pub(crate) table: &'a str,
+    /// The words of the fare table and of those that follow it.
+    pub(crate) table: TableWords<'a>,
     /// Whether all wrong lines are asked for.
     pub(crate) all: bool,
     /// The files of the uploads whose taps the ledger should have; none asks for no such check.
@@ -90,7 +92,8 @@ pub(crate) struct Options<'a> {
 }
 
 /// The help of `--table`.
-const TABLE_HELP: &str = "The fare table, a TOML file";
+const TABLE_HELP: &str =
+    "The fare table, a TOML file; again, as G@2026-01-04, for the fares from that day on";
 
 /// The help of `--all`.
 const ALL_HELP: &str = "Print each wrong line, each missing and each surplus tap";
@@ -111,7 +114,7 @@ fn table_arg<'a>(alloc: Global) -> Arg<'a>
     ensures rule { rule_of result ≡ required_table_option }
     ensures local { result.global ≡ false }
 {
-    option_arg(alloc, "table", "F", TABLE_HELP).required(true)
+    repeated_arg(alloc, "table", "F", TABLE_HELP).required(true)
 }
 
 /// The command line, as clap reads it.
@@ -140,14 +143,13 @@ fn matched<'a>(alloc: Global, words: &'a [String]) -> Result<ArgMatches<'a>, Err
     command(alloc)?.try_get_matches_from(words)
 }
 
-/// The name, but where it is `-`.
 fn unless_dash<'a>(name: &'a str) -> Option<&'a str>
     ensures { option_map (λ n. n.now) result ≡ not_dash name.entry.now }
 {
     if name == "-" { None } else { Some(name) }
 }
 
-/// The file of the ledger, where one is named.
+/// The file of the ledger, if one is named.
 fn ledger_in<'a>(named: Option<&'a str>) -> Option<&'a str>
     ensures { option_map (λ n. n.now) result
         ≡ option_and_then not_dash (option_map (λ n. n.now) named.entry) }
@@ -155,6 +157,20 @@ fn ledger_in<'a>(named: Option<&'a str>) -> Option<&'a str>
     match named {
         Some(name) => unless_dash(name),
         None => None,
+    }
+}
+
+/// These words of `--table`. There is one at least on each command line.
+fn tables_of<'a>(alloc: Global, words: &[&'a str]) -> Result<TableWords<'a>, AllocError>
+    ensures { IfOk result (λ tables. names_of tables
+        ≡ tables_or_none (map (λ w. w.now) words.now)) }
+{
+    match TableWords::of(alloc, words)? {
+        Some(tables) => Ok(tables),
+        None => Ok(TableWords {
+            first: "",
+            later: Vec::new(alloc),
+        }),
     }
 }
 
@@ -167,8 +183,9 @@ impl<'a> Options<'a> {
         ensures kinds { FailsBy (fault_of audit_program (map string_bytes words.entry.now)) result }
     {
         let matches = matched(alloc, words)?;
+        let tables = names_in(alloc, &matches, "table")?;
         Ok(Options {
-            table: matches.get_str("table").unwrap_or(""),
+            table: tables_of(alloc, &tables)?,
             all: flag_in(&matches, "all"),
             uploads: names_in(alloc, &matches, "uploads")?,
             report: matches.get_str("report"),
@@ -215,7 +232,7 @@ fn list_in<'a>(matches: &ArgMatches<'a>) -> Result<Option<ListWords<'a>>, ListFa
 }
 
 /// The list of uploads that the words name, if they name one. Words that are no command line name
-/// none: the program tells why, or shows its help.
+/// none: the program says why, or shows its help.
 ///
 /// # Errors
 ///

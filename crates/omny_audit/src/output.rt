@@ -11,7 +11,7 @@ use fare_texts::write_bytes;
 use std::io;
 use std::io::{ErrorKind, Write};
 
-/// Why a write failed. Nothing is told of it exactly if whoever reads the text has closed it.
+/// Why a write failed. Nothing is reported of it exactly if whoever reads the text has closed it.
 pub(crate) fn unwritten<'a>(error: &io::Error) -> Fault<'a>
     ensures unwritten { is_unwritten result ≡ true }
     ensures quiet { (error_kind error.now ≡ ErrorKind.BrokenPipe) ↔ (is_quiet result ≡ true) }

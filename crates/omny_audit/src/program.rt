@@ -1,30 +1,36 @@
 //! The whole program, over any source of bytes and any two writers.
 ghost use Rattle.std.specs.Prelude.{◌≡◌, ◌≢◌, ◌≤◌, ◌⊎◌, ◌++◌, ◌∷◌, [], List, ℕ, IfErr, IfOk};
 ghost use Rattle.std.specs.Prelude.{IfSome, None, Some, codes, false, length, map, option_map};
-ghost use Rattle.std.specs.Prelude.{Option, if◌then◌else◌, string_bytes, true, unwrap_or};
+ghost use Rattle.std.specs.Prelude.{Option, if◌then◌else◌, string_bytes, true, is_some, unwrap_or};
 ghost use Rattle.std.specs.Io.KnownBytes.{Appends, Consumes, IsAtEnd, Keeps};
 ghost use Rattle.clap.specs.Words.{kind_of};
 ghost use Rattle.fare_table.specs.Fares.{Fares};
-ghost use Rattle.fare_table.specs.Meaning.{Means};
 ghost use Rattle.ledger_check.specs.Balances.{IsBalance};
 ghost use Rattle.ledger_check.specs.Columns.{has_traced_head, traced_head};
 ghost use Rattle.ledger_check.specs.Places.{HasUploads, uploads_of};
 ghost use Rattle.tap_views.specs.declared.encoder.TapFields.{TapFields};
-ghost use Rattle.omny_audit.specs.Fault.{IsRightFault, NamesOneOf, NamesUnplainClass};
+ghost use Rattle.omny_audit.specs.Fault.{IsRightFault, NamesOneOf};
 ghost use Rattle.omny_audit.specs.Fault.{is_unwritten, named_by};
 ghost use Rattle.omny_audit.specs.Options.{AsksForAuditText, ParsesForAudit, audit_asked_by};
 ghost use Rattle.omny_audit.specs.inside.Options.{audit_asked_of};
 ghost use Rattle.omny_audit.specs.inside.Reports.{HasSummedFor, text_of};
-ghost use Rattle.omny_audit.specs.Options.{files_of, named_file};
+ghost use Rattle.omny_audit.specs.Options.{files_of, named_file, table_files};
 ghost use Rattle.omny_audit.specs.Program.{AreGoodFieldsOfAll, AreGoodFieldsOfEach, AreWanted};
 ghost use Rattle.omny_audit.specs.Program.{AuditGaveUp, Audits, LoadsNamedFiles};
 ghost use Rattle.omny_audit.specs.Program.{LoadsReport};
-ghost use Rattle.omny_audit.specs.inside.Fault.{IsRightOfNames, is_of_loading};
+ghost use Rattle.omny_audit.specs.inside.Fault.{is_of_loading};
+ghost use Rattle.omny_audit.specs.inside.Tables.{IsClassFault};
 ghost use Rattle.omny_audit.specs.inside.Traced.{HasReadAs, HaveNamed, uploads_in, wanted_by};
-ghost use Rattle.omny_audit.specs.Program.{IsFaultTold, IsRightAuditFault};
+ghost use Rattle.omny_audit.specs.Program.{IsFaultReported, IsRightAuditFault};
 ghost use Rattle.omny_audit.specs.Source.{OpensOne};
-ghost use Rattle.program_manners.specs.Loads.{Loaded, TellsOne};
+ghost use Rattle.program_manners.specs.Loads.{Loaded, LoadsOne};
+ghost use Rattle.program_manners.specs.LineWritten.{LineWritten};
+ghost use Rattle.program_manners.specs.TableLoads.{LoadsTables};
+ghost use Rattle.program_manners.specs.TableViews.{names_of};
+ghost use Rattle.program_manners.specs.TableWords.{TableNames, date_text, wrong_word};
 ghost use Rattle.program_manners.specs.Words.{IsRequest};
+ghost use Rattle.program_manners.specs.declared.table_words.DateFault.{DateFault};
+ghost use Rattle.settled_texts.specs.ClassFaults.{IsWrongAt};
 
 use crate::audit::audit_over;
 use crate::fault::Fault;
@@ -34,13 +40,15 @@ use crate::options::Options;
 use crate::output::unwritten;
 use crate::report::ReportWithSums;
 use crate::source::Source;
+use crate::tables::{Tables, load_tables};
 use crate::traced::Trace;
 use clap::Error;
 use clap::error::ErrorKind;
-use fare_table::FareTable;
 use ledger_check::{Balance, Places, has_traced_head, traced_head_line};
-use program_manners::{Complaints, STANDARD_INPUT, show_answer};
-use settled_texts::{ClassFault, ClassNames};
+use program_manners::{
+    Complaints, NamedClassLine, STANDARD_INPUT, TableWord, TableWords, WrongWord, show_answer,
+};
+use settled_texts::{ClassFault, ClassNames, WrongNames};
 use shard_book::HashSeed;
 use std::alloc::Global;
 use std::collections::VecDeque;
@@ -51,38 +59,19 @@ use std::random::RandomSource;
 const PIECE_BYTES: usize = 65_536;
 
 /// All bytes of the file of this name.
-fn load_named<'a, S: Source>(source: &mut S, name: &'a str) -> Result<Vec<u8>, Fault<'a>>
-    ensures ok { IfOk result (λ bytes. TellsOne (S.loaded source.old) (S.loaded source.new)
+pub(crate) fn load_named<'a, S: Source>(source: &mut S, name: &'a str) -> Result<Vec<u8>, Fault<'a>>
+    ensures ok { IfOk result (λ bytes. LoadsOne (S.loaded source.old) (S.loaded source.new)
         (Some name.entry.now) bytes.items) }
     ensures fault { IfErr result (λ fault. is_unwritten fault ≡ false) }
     ensures named { IfErr result (λ fault. IfSome (named_by fault)
-        (λ told. told ≡ name.entry.now)) }
-    ensures right { IfErr result (λ fault. (table : List ℕ) (told after : Option (List Loaded))
-        → IsRightFault table told after (S.refused source.new) fault) }
+        (λ reported. reported ≡ name.entry.now)) }
+    ensures right { IfErr result (λ fault. (table : TableNames) (loaded_before after : Option (List Loaded))
+        → IsRightFault table loaded_before after (S.refused source.new) fault) }
 {
     match source.load(name) {
         Ok(bytes) => Ok(bytes),
         Err(fault) => Err(Fault::of_load(name, fault)),
     }
-}
-
-/// The fare table of the file of this name, and its text.
-fn load_table<'a, S: Source>(
-    alloc: Global,
-    name: &'a str,
-    source: &mut S,
-) -> Result<(FareTable, Vec<u8>), Fault<'a>>
-    ensures ok { IfOk result (λ loaded. TellsOne (S.loaded source.old) (S.loaded source.new)
-        (Some name.entry.now) loaded.1.items × Means loaded.1.items loaded.0) }
-    ensures fault { IfErr result (λ fault. is_unwritten fault ≡ false) }
-    ensures named { IfErr result (λ fault. IfSome (named_by fault)
-        (λ told. told ≡ name.entry.now)) }
-    ensures right { IfErr result (λ fault. IsRightFault name.entry.now (S.loaded source.old)
-        (S.loaded source.new) (S.refused source.new) fault) }
-{
-    let text = load_named(source, name)?;
-    let table = FareTable::read(alloc, &text)?;
-    Ok((table, text))
 }
 
 /// The good taps of the uploads of these names: how often each is there, and by their places. It
@@ -100,8 +89,8 @@ fn load_uploads<'a, S: Source>(
         × HasUploads loaded.1 lists) }
     ensures fault { IfErr result (λ fault. is_unwritten fault ≡ false) }
     ensures named { IfErr result (λ fault. NamesOneOf (map (λ n. n.now) names.now) fault) }
-    ensures right { IfErr result (λ fault. (table : List ℕ) (told after : Option (List Loaded))
-        → IsRightFault table told after (S.refused source.new) fault) }
+    ensures right { IfErr result (λ fault. (table : TableNames) (loaded_before after : Option (List Loaded))
+        → IsRightFault table loaded_before after (S.refused source.new) fault) }
 {
     let mut balance = Balance::new(alloc);
     let mut places = Places::new(alloc);
@@ -123,15 +112,15 @@ fn kept_if(has_uploads: bool, places: Places) -> Option<Places>
     if has_uploads { Some(places) } else { None }
 }
 
-/// The ledger of this name, or standard input where none is named.
+/// The ledger of this name, or standard input if none is named.
 fn open_ledger<'a, S: Source>(name: Option<&'a str>, source: &mut S) -> Result<S::Ledger, Fault<'a>>
     ensures ok { IfOk result (λ ledger. OpensOne (S.loaded source.old) (S.loaded source.new)
         (option_map (λ n. n.now) name.entry) (S.Ledger.remaining ledger)) }
     ensures fault { IfErr result (λ fault. is_unwritten fault ≡ false) }
-    ensures named { IfErr result (λ fault. IfSome (named_by fault) (λ told. told
+    ensures named { IfErr result (λ fault. IfSome (named_by fault) (λ reported. reported
         ≡ unwrap_or (option_map (λ n. n.now) name.entry) (codes "standard input"))) }
-    ensures right { IfErr result (λ fault. (table : List ℕ) (told after : Option (List Loaded))
-        → IsRightFault table told after (S.refused source.new) fault) }
+    ensures right { IfErr result (λ fault. (table : TableNames) (loaded_before after : Option (List Loaded))
+        → IsRightFault table loaded_before after (S.refused source.new) fault) }
 {
     match source.open(name) {
         Ok(ledger) => Ok(ledger),
@@ -152,8 +141,8 @@ fn load_report<'a, R: RandomSource, S: Source>(
     ensures fault { IfErr result (λ fault. is_unwritten fault ≡ false) }
     ensures named { IfErr result
         (λ fault. NamesOneOf (named_file (option_map (λ n. n.now) name.entry)) fault) }
-    ensures right { IfErr result (λ fault. (table : List ℕ) (told after : Option (List Loaded))
-        → IsRightFault table told after (S.refused source.new) fault) }
+    ensures right { IfErr result (λ fault. (table : TableNames) (loaded_before after : Option (List Loaded))
+        → IsRightFault table loaded_before after (S.refused source.new) fault) }
 {
     let Some(name) = name else {
         return Ok(None);
@@ -189,46 +178,57 @@ fn read_head<R: Read>(alloc: Global, ledger: &mut R) -> Result<Vec<u8>, Fault<'s
     Err(Fault::Ledger)
 }
 
-/// Why the names of the classes are not had. The text was read as a fare table before, so that it is
-/// TOML and names a default class.
-fn of_names(fault: ClassFault) -> Fault<'static>
-    ensures right { (text : List ℕ) → (fault ≡ ClassFault.Name → NamesUnplainClass text)
-        → IsRightOfNames text result }
+/// Why the names of the classes are not had. The texts were read as fare tables before, so that each
+/// is TOML and names a default class.
+fn of_names<'a>(words: &TableWords<'a>, wrong: WrongNames) -> Fault<'a>
+    requires { wrong.place ≤ length (names_of words.now).later }
+    ensures right { IsClassFault (names_of words.now) wrong result }
     ensures fault { is_unwritten result ≡ false }
-    ensures named { named_by result ≡ None }
+    ensures named { NamesOneOf (table_files (names_of words.now)) result }
 {
-    match fault {
-        ClassFault::Name => Fault::ClassName,
+    match wrong.fault {
+        ClassFault::Name if words.later.as_slice().is_empty() => Fault::ClassName,
+        ClassFault::Name if wrong.place == 0 => Fault::NamedClass(NamedClassLine(words.first)),
+        ClassFault::Name => {
+            let word = words.later[wrong.place - 1];
+            Fault::NamedClass(NamedClassLine(TableWord::of(word).name))
+        }
         ClassFault::Text | ClassFault::NoMemory => Fault::NoMemory,
     }
 }
 
-/// What reads the columns of the ledger that begins so, if it is a traced one, under the fare table
-/// of this text, and beside the places of the uploads' taps, if there are uploads.
-fn trace_of(
+/// What reads the columns of the ledger that begins so, if it is a traced one, under the fare tables
+/// of these words, and beside the places of the uploads' taps, if there are uploads.
+fn trace_of<'a>(
     alloc: Global,
     head: &[u8],
-    table: &[u8],
+    words: &TableWords<'a>,
+    tables: &Tables,
     places: Option<Places>,
-) -> Result<Option<Trace>, Fault<'static>>
-    requires { HaveNamed places [] }
-    ensures wanted { IfOk result (λ trace. AreWanted table.now (has_traced_head head.now)
+) -> Result<Option<Trace>, Fault<'a>>
+    requires places { HaveNamed places [] }
+    requires loaded { (loaded_before after : Option (List Loaded)) × LoadsTables (names_of words.now) loaded_before
+        after (map (λ t. t.items) tables.now.texts.items) tables.now.fares }
+    ensures wanted { IfOk result (λ trace. AreWanted tables.now.fares
+        (map (λ t. t.items) tables.now.texts.items) (has_traced_head head.now)
         (uploads_in places) (wanted_by trace)) }
     ensures read { IfOk result (λ trace. HasReadAs trace [] []) }
-    ensures right { IfErr result (IsRightOfNames table.now) }
+    ensures right { IfErr result (λ fault. (wrong : WrongNames)
+        × IsWrongAt (map (λ t. t.items) tables.now.texts.items) wrong
+        × IsClassFault (names_of words.now) wrong fault) }
     ensures fault { IfErr result (λ fault. is_unwritten fault ≡ false) }
-    ensures named { IfErr result (λ fault. named_by fault ≡ None) }
+    ensures named { IfErr result (NamesOneOf (table_files (names_of words.now))) }
 {
     if !has_traced_head(head) {
         return Ok(None);
     }
-    match ClassNames::read(alloc, table) {
+    match ClassNames::of_texts(alloc, &tables.fares, &tables.texts) {
         Ok(names) => Ok(Some(Trace::new(alloc, names, places))),
-        Err(fault) => Err(of_names(fault)),
+        Err(wrong) => Err(of_names(words, wrong)),
     }
 }
 
-/// Checks the ledger and writes the finding. Says whether all is well. The table is loaded first,
+/// Checks the ledger and writes the finding. Says whether all is well. The tables are loaded first,
 /// then the uploads and the report, and then the ledger is read.
 fn audit<'a, R: RandomSource, S: Source, W: Write>(
     rt: &R,
@@ -237,6 +237,7 @@ fn audit<'a, R: RandomSource, S: Source, W: Write>(
     source: &mut S,
     out: &mut W,
 ) -> Result<bool, Fault<'a>>
+    requires { wrong_word (audit_asked_of options.now).table ≡ None }
     ensures ok { IfOk result (λ well.
         Audits (audit_asked_of options.now) (S.loaded source.old) (S.loaded source.new)
         (W.contents out.old) (W.contents out.new) well) }
@@ -251,8 +252,8 @@ fn audit<'a, R: RandomSource, S: Source, W: Write>(
         (S.loaded source.old) (S.loaded source.new) (S.refused source.new) fault
         (W.contents out.old) (W.contents out.new)) }
 {
-    let (table, table_text) = load_table(alloc, options.table, source)?;
-    let clock = table.clock(alloc)?;
+    let tables = load_tables(alloc, &options.table, source)?;
+    let clock = tables.fares.clock(alloc)?;
     let names = options.uploads.as_slice();
     let (balance, places) = load_uploads(alloc, names, source)?;
     let has_uploads = !names.is_empty();
@@ -260,14 +261,14 @@ fn audit<'a, R: RandomSource, S: Source, W: Write>(
     let mut ledger = open_ledger(options.ledger, source)?;
     let head = read_head(alloc, &mut ledger)?;
     let kept = kept_if(has_uploads, places);
-    let trace = trace_of(alloc, head.as_slice(), table_text.as_slice(), kept)?;
+    let trace = trace_of(alloc, head.as_slice(), &options.table, &tables, kept)?;
     let mut whole = VecDeque::from(head).chain(ledger);
     // proof: all is well exactly if the ledger is right, and the report its own
     audits_decide();
     if options.all {
         return full_audit_over(
             alloc,
-            &table,
+            &tables.fares,
             &clock,
             &mut whole,
             balance,
@@ -279,7 +280,7 @@ fn audit<'a, R: RandomSource, S: Source, W: Write>(
     }
     audit_over(
         alloc,
-        &table,
+        &tables.fares,
         &clock,
         &mut whole,
         balance,
@@ -290,16 +291,27 @@ fn audit<'a, R: RandomSource, S: Source, W: Write>(
     )
 }
 
-/// Says why the program gives up, but where the reader has gone, and gives the status.
-fn tell<E: Write>(err: &mut Complaints<E>, fault: &Fault) -> u8
+/// Says why the program gives up, unless the reader has gone, and gives the status.
+fn report_fault<E: Write>(err: &mut Complaints<E>, fault: &Fault) -> u8
     ensures status { result ≡ 1 }
-    ensures told { IsFaultTold fault.now (E.contents err.old.writer) (E.contents err.new.writer)
+    ensures reported { IsFaultReported fault.now (E.contents err.old.writer) (E.contents err.new.writer)
         err.new.failed }
 {
     if !fault.is_quiet() {
-        err.tell_line(*fault);
+        err.report_line(*fault);
     }
     1
+}
+
+/// Says which word of a fare table has a wrong date, or none if one is wanted, and gives the
+/// status.
+fn report_wrong<E: Write>(err: &mut Complaints<E>, wrong: WrongWord<'_>) -> u8
+    ensures status { result ≡ 2 }
+    ensures reported { LineWritten (E.contents err.old.writer) (E.contents err.new.writer) err.new.failed
+        (codes "fault: " ++ date_text wrong.entry.word.now wrong.entry.fault) }
+{
+    err.report_line(Fault::Date(wrong));
+    2
 }
 
 /// Shows what clap answers when there is nothing to run: help and version on `out`, else the
@@ -321,14 +333,14 @@ fn show<W: Write, E: Write>(error: &Error, out: &mut W, err: &mut Complaints<E>)
 {
     match show_answer(error, out, err) {
         Ok(status) => status,
-        Err(error) => tell(err, &unwritten(&error)),
+        Err(error) => report_fault(err, &unwritten(&error)),
     }
 }
 
 /// The whole program: reads the words, of which the first is the program's name, checks the ledger
 /// that they name, from the source, and writes the finding to `out`, mistakes and faults to `err`.
-/// Gives the status: 0 where all is well, 1 where it is not or something failed, 2 where the words
-/// are no command line.
+/// Gives the status: 0 if all is well, 1 if it is not or something failed, 2 if the words are no
+/// command line.
 pub fn main_over<R: RandomSource, S: Source, W: Write, E: Write>(
     rt: &R,
     alloc: Global,
@@ -343,7 +355,7 @@ pub fn main_over<R: RandomSource, S: Source, W: Write, E: Write>(
         (S.loaded source.new) (W.contents out.old) (W.contents out.new) true }
 
     // With status 1 the finding was written, and says that not all is well, and nothing was said on
-    // `err`; or a fault was told, which names no other file than one that the words name, and
+    // `err`; or a fault was reported, which names no other file than one that the words name, and
     // nothing was written, unless a write failed or all wrong lines are asked for. The fault is the
     // right one, and what a write that failed left is a beginning of the right text.
     ensures faults { result ≡ 1
@@ -361,22 +373,31 @@ pub fn main_over<R: RandomSource, S: Source, W: Write, E: Write>(
         (E.contents err.old.writer) (E.contents err.new.writer) err.new.failed
         (W.contents out.old) (W.contents out.new)) }
 
-    // Words that are no command line end well only where they ask for help or the version.
+    // Words that are no command line end well only if they ask for help or the version.
     ensures helped { ¬ ParsesForAudit (map string_bytes words.now) → result ≡ 0
         → AsksForAuditText (map string_bytes words.now) }
 
     // Words that are no command line have status 2, if they ask for neither. Only want of memory,
-    // where the words are read, may come before it.
+    // while the words are read, may come before it.
     ensures mistaken { ¬ ParsesForAudit (map string_bytes words.now)
         → (¬ AsksForAuditText (map string_bytes words.now))
         → (result ≡ 2) ⊎ ((result ≡ 1) × AuditGaveUp false Fault.NoMemory
         (E.contents err.old.writer) (E.contents err.new.writer) err.new.failed
         (W.contents out.old) (W.contents out.new)) }
 
-    // Only such words have status 2.
-    ensures right { result ≡ 2 → ¬ ParsesForAudit (map string_bytes words.now) }
+    // The first word of a fare table with a wrong date, or with none if one is wanted, is reported.
+    ensures mis_dated { (word : List ℕ) (why : DateFault) → ParsesForAudit (map string_bytes words.now)
+        → wrong_word (audit_asked_by (map string_bytes words.now)).table ≡ Some (word, why)
+        → ((result ≡ 2) × LineWritten (E.contents err.old.writer) (E.contents err.new.writer)
+        err.new.failed (codes "fault: " ++ date_text word why))
+        ⊎ ((result ≡ 1) × AuditGaveUp false Fault.NoMemory (E.contents err.old.writer)
+        (E.contents err.new.writer) err.new.failed (W.contents out.old) (W.contents out.new)) }
 
-    // Nothing is said on `err` where all is well.
+    // Only such words have status 2.
+    ensures right { result ≡ 2 → (¬ ParsesForAudit (map string_bytes words.now))
+        ⊎ (is_some (wrong_word (audit_asked_by (map string_bytes words.now)).table) ≡ true) }
+
+    // Nothing is said on `err` if all is well.
     ensures quiet { result ≡ 0 → err.new ≡ err.old }
 
     // A mistake in the words loads nothing and writes nothing to `out`.
@@ -388,9 +409,12 @@ pub fn main_over<R: RandomSource, S: Source, W: Write, E: Write>(
         Ok(options) => options,
         Err(error) => return show(&error, out, err),
     };
+    if let Some(wrong) = options.table.wrong_word() {
+        return report_wrong(err, wrong);
+    }
     match audit(rt, alloc, &options, source, out) {
         Ok(true) => 0,
         Ok(false) => 1,
-        Err(fault) => tell(err, &fault),
+        Err(fault) => report_fault(err, &fault),
     }
 }

@@ -137,8 +137,8 @@ fn is_of_ledger(verdict: &ReportVerdict) -> bool
     }
 }
 
-/// Appends what is told of the report, beside a ledger that was read whole. Says whether the report
-/// is the ledger's.
+/// Appends what is found of the report, beside a ledger that was read whole. Says whether the
+/// report is the ledger's.
 fn write_finding(
     alloc: Global,
     text: &mut Vec<u8>,
@@ -159,7 +159,7 @@ fn write_finding(
     Ok(is_of_ledger(&verdict))
 }
 
-/// Appends what is told of the report behind a legal ledger, if there is a report. Says whether it
+/// Appends what is found of the report behind a legal ledger, if there is a report. Says whether it
 /// is the ledger's: without a report it is, and beside a ledger that is not legal it is not.
 pub(crate) fn write_report_line(
     alloc: Global,

@@ -10,7 +10,7 @@ pub trait Source {
     ghost use Rattle.omny_audit.specs.Source.{OpensOne};
     ghost use Rattle.program_manners.specs.Refusals.{Refuses};
     ghost use Rattle.program_manners.specs.declared.loading.LoadFault.{LoadFault as AFault};
-    ghost use Rattle.program_manners.specs.Loads.{Loaded, TellsOne};
+    ghost use Rattle.program_manners.specs.Loads.{Loaded, LoadsOne};
 
     /// A ledger that was opened.
     type Ledger: Read + Drop;
@@ -21,17 +21,17 @@ pub trait Source {
     // The last load or opening that it refused: the name, and why; of a source that keeps it.
     ghost refused: { Self → Option (Option (List ℕ) × AFault) } = { λ _. None };
 
-    /// All bytes of the file of this name. What a fault leaves loaded is not told.
+    /// All bytes of the file of this name. No clause says what a fault leaves loaded.
     fn load(&mut self, name: &str) -> Result<Vec<u8>, LoadFault>
-        ensures told { IfOk result (λ bytes.
-            TellsOne (loaded self.old) (loaded self.new) (Some name.now) bytes.items) }
+        ensures reported { IfOk result (λ bytes.
+            LoadsOne (loaded self.old) (loaded self.new) (Some name.now) bytes.items) }
         ensures fault { IfErr result
             (λ fault. Refuses (refused self.new) (Some name.now) fault) };
 
-    /// The ledger of this name, or standard input where none is named, to be read from its
-    /// beginning. What a fault leaves opened is not told.
+    /// The ledger of this name, or standard input if none is named, to be read from its beginning.
+    /// No clause says what a fault leaves opened.
     fn open(&mut self, name: Option<&str>) -> Result<Self::Ledger, LoadFault>
-        ensures told { IfOk result (λ ledger. OpensOne (loaded self.old) (loaded self.new)
+        ensures reported { IfOk result (λ ledger. OpensOne (loaded self.old) (loaded self.new)
             (option_map (λ n. n.now) name.entry) (Self.Ledger.remaining ledger)) }
         ensures fault { IfErr result (λ fault. Refuses (refused self.new)
             (option_map (λ n. n.now) name.entry) fault) };

@@ -11,7 +11,7 @@ ghost use Rattle.ledger_check.specs.Columns.{untraced_lines};
 ghost use Rattle.ledger_check.specs.Lines.{IsLine, lines_of};
 ghost use Rattle.ledger_check.specs.Places.{HasUploads, is_named, uploads_of};
 ghost use Rattle.ledger_check.specs.Taps.{IsTapOfLine};
-ghost use Rattle.omny_audit.specs.Traced.{AreColumnsTold, AreLinesOf, IsFaultBehind, IsPlaceFault};
+ghost use Rattle.omny_audit.specs.Traced.{AreColumnsReported, AreLinesOf, IsFaultBehind, IsPlaceFault};
 ghost use Rattle.omny_audit.specs.Traced.{ReadLine, Wanted, class_fault, class_text, fault_by};
 ghost use Rattle.omny_audit.specs.Traced.{place_fault_text, place_text, traced_by};
 ghost use Rattle.omny_audit.specs.declared.traced.PlaceFault.{PlaceFault as AFault};
@@ -32,12 +32,13 @@ use tap_views::TapFields;
 /// The most bytes of a traced ledger's line, with its line feed.
 const MAX_LINE_BYTES: usize = 352;
 
-/// The first line that has another class than the one of its token.
+/// The first line that has another class than the one of its token at its moment.
 #[derive(Clone, Copy)]
 pub(crate) struct WrongClass {
     /// The number of the line, from 1.
     line: u64,
-    /// The token.
+    /// The moment of its tap, in milliseconds since 1970-01-01T00:00Z.
+    moment: u64,
     token: [u8; 16],
 }
 
@@ -62,7 +63,7 @@ pub(crate) enum PlaceFault {
         /// The place in the upload, from 1.
         place: u64,
     },
-    /// No line has this place, where a tap stands.
+    /// No line has this place, which is that of a tap.
     NoLine {
         /// The number of the upload, from 0.
         upload: u64,
@@ -83,8 +84,8 @@ fn put_other(text: &mut Vec<u8>, line: &[u8]) -> Result<(), AllocError>
     Ok(())
 }
 
-/// Appends the fields as a line, and gives the tap that it tells, if it tells one. The line replaces
-/// what is in `line`, and the text in `again` is replaced.
+/// Appends the fields as a line, and gives the tap that it names, if it names one. The line
+/// replaces what is in `line`, and the text in `again` is replaced.
 fn put_fields(
     text: &mut Vec<u8>,
     fields: &[u8],
@@ -117,11 +118,12 @@ fn class_fault(
     let Some(tap) = tap else {
         return None;
     };
-    if same_bytes(names.class_of(&tap.token).as_bytes(), cut.class) {
+    if same_bytes(names.class_of(tap.moment, &tap.token).as_bytes(), cut.class) {
         return None;
     }
     Some(WrongClass {
         line,
+        moment: tap.moment,
         token: tap.token,
     })
 }
@@ -240,8 +242,8 @@ impl LinesRead {
         self.wrong_place = fault;
     }
 
-    /// Reads the next line, of which as much was kept as tells its form, and appends what is read in
-    /// its place. 2^64 lines are taken for want of memory.
+    /// Reads the next line, of which as much was kept as shows its form, and appends what is read
+    /// in its place. 2^64 lines are taken for want of memory.
     fn take(&mut self, line: &[u8], text: &mut Vec<u8>) -> Result<(), AllocError>
         ensures wanted { wanted_of self.new ≡ wanted_of self.old }
         ensures read { OnOk result ((whole : List ℕ) (read : List ReadLine)
@@ -266,7 +268,7 @@ impl LinesRead {
     }
 }
 
-/// Appends the text to what is kept of a line, but no more than tells that the line is too long.
+/// Appends the text to what is kept of a line, but no more than shows that the line is too long.
 fn keep(kept: &mut Vec<u8>, text: &[u8]) -> Result<(), AllocError>
     ensures { OnOk result ((before : List ℕ) → IsKeptOf kept.old.items before
         → IsKeptOf kept.new.items (before ++ text.now)) }
@@ -318,10 +320,10 @@ impl Trace {
         ensures wanted { wanted_of self.new.so_far ≡ wanted_of self.old.so_far }
 
         // After all that was read so far.
-        ensures read { OnOk result ((file told : List ℕ) (read : List ReadLine)
-            → HasTraced self.old file told read → (more : List ℕ) × (read' : List ReadLine)
+        ensures read { OnOk result ((file reported : List ℕ) (read : List ReadLine)
+            → HasTraced self.old file reported read → (more : List ℕ) × (read' : List ReadLine)
             × (text.new.items ≡ text.old.items ++ more)
-            × HasTraced self.new (file ++ piece.now) (told ++ more) read') }
+            × HasTraced self.new (file ++ piece.now) (reported ++ more) read') }
     {
         let mut rest = piece;
         while !rest.is_empty() {
@@ -339,10 +341,10 @@ impl Trace {
     fn end_line(&mut self, line: &[u8], text: &mut Vec<u8>) -> Result<(), AllocError>
         requires line { IsLine line.now }
         ensures wanted { wanted_of self.new.so_far ≡ wanted_of self.old.so_far }
-        ensures read { OnOk result ((file told : List ℕ) (read : List ReadLine)
-            → HasTraced self.old file told read → (more : List ℕ) × (read' : List ReadLine)
+        ensures read { OnOk result ((file reported : List ℕ) (read : List ReadLine)
+            → HasTraced self.old file reported read → (more : List ℕ) × (read' : List ReadLine)
             × (text.new.items ≡ text.old.items ++ more)
-            × HasTraced self.new (file ++ line.now) (told ++ more) read') }
+            × HasTraced self.new (file ++ line.now) (reported ++ more) read') }
     {
         if self.begun.is_empty() {
             self.so_far.take(line, text)?;
@@ -357,10 +359,10 @@ impl Trace {
     /// Ends the file, and appends what is read in place of the line that its end cuts.
     fn finish(&mut self, text: &mut Vec<u8>) -> Result<(), AllocError>
         ensures wanted { wanted_of self.new.so_far ≡ wanted_of self.old.so_far }
-        ensures read { OnOk result ((file told : List ℕ) (read : List ReadLine)
-            → HasTraced self.old file told read → (more : List ℕ) × (read' : List ReadLine)
+        ensures read { OnOk result ((file reported : List ℕ) (read : List ReadLine)
+            → HasTraced self.old file reported read → (more : List ℕ) × (read' : List ReadLine)
             × (text.new.items ≡ text.old.items ++ more)
-            × (told ++ more ≡ untraced_lines (lines_of file)) × AreLinesOf file read'
+            × (reported ++ more ≡ untraced_lines (lines_of file)) × AreLinesOf file read'
             × HasColumns self.new.so_far read') }
     {
         if self.begun.is_empty() {
@@ -376,8 +378,8 @@ impl Trace {
             ++ class_text (class_by self.now.so_far.names) self.now.so_far.wrong_class) }
         ensures right { IfOk result (λ right. right ≡ not (is_some self.now.so_far.wrong_class)) }
     {
-        let told = class_line(alloc, &self.so_far.names, &self.so_far.wrong_class)?;
-        text.extend_from_slice(told.as_bytes())?;
+        let reported = class_line(alloc, &self.so_far.names, &self.so_far.wrong_class)?;
+        text.extend_from_slice(reported.as_bytes())?;
         Ok(self.so_far.wrong_class.is_none())
     }
 
@@ -394,27 +396,27 @@ impl Trace {
             return Ok(true);
         };
         let fault = first_fault(places, &self.so_far.wrong_place);
-        let told = place_line(alloc, &fault)?;
-        text.extend_from_slice(told.as_bytes())?;
+        let reported = place_line(alloc, &fault)?;
+        text.extend_from_slice(reported.as_bytes())?;
         Ok(fault.is_none())
     }
 }
 
-/// The line that tells what is found of the classes.
+/// The line of what is found of the classes.
 #[tactic(auto, unfolding(crate::specs::Traced::class_text))]
 fn class_line(
     alloc: Global,
     names: &ClassNames,
     wrong: &Option<WrongClass>,
 ) -> Result<String, AllocError>
-    ensures { IfOk result (λ told. string_bytes told
+    ensures { IfOk result (λ reported. string_bytes reported
         ≡ class_text (class_by names.now) wrong.now) }
 {
     match wrong {
         None => format!(in alloc; "all classes of the table\n"),
         Some(wrong) => {
             let line = wrong.line;
-            let class = names.class_of(&wrong.token);
+            let class = names.class_of(wrong.moment, &wrong.token);
             format!(in alloc; "line {line} has another class than {class}\n")
         }
     }
@@ -423,7 +425,7 @@ fn class_line(
 /// The line of a tap that does not stand at its place.
 #[tactic(auto, unfolding(crate::specs::Traced::place_fault_text))]
 fn other_tap_line(alloc: Global, line: u64, upload: u32, place: u64) -> Result<String, AllocError>
-    ensures { IfOk result (λ told. string_bytes told
+    ensures { IfOk result (λ reported. string_bytes reported
         ≡ place_fault_text (Some (OtherTap line upload place))) }
 {
     format!(in alloc; "line {line} has another tap than upload {upload} has at place {place}\n")
@@ -432,7 +434,7 @@ fn other_tap_line(alloc: Global, line: u64, upload: u32, place: u64) -> Result<S
 /// The line of a place that an earlier line has.
 #[tactic(auto, unfolding(crate::specs::Traced::place_fault_text))]
 fn repeated_line(alloc: Global, line: u64, upload: u32, place: u64) -> Result<String, AllocError>
-    ensures { IfOk result (λ told. string_bytes told
+    ensures { IfOk result (λ reported. string_bytes reported
         ≡ place_fault_text (Some (Repeated line upload place))) }
 {
     format!(in alloc; "line {line} has upload {upload} place {place} again\n")
@@ -441,16 +443,16 @@ fn repeated_line(alloc: Global, line: u64, upload: u32, place: u64) -> Result<St
 /// The line of a place that no line has.
 #[tactic(auto, unfolding(crate::specs::Traced::place_fault_text))]
 fn no_line_line(alloc: Global, upload: u64, place: u64) -> Result<String, AllocError>
-    ensures { IfOk result (λ told. string_bytes told
+    ensures { IfOk result (λ reported. string_bytes reported
         ≡ place_fault_text (Some (NoLine upload place))) }
 {
     format!(in alloc; "no line has upload {upload} place {place}\n")
 }
 
-/// The line that tells what is found of the places.
+/// The line of what is found of the places.
 #[tactic(auto, unfolding(crate::specs::Traced::place_fault_text))]
 fn place_line(alloc: Global, fault: &Option<PlaceFault>) -> Result<String, AllocError>
-    ensures { IfOk result (λ told. string_bytes told ≡ place_fault_text fault.now) }
+    ensures { IfOk result (λ reported. string_bytes reported ≡ place_fault_text fault.now) }
 {
     match *fault {
         None => format!(in alloc; "all places of the uploads\n"),
@@ -480,8 +482,8 @@ pub(crate) fn read_piece(
     text: &mut Vec<u8>,
 ) -> Result<(), AllocError>
     ensures wanted { wanted_by trace.new ≡ wanted_by trace.old }
-    ensures read { OnOk result ((file told : List ℕ) → HasReadAs trace.old file told
-        → HasReadAs trace.new (file ++ piece.now) (told ++ text.new.items)) }
+    ensures read { OnOk result ((file reported : List ℕ) → HasReadAs trace.old file reported
+        → HasReadAs trace.new (file ++ piece.now) (reported ++ text.new.items)) }
 {
     text.clear();
     match trace {
@@ -499,8 +501,8 @@ pub(crate) fn read_piece(
 /// Ends the ledger, and puts what is left to be checked of it in place of the text.
 pub(crate) fn read_end(trace: &mut Option<Trace>, text: &mut Vec<u8>) -> Result<(), AllocError>
     ensures wanted { wanted_by trace.new ≡ wanted_by trace.old }
-    ensures read { OnOk result ((file told : List ℕ) → HasReadAs trace.old file told
-        → (told ++ text.new.items ≡ read_as (is_some (wanted_by trace.new)) file)
+    ensures read { OnOk result ((file reported : List ℕ) → HasReadAs trace.old file reported
+        → (reported ++ text.new.items ≡ read_as (is_some (wanted_by trace.new)) file)
         × HasReadAll trace.new file) }
 {
     text.clear();
@@ -521,10 +523,10 @@ pub(crate) fn write_columns(
     is_looked_at: bool,
     trace: &Option<Trace>,
 ) -> Result<bool, AllocError>
-    ensures { IfOk result (λ right. (told : List ℕ) × (text.new.items ≡ text.old.items ++ told)
+    ensures { IfOk result (λ right. (reported : List ℕ) × (text.new.items ≡ text.old.items ++ reported)
         × ((file : List ℕ) → (is_looked_at ≡ true → HasReadAll trace.now file)
         → (read : List ReadLine)
-        × AreColumnsTold (wanted_by trace.now) is_looked_at file read told right)) }
+        × AreColumnsReported (wanted_by trace.now) is_looked_at file read reported right)) }
 {
     let Some(trace) = trace else {
         return Ok(true);

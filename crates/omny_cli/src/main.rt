@@ -1,6 +1,6 @@
-//! The program: `fare_program` over the words, with the names of a list if they name one, the files,
-//! the standard input and the outputs of the system. If the standard error is a terminal, a note
-//! there says what one should know of the run, and a line says what a long run does.
+//! The program: `fare_program` over the words, with the names of a list if they name one, the
+//! files, the standard input and the outputs of the system. If the standard error is a terminal, a
+//! note there says what one should know of the run, and a line says what a long run does.
 //!
 //! | module | what it does |
 //! |---|---|
@@ -37,7 +37,7 @@ use watched::{Watched, WatchedDisk};
 fn ticker_for(rt: &HostRuntime, words: &[String]) -> Ticker {
     let is_terminal = rt.stderr().is_terminal();
     if is_terminal && let Ok(Some(note)) = Note::of(rt.alloc(), words) {
-        Complaints::new(rt.stderr()).tell_line(note);
+        Complaints::new(rt.stderr()).report_line(note);
     }
     Ticker::new(Steps::of(words), rt.stderr(), is_terminal)
 }

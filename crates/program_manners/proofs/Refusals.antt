@@ -9,7 +9,7 @@ use Rattle.clap.specs.declared.error.kind.ErrorKind.TheVariants.{OutOfMemory}
 use Rattle.fare_table.specs.TableMeaning.{meaning_in}
 use Rattle.fare_table.specs.declared.fault.TableFault.{TableFault}
 use Rattle.fare_table.specs.declared.fault.TableFault.TheVariants.{NoMemory, Text}
-use Rattle.program_manners.specs.Refusals.{IsFirstTableFault, IsOneOf, Refuses, TellsRefusal}
+use Rattle.program_manners.specs.Refusals.{IsFirstTableFault, IsOneOf, Refuses, HasRefused}
 use Rattle.program_manners.specs.declared.loading.LoadFault.{LoadFault}
 
 -- a name at a place is one of the names
@@ -20,12 +20,12 @@ is_one_at [] k d name within is = absurd (omega arith)
 is_one_at (n ∷ names) zero d name within is = inl is
 is_one_at (n ∷ names) (suc k) d name within is = inr (is_one_at names k d name (omega arith) is)
 
--- what the source refused under a name is told under it
-pub refusal_told : (refused : Option (Option (List ℕ) × LoadFault)) (name : Option (List ℕ))
+-- what the source refused under a name is reported under it
+pub has_refused : (refused : Option (Option (List ℕ) × LoadFault)) (name : Option (List ℕ))
     (fault : LoadFault) → Refuses refused name fault
-    → TellsRefusal refused (unwrap_or name (codes "standard input")) fault
-refusal_told None name fault is = tt
-refusal_told (Some one) name fault is =
+    → HasRefused refused (unwrap_or name (codes "standard input")) fault
+has_refused None name fault is = tt
+has_refused (Some one) name fault is =
     (ap (λ (n : Option (List ℕ)). unwrap_or n (codes "standard input")) is.0, is.1)
 
 -- an error is one
@@ -44,7 +44,7 @@ first_table_fault r text fault same first not_text = record {
       (λ is. absurd (room (one_error r fault NoMemory same is))) (not_text none);
 }
 
--- an error of words where no kind may come is want of memory
+-- an error of words of which no kind may come is want of memory
 pub only_memory : (kinds : Kinds) (e : Error) → kinds ≡ [] → HasKind kinds e
     → kind_of e ≡ OutOfMemory
 only_memory kinds e none has =

@@ -53,8 +53,9 @@ IsWrongBy Empty bytes = bytes ≡ []
 IsWrongBy HasNul bytes = ¬ Lacks 0 bytes
 IsWrongBy NotUtf8 bytes = ¬ IsUtf8 bytes
 
--- The piece of this number is the first that is no name, for this reason. Names stand before it, and
--- behind it the byte that ends it and the rest, or nothing. An empty piece has the byte behind it.
+-- The piece of this number is the first that is no name, for this reason. Names stand before it,
+-- and behind it the byte that ends it and the rest, or nothing. An empty piece has the byte behind
+-- it.
 pub record IsFirstWrong (end : ℕ) (text : List ℕ) (number : ℕ) (wrong : WrongName) : Type 0 where
   pub before : List (List ℕ)
   pub are_names : All (IsListedName end) before

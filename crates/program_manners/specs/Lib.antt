@@ -5,7 +5,12 @@ pub mod Lines
 pub mod ListWords
 pub mod ListedWords
 pub mod Loads
+pub mod NextFaults
 pub mod Refusals
+pub mod TableLoads
+pub mod TableRefusals
+pub mod TableViews
+pub mod TableWords
 pub mod TerminalLine
 pub mod Words
 pub mod inside

@@ -1,7 +1,7 @@
--- What is told of a mistake or a fault.
+-- The line of a mistake or a fault.
 use Rattle.std.specs.Prelude.{◌≡◌, ℕ, Bool, false, List, ◌++◌, Option, codes}
 use Rattle.std.specs.Io.KnownBytes.{Appends}
 
--- The line was told, unless a write of it failed.
+-- The line was reported, unless a write of it failed.
 abbrev pub LineWritten : Option (List ℕ) → Option (List ℕ) → Bool → List ℕ → Type 0
 LineWritten said said' failed line = failed ≡ false → Appends said said' (line ++ codes "\n")

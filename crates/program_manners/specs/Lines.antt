@@ -1,8 +1,10 @@
--- The lines of faults that each program may tell, without their line feeds.
+-- The lines of faults that each program may report, without their line feeds.
 use Rattle.std.specs.Prelude.{ℕ, List, ◌++◌, codes, decimal}
 use Rattle.fare_table.specs.Key.{key_name}
 use Rattle.fare_table.specs.declared.fault.TableFault.{TableFault}
 use Rattle.fare_table.specs.declared.fault.TableFault.TheVariants as table
+use Rattle.fare_table.specs.declared.follow_fault.FollowFault.{FollowFault}
+use Rattle.fare_table.specs.declared.follow_fault.FollowFault.TheVariants as follow
 use Rattle.program_manners.specs.declared.file_list.ListFault.{ListFault}
 use Rattle.program_manners.specs.declared.file_list.ListFault.TheVariants as listed
 use Rattle.program_manners.specs.declared.file_list.NameEnd.{NameEnd}
@@ -12,7 +14,7 @@ use Rattle.program_manners.specs.declared.file_list.WrongName.TheVariants as wro
 use Rattle.program_manners.specs.declared.loading.LoadFault.{LoadFault}
 use Rattle.program_manners.specs.declared.loading.LoadFault.TheVariants as load
 
--- a fault of a table by its number, and the key where it has one
+-- a fault of a table by its number, and the key if it has one
 abbrev pub table_text : TableFault → List ℕ
 table_text table.Text = codes "fault: table F1"
 table_text (table.Missing key) = codes "fault: table F2 " ++ key_name key
@@ -23,6 +25,35 @@ table_text table.Overlap = codes "fault: table F6"
 table_text table.Rider = codes "fault: table F7"
 table_text table.NoMemory = codes "fault: out of memory"
 table_text table.Zone = codes "fault: table F9"
+
+-- the same of one of several tables, by the name of its file
+abbrev pub named_table_text : List ℕ → TableFault → List ℕ
+named_table_text name table.Text = codes "fault: " ++ (name ++ codes ": table F1")
+named_table_text name (table.Missing key) =
+    codes "fault: " ++ (name ++ (codes ": table F2 " ++ key_name key))
+named_table_text name (table.Kind key) =
+    codes "fault: " ++ (name ++ (codes ": table F3 " ++ key_name key))
+named_table_text name (table.Range key) =
+    codes "fault: " ++ (name ++ (codes ": table F4 " ++ key_name key))
+named_table_text name table.Mode = codes "fault: " ++ (name ++ codes ": table F5")
+named_table_text name table.Overlap = codes "fault: " ++ (name ++ codes ": table F6")
+named_table_text name table.Rider = codes "fault: " ++ (name ++ codes ": table F7")
+named_table_text name table.NoMemory = codes "fault: out of memory"
+named_table_text name table.Zone = codes "fault: " ++ (name ++ codes ": table F9")
+
+-- the line of a table's word that cannot follow those before it
+abbrev pub follow_text : List ℕ → FollowFault → List ℕ
+follow_text word follow.Date = codes "fault: " ++ (word
+    ++ codes ": a table before it is valid from the same date or a later one")
+follow_text word follow.Zone = codes "fault: " ++ (word ++ codes ": it names another zone")
+follow_text word follow.Modes = codes "fault: " ++ (word ++ codes ": it has other modes")
+follow_text word follow.Followed = codes "fault: " ++ (word ++ codes ": a table follows it already")
+follow_text word follow.NoMemory = codes "fault: out of memory"
+
+-- the line of a table with a class that no ledger can have, if there are several
+abbrev pub named_class_text : List ℕ → List ℕ
+named_class_text name =
+    codes "fault: " ++ (name ++ codes ": table has a class name that no ledger can have")
 
 -- the line of a file of this name that was not loaded
 abbrev pub load_text : List ℕ → LoadFault → List ℕ
@@ -41,7 +72,7 @@ wrong_text wrong.Empty = codes "it is empty"
 wrong_text wrong.HasNul = codes "it has a NUL"
 wrong_text wrong.NotUtf8 = codes "it is not UTF-8"
 
--- the exit status where a list gives no names of files: 2 for a mistake in the words
+-- the exit status if a list gives no names of files: 2 for a mistake in the words
 abbrev pub list_status : ListFault → ℕ
 list_status listed.NullAlone = 2
 list_status listed.InputTwice = 2

@@ -53,13 +53,13 @@ TakesList _ words option all = ⊥
 abbrev pub called : Text → Text
 called name = if bytes_eq name (codes "-") then codes "standard input" else name
 
--- The line of a fault was told, and the status is its own. It is of the list that is named, or says
--- why none is.
-abbrev pub IsListTold : Result (Option ListWords) ListFault → Option (List ℕ) → Option (List ℕ)
+-- The line of a fault was reported, and the status is its own. It is of the list that is named, or
+-- says why none is.
+abbrev pub IsListReported : Result (Option ListWords) ListFault → Option (List ℕ) → Option (List ℕ)
     → Bool → ℕ → Type 0
-IsListTold (Err fault) said said' failed status =
+IsListReported (Err fault) said said' failed status =
     (status ≡ list_status fault) × LineWritten said said' failed (list_text [] LineFeed fault)
-IsListTold (Ok None) said said' failed status = ⊥
-IsListTold (Ok (Some list)) said said' failed status =
+IsListReported (Ok None) said said' failed status = ⊥
+IsListReported (Ok (Some list)) said said' failed status =
     (fault : ListFault) × (status ≡ list_status fault)
     × LineWritten said said' failed (list_text (called list.name.now) list.end fault)

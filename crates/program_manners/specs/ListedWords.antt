@@ -22,8 +22,8 @@ abbrev pub missing_dashes : List Text → List Text
 missing_dashes [] = codes "--" ∷ []
 missing_dashes (word ∷ words) = []
 
--- The words with these names as positional arguments: they stand last, behind a `--`. The first word
--- is the program's name.
+-- The words with these names as positional arguments: they stand last, behind a `--`. The first
+-- word is the program's name.
 abbrev pub with_files : List Text → List Text → List Text
 with_files words names = words ++ (missing_dashes (from_dashes (drop 1 words)) ++ names)
 
@@ -31,8 +31,8 @@ with_files words names = words ++ (missing_dashes (from_dashes (drop 1 words)) +
 abbrev pub option_word : Text → Text → Text
 option_word option name = codes "--" ++ (option ++ (codes "=" ++ name))
 
--- The words with each of these names as an option's value, before the first `--`, or last. The first
--- word is the program's name.
+-- The words with each of these names as an option's value, before the first `--`, or last. The
+-- first word is the program's name.
 abbrev pub with_option_files : List Text → Text → List Text → List Text
 with_option_files words option names =
     take 1 words ++ (before_dashes (drop 1 words)

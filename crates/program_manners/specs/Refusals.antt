@@ -1,22 +1,23 @@
--- What a source of bytes tells of what it did not load, and what a text tells that is no fare table.
+-- What is known of what a source of bytes did not load, and of a text that is no fare table.
 use Rattle.std.specs.Prelude.{◌≡◌, ◌≢◌, ◌⊎◌, ⊤, ℕ, List, [], ◌∷◌, Option, Some, None, Err, IsUtf8}
 use Rattle.std.specs.Prelude.{codes, unwrap_or}
 use Rattle.fare_table.specs.TableMeaning.{meaning_in}
 use Rattle.fare_table.specs.declared.fault.TableFault.{TableFault}
 use Rattle.fare_table.specs.declared.fault.TableFault.TheVariants.{NoMemory, Text}
-use Rattle.program_manners.specs.Loads.{Loaded, TellsOne}
+use Rattle.program_manners.specs.Loads.{Loaded, LoadsOne}
 use Rattle.program_manners.specs.declared.loading.LoadFault.{LoadFault}
 
--- The load under this name was refused by this fault. A source that keeps no refusal tells nothing.
+-- The load under this name was refused by this fault. Of a source that keeps no refusal nothing is
+-- known.
 abbrev pub Refuses : Option (Option (List ℕ) × LoadFault) → Option (List ℕ) → LoadFault → Type 0
 Refuses None name fault = ⊤
 Refuses (Some refused) name fault = (refused.0 ≡ name) × (refused.1 ≡ fault)
 
--- The source refused a load under this name by this fault: of standard input, which has no name, this
--- is what it is called.
-abbrev pub TellsRefusal : Option (Option (List ℕ) × LoadFault) → List ℕ → LoadFault → Type 0
-TellsRefusal None name fault = ⊤
-TellsRefusal (Some refused) name fault =
+-- The source refused a load under this name by this fault: of standard input, which has no name,
+-- this is what it is called.
+abbrev pub HasRefused : Option (Option (List ℕ) × LoadFault) → List ℕ → LoadFault → Type 0
+HasRefused None name fault = ⊤
+HasRefused (Some refused) name fault =
     (unwrap_or refused.0 (codes "standard input") ≡ name) × (refused.1 ≡ fault)
 
 -- the name is one of these
@@ -24,15 +25,15 @@ abbrev pub IsOneOf : List ℕ → List (List ℕ) → Type 0
 IsOneOf name [] = ⊥
 IsOneOf name (other ∷ names) = (name ≡ other) ⊎ IsOneOf name names
 
--- The fault is the first one of a table's text: the meaning of the text tells it, or the text is not
--- UTF-8. Want of memory may come before.
+-- The fault is the first one of a table's text: the meaning of the text gives it, or the text is
+-- not UTF-8. Want of memory may come before.
 pub record IsFirstTableFault (text : List ℕ) (fault : TableFault) : Type 0 where
   pub of_text : fault ≢ NoMemory → IsUtf8 text → meaning_in text ≡ Err fault
   pub no_text : fault ≢ NoMemory → ¬ (IsUtf8 text) → fault ≡ Text
 
 -- The file of this name was loaded, and its text is refused by this fault.
-pub record RefusesTable (name : List ℕ) (told told' : Option (List Loaded)) (fault : TableFault)
+pub record RefusesTable (name : List ℕ) (loaded loaded' : Option (List Loaded)) (fault : TableFault)
     : Type 0 where
   pub bytes : List ℕ
-  pub told_is : TellsOne told told' (Some name) bytes
+  pub is_loaded : LoadsOne loaded loaded' (Some name) bytes
   pub first : IsFirstTableFault bytes fault

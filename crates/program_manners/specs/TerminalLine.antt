@@ -1,4 +1,4 @@
--- What is written to a terminal where a line of it is shown or cleared.
+-- What is written to a terminal when a line of it is shown or cleared.
 use Rattle.std.specs.Prelude.{ℕ, List, ◌∷◌, ◌++◌, Option, codes, take}
 use Rattle.std.specs.Io.KnownBytes.{Appends}
 

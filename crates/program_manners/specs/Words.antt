@@ -19,6 +19,14 @@ option_rule name = record (new_rule name) {
   value_names = 1;
 }
 
+-- `--NAME VALUE`, as often as wanted
+abbrev pub repeated_rule : Text → Rule
+repeated_rule name = record (new_rule name) {
+  long = Some name;
+  action = Some Append;
+  value_names = 1;
+}
+
 -- an option with a number of 1 to `most`, and its default
 abbrev pub number_rule : Text → ℤ → Text → Rule
 number_rule name most default = record (option_rule name) {

@@ -1,4 +1,4 @@
-//! What clap answers where there is nothing to run.
+//! What clap answers if there is nothing to run.
 ghost use Rattle.std.specs.Prelude.{◌≡◌, ◌≢◌, ◌≤◌, IfErr, IfOk, Ok, codes};
 ghost use Rattle.std.specs.Io.KnownBytes.{Keeps};
 ghost use Rattle.clap.specs.Words.{kind_of};
@@ -17,10 +17,10 @@ fn show_text<W: Write>(error: &Error, out: &mut W) -> io::Result<()> {
     out.flush()
 }
 
-/// Shows what clap answers where there is nothing to run: help and version on `out`, else on `err`
-/// the mistake, or that memory was refused where the words were read. Gives the status: 0 for help
-/// and version, 2 for a mistake, and 1 for want of memory. An error is why help or the version was
-/// not written, and nothing is told of it yet.
+/// Shows what clap answers if there is nothing to run: help and version on `out`, else on `err` the
+/// mistake, or that memory was refused while the words were read. Gives the status: 0 for help and
+/// version, 2 for a mistake, and 1 for want of memory. An error is why help or the version was not
+/// written, and nothing is reported of it yet.
 pub fn show_answer<W: Write, E: Write>(
     error: &Error,
     out: &mut W,
@@ -41,7 +41,7 @@ pub fn show_answer<W: Write, E: Write>(
 {
     match error.kind() {
         ErrorKind::OutOfMemory => {
-            err.tell_line("fault: out of memory");
+            err.report_line("fault: out of memory");
             Ok(1)
         }
         ErrorKind::DisplayHelp | ErrorKind::DisplayVersion => {
@@ -49,7 +49,7 @@ pub fn show_answer<W: Write, E: Write>(
             Ok(0)
         }
         _ => {
-            err.tell(error);
+            err.report(error);
             Ok(2)
         }
     }

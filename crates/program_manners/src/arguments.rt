@@ -51,7 +51,7 @@ pub fn unread_words<E: Write>(fault: &WordsFault, err: &mut Complaints<E>) -> u8
     ensures line { LineWritten (E.contents err.old.writer) (E.contents err.new.writer)
         err.new.failed (unread_text fault.now) }
 {
-    err.tell_line(fault);
+    err.report_line(fault);
     match fault {
         WordsFault::NotUtf8(_) => 2,
         WordsFault::NoMemory => 1,

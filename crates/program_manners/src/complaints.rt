@@ -1,4 +1,4 @@
-//! Where mistakes and faults are told.
+//! Where mistakes and faults are reported.
 ghost use Rattle.std.specs.Prelude.{◌≡◌, IfSome, false};
 ghost use Rattle.std.specs.Io.KnownBytes.{Appends};
 ghost use Rattle.program_manners.specs.LineWritten.{LineWritten};
@@ -6,11 +6,10 @@ ghost use Rattle.program_manners.specs.LineWritten.{LineWritten};
 use std::fmt::Display;
 use std::io::Write;
 
-/// The writer of mistakes and faults. Where it cannot be written to, nobody can be told, and the
+/// The writer of mistakes and faults. If it cannot be written to, nothing can be reported, and the
 /// program goes on to its end.
 #[derive(Drop)]
 pub struct Complaints<W> {
-    /// The writer.
     writer: W,
     /// Whether a write has failed.
     failed: bool,
@@ -27,24 +26,25 @@ impl<W: Write> Complaints<W> {
         }
     }
 
-    /// The writer, when all is told.
+    /// The writer, when all is reported.
     pub fn into_writer(self) -> W
         ensures { result ≡ self.writer }
     {
         self.writer
     }
 
-    /// Writes the text, whole where it can be written.
-    pub fn tell<D: Display + Drop>(&mut self, text: D) {
+    /// Writes the text, whole if it can be written.
+    pub fn report<D: Display + Drop>(&mut self, text: D) {
         if write!(self.writer, "{text}").is_err() {
             self.failed = true;
         }
     }
 
-    /// Writes the text and a line feed, whole where they can be written.
-    pub fn tell_line<D: Display + Drop>(&mut self, text: D)
-        ensures { IfSome (D.output text) (LineWritten (W.contents self.old.writer)
+    /// Writes the text and a line feed, whole if they can be written.
+    pub fn report_line<D: Display + Drop>(&mut self, text: D)
+        ensures line { IfSome (D.output text) (LineWritten (W.contents self.old.writer)
             (W.contents self.new.writer) self.new.failed) }
+        ensures kept { self.new.failed ≡ false → self.old.failed ≡ false }
     {
         if write!(self.writer, "{text}\n").is_err() {
             self.failed = true;

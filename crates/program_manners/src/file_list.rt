@@ -17,7 +17,6 @@ pub enum NameEnd {
 }
 
 impl NameEnd {
-    /// The byte.
     fn byte(self) -> u8
         ensures { result ≡ end_byte self }
     {

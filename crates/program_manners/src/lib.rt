@@ -1,15 +1,17 @@
-//! What each program does alike: it loads whole files, tells mistakes and faults, shows what clap
+//! What each program does alike: it loads whole files, reports mistakes and faults, shows what clap
 //! answers, and gives clap its words.
 //!
 //! | module | what it does |
 //! |---|---|
-//! | `complaints` | where mistakes and faults are told |
+//! | `complaints` | where mistakes and faults are reported |
 //! | `output` | where the text of a run goes |
 //! | `loading` | whole files up to a limit, and the line of one that was not loaded |
 //! | `opened` | a file or standard input, to be read in pieces |
 //! | `table_line` | the line of a fault of the fare table |
+//! | `table_words` | words of `--table`: a file, and the date from which its table is valid |
+//! | `following` | fare tables that follow others from a date on, and the lines of their faults |
 //! | `terminal_line` | a line on a terminal that says how far a long run is |
-//! | `answers` | what clap answers where there is nothing to run |
+//! | `answers` | what clap answers if there is nothing to run |
 //! | `arguments` | the words of the command line, and why they could not be had |
 //! | `version` | the version that each program prints |
 //! | `words` | a command and its options, as `clap` takes them |
@@ -21,6 +23,7 @@ mod answers;
 mod arguments;
 mod complaints;
 mod file_list;
+mod following;
 mod list_line;
 mod list_words;
 mod listed_words;
@@ -28,6 +31,7 @@ mod loading;
 mod opened;
 mod output;
 mod table_line;
+mod table_words;
 mod terminal_line;
 mod version;
 mod words;
@@ -36,6 +40,7 @@ pub use answers::show_answer;
 pub use arguments::{WordsFault, unread_words, words_of};
 pub use complaints::Complaints;
 pub use file_list::{ListFault, NameEnd, WrongName, names_of_list};
+pub use following::{FollowLine, NamedClassLine, NamedTableLine, NextFault, table_behind};
 pub use list_line::ListLine;
 pub use list_words::{ListWords, take_list};
 pub use listed_words::{with_files, with_option_files};
@@ -45,9 +50,10 @@ pub use loading::{
 pub use opened::Opened;
 pub use output::Output;
 pub use table_line::TableLine;
+pub use table_words::{DateFault, TableWord, TableWords, WrittenDate, WrongWord};
 pub use terminal_line::{PACE_MS, QUIET_MS, TerminalLine};
 pub use version::VERSION;
 pub use words::{
     add_list_args, files_arg, flag_arg, flag_in, names_in, new_command, number_arg, option_arg,
-    positional_arg,
+    positional_arg, repeated_arg,
 };

@@ -5,7 +5,7 @@ ghost use Rattle.std.specs.Str.{bytes_eq};
 ghost use Rattle.clap.specs.Words.{found_of, kind_of, rows_of};
 ghost use Rattle.program_manners.specs.LineWritten.{LineWritten};
 ghost use Rattle.program_manners.specs.Lines.{list_status, list_text};
-ghost use Rattle.program_manners.specs.ListWords.{HasNames, IsListTold, TakesList, called};
+ghost use Rattle.program_manners.specs.ListWords.{HasNames, IsListReported, TakesList, called};
 ghost use Rattle.program_manners.specs.ListWords.{lacks_list, list_asked, view_of};
 
 use crate::complaints::Complaints;
@@ -57,7 +57,7 @@ impl<'a> ListWords<'a> {
         Ok(Some(ListWords { name, end }))
     }
 
-    /// What words that clap does not read say of a list: nothing. The program tells why they are not
+    /// What words that clap does not read say of a list: nothing. The program says why they are not
     /// read, or shows its help. The error is `NoMemory`: memory was refused while they were read.
     pub fn unread(error: &Error) -> Result<Option<ListWords<'a>>, ListFault>
         ensures none { kind_of error.now ≢ ErrorKind.OutOfMemory → result ≡ Ok None }
@@ -133,7 +133,7 @@ impl<'a> ListWords<'a> {
 
 /// The words with the names of the list that they name, if they name one: each as the value of this
 /// option, or else as a positional argument. The list is what the program says of its words. The
-/// error is the status, where it was told why the names are not had.
+/// error is the status, when it was reported why there are no names.
 pub fn take_list<'a, R: Files + Input + AllocGlobal, E: Write>(
     rt: &R,
     words: &[String],
@@ -145,26 +145,26 @@ pub fn take_list<'a, R: Files + Input + AllocGlobal, E: Write>(
         (option_map (λ o. o.now) option.entry)
         (option_map (λ more. map string_bytes more.items) all)) }
     ensures quiet { IfOk result (λ _. err.new ≡ err.old) }
-    ensures told { IfErr result (λ status. IsListTold list.entry (E.contents err.old.writer)
+    ensures reported { IfErr result (λ status. IsListReported list.entry (E.contents err.old.writer)
         (E.contents err.new.writer) err.new.failed status) }
 {
     let list = match list {
         Ok(None) => return Ok(None),
         Ok(Some(list)) => list,
-        Err(fault) => return Err(tell(err, ListLine::unnamed(fault))),
+        Err(fault) => return Err(report(err, ListLine::unnamed(fault))),
     };
     match list.add_names(rt, words, option) {
         Ok(all) => Ok(Some(all)),
-        Err(fault) => Err(tell(err, list.line_of(fault))),
+        Err(fault) => Err(report(err, list.line_of(fault))),
     }
 }
 
 /// Says why the names of a list are not had, and gives the status.
-fn tell<E: Write>(err: &mut Complaints<E>, line: ListLine<'_>) -> u8
+fn report<E: Write>(err: &mut Complaints<E>, line: ListLine<'_>) -> u8
     ensures status { result ≡ list_status line.entry.fault }
-    ensures told { LineWritten (E.contents err.old.writer) (E.contents err.new.writer)
+    ensures reported { LineWritten (E.contents err.old.writer) (E.contents err.new.writer)
         err.new.failed (list_text line.entry.list.now line.entry.end line.entry.fault) }
 {
-    err.tell_line(line);
+    err.report_line(line);
     line.status()
 }

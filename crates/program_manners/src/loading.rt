@@ -59,8 +59,8 @@ impl fmt::Display for FileFault<'_> {
     }
 }
 
-/// The file of this name, to be read from its beginning. That it cannot be opened is told as that
-/// it cannot be read, unless memory was refused.
+/// The file of this name, to be read from its beginning. If it cannot be opened, that is reported
+/// as if it could not be read, unless memory was refused.
 pub fn open_file<R: Files>(rt: &R, name: &str) -> Result<R::File, LoadFault>
     ensures { IfErr result (λ fault. fault ≢ LoadFault.TooLong) }
 {
@@ -82,7 +82,7 @@ pub fn load_file<R: Files>(rt: &R, alloc: Global, name: &str) -> Result<Vec<u8>,
 /// All bytes that the reader has left, to its end. Reading stops at the first read that fails (and
 /// is not interrupted by a signal), and at the first byte past the limit, so that a reader without
 /// end takes no more memory than the limit. The bytes are read into their place: a short file costs
-/// little. How much was read is not told of a fault.
+/// little. No clause says how much was read before a fault.
 pub fn load_from<R: Read>(alloc: Global, r: &mut R) -> Result<Vec<u8>, LoadFault>
     ensures whole { IfOk result (λ bytes. IfSome (R.remaining r.old) (λ left. bytes.items ≡ left)) }
     ensures short { IfOk result (λ bytes. length bytes.items ≤ LOAD_LIMIT_BYTES) }

@@ -8,7 +8,6 @@ use std::io::Write;
 /// The writer of a run's text, which knows whether all that it took was flushed.
 #[derive(Drop)]
 pub struct Output<W> {
-    /// The writer.
     writer: W,
     /// Whether nothing was written after the last flush, which ended well.
     is_flushed: bool,

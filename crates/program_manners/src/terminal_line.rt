@@ -13,7 +13,7 @@ pub const QUIET_MS: u64 = 1_000;
 /// How many milliseconds a line stays before the next one.
 pub const PACE_MS: u64 = 200;
 
-/// What shows a text, or an error where that is more than 80 bytes.
+/// What shows a text, or an error if that is more than 80 bytes.
 fn line_of<D: Display + Drop>(text: D) -> Result<ArrayString<80>, fmt::Error>
     ensures { IfOk result (λ line. IfSome (D.output text) (λ shown.
         line.bytes ≡ line_with shown)) }

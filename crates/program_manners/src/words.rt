@@ -4,7 +4,7 @@ ghost use Rattle.clap.specs.Simple.{app_of};
 ghost use Rattle.clap.specs.Words.{all_of, found_of, rows_of, rule_of, with_rule};
 ghost use Rattle.program_manners.specs.Words.{files_rule, flag_rule, is_given, list_option};
 ghost use Rattle.program_manners.specs.Words.{named_app, null_flag, number_rule};
-ghost use Rattle.program_manners.specs.Words.{option_rule, positional_rule};
+ghost use Rattle.program_manners.specs.Words.{option_rule, positional_rule, repeated_rule};
 
 use crate::version::VERSION;
 use clap::builder::ValueParser;
@@ -26,6 +26,18 @@ pub fn option_arg<'a>(alloc: Global, name: &'a str, value: &'a str, help: &'a st
         .long(name)
         .value_name(value)
         .action(ArgAction::Set)
+        .help(help)
+}
+
+/// An option with a value, which may be given again: `--NAME VALUE`.
+pub fn repeated_arg<'a>(alloc: Global, name: &'a str, value: &'a str, help: &'a str) -> Arg<'a>
+    ensures rule { rule_of result ≡ repeated_rule name.entry.now }
+    ensures local { result.global ≡ false }
+{
+    Arg::new(alloc, name)
+        .long(name)
+        .value_name(value)
+        .action(ArgAction::Append)
         .help(help)
 }
 
@@ -77,7 +89,7 @@ pub fn positional_arg<'a>(alloc: Global, name: &'a str, action: ArgAction, help:
     Arg::new(alloc, name).action(action).help(help)
 }
 
-/// A command of this name that tells the version, and has no options yet.
+/// A command of this name that prints the version, and has no options yet.
 pub fn new_command<'a>(alloc: Global, name: &'a str, about: &'a str, notes: &'a str) -> Command<'a>
     ensures { app_of result ≡ named_app name.entry.now }
 {

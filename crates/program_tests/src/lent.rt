@@ -167,10 +167,10 @@ fn reads_each_file_once(rt: HostRuntime) -> Result<(), Fail> {
     Ok(())
 }
 
-/// Of several files that are not read the first one in the order of the words is told, and no text
-/// is written, by any number of workers.
+/// Of several files that are not read the first one in the order of the words is reported, and no
+/// text is written, by any number of workers.
 #[test]
-fn tells_the_first_unread_file(rt: HostRuntime) -> Result<(), Fail> {
+fn reports_the_first_unread_file(rt: HostRuntime) -> Result<(), Fail> {
     let alloc = rt.alloc();
     for workers in ["1", "2", "16"] {
         let words = [

@@ -201,9 +201,9 @@ fn reads_parts_up_to_a_fault(rt: HostRuntime) -> Result<(), Fail> {
         (["a", "pipe", "c", "d"], "a "),
         (["pipe", "b", "c", "d"], ""),
     ];
-    for (names, told) in rows {
+    for (names, reported) in rows {
         let text = ahead_names(&rt, alloc, &names)?;
-        assert_eq!(rt; text.as_str(), told, "{names:?}");
+        assert_eq!(rt; text.as_str(), reported, "{names:?}");
     }
     Ok(())
 }

@@ -143,7 +143,7 @@ fn the_text_is_that_of_a_settled_run(rt: HostRuntime) -> Result<(), Fail> {
 
 /// The first fault in the order of the words, and no text.
 #[test]
-fn the_first_fault_is_told(rt: HostRuntime) -> Result<(), Fail> {
+fn the_first_fault_is_reported(rt: HostRuntime) -> Result<(), Fail> {
     let alloc = rt.alloc();
     let good = upload(alloc, &first_taps())?;
     let mut taps = other_taps();
@@ -249,8 +249,8 @@ impl<'a> Disk for FickleDisk<'a> {
     }
 }
 
-/// The status, the text and the fault line of this upload, which is a ledger or, without that word, a
-/// report. Reads fail from some number on, and stamps differ.
+/// The status, the text and the fault line of this upload, which is a ledger or, without that word,
+/// a report. Reads fail from some number on, and stamps differ.
 fn run_fickle<R: Threads + Wait + RandomSource + Sync>(
     rt: &R,
     alloc: Global,
@@ -286,7 +286,7 @@ fn run_fickle<R: Threads + Wait + RandomSource + Sync>(
 /// The later a read fails, the later is the line that reports it. The text is short, and goes out
 /// only if no read fails.
 #[test]
-fn a_read_that_fails_is_told_by_its_pass(rt: HostRuntime) -> Result<(), Fail> {
+fn a_read_that_fails_is_reported_by_its_pass(rt: HostRuntime) -> Result<(), Fail> {
     let alloc = rt.alloc();
     let all = upload(alloc, &first_taps())?;
     let lines = [
@@ -321,24 +321,24 @@ fn a_read_that_fails_is_told_by_its_pass(rt: HostRuntime) -> Result<(), Fail> {
 
 /// A file with another stamp behind the last pass. A ledger was written by then.
 #[test]
-fn a_file_that_changes_is_told(rt: HostRuntime) -> Result<(), Fail> {
+fn a_file_that_changes_is_reported(rt: HostRuntime) -> Result<(), Fail> {
     let alloc = rt.alloc();
     let all = upload(alloc, &first_taps())?;
-    let told = b"fault: a file changed while it was read\n".as_slice();
+    let reported = b"fault: a file changed while it was read\n".as_slice();
     let (status, text, err) = run_fickle(&rt, alloc, &["--ledger"], &all, u64::MAX, 1)?;
     assert_eq!(rt; (status, text.is_empty()), (1, false));
-    assert_eq!(rt; err.as_slice(), told);
+    assert_eq!(rt; err.as_slice(), reported);
 
     // a report is written once all is read
     let (status, text, err) = run_fickle(&rt, alloc, &[], &all, u64::MAX, 1)?;
     assert_eq!(rt; (status, text.is_empty()), (1, true));
-    assert_eq!(rt; err.as_slice(), told);
+    assert_eq!(rt; err.as_slice(), reported);
     Ok(())
 }
 
 /// Each reason for which a file is not opened has its line.
 #[test]
-fn a_file_that_is_not_opened_is_told(rt: HostRuntime) -> Result<(), Fail> {
+fn a_file_that_is_not_opened_is_reported(rt: HostRuntime) -> Result<(), Fail> {
     let alloc = rt.alloc();
     let rows = [
         (Unopened::Unread, "fault: cannot read a\n"),

@@ -96,7 +96,7 @@ fn writes<R: Threads + Wait + RandomSource + Sync>(
 
 /// The first room below the length with which such a run does not report, with status 1, that it
 /// cannot write.
-fn first_untold<R: Threads + Wait + RandomSource + Sync>(
+fn first_unreported<R: Threads + Wait + RandomSource + Sync>(
     rt: &R,
     alloc: Global,
     words: &[&str],
@@ -112,13 +112,13 @@ fn first_untold<R: Threads + Wait + RandomSource + Sync>(
 }
 
 #[test]
-fn tells_of_a_text_that_cannot_be_written(rt: HostRuntime) -> Result<(), Fail> {
+fn reports_a_text_that_cannot_be_written(rt: HostRuntime) -> Result<(), Fail> {
     let alloc = rt.alloc();
     assert!(rt; writes(&rt, alloc, &[], LISTING.as_bytes())?);
-    assert_eq!(rt; first_untold(&rt, alloc, &[], LISTING.len())?, None);
+    assert_eq!(rt; first_unreported(&rt, alloc, &[], LISTING.len())?, None);
     let report = ["--table", "t"];
     assert!(rt; writes(&rt, alloc, &report, REPORT.as_bytes())?);
-    assert_eq!(rt; first_untold(&rt, alloc, &report, REPORT.len())?, None);
+    assert_eq!(rt; first_unreported(&rt, alloc, &report, REPORT.len())?, None);
     let (status, err) = run_with_room(&rt, alloc, &report, REPORT.len())?;
     assert_eq!(rt; (err.as_slice(), status), (b"".as_slice(), 0));
     let (status, err) = run_with_room(&rt, alloc, &["--help"], 9)?;
@@ -127,7 +127,7 @@ fn tells_of_a_text_that_cannot_be_written(rt: HostRuntime) -> Result<(), Fail> {
 }
 
 #[test]
-fn tells_of_a_text_that_is_not_brought_anywhere(rt: HostRuntime) -> Result<(), Fail> {
+fn reports_a_text_that_is_not_brought_anywhere(rt: HostRuntime) -> Result<(), Fail> {
     let alloc = rt.alloc();
     let (status, err) = run_stuck(&rt, alloc, &[])?;
     assert_eq!(rt; (err.as_slice(), status), (CANNOT_WRITE, 1));
@@ -139,7 +139,7 @@ fn tells_of_a_text_that_is_not_brought_anywhere(rt: HostRuntime) -> Result<(), F
 }
 
 #[test]
-fn ends_with_its_status_where_the_fault_cannot_be_told(rt: HostRuntime) -> Result<(), Fail> {
+fn ends_with_its_status_where_the_fault_cannot_be_reported(rt: HostRuntime) -> Result<(), Fail> {
     let alloc = rt.alloc();
     let words = vec![in alloc; String::from_str(alloc, "omny_cli")?]?;
     let mut shelf = Shelf::new(alloc, &[], Content::Fault(LoadFault::Unread));
@@ -157,7 +157,7 @@ fn ends_with_its_status_where_the_fault_cannot_be_told(rt: HostRuntime) -> Resul
 }
 
 /// Whether words that cannot be had are reported by this line, with this status.
-fn is_told(alloc: Global, fault: &WordsFault, line: &[u8], status: u8) -> bool {
+fn is_reported(alloc: Global, fault: &WordsFault, line: &[u8], status: u8) -> bool {
     let mut err = Complaints::new(Vec::new(alloc));
     let ended = unread_words(fault, &mut err);
     let said = err.into_writer();
@@ -165,11 +165,11 @@ fn is_told(alloc: Global, fault: &WordsFault, line: &[u8], status: u8) -> bool {
 }
 
 #[test]
-fn tells_of_words_that_cannot_be_had(rt: HostRuntime) -> Result<(), Fail> {
+fn reports_words_that_cannot_be_had(rt: HostRuntime) -> Result<(), Fail> {
     let alloc = rt.alloc();
-    assert!(rt; is_told(alloc, &WordsFault::NoMemory, b"fault: out of memory\n", 1));
+    assert!(rt; is_reported(alloc, &WordsFault::NoMemory, b"fault: out of memory\n", 1));
     let shown = String::from_str(alloc, "a\\xff.tap")?;
     let line = b"error: an argument is not UTF-8: a\\xff.tap\n";
-    assert!(rt; is_told(alloc, &WordsFault::NotUtf8(shown), line, 2));
+    assert!(rt; is_reported(alloc, &WordsFault::NotUtf8(shown), line, 2));
     Ok(())
 }

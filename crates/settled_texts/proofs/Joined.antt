@@ -13,8 +13,8 @@ use Rattle.tap_views.specs.Layout.{moment_limit}
 use Rattle.tap_views.specs.declared.encoder.TapFields.{TapFields}
 use Rattle.tap_views.proofs.Lists.{All-split}
 use Rattle.settled_texts.specs.inside.Seats.{IsSoundList}
-use Rattle.settled_texts.specs.Telling.{NoTapFallsFrom, last_token}
-use Rattle.settled_texts.proofs.Tellings.{fall_within}
+use Rattle.settled_texts.specs.ExplainedTaps.{NoTapFallsFrom, last_token}
+use Rattle.settled_texts.proofs.TapsExplained.{fall_within}
 
 -- the taps of lists, one list behind the other
 abbrev pub joined : List (Vec TapFields Global) → List TapFields

@@ -5,5 +5,5 @@ pub mod OwnEntries
 pub mod Rows
 pub mod Settled
 pub mod Strides
-pub mod Tellings
+pub mod TapsExplained
 pub mod TracedLines

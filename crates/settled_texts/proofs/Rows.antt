@@ -19,7 +19,7 @@ use Rattle.fare_texts.specs.Lines.{IsUpTo, NoFall, NoFallFrom}
 use Rattle.tap_parts.specs.Canonical.{tap_cmp}
 use Rattle.settlement.specs.Posted.{HasName, posted_after, token_of_tap, unposted}
 use Rattle.settlement.proofs.Placed.{NotLess, Pairs, sorted_pairs}
-use Rattle.settled_texts.specs.Telling.{NoTapFallsFrom}
+use Rattle.settled_texts.specs.ExplainedTaps.{NoTapFallsFrom}
 
 up_to : (a b : TapFields) → HasName a → HasName b → NotLess a b
     → IsUpTo (token_of_tap a) (token_of_tap b)

@@ -78,14 +78,14 @@ pub drop_twice : {A : Type 0} (n m : ℕ) (xs : List A) → drop m (drop n xs) �
 drop_twice n m xs = drop-drop m n xs
 
 -- the columns of the taps that are left
-pub columns_left : (classes : List ℕ → List ℕ) (n : ℕ) (trace : List TracedTap)
+pub columns_left : (classes : ℕ → List ℕ → List ℕ) (n : ℕ) (trace : List TracedTap)
     → drop n (columns_by classes trace) ≡ columns_by classes (drop n trace)
 columns_left classes zero trace = refl
 columns_left classes (suc n) [] = refl
 columns_left classes (suc n) (traced ∷ trace) = columns_left classes n trace
 
 -- lines behind others have the columns of the taps that are left
-pub columns_on : (classes : List ℕ → List ℕ) (lines more : List ℕ) (trace left : List TracedTap)
+pub columns_on : (classes : ℕ → List ℕ → List ℕ) (lines more : List ℕ) (trace left : List TracedTap)
     → left ≡ drop (feeds lines) trace
     → with_columns (lines ++ more) (columns_by classes trace)
     ≡ with_columns lines (columns_by classes trace) ++ with_columns more (columns_by classes left)
@@ -111,8 +111,8 @@ pub head_on : (lines : List ℕ) (columns : List (List ℕ))
     ++ codes ",class,upload,place\n") ++ with_columns lines columns
 head_on lines columns = refl
 
--- where no tap is left, a line has no columns
-pub none_left : (classes : List ℕ → List ℕ) (rest : List ℕ) (taps : List TracedTap) → taps ≡ []
+-- if no tap is left, a line has no columns
+pub none_left : (classes : ℕ → List ℕ → List ℕ) (rest : List ℕ) (taps : List TracedTap) → taps ≡ []
     → with_columns (10 ∷ rest) (columns_by classes taps)
     ≡ 10 ∷ with_columns rest (columns_by classes taps)
 none_left classes rest [] is = ap (λ (t : List ℕ). 10 ∷ t) (sym (no_columns rest))

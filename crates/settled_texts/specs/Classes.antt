@@ -1,12 +1,16 @@
--- The class of a token's rider, as the text of a fare table names it.
-use Rattle.std.specs.Prelude.{ℕ, ◌&&◌, ◌||◌, ◌==◌, Bool, true, false, List, Option, Some, None, codes}
-use Rattle.std.specs.Prelude.{if◌then◌else◌, length, nat_le}
+-- The class of a token's rider, as the texts of fare tables name it.
+use Rattle.std.specs.Prelude.{◌≡◌, ℕ, ◌&&◌, ◌||◌, ◌==◌, Bool, true, false, List, [], ◌∷◌, Option}
+use Rattle.std.specs.Prelude.{Some, None}
+use Rattle.std.specs.Prelude.{codes, if◌then◌else◌, length, nat_le}
 use Rattle.std.specs.List.{list_all}
 use Rattle.std.specs.Option.{option_and_then}
 use Rattle.std.specs.Result.{result_ok}
 use Rattle.hex.specs.Hex.{decode_sized}
 use Rattle.toml.specs.Data.{Data, Members, no_members, member, as_str, as_table, get_member}
 use Rattle.toml.specs.Data.{same_key}
+use Rattle.toml.specs.Parse.{parse_document}
+use Rattle.fare_table.specs.Fares.{Fares}
+use Rattle.fare_table.specs.TableMeaning.{TableMeaning}
 
 -- these are the bytes of the token
 abbrev pub is_token : List ℕ → Option (List ℕ) → Bool
@@ -45,6 +49,27 @@ default_in tree = option_and_then as_str (get_member (codes "default_class") tre
 -- the class of the token's rider: that of the rider's own key, else the default class
 abbrev pub class_of_token : Members → List ℕ → Option (List ℕ)
 class_of_token tree token = first_class (class_among (riders_in tree) token) (default_in tree)
+
+-- The tree that is valid at the moment, of texts that follow one another: the first one until a
+-- later one is valid, and so on. Before each later one stands the moment from which it is valid.
+abbrev pub tree_at : Members → List (ℕ × Members) → ℕ → Members
+tree_at tree [] moment = tree
+tree_at tree (next ∷ later) moment =
+    if nat_le next.0 moment then tree_at next.1 later moment else tree
+
+-- the trees of the texts of tables that follow, each behind the moment from which its table is
+-- valid
+abbrev pub AreLaterTrees : List (ℕ × TableMeaning) → List (List ℕ) → List (ℕ × Members) → Type 0
+AreLaterTrees [] [] [] = Unit {0}
+AreLaterTrees (dated ∷ later) (text ∷ texts) (tree ∷ trees) =
+    (tree.0 ≡ dated.0) × (parse_document text ≡ Some tree.1) × AreLaterTrees later texts trees
+AreLaterTrees _ _ _ = ⊥
+
+-- the trees of these texts, of which the first is the one of the table that is valid first
+abbrev pub AreTrees : Fares → List (List ℕ) → Members → List (ℕ × Members) → Type 0
+AreTrees fares [] tree trees = ⊥
+AreTrees fares (text ∷ texts) tree trees =
+    (parse_document text ≡ Some tree) × AreLaterTrees fares.later texts trees
 
 -- a letter, a digit, a hyphen or a low line
 abbrev pub is_bare : ℕ → Bool

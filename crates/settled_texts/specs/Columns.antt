@@ -22,6 +22,7 @@ columns_of class traced =
     codes "," ++ (class ++ (codes "," ++ (decimal traced.upload
     ++ (codes "," ++ decimal traced.place))))
 
--- what is put behind the lines of these taps, by the class of each token
-abbrev pub columns_by : (List ℕ → List ℕ) → List TracedTap → List (List ℕ)
-columns_by class_by trace = map (λ traced. columns_of (class_by traced.tap.token) traced) trace
+-- what is put behind the lines of these taps, by the class of each token at a moment
+abbrev pub columns_by : (ℕ → List ℕ → List ℕ) → List TracedTap → List (List ℕ)
+columns_by class_by trace =
+    map (λ traced. columns_of (class_by traced.tap.moment traced.tap.token) traced) trace

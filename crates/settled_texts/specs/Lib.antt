@@ -1,7 +1,8 @@
+pub mod ClassFaults
 pub mod Classes
 pub mod Columns
 pub mod Ledgers
 pub mod Names
-pub mod Telling
+pub mod ExplainedTaps
 pub mod Traces
 pub mod inside

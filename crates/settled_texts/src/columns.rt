@@ -46,7 +46,11 @@ fn put_next<'t>(
 {
     match taps.split_first() {
         Some((traced, left)) => {
-            put_columns(text, names.class_of(&traced.tap.token), traced)?;
+            put_columns(
+                text,
+                names.class_of(traced.tap.moment, &traced.tap.token),
+                traced,
+            )?;
             Ok(left)
         }
         None => Ok(taps),
@@ -59,8 +63,8 @@ fn is_feed(byte: u8) -> bool
     byte == b'\n'
 }
 
-/// Appends a byte of the lines, and before a line feed the columns of the next tap. Returns the taps
-/// that are left.
+/// Appends a byte of the lines, and before a line feed the columns of the next tap. Returns the
+/// taps that are left.
 fn put_byte<'t>(
     text: &mut Vec<u8>,
     byte: u8,

@@ -16,7 +16,7 @@ use crate::lines::STRIDE_ROOM_BYTES;
 use crate::rounds::write_lists;
 use crate::seat::Seat;
 use fare_table::FareTable;
-use fare_texts::{PrintFault, Teller, head_with_room, pass_on};
+use fare_texts::{Explainer, PrintFault, head_with_room, pass_on};
 use std::alloc::Global;
 use std::io::Write;
 use std::marker::Sync;
@@ -26,7 +26,8 @@ use tap_views::{NoMemory, TapFields, Token};
 /// Counts the taps of the lists. If there are more than memory can hold, the error is want of
 /// memory.
 fn count(lists: &[Vec<TapFields>]) -> Result<u64, NoMemory>
-    ensures count { IfOk result (λ count. count ≡ length (flat_map (λ list. list.items) lists.now)) }
+    ensures count { IfOk result
+        (λ count. count ≡ length (flat_map (λ list. list.items) lists.now)) }
 {
     let mut count: u64 = 0;
     for list in lists {
@@ -86,13 +87,13 @@ pub fn write_settled_ledger<R: Threads + Sync, W: Write>(
     let clock = table.clock(alloc)?;
     let mut text = head_with_room(alloc, STRIDE_ROOM_BYTES)?;
     let mut seats = seats_of(alloc, workers)?;
-    let mut teller = Teller::of(least_token());
+    let mut explainer = Explainer::of(least_token());
     write_lists(
         rt,
         &mut text,
         table,
         &clock,
-        &mut teller,
+        &mut explainer,
         &mut seats,
         lists,
         out,

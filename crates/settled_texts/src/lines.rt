@@ -8,10 +8,10 @@ ghost use Rattle.fare_texts.specs.declared.print_fault.PrintFault.TheVariants.{W
 ghost use Rattle.fare_texts.specs.Lines.{AreLinesAlong, HasCome, IsUpTo};
 ghost use Rattle.fare_texts.specs.WrittenOut.{Begins, GoesOut};
 ghost use Rattle.settlement.specs.Posted.{posted_after, token_of_tap};
-ghost use Rattle.settled_texts.specs.Telling.{AreTold, NoTapFallsFrom, last_token};
+ghost use Rattle.settled_texts.specs.ExplainedTaps.{AreExplained, NoTapFallsFrom, last_token};
 
 use fare_table::{Clock, FareTable};
-use fare_texts::{LINE_ROOM_BYTES, PrintFault, Teller, go_on_to, pass_piece};
+use fare_texts::{Explainer, LINE_ROOM_BYTES, PrintFault, go_on_to, pass_piece};
 use std::alloc::AllocError;
 use std::io::Write;
 use tap_views::{TapFields, Token};
@@ -30,90 +30,93 @@ pub fn token_of(tap: &TapFields) -> Token
     Token::of(&tap.token)
 }
 
-/// Posts a tap, whose token is not below the teller's, and appends its line. If memory is refused,
-/// the line is not whole.
+/// Posts a tap, whose token is not below the explainer's, and appends its line. If memory is
+/// refused, the line is not whole.
 #[inline(always)]
-fn tell_tap(
+fn explain_tap(
     text: &mut String,
     table: &FareTable,
     clock: &Clock,
-    teller: &mut Teller,
+    explainer: &mut Explainer,
     tap: &TapFields,
 ) -> Result<(), AllocError>
     requires clock { clock.now ≡ table.now.zone }
     requires early { tap.now.moment < 4_102_444_800_000 }
-    requires up { IsUpTo teller.old.token (token_of_tap tap.now) }
-    requires come { (earlier : List Entry) × HasCome table.now teller.old earlier }
-    requires room { teller.old.number + 1 < 2 ^ 64 }
+    requires up { IsUpTo explainer.old.token (token_of_tap tap.now) }
+    requires come { (earlier : List Entry) × HasCome table.now explainer.old earlier }
+    requires room { explainer.old.number + 1 < 2 ^ 64 }
 
-    // After all entries that the teller has come past.
-    ensures told { OnOk result ((earlier : List Entry) → HasCome table.now teller.old earlier
-        → (line : List ℕ) × AreTold table.now earlier (tap.now ∷ []) teller.new line
+    // After all entries that the explainer has come past.
+    ensures explained { OnOk result
+        ((earlier : List Entry) → HasCome table.now explainer.old earlier
+        → (line : List ℕ) × AreExplained table.now earlier (tap.now ∷ []) explainer.new line
         × (string_bytes text.new ≡ string_bytes text.old ++ line)) }
-    ensures token { teller.new.token ≡ token_of_tap tap.now }
-    ensures few { teller.new.number ≤ teller.old.number + 1 }
+    ensures token { explainer.new.token ≡ token_of_tap tap.now }
+    ensures few { explainer.new.number ≤ explainer.old.number + 1 }
 {
-    go_on_to(teller, token_of(tap));
-    teller.write_posted(text, table, clock, tap.validator, tap.moment)?;
+    go_on_to(explainer, token_of(tap));
+    explainer.write_posted(text, table, clock, tap.validator, tap.moment)?;
     Ok(())
 }
 
-/// Posts the taps, whose tokens do not fall from the teller's on, and appends their lines. If
+/// Posts the taps, whose tokens do not fall from the explainer's on, and appends their lines. If
 /// memory is refused, the lines are not whole.
-pub(crate) fn tell_taps(
+pub(crate) fn explain_taps(
     text: &mut String,
     table: &FareTable,
     clock: &Clock,
-    teller: &mut Teller,
+    explainer: &mut Explainer,
     taps: &[TapFields],
 ) -> Result<(), AllocError>
     requires clock { clock.now ≡ table.now.zone }
     requires early { AreEarly (λ tap. tap.moment) taps.now }
-    requires no_fall { NoTapFallsFrom teller.old.token taps.now }
-    requires come { (earlier : List Entry) × HasCome table.now teller.old earlier }
-    requires room { teller.old.number + length taps.now < 2 ^ 64 }
+    requires no_fall { NoTapFallsFrom explainer.old.token taps.now }
+    requires come { (earlier : List Entry) × HasCome table.now explainer.old earlier }
+    requires room { explainer.old.number + length taps.now < 2 ^ 64 }
 
-    // After all entries that the teller has come past.
-    ensures told { OnOk result ((earlier : List Entry) → HasCome table.now teller.old earlier
-        → (lines : List ℕ) × AreTold table.now earlier taps.now teller.new lines
+    // After all entries that the explainer has come past.
+    ensures explained { OnOk result
+        ((earlier : List Entry) → HasCome table.now explainer.old earlier
+        → (lines : List ℕ) × AreExplained table.now earlier taps.now explainer.new lines
         × (string_bytes text.new ≡ string_bytes text.old ++ lines)) }
-    ensures token { OnOk result (teller.new.token ≡ last_token teller.old.token taps.now) }
-    ensures few { OnOk result (teller.new.number ≤ teller.old.number + length taps.now) }
+    ensures token { OnOk result (explainer.new.token ≡ last_token explainer.old.token taps.now) }
+    ensures few { OnOk result (explainer.new.number ≤ explainer.old.number + length taps.now) }
 {
     for tap in taps {
-        tell_tap(text, table, clock, teller, tap)?;
+        explain_tap(text, table, clock, explainer, tap)?;
     }
     Ok(())
 }
 
-/// Posts the taps, whose tokens do not fall from the teller's on, and appends their lines, in
+/// Posts the taps, whose tokens do not fall from the explainer's on, and appends their lines, in
 /// strides. Between these what waits in the text goes out if it is a piece. The text has room for a
 /// piece and a stride, so that no memory is taken.
 pub fn write_taps<W: Write>(
     text: &mut String,
     table: &FareTable,
     clock: &Clock,
-    teller: &mut Teller,
+    explainer: &mut Explainer,
     taps: &[TapFields],
     out: &mut W,
 ) -> Result<(), PrintFault>
     requires clock { clock.now ≡ table.now.zone }
     requires early { AreEarly (λ tap. tap.moment) taps.now }
-    requires no_fall { NoTapFallsFrom teller.old.token taps.now }
-    requires come { (earlier : List Entry) × HasCome table.now teller.old earlier }
-    requires room { teller.old.number + length taps.now < 2 ^ 64 }
+    requires no_fall { NoTapFallsFrom explainer.old.token taps.now }
+    requires come { (earlier : List Entry) × HasCome table.now explainer.old earlier }
+    requires room { explainer.old.number + length taps.now < 2 ^ 64 }
 
-    // After all entries that the teller has come past.
-    ensures told { OnOk result ((earlier : List Entry) → HasCome table.now teller.old earlier
-        → (lines : List ℕ) × AreTold table.now earlier taps.now teller.new lines
+    // After all entries that the explainer has come past.
+    ensures explained { OnOk result
+        ((earlier : List Entry) → HasCome table.now explainer.old earlier
+        → (lines : List ℕ) × AreExplained table.now earlier taps.now explainer.new lines
         × GoesOut (W.contents out.old) (string_bytes text.old) (W.contents out.new)
         (string_bytes text.new) lines) }
-    ensures begun { OnErr result ((earlier : List Entry) → HasCome table.now teller.old earlier
+    ensures begun { OnErr result ((earlier : List Entry) → HasCome table.now explainer.old earlier
         → (lines : List ℕ)
         × AreLinesAlong table.now earlier (posted_after table.now earlier taps.now) lines
         × Begins (W.contents out.old) (W.contents out.new) (string_bytes text.old ++ lines)) }
-    ensures token { OnOk result (teller.new.token ≡ last_token teller.old.token taps.now) }
-    ensures few { OnOk result (teller.new.number ≤ teller.old.number + length taps.now) }
+    ensures token { OnOk result (explainer.new.token ≡ last_token explainer.old.token taps.now) }
+    ensures few { OnOk result (explainer.new.number ≤ explainer.old.number + length taps.now) }
     ensures fault { IfErr result (λ fault. fault ≡ ForWrite) }
 {
     let mut rest = taps;
@@ -121,7 +124,7 @@ pub fn write_taps<W: Write>(
         pass_piece(text, out)?;
         let (stride, behind) = rest.split_at(rest.len().min(STRIDE_TAPS));
         // The text has room for a stride, so that none is refused.
-        let Ok(()) = tell_taps(text, table, clock, teller, stride) else {
+        let Ok(()) = explain_taps(text, table, clock, explainer, stride) else {
             return Err(PrintFault::Write);
         };
         rest = behind;

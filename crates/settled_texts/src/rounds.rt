@@ -12,12 +12,12 @@ ghost use Rattle.fare_texts.specs.WrittenOut.{Begins, GoesOut};
 ghost use Rattle.settlement.specs.Posted.{posted_after};
 ghost use Rattle.settled_texts.specs.declared.seat.Seat.{Seat};
 ghost use Rattle.settled_texts.specs.inside.Seats.{HasSat, IsSoundList};
-ghost use Rattle.settled_texts.specs.Telling.{AreTold, NoTapFallsFrom, last_token};
+ghost use Rattle.settled_texts.specs.ExplainedTaps.{AreExplained, NoTapFallsFrom, last_token};
 
 use crate::lines::write_taps;
 use crate::seat::Seat;
 use fare_table::{Clock, FareTable};
-use fare_texts::{PrintFault, Teller, pass_on, write_out};
+use fare_texts::{Explainer, PrintFault, pass_on, write_out};
 use std::io::Write;
 use std::marker::Sync;
 use std::thread;
@@ -61,40 +61,41 @@ fn write_list<W: Write>(
     text: &mut String,
     table: &FareTable,
     clock: &Clock,
-    teller: &mut Teller,
+    explainer: &mut Explainer,
     seat: Option<&Seat>,
     list: &[TapFields],
     out: &mut W,
 ) -> Result<(), PrintFault>
     requires clock { clock.now ≡ table.now.zone }
     requires early { AreEarly (λ tap. tap.moment) list.now }
-    requires no_fall { NoTapFallsFrom teller.old.token list.now }
-    requires come { (earlier : List Entry) × HasCome table.now teller.old earlier }
-    requires room { teller.old.number + length list.now < 2 ^ 64 }
+    requires no_fall { NoTapFallsFrom explainer.old.token list.now }
+    requires come { (earlier : List Entry) × HasCome table.now explainer.old earlier }
+    requires room { explainer.old.number + length list.now < 2 ^ 64 }
     requires sat { IfSome seat (λ seat. HasSat table.now list.now seat.now) }
 
-    // After all entries that the teller has come past.
-    ensures told { OnOk result ((earlier : List Entry) → HasCome table.now teller.old earlier
-        → (lines : List ℕ) × AreTold table.now earlier list.now teller.new lines
+    // After all entries that the explainer has come past.
+    ensures explained { OnOk result
+        ((earlier : List Entry) → HasCome table.now explainer.old earlier
+        → (lines : List ℕ) × AreExplained table.now earlier list.now explainer.new lines
         × GoesOut (W.contents out.old) (string_bytes text.old) (W.contents out.new)
         (string_bytes text.new) lines) }
-    ensures begun { OnErr result ((earlier : List Entry) → HasCome table.now teller.old earlier
+    ensures begun { OnErr result ((earlier : List Entry) → HasCome table.now explainer.old earlier
         → (lines : List ℕ)
         × AreLinesAlong table.now earlier (posted_after table.now earlier list.now) lines
         × Begins (W.contents out.old) (W.contents out.new) (string_bytes text.old ++ lines)) }
-    ensures token { OnOk result (teller.new.token ≡ last_token teller.old.token list.now) }
-    ensures few { OnOk result (teller.new.number ≤ teller.old.number + length list.now) }
+    ensures token { OnOk result (explainer.new.token ≡ last_token explainer.old.token list.now) }
+    ensures few { OnOk result (explainer.new.number ≤ explainer.old.number + length list.now) }
     ensures fault { IfErr result (λ fault. fault ≡ ForWrite) }
 {
     let Some(seat) = seat else {
-        return write_taps(text, table, clock, teller, list, out);
+        return write_taps(text, table, clock, explainer, list, out);
     };
-    if !seat.is_whole || teller.token == seat.first {
-        return write_taps(text, table, clock, teller, list, out);
+    if !seat.is_whole || explainer.token == seat.first {
+        return write_taps(text, table, clock, explainer, list, out);
     }
     pass_on(text, out)?;
     write_out(seat.text.as_bytes(), out)?;
-    *teller = seat.teller;
+    *explainer = seat.explainer;
     Ok(())
 }
 
@@ -104,37 +105,43 @@ fn write_round<R: Threads + Sync, W: Write>(
     text: &mut String,
     table: &FareTable,
     clock: &Clock,
-    teller: &mut Teller,
+    explainer: &mut Explainer,
     seats: &mut [Seat],
     round: &[Vec<TapFields>],
     out: &mut W,
 ) -> Result<(), PrintFault>
     requires clock { clock.now ≡ table.now.zone }
     requires early { AreEarly (λ tap. tap.moment) (flat_map (λ list. list.items) round.now) }
-    requires no_fall { NoTapFallsFrom teller.old.token (flat_map (λ list. list.items) round.now) }
-    requires come { (earlier : List Entry) × HasCome table.now teller.old earlier }
-    requires room { teller.old.number + length (flat_map (λ list. list.items) round.now) < 2 ^ 64 }
+    requires no_fall { NoTapFallsFrom explainer.old.token
+        (flat_map (λ list. list.items) round.now) }
+    requires come { (earlier : List Entry) × HasCome table.now explainer.old earlier }
+    requires room { explainer.old.number
+        + length (flat_map (λ list. list.items) round.now) < 2 ^ 64 }
 
-    // After all entries that the teller has come past.
-    ensures told { OnOk result ((earlier : List Entry) → HasCome table.now teller.old earlier
-        → (lines : List ℕ) × AreTold table.now earlier (flat_map (λ list. list.items) round.now) teller.new lines
+    // After all entries that the explainer has come past.
+    ensures explained { OnOk result
+        ((earlier : List Entry) → HasCome table.now explainer.old earlier
+        → (lines : List ℕ) × AreExplained table.now earlier
+        (flat_map (λ list. list.items) round.now) explainer.new lines
         × GoesOut (W.contents out.old) (string_bytes text.old) (W.contents out.new)
         (string_bytes text.new) lines) }
-    ensures begun { OnErr result ((earlier : List Entry) → HasCome table.now teller.old earlier
+    ensures begun { OnErr result ((earlier : List Entry) → HasCome table.now explainer.old earlier
         → (lines : List ℕ)
         × AreLinesAlong table.now earlier
         (posted_after table.now earlier (flat_map (λ list. list.items) round.now)) lines
         × Begins (W.contents out.old) (W.contents out.new) (string_bytes text.old ++ lines)) }
     ensures token { OnOk result
-        (teller.new.token ≡ last_token teller.old.token (flat_map (λ list. list.items) round.now)) }
+        (explainer.new.token
+        ≡ last_token explainer.old.token (flat_map (λ list. list.items) round.now)) }
     ensures few { OnOk result
-        (teller.new.number ≤ teller.old.number + length (flat_map (λ list. list.items) round.now)) }
+        (explainer.new.number
+        ≤ explainer.old.number + length (flat_map (λ list. list.items) round.now)) }
     ensures fault { IfErr result (λ fault. fault ≡ ForWrite) }
 {
     sit(rt, table, clock, seats, round);
     for place in 0..round.len() {
         let seat = seats.get(place);
-        write_list(text, table, clock, teller, seat, &round[place], out)?;
+        write_list(text, table, clock, explainer, seat, &round[place], out)?;
     }
     Ok(())
 }
@@ -145,23 +152,27 @@ pub(crate) fn write_lists<R: Threads + Sync, W: Write>(
     text: &mut String,
     table: &FareTable,
     clock: &Clock,
-    teller: &mut Teller,
+    explainer: &mut Explainer,
     seats: &mut [Seat],
     lists: &[Vec<TapFields>],
     out: &mut W,
 ) -> Result<(), PrintFault>
     requires clock { clock.now ≡ table.now.zone }
     requires early { AreEarly (λ tap. tap.moment) (flat_map (λ list. list.items) lists.now) }
-    requires no_fall { NoTapFallsFrom teller.old.token (flat_map (λ list. list.items) lists.now) }
-    requires come { (earlier : List Entry) × HasCome table.now teller.old earlier }
-    requires room { teller.old.number + length (flat_map (λ list. list.items) lists.now) < 2 ^ 64 }
+    requires no_fall { NoTapFallsFrom explainer.old.token
+        (flat_map (λ list. list.items) lists.now) }
+    requires come { (earlier : List Entry) × HasCome table.now explainer.old earlier }
+    requires room { explainer.old.number
+        + length (flat_map (λ list. list.items) lists.now) < 2 ^ 64 }
 
-    // After all entries that the teller has come past.
-    ensures told { OnOk result ((earlier : List Entry) → HasCome table.now teller.old earlier
-        → (lines : List ℕ) × AreTold table.now earlier (flat_map (λ list. list.items) lists.now) teller.new lines
+    // After all entries that the explainer has come past.
+    ensures explained { OnOk result
+        ((earlier : List Entry) → HasCome table.now explainer.old earlier
+        → (lines : List ℕ) × AreExplained table.now earlier
+        (flat_map (λ list. list.items) lists.now) explainer.new lines
         × GoesOut (W.contents out.old) (string_bytes text.old) (W.contents out.new)
         (string_bytes text.new) lines) }
-    ensures begun { OnErr result ((earlier : List Entry) → HasCome table.now teller.old earlier
+    ensures begun { OnErr result ((earlier : List Entry) → HasCome table.now explainer.old earlier
         → (lines : List ℕ)
         × AreLinesAlong table.now earlier
         (posted_after table.now earlier (flat_map (λ list. list.items) lists.now)) lines
@@ -171,7 +182,7 @@ pub(crate) fn write_lists<R: Threads + Sync, W: Write>(
     let mut rest = lists;
     while !rest.is_empty() {
         let (round, behind) = rest.split_at(rest.len().min(seats.len().max(1)));
-        write_round(rt, text, table, clock, teller, seats, round, out)?;
+        write_round(rt, text, table, clock, explainer, seats, round, out)?;
         rest = behind;
     }
     Ok(())

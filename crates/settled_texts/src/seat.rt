@@ -5,9 +5,9 @@ ghost use Rattle.tap_views.specs.Encoding.{AreEarly};
 ghost use Rattle.tap_views.specs.declared.encoder.TapFields.{TapFields};
 ghost use Rattle.settled_texts.specs.inside.Seats.{HasSat, IsSoundList};
 
-use crate::lines::{tell_taps, token_of};
+use crate::lines::{explain_taps, token_of};
 use fare_table::{Clock, FareTable};
-use fare_texts::Teller;
+use fare_texts::Explainer;
 use std::alloc::Global;
 use tap_views::{TapFields, Token};
 
@@ -20,7 +20,7 @@ pub(crate) struct Seat {
     /// The token of the list's first tap.
     pub(crate) first: Token,
     /// The last token of the list, with its account after the list.
-    pub(crate) teller: Teller,
+    pub(crate) explainer: Explainer,
     pub(crate) text: String,
     /// Whether these are the lines of all taps of the list, if its first token had none before.
     pub(crate) is_whole: bool,
@@ -31,7 +31,7 @@ impl Seat {
         let first = Token::of(&[0; 16]);
         Seat {
             first,
-            teller: Teller::of(first),
+            explainer: Explainer::of(first),
             text: String::new(alloc),
             is_whole: false,
         }
@@ -39,7 +39,7 @@ impl Seat {
 
     /// Posts the taps of a list, the first token anew, and keeps their lines. A list that is too
     /// long or empty, or for which memory is refused, is left to the caller.
-    fn tell(&mut self, table: &FareTable, clock: &Clock, list: &[TapFields])
+    fn explain(&mut self, table: &FareTable, clock: &Clock, list: &[TapFields])
         requires clock { clock.now ≡ table.now.zone }
         requires sound { IsSoundList list.now }
         ensures { HasSat table.now list.now self.new }
@@ -52,9 +52,9 @@ impl Seat {
             return;
         };
         self.first = token_of(first);
-        self.teller = Teller::of(self.first);
+        self.explainer = Explainer::of(self.first);
         self.text.clear();
-        let Ok(()) = tell_taps(&mut self.text, table, clock, &mut self.teller, list) else {
+        let Ok(()) = explain_taps(&mut self.text, table, clock, &mut self.explainer, list) else {
             return;
         };
         self.is_whole = true;
@@ -75,7 +75,7 @@ impl Seat {
             → HasSat table.now list self.new }
     {
         match lists.get(place) {
-            Some(list) => self.tell(table, clock, list),
+            Some(list) => self.explain(table, clock, list),
             None => self.is_whole = false,
         }
     }

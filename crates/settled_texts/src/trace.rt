@@ -10,8 +10,8 @@ ghost use Rattle.settled_texts.specs.Traces.{traced_from};
 use std::alloc::Global;
 use tap_views::{Batch, NoMemory, TapFields, good_batches};
 
-/// A tap, and where it stands in the uploads. Its order is the canonical one of taps, then by upload,
-/// then by place.
+/// A tap, and where it stands in the uploads. Its order is the canonical one of taps, then by
+/// upload, then by place.
 #[derive(Clone, Copy, Debug, PartialEq, Eq, PartialOrd, Ord)]
 pub struct TracedTap {
     pub tap: TapFields,

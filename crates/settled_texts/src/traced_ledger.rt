@@ -15,7 +15,7 @@ ghost use Rattle.fare_texts.specs.declared.print_fault.PrintFault.TheVariants.{W
 ghost use Rattle.fare_texts.specs.Ledger.{IsLedgerOver};
 ghost use Rattle.fare_texts.specs.Lines.{AreLinesAlong, HasCome};
 ghost use Rattle.settlement.specs.Posted.{HasName, posted};
-ghost use Rattle.settled_texts.specs.Telling.{AreTold, NoTapFallsFrom, last_token};
+ghost use Rattle.settled_texts.specs.ExplainedTaps.{AreExplained, NoTapFallsFrom, last_token};
 ghost use Rattle.settled_texts.specs.Columns.{columns_by, head_columns, with_columns};
 ghost use Rattle.settled_texts.specs.inside.Feeds.{feeds};
 ghost use Rattle.settled_texts.specs.Ledgers.{IsTracedLedger};
@@ -28,7 +28,7 @@ use crate::trace::{TracedTap, trace_of};
 use crate::{STRIDE_ROOM_BYTES, least_token, write_taps};
 use fare_service::laws::plain_history;
 use fare_table::{Clock, FareTable};
-use fare_texts::{PrintFault, Teller, pass_on, write_out};
+use fare_texts::{Explainer, PrintFault, pass_on, write_out};
 use std::alloc::{AllocError, Global};
 use std::io::Write;
 use tap_views::laws::one_reading_each;
@@ -86,27 +86,28 @@ impl Room {
         Ok(())
     }
 
-    /// Makes the lines of the taps of a stride, whose tokens do not fall from the teller's on.
-    fn tell(
+    /// Makes the lines of the taps of a stride, whose tokens do not fall from the explainer's on.
+    fn explain(
         &mut self,
         table: &FareTable,
         clock: &Clock,
-        teller: &mut Teller,
+        explainer: &mut Explainer,
         stride: &[TracedTap],
     ) -> Result<(), PrintFault>
         requires clock { clock.now ≡ table.now.zone }
         requires early { AreEarly (λ tap. tap.moment) (taps_of_trace stride.now) }
-        requires no_fall { NoTapFallsFrom teller.old.token (taps_of_trace stride.now) }
-        requires come { (earlier : List Entry) × HasCome table.now teller.old earlier }
-        requires room { teller.old.number + length (taps_of_trace stride.now) < 2 ^ 64 }
+        requires no_fall { NoTapFallsFrom explainer.old.token (taps_of_trace stride.now) }
+        requires come { (earlier : List Entry) × HasCome table.now explainer.old earlier }
+        requires room { explainer.old.number + length (taps_of_trace stride.now) < 2 ^ 64 }
         requires empty { string_bytes self.old.text ≡ [] }
-        ensures told { OnOk result ((earlier : List Entry) → HasCome table.now teller.old earlier
-            → AreTold table.now earlier (taps_of_trace stride.now) teller.new
+        ensures explained { OnOk result
+            ((earlier : List Entry) → HasCome table.now explainer.old earlier
+            → AreExplained table.now earlier (taps_of_trace stride.now) explainer.new
             self.new.lines.items) }
         ensures token { OnOk result
-            (teller.new.token ≡ last_token teller.old.token (taps_of_trace stride.now)) }
+            (explainer.new.token ≡ last_token explainer.old.token (taps_of_trace stride.now)) }
         ensures few { OnOk result
-            (teller.new.number ≤ teller.old.number + length (taps_of_trace stride.now)) }
+            (explainer.new.number ≤ explainer.old.number + length (taps_of_trace stride.now)) }
         ensures empty { OnOk result (string_bytes self.new.text ≡ []) }
         ensures fault { IfErr result (λ fault. fault ≡ ForWrite) }
     {
@@ -119,7 +120,7 @@ impl Room {
             &mut self.text,
             table,
             clock,
-            teller,
+            explainer,
             &self.taps,
             &mut self.lines,
         )?;
@@ -152,26 +153,26 @@ impl Room {
     }
 }
 
-/// Writes the lines of the taps, whose tokens do not fall from the teller's on, each with its
+/// Writes the lines of the taps, whose tokens do not fall from the explainer's on, each with its
 /// columns behind it.
 fn write_lines<W: Write>(
     room: &mut Room,
     table: &FareTable,
     clock: &Clock,
     names: &ClassNames,
-    teller: &mut Teller,
+    explainer: &mut Explainer,
     trace: &[TracedTap],
     out: &mut W,
 ) -> Result<(), PrintFault>
     requires clock { clock.now ≡ table.now.zone }
     requires early { AreEarly (λ tap. tap.moment) (taps_of_trace trace.now) }
-    requires no_fall { NoTapFallsFrom teller.old.token (taps_of_trace trace.now) }
-    requires come { HasCome table.now teller.old [] }
-    requires none { teller.old.number ≡ 0 }
+    requires no_fall { NoTapFallsFrom explainer.old.token (taps_of_trace trace.now) }
+    requires come { HasCome table.now explainer.old [] }
+    requires none { explainer.old.number ≡ 0 }
     requires room { length trace.now < 2 ^ 64 }
     requires empty { string_bytes room.old.text ≡ [] }
-    ensures told { OnOk result ((lines : List ℕ)
-        × AreTold table.now [] (taps_of_trace trace.now) teller.new lines
+    ensures explained { OnOk result ((lines : List ℕ)
+        × AreExplained table.now [] (taps_of_trace trace.now) explainer.new lines
         × Appends (W.contents out.old) (W.contents out.new)
         (with_columns lines (columns_by (class_by names.now) trace.now))) }
     ensures begun { OnErr result ((lines : List ℕ)
@@ -184,7 +185,7 @@ fn write_lines<W: Write>(
     let mut left = trace;
     while !rest.is_empty() {
         let (stride, behind) = rest.split_at(rest.len().min(STRIDE_TAPS));
-        room.tell(table, clock, teller, stride)?;
+        room.explain(table, clock, explainer, stride)?;
         left = room.write(names, left, out)?;
         rest = behind;
     }
@@ -218,18 +219,18 @@ fn write_trace<W: Write>(
     let _count = trace.len();
     let clock = table.clock(alloc)?;
     let mut room = Room::new(alloc)?;
-    let mut teller = Teller::of(least_token());
+    let mut explainer = Explainer::of(least_token());
     write_out(HEAD.as_bytes(), out)?;
     write_out(HEAD_COLUMNS.as_bytes(), out)?;
-    write_lines(&mut room, table, &clock, names, &mut teller, trace, out)?;
+    write_lines(&mut room, table, &clock, names, &mut explainer, trace, out)?;
     Ok(())
 }
 
 /// Writes the traced ledger of the uploads: the ledger of their settled history, and behind each
-/// line the class of its token, the number of the tap's upload, from 0, and its place there, from 1.
-/// Taps that are equal stand in the order of their uploads and places. Says whether no upload has a
-/// layout fault. Each tap takes 48 bytes, and no thread is started. If memory is refused, nothing
-/// was written.
+/// line the class of its token at its moment, the number of the tap's upload, from 0, and its place
+/// there, from 1. Taps that are equal stand in the order of their uploads and places. Says whether
+/// no upload has a layout fault. Each tap takes 48 bytes, and no thread is started. If memory is
+/// refused, nothing was written.
 pub fn write_traced_ledger<W: Write>(
     alloc: Global,
     table: &FareTable,

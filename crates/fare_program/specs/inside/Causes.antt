@@ -1,12 +1,11 @@
 -- Causes of faults: what private functions alone cite.
 use Rattle.std.specs.Prelude.{◌≡◌, ◌<◌, ℕ, List, Option, Bool, false}
 use Rattle.program_manners.specs.Loads.{Loaded}
-use Rattle.program_manners.specs.Refusals.{IsFirstTableFault}
 use Rattle.program_manners.specs.declared.loading.LoadFault.{LoadFault}
-use Rattle.fare_program.specs.Causes.{HasOtherNames, IsRightFault}
+use Rattle.fare_program.specs.Causes.{IsRightFault}
 use Rattle.fare_program.specs.Options.{Asked}
 use Rattle.fare_program.specs.declared.fault.Fault.{Fault}
-use Rattle.fare_program.specs.declared.fault.Fault.TheVariants.{Table, ClassName, Uploads, Gather, Write, NoMemory}
+use Rattle.fare_program.specs.declared.fault.Fault.TheVariants.{Uploads, Gather, Write, NoMemory}
 
 -- a write failed, or memory was refused
 abbrev pub IsOfOutput : Fault → Type 0
@@ -14,9 +13,9 @@ IsOfOutput Write = Unit {0}
 IsOfOutput NoMemory = Unit {0}
 IsOfOutput fault = ⊥
 
--- A fault of so many uploads, settled or not, is the right one: unless they are settled, there may
--- be too many, and the workers' shares may not be gathered. A write and want of memory may fail at
--- any time.
+-- A fault of this number of uploads, settled or not, is the right one: unless they are settled,
+-- there may be too many, and the workers' shares may not be gathered. A write and want of memory
+-- may fail at any time.
 abbrev pub IsRightOfUploads : Bool → ℕ → Fault → Type 0
 IsRightOfUploads settle uploads Uploads = (settle ≡ false) × (65535 < uploads)
 IsRightOfUploads settle uploads (Gather fault) = settle ≡ false
@@ -27,12 +26,5 @@ IsRightOfUploads settle uploads fault = ⊥
 -- the fault is the right one, whatever was loaded and refused, and whatever stands on the disk
 abbrev pub IsRightAlways : Asked → Fault → Type 0
 IsRightAlways asked fault = (under : List ℕ → Option (List ℕ))
-    (told told' : Option (List Loaded)) (refused : Option (Option (List ℕ) × LoadFault))
-    → IsRightFault asked under told told' refused fault
-
--- a fault of a table's text is its first one, or a class's name in it can stand in no ledger
-abbrev pub IsRightOfText : List ℕ → Fault → Type 0
-IsRightOfText text (Table fault) = IsFirstTableFault text fault
-IsRightOfText text ClassName = HasOtherNames text
-IsRightOfText text NoMemory = Unit {0}
-IsRightOfText text fault = ⊥
+    (loaded loaded' : Option (List Loaded)) (refused : Option (Option (List ℕ) × LoadFault))
+    → IsRightFault asked under loaded loaded' refused fault

@@ -1,9 +1,10 @@
 -- Fault: what private functions alone cite.
-use Rattle.std.specs.Prelude.{◌≡◌, ℕ, List, MatchOption}
+use Rattle.std.specs.Prelude.{◌≡◌, ◌++◌, ℕ, List, MatchOption, codes}
 use Rattle.fare_table.specs.declared.fault.TableFault.{TableFault}
 use Rattle.program_manners.specs.Lines.{load_text, table_text}
+use Rattle.program_manners.specs.TableWords.{date_text}
 use Rattle.program_manners.specs.declared.loading.LoadFault.{LoadFault}
-use Rattle.fare_program.specs.Fault.{mistake, status_of}
+use Rattle.fare_program.specs.Fault.{fault_text, mistake, status_of, wrong_date}
 use Rattle.fare_program.specs.Options.{Asked}
 use Rattle.fare_program.specs.declared.fault.Fault.{Fault}
 use Rattle.std.specs.Prelude.{◌<◌}
@@ -16,24 +17,26 @@ abbrev pub printed_as : PrintFault → Fault
 printed_as print.Write = Write
 printed_as print.NoMemory = NoMemory
 
--- why a run over so many uploads came to nothing: there were too many of them, or memory or the
--- gathering failed
+-- why a run over this number of uploads came to nothing: there were too many of them, or memory or
+-- the gathering failed
 abbrev pub IsRunFailure : ℕ → Fault → Type 0
 IsRunFailure uploads Uploads = 65535 < uploads
 IsRunFailure uploads NoMemory = Unit {0}
 IsRunFailure uploads (Gather fault) = Unit {0}
 IsRunFailure uploads _ = ⊥
 
--- the line tells of a load under this name
+-- the line is of a load under this name
 abbrev pub IsLoadLine : List ℕ → List ℕ → Type 0
 IsLoadLine name line = (fault : LoadFault) × (line ≡ load_text name fault)
 
--- the line tells of a table's text
+-- the line is of a table's text
 abbrev pub IsTableLine : List ℕ → Type 0
 IsTableLine line = (fault : TableFault) × (line ≡ table_text fault)
 
--- Why the program gives up: the first mistake in what is asked for, with its status, where there is
--- one; else a fault with the other status.
+-- Why the program gives up: the first mistake in what is asked for, or else the first wrong date of
+-- a table, with their status, if there is one; else a fault with the other status.
 abbrev pub IsWhyOf : Asked → Fault → Type 0
-IsWhyOf asked fault = MatchOption (mistake asked) (status_of fault ≡ 1)
+IsWhyOf asked fault = MatchOption (mistake asked) (MatchOption (wrong_date asked)
+    (status_of fault ≡ 1) (λ wrong. (fault_text fault ≡ codes "fault: " ++ date_text wrong.0 wrong.1)
+    × (status_of fault ≡ 2)))
     (λ first. (fault ≡ first) × (status_of fault ≡ 2))

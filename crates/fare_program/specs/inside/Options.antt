@@ -5,11 +5,12 @@ use Rattle.clap.specs.Words.{IsSignedIn, one_of, without_minus}
 use Rattle.std.specs.Prelude.{map, option_map}
 use Rattle.fare_program.specs.declared.options.Options.{Options}
 use Rattle.fare_program.specs.Options.{Asked}
+use Rattle.program_manners.specs.TableViews.{names_of}
 
 -- what the options ask for
 abbrev pub asked_of : Options → Asked
 asked_of options = record {
-  table = option_map (λ f. f.now) options.table;
+  table = option_map names_of options.table;
   list = options.list;
   workers = options.workers;
   shards = options.shards;
@@ -22,7 +23,7 @@ asked_of options = record {
   files = map (λ f. f.now) options.files.items;
 }
 
--- under the name stands a number of 1 to `most`, where a minus before it has been left out
+-- under the name stands a number of 1 to `most`, of which a minus before it has been left out
 pub record HasNumber (most : ℕ) (name : Text) (rows : List Row) : Type 0 where
   pub text : Text
   pub read : one_of name rows ≡ Some (without_minus text)

@@ -8,7 +8,7 @@ use Rattle.report_texts.specs.OverHistory.{IsReportOver}
 use Rattle.report_texts.specs.declared.upload_end.UploadEnd.{UploadEnd}
 use Rattle.settlement.specs.Settled.{IsSettledHistory}
 
--- The text is the report of the settled history of the files. It is well where each file ends posted
+-- The text is the report of the settled history of the files. It is well if each file ends posted
 -- whole.
 pub record ShowsBill (fares : Fares) (files : List (List ℕ)) (text : List ℕ) (well : Bool)
     : Type 0 where

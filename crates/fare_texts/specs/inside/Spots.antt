@@ -18,7 +18,7 @@ place_at spot = spot.bits / 65536
 abbrev pub entry_in : List Book → ℕ → ℕ → Option Entry
 entry_in books book place = option_and_then (λ b. slice_get b.entries place) (slice_get books book)
 
--- what is read where there is none
+-- what is read if there is none
 abbrev pub no_entry : Entry
 no_entry = record {
   token = record { high = 0; low = 0 };

@@ -3,7 +3,7 @@ use Rattle.std.specs.Prelude.{ℕ, Bool, ◌&&◌, not, if◌then◌else◌, Lis
 use Rattle.std.specs.Prelude.{nat_lt}
 use Rattle.account_rule.specs.declared.window.WindowView.{WindowView}
 
--- the window, where a ride at the moment opens another after it
+-- the window, if a ride at the moment opens another after it
 abbrev pub window_ended : Option WindowView → Bool → ℕ → List WindowView
 window_ended None ride moment = []
 window_ended (Some window) ride moment =

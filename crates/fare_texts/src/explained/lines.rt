@@ -7,7 +7,7 @@ ghost use Rattle.fare_texts.specs.ReasonWords.{HasModeOf};
 ghost use Rattle.fare_texts.specs.Explained.{AreExplainedAfter, IsExplainedLine};
 
 use crate::{
-    Teller, write_entry_words, write_local, write_moment, write_no_transfer, write_reason_words,
+    Explainer, write_entry_words, write_local, write_moment, write_no_transfer, write_reason_words,
 };
 use account_rule::{NoTransfer, Reason};
 use fare_table::{Clock, FareTable};
@@ -55,10 +55,10 @@ pub(crate) fn write_lines(
         × AreExplainedAfter table.now token [] entries.now written
         × (string_bytes text.new ≡ string_bytes text.old ++ written)) }
 {
-    let mut teller = Teller::of(token);
+    let mut explainer = Explainer::of(token);
     for entry in entries {
-        let none = teller.no_transfer(table, entry);
-        let reason = teller.explain_next(table, clock, entry)?;
+        let none = explainer.no_transfer(table, entry);
+        let reason = explainer.explain_next(table, clock, entry)?;
         write_line(text, table, clock, entry, &reason, none)?;
     }
     Ok(())

@@ -9,7 +9,7 @@ ghost use Rattle.tap_views.specs.Token.{bytes_of};
 ghost use Rattle.fare_texts.specs.Explained.{earlier_windows};
 ghost use Rattle.fare_texts.specs.inside.Windows.{window_ended};
 
-use crate::Teller;
+use crate::Explainer;
 use account_rule::{Answer, Reply, WindowView};
 use fare_table::{Clock, FareTable};
 use shard_book::Entry;
@@ -26,7 +26,7 @@ fn is_ride(reply: Reply) -> bool
     }
 }
 
-/// Appends the window, where a ride at the moment opens another after it.
+/// Appends the window, if a ride at the moment opens another after it.
 fn keep_ended(
     list: &mut Vec<WindowView>,
     window: Option<WindowView>,
@@ -59,12 +59,12 @@ pub(crate) fn windows_of(
     ensures last { IfOk result (λ windows. windows.1
         ≡ last_window (rules_of table.now (bytes_of token)) (map (tap_of table.now) entries.now)) }
 {
-    let mut teller = Teller::of(token);
+    let mut explainer = Explainer::of(token);
     let mut earlier = Vec::new(alloc);
     for entry in entries {
-        let window = teller.window();
-        let reason = teller.explain_next(table, clock, entry)?;
+        let window = explainer.window();
+        let reason = explainer.explain_next(table, clock, entry)?;
         keep_ended(&mut earlier, window, is_ride(reason.reply()), entry.moment)?;
     }
-    Ok((earlier, teller.window()))
+    Ok((earlier, explainer.window()))
 }

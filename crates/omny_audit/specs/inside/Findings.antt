@@ -14,14 +14,15 @@ use Rattle.ledger_check.specs.FullBalances.{IsFullBalance}
 use Rattle.ledger_check.specs.declared.full_balance.FullBalance.{FullBalance}
 use Rattle.tap_views.specs.declared.encoder.TapFields.{TapFields}
 
--- where the verdict is legal, the taps of the ledger were struck out of the balance
+-- if the verdict is legal, the taps of the ledger were struck out of the balance
 abbrev pub StrikesOut : Fares → List ℕ → Balance → Balance → Verdict → Type 0
 StrikesOut fares text before after verdict =
     (good : List TapFields) → IsBalance before good [] → IsTrue (is_legal verdict)
     → (entries : List Entry) → IsLedgerOf fares entries text
     → IsBalance after good (map tap_of_entry entries)
 
--- all lines of the text were recounted and told, and their taps struck out, if there are uploads
+-- all lines of the text were recounted and reported, and their taps struck out, if there are
+-- uploads
 pub record HasRecountedAll (fares : Fares) (has_uploads : Bool) (full : FullBalance)
     (text : List ℕ) (good : List TapFields) (legal : Bool) (out out' : Option (List ℕ))
     : Type 0 where

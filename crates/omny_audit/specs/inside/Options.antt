@@ -5,6 +5,7 @@ use Rattle.std.specs.Option.{option_map_or}
 use Rattle.std.specs.Str.{bytes_eq}
 use Rattle.clap.specs.Words.{Row, Text, first_of}
 use Rattle.program_manners.specs.ListWords.{lacks_list}
+use Rattle.program_manners.specs.TableViews.{names_of}
 use Rattle.program_manners.specs.declared.file_list.ListFault.{ListFault}
 use Rattle.program_manners.specs.declared.file_list.ListFault.TheVariants.{InputTwice, NullAlone}
 use Rattle.omny_audit.specs.declared.options.Options.{Options}
@@ -13,7 +14,7 @@ use Rattle.omny_audit.specs.Options.{AuditAsked, not_dash}
 -- what the options ask for
 abbrev pub audit_asked_of : Options → AuditAsked
 audit_asked_of options = record {
-  table = options.table.now;
+  table = names_of options.table;
   all = options.all;
   uploads = map (λ f. f.now) options.uploads.items;
   report = option_map (λ f. f.now) options.report;

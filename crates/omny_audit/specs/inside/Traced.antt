@@ -56,7 +56,7 @@ pub record HasTraced (trace : Trace) (file text : List ℕ) (read : List ReadLin
   pub kept : IsKeptOf trace.begun.items begun
   pub lacks : Lacks 10 begun
   pub split : (more : List ℕ) → lines_of (file ++ more) ≡ lines_read read ++ lines_of (begun ++ more)
-  pub told : text ≡ untraced_lines (lines_read read)
+  pub reported : text ≡ untraced_lines (lines_read read)
 
 -- the file was read so far, and this in its place
 abbrev pub HasReadAs : Option Trace → List ℕ → List ℕ → Type 0

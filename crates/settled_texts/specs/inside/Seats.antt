@@ -8,7 +8,7 @@ use Rattle.shard_book.specs.Entry.{own}
 use Rattle.shard_book.specs.declared.entry.Entry.{Entry}
 use Rattle.fare_texts.specs.Lines.{AreUpTo, IsUpTo}
 use Rattle.settled_texts.specs.declared.seat.Seat.{Seat}
-use Rattle.settled_texts.specs.Telling.{AreTold, NoTapFallsFrom, last_token}
+use Rattle.settled_texts.specs.ExplainedTaps.{AreExplained, NoTapFallsFrom, last_token}
 
 -- the taps' moments are before 2100, and their tokens never fall
 pub record IsSoundList (taps : List TapFields) : Type 0 where
@@ -20,10 +20,10 @@ pub record IsSoundList (taps : List TapFields) : Type 0 where
 -- tap's
 pub record IsWhole (fares : Fares) (taps : List TapFields) (seat : Seat) : Type 0 where
   pub first : (token : Token) → NoTapFallsFrom token taps → IsUpTo token seat.first
-  pub told : (earlier : List Entry) → own seat.first earlier ≡ [] → AreUpTo earlier seat.first
-      → AreTold fares earlier taps seat.teller (string_bytes seat.text)
-  pub token : (from : Token) → seat.teller.token ≡ last_token from taps
-  pub few : seat.teller.number ≤ length taps
+  pub explained : (earlier : List Entry) → own seat.first earlier ≡ [] → AreUpTo earlier seat.first
+      → AreExplained fares earlier taps seat.explainer (string_bytes seat.text)
+  pub token : (from : Token) → seat.explainer.token ≡ last_token from taps
+  pub few : seat.explainer.number ≤ length taps
 
 -- the seat's text has all lines of the taps, if the seat says so
 abbrev pub HasSat : Fares → List TapFields → Seat → Type 0

@@ -9,8 +9,8 @@ use Rattle.fare_program.proofs.command_line.command.Goals as goal
 pub returns : goal.returns
 unfolding program
 returns c =
-    let one = c.in_ok-arg.ensures.shape c.option_arg-table.ensures.local
-    ∙ ap₂ with_rule c.new_command.ensures c.option_arg-table.ensures.rule in
+    let one = c.in_ok-arg.ensures.shape c.repeated_arg-table.ensures.local
+    ∙ ap₂ with_rule c.new_command.ensures c.repeated_arg-table.ensures.rule in
     let two = c.in_ok-arg-2.ensures.shape c.flag_arg-list.ensures.local
     ∙ ap₂ with_rule one c.flag_arg-list.ensures.rule in
     let three = c.in_ok-arg-3.ensures.shape c.number_arg-workers.ensures.local

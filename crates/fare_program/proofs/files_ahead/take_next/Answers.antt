@@ -53,6 +53,6 @@ returns-then-ne-clause-kept c = (
       ∙ get_or-append_seam before next [] next)) in
       let name : c.as_str.result.now ≡ c.args.name.now =
       c.as_str.ensures.value ∙ (ap (λ f. string_bytes f.name) seen ∙ same) in
-      let told = (slice_eq-Decides Decides-eqb _ _ false (not_true _ c.if-ne.ensures)).1 name in
+      let reported = (slice_eq-Decides Decides-eqb _ _ false (not_true _ c.if-ne.ensures)).1 name in
       cc,
 )

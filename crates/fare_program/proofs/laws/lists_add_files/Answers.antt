@@ -1,5 +1,5 @@
 use Rattle.std.proofs.Common.{◌≡◌, ◌∷◌, List, Option, ap, codes, refl, true, false, Bool, ℕ}
-use Rattle.std.specs.Prelude.{option_and_then, slice_get}
+use Rattle.std.specs.Prelude.{[], option_and_then, option_map, slice_get, unwrap_or}
 use Rattle.std.specs.List.{list_all}
 use Rattle.std.specs.Option.{option_map_or}
 use Rattle.std.specs.Str.{bytes_eq}
@@ -8,6 +8,7 @@ use Rattle.clap.specs.Walk.{row_text}
 use Rattle.clap.specs.Words.{Row, Rule, Text, matches_of}
 use Rattle.clap.proofs.OnLiterals.{clap_on_literals}
 use Rattle.program_manners.specs.ListedWords.{with_files}
+use Rattle.program_manners.specs.TableWords.{TableNames, tables_in}
 use Rattle.fare_program.specs.Options.{file_argument, number_in_text, program}
 use Rattle.fare_program.proofs.ListedFiles.{HasMore, TakesFiles, is_without, listed_matches}
 use Rattle.fare_program.proofs.laws.lists_add_files.Goals as goal
@@ -36,6 +37,9 @@ more name words names =
 abbrev first_text : Option Row → Option Text
 first_text o = option_and_then (λ r. slice_get r.values 0) o
 
+abbrev tables_at : Option Row → Option TableNames
+tables_at o = tables_in (unwrap_or (option_map (λ r. r.values) o) [])
+
 abbrev flag_of : Option Row → Bool
 flag_of o = option_map_or (λ text. bytes_eq text (codes "true")) (option_and_then row_text o) false
 
@@ -45,7 +49,7 @@ number_at o = option_map_or number_in_text (option_and_then row_text o) 0
 pub returns : goal.returns
 returns c = λ name words names.
     let has = more name words names in
-    let table = ap first_text (has.others (codes "table") refl) in
+    let table = ap tables_at (has.others (codes "table") refl) in
     let list = ap flag_of (has.others (codes "list") refl) in
     let workers = ap number_at (has.others (codes "workers") refl) in
     let shards = ap number_at (has.others (codes "shards") refl) in

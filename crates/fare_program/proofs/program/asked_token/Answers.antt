@@ -2,16 +2,19 @@ use Rattle.std.proofs.Common.{◌≡◌, ◌∙◌, ℕ, List, Bor, true, false,
 use Rattle.std.proofs.Common.{refl, sym}
 use Rattle.std.specs.Prelude.{is_ok, is_some, option_map}
 use Rattle.hex.specs.Hex.{decode_sized}
+use Rattle.program_manners.specs.TableViews.{names_of}
+use Rattle.program_manners.specs.declared.table_words.TableWords.{TableWords}
 use Rattle.fare_program.specs.Fault.{token_mistake_of}
 use Rattle.fare_program.proofs.program.asked_token.Goals as goal
 
 -- digits that are a token, and a table
-right : (token table : Option (Bor (List ℕ))) (digits : Bor (List ℕ)) → token ≡ Some digits
+right : (token : Option (Bor (List ℕ))) (table : Option TableWords) (digits : Bor (List ℕ))
+    → token ≡ Some digits
     → is_ok (decode_sized digits.now 16) ≡ true
     → is_some table ≡ true
-    → token_mistake_of (option_map (λ t. t.now) token) (option_map (λ f. f.now) table) ≡ None
+    → token_mistake_of (option_map (λ t. t.now) token) (option_map names_of table) ≡ None
 right token None digits is decoded some = cc
-right token (Some f) digits is decoded some = rw (is, decoded) refl
+right token (Some tables) digits is decoded some = rw (is, decoded) refl
 
 pub returns-clause-right : goal.returns-clause-right
 returns-clause-right c =

@@ -38,21 +38,21 @@ pub returns-in_err-bytes-clause-right : goal.returns-in_err-bytes-clause-right
 returns-in_err-bytes-clause-right g c =
     let none : c.is_empty.result ≡ nat_eq (length c.args.names.now) 0 = c.is_empty.ensures in
     handed_on c.from_residual.result c.in_err-bytes.field-0.0
-    (λ f. (asked : Asked) (under : List ℕ → Option (List ℕ)) (told after : Option (List Loaded))
+    (λ f. (asked : Asked) (under : List ℕ → Option (List ℕ)) (loaded after : Option (List Loaded))
     → asked.files ≡ map (λ n. n.now) c.args.names.now
-    → IsRightFault asked under told after _ f)
+    → IsRightFault asked under loaded after _ f)
     c.from_residual.ensures.1
-    (λ asked under told after are. c.in_err-bytes.ensures.right asked under told after
+    (λ asked under loaded after are. c.in_err-bytes.ensures.right asked under loaded after
     (are ∙ none_named c.args.names.now (sym none ∙ c.if-is_empty.true)))
 
 pub returns-in_err-bytes-2-clause-right : goal.returns-in_err-bytes-2-clause-right
 returns-in_err-bytes-2-clause-right g c =
     let no_name : Bor (List ℕ) = record { ref_ptr = (0, 0); now = [] } in
     handed_on c.from_residual-in_err-bytes-2.result c.in_err-bytes-2.field-0.0
-    (λ f. (asked : Asked) (under : List ℕ → Option (List ℕ)) (told after : Option (List Loaded))
+    (λ f. (asked : Asked) (under : List ℕ → Option (List ℕ)) (loaded after : Option (List Loaded))
     → asked.files ≡ map (λ n. n.now) c.args.names.now
-    → IsRightFault asked under told after _ f)
+    → IsRightFault asked under loaded after _ f)
     c.from_residual-in_err-bytes-2.ensures.1
-    (λ asked under told after are. c.in_err-bytes-2.ensures.right asked under told after
+    (λ asked under loaded after are. c.in_err-bytes-2.ensures.right asked under loaded after
     (named_one asked _ _ are
     (is_one_at c.args.names.now c.loop-name.name-index no_name _ c.loop-name-test.true refl)))

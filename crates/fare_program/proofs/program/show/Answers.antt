@@ -2,14 +2,14 @@ use Rattle.std.proofs.Common.{◌≡◌, arith, refl}
 use Rattle.fare_program.specs.declared.fault.Fault.TheVariants.{NoMemory, Write}
 use Rattle.fare_program.proofs.program.show.Goals as goal
 
--- want of memory is told, and nothing is written
+-- want of memory is reported, and nothing is written
 pub returns-in-Ok-clause-fault : goal.returns-in-Ok-clause-fault
 returns-in-Ok-clause-fault g c = λ one. (
   NoMemory,
   tt,
   refl,
   record {
-    line_told = (c.in-Ok.ensures.refused one).1;
+    line_reported = (c.in-Ok.ensures.refused one).1;
     kept =
         λ other. c.in-Ok.ensures.kept (λ none. omega (arith, one, none));
   },
@@ -23,5 +23,5 @@ returns-in-Err-clause-fault g c = λ one.
       tt,
       refl,
       record
-          { line_told = rw (← quiet) c.tell.ensures.line; kept = λ other. absurd (other refl) },
+          { line_reported = rw (← quiet) c.report.ensures.line; kept = λ other. absurd (other refl) },
     )

@@ -63,6 +63,12 @@ pub work_traced-requires-clause-table : goal.work_traced-requires-clause-table
 work_traced-requires-clause-table g c κs within =
     traced_table (asked_of c.args.options.now) c.in_ok-token.ensures.right c.if-options.true
 
+pub work_traced-requires-clause-dates : goal.work_traced-requires-clause-dates
+work_traced-requires-clause-dates g c κs within = c.in_ok-token.ensures.dates
+
+pub load_table-requires : goal.load_table-requires
+load_table-requires g c = c.in_ok-token.ensures.dates
+
 pub returns-then-options-clause-ok : goal.returns-then-options-clause-ok
 returns-then-options-clause-ok g c =
     IfOk-weaker c.work_traced.result _ _
@@ -103,7 +109,7 @@ returns-in_err-table-clause-right_fault g c =
     (λ one. c.in_err-table.ensures.right asked (g.D.Disk.bytes_under c.args.disk.now) refl)
 
 -- ---- what a write that failed left
--- no token is asked for where there is none
+-- no token is asked for if there is none
 no_token : (asked : Option (List ℕ)) (token : Option Token) → IsTokenIn asked token → token ≡ None
     → asked ≡ None
 no_token None token is none = refl

@@ -22,8 +22,8 @@ returns-then-options-clause-ok g c =
     (g.S.Source.loaded c.args.source.now) (g.S.Source.loaded c.load_files.new.source)
     (map bytes_in c.in_ok-files.files.items)) c.deref.ensures.value c.in_ok-files.ensures.ok in
     IfOk-weaker c.list.result _ _
-    (λ well done told before loads is_token kept live. does_list (asked_of c.args.options.now)
-    (g.D.Disk.bytes_under c.args.disk.now) told _ _ before _ _ well
+    (λ well done loaded_before before loads is_token kept live. does_list (asked_of c.args.options.now)
+    (g.D.Disk.bytes_under c.args.disk.now) loaded_before _ _ before _ _ well
     c.args.table loads kept (map bytes_in c.deref-then-options.result.now)
     (subst (λ (fs : List (List ℕ)). LoadsFiles (names_to_load (asked_of c.args.options.now).files)
     (g.S.Source.loaded c.args.source.now) (g.S.Source.loaded c.load_files.new.source) fs)
@@ -37,8 +37,8 @@ returns-in-Some-clause-ok g c =
     (g.S.Source.loaded c.args.source.now) (g.S.Source.loaded c.load_files.new.source)
     (map bytes_in c.in_ok-files.files.items)) c.deref.ensures.value c.in_ok-files.ensures.ok in
     IfOk-weaker c.charge.result _ _
-    (λ well done told before loads is_token kept live. does_charge (asked_of c.args.options.now)
-    (g.D.Disk.bytes_under c.args.disk.now) told _ _ before _ _ well
+    (λ well done loaded_before before loads is_token kept live. does_charge (asked_of c.args.options.now)
+    (g.D.Disk.bytes_under c.args.disk.now) loaded_before _ _ before _ _ well
     c.args.table loads kept c.in-Some.table (map bytes_in c.in_ok-files.files.items) c.args.token
     c.in-Some.is
     loaded is_token c.if-options.false live done)
@@ -50,10 +50,10 @@ returns-clause-ok g c =
     (g.S.Source.loaded c.args.source.now) (g.S.Source.loaded c.load_files.new.source)
     (map bytes_in c.in_ok-files.files.items)) c.deref.ensures.value c.in_ok-files.ensures.ok in
     IfOk-weaker c.list-in-None.result _ _
-    (λ well done told before loads is_token kept live. does_list (asked_of c.args.options.now)
-    (g.D.Disk.bytes_under c.args.disk.now) told _ _ before _ _ well
+    (λ well done loaded_before before loads is_token kept live. does_list (asked_of c.args.options.now)
+    (g.D.Disk.bytes_under c.args.disk.now) loaded_before _ _ before _ _ well
     None (subst
-    (LoadsTable (asked_of c.args.options.now).table told (g.S.Source.loaded c.args.source.now))
+    (LoadsTable (asked_of c.args.options.now).table loaded_before (g.S.Source.loaded c.args.source.now))
     c.in-None.is loads)
     kept (map bytes_in c.deref-in-None.result.now)
     (subst (λ (fs : List (List ℕ)). LoadsFiles (names_to_load (asked_of c.args.options.now).files)
@@ -66,10 +66,10 @@ pub returns-in_err-files-clause-right : goal.returns-in_err-files-clause-right
 returns-in_err-files-clause-right g c =
     let asked = asked_of c.args.options.now in
     handed_on c.from_residual.result c.in_err-files.field-0.0
-    (λ f. (told : Option (List Loaded))
-    → IsRightFault asked (g.D.Disk.bytes_under c.args.disk.now) told _ _ f)
+    (λ f. (loaded_before : Option (List Loaded))
+    → IsRightFault asked (g.D.Disk.bytes_under c.args.disk.now) loaded_before _ _ f)
     c.from_residual.ensures.1
-    (λ told. c.in_err-files.ensures.right asked (g.D.Disk.bytes_under c.args.disk.now) told _
+    (λ loaded_before. c.in_err-files.ensures.right asked (g.D.Disk.bytes_under c.args.disk.now) loaded_before _
     (ap (map name_in) (sym c.deref.ensures.value)))
 
 -- ---- what a write that failed left
@@ -81,14 +81,14 @@ returns-then-options-clause-begun g c =
     (g.S.Source.loaded c.args.source.now) (g.S.Source.loaded c.load_files.new.source)
     (map bytes_in c.in_ok-files.files.items)) c.deref.ensures.value c.in_ok-files.ensures.ok in
     IfErr-weaker c.list.result _ _
-    (λ fault begun write told before loads is_token kept live.
+    (λ fault begun write loaded_before before loads is_token kept live.
     let is = begun write in (
       is.0,
       begun_by before (g.W.Write.contents c.args.out.now) (g.W.Write.contents c.list.new.out) is.1
-          (λ all. DoesUntraced asked under told (g.S.Source.loaded c.load_files.new.source) before
+          (λ all. DoesUntraced asked under loaded_before (g.S.Source.loaded c.load_files.new.source) before
           all is.0)
           kept is.3
-          (λ all written. does_list asked under told _ _ before _ all is.0 c.args.table loads
+          (λ all written. does_list asked under loaded_before _ _ before _ all is.0 c.args.table loads
           kept (map bytes_in c.deref-then-options.result.now)
           (subst (λ (fs : List (List ℕ)). LoadsFiles (names_to_load asked.files)
           (g.S.Source.loaded c.args.source.now) (g.S.Source.loaded c.load_files.new.source) fs)
@@ -105,14 +105,14 @@ returns-in-Some-clause-begun g c =
     (g.S.Source.loaded c.args.source.now) (g.S.Source.loaded c.load_files.new.source)
     (map bytes_in c.in_ok-files.files.items)) c.deref.ensures.value c.in_ok-files.ensures.ok in
     IfErr-weaker c.charge.result _ _
-    (λ fault begun write told before loads is_token kept live.
+    (λ fault begun write loaded_before before loads is_token kept live.
     let is = begun write in (
       is.0,
       begun_by before (g.W.Write.contents c.args.out.now) (g.W.Write.contents c.charge.new.out) is.1
-          (λ all. DoesUntraced asked under told (g.S.Source.loaded c.load_files.new.source) before
+          (λ all. DoesUntraced asked under loaded_before (g.S.Source.loaded c.load_files.new.source) before
           all is.0)
           kept is.3
-          (λ all written. does_charge asked under told _ _ before _ all is.0 c.args.table loads
+          (λ all written. does_charge asked under loaded_before _ _ before _ all is.0 c.args.table loads
           kept c.in-Some.table (map bytes_in c.in_ok-files.files.items) c.args.token c.in-Some.is
           loaded
           is_token c.if-options.false live (is.1, is.2, written)),
@@ -127,15 +127,15 @@ returns-clause-begun g c =
     (g.S.Source.loaded c.args.source.now) (g.S.Source.loaded c.load_files.new.source)
     (map bytes_in c.in_ok-files.files.items)) c.deref.ensures.value c.in_ok-files.ensures.ok in
     IfErr-weaker c.list-in-None.result _ _
-    (λ fault begun write told before loads is_token kept live.
+    (λ fault begun write loaded_before before loads is_token kept live.
     let is = begun write in (
       is.0,
       begun_by before (g.W.Write.contents c.args.out.now)
           (g.W.Write.contents c.list-in-None.new.out) is.1
-          (λ all. DoesUntraced asked under told (g.S.Source.loaded c.load_files.new.source) before
+          (λ all. DoesUntraced asked under loaded_before (g.S.Source.loaded c.load_files.new.source) before
           all is.0)
-          kept is.3 (λ all written. does_list asked under told _ _ before _ all is.0 None
-          (subst (LoadsTable asked.table told (g.S.Source.loaded c.args.source.now)) c.in-None.is
+          kept is.3 (λ all written. does_list asked under loaded_before _ _ before _ all is.0 None
+          (subst (LoadsTable asked.table loaded_before (g.S.Source.loaded c.args.source.now)) c.in-None.is
           loads)
           kept (map bytes_in c.deref-in-None.result.now)
           (subst (λ (fs : List (List ℕ)). LoadsFiles (names_to_load asked.files)

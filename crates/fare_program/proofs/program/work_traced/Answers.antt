@@ -1,7 +1,8 @@
 use Rattle.std.proofs.Common.{◌∙◌, ℕ, List, Vec, Global, Bor, ap, map, subst, sym, ◌≡◌, inl, true}
 use Rattle.std.specs.Prelude.{option_map}
-use Rattle.toml.specs.Parse.{parse_document}
-use Rattle.fare_table.specs.Meaning.{Means}
+use Rattle.fare_table.specs.Fares.{Fares}
+use Rattle.program_manners.specs.TableViews.{names_of}
+use Rattle.settled_texts.proofs.Classes.{class_kept}
 use Rattle.std.proofs.lemmas.Result.{IfErr-weaker, IfOk-weaker}
 use Rattle.std.proofs.KnownBytes.{Keeps-refl}
 use Rattle.fare_program.proofs.WritesFailed.{begun_by}
@@ -23,41 +24,51 @@ pub returns-clause-ok : goal.returns-clause-ok
 returns-clause-ok g c =
     let asked = asked_of c.args.options.now in
     let loaded = subst (λ (ns : List (Bor (List ℕ))). LoadsFiles (names_to_load (map name_in ns))
-    (g.S.Source.loaded c.load_named.new.source) (g.S.Source.loaded c.load_files.new.source)
-    (map bytes_in c.in_ok-files.files.items)) c.deref-2.ensures.value c.in_ok-files.ensures.ok in
+    (g.S.Source.loaded c.load_tables.new.source) (g.S.Source.loaded c.load_files.new.source)
+    (map bytes_in c.in_ok-files.files.items)) c.deref.ensures.value c.in_ok-files.ensures.ok in
     let names = c.in_ok-riders.ensures.names in
     IfOk-weaker c.charge_traced.result _ _
     (λ well done. record {
-      name = c.in-Some.name.now;
-      is_named = ap (option_map (λ (f : Bor (List ℕ)). f.now)) c.in-Some.is;
-      table = c.in_ok-text.text.items;
-      between = g.S.Source.loaded c.load_named.new.source;
-      loads_table = c.in_ok-text.ensures.ok;
-      fares = c.in_ok-riders.riders.table;
-      means = subst (λ (b : List ℕ). Means b c.in_ok-riders.riders.table) c.deref.ensures.value
-          c.in_ok-riders.ensures.table;
+      tables = names_of c.in-Some.words;
+      are_named = ap (option_map names_of) c.in-Some.is;
+      texts = map bytes_in c.in_ok-tables.tables.texts.items;
+      between = g.S.Source.loaded c.load_tables.new.source;
+      fares = c.in_ok-tables.tables.fares;
+      loads_tables = c.in_ok-tables.ensures.ok;
       tree = names.0;
-      parsed = ap parse_document (sym c.deref.ensures.value) ∙ names.1;
+      later = names.1;
+      parsed = names.2;
       classes = class_by c.in_ok-riders.riders.names;
-      are_classes = names.2;
+      are_classes = class_kept c.in_ok-riders.riders.names names.0 names.1 names.3;
       files = map bytes_in c.in_ok-files.files.items;
       loads_files = loaded;
       text = done.0;
-      shows = subst
-          (λ (fs : List (Vec ℕ Global)). IsTracedLedger (class_by c.in_ok-riders.riders.names)
-          c.in_ok-riders.riders.table (map bytes_in fs) done.0 well) c.deref-3.ensures.value done.1;
+      shows = subst (λ (f : Fares). IsTracedLedger (class_by c.in_ok-riders.riders.names) f
+          (map bytes_in c.in_ok-files.files.items) done.0 well) c.in_ok-riders.ensures.table
+          (subst (λ (fs : List (Vec ℕ Global)). IsTracedLedger
+          (class_by c.in_ok-riders.riders.names) c.in_ok-riders.riders.table (map bytes_in fs) done.0
+          well) c.deref-2.ensures.value done.1);
       written = done.2;
     })
     c.charge_traced.ensures.ok
 
-pub returns-in_err-text-clause-right : goal.returns-in_err-text-clause-right
-returns-in_err-text-clause-right g c =
+pub returns-in_err-tables-clause-right : goal.returns-in_err-tables-clause-right
+returns-in_err-tables-clause-right g c =
     let asked = asked_of c.args.options.now in
-    handed_on c.from_residual.result c.in_err-text.field-0.0
+    handed_on c.from_residual.result c.in_err-tables.field-0.0
     (λ f. asked.traced ≡ true → IsRightFault asked (g.D.Disk.bytes_under c.args.disk.now) _ _ _ f)
     c.from_residual.ensures.1
-    (λ traced. c.in_err-text.ensures.right asked (g.D.Disk.bytes_under c.args.disk.now) _ _
-    (inl (ap (option_map name_in) c.in-Some.is)))
+    (λ traced. c.in_err-tables.ensures.right asked (g.D.Disk.bytes_under c.args.disk.now)
+    (ap (option_map names_of) c.in-Some.is))
+
+pub returns-in_err-riders-clause-right : goal.returns-in_err-riders-clause-right
+returns-in_err-riders-clause-right g c =
+    let asked = asked_of c.args.options.now in
+    handed_on c.from_residual-in_err-riders.result c.in_err-riders.field-0.0
+    (λ f. asked.traced ≡ true → IsRightFault asked (g.D.Disk.bytes_under c.args.disk.now) _ _ _ f)
+    c.from_residual-in_err-riders.ensures.1
+    (λ traced. c.in_err-riders.ensures.right asked (g.D.Disk.bytes_under c.args.disk.now) _ _ _
+    (ap (option_map names_of) c.in-Some.is) traced c.in_ok-tables.ensures.ok)
 
 pub returns-in_err-files-clause-right : goal.returns-in_err-files-clause-right
 returns-in_err-files-clause-right g c =
@@ -66,7 +77,7 @@ returns-in_err-files-clause-right g c =
     (λ f. asked.traced ≡ true → IsRightFault asked (g.D.Disk.bytes_under c.args.disk.now) _ _ _ f)
     c.from_residual-in_err-files.ensures.1
     (λ traced. c.in_err-files.ensures.right asked (g.D.Disk.bytes_under c.args.disk.now) _ _
-    (ap (map name_in) (sym c.deref-2.ensures.value)))
+    (ap (map name_in) (sym c.deref.ensures.value)))
 
 -- what a write that failed left
 pub returns-clause-begun : goal.returns-clause-begun
@@ -74,8 +85,8 @@ returns-clause-begun g c =
     let asked = asked_of c.args.options.now in
     let out = g.W.Write.contents c.args.out.now in
     let loaded = subst (λ (ns : List (Bor (List ℕ))). LoadsFiles (names_to_load (map name_in ns))
-    (g.S.Source.loaded c.load_named.new.source) (g.S.Source.loaded c.load_files.new.source)
-    (map bytes_in c.in_ok-files.files.items)) c.deref-2.ensures.value c.in_ok-files.ensures.ok in
+    (g.S.Source.loaded c.load_tables.new.source) (g.S.Source.loaded c.load_files.new.source)
+    (map bytes_in c.in_ok-files.files.items)) c.deref.ensures.value c.in_ok-files.ensures.ok in
     let names = c.in_ok-riders.ensures.names in
     IfErr-weaker c.charge_traced.result _ _
     (λ fault begun write.
@@ -85,26 +96,25 @@ returns-clause-begun g c =
           (λ all. RunsTraced asked (g.S.Source.loaded c.args.source.now)
           (g.S.Source.loaded c.load_files.new.source) out all done.0)
           (Keeps-refl out) done.3 (λ all written. record {
-            name = c.in-Some.name.now;
-            is_named = ap (option_map (λ (f : Bor (List ℕ)). f.now)) c.in-Some.is;
-            table = c.in_ok-text.text.items;
-            between = g.S.Source.loaded c.load_named.new.source;
-            loads_table = c.in_ok-text.ensures.ok;
-            fares = c.in_ok-riders.riders.table;
-            means = subst (λ (b : List ℕ). Means b c.in_ok-riders.riders.table)
-                c.deref.ensures.value
-                c.in_ok-riders.ensures.table;
+            tables = names_of c.in-Some.words;
+            are_named = ap (option_map names_of) c.in-Some.is;
+            texts = map bytes_in c.in_ok-tables.tables.texts.items;
+            between = g.S.Source.loaded c.load_tables.new.source;
+            fares = c.in_ok-tables.tables.fares;
+            loads_tables = c.in_ok-tables.ensures.ok;
             tree = names.0;
-            parsed = ap parse_document (sym c.deref.ensures.value) ∙ names.1;
+            later = names.1;
+            parsed = names.2;
             classes = class_by c.in_ok-riders.riders.names;
-            are_classes = names.2;
+            are_classes = class_kept c.in_ok-riders.riders.names names.0 names.1 names.3;
             files = map bytes_in c.in_ok-files.files.items;
             loads_files = loaded;
             text = done.1;
-            shows = subst
-                (λ (fs : List (Vec ℕ Global)). IsTracedLedger (class_by c.in_ok-riders.riders.names)
-                c.in_ok-riders.riders.table (map bytes_in fs) done.1 done.0) c.deref-3.ensures.value
-                done.2;
+            shows = subst (λ (f : Fares). IsTracedLedger (class_by c.in_ok-riders.riders.names) f
+                (map bytes_in c.in_ok-files.files.items) done.1 done.0) c.in_ok-riders.ensures.table
+                (subst (λ (fs : List (Vec ℕ Global)). IsTracedLedger
+                (class_by c.in_ok-riders.riders.names) c.in_ok-riders.riders.table (map bytes_in fs) done.1
+                done.0) c.deref-2.ensures.value done.2);
             written = written;
           }),
     ))

@@ -1,3 +1,5 @@
+use Rattle.std.proofs.Common.{◌∙◌, sym}
+use Rattle.std.proofs.lemmas.Bool.{false≢true}
 use Rattle.std.proofs.lemmas.Result.{IfErr-weaker, IfOk-weaker}
 use Rattle.fare_program.proofs.sorted.charge_all.Goals as goal
 
@@ -15,4 +17,11 @@ returns-clause-ok g c =
 pub returns-then-options-clause-begun : goal.returns-then-options-clause-begun
 returns-then-options-clause-begun g c =
     IfErr-weaker c.write_ledger.result _ _
-    (λ fault any write other. absurd (other c.if-options.true)) c.write_ledger.ensures.status
+    (λ fault begun write bytes. begun write c.if-options.true (bytes c.if-options.true))
+    c.write_ledger.ensures.begun
+
+pub returns-clause-begun : goal.returns-clause-begun
+returns-clause-begun g c =
+    IfErr-weaker c.write_report.result _ _
+    (λ fault begun write bytes. begun write (λ ledger.
+    false≢true (sym c.if-options.false ∙ ledger))) c.write_report.ensures.begun

@@ -53,7 +53,12 @@ returns-in_err-charge_sorted-clause-begun g c =
     let p = err_from_is_err_and c.from_residual-in_err-charge_sorted.result
     c.from_residual-in_err-charge_sorted.ensures.1 in
     rw p.1 (λ write other fares is.
-    let done = c.in_err-charge_sorted.ensures.begun (sym p.2 ∙ write) other in
+    let opened = ap (map g.D.File.Placed.bytes) c.deref-2.ensures.value
+    ∙ c.in_ok-files.ensures.opened
+    ∙ ap (λ (ns : List (Bor (List ℕ))). map (g.D.Disk.bytes_under c.args.disk.now)
+    (map name_in ns)) c.deref.ensures.value in
+    let done = c.in_err-charge_sorted.ensures.begun (sym p.2 ∙ write)
+    (λ ledger none files are. other ledger none files (sym opened ∙ are)) in
     let one : c.in-Some.table ≡ fares = one_table c.in-Some.table fares (sym c.in-Some.is ∙ is) in
     record {
       text = done.text;

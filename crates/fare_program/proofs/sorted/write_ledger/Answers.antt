@@ -31,3 +31,27 @@ pub returns-in-Err-clause-fault : goal.returns-in-Err-clause-fault
 returns-in-Err-clause-fault g c = λ write late.
     let same = c.in-Err.ensures.kept (c.of_bill.ensures.before write late) in
     rw same (Keeps-refl _)
+
+-- ---- what a write that failed left
+pub returns-in-Err-clause-begun : goal.returns-in-Err-clause-begun
+returns-in-Err-clause-begun g c = λ write ledger bytes.
+    let asked = asked_of c.args.options.now in
+    let fares = c.args.table.now in
+    let unwritten = c.of_bill.ensures.write write in
+    let (text, is, begun) = c.in-Err.ensures.begun unwritten in
+    record {
+      text = text;
+      shows = λ all are.
+          let made = is all are (bytes all are) in
+          let (ends, plain, well) = c.in-Err.ensures.sorted unwritten all are in
+          record {
+            history = made.history;
+            is_settled = made.is_settled;
+            shows = subst (λ (b : Bool). MatchBool b (IsLedgerOver fares made.history None text)
+                (IsTextOver asked.explain None fares all made.history text)) (sym ledger) made.over;
+            ends = ends;
+            ended = plain;
+            is_well = sym well;
+          };
+      begun = begun;
+    }

@@ -1,24 +1,58 @@
-use Rattle.std.proofs.Common.{refl}
-use Rattle.program_manners.proofs.Refusals.{first_table_fault}
-use Rattle.fare_program.proofs.Causes.{handed_on}
+-- The texts of the tables name classes, or the one that has a wrong name is reported.
+use Rattle.std.proofs.Common.{◌≡◌, ◌∙◌, ℕ, Global, List, Vec, ap, arith, length, map, subst, sym}
+use Rattle.std.proofs.lemmas.List.{length-map}
+use Rattle.std.proofs.lemmas.Option.{slice_get_within}
+use Rattle.toml.specs.Data.{Members}
+use Rattle.program_manners.proofs.NextTables.{tables_counted, tables_read}
+use Rattle.settled_texts.specs.ClassFaults.{IsFaultOf, IsWrongAt}
+use Rattle.settled_texts.specs.Classes.{AreTrees}
+use Rattle.settled_texts.specs.Names.{HasClasses}
+use Rattle.settled_texts.specs.declared.class_names.WrongNames.{WrongNames}
 use Rattle.fare_program.proofs.DefaultClasses.{has_default}
-use Rattle.fare_program.specs.declared.fault.Fault.TheVariants.{Table}
-use Rattle.fare_program.specs.inside.Causes.{IsRightOfText}
+use Rattle.fare_program.proofs.TableCauses.{classes_are_right}
 use Rattle.fare_program.proofs.traced.riders_of.Goals as goal
 
-pub returns-in_err-table-clause-right : goal.returns-in_err-table-clause-right
-returns-in_err-table-clause-right c =
-    let fault = c.in_err-table.field-0.0 in
-    handed_on c.from_residual.result (Table fault) (IsRightOfText c.args.text.now)
-    c.from_residual.ensures.1
-    (first_table_fault _ _ fault refl c.in_err-table.ensures.fault c.in_err-table.ensures.not_text)
+abbrev bytes_of : List (Vec ℕ Global) → List (List ℕ)
+bytes_of texts = map (λ t. t.items) texts
 
-pub returns-in-Err-clause-right : goal.returns-in-Err-clause-right
-returns-in-Err-clause-right c =
-    c.of_names.ensures.right c.args.text.now c.in-Err.ensures.fault
+-- what is wrong with a text of a list is wrong with it in the same list
+wrong_in : (texts all : List (Vec ℕ Global)) → all ≡ texts → (wrong : WrongNames)
+    → IsWrongAt (bytes_of all) wrong → IsWrongAt (bytes_of texts) wrong
+wrong_in texts all same wrong at =
+    subst (λ (ts : List (Vec ℕ Global)). IsWrongAt (bytes_of ts) wrong) same at
 
--- the text is a fare table's, so that it names a default class
-pub of_names-requires : goal.of_names-requires
-of_names-requires c = λ is.
-    let (utf8, means) = c.in_ok-table.ensures.ok in
-    has_default c.args.text.now _ means (c.in-Err.ensures.text is utf8)
+-- there is a text for each table
+pub of_texts-requires : goal.of_texts-requires
+of_texts-requires c =
+    let (texts, words) = tables_counted _ _ _ _ _ c.requires.2 in
+    ap length c.deref.ensures.value ∙ sym (length-map c.args.tables.texts.items (λ t. t.items))
+    ∙ texts
+
+pub returns-in-Ok-clause-names : goal.returns-in-Ok-clause-names
+returns-in-Ok-clause-names c =
+    subst (λ (ts : List (Vec ℕ Global)). (tree : Members) × (later : List (ℕ × Members))
+    × AreTrees c.args.tables.fares (bytes_of ts) tree later × HasClasses c.in-Ok.names tree later)
+    c.deref.ensures.value c.in-Ok.ensures.classes
+
+pub returns-clause-right : goal.returns-clause-right
+returns-clause-right c = λ asked under loaded after refused named traced loads.
+    classes_are_right asked under loaded after after refused _ named traced _ _ loads
+    c.in-Err.wrong
+    (wrong_in c.args.tables.texts.items c.deref.result.now c.deref.ensures.value c.in-Err.wrong
+    c.in-Err.ensures.fault) c.of_names.result c.of_names.ensures.right
+
+pub of_names-requires-clause-place : goal.of_names-requires-clause-place
+of_names-requires-clause-place c =
+    let (texts, words) = tables_counted _ _ _ _ _ c.requires.2 in
+    let at = wrong_in c.args.tables.texts.items c.deref.result.now c.deref.ensures.value
+    c.in-Err.wrong c.in-Err.ensures.fault in
+    omega (arith, words, slice_get_within _ c.in-Err.wrong.place _ at.stands)
+
+-- each text is a fare table's, so that it names a default class
+pub of_names-requires-clause-fault : goal.of_names-requires-clause-fault
+of_names-requires-clause-fault c = λ is.
+    let at = wrong_in c.args.tables.texts.items c.deref.result.now c.deref.ensures.value
+    c.in-Err.wrong c.in-Err.ensures.fault in
+    let (utf8, found) = tables_read _ _ _ _ _ c.requires.2 c.in-Err.wrong.place at.text
+    at.stands in
+    has_default at.text found.0 found.1 (subst (IsFaultOf at.text) is at.fault utf8)

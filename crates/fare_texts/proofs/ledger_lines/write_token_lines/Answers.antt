@@ -3,28 +3,28 @@ use Rattle.std.proofs.Common.{List, [], ◌++◌, take, refl, sym, ap, subst, �
 use Rattle.std.proofs.Common.{string_bytes, append_assoc, append-nil, arith}
 use Rattle.std.proofs.lemmas.List.{length-take-le}
 use Rattle.shard_book.specs.declared.entry.Entry.{Entry}
-use Rattle.fare_texts.specs.Tellers.{HasTold}
+use Rattle.fare_texts.specs.Explainers.{HasExplained}
 use Rattle.fare_texts.proofs.LineLists.{next_lines, taken}
 use Rattle.fare_texts.proofs.ledger_lines.write_token_lines.Goals as goal
 
 pub loop-entry-init : goal.loop-entry-init
 loop-entry-init c = record {
-  told = c.of-teller.ensures.told c.args.table.now;
-  of = c.of-teller.ensures.token;
+  explained = c.of-explainer.ensures.explained c.args.table.now;
+  of = c.of-explainer.ensures.token;
   written = [];
   are = refl;
   whole = sym (append-nil (string_bytes c.args.text.now));
 }
 
-pub write_next-requires-clause-told : goal.write_next-requires-clause-told
-write_next-requires-clause-told c =
-    (take c.loop-entry.entry-index c.args.entries.now, c.loop-entry.invariant.told)
+pub write_next-requires-clause-explained : goal.write_next-requires-clause-explained
+write_next-requires-clause-explained c =
+    (take c.loop-entry.entry-index c.args.entries.now, c.loop-entry.invariant.explained)
 
 pub write_next-requires-clause-room : goal.write_next-requires-clause-room
 write_next-requires-clause-room c =
     omega (
       arith,
-      c.loop-entry.invariant.told.counted,
+      c.loop-entry.invariant.explained.counted,
       length-take-le c.loop-entry.entry-index c.args.entries.now (omega arith),
     )
 
@@ -36,10 +36,11 @@ loop-entry-preserved c =
     let within = c.loop-entry-test.true in
     let so_far = c.loop-entry.invariant in
     let done = take place entries in
-    let line = c.in_ok-write_next.ensures.line done so_far.told in
+    let line = c.in_ok-write_next.ensures.line done so_far.explained in
     record {
-      told = subst (λ (es : List Entry). HasTold fares c.write_next.new.self es)
-          (sym (taken entries place _ within)) (c.in_ok-write_next.ensures.told done so_far.told);
+      explained = subst (λ (es : List Entry). HasExplained fares c.write_next.new.self es)
+          (sym (taken entries place _ within))
+          (c.in_ok-write_next.ensures.explained done so_far.explained);
       of = c.in_ok-write_next.ensures.token ∙ so_far.of;
       written = so_far.written ++ line.0;
       are = next_lines fares c.args.token entries place _ within so_far.written line.0 so_far.are

@@ -9,10 +9,10 @@ use Rattle.fare_texts.proofs.lines.go_on_to.Goals as goal
 -- another token is gone_on to
 pub returns-then-ne-clause-come : goal.returns-then-ne-clause-come
 returns-then-ne-clause-come c = λ fares earlier come to.
-    let old = c.args.teller.now in
+    let old = c.args.explainer.now in
     let apart : token_eq old.token c.args.token ≡ false =
     not-true (token_eq old.token c.args.token) (sym c.ne.ensures ∙ c.if-ne.true) in
     let same = sym c.of.ensures.token in
     come_on fares old c.of.result earlier come
     (subst (λ (t : Token). IsUpTo old.token t) same to)
-    (subst (λ (t : Token). token_eq old.token t ≡ false) same apart) (c.of.ensures.told fares)
+    (subst (λ (t : Token). token_eq old.token t ≡ false) same apart) (c.of.ensures.explained fares)

@@ -14,26 +14,26 @@ use Rattle.fare_texts.proofs.lines.write_pieces.Goals as goal
 
 pub loop-spot-init : goal.loop-spot-init
 loop-spot-init g c = record {
-  come = come_first c.args.table.now _ (c.of-teller.ensures.told c.args.table.now);
+  come = come_first c.args.table.now _ (c.of-explainer.ensures.explained c.args.table.now);
   no_fall = subst (λ (t : Token). NoFallFrom t (entries_at_spots c.args.books.now c.args.spots.now))
-      (sym c.of-teller.ensures.token) c.requires.no_fall;
-  few = omega (arith, c.of-teller.ensures.none);
+      (sym c.of-explainer.ensures.token) c.requires.no_fall;
+  few = omega (arith, c.of-explainer.ensures.none);
   written = [];
   along = refl;
   whole = goes_nothing (g.W.Write.contents c.args.out.now) (string_bytes c.args.text.now);
 }
 
--- the teller gone_on to the entry's token
-pub write_next-requires-clause-told : goal.write_next-requires-clause-told
-write_next-requires-clause-told g c =
+-- the explainer gone_on to the entry's token
+pub write_next-requires-clause-explained : goal.write_next-requires-clause-explained
+write_next-requires-clause-explained g c =
     let list = c.args.spots.now in
     let i = c.loop-spot.spot-index in
     let done = take i (entries_at_spots c.args.books.now list) in
     let gone_on = c.go_on_to.ensures.come c.args.table.now done c.loop-spot.invariant.come
-    (subst (λ (e : Entry). IsUpTo c.loop-spot.teller.token e.token) (sym c.entry-entry.ensures)
-    (rise_here c.args.books.now list i _ c.loop-spot.teller.token c.loop-spot-test.true
+    (subst (λ (e : Entry). IsUpTo c.loop-spot.explainer.token e.token) (sym c.entry-entry.ensures)
+    (rise_here c.args.books.now list i _ c.loop-spot.explainer.token c.loop-spot-test.true
     c.loop-spot.invariant.no_fall)) in
-    (own c.go_on_to.new.teller.token done, gone_on.told)
+    (own c.go_on_to.new.explainer.token done, gone_on.explained)
 
 pub loop-spot-preserved : goal.loop-spot-preserved
 loop-spot-preserved g c =
@@ -46,22 +46,23 @@ loop-spot-preserved g c =
     let is = c.entry-entry.ensures in
     let taken = seen_taken books list i _ c.loop-spot-test.true in
     let gone_on = c.go_on_to.ensures.come fares done inv.come
-    (subst (λ (e : Entry). IsUpTo c.loop-spot.teller.token e.token) (sym is)
-    (rise_here books list i _ c.loop-spot.teller.token c.loop-spot-test.true inv.no_fall)) in
-    let own_done = own c.go_on_to.new.teller.token done in
-    let line = c.in-Ok.ensures.line own_done gone_on.told in
+    (subst (λ (e : Entry). IsUpTo c.loop-spot.explainer.token e.token) (sym is)
+    (rise_here books list i _ c.loop-spot.explainer.token c.loop-spot-test.true inv.no_fall)) in
+    let own_done = own c.go_on_to.new.explainer.token done in
+    let line = c.in-Ok.ensures.line own_done gone_on.explained in
     let after = subst
     (λ (t : Token). IsLedgerLineAfter fares t (own t done) c.entry-entry.result line.0)
     c.go_on_to.ensures.token line.1 in
-    let next = come_next fares c.go_on_to.new.teller c.write_next.new.self done c.entry-entry.result
+    let next = come_next fares c.go_on_to.new.explainer c.write_next.new.self done
+    c.entry-entry.result
     c.go_on_to.ensures.token c.in-Ok.ensures.token gone_on
-    (c.in-Ok.ensures.told own_done gone_on.told) in
+    (c.in-Ok.ensures.explained own_done gone_on.explained) in
     record {
       come = subst (λ (es : List Entry). HasCome fares c.write_next.new.self es) (sym taken)
           (subst (λ (e : Entry). HasCome fares c.write_next.new.self (done ++ e ∷ [])) is next);
       no_fall = subst (λ (t : Token). NoFallFrom t (drop (i + 1) (entries_at_spots books list)))
           (sym (c.in-Ok.ensures.token ∙ c.go_on_to.ensures.token ∙ ap (λ (e : Entry). e.token) is))
-          (rise_on books list i _ c.loop-spot.teller.token c.loop-spot-test.true inv.no_fall);
+          (rise_on books list i _ c.loop-spot.explainer.token c.loop-spot-test.true inv.no_fall);
       few = omega (arith, c.in-Ok.ensures.number, c.go_on_to.ensures.few, inv.few);
       written = inv.written ++ line.0;
       along = subst (λ (es : List Entry). AreLinesAlong fares [] es (inv.written ++ line.0))

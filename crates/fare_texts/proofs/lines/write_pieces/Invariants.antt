@@ -4,12 +4,12 @@ use Rattle.fare_texts.specs.WrittenOut.{GoesOut}
 use Rattle.fare_texts.specs.inside.Spots.{entries_at_spots}
 use Rattle.fare_texts.proofs.lines.write_pieces.Given as goal
 
--- the teller has come past the entries so far, whose lines were written; the others do not fall
+-- the explainer has come past the entries so far, whose lines were written; the others do not fall
 abbrev pub invariant-loop-spot : goal.invariant-loop-spot
 invariant-loop-spot g l = record {
-  come : HasCome l.table l.teller (take l.spot-index (entries_at_spots l.books l.spots));
-  no_fall : NoFallFrom l.teller.token (drop l.spot-index (entries_at_spots l.books l.spots));
-  few : l.teller.number ≤ l.spot-index;
+  come : HasCome l.table l.explainer (take l.spot-index (entries_at_spots l.books l.spots));
+  no_fall : NoFallFrom l.explainer.token (drop l.spot-index (entries_at_spots l.books l.spots));
+  few : l.explainer.number ≤ l.spot-index;
   written : List ℕ;
   along : AreLinesAlong l.table [] (take l.spot-index (entries_at_spots l.books l.spots)) written;
   whole : GoesOut (g.W.Write.contents l.fn.out) (string_bytes l.fn.text)

@@ -12,17 +12,17 @@ use Rattle.omny_audit.proofs.audit.audit_over.Goals as goal
 
 pub audit_text-requires : goal.audit_text-requires
 audit_text-requires g c = λ yes.
-    let found = c.in_ok-verdict.ensures.told in
+    let found = c.in_ok-verdict.ensures.reported in
     let ledger = read_as (is_some (wanted_by c.verdict_of.new.trace)) found.0 in
     let decide = c.verdicts_decide.ensures c.args.table.now ledger c.in_ok-verdict.verdict
     found.2 in
     (c.args.table.now, ledger, found.4 yes, decide.0 yes)
 
-pub returns-clause-told : goal.returns-clause-told
-returns-clause-told g c =
-    let found = c.in_ok-verdict.ensures.told in
+pub returns-clause-reported : goal.returns-clause-reported
+returns-clause-reported g c =
+    let found = c.in_ok-verdict.ensures.reported in
     let fares = c.args.table.now in
-    let told = c.in_ok-told.told in
+    let reported = c.in_ok-reported.reported in
     let ledger = read_as (is_some (wanted_by c.verdict_of.new.trace)) found.0 in
     let decide = c.verdicts_decide.ensures fares ledger c.in_ok-verdict.verdict found.2 in
     let wrote = subst (λ (t : List ℕ). Appends (g.W.Write.contents c.args.out.now)
@@ -31,44 +31,44 @@ returns-clause-told g c =
       found.0,
       found.1,
       λ good balanced.
-          let audit = c.in_ok-told.ensures fares found.0 good found.2 decide (found.3 good balanced)
+          let audit = c.in_ok-reported.ensures fares found.0 good found.2 decide (found.3 good balanced)
           found.4 found.5 in (
-            told.0.items,
+            reported.0.items,
             audit.0,
             subst (λ (cs : Option Wanted). IsAudit false fares cs found.0 audit.0
-                (if c.args.has_uploads then Some good else None) (text_of c.args.report) told.0.items told.1)
+                (if c.args.has_uploads then Some good else None) (text_of c.args.report) reported.0.items reported.1)
                 c.verdict_of.ensures.wanted
                 (subst (λ (r : Option (List ℕ)). IsAudit false fares
                 (wanted_by c.verdict_of.new.trace) found.0 audit.0
-                (if c.args.has_uploads then Some good else None) r told.0.items told.1)
+                (if c.args.has_uploads then Some good else None) r reported.0.items reported.1)
                 c.verdict_of.ensures.report audit.1),
             wrote,
           ),
     )
 
--- a beginning of what was to be told
+-- a beginning of what was to be reported
 pub returns-in_err-write_text-clause-begun : goal.returns-in_err-write_text-clause-begun
 returns-in_err-write_text-clause-begun g c =
-    let found = c.in_ok-verdict.ensures.told in
+    let found = c.in_ok-verdict.ensures.reported in
     let fares = c.args.table.now in
-    let told = c.in_ok-told.told in
+    let reported = c.in_ok-reported.reported in
     let ledger = read_as (is_some (wanted_by c.verdict_of.new.trace)) found.0 in
     let decide = c.verdicts_decide.ensures fares ledger c.in_ok-verdict.verdict found.2 in
     unwritten_on c.from_residual-in_err-write_text.result _ (
       found.0,
       found.1,
       λ good balanced.
-          let audit = c.in_ok-told.ensures fares found.0 good found.2 decide (found.3 good balanced)
+          let audit = c.in_ok-reported.ensures fares found.0 good found.2 decide (found.3 good balanced)
           found.4 found.5 in (
-            told.0.items,
-            told.1,
+            reported.0.items,
+            reported.1,
             audit.0,
             subst (λ (cs : Option Wanted). IsAudit false fares cs found.0 audit.0
-                (if c.args.has_uploads then Some good else None) (text_of c.args.report) told.0.items told.1)
+                (if c.args.has_uploads then Some good else None) (text_of c.args.report) reported.0.items reported.1)
                 c.verdict_of.ensures.wanted
                 (subst (λ (r : Option (List ℕ)). IsAudit false fares
                 (wanted_by c.verdict_of.new.trace) found.0 audit.0
-                (if c.args.has_uploads then Some good else None) r told.0.items told.1)
+                (if c.args.has_uploads then Some good else None) r reported.0.items reported.1)
                 c.verdict_of.ensures.report audit.1),
             subst (λ (t : List ℕ). Begins (g.W.Write.contents c.args.out.now)
                 (g.W.Write.contents c.write_text.new.out) t) c.as_slice.ensures.value

@@ -4,7 +4,7 @@ use Rattle.std.specs.Prelude.{◌&&◌, is_some}
 use Rattle.std.proofs.lemmas.Bool.{and_parts}
 use Rattle.ledger_check.specs.Columns.{read_as}
 use Rattle.omny_audit.specs.Reports.{IsReportLine}
-use Rattle.omny_audit.specs.Traced.{AreColumnsTold}
+use Rattle.omny_audit.specs.Traced.{AreColumnsReported}
 use Rattle.omny_audit.specs.inside.Reports.{text_of}
 use Rattle.omny_audit.specs.inside.Traced.{wanted_by}
 use Rattle.ledger_check.specs.Verdicts.{is_legal}
@@ -12,8 +12,8 @@ use Rattle.omny_audit.proofs.audit.audit_text.Goals as goal
 
 pub write_report_line-requires : goal.write_report_line-requires
 write_report_line-requires c = λ yes.
-    c.requires (sym c.tells_legal-is_legal.ensures
-    ∙ (and_parts c.tells_legal-is_legal.result c.in_ok-is_right.is_right
+    c.requires (sym c.reports_legal-is_legal.ensures
+    ∙ (and_parts c.reports_legal-is_legal.result c.in_ok-is_right.is_right
     (sym c.are_both-is_whole.ensures ∙ yes)).0)
 
 pub returns : goal.returns
@@ -22,12 +22,12 @@ returns c = λ fares file good is decide balance sums all.
     let right = c.in_ok-is_right.is_right in
     let columns = c.in_ok-is_right.ensures in
     let wrote = c.in_ok-fits.ensures in
-    let same = c.tells_legal-is_legal.ensures in
+    let same = c.reports_legal-is_legal.ensures in
     let whole = c.are_both-is_whole.ensures in
     let trace = c.args.trace.now in
     let ledger = read_as (is_some (wanted_by trace)) file in
-    let told = columns.2 file (λ yes. all (sym same ∙ yes)) in (
-      told.0,
+    let reported = columns.2 file (λ yes. all (sym same ∙ yes)) in (
+      reported.0,
       record {
         found = string_bytes found.0;
         sound = found.1;
@@ -36,8 +36,8 @@ returns c = λ fares file good is decide balance sums all.
         is_legal = decide;
         columns = columns.0;
         right = right;
-        are_columns = subst (λ (b : Bool). AreColumnsTold (wanted_by trace) b file told.0 columns.0
-            right) same told.1;
+        are_columns = subst (λ (b : Bool). AreColumnsReported (wanted_by trace) b file reported.0 columns.0
+            right) same reported.1;
         rest = wrote.0;
         fits = c.in_ok-fits.fits;
         report_line = subst (λ (b : Bool). IsReportLine fares ledger (text_of c.args.report) b
@@ -45,7 +45,7 @@ returns c = λ fares file good is decide balance sums all.
             (whole ∙ ap (λ (b : Bool). b && right) same)
             (wrote.2 fares ledger
             (λ yes. sums (sym same
-            ∙ (and_parts c.tells_legal-is_legal.result right (sym whole ∙ yes)).0)));
+            ∙ (and_parts c.reports_legal-is_legal.result right (sym whole ∙ yes)).0)));
         shown = wrote.1
             ∙ ap (λ (t : List ℕ). t ++ wrote.0) (rw c.into_bytes-text.ensures.value at columns.1)
             ∙ append_assoc (string_bytes found.0) columns.0 wrote.0;

@@ -28,49 +28,49 @@ finish-requires c = record {
 }
 
 pub returns-in-Some-clause-verdict : goal.returns-in-Some-clause-verdict
-returns-in-Some-clause-verdict c = λ file told known fed.
-    let read = c.in_ok-read_end.ensures.read file told known in
-    let is = rw c.in-Some.is at (c.in_ok-verdict.ensures.fed told fed) in
-    let all = append-nil (told ++ c.as_slice-left.result.now)
-    ∙ ap (λ (t : List ℕ). told ++ t) c.as_slice-left.ensures.value ∙ read.0 in
+returns-in-Some-clause-verdict c = λ file reported known fed.
+    let read = c.in_ok-read_end.ensures.read file reported known in
+    let is = rw c.in-Some.is at (c.in_ok-verdict.ensures.fed reported fed) in
+    let all = append-nil (reported ++ c.as_slice-left.result.now)
+    ∙ ap (λ (t : List ℕ). reported ++ t) c.as_slice-left.ensures.value ∙ read.0 in
     subst (λ (t : List ℕ). IsVerdict c.args.table.now t c.in-Some.verdict) all (is [])
 
 pub returns-in-Some-clause-struck : goal.returns-in-Some-clause-struck
-returns-in-Some-clause-struck c = λ file told good known struck legal entries ledger.
-    absurd (false_true (sym (rw c.in-Some.is at (c.in_ok-verdict.ensures.struck told good struck))
+returns-in-Some-clause-struck c = λ file reported good known struck legal entries ledger.
+    absurd (false_true (sym (rw c.in-Some.is at (c.in_ok-verdict.ensures.struck reported good struck))
     ∙ legal))
 
 pub returns-in-Some-clause-sums : goal.returns-in-Some-clause-sums
-returns-in-Some-clause-sums c = λ file told known sums legal good struck.
-    absurd (false_true (sym (rw c.in-Some.is at (c.in_ok-verdict.ensures.struck told good struck))
+returns-in-Some-clause-sums c = λ file reported known sums legal good struck.
+    absurd (false_true (sym (rw c.in-Some.is at (c.in_ok-verdict.ensures.struck reported good struck))
     ∙ legal))
 
 pub returns-in-Some-clause-all : goal.returns-in-Some-clause-all
-returns-in-Some-clause-all c = λ file told known. (c.in_ok-read_end.ensures.read file told known).1
+returns-in-Some-clause-all c = λ file reported known. (c.in_ok-read_end.ensures.read file reported known).1
 
 pub returns-clause-verdict : goal.returns-clause-verdict
-returns-clause-verdict c = λ file told known fed.
-    let read = c.in_ok-read_end.ensures.read file told known in
-    let now = rw c.in_default.is at (c.in_ok-verdict.ensures.fed told fed) in
-    let all = ap (λ (t : List ℕ). told ++ t) c.as_slice-left.ensures.value ∙ read.0 in
+returns-clause-verdict c = λ file reported known fed.
+    let read = c.in_ok-read_end.ensures.read file reported known in
+    let now = rw c.in_default.is at (c.in_ok-verdict.ensures.fed reported fed) in
+    let all = ap (λ (t : List ℕ). reported ++ t) c.as_slice-left.ensures.value ∙ read.0 in
     subst (λ (t : List ℕ). IsVerdict c.args.table.now t c.finish.result) all
-    (c.finish.ensures.verdict c.args.table.now (told ++ c.as_slice-left.result.now) now)
+    (c.finish.ensures.verdict c.args.table.now (reported ++ c.as_slice-left.result.now) now)
 
 pub returns-clause-struck : goal.returns-clause-struck
-returns-clause-struck c = λ file told good known struck legal entries ledger.
-    let read = c.in_ok-read_end.ensures.read file told known in
-    let now = rw c.in_default.is at (c.in_ok-verdict.ensures.struck told good struck) in
-    let all = ap (λ (t : List ℕ). told ++ t) c.as_slice-left.ensures.value ∙ read.0 in
-    c.finish.ensures.struck c.args.table.now (told ++ c.as_slice-left.result.now) c.feed.new.balance
+returns-clause-struck c = λ file reported good known struck legal entries ledger.
+    let read = c.in_ok-read_end.ensures.read file reported known in
+    let now = rw c.in_default.is at (c.in_ok-verdict.ensures.struck reported good struck) in
+    let all = ap (λ (t : List ℕ). reported ++ t) c.as_slice-left.ensures.value ∙ read.0 in
+    c.finish.ensures.struck c.args.table.now (reported ++ c.as_slice-left.result.now) c.feed.new.balance
     good now legal entries
     (subst (λ (t : List ℕ). IsLedgerOf c.args.table.now entries t) (sym all) ledger)
 
 pub returns-clause-sums : goal.returns-clause-sums
-returns-clause-sums c = λ file told known sums legal good struck.
-    let read = c.in_ok-read_end.ensures.read file told known in
-    let all = ap (λ (t : List ℕ). told ++ t) c.as_slice-left.ensures.value ∙ read.0 in
+returns-clause-sums c = λ file reported known sums legal good struck.
+    let read = c.in_ok-read_end.ensures.read file reported known in
+    let all = ap (λ (t : List ℕ). reported ++ t) c.as_slice-left.ensures.value ∙ read.0 in
     subst (λ (t : List ℕ). HasSummedFor c.args.table.now c.add_piece.new.report t) all
-    (c.in_ok-add_piece.ensures.sums told sums)
+    (c.in_ok-add_piece.ensures.sums reported sums)
 
 pub returns-clause-all : goal.returns-clause-all
-returns-clause-all c = λ file told known. (c.in_ok-read_end.ensures.read file told known).1
+returns-clause-all c = λ file reported known. (c.in_ok-read_end.ensures.read file reported known).1

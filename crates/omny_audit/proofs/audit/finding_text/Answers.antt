@@ -5,11 +5,11 @@ use Rattle.omny_audit.proofs.FindingLemmas.{alone, beside, not_legal}
 use Rattle.ledger_check.specs.Verdicts.{is_legal}
 use Rattle.omny_audit.proofs.audit.finding_text.Goals as goal
 
-pub returns-then-not-tells_legal : goal.returns-then-not-tells_legal
-returns-then-not-tells_legal c = λ fares text good is balance.
+pub returns-then-not-reports_legal : goal.returns-then-not-reports_legal
+returns-then-not-reports_legal c = λ fares text good is balance.
     let verdict = c.args.verdict.now in
     let none : is_legal verdict ≡ false =
-    sym c.tells_legal.ensures ∙ (first_of (cc, search (rules, tests))) in
+    sym c.reports_legal.ensures ∙ (first_of (cc, search (rules, tests))) in
     record {
       verdict = verdict;
       is_verdict = is;
@@ -22,7 +22,7 @@ pub returns-then-not-has_uploads : goal.returns-then-not-has_uploads
 returns-then-not-has_uploads c = λ fares text good is balance.
     let verdict = c.args.verdict.now in
     let some : is_legal verdict ≡ true =
-    sym c.tells_legal.ensures ∙ (first_of (cc, search (rules, tests))) in
+    sym c.reports_legal.ensures ∙ (first_of (cc, search (rules, tests))) in
     let none : c.args.has_uploads ≡ false = first_of (cc, search (rules, tests)) in
     record {
       verdict = verdict;
@@ -36,7 +36,7 @@ pub returns : goal.returns
 returns c = λ fares text good is balance.
     let verdict = c.args.verdict.now in
     let legal : is_legal verdict ≡ true =
-    sym c.tells_legal.ensures ∙ (first_of (cc, search (rules, tests))) in
+    sym c.reports_legal.ensures ∙ (first_of (cc, search (rules, tests))) in
     let some : c.args.has_uploads ≡ true = first_of (cc, search (rules, tests)) in
     let wrote = c.in_ok-write_difference.ensures in
     record {
@@ -44,7 +44,7 @@ returns c = λ fares text good is balance.
       is_verdict = is;
       rest = wrote.0;
       shown = wrote.2 ∙ ap (λ (t : List ℕ). t ++ wrote.0) c.in_ok-text.ensures;
-      second = beside fares text good c.args.has_uploads (is_legal verdict) c.difference-told.result
+      second = beside fares text good c.args.has_uploads (is_legal verdict) c.difference-reported.result
           wrote.0 _ some legal wrote.1 c.is_even.ensures
-          (λ entries ledger. c.difference-told.ensures good _ (balance legal entries ledger));
+          (λ entries ledger. c.difference-reported.ensures good _ (balance legal entries ledger));
     }

@@ -16,8 +16,8 @@ use Rattle.omny_audit.proofs.audit.verdict_of.Goals as goal
 pub loop-piece-init : goal.loop-piece-init
 loop-piece-init g c = record {
   file = [];
-  told = [];
-  as_told = c.requires.trace;
+  reported = [];
+  as_reported = c.requires.trace;
   wanted = refl;
   fed = c.new-checker.ensures.fed c.args.table.now;
   struck = λ good is. c.new-checker.ensures.struck c.args.table.now c.args.balance.now good is;
@@ -28,16 +28,16 @@ loop-piece-init g c = record {
 
 pub end_verdict-requires-clause-fed : goal.end_verdict-requires-clause-fed
 end_verdict-requires-clause-fed g c = (
-  c.loop-piece.invariant.told,
+  c.loop-piece.invariant.reported,
   c.loop-piece.invariant.fed,
   c.loop-piece.invariant.sums,
 )
 
 pub feed-requires-clause-fed : goal.feed-requires-clause-fed
-feed-requires-clause-fed g c = (c.loop-piece.invariant.told, c.loop-piece.invariant.fed)
+feed-requires-clause-fed g c = (c.loop-piece.invariant.reported, c.loop-piece.invariant.fed)
 
-pub returns-then-count-eq0-clause-told : goal.returns-then-count-eq0-clause-told
-returns-then-count-eq0-clause-told g c =
+pub returns-then-count-eq0-clause-reported : goal.returns-then-count-eq0-clause-reported
+returns-then-count-eq0-clause-reported g c =
     let before = c.loop-piece.invariant in
     let fares = c.args.table.now in
     let got = c.in-Ok.ensures.bytes in
@@ -51,30 +51,30 @@ returns-then-count-eq0-clause-told g c =
     × StrikesOut fares (read_as traced file) c.args.balance.now c.end_verdict.new.balance last
     × (IsTrue (is_legal last) → HasSummedFor fares c.end_verdict.new.report (read_as traced file))
     × (IsTrue (is_legal last) → HasReadAll c.end_verdict.new.trace file) in
-    let told = at_end Is _ _ _
+    let reported = at_end Is _ _ _
     (Consumes-trans _ _ _ before.file (take c.in-Ok.count c.read.new.buf) before.read got.0)
     (got.1 c.if-count-eq0.true (omega arith))
     (subst Is (sym none) (
-      ended.verdict before.file before.told before.as_told before.fed,
-      λ good is legal entries ledger. ended.struck before.file before.told good before.as_told
+      ended.verdict before.file before.reported before.as_reported before.fed,
+      λ good is legal entries ledger. ended.struck before.file before.reported good before.as_reported
           (before.struck good is) legal entries ledger,
-      λ legal. ended.sums before.file before.told before.as_told before.sums legal given.0
+      λ legal. ended.sums before.file before.reported before.as_reported before.sums legal given.0
           (before.struck given.0 given.1),
-      λ legal. ended.all before.file before.told before.as_told,
+      λ legal. ended.all before.file before.reported before.as_reported,
     )) in
-    (told.0, told.1, told.2.0, told.2.1, told.2.2, told.2.3)
+    (reported.0, reported.1, reported.2.0, reported.2.1, reported.2.2, reported.2.3)
 
 false_true : false ≡ true → ⊥
 false_true h = cc
 
-pub returns-in-Some-clause-told : goal.returns-in-Some-clause-told
-returns-in-Some-clause-told g c =
+pub returns-in-Some-clause-reported : goal.returns-in-Some-clause-reported
+returns-in-Some-clause-reported g c =
     let before = c.loop-piece.invariant in
     let fares = c.args.table.now in
     let got = c.in-Ok.ensures.bytes in
     let piece = take c.in-Ok.count c.read.new.buf in
-    let as_told = c.in_ok-read_piece.ensures.read before.file before.told before.as_told in
-    let fed = rw c.in-Some.is at (c.in_ok-verdict.ensures.fed before.told before.fed) in
+    let as_reported = c.in_ok-read_piece.ensures.read before.file before.reported before.as_reported in
+    let fed = rw c.in-Some.is at (c.in_ok-verdict.ensures.fed before.reported before.fed) in
     let trace = c.read_piece.new.trace in
     let traced = is_some (wanted_by trace) in
     let Is : List ℕ → Type 0 = λ file. IsVerdict fares (read_as traced file) c.in-Some.verdict
@@ -84,20 +84,20 @@ returns-in-Some-clause-told g c =
     × (IsTrue (is_legal c.in-Some.verdict) → HasReadAll trace file) in
     let given = c.requires.good in
     let no : is_legal c.in-Some.verdict ≡ false = rw c.in-Some.is at
-    (c.in_ok-verdict.ensures.struck before.told given.0 (before.struck given.0 given.1)) in
-    let told = whatever_follows Is _ _ _
+    (c.in_ok-verdict.ensures.struck before.reported given.0 (before.struck given.0 given.1)) in
+    let reported = whatever_follows Is _ _ _
     (Consumes-trans _ _ _ before.file piece before.read got.0)
     (λ more.
-    let rest = reads_more trace (before.file ++ piece) (before.told ++ c.read_piece.new.text.items)
-    as_told more in (
+    let rest = reads_more trace (before.file ++ piece) (before.reported ++ c.read_piece.new.text.items)
+    as_reported more in (
       subst (λ (t : List ℕ). IsVerdict fares t c.in-Some.verdict)
-          (ap (λ (t : List ℕ). (before.told ++ t) ++ rest.0) c.as_slice-part.ensures.value
+          (ap (λ (t : List ℕ). (before.reported ++ t) ++ rest.0) c.as_slice-part.ensures.value
           ∙ sym rest.1) (fed rest.0),
       λ good is legal. absurd (false_true (sym no ∙ legal)),
       λ legal. absurd (false_true (sym no ∙ legal)),
       λ legal. absurd (false_true (sym no ∙ legal)),
     )) in
-    (told.0, told.1, told.2.0, told.2.1, told.2.2, told.2.3)
+    (reported.0, reported.1, reported.2.0, reported.2.1, reported.2.2, reported.2.3)
 
 pub returns-then-count-eq0-clause-report : goal.returns-then-count-eq0-clause-report
 returns-then-count-eq0-clause-report g c = c.end_verdict.ensures.report
@@ -114,7 +114,7 @@ pub returns-in-Some-clause-wanted : goal.returns-in-Some-clause-wanted
 returns-in-Some-clause-wanted g c = c.read_piece.ensures.wanted ∙ c.loop-piece.invariant.wanted
 
 pub add_piece-requires : goal.add_piece-requires
-add_piece-requires g c = (c.loop-piece.invariant.told, c.loop-piece.invariant.sums)
+add_piece-requires g c = (c.loop-piece.invariant.reported, c.loop-piece.invariant.sums)
 
 pub loop-piece-preserved : goal.loop-piece-preserved
 loop-piece-preserved g c =
@@ -122,19 +122,19 @@ loop-piece-preserved g c =
     let got = c.in-Ok.ensures.bytes in
     record {
       file = before.file ++ take c.in-Ok.count c.read.new.buf;
-      told = before.told ++ c.read_piece.new.text.items;
-      as_told = c.in_ok-read_piece.ensures.read before.file before.told before.as_told;
+      reported = before.reported ++ c.read_piece.new.text.items;
+      as_reported = c.in_ok-read_piece.ensures.read before.file before.reported before.as_reported;
       wanted = c.read_piece.ensures.wanted ∙ before.wanted;
-      fed = subst (λ (t : List ℕ). HasFed c.args.table.now c.feed.new.self (before.told ++ t))
+      fed = subst (λ (t : List ℕ). HasFed c.args.table.now c.feed.new.self (before.reported ++ t))
           c.as_slice-part.ensures.value
-          (rw c.in_default-2.is at (c.in_ok-verdict.ensures.fed before.told before.fed));
+          (rw c.in_default-2.is at (c.in_ok-verdict.ensures.fed before.reported before.fed));
       struck = λ good is. subst (λ (t : List ℕ). HasStruck c.args.table.now c.feed.new.self
-          c.feed.new.balance (before.told ++ t) good) c.as_slice-part.ensures.value
-          (rw c.in_default-2.is at (c.in_ok-verdict.ensures.struck before.told good
+          c.feed.new.balance (before.reported ++ t) good) c.as_slice-part.ensures.value
+          (rw c.in_default-2.is at (c.in_ok-verdict.ensures.struck before.reported good
           (before.struck good is)));
       read = Consumes-trans _ _ _ before.file (take c.in-Ok.count c.read.new.buf) before.read got.0;
       sums = subst (λ (t : List ℕ). HasSummedFor c.args.table.now c.add_piece.new.report
-          (before.told ++ t)) c.as_slice-part.ensures.value
-          (c.in_ok-add_piece.ensures.sums before.told before.sums);
+          (before.reported ++ t)) c.as_slice-part.ensures.value
+          (c.in_ok-add_piece.ensures.sums before.reported before.sums);
       report = c.add_piece.ensures.text ∙ before.report;
     }

@@ -12,13 +12,13 @@ use Rattle.omny_audit.proofs.audit.verdict_of.Given as goal
 abbrev pub invariant-loop-piece : goal.invariant-loop-piece
 invariant-loop-piece g l = record {
   file : List ℕ;
-  told : List ℕ;
-  as_told : HasReadAs l.trace file told;
+  reported : List ℕ;
+  as_reported : HasReadAs l.trace file reported;
   wanted : wanted_by l.trace ≡ wanted_by l.fn.trace;
-  fed : HasFed l.table l.checker told;
+  fed : HasFed l.table l.checker reported;
   struck : (good : List TapFields) → IsBalance l.fn.balance good []
-      → HasStruck l.table l.checker l.balance told good;
+      → HasStruck l.table l.checker l.balance reported good;
   read : Consumes (g.R.Read.remaining l.fn.reader) (g.R.Read.remaining l.reader) file;
-  sums : HasSummedFor l.table l.report told;
+  sums : HasSummedFor l.table l.report reported;
   report : text_of l.report ≡ text_of l.fn.report;
 }

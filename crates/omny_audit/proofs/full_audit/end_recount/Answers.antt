@@ -11,8 +11,8 @@ feed-requires-clause-fed c = let fed = c.requires.fed in (fed.0, fed.1, fed.2, f
 pub add_piece-requires : goal.add_piece-requires
 add_piece-requires c = (c.requires.fed.0, c.requires.fed.4)
 
-pub returns-clause-told : goal.returns-clause-told
-returns-clause-told c = λ file before written good known has.
+pub returns-clause-reported : goal.returns-clause-reported
+returns-clause-reported c = λ file before written good known has.
     let fares = c.args.table.now in
     let read = c.in_ok-read_end.ensures.read file before known in
     let all = ap (λ (t : List ℕ). before ++ t) c.as_slice-left.ensures.value ∙ read.0 in
@@ -25,7 +25,7 @@ returns-clause-told c = λ file before written good known has.
       ended.3,
       fed.0 ++ ended.4,
       ended.5 ∙ ap (λ (t : List ℕ). t ++ ended.4) fed.1
-          ∙ append_assoc (string_bytes c.args.told.now) fed.0 ended.4,
+          ∙ append_assoc (string_bytes c.args.reported.now) fed.0 ended.4,
       sym (append_assoc written fed.0 ended.4) ∙ ended.6,
     )
 

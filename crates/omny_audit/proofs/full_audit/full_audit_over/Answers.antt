@@ -21,7 +21,7 @@ recount_all-requires-clause-good g c =
 
 pub end_text-requires : goal.end_text-requires
 end_text-requires g c = λ yes.
-    let found = c.in_ok-legal.ensures.told in
+    let found = c.in_ok-legal.ensures.reported in
     let good = c.requires.good in
     let ledger = read_as (is_some (wanted_by c.recount_all.new.trace)) found.0 in
     let all = found.2 good.0 (λ has. c.of-full.ensures good.0 good.1) in
@@ -29,14 +29,14 @@ end_text-requires g c = λ yes.
     all.recount in
     (c.args.table.now, ledger, found.3, decide.0 (sym all.is_legal ∙ yes))
 
-pub returns-clause-told : goal.returns-clause-told
-returns-clause-told g c =
+pub returns-clause-reported : goal.returns-clause-reported
+returns-clause-reported g c =
     let fares = c.args.table.now in
-    let found = c.in_ok-legal.ensures.told in
-    let told = c.in_ok-told.told in
+    let found = c.in_ok-legal.ensures.reported in
+    let reported = c.in_ok-reported.reported in
     let classes = wanted_by c.recount_all.new.trace in
     let ledger = read_as (is_some classes) found.0 in
-    let parts = c.in_ok-told.ensures in (
+    let parts = c.in_ok-reported.ensures in (
       found.0,
       found.1,
       λ good balanced.
@@ -45,11 +45,11 @@ returns-clause-told g c =
           let end = parts.6 good (taps_from all.taken) all.struck in
           let columns = parts.7 found.0 found.4 in
           let line = parts.8 fares ledger (λ yes. found.3) in (
-            recount_text all.taken ++ told.0.items,
+            recount_text all.taken ++ reported.0.items,
             columns.0,
             subst (λ (cs : Option Wanted). IsAudit true fares cs found.0 columns.0
                 (if c.args.has_uploads then Some good else None) (text_of c.args.report)
-                (recount_text all.taken ++ told.0.items) told.1)
+                (recount_text all.taken ++ reported.0.items) reported.1)
                 c.recount_all.ensures.wanted
                 (record {
                   found = recount_text all.taken ++ parts.0;
@@ -79,7 +79,7 @@ returns-clause-told g c =
                       ∙ sym (append_assoc (recount_text all.taken) parts.0 (parts.1 ++ parts.2));
                   both = parts.10;
                 }),
-            Appends-trans _ _ _ (recount_text all.taken) told.0.items all.written
+            Appends-trans _ _ _ (recount_text all.taken) reported.0.items all.written
                 (subst (λ (t : List ℕ). Appends (g.W.Write.contents c.recount_all.new.out)
                 (g.W.Write.contents c.write_text.new.out) t) c.as_slice.ensures.value
                 c.in_ok-write_text.ensures.text),

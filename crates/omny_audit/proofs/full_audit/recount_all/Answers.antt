@@ -43,8 +43,8 @@ feed-requires-clause-fed g c =
     let now = before.known c.requires.good.0 c.requires.good.1 in
     (before.text, now.0, c.requires.good.0, now.1)
 
-pub returns-then-count-eq0-clause-told : goal.returns-then-count-eq0-clause-told
-returns-then-count-eq0-clause-told g c =
+pub returns-then-count-eq0-clause-reported : goal.returns-then-count-eq0-clause-reported
+returns-then-count-eq0-clause-reported g c =
     let before = c.loop-piece.invariant in
     let fares = c.args.table.now in
     let got = c.in-Ok.ensures.bytes in
@@ -59,13 +59,13 @@ returns-then-count-eq0-clause-told g c =
     legal (g.W.Write.contents c.args.out.now) (g.W.Write.contents c.write_piece.new.out))
     × HasSummedFor fares c.end_recount.new.report (read_as traced file)
     × HasReadAll c.end_recount.new.trace file in
-    let told = at_end Is _ _ _
+    let reported = at_end Is _ _ _
     (Consumes-trans _ _ _ before.file (take c.in-Ok.count c.read.new.buf) before.read got.0)
     (got.1 c.if-count-eq0.true (omega arith))
     (subst Is (sym none) (
       λ good struck.
           let now = before.known good struck in
-          let ended = c.in_ok-legal.ensures.told before.file before.text now.0 good before.as_text
+          let ended = c.in_ok-legal.ensures.reported before.file before.text now.0 good before.as_text
           now.1 in
           let more = ended.5 ∙ ap (λ (t : List ℕ). t ++ ended.4) c.clear.ensures.bytes in
           record {
@@ -84,7 +84,7 @@ returns-then-count-eq0-clause-told g c =
       c.in_ok-legal.ensures.sums before.file before.text before.as_text before.sums,
       c.in_ok-legal.ensures.all before.file before.text before.as_text,
     )) in
-    (told.0, told.1, told.2.0, told.2.1, told.2.2)
+    (reported.0, reported.1, reported.2.0, reported.2.1, reported.2.2)
 
 pub returns-then-count-eq0-clause-report : goal.returns-then-count-eq0-clause-report
 returns-then-count-eq0-clause-report g c = c.end_recount.ensures.report

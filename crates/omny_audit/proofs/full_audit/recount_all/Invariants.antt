@@ -7,7 +7,7 @@ use Rattle.omny_audit.specs.inside.Reports.{HasSummedFor, text_of}
 use Rattle.omny_audit.specs.inside.Traced.{HasReadAs, wanted_by}
 use Rattle.omny_audit.proofs.full_audit.recount_all.Given as goal
 
--- the recount has read what is read of what the reader has lost, and what it told was written
+-- the recount has read what is read of what the reader has lost, and what it reported was written
 abbrev pub invariant-loop-piece : goal.invariant-loop-piece
 invariant-loop-piece g l = record {
   file : List ℕ;

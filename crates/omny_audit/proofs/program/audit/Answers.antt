@@ -10,13 +10,13 @@ use Rattle.omny_audit.specs.inside.Options.{audit_asked_of}
 use Rattle.omny_audit.specs.inside.Reports.{text_of}
 use Rattle.omny_audit.specs.inside.Traced.{uploads_in, wanted_by}
 use Rattle.omny_audit.specs.Program.{IsRightAuditFault, compared}
-use Rattle.omny_audit.proofs.ProgramLemmas.{at_ledger, at_report, at_uploads, both_err, compared_is}
+use Rattle.omny_audit.proofs.ProgramLemmas.{at_ledger, at_report, at_tables, at_uploads, both_err}
+use Rattle.omny_audit.proofs.ProgramLemmas.{compared_is}
 use Rattle.omny_audit.proofs.ProgramLemmas.{kept_all, kept_lists, loads_same, names_none, names_same}
 use Rattle.omny_audit.proofs.ProgramLemmas.{loaded_ledger, loaded_report, reads_ledger, right_later}
 use Rattle.omny_audit.proofs.ProgramLemmas.{right_of_names, written_first}
-use Rattle.omny_audit.specs.inside.Fault.{IsRightOfNames}
-use Rattle.program_manners.proofs.LoadsOn.{tells_on}
-use Rattle.omny_audit.proofs.ProgramLemmas.{handed_on}
+use Rattle.program_manners.proofs.LoadsOn.{loads_more}
+use Rattle.omny_audit.proofs.Handing.{handed_on}
 use Rattle.omny_audit.proofs.program.audit.Goals as goal
 
 pub full_audit_over-requires-clause-good : goal.full_audit_over-requires-clause-good
@@ -24,41 +24,42 @@ full_audit_over-requires-clause-good g c = let loaded = c.in_ok-balance.ensures.
     (loaded.1, loaded.4)
 
 pub full_audit_over-requires-clause-sums : goal.full_audit_over-requires-clause-sums
-full_audit_over-requires-clause-sums g c = c.in_ok-report.ensures.sums c.in_ok-table.table
+full_audit_over-requires-clause-sums g c = c.in_ok-report.ensures.sums c.in_ok-tables.tables.fares
 
 pub audit_over-requires-clause-good : goal.audit_over-requires-clause-good
 audit_over-requires-clause-good g c = let loaded = c.in_ok-balance.ensures.ok in
     (loaded.1, loaded.4)
 
 pub audit_over-requires-clause-sums : goal.audit_over-requires-clause-sums
-audit_over-requires-clause-sums g c = c.in_ok-report.ensures.sums c.in_ok-table.table
+audit_over-requires-clause-sums g c = c.in_ok-report.ensures.sums c.in_ok-tables.tables.fares
 
 -- the table, the uploads and the report were loaded, and the ledger was read, which the answer is
 -- on
 pub returns-clause-ok : goal.returns-clause-ok
 returns-clause-ok g c =
     let loaded = c.in_ok-balance.ensures.ok in
-    IfOk-weaker c.audit_over.result _ _ (λ well told.
-    let finding = told.2 loaded.1 loaded.4 in
+    IfOk-weaker c.audit_over.result _ _ (λ well audited.
+    let finding = audited.2 loaded.1 loaded.4 in
     let names = c.as_slice-names.ensures.value in
     let same = compared_is c.as_slice-names.result.now loaded.1 _
     (ap not c.is_empty-has_uploads.ensures)
     ∙ ap (λ (ns : List (Bor (List ℕ))). compared (map (λ n. n.now) ns) loaded.1) names in
     let reported = text_of c.in_ok-report.report in
-    let found = subst (λ (good : Option (List TapFields)). IsAudit false c.in_ok-table.table
-    (wanted_by c.in_ok-trace.trace) told.0 finding.1 good reported finding.0 well) same
+    let found = subst (λ (good : Option (List TapFields)). IsAudit false c.in_ok-tables.tables.fares
+    (wanted_by c.in_ok-trace.trace) audited.0 finding.1 good reported finding.0 well) same
     finding.2 in
     let ledger = reads_ledger _ _ _ _ _ _ c.in_ok-head.head.items c.as_slice.result.now
-    c.in_ok-table.table_text.items c.as_slice-2.result.now told.0
+    c.in_ok-tables.tables.fares
+    (map (λ t. t.items) c.in_ok-tables.tables.texts.items) audited.0
     (uploads_in c.kept_if-kept.result) (compared (map (λ n. n.now) c.args.options.now.uploads.items) loaded.5)
     (wanted_by c.in_ok-trace.trace)
     c.in_ok-ledger.ensures.ok c.in_ok-head.ensures.read c.in_ok-head.ensures.enough
-    c.as_slice.ensures.value c.as_slice-2.ensures.value
+    c.as_slice.ensures.value
     (kept_lists c.as_slice-names.result.now c.args.options.now.uploads.items _ _ _ loaded.5
     c.kept_if-kept.ensures.uploads loaded.7.taps (ap not c.is_empty-has_uploads.ensures) names)
     (c.chain-whole.ensures.bytes
     ∙ ap (λ (h : List ℕ). option_append (Some h)
-    (g.S.Ledger.Read.remaining c.read_head.new.ledger)) c.from.ensures.0) told.1
+    (g.S.Ledger.Read.remaining c.read_head.new.ledger)) c.from.ensures.0) audited.1
     c.in_ok-trace.ensures.wanted in
     record {
       text = finding.0;
@@ -66,12 +67,9 @@ returns-clause-ok g c =
         after_table = _;
         after_uploads = _;
         after_report = _;
-        fares = c.in_ok-table.table;
-        loads_table = record {
-          bytes = c.in_ok-table.table_text.items;
-          told_is = c.in_ok-table.ensures.ok.0;
-          means = c.in_ok-table.ensures.ok.1;
-        };
+        fares = c.in_ok-tables.tables.fares;
+        texts = _;
+        loads_tables = c.in_ok-tables.ensures.ok;
         uploads = loaded.0;
         loads_uploads = loads_same c.as_slice-names.result.now c.args.options.now.uploads.items _ _
             loaded.0 names loaded.2;
@@ -81,46 +79,47 @@ returns-clause-ok g c =
         are_lists = loaded.6;
         report = reported;
         loads_report = c.in_ok-report.ensures.ok;
-        ledger = told.0;
-        loads_ledger = ledger.told;
+        ledger = audited.0;
+        loads_ledger = ledger.is_loaded;
         traced = ledger.traced;
         is_traced = ledger.is_traced;
         wanted = wanted_by c.in_ok-trace.trace;
         are_wanted = ledger.are_wanted;
         read = finding.1;
-        audit = subst (λ (b : Bool). IsAudit b c.in_ok-table.table (wanted_by c.in_ok-trace.trace)
-            told.0 finding.1 (compared (map (λ n. n.now) c.args.options.now.uploads.items) loaded.1)
+        audit = subst (λ (b : Bool). IsAudit b c.in_ok-tables.tables.fares (wanted_by c.in_ok-trace.trace)
+            audited.0 finding.1 (compared (map (λ n. n.now) c.args.options.now.uploads.items) loaded.1)
             reported finding.0 well) (sym c.if-options.false) found;
         right = c.audits_decide.ensures _ _ _ _ _ _ _ _ _ found;
       };
       written = finding.3;
     })
-    c.audit_over.ensures.told
+    c.audit_over.ensures.reported
 
 pub returns-then-options-clause-ok : goal.returns-then-options-clause-ok
 returns-then-options-clause-ok g c =
     let loaded = c.in_ok-balance.ensures.ok in
-    IfOk-weaker c.full_audit_over.result _ _ (λ well told.
-    let finding = told.2 loaded.1 loaded.4 in
+    IfOk-weaker c.full_audit_over.result _ _ (λ well audited.
+    let finding = audited.2 loaded.1 loaded.4 in
     let names = c.as_slice-names.ensures.value in
     let same = compared_is c.as_slice-names.result.now loaded.1 _
     (ap not c.is_empty-has_uploads.ensures)
     ∙ ap (λ (ns : List (Bor (List ℕ))). compared (map (λ n. n.now) ns) loaded.1) names in
     let reported = text_of c.in_ok-report.report in
-    let found = subst (λ (good : Option (List TapFields)). IsAudit true c.in_ok-table.table
-    (wanted_by c.in_ok-trace.trace) told.0 finding.1 good reported finding.0 well) same
+    let found = subst (λ (good : Option (List TapFields)). IsAudit true c.in_ok-tables.tables.fares
+    (wanted_by c.in_ok-trace.trace) audited.0 finding.1 good reported finding.0 well) same
     finding.2 in
     let ledger = reads_ledger _ _ _ _ _ _ c.in_ok-head.head.items c.as_slice.result.now
-    c.in_ok-table.table_text.items c.as_slice-2.result.now told.0
+    c.in_ok-tables.tables.fares
+    (map (λ t. t.items) c.in_ok-tables.tables.texts.items) audited.0
     (uploads_in c.kept_if-kept.result) (compared (map (λ n. n.now) c.args.options.now.uploads.items) loaded.5)
     (wanted_by c.in_ok-trace.trace)
     c.in_ok-ledger.ensures.ok c.in_ok-head.ensures.read c.in_ok-head.ensures.enough
-    c.as_slice.ensures.value c.as_slice-2.ensures.value
+    c.as_slice.ensures.value
     (kept_lists c.as_slice-names.result.now c.args.options.now.uploads.items _ _ _ loaded.5
     c.kept_if-kept.ensures.uploads loaded.7.taps (ap not c.is_empty-has_uploads.ensures) names)
     (c.chain-whole.ensures.bytes
     ∙ ap (λ (h : List ℕ). option_append (Some h)
-    (g.S.Ledger.Read.remaining c.read_head.new.ledger)) c.from.ensures.0) told.1
+    (g.S.Ledger.Read.remaining c.read_head.new.ledger)) c.from.ensures.0) audited.1
     c.in_ok-trace.ensures.wanted in
     record {
       text = finding.0;
@@ -128,12 +127,9 @@ returns-then-options-clause-ok g c =
         after_table = _;
         after_uploads = _;
         after_report = _;
-        fares = c.in_ok-table.table;
-        loads_table = record {
-          bytes = c.in_ok-table.table_text.items;
-          told_is = c.in_ok-table.ensures.ok.0;
-          means = c.in_ok-table.ensures.ok.1;
-        };
+        fares = c.in_ok-tables.tables.fares;
+        texts = _;
+        loads_tables = c.in_ok-tables.ensures.ok;
         uploads = loaded.0;
         loads_uploads = loads_same c.as_slice-names.result.now c.args.options.now.uploads.items _ _
             loaded.0 names loaded.2;
@@ -143,21 +139,21 @@ returns-then-options-clause-ok g c =
         are_lists = loaded.6;
         report = reported;
         loads_report = c.in_ok-report.ensures.ok;
-        ledger = told.0;
-        loads_ledger = ledger.told;
+        ledger = audited.0;
+        loads_ledger = ledger.is_loaded;
         traced = ledger.traced;
         is_traced = ledger.is_traced;
         wanted = wanted_by c.in_ok-trace.trace;
         are_wanted = ledger.are_wanted;
         read = finding.1;
-        audit = subst (λ (b : Bool). IsAudit b c.in_ok-table.table (wanted_by c.in_ok-trace.trace)
-            told.0 finding.1 (compared (map (λ n. n.now) c.args.options.now.uploads.items) loaded.1)
+        audit = subst (λ (b : Bool). IsAudit b c.in_ok-tables.tables.fares (wanted_by c.in_ok-trace.trace)
+            audited.0 finding.1 (compared (map (λ n. n.now) c.args.options.now.uploads.items) loaded.1)
             reported finding.0 well) (sym c.if-options.true) found;
         right = c.audits_decide.ensures _ _ _ _ _ _ _ _ _ found;
       };
       written = finding.3;
     })
-    c.full_audit_over.ensures.told
+    c.full_audit_over.ensures.reported
 
 pub returns-in_err-balance-clause-named : goal.returns-in_err-balance-clause-named
 returns-in_err-balance-clause-named g c =
@@ -220,27 +216,28 @@ returns-clause-right g c =
     record {
       right = right_later _ _ _ _ fault later;
       begun = λ all un.
-          let told = begun un in
-          let finding = told.2 loaded.1 loaded.4 in
+          let audited = begun un in
+          let finding = audited.2 loaded.1 loaded.4 in
           let names = c.as_slice-names.ensures.value in
           let same = compared_is c.as_slice-names.result.now loaded.1 _
           (ap not c.is_empty-has_uploads.ensures)
           ∙ ap (λ (ns : List (Bor (List ℕ))). compared (map (λ n. n.now) ns) loaded.1) names in
           let reported = text_of c.in_ok-report.report in
-          let found = subst (λ (good : Option (List TapFields)). IsAudit false c.in_ok-table.table
-          (wanted_by c.in_ok-trace.trace) told.0 finding.2 good reported finding.0 finding.1) same
+          let found = subst (λ (good : Option (List TapFields)). IsAudit false c.in_ok-tables.tables.fares
+          (wanted_by c.in_ok-trace.trace) audited.0 finding.2 good reported finding.0 finding.1) same
           finding.3 in
           let ledger = reads_ledger _ _ _ _ _ _ c.in_ok-head.head.items c.as_slice.result.now
-          c.in_ok-table.table_text.items c.as_slice-2.result.now told.0
+          c.in_ok-tables.tables.fares
+          (map (λ t. t.items) c.in_ok-tables.tables.texts.items) audited.0
           (uploads_in c.kept_if-kept.result) (compared (map (λ n. n.now) c.args.options.now.uploads.items) loaded.5)
           (wanted_by c.in_ok-trace.trace)
           c.in_ok-ledger.ensures.ok c.in_ok-head.ensures.read c.in_ok-head.ensures.enough
-          c.as_slice.ensures.value c.as_slice-2.ensures.value
+          c.as_slice.ensures.value
           (kept_lists c.as_slice-names.result.now c.args.options.now.uploads.items _ _ _ loaded.5
           c.kept_if-kept.ensures.uploads loaded.7.taps (ap not c.is_empty-has_uploads.ensures) names)
           (c.chain-whole.ensures.bytes
           ∙ ap (λ (h : List ℕ). option_append (Some h)
-          (g.S.Ledger.Read.remaining c.read_head.new.ledger)) c.from.ensures.0) told.1
+          (g.S.Ledger.Read.remaining c.read_head.new.ledger)) c.from.ensures.0) audited.1
           c.in_ok-trace.ensures.wanted in
           record {
             text = finding.0;
@@ -249,12 +246,9 @@ returns-clause-right g c =
               after_table = _;
               after_uploads = _;
               after_report = _;
-              fares = c.in_ok-table.table;
-              loads_table = record {
-                bytes = c.in_ok-table.table_text.items;
-                told_is = c.in_ok-table.ensures.ok.0;
-                means = c.in_ok-table.ensures.ok.1;
-              };
+              fares = c.in_ok-tables.tables.fares;
+              texts = _;
+              loads_tables = c.in_ok-tables.ensures.ok;
               uploads = loaded.0;
               loads_uploads = loads_same c.as_slice-names.result.now
                   c.args.options.now.uploads.items _ _ loaded.0 names loaded.2;
@@ -264,15 +258,15 @@ returns-clause-right g c =
               are_lists = loaded.6;
               report = reported;
               loads_report = c.in_ok-report.ensures.ok;
-              ledger = told.0;
-              loads_ledger = ledger.told;
+              ledger = audited.0;
+              loads_ledger = ledger.is_loaded;
               traced = ledger.traced;
               is_traced = ledger.is_traced;
               wanted = wanted_by c.in_ok-trace.trace;
               are_wanted = ledger.are_wanted;
               read = finding.2;
-              audit = subst (λ (b : Bool). IsAudit b c.in_ok-table.table
-                  (wanted_by c.in_ok-trace.trace) told.0 finding.2
+              audit = subst (λ (b : Bool). IsAudit b c.in_ok-tables.tables.fares
+                  (wanted_by c.in_ok-trace.trace) audited.0 finding.2
                   (compared (map (λ n. n.now) c.args.options.now.uploads.items) loaded.1) reported
                   finding.0 finding.1) (sym c.if-options.false) found;
               right = c.audits_decide.ensures _ _ _ _ _ _ _ _ _ found;
@@ -300,7 +294,7 @@ returns-in_err-trace-clause-named g c =
     let asked = audit_asked_of c.args.options.now in
     handed_on c.from_residual-in_err-trace.result fault (λ f. NamesOneOf (files_of asked) f)
     c.from_residual-in_err-trace.ensures.1
-    (names_none (files_of asked) fault c.in_err-trace.ensures.named)
+    (at_tables asked fault c.in_err-trace.ensures.named)
 
 pub returns-in_err-head-clause-right : goal.returns-in_err-head-clause-right
 returns-in_err-head-clause-right g c =
@@ -311,22 +305,20 @@ returns-in_err-head-clause-right g c =
     (written_first asked _ _ _ fault _ _ c.in_err-head.ensures.fault
     (right_later asked.table _ _ _ fault c.in_err-head.ensures.later))
 
--- the table was loaded first, and then the uploads, the report and the ledger
+-- the tables were loaded first, and then the uploads, the report and the ledger
 pub returns-in_err-trace-clause-right : goal.returns-in_err-trace-clause-right
 returns-in_err-trace-clause-right g c =
     let fault = c.in_err-trace.field-0.0 in
     let asked = audit_asked_of c.args.options.now in
-    let text = c.in_ok-table.table_text.items in
     let report = loaded_report _ _ _ _ c.in_ok-report.ensures.ok in
     let ledger = loaded_ledger _ _ _ _ c.in_ok-ledger.ensures.ok in
     let uploads = c.in_ok-balance.ensures.ok.2 in
-    let behind = tells_on _ _ _ _ _ uploads.told_is (tells_on _ _ _ _ _ report.1 ledger.1) in
+    let wrong = c.in_err-trace.ensures.right in
+    let behind = loads_more _ _ _ _ _ uploads.is_loaded (loads_more _ _ _ _ _ report.1 ledger.1) in
     handed_on c.from_residual-in_err-trace.result fault (λ f. IsRightAuditFault asked _ _ _ f _ _)
     c.from_residual-in_err-trace.ensures.1
-    (right_of_names asked text _ _ _ _ fault _ _
-    (tells_on _ _ _ _ _ c.in_ok-table.ensures.ok.0 behind)
-    (subst (λ (t : List ℕ). IsRightOfNames t fault) c.as_slice-2.ensures.value
-    c.in_err-trace.ensures.right) c.in_err-trace.ensures.fault)
+    (right_of_names asked _ _ _ _ _ c.in_ok-tables.tables.fares c.in_ok-tables.ensures.ok _ behind
+    wrong.0 wrong.1 fault _ _ wrong.2 c.in_err-trace.ensures.fault)
 
 pub returns-in_err-head-clause-fault : goal.returns-in_err-head-clause-fault
 returns-in_err-head-clause-fault g c = λ all. kept_all c.from_residual-in_err-head.result
@@ -338,3 +330,18 @@ returns-in_err-trace-clause-fault g c = λ all. kept_all c.from_residual-in_err-
 
 pub kept_if-kept-requires : goal.kept_if-kept-requires
 kept_if-kept-requires g c = let loaded = c.in_ok-balance.ensures.ok in (loaded.5, loaded.7)
+
+pub returns-in_err-tables-clause-named : goal.returns-in_err-tables-clause-named
+returns-in_err-tables-clause-named g c =
+    let fault = c.in_err-tables.field-0.0 in
+    let asked = audit_asked_of c.args.options.now in
+    handed_on c.from_residual.result fault (λ f. NamesOneOf (files_of asked) f)
+    c.from_residual.ensures.1 (at_tables asked fault c.in_err-tables.ensures.named)
+
+pub returns-in_err-tables-clause-right : goal.returns-in_err-tables-clause-right
+returns-in_err-tables-clause-right g c =
+    let fault = c.in_err-tables.field-0.0 in
+    let asked = audit_asked_of c.args.options.now in
+    handed_on c.from_residual.result fault (λ f. IsRightAuditFault asked _ _ _ f _ _)
+    c.from_residual.ensures.1
+    (written_first asked _ _ _ fault _ _ c.in_err-tables.ensures.fault c.in_err-tables.ensures.right)

@@ -1,6 +1,7 @@
 use Rattle.std.proofs.Common.{List, [], ◌∷◌}
 use Rattle.omny_audit.specs.Fault.{NamesOneOf}
-use Rattle.omny_audit.proofs.ProgramLemmas.{handed_on, names_single}
+use Rattle.omny_audit.proofs.ProgramLemmas.{names_single}
+use Rattle.omny_audit.proofs.Handing.{handed_on}
 use Rattle.omny_audit.proofs.program.load_report.Goals as goal
 
 pub returns-clause-ok : goal.returns-clause-ok

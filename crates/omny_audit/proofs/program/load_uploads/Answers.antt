@@ -3,8 +3,9 @@ use Rattle.std.proofs.Common.{ap, get_or, Bor, ◌+◌}
 use Rattle.std.proofs.lemmas.List.{map-append, take_all, take_more}
 use Rattle.ledger_check.specs.Balances.{AreGoodFields}
 use Rattle.omny_audit.specs.Fault.{NamesOneOf}
-use Rattle.omny_audit.proofs.ProgramLemmas.{each_push, handed_on, loads_push, names_at}
-use Rattle.omny_audit.proofs.ProgramLemmas.{posted_push, tells_none}
+use Rattle.omny_audit.proofs.ProgramLemmas.{each_push, loads_push, names_at}
+use Rattle.omny_audit.proofs.Handing.{handed_on}
+use Rattle.omny_audit.proofs.ProgramLemmas.{posted_push, reports_none}
 use Rattle.omny_audit.proofs.program.load_uploads.Goals as goal
 
 pub loop-name-init : goal.loop-name-init
@@ -15,8 +16,8 @@ loop-name-init g c = (
     loads = [];
     named = refl;
     bytes = refl;
-    told_is =
-        tells_none (g.S.Source.loaded c.args.source.now);
+    is_loaded =
+        reports_none (g.S.Source.loaded c.args.source.now);
   },
   refl,
   c.new-balance.ensures,

@@ -14,19 +14,19 @@ pub returns-in-Err-clause-faults : goal.returns-in-Err-clause-faults
 returns-in-Err-clause-faults g c = λ one.
     ⊎_elim
     (λ memory.
-    let told = c.show.ensures.memory memory in
+    let reported = c.show.ensures.memory memory in
     inr (
       NoMemory,
       tt,
       λ parses. record { right = tt; begun = λ all un. absurd (cc) },
-      record { line_told = told.1.line_told; kept = λ all un. told.1.kept refl un },
+      record { line_reported = reported.1.line_reported; kept = λ all un. reported.1.kept refl un },
     ))
     (λ among.
-    let told = c.show.ensures.fault one in
+    let reported = c.show.ensures.fault one in
     inr (
-      told.0,
-      names_none (files_of (audit_asked_by (map string_bytes c.args.words.now))) told.0 told.1,
+      reported.0,
+      names_none (files_of (audit_asked_by (map string_bytes c.args.words.now))) reported.0 reported.1,
       λ parses. absurd (none_among _ _ parses among),
-      record { line_told = told.2.line_told; kept = λ all un. told.2.kept refl un },
+      record { line_reported = reported.2.line_reported; kept = λ all un. reported.2.kept refl un },
     ))
     c.in-Err.ensures.kinds

@@ -2,13 +2,13 @@ use Rattle.std.proofs.Common.{◌≡◌, arith, refl}
 use Rattle.omny_audit.specs.declared.fault.Fault.TheVariants.{NoMemory}
 use Rattle.omny_audit.proofs.program.show.Goals as goal
 
--- it was told that memory was refused
+-- it was reported that memory was refused
 pub returns-in-Ok-clause-fault : goal.returns-in-Ok-clause-fault
 returns-in-Ok-clause-fault g c = λ one. (
   NoMemory,
   refl,
   record {
-    line_told = (c.in-Ok.ensures.refused one).1;
+    line_reported = (c.in-Ok.ensures.refused one).1;
     kept = λ all un. c.in-Ok.ensures.kept (λ zero. absurd (omega (arith, one, zero)));
   },
 )

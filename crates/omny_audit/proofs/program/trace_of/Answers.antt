@@ -1,9 +1,33 @@
-use Rattle.std.proofs.Common.{◌≡◌, ◌∙◌, Bool, Some, refl, rules, subst, sym, tests, true}
+use Rattle.std.proofs.Common.{◌≡◌, ◌∙◌, ◌+◌, ◌<◌, [], Bool, Global, List, Some, Vec, ap, arith, length, map}
+use Rattle.std.proofs.Common.{refl, rules, subst, sym, tests, true, ℕ}
+use Rattle.std.proofs.lemmas.List.{length-map}
+use Rattle.std.proofs.lemmas.Option.{slice_get_within}
 use Rattle.ledger_check.specs.Columns.{has_traced_head}
+use Rattle.program_manners.proofs.NextTables.{tables_counted}
+use Rattle.program_manners.specs.TableViews.{names_of}
+use Rattle.settled_texts.proofs.Classes.{class_kept}
+use Rattle.settled_texts.specs.Classes.{AreTrees}
 use Rattle.omny_audit.specs.Program.{AreWanted}
 use Rattle.omny_audit.specs.Traced.{Wanted}
 use Rattle.omny_audit.specs.inside.Traced.{uploads_in, wanted_of}
 use Rattle.omny_audit.proofs.program.trace_of.Goals as goal
+
+pub of_texts-requires : goal.of_texts-requires
+of_texts-requires c =
+    let texts = c.args.tables.now.texts.items in
+    let counted = (tables_counted (names_of c.args.words.now) _ _ _ _ c.requires.loaded.2).0 in
+    ap (λ (ts : List (Vec ℕ Global)). length ts) c.deref.ensures.value
+    ∙ sym (length-map texts (λ (t : Vec ℕ Global). t.items)) ∙ counted
+
+pub of_names-requires : goal.of_names-requires
+of_names-requires c =
+    let counted = tables_counted (names_of c.args.words.now) _ _ _ _ c.requires.loaded.2 in
+    let lent = c.deref.result.now in
+    let within = slice_get_within _ c.in-Err.wrong.place _ c.in-Err.ensures.fault.stands in
+    let one = length-map lent (λ (t : Vec ℕ Global). t.items) in
+    let two = length-map c.args.tables.now.texts.items (λ (t : Vec ℕ Global). t.items) in
+    let same = ap (λ (ts : List (Vec ℕ Global)). length ts) c.deref.ensures.value in
+    omega (arith, within, one, two, same, counted.1)
 
 pub returns-in-Ok-clause-wanted : goal.returns-in-Ok-clause-wanted
 returns-in-Ok-clause-wanted c =
@@ -11,12 +35,16 @@ returns-in-Ok-clause-wanted c =
     sym c.has_traced_head.ensures ∙ (first_of (cc, search (rules, tests))) in
     let named = c.in-Ok.ensures.classes in
     let uploads = uploads_in c.args.places in
-    subst (λ (b : Bool). AreWanted c.args.table.now b uploads (Some (wanted_of c.new.result.so_far)))
+    let fares = c.args.tables.now.fares in
+    let texts = map (λ t. t.items) c.args.tables.now.texts.items in
+    subst (λ (b : Bool). AreWanted fares texts b uploads (Some (wanted_of c.new.result.so_far)))
     (sym traced)
-    (subst (λ (w : Wanted). AreWanted c.args.table.now true uploads (Some w))
-    (sym c.new.ensures.wanted) (named.0, named.1, named.2, refl))
-
-pub returns-in-Err-clause-right : goal.returns-in-Err-clause-right
-returns-in-Err-clause-right c = c.of_names.ensures.right c.args.table.now (λ is.
-    let has = c.in-Err.ensures.fault is in
-    record { tree = has.0; parsed = has.1; unplain = has.2 })
+    (subst (λ (w : Wanted). AreWanted fares texts true uploads (Some w))
+    (sym c.new.ensures.wanted) (
+      named.0,
+      named.1,
+      subst (λ (ts : List (Vec ℕ Global)). AreTrees fares (map (λ t. t.items) ts) named.0 named.1)
+          c.deref.ensures.value named.2,
+      λ moment token. class_kept c.in-Ok.names named.0 named.1 named.3 moment token,
+      refl,
+    ))

@@ -11,7 +11,7 @@ returns c = (
   λ fares ledger summed. record {
     verdict = c.in_ok-verdict.verdict;
     shown = refl;
-    told = c.is_of_ledger.ensures;
+    reported = c.is_of_ledger.ensures;
     true_of = λ entries of.
         let sums = rw c.in-Some.is at (c.in_ok-sums.ensures fares ledger summed) in
         subst (λ (t : List ℕ). IsReportVerdict entries t c.in_ok-verdict.verdict)

@@ -22,7 +22,7 @@ pub returns : goal.returns
 returns c =
     let classes = class_by c.args.names.now in
     let cut = cut_of c.args.cut.now in
-    let other : classes c.in-Some.tap.token ≡ c.args.cut.now.class.now → ⊥ =
+    let other : classes c.in-Some.tap.moment c.in-Some.tap.token ≡ c.args.cut.now.class.now → ⊥ =
     λ is. false≢true (sym c.if-same_bytes.false
     ∙ c.same_bytes.ensures.1 (c.as_bytes.ensures.value ∙ c.class_of.ensures ∙ is)) in
     sym (fault_some classes c.args.line cut c.in-Some.tap other)

@@ -3,7 +3,7 @@ use Rattle.std.specs.Fmt.{WritesText, ◌++?◌}
 use Rattle.std.proofs.lemmas.Fmt.{contents_after_writes}
 use Rattle.program_manners.proofs.terminal_line.line_of.Goals as goal
 
--- a text between two others was written where nothing stood
+-- a text between two others was written if nothing stood there
 between : {W : Type 0} (took : W → List ℕ → W → Type 0) (bytes : W → List ℕ)
     (appends : (w : W) (bs : List ℕ) (v : W) → took w bs v → bytes v ≡ bytes w ++ bs)
     (old new : W) (front back : List ℕ) (o : Option (List ℕ)) → bytes old ≡ []

@@ -14,30 +14,34 @@ use Rattle.settled_texts.proofs.ledger.write_settled_ledger.Goals as goal
 
 pub write_lists-requires-clause-no_fall : goal.write_lists-requires-clause-no_fall
 write_lists-requires-clause-no_fall g c κs within =
-    canonical_falls c.of-teller.result.token (joined c.args.lists.now)
-    (c.of-teller.ensures.token ∙ c.least_token.ensures) c.requires.named c.requires.sorted
+    canonical_falls c.of-explainer.result.token (joined c.args.lists.now)
+    (c.of-explainer.ensures.token ∙ c.least_token.ensures) c.requires.named c.requires.sorted
 
 pub write_lists-requires-clause-come : goal.write_lists-requires-clause-come
-write_lists-requires-clause-come g c κs within =
-    ([], come_first c.args.table.now c.of-teller.result (c.of-teller.ensures.told c.args.table.now))
+write_lists-requires-clause-come g c κs within = (
+  [],
+  come_first c.args.table.now c.of-explainer.result
+      (c.of-explainer.ensures.explained c.args.table.now),
+)
 
 pub returns-clause-ok : goal.returns-clause-ok
 returns-clause-ok g c =
     let fares = c.args.table.now in
     let taps = joined c.args.lists.now in
-    let told = c.in_ok-write_lists.ensures.told []
-    (come_first fares c.of-teller.result (c.of-teller.ensures.told fares)) in
-    let no_fall = canonical_falls c.of-teller.result.token taps
-    (c.of-teller.ensures.token ∙ c.least_token.ensures) c.requires.named c.requires.sorted in (
-      head_text ++ told.0,
-      ledger_along fares (posted fares taps) told.0
-          (posted_falls fares c.of-teller.result.token taps
-          no_fall) told.1.are,
+    let explained = c.in_ok-write_lists.ensures.explained []
+    (come_first fares c.of-explainer.result (c.of-explainer.ensures.explained fares)) in
+    let no_fall = canonical_falls c.of-explainer.result.token taps
+    (c.of-explainer.ensures.token ∙ c.least_token.ensures) c.requires.named c.requires.sorted in (
+      head_text ++ explained.0,
+      ledger_along fares (posted fares taps) explained.0
+          (posted_falls fares c.of-explainer.result.token taps
+          no_fall) explained.1.are,
       subst (λ (head : List ℕ). Appends (g.W.Write.contents c.args.out.now)
-          (g.W.Write.contents c.pass_on.new.out) (head ++ told.0)) c.in_ok-text.ensures
+          (g.W.Write.contents c.pass_on.new.out) (head ++ explained.0)) c.in_ok-text.ensures
           (goes_last (g.W.Write.contents c.args.out.now) (g.W.Write.contents c.write_lists.new.out)
           (g.W.Write.contents c.pass_on.new.out) (string_bytes c.in_ok-text.text)
-          (string_bytes c.write_lists.new.text) told.0 told.2 c.in_ok-pass_on.ensures.whole),
+          (string_bytes c.write_lists.new.text) explained.0 explained.2
+          c.in_ok-pass_on.ensures.whole),
     )
 
 -- ---- what a write that failed left
@@ -47,17 +51,18 @@ returns-in_err-write_lists-clause-begun g c =
     let taps = joined c.args.lists.now in
     let p = err_from_is_err_and c.from_residual-in_err-write_lists.result
     c.from_residual-in_err-write_lists.ensures.1 in
-    let told = c.in_err-write_lists.ensures.begun []
-    (come_first fares c.of-teller.result (c.of-teller.ensures.told fares)) in
-    let no_fall = canonical_falls c.of-teller.result.token taps
-    (c.of-teller.ensures.token ∙ c.least_token.ensures) c.requires.named c.requires.sorted in
+    let explained = c.in_err-write_lists.ensures.begun []
+    (come_first fares c.of-explainer.result (c.of-explainer.ensures.explained fares)) in
+    let no_fall = canonical_falls c.of-explainer.result.token taps
+    (c.of-explainer.ensures.token ∙ c.least_token.ensures) c.requires.named c.requires.sorted in
     rw p.1 (λ write. (
-      head_text ++ told.0,
-      ledger_along fares (posted fares taps) told.0
-          (posted_falls fares c.of-teller.result.token taps
-          no_fall) told.1,
+      head_text ++ explained.0,
+      ledger_along fares (posted fares taps) explained.0
+          (posted_falls fares c.of-explainer.result.token taps
+          no_fall) explained.1,
       subst (λ (head : List ℕ). Begins (g.W.Write.contents c.args.out.now)
-          (g.W.Write.contents c.write_lists.new.out) (head ++ told.0)) c.in_ok-text.ensures told.2,
+          (g.W.Write.contents c.write_lists.new.out) (head ++ explained.0)) c.in_ok-text.ensures
+          explained.2,
     ))
 
 pub returns-in_err-pass_on-clause-begun : goal.returns-in_err-pass_on-clause-begun
@@ -66,18 +71,19 @@ returns-in_err-pass_on-clause-begun g c =
     let taps = joined c.args.lists.now in
     let p = err_from_is_err_and c.from_residual-in_err-pass_on.result
     c.from_residual-in_err-pass_on.ensures.1 in
-    let told = c.in_ok-write_lists.ensures.told []
-    (come_first fares c.of-teller.result (c.of-teller.ensures.told fares)) in
-    let no_fall = canonical_falls c.of-teller.result.token taps
-    (c.of-teller.ensures.token ∙ c.least_token.ensures) c.requires.named c.requires.sorted in
+    let explained = c.in_ok-write_lists.ensures.explained []
+    (come_first fares c.of-explainer.result (c.of-explainer.ensures.explained fares)) in
+    let no_fall = canonical_falls c.of-explainer.result.token taps
+    (c.of-explainer.ensures.token ∙ c.least_token.ensures) c.requires.named c.requires.sorted in
     rw p.1 (λ write. (
-      head_text ++ told.0,
-      ledger_along fares (posted fares taps) told.0
-          (posted_falls fares c.of-teller.result.token taps
-          no_fall) told.1.are,
+      head_text ++ explained.0,
+      ledger_along fares (posted fares taps) explained.0
+          (posted_falls fares c.of-explainer.result.token taps
+          no_fall) explained.1.are,
       subst (λ (head : List ℕ). Begins (g.W.Write.contents c.args.out.now)
-          (g.W.Write.contents c.pass_on.new.out) (head ++ told.0)) c.in_ok-text.ensures
+          (g.W.Write.contents c.pass_on.new.out) (head ++ explained.0)) c.in_ok-text.ensures
           (goes_then (g.W.Write.contents c.args.out.now) (g.W.Write.contents c.write_lists.new.out)
           (g.W.Write.contents c.pass_on.new.out) (string_bytes c.in_ok-text.text)
-          (string_bytes c.write_lists.new.text) told.0 told.2 c.in_err-pass_on.ensures.begun),
+          (string_bytes c.write_lists.new.text) explained.0 explained.2
+          c.in_err-pass_on.ensures.begun),
     ))

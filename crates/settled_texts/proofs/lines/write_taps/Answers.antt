@@ -1,4 +1,4 @@
--- Each round tells a stride more.
+-- Each round explains a stride more.
 use Rattle.std.proofs.Common.{◌≡◌, ◌<◌, ◌++◌, ◌==◌, false, true, List, [], length}
 use Rattle.std.proofs.Common.{string_bytes, refl, sym, ap, subst, ◌∙◌, append_assoc, append-nil}
 use Rattle.std.proofs.Common.{arith, length-append}
@@ -12,9 +12,9 @@ use Rattle.tap_views.specs.Layout.{moment_limit}
 use Rattle.tap_views.specs.declared.encoder.TapFields.{TapFields}
 use Rattle.tap_views.proofs.Lists.{all_done}
 use Rattle.settlement.specs.Posted.{posted_after}
-use Rattle.settled_texts.specs.Telling.{AreTold, last_token}
-use Rattle.settled_texts.proofs.Tellings.{fall_within, halves_of, last_append, none_told}
-use Rattle.settled_texts.proofs.Tellings.{told_append, told_begun}
+use Rattle.settled_texts.specs.ExplainedTaps.{AreExplained, last_token}
+use Rattle.settled_texts.proofs.TapsExplained.{fall_within, halves_of, last_append, none_reported}
+use Rattle.settled_texts.proofs.TapsExplained.{reported_append, explained_begun}
 use Rattle.settled_texts.proofs.lines.write_taps.Goals as goal
 
 abbrev Early : TapFields → Type 0
@@ -25,9 +25,9 @@ loop-rest-init g c = record {
   done = [];
   whole = refl;
   early = c.requires.early;
-  told = λ earlier come. (
+  explained = λ earlier come. (
     [],
-    none_told c.args.table.now earlier c.args.teller.now come,
+    none_reported c.args.table.now earlier c.args.explainer.now come,
     goes_nothing (g.W.Write.contents c.args.out.now) (string_bytes c.args.text.now),
   );
   token = refl;
@@ -44,29 +44,30 @@ loop-rest-smaller g c =
     let less : length c.split_at.result.1.now < length left = omega (arith, some, least, back) in
     less
 
-pub tell_taps-requires-clause-early : goal.tell_taps-requires-clause-early
-tell_taps-requires-clause-early g c =
+pub explain_taps-requires-clause-early : goal.explain_taps-requires-clause-early
+explain_taps-requires-clause-early g c =
     All-same Early _ _ c.split_at.ensures.front
     (All-take Early c.min.result c.loop-rest.rest.now c.loop-rest.invariant.early)
 
-pub tell_taps-requires-clause-no_fall : goal.tell_taps-requires-clause-no_fall
-tell_taps-requires-clause-no_fall g c =
+pub explain_taps-requires-clause-no_fall : goal.explain_taps-requires-clause-no_fall
+explain_taps-requires-clause-no_fall g c =
     let inv = c.loop-rest.invariant in
     let halves = halves_of c.min.result c.loop-rest.rest.now c.split_at.result.0.now
     c.split_at.result.1.now c.split_at.ensures.front c.split_at.ensures.back in
-    fall_within c.args.teller.now.token c.loop-rest.teller.token inv.done c.split_at.result.0.now
+    fall_within c.args.explainer.now.token c.loop-rest.explainer.token inv.done
+    c.split_at.result.0.now
     c.split_at.result.1.now c.args.taps.now (ap (λ ts. inv.done ++ ts) halves ∙ inv.whole)
     c.requires.no_fall inv.token
 
-pub tell_taps-requires-clause-come : goal.tell_taps-requires-clause-come
-tell_taps-requires-clause-come g c =
+pub explain_taps-requires-clause-come : goal.explain_taps-requires-clause-come
+explain_taps-requires-clause-come g c =
     let earlier = c.requires.come.0 in (
       earlier ++ posted_after c.args.table.now earlier c.loop-rest.invariant.done,
-      (c.loop-rest.invariant.told earlier c.requires.come.1).1.come,
+      (c.loop-rest.invariant.explained earlier c.requires.come.1).1.come,
     )
 
-pub tell_taps-requires-clause-room : goal.tell_taps-requires-clause-room
-tell_taps-requires-clause-room g c =
+pub explain_taps-requires-clause-room : goal.explain_taps-requires-clause-room
+explain_taps-requires-clause-room g c =
     let inv = c.loop-rest.invariant in
     let halves = halves_of c.min.result c.loop-rest.rest.now c.split_at.result.0.now
     c.split_at.result.1.now c.split_at.ensures.front c.split_at.ensures.back in
@@ -91,11 +92,13 @@ loop-rest-preserved g c =
       whole = append_assoc inv.done stride behind ∙ ap (λ ts. inv.done ++ ts) halves ∙ inv.whole;
       early = All-same Early _ _ c.split_at.ensures.back
           (All-drop Early c.min.result c.loop-rest.rest.now inv.early);
-      told = λ earlier come.
-          let so_far = inv.told earlier come in
-          let more = next.told (earlier ++ posted_after fares earlier inv.done) so_far.1.come in (
+      explained = λ earlier come.
+          let so_far = inv.explained earlier come in
+          let more = next.explained (earlier ++ posted_after fares earlier inv.done)
+          so_far.1.come in (
             so_far.0 ++ more.0,
-            told_append fares earlier inv.done stride c.loop-rest.teller c.tell_taps.new.teller
+            reported_append fares earlier inv.done stride c.loop-rest.explainer
+                c.explain_taps.new.explainer
                 so_far.0
                 more.0 so_far.1 more.1,
             goes_grown _ (g.W.Write.contents c.pass_piece.new.out) _
@@ -105,18 +108,18 @@ loop-rest-preserved g c =
                 c.in_ok-pass_piece.ensures.gone) more.2,
           );
       token = next.token ∙ ap (λ (t : Token). last_token t stride) inv.token
-          ∙ sym (last_append c.args.teller.now.token inv.done stride);
+          ∙ sym (last_append c.args.explainer.now.token inv.done stride);
       few = omega (arith, next.few, inv.few, parts);
     }
 
-pub returns-clause-told : goal.returns-clause-told
-returns-clause-told g c = λ earlier come.
+pub returns-clause-explained : goal.returns-clause-explained
+returns-clause-explained g c = λ earlier come.
     let inv = c.loop-rest.invariant in
-    let so_far = inv.told earlier come in
+    let so_far = inv.explained earlier come in
     let same = all_done inv.done c.loop-rest.rest.now _ inv.whole
     (sym c.is_empty.ensures ∙ c.loop-rest-test.false) in (
       so_far.0,
-      subst (λ (ts : List TapFields). AreTold c.args.table.now earlier ts c.loop-rest.teller
+      subst (λ (ts : List TapFields). AreExplained c.args.table.now earlier ts c.loop-rest.explainer
           so_far.0) same
           so_far.1,
       so_far.2,
@@ -125,7 +128,7 @@ returns-clause-told g c = λ earlier come.
 pub returns-clause-token : goal.returns-clause-token
 returns-clause-token g c =
     let inv = c.loop-rest.invariant in
-    inv.token ∙ ap (last_token c.args.teller.now.token)
+    inv.token ∙ ap (last_token c.args.explainer.now.token)
     (all_done inv.done c.loop-rest.rest.now _ inv.whole
     (sym c.is_empty.ensures ∙ c.loop-rest-test.false))
 
@@ -142,9 +145,9 @@ returns-in_err-pass_piece-clause-begun g c =
     let inv = c.loop-rest.invariant in
     let p = err_from_is_err_and c.from_residual.result c.from_residual.ensures.1 in
     rw p.1 (λ earlier come.
-    let so_far = inv.told earlier come in
-    told_begun c.args.table.now earlier inv.done c.loop-rest.rest.now c.args.taps.now
-    c.loop-rest.teller so_far.0 (g.W.Write.contents c.args.out.now)
+    let so_far = inv.explained earlier come in
+    explained_begun c.args.table.now earlier inv.done c.loop-rest.rest.now c.args.taps.now
+    c.loop-rest.explainer so_far.0 (g.W.Write.contents c.args.out.now)
     (g.W.Write.contents c.loop-rest.out) (g.W.Write.contents c.pass_piece.new.out)
     (string_bytes c.args.text.now) (string_bytes c.loop-rest.text) inv.whole so_far.1 so_far.2
     c.in_err-pass_piece.ensures.begun)
@@ -152,10 +155,10 @@ returns-in_err-pass_piece-clause-begun g c =
 pub returns-in_default-clause-begun : goal.returns-in_default-clause-begun
 returns-in_default-clause-begun g c = λ earlier come.
     let inv = c.loop-rest.invariant in
-    let so_far = inv.told earlier come in
+    let so_far = inv.explained earlier come in
     let out = g.W.Write.contents c.pass_piece.new.out in
-    told_begun c.args.table.now earlier inv.done c.loop-rest.rest.now c.args.taps.now
-    c.loop-rest.teller so_far.0 (g.W.Write.contents c.args.out.now) out out
+    explained_begun c.args.table.now earlier inv.done c.loop-rest.rest.now c.args.taps.now
+    c.loop-rest.explainer so_far.0 (g.W.Write.contents c.args.out.now) out out
     (string_bytes c.args.text.now) (string_bytes c.pass_piece.new.text) inv.whole so_far.1
     (goes_passed _ (g.W.Write.contents c.loop-rest.out) _ _ (string_bytes c.loop-rest.text) _
     so_far.0 so_far.2 c.in_ok-pass_piece.ensures.gone)

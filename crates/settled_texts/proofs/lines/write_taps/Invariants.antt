@@ -4,21 +4,21 @@ use Rattle.tap_views.specs.declared.encoder.TapFields.{TapFields}
 use Rattle.shard_book.specs.declared.entry.Entry.{Entry}
 use Rattle.fare_texts.specs.Lines.{HasCome}
 use Rattle.fare_texts.specs.WrittenOut.{GoesOut}
-use Rattle.settled_texts.specs.Telling.{AreTold, last_token}
+use Rattle.settled_texts.specs.ExplainedTaps.{AreExplained, last_token}
 use Rattle.settled_texts.proofs.lines.write_taps.Given as goal
 
--- the taps before the rest were told, after whatever entries the teller had come past
+-- the taps before the rest were explained, after whatever entries the explainer had come past
 abbrev pub invariant-loop-rest : goal.invariant-loop-rest
 invariant-loop-rest g l = record {
   done : List TapFields;
   whole : done ++ l.rest ≡ l.fn.taps;
   early : AreEarly (λ tap. tap.moment) l.rest;
-  told : (earlier : List Entry) → HasCome l.table l.fn.teller earlier
-      → (lines : List ℕ) × AreTold l.table earlier done l.teller lines
+  explained : (earlier : List Entry) → HasCome l.table l.fn.explainer earlier
+      → (lines : List ℕ) × AreExplained l.table earlier done l.explainer lines
       × GoesOut (g.W.Write.contents l.fn.out) (string_bytes l.fn.text)
       (g.W.Write.contents l.out) (string_bytes l.text) lines;
-  token : l.teller.token ≡ last_token l.fn.teller.token done;
-  few : l.teller.number ≤ l.fn.teller.number + length done;
+  token : l.explainer.token ≡ last_token l.fn.explainer.token done;
+  few : l.explainer.number ≤ l.fn.explainer.number + length done;
 }
 
 abbrev pub decreases-loop-rest : goal.decreases-loop-rest

@@ -10,16 +10,16 @@ use Rattle.fare_texts.proofs.TextsExist.{along_exist}
 use Rattle.settlement.specs.Posted.{posted_after}
 use Rattle.settled_texts.proofs.rounds.write_list.Goals as goal
 
-pub returns-clause-told : goal.returns-clause-told
-returns-clause-told g c = λ earlier come.
+pub returns-clause-explained : goal.returns-clause-explained
+returns-clause-explained g c = λ earlier come.
     let seat = c.in-Some.seat.now in
-    let token = c.args.teller.now.token in
+    let token = c.args.explainer.now.token in
     let sat = rw c.in-Some.is at c.requires.sat in
     let whole = sat c.if-not-seat.false in
     let up = whole.first token c.requires.no_fall in
     let apart : token_eq token seat.first ≡ false = sym c.eq.ensures ∙ c.if-eq.false in (
       string_bytes seat.text,
-      whole.told earlier (none_below earlier token seat.first come.up up apart)
+      whole.explained earlier (none_below earlier token seat.first come.up up apart)
           (up_weaker earlier token seat.first come.up up),
       goes_through (g.W.Write.contents c.args.out.now) (g.W.Write.contents c.pass_on.new.out)
           (g.W.Write.contents c.write_out.new.out) (string_bytes c.args.text.now)
@@ -47,15 +47,15 @@ returns-in_err-write_out-clause-begun g c =
     c.from_residual-in_err-write_out.ensures.1 in
     rw p.1 (λ earlier come.
     let seat = c.in-Some.seat.now in
-    let token = c.args.teller.now.token in
+    let token = c.args.explainer.now.token in
     let sat = rw c.in-Some.is at c.requires.sat in
     let whole = sat c.if-not-seat.false in
     let up = whole.first token c.requires.no_fall in
     let apart : token_eq token seat.first ≡ false = sym c.eq.ensures ∙ c.if-eq.false in
-    let told = whole.told earlier (none_below earlier token seat.first come.up up apart)
+    let explained = whole.explained earlier (none_below earlier token seat.first come.up up apart)
     (up_weaker earlier token seat.first come.up up) in (
       string_bytes seat.text,
-      told.are,
+      explained.are,
       begins_behind _ _ _ (string_bytes c.args.text.now) (string_bytes seat.text)
           c.in_ok-pass_on.ensures.whole (subst (λ (bytes : List ℕ). Begins
           (g.W.Write.contents c.pass_on.new.out) (g.W.Write.contents c.write_out.new.out) bytes)

@@ -10,10 +10,10 @@ use Rattle.tap_views.specs.declared.token.Token.{Token}
 use Rattle.tap_views.specs.declared.encoder.TapFields.{TapFields}
 use Rattle.tap_views.proofs.Lists.{All-split}
 use Rattle.settlement.specs.Posted.{posted_after}
-use Rattle.settled_texts.specs.Telling.{AreTold, last_token}
+use Rattle.settled_texts.specs.ExplainedTaps.{AreExplained, last_token}
 use Rattle.settled_texts.proofs.Joined.{Early, joined, joined_append}
-use Rattle.settled_texts.proofs.Tellings.{fall_within, halves_of, last_append, none_told}
-use Rattle.settled_texts.proofs.Tellings.{told_append, told_begun_on}
+use Rattle.settled_texts.proofs.TapsExplained.{fall_within, halves_of, last_append, none_reported}
+use Rattle.settled_texts.proofs.TapsExplained.{reported_append, explained_begun_on}
 use Rattle.std.proofs.lemmas.Result.{err_from_is_err_and}
 use Rattle.settled_texts.proofs.rounds.write_lists.Goals as goal
 
@@ -34,9 +34,9 @@ loop-rest-init g c = record {
   done = [];
   whole = refl;
   early = c.requires.early;
-  told = λ earlier come. (
+  explained = λ earlier come. (
     [],
-    none_told c.args.table.now earlier c.args.teller.now come,
+    none_reported c.args.table.now earlier c.args.explainer.now come,
     goes_nothing (g.W.Write.contents c.args.out.now) (string_bytes c.args.text.now),
   );
   token = refl;
@@ -60,7 +60,8 @@ write_round-requires-clause-no_fall g c κs within =
     let behind = c.split_at.result.1.now in
     let halves = halves_of c.min.result c.loop-rest.rest.now round behind c.split_at.ensures.front
     c.split_at.ensures.back in
-    fall_within c.args.teller.now.token c.loop-rest.teller.token (joined inv.done) (joined round)
+    fall_within c.args.explainer.now.token c.loop-rest.explainer.token (joined inv.done)
+    (joined round)
     (joined behind) (joined c.args.lists.now)
     (joined_whole inv.done c.loop-rest.rest.now round behind c.args.lists.now inv.whole halves)
     c.requires.no_fall inv.token
@@ -69,7 +70,7 @@ pub write_round-requires-clause-come : goal.write_round-requires-clause-come
 write_round-requires-clause-come g c κs within =
     let earlier = c.requires.come.0 in (
       earlier ++ posted_after c.args.table.now earlier (joined c.loop-rest.invariant.done),
-      (c.loop-rest.invariant.told earlier c.requires.come.1).1.come,
+      (c.loop-rest.invariant.explained earlier c.requires.come.1).1.come,
     )
 
 pub write_round-requires-clause-room : goal.write_round-requires-clause-room
@@ -104,40 +105,42 @@ loop-rest-preserved g c =
       early = (All-split Early (joined round) (joined behind)
           (subst (λ (taps : List TapFields). All Early taps)
           (sym (joined_halves c.loop-rest.rest.now round behind halves)) inv.early)).1;
-      told = λ earlier come.
-          let so_far = inv.told earlier come in
-          let lines = next.told (earlier ++ posted_after fares earlier (joined inv.done))
+      explained = λ earlier come.
+          let so_far = inv.explained earlier come in
+          let lines = next.explained (earlier ++ posted_after fares earlier (joined inv.done))
           so_far.1.come in (
             so_far.0 ++ lines.0,
-            subst (λ (taps : List TapFields). AreTold fares earlier taps c.write_round.new.teller
-                (so_far.0 ++ lines.0)) (sym more) (told_append fares earlier (joined inv.done)
-                (joined round) c.loop-rest.teller c.write_round.new.teller so_far.0 lines.0 so_far.1
+            subst (λ (taps : List TapFields). AreExplained fares earlier taps
+                c.write_round.new.explainer
+                (so_far.0 ++ lines.0)) (sym more) (reported_append fares earlier (joined inv.done)
+                (joined round) c.loop-rest.explainer c.write_round.new.explainer so_far.0 lines.0
+                so_far.1
                 lines.1),
             goes_on _ _ _ _ _ _ so_far.0 lines.0 so_far.2 lines.2,
           );
       token = next.token ∙ ap (λ (t : Token). last_token t (joined round)) inv.token
-          ∙ sym (ap (last_token c.args.teller.now.token) more
-          ∙ last_append c.args.teller.now.token (joined inv.done) (joined round));
+          ∙ sym (ap (last_token c.args.explainer.now.token) more
+          ∙ last_append c.args.explainer.now.token (joined inv.done) (joined round));
       few = omega (arith, next.few, inv.few, long, parts);
     }
 
--- all is done where nothing is left
+-- all is done if nothing is left
 all_done : (done left lists : List (Vec TapFields Global)) → done ++ left ≡ lists
     → (length left == 0) ≡ true → done ≡ lists
 all_done done left lists all test =
     sym (append-nil done)
     ∙ ap (λ more. done ++ more) (sym (nil_from_length left (eqb-true (length left) 0 test))) ∙ all
 
-pub returns-clause-told : goal.returns-clause-told
-returns-clause-told g c = λ earlier come.
+pub returns-clause-explained : goal.returns-clause-explained
+returns-clause-explained g c = λ earlier come.
     let inv = c.loop-rest.invariant in
-    let so_far = inv.told earlier come in
+    let so_far = inv.explained earlier come in
     let same = all_done inv.done c.loop-rest.rest.now _ inv.whole
     (sym c.is_empty.ensures ∙ c.loop-rest-test.false) in (
       so_far.0,
-      subst (λ (lists : List (Vec TapFields Global)). AreTold c.args.table.now earlier
+      subst (λ (lists : List (Vec TapFields Global)). AreExplained c.args.table.now earlier
           (joined lists)
-          c.loop-rest.teller so_far.0) same so_far.1,
+          c.loop-rest.explainer so_far.0) same so_far.1,
       so_far.2,
     )
 
@@ -152,11 +155,12 @@ returns-in_err-write_round-clause-begun g c =
     c.split_at.ensures.back in
     let p = err_from_is_err_and c.from_residual.result c.from_residual.ensures.1 in
     rw p.1 (λ earlier come.
-    let so_far = inv.told earlier come in
+    let so_far = inv.explained earlier come in
     let next = c.in_err-write_round.ensures.begun
     (earlier ++ posted_after fares earlier (joined inv.done)) so_far.1.come in
-    told_begun_on fares earlier (joined inv.done) (joined round) (joined behind)
-    (joined c.args.lists.now) c.loop-rest.teller so_far.0 next.0 (g.W.Write.contents c.args.out.now)
+    explained_begun_on fares earlier (joined inv.done) (joined round) (joined behind)
+    (joined c.args.lists.now) c.loop-rest.explainer so_far.0 next.0
+    (g.W.Write.contents c.args.out.now)
     (g.W.Write.contents c.loop-rest.out) (g.W.Write.contents c.write_round.new.out)
     (string_bytes c.args.text.now) (string_bytes c.loop-rest.text)
     (joined_whole inv.done c.loop-rest.rest.now round behind c.args.lists.now inv.whole halves)

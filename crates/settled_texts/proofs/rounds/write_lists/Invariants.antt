@@ -3,22 +3,23 @@ use Rattle.tap_views.specs.declared.encoder.TapFields.{TapFields}
 use Rattle.shard_book.specs.declared.entry.Entry.{Entry}
 use Rattle.fare_texts.specs.Lines.{HasCome}
 use Rattle.fare_texts.specs.WrittenOut.{GoesOut}
-use Rattle.settled_texts.specs.Telling.{AreTold, last_token}
+use Rattle.settled_texts.specs.ExplainedTaps.{AreExplained, last_token}
 use Rattle.settled_texts.proofs.Joined.{Early, joined}
 use Rattle.settled_texts.proofs.rounds.write_lists.Given as goal
 
--- the taps of the lists before the rest were told, after whatever entries the teller had come past
+-- the taps of the lists before the rest were explained, after whatever entries the explainer had
+-- come past
 abbrev pub invariant-loop-rest : goal.invariant-loop-rest
 invariant-loop-rest g l = record {
   done : List (Vec TapFields Global);
   whole : done ++ l.rest ≡ l.fn.lists;
   early : All Early (joined l.rest);
-  told : (earlier : List Entry) → HasCome l.table l.fn.teller earlier
-      → (lines : List ℕ) × AreTold l.table earlier (joined done) l.teller lines
+  explained : (earlier : List Entry) → HasCome l.table l.fn.explainer earlier
+      → (lines : List ℕ) × AreExplained l.table earlier (joined done) l.explainer lines
       × GoesOut (g.W.Write.contents l.fn.out) (string_bytes l.fn.text)
       (g.W.Write.contents l.out) (string_bytes l.text) lines;
-  token : l.teller.token ≡ last_token l.fn.teller.token (joined done);
-  few : l.teller.number ≤ l.fn.teller.number + length (joined done);
+  token : l.explainer.token ≡ last_token l.fn.explainer.token (joined done);
+  few : l.explainer.number ≤ l.fn.explainer.number + length (joined done);
 }
 
 abbrev pub decreases-loop-rest : goal.decreases-loop-rest

@@ -10,23 +10,24 @@ use Rattle.tap_views.specs.declared.token.Token.{Token}
 use Rattle.tap_views.specs.declared.encoder.TapFields.{TapFields}
 use Rattle.settlement.specs.Posted.{posted_after}
 use Rattle.settled_texts.specs.inside.Seats.{HasSat}
-use Rattle.settled_texts.specs.Telling.{AreTold, NoTapFallsFrom, last_token}
+use Rattle.settled_texts.specs.ExplainedTaps.{AreExplained, NoTapFallsFrom, last_token}
 use Rattle.settled_texts.proofs.Joined.{Early, at_lent, joined, joined_at, joined_more, sound_at}
-use Rattle.settled_texts.proofs.Tellings.{fall_within, last_append, none_told, told_append}
-use Rattle.settled_texts.proofs.Tellings.{told_begun_on}
+use Rattle.settled_texts.proofs.TapsExplained.{fall_within, last_append, none_reported}
+use Rattle.settled_texts.proofs.TapsExplained.{reported_append}
+use Rattle.settled_texts.proofs.TapsExplained.{explained_begun_on}
 use Rattle.std.proofs.lemmas.Result.{err_from_is_err_and}
 use Rattle.settled_texts.proofs.rounds.write_round.Goals as goal
 
 pub sit-requires-clause-sound : goal.sit-requires-clause-sound
 sit-requires-clause-sound g c κs within = λ place other inside.
-    sound_at c.args.teller.now.token c.args.round.now place other inside c.requires.early
+    sound_at c.args.explainer.now.token c.args.round.now place other inside c.requires.early
     c.requires.no_fall
 
 pub loop-place-init : goal.loop-place-init
 loop-place-init g c = record {
-  told = λ earlier come. (
+  explained = λ earlier come. (
     [],
-    none_told c.args.table.now earlier c.args.teller.now come,
+    none_reported c.args.table.now earlier c.args.explainer.now come,
     goes_nothing (g.W.Write.contents c.args.out.now) (string_bytes c.args.text.now),
   );
   token = refl;
@@ -37,7 +38,8 @@ pub write_list-requires-clause-early : goal.write_list-requires-clause-early
 write_list-requires-clause-early g c =
     All-same Early _ _ (c.deref.ensures.value
     ∙ ap (λ (v : Vec TapFields Global). v.items) c.index-round-place.is)
-    (sound_at c.args.teller.now.token c.args.round.now c.loop-place.place _ c.loop-place-test.true
+    (sound_at c.args.explainer.now.token c.args.round.now c.loop-place.place _
+    c.loop-place-test.true
     c.requires.early c.requires.no_fall).early
 
 pub write_list-requires-clause-no_fall : goal.write_list-requires-clause-no_fall
@@ -45,10 +47,10 @@ write_list-requires-clause-no_fall g c =
     let round = c.args.round.now in
     let place = c.loop-place.place in
     let list = get_or round place c.index-round-place.result in
-    subst (λ (ts : List TapFields). NoTapFallsFrom c.loop-place.teller.token ts)
+    subst (λ (ts : List TapFields). NoTapFallsFrom c.loop-place.explainer.token ts)
     (sym (c.deref.ensures.value
     ∙ ap (λ (v : Vec TapFields Global). v.items) c.index-round-place.is))
-    (fall_within c.args.teller.now.token c.loop-place.teller.token (joined (take place round))
+    (fall_within c.args.explainer.now.token c.loop-place.explainer.token (joined (take place round))
     list.items (joined (drop (place + 1) round)) (joined round)
     (joined_at round place _ c.loop-place-test.true) c.requires.no_fall
     c.loop-place.invariant.token)
@@ -58,7 +60,7 @@ write_list-requires-clause-come g c =
     let earlier = c.requires.come.0 in
     let done = joined (take c.loop-place.place c.args.round.now) in (
       earlier ++ posted_after c.args.table.now earlier done,
-      (c.loop-place.invariant.told earlier c.requires.come.1).1.come,
+      (c.loop-place.invariant.explained earlier c.requires.come.1).1.come,
     )
 
 pub write_list-requires-clause-room : goal.write_list-requires-clause-room
@@ -107,30 +109,31 @@ loop-place-preserved g c =
     let long = ap length more in
     let parts = length-append before list in
     record {
-      told = λ earlier come.
-          let so_far = inv.told earlier come in
-          let lines = next.told (earlier ++ posted_after fares earlier before) so_far.1.come in (
+      explained = λ earlier come.
+          let so_far = inv.explained earlier come in
+          let lines = next.explained (earlier ++ posted_after fares earlier before) so_far.1.come in (
             so_far.0 ++ lines.0,
-            subst (λ (ts : List TapFields). AreTold fares earlier ts c.write_list.new.teller
-                (so_far.0 ++ lines.0)) (sym more) (told_append fares earlier before list
-                c.loop-place.teller c.write_list.new.teller so_far.0 lines.0 so_far.1 lines.1),
+            subst (λ (ts : List TapFields). AreExplained fares earlier ts c.write_list.new.explainer
+                (so_far.0 ++ lines.0)) (sym more) (reported_append fares earlier before list
+                c.loop-place.explainer c.write_list.new.explainer so_far.0 lines.0 so_far.1
+                lines.1),
             goes_on _ _ _ _ _ _ so_far.0 lines.0 so_far.2 lines.2,
           );
       token = next.token ∙ ap (λ (t : Token). last_token t list) inv.token
-          ∙ sym (ap (last_token c.args.teller.now.token) more
-          ∙ last_append c.args.teller.now.token before list);
+          ∙ sym (ap (last_token c.args.explainer.now.token) more
+          ∙ last_append c.args.explainer.now.token before list);
       few = omega (arith, next.few, inv.few, long, parts);
     }
 
-pub returns-clause-told : goal.returns-clause-told
-returns-clause-told g c = λ earlier come.
+pub returns-clause-explained : goal.returns-clause-explained
+returns-clause-explained g c = λ earlier come.
     let round = c.args.round.now in
-    let so_far = c.loop-place.invariant.told earlier come in
+    let so_far = c.loop-place.invariant.explained earlier come in
     let all = take_all c.loop-place.place round (omega (arith, c.loop-place-test.false)) in (
       so_far.0,
-      subst (λ (lists : List (Vec TapFields Global)). AreTold c.args.table.now earlier
+      subst (λ (lists : List (Vec TapFields Global)). AreExplained c.args.table.now earlier
           (joined lists)
-          c.loop-place.teller so_far.0) all so_far.1,
+          c.loop-place.explainer so_far.0) all so_far.1,
       so_far.2,
     )
 
@@ -150,10 +153,11 @@ returns-in_err-write_list-clause-begun g c =
     ∙ joined_at round place c.index-round-place.result c.loop-place-test.true in
     let p = err_from_is_err_and c.from_residual.result c.from_residual.ensures.1 in
     rw p.1 (λ earlier come.
-    let so_far = c.loop-place.invariant.told earlier come in
+    let so_far = c.loop-place.invariant.explained earlier come in
     let next = c.in_err-write_list.ensures.begun (earlier ++ posted_after fares earlier before)
     so_far.1.come in
-    told_begun_on fares earlier before list behind (joined round) c.loop-place.teller so_far.0
+    explained_begun_on fares earlier before list behind (joined round) c.loop-place.explainer
+    so_far.0
     next.0 (g.W.Write.contents c.args.out.now) (g.W.Write.contents c.loop-place.out)
     (g.W.Write.contents c.write_list.new.out) (string_bytes c.args.text.now)
     (string_bytes c.loop-place.text) whole so_far.1 next.1 so_far.2 next.2)

@@ -1,4 +1,4 @@
--- Each round tells a stride more.
+-- Each round explains a stride more.
 use Rattle.std.proofs.Common.{◌≡◌, ℕ, ◌<◌, ◌++◌, ◌==◌, false, true, List, [], drop, length}
 use Rattle.std.proofs.Common.{string_bytes, refl, sym, ap, subst, ◌∙◌, append_assoc, append-nil}
 use Rattle.std.proofs.Common.{arith, length-append}
@@ -10,9 +10,10 @@ use Rattle.std.proofs.lemmas.List.{nil_from_length}
 use Rattle.tap_views.specs.declared.encoder.TapFields.{TapFields}
 use Rattle.tap_views.specs.declared.token.Token.{Token}
 use Rattle.settlement.specs.Posted.{posted_after}
-use Rattle.settled_texts.specs.Telling.{AreTold, last_token}
-use Rattle.settled_texts.proofs.Tellings.{fall_within, halves_of, last_append, none_told, told_all}
-use Rattle.settled_texts.proofs.Tellings.{told_append, told_then}
+use Rattle.settled_texts.specs.ExplainedTaps.{AreExplained, last_token}
+use Rattle.settled_texts.proofs.TapsExplained.{fall_within, halves_of, last_append, none_reported}
+use Rattle.settled_texts.proofs.TapsExplained.{reported_all}
+use Rattle.settled_texts.proofs.TapsExplained.{reported_append, reported_then}
 use Rattle.std.proofs.lemmas.Result.{err_from_is_err_and}
 use Rattle.fare_texts.specs.WrittenOut.{Begins}
 use Rattle.fare_texts.proofs.Beginnings.{begins_front, begins_more, begins_whole}
@@ -31,7 +32,7 @@ loop-rest-init g c = record {
   whole = refl;
   early = c.requires.early;
   lines = [];
-  told = none_told c.args.table.now [] c.args.teller.now c.requires.come;
+  explained = none_reported c.args.table.now [] c.args.explainer.now c.requires.come;
   left = refl;
   appended = Appends-nil (g.W.Write.contents c.args.out.now);
   token = refl;
@@ -49,31 +50,31 @@ loop-rest-smaller g c =
     let less : length c.split_at.result.1.now < length left = omega (arith, some, least, back) in
     less
 
-pub tell-requires-clause-early : goal.tell-requires-clause-early
-tell-requires-clause-early g c =
+pub explain-requires-clause-early : goal.explain-requires-clause-early
+explain-requires-clause-early g c =
     let halves = halves_of c.min.result c.loop-rest.rest.now c.split_at.result.0.now
     c.split_at.result.1.now c.split_at.ensures.front c.split_at.ensures.back in
     (early_parts c.split_at.result.0.now c.split_at.result.1.now c.loop-rest.rest.now halves
     c.loop-rest.invariant.early).0
 
-pub tell-requires-clause-no_fall : goal.tell-requires-clause-no_fall
-tell-requires-clause-no_fall g c =
+pub explain-requires-clause-no_fall : goal.explain-requires-clause-no_fall
+explain-requires-clause-no_fall g c =
     let inv = c.loop-rest.invariant in
     let halves = halves_of c.min.result c.loop-rest.rest.now c.split_at.result.0.now
     c.split_at.result.1.now c.split_at.ensures.front c.split_at.ensures.back in
-    fall_within c.args.teller.now.token c.loop-rest.teller.token (taps_of_trace inv.done)
+    fall_within c.args.explainer.now.token c.loop-rest.explainer.token (taps_of_trace inv.done)
     (taps_of_trace c.split_at.result.0.now) (taps_of_trace c.split_at.result.1.now)
     (taps_of_trace c.args.trace.now)
     (taps_whole inv.done c.split_at.result.0.now c.split_at.result.1.now c.loop-rest.rest.now
     c.args.trace.now halves inv.whole) c.requires.no_fall inv.token
 
-pub tell-requires-clause-come : goal.tell-requires-clause-come
-tell-requires-clause-come g c =
+pub explain-requires-clause-come : goal.explain-requires-clause-come
+explain-requires-clause-come g c =
     let inv = c.loop-rest.invariant in
-    (posted_after c.args.table.now [] (taps_of_trace inv.done), inv.told.come)
+    (posted_after c.args.table.now [] (taps_of_trace inv.done), inv.explained.come)
 
-pub tell-requires-clause-room : goal.tell-requires-clause-room
-tell-requires-clause-room g c =
+pub explain-requires-clause-room : goal.explain-requires-clause-room
+explain-requires-clause-room g c =
     let inv = c.loop-rest.invariant in
     let halves = halves_of c.min.result c.loop-rest.rest.now c.split_at.result.0.now
     c.split_at.result.1.now c.split_at.ensures.front c.split_at.ensures.back in
@@ -85,8 +86,8 @@ tell-requires-clause-room g c =
     let room = c.requires.room in
     omega (arith, all, parts, both, strides, inv.few, room, long)
 
-pub tell-requires-clause-empty : goal.tell-requires-clause-empty
-tell-requires-clause-empty g c = c.loop-rest.invariant.empty
+pub explain-requires-clause-empty : goal.explain-requires-clause-empty
+explain-requires-clause-empty g c = c.loop-rest.invariant.empty
 
 pub loop-rest-preserved : goal.loop-rest-preserved
 loop-rest-preserved g c =
@@ -98,21 +99,24 @@ loop-rest-preserved g c =
     let classes = class_by c.args.names.now in
     let halves = halves_of c.min.result c.loop-rest.rest.now stride behind c.split_at.ensures.front
     c.split_at.ensures.back in
-    let next = c.in_ok-tell.ensures in
-    let made = c.tell.new.self.lines.items in
+    let next = c.in_ok-explain.ensures in
+    let made = c.explain.new.self.lines.items in
     let parts = length-append inv.done stride in
     let long = taps_length stride in
-    let told = next.told (posted_after fares [] (taps_of_trace inv.done)) inv.told.come in
+    let explained = next.explained (posted_after fares [] (taps_of_trace inv.done))
+    inv.explained.come in
     record {
       done = inv.done ++ stride;
       whole = append_assoc inv.done stride behind ∙ ap (λ ts. inv.done ++ ts) halves ∙ inv.whole;
       early = (early_parts stride behind c.loop-rest.rest.now halves inv.early).1;
       lines = inv.lines ++ made;
-      told = subst
-          (λ (ts : List TapFields). AreTold fares [] ts c.tell.new.teller (inv.lines ++ made))
+      explained = subst
+          (λ (ts : List TapFields). AreExplained fares [] ts c.explain.new.explainer
+          (inv.lines ++ made))
           (sym (taps_append inv.done stride))
-          (told_append fares [] (taps_of_trace inv.done) (taps_of_trace stride) c.loop-rest.teller
-          c.tell.new.teller inv.lines made inv.told told);
+          (reported_append fares [] (taps_of_trace inv.done) (taps_of_trace stride)
+          c.loop-rest.explainer
+          c.explain.new.explainer inv.lines made inv.explained explained);
       left = left_on inv.lines made trace c.loop-rest.left.now c.in_ok-left.left.now inv.left
           c.in_ok-left.ensures.left;
       appended = subst (λ (bs : List ℕ). Appends (g.W.Write.contents c.args.out.now)
@@ -120,42 +124,42 @@ loop-rest-preserved g c =
           (sym (columns_on classes inv.lines made trace c.loop-rest.left.now inv.left))
           (Appends-trans _ _ _ _ _ inv.appended c.in_ok-left.ensures.written);
       token = next.token ∙ ap (λ (t : Token). last_token t (taps_of_trace stride)) inv.token
-          ∙ sym (ap (last_token c.args.teller.now.token) (taps_append inv.done stride)
-          ∙ last_append c.args.teller.now.token (taps_of_trace inv.done) (taps_of_trace stride));
+          ∙ sym (ap (last_token c.args.explainer.now.token) (taps_append inv.done stride)
+          ∙ last_append c.args.explainer.now.token (taps_of_trace inv.done) (taps_of_trace stride));
       few = omega (arith, next.few, inv.few, parts, long);
       empty = ap string_bytes c.write.ensures.text ∙ next.empty;
     }
 
--- all is done where nothing is left
+-- all is done if nothing is left
 all_done : (done left trace : List TracedTap) → done ++ left ≡ trace → (length left == 0) ≡ true
     → done ≡ trace
 all_done done left trace all test =
     sym (append-nil done)
     ∙ ap (λ more. done ++ more) (sym (nil_from_length left (eqb-true (length left) 0 test))) ∙ all
 
-pub returns-clause-told : goal.returns-clause-told
-returns-clause-told g c =
+pub returns-clause-explained : goal.returns-clause-explained
+returns-clause-explained g c =
     let inv = c.loop-rest.invariant in
     let same = all_done inv.done c.loop-rest.rest.now c.args.trace.now inv.whole
     (sym c.is_empty.ensures ∙ c.loop-rest-test.false) in (
       inv.lines,
-      subst (λ (ts : List TracedTap). AreTold c.args.table.now [] (taps_of_trace ts)
-          c.loop-rest.teller inv.lines)
-          same inv.told,
+      subst (λ (ts : List TracedTap). AreExplained c.args.table.now [] (taps_of_trace ts)
+          c.loop-rest.explainer inv.lines)
+          same inv.explained,
       inv.appended,
     )
 
 -- ---- what a write that failed left
-pub returns-in_err-tell-clause-begun : goal.returns-in_err-tell-clause-begun
-returns-in_err-tell-clause-begun g c =
+pub returns-in_err-explain-clause-begun : goal.returns-in_err-explain-clause-begun
+returns-in_err-explain-clause-begun g c =
     let fares = c.args.table.now in
     let inv = c.loop-rest.invariant in
     let trace = c.args.trace.now in
     let classes = class_by c.args.names.now in
     let whole : taps_of_trace inv.done ++ taps_of_trace c.loop-rest.rest.now ≡ taps_of_trace trace =
     sym (taps_append inv.done c.loop-rest.rest.now) ∙ ap (λ ts. taps_of_trace ts) inv.whole in
-    let all = told_all fares [] (taps_of_trace inv.done) (taps_of_trace c.loop-rest.rest.now)
-    (taps_of_trace trace) c.loop-rest.teller inv.lines whole inv.told in
+    let all = reported_all fares [] (taps_of_trace inv.done) (taps_of_trace c.loop-rest.rest.now)
+    (taps_of_trace trace) c.loop-rest.explainer inv.lines whole inv.explained in
     let p = err_from_is_err_and c.from_residual.result c.from_residual.ensures.1 in
     rw p.1 (
       inv.lines ++ all.0,
@@ -177,13 +181,14 @@ returns-in_err-left-clause-begun g c =
     let classes = class_by c.args.names.now in
     let halves = halves_of c.min.result c.loop-rest.rest.now stride behind c.split_at.ensures.front
     c.split_at.ensures.back in
-    let made = c.tell.new.self.lines.items in
-    let told = c.in_ok-tell.ensures.told (posted_after fares [] (taps_of_trace inv.done))
-    inv.told.come in
-    let all = told_then fares [] (taps_of_trace inv.done) (taps_of_trace stride)
-    (taps_of_trace behind) (taps_of_trace trace) c.loop-rest.teller inv.lines made
-    (taps_whole inv.done stride behind c.loop-rest.rest.now trace halves inv.whole) inv.told
-    told.are in
+    let made = c.explain.new.self.lines.items in
+    let explained = c.in_ok-explain.ensures.explained
+    (posted_after fares [] (taps_of_trace inv.done))
+    inv.explained.come in
+    let all = reported_then fares [] (taps_of_trace inv.done) (taps_of_trace stride)
+    (taps_of_trace behind) (taps_of_trace trace) c.loop-rest.explainer inv.lines made
+    (taps_whole inv.done stride behind c.loop-rest.rest.now trace halves inv.whole) inv.explained
+    explained.are in
     let p = err_from_is_err_and c.from_residual-in_err-left.result
     c.from_residual-in_err-left.ensures.1 in
     rw p.1 (

@@ -20,35 +20,36 @@ use Rattle.settled_texts.proofs.traced_ledger.write_trace.Goals as goal
 
 pub write_lines-requires-clause-no_fall : goal.write_lines-requires-clause-no_fall
 write_lines-requires-clause-no_fall g c =
-    canonical_falls c.of-teller.result.token (taps_of_trace c.args.trace.now)
-    (c.of-teller.ensures.token ∙ c.least_token.ensures) c.requires.named c.requires.sorted
+    canonical_falls c.of-explainer.result.token (taps_of_trace c.args.trace.now)
+    (c.of-explainer.ensures.token ∙ c.least_token.ensures) c.requires.named c.requires.sorted
 
 pub write_lines-requires-clause-come : goal.write_lines-requires-clause-come
 write_lines-requires-clause-come g c =
-    come_first c.args.table.now c.of-teller.result (c.of-teller.ensures.told c.args.table.now)
+    come_first c.args.table.now c.of-explainer.result
+    (c.of-explainer.ensures.explained c.args.table.now)
 
 pub returns-clause-ok : goal.returns-clause-ok
 returns-clause-ok g c =
     let fares = c.args.table.now in
     let taps = taps_of_trace c.args.trace.now in
     let columns = columns_by (class_by c.args.names.now) c.args.trace.now in
-    let told = c.in_ok-write_lines.ensures.told in
-    let no_fall = canonical_falls c.of-teller.result.token taps
-    (c.of-teller.ensures.token ∙ c.least_token.ensures) c.requires.named c.requires.sorted in (
-      head_text ++ told.0,
-      ledger_along fares (posted fares taps) told.0
-          (posted_falls fares c.of-teller.result.token taps
-          no_fall) told.1.are,
+    let explained = c.in_ok-write_lines.ensures.explained in
+    let no_fall = canonical_falls c.of-explainer.result.token taps
+    (c.of-explainer.ensures.token ∙ c.least_token.ensures) c.requires.named c.requires.sorted in (
+      head_text ++ explained.0,
+      ledger_along fares (posted fares taps) explained.0
+          (posted_falls fares c.of-explainer.result.token taps
+          no_fall) explained.1.are,
       subst (λ (bs : List ℕ). Appends (g.W.Write.contents c.args.out.now)
           (g.W.Write.contents c.write_lines.new.out) bs)
-          (ap (λ (h : List ℕ). (h ++ c.as_bytes-2.result.now) ++ with_columns told.0 columns)
+          (ap (λ (h : List ℕ). (h ++ c.as_bytes-2.result.now) ++ with_columns explained.0 columns)
           c.as_bytes.ensures.value
           ∙ ap (λ (h : List ℕ).
           (codes "token,line,moment,validator,mode,answer,cents,window_start,window_end,ride,reason,points_at" ++ h)
-          ++ with_columns told.0 columns) c.as_bytes-2.ensures.value
-          ∙ sym (head_on told.0 columns))
+          ++ with_columns explained.0 columns) c.as_bytes-2.ensures.value
+          ∙ sym (head_on explained.0 columns))
           (Appends-trans _ _ _ _ _ (Appends-trans _ _ _ _ _ c.in_ok-write_out.ensures.ok
-          c.in_ok-write_out-2.ensures.ok) told.2),
+          c.in_ok-write_out-2.ensures.ok) explained.2),
     )
 
 -- ---- what a write that failed left
@@ -71,15 +72,15 @@ returns-in_err-write_out-clause-begun g c =
     let fares = c.args.table.now in
     let taps = taps_of_trace c.args.trace.now in
     let columns = columns_by (class_by c.args.names.now) c.args.trace.now in
-    let no_fall = canonical_falls c.of-teller.result.token taps
-    (c.of-teller.ensures.token ∙ c.least_token.ensures) c.requires.named c.requires.sorted in
+    let no_fall = canonical_falls c.of-explainer.result.token taps
+    (c.of-explainer.ensures.token ∙ c.least_token.ensures) c.requires.named c.requires.sorted in
     let lines = along_exist fares [] (posted fares taps) in
     let p = err_from_is_err_and c.from_residual-in_err-write_out.result
     c.from_residual-in_err-write_out.ensures.1 in
     rw p.1 (λ write. (
       head_text ++ lines.0,
       ledger_along fares (posted fares taps) lines.0
-          (posted_falls fares c.of-teller.result.token taps no_fall) lines.1,
+          (posted_falls fares c.of-explainer.result.token taps no_fall) lines.1,
       subst (λ (bs : List ℕ). Begins (g.W.Write.contents c.args.out.now)
           (g.W.Write.contents c.write_out.new.out) bs)
           (with_head c.as_bytes.result.now (codes ",class,upload,place\n") lines.0 columns
@@ -92,15 +93,15 @@ returns-in_err-write_out-2-clause-begun g c =
     let fares = c.args.table.now in
     let taps = taps_of_trace c.args.trace.now in
     let columns = columns_by (class_by c.args.names.now) c.args.trace.now in
-    let no_fall = canonical_falls c.of-teller.result.token taps
-    (c.of-teller.ensures.token ∙ c.least_token.ensures) c.requires.named c.requires.sorted in
+    let no_fall = canonical_falls c.of-explainer.result.token taps
+    (c.of-explainer.ensures.token ∙ c.least_token.ensures) c.requires.named c.requires.sorted in
     let lines = along_exist fares [] (posted fares taps) in
     let p = err_from_is_err_and c.from_residual-in_err-write_out-2.result
     c.from_residual-in_err-write_out-2.ensures.1 in
     rw p.1 (λ write. (
       head_text ++ lines.0,
       ledger_along fares (posted fares taps) lines.0
-          (posted_falls fares c.of-teller.result.token taps no_fall) lines.1,
+          (posted_falls fares c.of-explainer.result.token taps no_fall) lines.1,
       subst (λ (bs : List ℕ). Begins (g.W.Write.contents c.args.out.now)
           (g.W.Write.contents c.write_out-2.new.out) bs)
           (with_head c.as_bytes.result.now c.as_bytes-2.result.now lines.0 columns
@@ -114,15 +115,15 @@ returns-in_err-write_lines-clause-begun g c =
     let fares = c.args.table.now in
     let taps = taps_of_trace c.args.trace.now in
     let columns = columns_by (class_by c.args.names.now) c.args.trace.now in
-    let no_fall = canonical_falls c.of-teller.result.token taps
-    (c.of-teller.ensures.token ∙ c.least_token.ensures) c.requires.named c.requires.sorted in
+    let no_fall = canonical_falls c.of-explainer.result.token taps
+    (c.of-explainer.ensures.token ∙ c.least_token.ensures) c.requires.named c.requires.sorted in
     let lines = c.in_err-write_lines.ensures.begun in
     let p = err_from_is_err_and c.from_residual-in_err-write_lines.result
     c.from_residual-in_err-write_lines.ensures.1 in
     rw p.1 (λ write. (
       head_text ++ lines.0,
       ledger_along fares (posted fares taps) lines.0
-          (posted_falls fares c.of-teller.result.token taps no_fall) lines.1,
+          (posted_falls fares c.of-explainer.result.token taps no_fall) lines.1,
       subst (λ (bs : List ℕ). Begins (g.W.Write.contents c.args.out.now)
           (g.W.Write.contents c.write_lines.new.out) bs)
           (with_head c.as_bytes.result.now c.as_bytes-2.result.now lines.0 columns

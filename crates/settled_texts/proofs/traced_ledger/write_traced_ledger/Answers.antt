@@ -51,23 +51,23 @@ returns-clause-ok g c =
     let settled = trace_settled files trace
     c.in_ok-trace.trace.whole c.in_ok-trace.ensures c.one_reading_each.ensures
     c.plain_history.ensures.some c.plain_history.ensures.fields in
-    let told = c.in_ok-write_trace.ensures.ok in (
-      with_columns told.0 (head_columns ∷ columns_by classes trace),
+    let explained = c.in_ok-write_trace.ensures.ok in (
+      with_columns explained.0 (head_columns ∷ columns_by classes trace),
       record {
         trace = trace;
         is_trace = c.in_ok-trace.ensures;
         is_settled = c.posted_taps.ensures.history fares files (taps_of_trace trace) settled;
-        untraced = told.0;
+        untraced = explained.0;
         is_ledger = subst
             (λ (ts : List TracedTap). IsLedgerOver fares (posted fares (taps_of_trace ts)) None
-            told.0)
-            c.deref.ensures.value told.1;
+            explained.0)
+            c.deref.ensures.value explained.1;
         shown = refl;
       },
       subst (λ (ts : List TracedTap). Appends (g.W.Write.contents c.args.out.now)
           (g.W.Write.contents c.write_trace.new.out)
-          (with_columns told.0 (head_columns ∷ columns_by classes ts)))
-          c.deref.ensures.value told.2,
+          (with_columns explained.0 (head_columns ∷ columns_by classes ts)))
+          c.deref.ensures.value explained.2,
     )
 
 -- what a write that failed left
@@ -83,22 +83,22 @@ returns-in_err-write_trace-clause-begun g c =
     let p = err_from_is_err_and c.from_residual-in_err-write_trace.result
     c.from_residual-in_err-write_trace.ensures.1 in
     rw p.1 (λ write.
-    let told = c.in_err-write_trace.ensures.begun (sym p.2 ∙ write) in (
-      with_columns told.0 (head_columns ∷ columns_by classes trace),
+    let explained = c.in_err-write_trace.ensures.begun (sym p.2 ∙ write) in (
+      with_columns explained.0 (head_columns ∷ columns_by classes trace),
       c.in_ok-trace.trace.whole,
       record {
         trace = trace;
         is_trace = c.in_ok-trace.ensures;
         is_settled = c.posted_taps.ensures.history fares files (taps_of_trace trace) settled;
-        untraced = told.0;
+        untraced = explained.0;
         is_ledger = subst
             (λ (ts : List TracedTap). IsLedgerOver fares (posted fares (taps_of_trace ts)) None
-            told.0)
-            c.deref.ensures.value told.1;
+            explained.0)
+            c.deref.ensures.value explained.1;
         shown = refl;
       },
       subst (λ (ts : List TracedTap). Begins (g.W.Write.contents c.args.out.now)
           (g.W.Write.contents c.write_trace.new.out)
-          (with_columns told.0 (head_columns ∷ columns_by classes ts)))
-          c.deref.ensures.value told.2,
+          (with_columns explained.0 (head_columns ∷ columns_by classes ts)))
+          c.deref.ensures.value explained.2,
     ))

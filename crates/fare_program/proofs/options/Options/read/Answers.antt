@@ -1,20 +1,22 @@
-use Rattle.std.proofs.Common.{◌∙◌, [], ap, codes}
+use Rattle.std.proofs.Common.{◌∙◌, [], ℕ, Bor, List, ap, codes, map}
 use Rattle.std.specs.Prelude.{unwrap_or}
 use Rattle.clap.specs.Words.{all_of, first_of, found_of}
 use Rattle.clap.proofs.WalkLemmas.{first_value-rows}
 use Rattle.fare_program.specs.Options.{is_given, number_of}
+use Rattle.program_manners.specs.TableWords.{tables_in}
 use Rattle.fare_program.proofs.options.Options.read.Goals as goal
 
 pub returns-clause-asked : goal.returns-clause-asked
 returns-clause-asked c =
     let found = found_of c.in_ok-matches.matches in
     let rows = c.in_ok-matches.ensures.rows in
-    let table = c.get_str.ensures ∙ first_value-rows found (codes "table")
-    ∙ ap (first_of (codes "table")) rows in
+    let table = c.in_ok-of.ensures
+    ∙ ap tables_in (ap (λ (words : List (Bor (List ℕ))). map (λ w. w.now) words) c.deref.ensures.value
+    ∙ c.in_ok-tables.ensures ∙ ap (λ r. unwrap_or (all_of (codes "table") r) []) rows) in
     let list = c.flag_in.ensures ∙ ap (is_given (codes "list")) rows in
     let workers = c.number_in.ensures.number ∙ ap (number_of (codes "workers")) rows in
     let shards = c.number_in-2.ensures.number ∙ ap (number_of (codes "shards")) rows in
-    let token = c.get_str-2.ensures ∙ first_value-rows found (codes "token")
+    let token = c.get_str.ensures ∙ first_value-rows found (codes "token")
     ∙ ap (first_of (codes "token")) rows in
     let settle = c.flag_in-2.ensures ∙ ap (is_given (codes "settle")) rows in
     let sorted = c.flag_in-3.ensures ∙ ap (is_given (codes "sorted")) rows in
@@ -27,13 +29,11 @@ returns-clause-asked c =
       list = list i;
       workers = workers i;
       shards = shards i;
-      token =
-          token i;
+      token = token i;
       settle = settle i;
       sorted = sorted i;
       ledger = ledger i;
-      explain =
-          explain i;
+      explain = explain i;
       traced = traced i;
       files = files i;
     }

@@ -3,15 +3,15 @@ use Rattle.std.proofs.Common.{List, [], ◌++◌, take, refl, sym, ap, subst, �
 use Rattle.std.proofs.Common.{string_bytes, append_assoc, append-nil, arith}
 use Rattle.std.proofs.lemmas.List.{length-take-le}
 use Rattle.shard_book.specs.declared.entry.Entry.{Entry}
-use Rattle.fare_texts.specs.Tellers.{HasTold}
+use Rattle.fare_texts.specs.Explainers.{HasExplained}
 use Rattle.fare_texts.proofs.LineLists.{taken}
 use Rattle.fare_texts.proofs.ExplainedLines.{next_explained}
 use Rattle.fare_texts.proofs.explained.lines.write_lines.Goals as goal
 
 pub loop-entry-init : goal.loop-entry-init
 loop-entry-init c = record {
-  told = c.of-teller.ensures.told c.args.table.now;
-  of = c.of-teller.ensures.token;
+  explained = c.of-explainer.ensures.explained c.args.table.now;
+  of = c.of-explainer.ensures.token;
   written = [];
   are = refl;
   whole = sym (append-nil (string_bytes c.args.text.now));
@@ -19,18 +19,18 @@ loop-entry-init c = record {
 
 pub no_transfer-none-requires : goal.no_transfer-none-requires
 no_transfer-none-requires c = record {
-  told = (take c.loop-entry.entry-index c.args.entries.now, c.loop-entry.invariant.told);
+  explained = (take c.loop-entry.entry-index c.args.entries.now, c.loop-entry.invariant.explained);
 }
 
-pub explain_next-requires-clause-told : goal.explain_next-requires-clause-told
-explain_next-requires-clause-told c =
-    (take c.loop-entry.entry-index c.args.entries.now, c.loop-entry.invariant.told)
+pub explain_next-requires-clause-explained : goal.explain_next-requires-clause-explained
+explain_next-requires-clause-explained c =
+    (take c.loop-entry.entry-index c.args.entries.now, c.loop-entry.invariant.explained)
 
 pub explain_next-requires-clause-room : goal.explain_next-requires-clause-room
 explain_next-requires-clause-room c =
     omega (
       arith,
-      c.loop-entry.invariant.told.counted,
+      c.loop-entry.invariant.explained.counted,
       length-take-le c.loop-entry.entry-index c.args.entries.now (omega arith),
     )
 
@@ -43,11 +43,12 @@ loop-entry-preserved c =
     let so_far = c.loop-entry.invariant in
     let done = take place entries in
     let line = c.in_ok-write_line.ensures in
-    let lack = rw so_far.of at (c.no_transfer-none.ensures.lacks done so_far.told) in
-    let why = rw so_far.of at (c.in_ok-reason.ensures.reason done so_far.told) in
+    let lack = rw so_far.of at (c.no_transfer-none.ensures.lacks done so_far.explained) in
+    let why = rw so_far.of at (c.in_ok-reason.ensures.reason done so_far.explained) in
     record {
-      told = subst (λ (es : List Entry). HasTold fares c.explain_next.new.self es)
-          (sym (taken entries place _ within)) (c.in_ok-reason.ensures.told done so_far.told);
+      explained = subst (λ (es : List Entry). HasExplained fares c.explain_next.new.self es)
+          (sym (taken entries place _ within))
+          (c.in_ok-reason.ensures.explained done so_far.explained);
       of = c.in_ok-reason.ensures.token ∙ so_far.of;
       written = so_far.written ++ line.0;
       are = next_explained fares c.args.token entries place _ within so_far.written line.0 _ _ why

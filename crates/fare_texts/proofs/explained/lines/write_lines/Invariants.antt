@@ -1,13 +1,13 @@
 use Rattle.std.proofs.Common.{◌≡◌, ℕ, List, [], ◌++◌, string_bytes, take}
-use Rattle.fare_texts.specs.Tellers.{HasTold}
+use Rattle.fare_texts.specs.Explainers.{HasExplained}
 use Rattle.fare_texts.specs.Explained.{AreExplainedAfter}
 use Rattle.fare_texts.proofs.explained.lines.write_lines.Given as goal
 
--- the token's entries so far were told, and their lines were written
+-- the token's entries so far were explained, and their lines were written
 abbrev pub invariant-loop-entry : goal.invariant-loop-entry
 invariant-loop-entry l = record {
-  told : HasTold l.table l.teller (take l.entry-index l.entries);
-  of : l.teller.token ≡ l.fn.token;
+  explained : HasExplained l.table l.explainer (take l.entry-index l.entries);
+  of : l.explainer.token ≡ l.fn.token;
   written : List ℕ;
   are : AreExplainedAfter l.table l.fn.token [] (take l.entry-index l.entries) written;
   whole : string_bytes l.text ≡ string_bytes l.fn.text ++ written;

@@ -1,4 +1,4 @@
--- Each round tells one entry more, and keeps the window that it ends.
+-- Each round explains one entry more, and keeps the window that it ends.
 use Rattle.std.proofs.Common.{List, map, take, sym, ap, subst, ◌∙◌, arith}
 use Rattle.std.proofs.lemmas.List.{length-take-le, take_all}
 use Rattle.account_rule.specs.Reasons.{replied_by}
@@ -7,27 +7,27 @@ use Rattle.account_rule.proofs.ReasonLemmas.{reply-follows}
 use Rattle.shard_book.specs.Entry.{tap_of}
 use Rattle.shard_book.specs.declared.entry.Entry.{Entry}
 use Rattle.tap_views.specs.Token.{bytes_of}
-use Rattle.fare_texts.specs.Tellers.{HasTold}
+use Rattle.fare_texts.specs.Explainers.{HasExplained}
 use Rattle.fare_texts.proofs.LineLists.{more, taken}
 use Rattle.fare_texts.proofs.Closing.{earlier-none, next_earlier}
 use Rattle.fare_texts.proofs.explained.windows.windows_of.Goals as goal
 
 pub loop-entry-init : goal.loop-entry-init
 loop-entry-init c = record {
-  told = c.of-teller.ensures.told c.args.table.now;
-  of = c.of-teller.ensures.token;
+  explained = c.of-explainer.ensures.explained c.args.table.now;
+  of = c.of-explainer.ensures.token;
   earlier = c.new-earlier.ensures.items ∙ sym (earlier-none _);
 }
 
-pub explain_next-requires-clause-told : goal.explain_next-requires-clause-told
-explain_next-requires-clause-told c =
-    (take c.loop-entry.entry-index c.args.entries.now, c.loop-entry.invariant.told)
+pub explain_next-requires-clause-explained : goal.explain_next-requires-clause-explained
+explain_next-requires-clause-explained c =
+    (take c.loop-entry.entry-index c.args.entries.now, c.loop-entry.invariant.explained)
 
 pub explain_next-requires-clause-room : goal.explain_next-requires-clause-room
 explain_next-requires-clause-room c =
     omega (
       arith,
-      c.loop-entry.invariant.told.counted,
+      c.loop-entry.invariant.explained.counted,
       length-take-le c.loop-entry.entry-index c.args.entries.now (omega arith),
     )
 
@@ -42,12 +42,13 @@ loop-entry-preserved c =
     let done = take place entries in
     let rules = rules_of fares (bytes_of c.args.token) in
     let taps = map (tap_of fares) done in
-    let window = rw so_far.of at (c.window-window.ensures fares done so_far.told) in
-    let why = rw so_far.of at (c.in_ok-reason.ensures.reason done so_far.told) in
+    let window = rw so_far.of at (c.window-window.ensures fares done so_far.explained) in
+    let why = rw so_far.of at (c.in_ok-reason.ensures.reason done so_far.explained) in
     let answered = c.reply.ensures ∙ ap replied_by why ∙ sym (reply-follows rules taps _) in
     record {
-      told = subst (λ (es : List Entry). HasTold fares c.explain_next.new.self es)
-          (sym (taken entries place _ within)) (c.in_ok-reason.ensures.told done so_far.told);
+      explained = subst (λ (es : List Entry). HasExplained fares c.explain_next.new.self es)
+          (sym (taken entries place _ within))
+          (c.in_ok-reason.ensures.explained done so_far.explained);
       of = c.in_ok-reason.ensures.token ∙ so_far.of;
       earlier = next_earlier rules taps _ c.loop-entry.earlier.items _ c.window-window.result
           c.is_ride.result c.reply.result _ so_far.earlier window answered c.is_ride.ensures
@@ -59,4 +60,5 @@ returns-clause-last c =
     let so_far = c.loop-entry.invariant in
     let all = take_all c.loop-entry.entry-index c.args.entries.now c.loop-entry-test.false in
     rw so_far.of at (c.window.ensures c.args.table.now c.args.entries.now
-    (subst (λ (es : List Entry). HasTold c.args.table.now c.loop-entry.teller es) all so_far.told))
+    (subst (λ (es : List Entry). HasExplained c.args.table.now c.loop-entry.explainer es) all
+    so_far.explained))

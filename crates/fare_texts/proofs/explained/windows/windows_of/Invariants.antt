@@ -2,15 +2,15 @@ use Rattle.std.proofs.Common.{◌≡◌, map, take}
 use Rattle.account_rule.specs.TokenRules.{rules_of}
 use Rattle.shard_book.specs.Entry.{tap_of}
 use Rattle.tap_views.specs.Token.{bytes_of}
-use Rattle.fare_texts.specs.Tellers.{HasTold}
+use Rattle.fare_texts.specs.Explainers.{HasExplained}
 use Rattle.fare_texts.specs.Explained.{earlier_windows}
 use Rattle.fare_texts.proofs.explained.windows.windows_of.Given as goal
 
--- the token's entries so far were told, and the windows before its last one are kept
+-- the token's entries so far were explained, and the windows before its last one are kept
 abbrev pub invariant-loop-entry : goal.invariant-loop-entry
 invariant-loop-entry l = record {
-  told : HasTold l.table l.teller (take l.entry-index l.entries);
-  of : l.teller.token ≡ l.fn.token;
+  explained : HasExplained l.table l.explainer (take l.entry-index l.entries);
+  of : l.explainer.token ≡ l.fn.token;
   earlier : l.earlier.items
       ≡ earlier_windows (rules_of l.table (bytes_of l.fn.token))
       (map (tap_of l.table) (take l.entry-index l.entries));

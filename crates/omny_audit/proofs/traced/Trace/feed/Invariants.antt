@@ -10,8 +10,8 @@ invariant-loop-rest l = record {
   consumed : List ℕ;
   whole : l.piece ≡ consumed ++ l.rest;
   wanted : wanted_of l.self.so_far ≡ wanted_of l.fn.self.so_far;
-  read : (file told : List ℕ) (read : List ReadLine) → HasTraced l.fn.self file told read
-      → Traced l.self (file ++ consumed) told l.fn.text.items l.text.items;
+  read : (file reported : List ℕ) (read : List ReadLine) → HasTraced l.fn.self file reported read
+      → Traced l.self (file ++ consumed) reported l.fn.text.items l.text.items;
 }
 
 abbrev pub decreases-loop-rest : goal.decreases-loop-rest

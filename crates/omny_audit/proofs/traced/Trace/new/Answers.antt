@@ -20,5 +20,5 @@ returns-clause-read c = record {
   kept = inl c.new-3.ensures.items;
   lacks = tt;
   split = λ more. refl;
-  told = refl;
+  reported = refl;
 }

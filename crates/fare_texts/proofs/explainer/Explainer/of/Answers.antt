@@ -1,0 +1,5 @@
+use Rattle.std.proofs.Common.{refl}
+use Rattle.fare_texts.proofs.explainer.Explainer.of.Goals as goal
+
+pub returns-clause-explained : goal.returns-clause-explained
+returns-clause-explained c = λ fares. record { stands = c.fresh.ensures.stands _; counted = refl }

@@ -1,0 +1,41 @@
+-- What a explainer stands for.
+use Rattle.std.specs.Prelude.{◌≡◌, ℕ, List, length, map}
+use Rattle.fare_table.specs.Fares.{Fares}
+use Rattle.account_rule.specs.Replies.{reply}
+use Rattle.account_rule.specs.declared.reply.Answer.TheVariants.{Unknown}
+use Rattle.account_rule.specs.TokenRules.{rules_of}
+use Rattle.account_rule.specs.Stands.{Stands}
+use Rattle.shard_book.specs.Entry.{tap_of}
+use Rattle.tap_views.specs.Token.{bytes_of}
+use Rattle.shard_book.specs.declared.entry.Entry.{Entry}
+use Rattle.tap_views.specs.declared.token.Token.{Token}
+use Rattle.fare_texts.specs.declared.explainer.Explainer.{Explainer}
+
+-- the entry of a token's tap at a validator and a moment, which follows the token's earlier
+-- entries: it has the account rule's reply
+abbrev pub next_entry : Fares → Token → List Entry → ℕ → ℕ → Entry
+next_entry fares token earlier validator moment =
+    let tap : Entry = record {
+      token = token;
+      validator = validator;
+      moment = moment;
+      answer = Unknown;
+      cents = 0;
+    } in
+    let replied = reply (rules_of fares (bytes_of token)) (map (tap_of fares) earlier)
+    (tap_of fares tap) in
+    record {
+      token = token;
+      validator = validator;
+      moment = moment;
+      answer = replied.answer;
+      cents = replied.cents;
+    }
+
+-- the explainer has taken these entries: its account stands for their taps, and its number counts
+-- them
+pub record HasExplained (fares : Fares) (explainer : Explainer)
+    (entries : List Entry) : Type 0 where
+  pub stands : Stands (rules_of fares (bytes_of explainer.token)) explainer.account
+      (map (tap_of fares) entries)
+  pub counted : explainer.number ≡ length entries

@@ -1,0 +1,161 @@
+-- One more table that was loaded behind others.
+use Rattle.std.proofs.Common.{◌≡◌, ◌∙◌, ◌+◌, ◌<◌, ℕ, List, [], ◌∷◌, ◌++◌, Bor, Option, Some, ap}
+use Rattle.std.proofs.Common.{arith}
+use Rattle.std.proofs.Common.{drop, get_or, length, length-append, map, refl, subst, suc, sym, take}
+use Rattle.std.proofs.Common.{zero}
+use Rattle.std.specs.Prelude.{IsUtf8, Ok, slice_get}
+use Rattle.fare_table.specs.Fares.{Fares}
+use Rattle.fare_table.specs.TableMeaning.{TableMeaning, meaning_in}
+use Rattle.program_manners.specs.Loads.{Loaded, LoadsOne}
+use Rattle.program_manners.specs.TableLoads.{Follows, LoadsLater, LoadsTables}
+use Rattle.program_manners.specs.TableWords.{TableNames, file_named}
+
+-- behind the tables of these words
+later_push : (fares : Fares) (words : List (List ℕ)) (word : List ℕ)
+    (loaded_before loaded_before' loaded_before'' : Option (List Loaded)) (texts : List (List ℕ))
+    (text : List ℕ)
+    (all next : Fares)
+    → LoadsLater fares words loaded_before loaded_before' texts all
+    → LoadsOne loaded_before' loaded_before'' (Some (file_named word)) text
+    → Follows all word text next
+    → LoadsLater fares (words ++ word ∷ []) loaded_before loaded_before'' (texts ++ text ∷ []) next
+later_push fares [] word loaded_before loaded_before' loaded_before'' texts text all next
+    (none, same, still) one is = (
+      text,
+      [],
+      loaded_before'',
+      next,
+      subst (λ (t : Option (List Loaded)). LoadsOne t loaded_before'' (Some (file_named word)) text)
+          still one,
+      subst (λ (f : Fares). Follows f word text next) same is,
+      (refl, refl, refl),
+      ap (λ (ts : List (List ℕ)). ts ++ text ∷ []) none,
+    )
+later_push fares (first ∷ words) word loaded_before loaded_before' loaded_before'' texts text all
+    next
+    (begun, rest, between, second, loaded, follows, more, whole) one is = (
+      begun,
+      rest ++ text ∷ [],
+      between,
+      second,
+      loaded,
+      follows,
+      later_push second words word between loaded_before' loaded_before'' rest text all next more
+          one is,
+      ap (λ (ts : List (List ℕ)). ts ++ text ∷ []) whole,
+    )
+
+pub tables_push : (first : List ℕ) (before : List (List ℕ)) (word : List ℕ)
+    (loaded_before loaded_before' loaded_before'' : Option (List Loaded)) (texts : List (List ℕ))
+    (text : List ℕ)
+    (all next : Fares)
+    → LoadsTables (record { first = first; later = before }) loaded_before loaded_before' texts all
+    → LoadsOne loaded_before' loaded_before'' (Some (file_named word)) text
+    → Follows all word text next
+    → LoadsTables (record { first = first; later = before ++ word ∷ [] }) loaded_before
+    loaded_before''
+    (texts ++ text ∷ []) next
+tables_push first before word loaded_before loaded_before' loaded_before'' texts text all next loads
+    one is = record {
+      text = loads.text;
+      between = loads.between;
+      loads_first = loads.loads_first;
+      alone = loads.alone;
+      utf8 = loads.utf8;
+      means = loads.means;
+      rest = loads.rest ++ text ∷ [];
+      loads_later = later_push loads.alone before word loads.between loaded_before' loaded_before''
+          loads.rest text all
+          next loads.loads_later one is;
+      are_texts = ap (λ (ts : List (List ℕ)). ts ++ text ∷ []) loads.are_texts;
+    }
+
+-- each word has a text, and each text adds a table
+later_counted : (fares : Fares) (words : List (List ℕ))
+    (loaded_before loaded_before' : Option (List Loaded))
+    (texts : List (List ℕ)) (all : Fares)
+    → LoadsLater fares words loaded_before loaded_before' texts all
+    → (length texts ≡ length words) × (length all.later ≡ length fares.later + length words)
+later_counted fares [] loaded_before loaded_before' texts all (none, same, still) =
+    (ap length none, ap (λ (f : Fares). length f.later) same ∙ omega (arith))
+later_counted fares (word ∷ words) loaded_before loaded_before' texts all
+    (text, rest, between, next, loaded, follows, more, whole) =
+    let (one, two) = later_counted next words between loaded_before' rest all more in
+    let added : length next.later ≡ length fares.later + 1 =
+    ap (λ (f : Fares). length f.later) follows.follows.all_are
+    ∙ length-append fares.later ((follows.follows.from, follows.follows.next.meaning) ∷ []) in
+    (ap length whole ∙ ap suc one, omega (arith, two, added))
+
+-- there is a text for each table, and a table for each word
+pub tables_counted : (tables : TableNames) (loaded_before loaded_before' : Option (List Loaded))
+    (texts : List (List ℕ)) (fares : Fares)
+    → LoadsTables tables loaded_before loaded_before' texts fares
+    → (length texts ≡ length fares.later + 1) × (length texts ≡ length tables.later + 1)
+tables_counted tables loaded_before loaded_before' texts fares loads =
+    let (one, two) = later_counted loads.alone tables.later loads.between loaded_before' loads.rest
+    fares
+    loads.loads_later in
+    let none : length loads.alone.later ≡ 0 = ap length loads.means.2 in
+    let all : length texts ≡ suc (length loads.rest) = ap length loads.are_texts in
+    (omega (arith, one, two, none, all), omega (arith, one, all))
+
+later_read : (fares : Fares) (words : List (List ℕ))
+    (loaded_before loaded_before' : Option (List Loaded))
+    (texts : List (List ℕ)) (all : Fares)
+    → LoadsLater fares words loaded_before loaded_before' texts all
+    → (place : ℕ) (text : List ℕ) → slice_get texts place ≡ Some text
+    → IsUtf8 text × ((meaning : TableMeaning) × (meaning_in text ≡ Ok meaning))
+later_read fares [] loaded_before loaded_before' texts all (none, same, still) place text at =
+    absurd (no_place place (rw none at at))
+  where
+    no_place : (k : ℕ) → slice_get [] k ≡ Some text → ⊥
+    no_place k is = cc
+later_read fares (word ∷ words) loaded_before loaded_before' texts all
+    (first, rest, between, next, loaded, follows, more, whole) zero text at =
+    let same : first ≡ text = some_same (rw whole at at) in (
+      subst IsUtf8 same follows.follows.utf8,
+      (
+        follows.follows.next.meaning,
+        ap meaning_in (sym same) ∙ follows.follows.means.0,
+      ),
+    )
+  where
+    some_same : Some first ≡ Some text → first ≡ text
+    some_same is = cc
+later_read fares (word ∷ words) loaded_before loaded_before' texts all
+    (first, rest, between, next, loaded, follows, more, whole) (suc place) text at =
+    later_read next words between loaded_before' rest all more place text (rw whole at at)
+
+-- each text is UTF-8, and means a table
+pub tables_read : (tables : TableNames) (loaded_before loaded_before' : Option (List Loaded))
+    (texts : List (List ℕ)) (fares : Fares)
+    → LoadsTables tables loaded_before loaded_before' texts fares
+    → (place : ℕ) (text : List ℕ) → slice_get texts place ≡ Some text
+    → IsUtf8 text × ((meaning : TableMeaning) × (meaning_in text ≡ Ok meaning))
+tables_read tables loaded_before loaded_before' texts fares loads zero text at =
+    let same : loads.text ≡ text = some_same (rw loads.are_texts at at) in (
+      subst IsUtf8 same loads.utf8,
+      (
+        loads.alone.meaning,
+        ap meaning_in (sym same) ∙ loads.means.0,
+      ),
+    )
+  where
+    some_same : Some loads.text ≡ Some text → loads.text ≡ text
+    some_same is = cc
+tables_read tables loaded_before loaded_before' texts fares loads (suc place) text at =
+    later_read loads.alone tables.later loads.between loaded_before' loads.rest fares
+    loads.loads_later place
+    text (rw loads.are_texts at at)
+
+-- the words before one, that one, and those behind it
+pub words_at : (words : List (Bor (List ℕ))) (place : ℕ) (other : Bor (List ℕ))
+    → place < length words
+    → map (λ w. w.now) words ≡ map (λ w. w.now) (take place words)
+    ++ (get_or words place other).now ∷ map (λ w. w.now) (drop (place + 1) words)
+words_at [] place other within = absurd (omega (arith, within))
+words_at (word ∷ words) zero other within = refl
+words_at (word ∷ words) (suc place) other within =
+    let one : suc place + 1 ≡ suc (place + 1) = omega (arith) in
+    rw one (ap (λ (ws : List (List ℕ)). word.now ∷ ws)
+    (words_at words place other (omega (arith, within))))

@@ -1,0 +1,139 @@
+//! Fare tables that follow others from a date on.
+ghost use Rattle.std.specs.Prelude.{◌≡◌, ◌≢◌, ◌≤◌, IfErr, IfOk, Some, true};
+ghost use Rattle.fare_table.specs.declared.fault.TableFault.{TableFault as ATableFault};
+ghost use Rattle.program_manners.specs.Lines.{follow_text, named_class_text, named_table_text};
+ghost use Rattle.program_manners.specs.NextFaults.{IsRightNext};
+ghost use Rattle.program_manners.specs.TableLoads.{FollowsFrom};
+ghost use Rattle.program_manners.specs.TableWords.{has_year, is_day};
+
+use crate::table_words::{WrittenDate, day_of};
+use fare_table::{FareTable, FollowFault, TableFault};
+use std::alloc::Global;
+use std::fmt;
+
+/// Why the table of a text does not follow others.
+#[derive(Clone, Copy, Debug)]
+pub enum NextFault {
+    /// The text is no table.
+    Table(TableFault),
+    /// The table cannot follow.
+    Follow(FollowFault),
+}
+
+impl From<TableFault> for NextFault {
+    ghost use Rattle.program_manners.specs.declared.following.NextFault.TheVariants.{Table};
+
+    ghost from_gives = { λ refused fault. fault ≡ Table refused };
+
+    fn from(fault: TableFault) -> NextFault {
+        NextFault::Table(fault)
+    }
+}
+
+/// Why the next of several tables is not taken, by the name of its file. Its `Display` is the fault
+/// line without its line feed.
+#[derive(Clone, Copy, Debug)]
+pub struct NamedTableLine<'a> {
+    /// The name of the file.
+    pub name: &'a str,
+    /// Why its text is no table.
+    pub fault: TableFault,
+}
+
+impl fmt::Display for NamedTableLine<'_> {
+    ghost output = { λ line. Some (named_table_text line.name.now line.fault) };
+
+    fn fmt<W: fmt::Write>(&self, f: &mut fmt::Formatter<W>) -> fmt::Result {
+        let name = self.name;
+        match self.fault {
+            TableFault::Text => write!(f, "fault: {name}: table F1"),
+            TableFault::Missing { key } => write!(f, "fault: {name}: table F2 {}", key.name()),
+            TableFault::Kind { key } => write!(f, "fault: {name}: table F3 {}", key.name()),
+            TableFault::Range { key } => write!(f, "fault: {name}: table F4 {}", key.name()),
+            TableFault::Mode => write!(f, "fault: {name}: table F5"),
+            TableFault::Overlap => write!(f, "fault: {name}: table F6"),
+            TableFault::Rider => write!(f, "fault: {name}: table F7"),
+            TableFault::NoMemory => f.write_str("fault: out of memory"),
+            TableFault::Zone => write!(f, "fault: {name}: table F9"),
+        }
+    }
+}
+
+/// A word of `--table` whose table cannot follow those before it. Its `Display` is the fault line
+/// without its line feed.
+#[derive(Clone, Copy, Debug)]
+pub struct FollowLine<'a> {
+    /// The word, with its date.
+    pub word: &'a str,
+    /// Why the table cannot follow.
+    pub fault: FollowFault,
+}
+
+impl fmt::Display for FollowLine<'_> {
+    ghost output = { λ line. Some (follow_text line.word.now line.fault) };
+
+    fn fmt<W: fmt::Write>(&self, f: &mut fmt::Formatter<W>) -> fmt::Result {
+        let word = self.word;
+        match self.fault {
+            FollowFault::Date => write!(
+                f,
+                "fault: {word}: a table before it is valid from the same date or a later one"
+            ),
+            FollowFault::Zone => write!(f, "fault: {word}: it names another zone"),
+            FollowFault::Modes => write!(f, "fault: {word}: it has other modes"),
+            FollowFault::Followed => write!(f, "fault: {word}: a table follows it already"),
+            FollowFault::NoMemory => f.write_str("fault: out of memory"),
+        }
+    }
+}
+
+/// One of several tables with a class that no ledger can have, by the name of its file. Its
+/// `Display` is the fault line without its line feed.
+#[derive(Clone, Copy, Debug)]
+pub struct NamedClassLine<'a>(pub &'a str);
+
+impl fmt::Display for NamedClassLine<'_> {
+    ghost output = { λ line. Some (named_class_text line.0.now) };
+
+    fn fmt<W: fmt::Write>(&self, f: &mut fmt::Formatter<W>) -> fmt::Result {
+        let name = self.0;
+        write!(
+            f,
+            "fault: {name}: table has a class name that no ledger can have"
+        )
+    }
+}
+
+/// The fares, and behind them the table of a text, which is valid from 00:00 of the date on: by the
+/// clocks of the zone that the tables name, else in UTC.
+///
+/// # Errors
+///
+/// `Table`, if the text is no table; `Follow`, if the table cannot follow from that moment on. A
+/// date that begins before 1970-01-01T00:00Z is no later one than the first table's.
+pub fn table_behind(
+    alloc: Global,
+    fares: FareTable,
+    date: WrittenDate,
+    text: &[u8],
+) -> Result<FareTable, NextFault>
+    requires year { has_year date ≡ true }
+    requires day { is_day date ≡ true }
+    ensures follows { IfOk result (FollowsFrom fares date text.now) }
+    ensures fault { IfErr result (IsRightNext fares date text.now) }
+{
+    let next = FareTable::read(alloc, text)?;
+    let Some(day) = day_of(date) else {
+        unreachable!();
+    };
+    let Ok(clock) = fares.clock(alloc) else {
+        unreachable!();
+    };
+    let Some(from) = clock.midnight(day) else {
+        return Err(NextFault::Follow(FollowFault::Date));
+    };
+    match fares.followed_by(from, next) {
+        Ok(all) => Ok(all),
+        Err(fault) => Err(NextFault::Follow(fault)),
+    }
+}

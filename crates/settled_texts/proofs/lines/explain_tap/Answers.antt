@@ -1,0 +1,29 @@
+-- The explainer goes on to the tap's token, and posts the tap.
+use Rattle.std.proofs.Common.{sym, subst, ◌∙◌}
+use Rattle.tap_views.specs.declared.token.Token.{Token}
+use Rattle.shard_book.specs.Entry.{own}
+use Rattle.fare_texts.specs.Lines.{IsUpTo}
+use Rattle.settled_texts.proofs.TapsExplained.{one_reported}
+use Rattle.settled_texts.proofs.lines.explain_tap.Goals as goal
+
+pub write_posted-requires-clause-explained : goal.write_posted-requires-clause-explained
+write_posted-requires-clause-explained c =
+    let up = subst (λ (t : Token). IsUpTo c.args.explainer.now.token t) (sym c.token_of.ensures)
+    c.requires.up in
+    let come = c.go_on_to.ensures.come c.args.table.now c.requires.come.0 c.requires.come.1 up in
+    (own c.go_on_to.new.explainer.token c.requires.come.0, come.explained)
+
+pub returns-clause-explained : goal.returns-clause-explained
+returns-clause-explained c = λ earlier come.
+    let up = subst (λ (t : Token). IsUpTo c.args.explainer.now.token t) (sym c.token_of.ensures)
+    c.requires.up in
+    let gone = c.go_on_to.ensures.come c.args.table.now earlier come up in
+    let own_earlier = own c.go_on_to.new.explainer.token earlier in
+    let line = c.in_ok-write_posted.ensures.line own_earlier gone.explained in (
+      line.0,
+      one_reported c.args.table.now earlier c.args.tap.now c.go_on_to.new.explainer
+          c.write_posted.new.self
+          line.0 (c.go_on_to.ensures.token ∙ c.token_of.ensures) c.write_posted.ensures.token gone
+          line.1 (c.in_ok-write_posted.ensures.explained own_earlier gone.explained),
+      line.2,
+    )

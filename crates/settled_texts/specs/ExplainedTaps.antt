@@ -1,0 +1,27 @@
+-- Lines of taps whose tokens do not fall.
+use Rattle.std.specs.Prelude.{ℕ, List, [], ◌∷◌, ◌++◌}
+use Rattle.fare_table.specs.Fares.{Fares}
+use Rattle.tap_views.specs.declared.token.Token.{Token}
+use Rattle.tap_views.specs.declared.encoder.TapFields.{TapFields}
+use Rattle.shard_book.specs.declared.entry.Entry.{Entry}
+use Rattle.fare_texts.specs.declared.explainer.Explainer.{Explainer}
+use Rattle.fare_texts.specs.Lines.{AreLinesAlong, HasCome, IsUpTo}
+use Rattle.settlement.specs.Posted.{posted_after, token_of_tap}
+
+-- the taps' tokens never fall, from this one on
+abbrev pub NoTapFallsFrom : Token → List TapFields → Type 0
+NoTapFallsFrom token [] = Unit {0}
+NoTapFallsFrom token (tap ∷ taps) =
+    IsUpTo token (token_of_tap tap) × NoTapFallsFrom (token_of_tap tap) taps
+
+-- the token of the last tap, or this one if there is none
+abbrev pub last_token : Token → List TapFields → Token
+last_token token [] = token
+last_token token (tap ∷ taps) = last_token (token_of_tap tap) taps
+
+-- these are the lines of taps that follow the entries, and the explainer has come past all of them
+pub record AreExplained (fares : Fares) (earlier : List Entry) (taps : List TapFields)
+    (explainer : Explainer)
+    (lines : List ℕ) : Type 0 where
+  pub are : AreLinesAlong fares earlier (posted_after fares earlier taps) lines
+  pub come : HasCome fares explainer (earlier ++ posted_after fares earlier taps)
