@@ -1,0 +1,2 @@
+pub mod LaterWords
+pub mod TableAnswers

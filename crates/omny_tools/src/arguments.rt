@@ -7,7 +7,6 @@ use std::alloc::{AllocError, Global};
 /// What an argument takes.
 #[derive(Clone, Copy)]
 enum Takes {
-    /// Nothing.
     Nothing,
     /// One value, which the help calls so.
     Value(&'static str),
@@ -28,9 +27,7 @@ enum Takes {
 /// When an argument must be there.
 #[derive(Clone, Copy)]
 enum Need {
-    /// Never.
     Never,
-    /// Always.
     Always,
     /// If no list names files.
     WithoutList,

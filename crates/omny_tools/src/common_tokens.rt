@@ -1,8 +1,8 @@
 //! How many tokens of an upload stand in another one, too.
 
-use std::alloc::{AllocError, Global};
+use std::alloc::Global;
 use std::collections::BTreeMap;
-use tap_views::good_batches;
+use tap_views::{NoMemory, good_batches};
 
 /// The uploads that have a token.
 #[derive(Clone, Copy)]
@@ -33,25 +33,33 @@ pub(crate) struct CommonTokens {
     counts: Vec<CommonCounts>,
 }
 
-/// Counts one more of the upload's tokens, which is common or not.
-fn count(counts: &mut [CommonCounts], number: usize, all: u64, common: u64) {
+/// Counts one more of the upload's tokens, which is common or not. A count that would be too large
+/// is reported as want of memory: each token is kept.
+fn count(
+    counts: &mut [CommonCounts],
+    number: usize,
+    all: u64,
+    common: u64,
+) -> Result<(), NoMemory> {
     if let Some(counts) = counts.get_mut(number) {
-        counts.all = counts.all.saturating_add(all);
-        counts.common = counts.common.saturating_add(common);
+        counts.all = counts.all.checked_add(all).ok_or(NoMemory)?;
+        counts.common = counts.common.checked_add(common).ok_or(NoMemory)?;
     }
+    Ok(())
 }
 
 /// Notes that the upload of this number has the token, whose uploads so far are these.
-fn note(counts: &mut [CommonCounts], uploads: &mut Uploads, number: usize) {
+fn note(counts: &mut [CommonCounts], uploads: &mut Uploads, number: usize) -> Result<(), NoMemory> {
     if uploads.last == number {
-        return;
+        return Ok(());
     }
     if !uploads.is_common {
-        count(counts, uploads.first, 0, 1);
+        count(counts, uploads.first, 0, 1)?;
     }
-    count(counts, number, 1, 1);
+    count(counts, number, 1, 1)?;
     uploads.last = number;
     uploads.is_common = true;
+    Ok(())
 }
 
 impl CommonTokens {
@@ -64,13 +72,12 @@ impl CommonTokens {
     }
 
     /// Notes that the upload of this number has the token.
-    fn add_token(&mut self, token: &[u8], number: usize) -> Result<(), AllocError> {
+    fn add_token(&mut self, token: &[u8], number: usize) -> Result<(), NoMemory> {
         let Ok(token) = <[u8; 16]>::try_from(token) else {
             return Ok(());
         };
         if let Some(uploads) = self.uploads.get_mut(&token) {
-            note(&mut self.counts, uploads, number);
-            return Ok(());
+            return note(&mut self.counts, uploads, number);
         }
         let uploads = Uploads {
             first: number,
@@ -78,12 +85,11 @@ impl CommonTokens {
             is_common: false,
         };
         self.uploads.insert(token, uploads)?;
-        count(&mut self.counts, number, 1, 0);
-        Ok(())
+        count(&mut self.counts, number, 1, 0)
     }
 
     /// Adds the next upload, with its taps before its first layout fault.
-    pub(crate) fn add(&mut self, upload: &[u8]) -> Result<(), AllocError> {
+    pub(crate) fn add(&mut self, upload: &[u8]) -> Result<(), NoMemory> {
         let number = self.counts.len();
         self.counts.push(CommonCounts { all: 0, common: 0 })?;
         for batch in good_batches(upload) {

@@ -25,25 +25,10 @@ fn read_whole<'a, R: Read>(
     }
 }
 
-/// Opens a file.
 pub(crate) fn open<'a>(rt: &HostRuntime, name: Name<'a>) -> Result<fs::File, Fault<'a>> {
     match open_file(rt, name.0) {
         Ok(file) => Ok(file),
         Err(fault) => Err(Fault::of_load(name, fault)),
-    }
-}
-
-/// The numbers by which the system says that too many files are open: in the process, and in all.
-const TOO_MANY_OPEN: [i32; 2] = [24, 23];
-
-/// Opens a file that is read at any offset.
-pub(crate) fn open_placed<'a>(rt: &HostRuntime, name: Name<'a>) -> Result<fs::File, Fault<'a>> {
-    match fs::open(rt, name.0) {
-        Ok(file) => Ok(file),
-        Err(error) => match error.raw_os_error() {
-            Some(number) if TOO_MANY_OPEN.contains(&number) => Err(Fault::TooManyOpen(name)),
-            _ => Err(Fault::unread(name)),
-        },
     }
 }
 
@@ -63,8 +48,8 @@ pub(crate) fn open_in_pieces<'a>(
     }
 }
 
-/// A file of so many bytes, read in pieces, that tells how far it was read, and what is done with
-/// the bytes.
+/// A file of this number of bytes, read in pieces, that shows how far it was read, and what is done
+/// with the bytes.
 pub(crate) fn watch<'a, 'r>(
     rt: &'r HostRuntime,
     name: Name<'a>,
@@ -79,7 +64,7 @@ pub(crate) fn watch<'a, 'r>(
     }
 }
 
-/// The number of bytes where the same ones can be read twice: not of standard input, and not of a
+/// The number of bytes, if the same ones can be read twice: not of standard input, and not of a
 /// pipe.
 pub(crate) fn plain_bytes(rt: &HostRuntime, name: Name<'_>) -> Option<u64> {
     if name.is_input() {
@@ -91,7 +76,7 @@ pub(crate) fn plain_bytes(rt: &HostRuntime, name: Name<'_>) -> Option<u64> {
     }
 }
 
-/// All bytes that the reader has left; tells how many are read.
+/// All bytes that the reader has left; shows how many are read.
 fn load_watched<'a, R: Read + Drop>(
     rt: &HostRuntime,
     name: Name<'a>,

@@ -31,7 +31,7 @@ pub(crate) fn has_input_twice(matches: &ArgMatches<'_>) -> bool {
 }
 
 /// The list that the words name, if they name one, and the option that takes its names, if they are
-/// no positional arguments. Words that are no command line name none: the program tells why, or
+/// no positional arguments. Words that are no command line name none: the program says why, or
 /// shows its help.
 fn list_words<'a>(
     alloc: Global,
@@ -60,16 +60,16 @@ fn list_words<'a>(
 }
 
 /// Says why the names of a list are not had, and gives the status.
-fn tell<E: Write>(alloc: Global, err: &mut Complaints<E>, line: ListLine<'_>) -> u8 {
+fn report<E: Write>(alloc: Global, err: &mut Complaints<E>, line: ListLine<'_>) -> u8 {
     match format!(in alloc; "{line}") {
-        Ok(text) => err.tell_line(Escaped(&text)),
-        Err(_) => err.tell_line("fault: out of memory"),
+        Ok(text) => err.report_line(Escaped(&text)),
+        Err(_) => err.report_line("fault: out of memory"),
     }
     line.status()
 }
 
 /// The words with the names of the list that they name, if they name one. The error is the status,
-/// where it was told why they are not had.
+/// when it was reported why there are none.
 pub(crate) fn words_with_list<E: Write>(
     rt: &HostRuntime,
     words: &[String],
@@ -78,10 +78,10 @@ pub(crate) fn words_with_list<E: Write>(
     let (list, option) = match list_words(rt.alloc(), words) {
         Ok(None) => return Ok(None),
         Ok(Some(list)) => list,
-        Err(fault) => return Err(tell(rt.alloc(), err, ListLine::unnamed(fault))),
+        Err(fault) => return Err(report(rt.alloc(), err, ListLine::unnamed(fault))),
     };
     match list.add_names(rt, words, option) {
         Ok(all) => Ok(Some(all)),
-        Err(fault) => Err(tell(rt.alloc(), err, list.line_of(fault))),
+        Err(fault) => Err(report(rt.alloc(), err, list.line_of(fault))),
     }
 }

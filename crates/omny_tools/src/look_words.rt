@@ -50,16 +50,16 @@ const UNTIL_HELP: &str = "Look for taps at this moment or after it, as 2026-03-0
 
 /// The help of `--table`.
 const TABLE_HELP: &str =
-    "Look for days of UTC on which a validator of this fare table has no tap, of the days and the
-validators that have one, from --from on and before --until; - stands for standard input";
+    "Look for validators of this fare table that have no tap on a day of UTC, of the days on which
+others have one, and of all days from --from to --until if both are given; - stands for
+standard input";
 
 /// The help of `--list`.
 const LIST_HELP: &str = "Write all that is found as CSV, and nothing else";
 
-/// What is looked for in uploads, and how it is told.
+/// What is looked for in uploads, and how it is printed.
 #[derive(Drop)]
 pub(crate) struct LookWords<'a> {
-    /// The uploads.
     pub(crate) uploads: Vec<Name<'a>>,
     /// How many milliseconds at most a near double is later than the tap before it.
     pub(crate) within: u64,
@@ -71,7 +71,7 @@ pub(crate) struct LookWords<'a> {
     pub(crate) table: Option<Name<'a>>,
     /// Whether all that is found is listed.
     pub(crate) has_list: bool,
-    /// Whether it is told how many tokens the uploads share.
+    /// Whether the number of tokens that uploads share is printed.
     pub(crate) has_tokens: bool,
 }
 
@@ -142,7 +142,6 @@ pub(crate) enum LookMistake {
 }
 
 impl LookMistake {
-    /// The line that tells it.
     pub(crate) fn line(&self) -> &'static str {
         match self {
             LookMistake::From => "--from needs a moment, as 2026-03-01T00:00:00Z",

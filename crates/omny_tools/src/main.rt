@@ -1,4 +1,4 @@
-//! The program: turns tables of taps into uploads and back, and tells what uploads and fare tables
+//! The program: turns tables of taps into uploads and back, and prints what uploads and fare tables
 //! have.
 //!
 //! | module | what it does |
@@ -9,43 +9,44 @@
 //! | `input`, `output` | files and standard input; standard output |
 //! | `progress` | how far a long run is, on a terminal |
 //! | `fault` | why a task is given up, and the line that says so |
-//! | `layout` | what a layout fault means, and what to do |
-//! | `coding` | `encode` and `decode` |
-//! | `encode_words`, `row_coding` | `encode` of an agency's own CSV |
-//! | `telling`, `common_tokens` | `uploads` |
-//! | `look_words`, `looking` | the words of `uploads`, and what it looks for |
-//! | `splitting` | `split` |
-//! | `sorting` | `sort` |
-//! | `making` | files that are made whole |
-//! | `part_words` | the command lines of `split`, `merge` and `merge-ledgers` |
-//! | `correcting` | the command line of `corrections` |
+//! | `encode`, `decode` | the command lines of `encode` and of `decode` |
+//! | `agency_csv` | `encode` of an agency's own CSV |
+//! | `upload_lines`, `common_tokens` | `uploads` |
+//! | `look_words`, `look` | the words of `uploads`, and what it looks for |
+//! | `sort`, `split` | `sort` and `split`, from their command lines |
+//! | `merge`, `merge_ledgers` | the command lines of `merge` and `merge-ledgers` |
+//! | `corrections` | the command line of `corrections` |
 //! | `texts` | texts of the system, for the subcommands of `tool_program` |
-//! | `table` | `table` |
+//! | `placed` | files of the system that are read at any offset |
+//! | `files_made` | files of the system that are made |
+//! | `table`, `later_tables` | `table`, and the tables that follow the first one |
 //! | `tasks` | the whole, from the words to the status |
 #![tactic(auto)]
 
+mod agency_csv;
 mod arguments;
-mod coding;
 mod common_tokens;
-mod correcting;
-mod encode_words;
+mod corrections;
+mod decode;
+mod encode;
 mod fault;
+mod files_made;
 mod input;
-mod layout;
+mod later_tables;
 mod list_words;
+mod look;
 mod look_words;
-mod looking;
-mod making;
+mod merge;
+mod merge_ledgers;
 mod output;
-mod part_words;
+mod placed;
 mod progress;
-mod row_coding;
-mod sorting;
-mod splitting;
+mod sort;
+mod split;
 mod table;
 mod tasks;
-mod telling;
 mod texts;
+mod upload_lines;
 mod words;
 
 use list_words::words_with_list;

@@ -1,5 +1,5 @@
-//! A line on the standard error that tells how far a long run is: only where that is a terminal,
-//! and only from the first second on.
+//! A line on the standard error that shows how far a long run is: only if that is a terminal, and
+//! only from the first second on.
 
 use program_manners::{PACE_MS, QUIET_MS, TerminalLine};
 use std::fmt::Display;
@@ -17,7 +17,7 @@ pub(crate) struct Progress<'r> {
     rt: &'r HostRuntime,
     /// The line of the standard error.
     line: TerminalLine<io::Stderr>,
-    /// When the run began; none where nothing is shown.
+    /// When the run began; none if nothing is shown.
     begun: Option<Instant>,
     /// After how many milliseconds of the run the next line is due.
     due_ms: u128,
@@ -51,7 +51,7 @@ impl<'r> Progress<'r> {
     }
 
     /// A run that begins now, and whose text goes to standard output as it is made: nothing is
-    /// shown where that is a terminal, too.
+    /// shown if that is a terminal, too.
     pub(crate) fn beside_text(rt: &'r HostRuntime) -> Progress<'r> {
         let mut progress = Progress::new(rt);
         if rt.stdout().is_terminal() {
@@ -60,7 +60,7 @@ impl<'r> Progress<'r> {
         progress
     }
 
-    /// For how many milliseconds the run goes on; none where nothing is shown.
+    /// For how many milliseconds the run goes on; none if nothing is shown.
     fn passed_ms(&self) -> Option<u128> {
         match self.begun.as_ref()?.elapsed(self.rt) {
             Ok(passed) => Some(passed.as_millis()),
@@ -87,14 +87,14 @@ impl<'r> Progress<'r> {
         }
     }
 
-    /// Tells that so many of all these things are done.
-    pub(crate) fn tell(&mut self, done: usize, all: usize, things: &str) {
+    /// Shows how many of all these things are done.
+    pub(crate) fn report(&mut self, done: usize, all: usize, things: &str) {
         self.show(format_args!("{done} of {all} {things}"));
     }
 
-    /// Tells what is done with so many bytes of all, or that it is with so many where their number
-    /// is not known.
-    pub(crate) fn tell_bytes(&mut self, done: u64, all: Option<u64>, verb: &str) {
+    /// Shows with how many bytes of all something is done, or with how many if their number is not
+    /// known.
+    pub(crate) fn report_bytes(&mut self, done: u64, all: Option<u64>, verb: &str) {
         let done = done / MIB;
         match all {
             Some(all) => {
@@ -111,16 +111,16 @@ impl<'r> Progress<'r> {
     }
 }
 
-/// A reader that tells how far it was read.
+/// A reader that shows how far it was read.
 #[derive(Drop)]
 pub(crate) struct Watched<'r, R: Read + Drop> {
     /// What is read.
     from: R,
-    /// Where the count is told.
+    /// Where the count is shown.
     progress: Progress<'r>,
     /// How many bytes were read.
     done: u64,
-    /// How many there are, where that is known.
+    /// How many there are, if that is known.
     all: Option<u64>,
     /// What is done with them.
     verb: &'static str,
@@ -151,7 +151,7 @@ impl<'r, R: Read + Drop> Watched<'r, R> {
 
 impl<'r, R: Read + Drop> Read for Watched<'r, R> {
     fn read(&mut self, buf: &mut [u8]) -> io::Result<usize> {
-        self.progress.tell_bytes(self.done, self.all, self.verb);
+        self.progress.report_bytes(self.done, self.all, self.verb);
         let count = self.from.read(buf)?;
         self.done = self.done.saturating_add(count as u64);
         if count == 0 {
@@ -161,12 +161,12 @@ impl<'r, R: Read + Drop> Read for Watched<'r, R> {
     }
 }
 
-/// A writer that tells how much was written.
+/// A writer that shows how much was written.
 #[derive(Drop)]
 pub(crate) struct Watching<'r, W: Write + Drop> {
     /// Where the bytes go.
     to: W,
-    /// Where the count is told.
+    /// Where the count is shown.
     progress: Progress<'r>,
     /// How many bytes were written.
     done: u64,
@@ -188,7 +188,7 @@ impl<'r, W: Write + Drop> Write for Watching<'r, W> {
         match self.to.write(bytes) {
             Ok(count) => {
                 self.done = self.done.saturating_add(count as u64);
-                self.progress.tell_bytes(self.done, None, "written");
+                self.progress.report_bytes(self.done, None, "written");
                 Ok(count)
             }
             Err(error) => {

@@ -2,32 +2,50 @@
 
 ghost use Rattle.std.specs.Prelude.{◌≡◌};
 
-use crate::coding::{decode, encode};
+use crate::agency_csv::encode_columns;
 use crate::fault::{Fault, say};
-use crate::looking::look_at;
+use crate::look::look_at;
 use crate::output::{collect, put};
 use crate::progress::{Progress, Watching};
-use crate::row_coding::encode_columns;
-use crate::sorting::sort;
-use crate::splitting::split;
-use crate::table::tell_table;
-use crate::telling::{tell, tell_and_keep};
+use crate::sort::sort;
+use crate::split::split;
+use crate::table::report_table;
 use crate::texts::Texts;
+use crate::upload_lines::{report_and_keep, report_with_tokens};
 use crate::words::{Task, task_of};
 use clap::Error;
 use clap::error::ErrorKind;
-use program_manners::Complaints;
+use program_manners::{Complaints, WrongWord};
+use std::alloc::Global;
 use std::io;
 use std::io::Write;
 use std::marker::Sync;
 use std::thread::Threads;
-use tool_program::{Escaped, Output, corrections_over, finish, merge_ledgers_over, merge_over};
+use tool_program::{
+    Escaped, Output, corrections_over, decode_over, encode_over, finish, merge_ledgers_over,
+    merge_over, uploads_over,
+};
 
 /// Says that the command line is wrong, and gives the status.
 fn mistake<E: Write>(err: &mut Complaints<E>, line: &str) -> u8
     ensures { result ≡ 2 }
 {
-    err.tell_line(format_args!("error: {line}"));
+    err.report_line(format_args!("error: {line}"));
+    2
+}
+
+/// Says which word of a fare table has a wrong date, or none, and gives the status.
+fn mis_dated<E: Write>(alloc: Global, err: &mut Complaints<E>, wrong: &WrongWord<'_>) -> u8 {
+    let shown = Escaped(wrong.word);
+    let Ok(word) = format!(in alloc; "{shown}") else {
+        say(err, &Fault::no_memory());
+        return 1;
+    };
+    let line = WrongWord {
+        word: &word,
+        fault: wrong.fault,
+    };
+    err.report_line(format_args!("error: {line}"));
     2
 }
 
@@ -36,8 +54,8 @@ fn mistake<E: Write>(err: &mut Complaints<E>, line: &str) -> u8
 fn write_safely<E: Write>(err: &mut Complaints<E>, text: &str) {
     for line in text.split_inclusive("\n") {
         match line.strip_suffix("\n") {
-            Some(line) => err.tell_line(Escaped(line)),
-            None => err.tell(Escaped(line)),
+            Some(line) => err.report_line(Escaped(line)),
+            None => err.report(Escaped(line)),
         }
     }
 }
@@ -74,7 +92,7 @@ fn print<'a>(rt: &HostRuntime, text: &str) -> Result<(), Fault<'a>> {
     Ok(())
 }
 
-/// Does a task of which no status is known yet, with threads where they help. Says whether all is
+/// Does a task of which no status is known yet, with threads if they help. Says whether all is
 /// well.
 fn perform<'a, R: Threads + Sync, W: Write + Drop, E: Write>(
     threads: &R,
@@ -84,30 +102,23 @@ fn perform<'a, R: Threads + Sync, W: Write + Drop, E: Write>(
     err: &mut Complaints<E>,
 ) -> Result<bool, Fault<'a>> {
     match task {
-        Task::Encode(name) => {
-            encode(rt, *name, out)?;
-            Ok(true)
-        }
         Task::EncodeRows(name, words) => {
             encode_columns(rt, *name, words, out, err)?;
             Ok(true)
         }
-        Task::Decode(names) => decode(rt, names, out, err),
-        Task::Uploads(names, has_tokens) => tell(rt, names, *has_tokens, out),
+        Task::UploadTokens(names) => report_with_tokens(rt, names, out),
         Task::GoodPart(name, good, has_tokens) => {
-            tell_and_keep(rt, *name, *good, *has_tokens, out)
+            report_and_keep(rt, *name, *good, *has_tokens, out)
         }
         Task::Look(words) => look_at(threads, rt, words, out, err),
-        Task::Table(question) => tell_table(rt, question, out, err),
-        Task::Sort(words) => sort(threads, rt, words, err),
-        Task::Split(words) => {
-            split(rt, words, out)?;
-            Ok(true)
-        }
+        Task::Table(question) => report_table(rt, question, out, err),
+        Task::Encode(_) | Task::Decode(_) | Task::Uploads(_) => Ok(false),
+        Task::Sort(_) | Task::Split(_) => Ok(false),
         Task::Merge(_) | Task::MergeLedgers(_) | Task::Corrections(_) => Ok(false),
         Task::NotOneUpload | Task::InputTwice | Task::InputMerged => Ok(false),
         Task::NotEachReport => Ok(false),
         Task::NoMoment | Task::WrongRows(_) | Task::WrongLook(_) | Task::Nothing => Ok(false),
+        Task::TablesAsSql | Task::WrongDate(_) => Ok(false),
     }
 }
 
@@ -134,6 +145,13 @@ fn status_of<'a, R: Threads + Sync, W: Write + Drop, E: Write>(
 ) -> u8 {
     let alloc = rt.alloc();
     let done = match task {
+        Task::Encode(word) => return encode_over(alloc, word, &mut Texts::new(rt), out, err),
+        Task::Decode(words) => return decode_over(alloc, words, &mut Texts::new(rt), out, err),
+        Task::Uploads(words) => {
+            return uploads_over(alloc, words, &mut Texts::shown(rt), out, err);
+        }
+        Task::Sort(asked) => return sort(threads, rt, asked, err),
+        Task::Split(asked) => return split(rt, asked, out, err),
         Task::Merge(words) => {
             return merge_over(
                 alloc,
@@ -161,10 +179,7 @@ fn status_of<'a, R: Threads + Sync, W: Write + Drop, E: Write>(
     };
     match done {
         Ok(true) => 0,
-        Ok(false) => match task {
-            Task::Sort(_) => 3,
-            _ => 1,
-        },
+        Ok(false) => 1,
         Err(fault) => {
             say(err, &fault);
             1
@@ -193,8 +208,8 @@ fn run_task<'a, R: Threads + Sync, E: Write>(
 }
 
 /// The whole program: reads the words, of which the first is the program's name, does what they ask
-/// for, and writes mistakes and faults to `err`. Gives the status: 0 where all is well, 1 after a
-/// fault, 2 where the words are no command line.
+/// for, and writes mistakes and faults to `err`. Gives the status: 0 if all is well, 1 after a
+/// fault, 2 if the words are no command line.
 pub(crate) fn run<R: Threads + Sync, E: Write>(
     threads: &R,
     rt: &HostRuntime,
@@ -211,6 +226,8 @@ pub(crate) fn run<R: Threads + Sync, E: Write>(
         Ok(Task::NoMoment) => {
             return mistake(err, "--from needs a moment, as 2026-03-01T00:00:00Z");
         }
+        Ok(Task::TablesAsSql) => return mistake(err, "--table cannot be used with --sql"),
+        Ok(Task::WrongDate(wrong)) => return mis_dated(rt.alloc(), err, &wrong),
         Ok(Task::WrongRows(wrong)) => return mistake(err, wrong.line()),
         Ok(Task::WrongLook(wrong)) => return mistake(err, wrong.line()),
         Ok(Task::Nothing) => {

@@ -1,37 +1,125 @@
 //! The texts of the system, for the subcommands of `tool_program`.
 
-use program_manners::{LoadFault, Opened, open_file};
-use std::io::BufReader;
-use tool_program::Source;
+use crate::progress::{Progress, Watched};
+use program_manners::{LoadFault, Opened, load_file, load_from, open_file};
+use std::alloc::Global;
+use std::fs;
+use std::io::{BufReader, ErrorKind, Input, Read};
+use tool_program::{Shown, Source};
 
 /// How many bytes one read of a text asks for.
 const READ_BYTES: usize = 65_536;
+
+/// The file of this name, or standard input if there is none, to be read from its beginning.
+fn opened(rt: &HostRuntime, name: Option<&str>) -> Result<Opened, LoadFault> {
+    match name {
+        Some(name) => Ok(Opened::File(open_file(rt, name)?)),
+        None => Ok(Opened::Input(rt.reader())),
+    }
+}
+
+/// All bytes that the reader has left.
+fn read_whole<R: Read>(alloc: Global, from: &mut R) -> Result<Vec<u8>, LoadFault> {
+    let mut bytes = Vec::new(alloc);
+    match from.read_to_end(&mut bytes) {
+        Ok(_) => Ok(bytes),
+        Err(error) if error.kind() == ErrorKind::OutOfMemory => Err(LoadFault::NoMemory),
+        Err(_) => Err(LoadFault::Unread),
+    }
+}
 
 /// Files and standard input of the system. It does not keep what it opened.
 #[derive(Drop)]
 pub(crate) struct Texts<'r> {
     /// The runtime that reaches them.
     rt: &'r HostRuntime,
+    /// Where counts are shown.
+    progress: Progress<'r>,
 }
 
 impl<'r> Texts<'r> {
-    /// What this runtime reaches.
+    /// What this runtime reaches. Counts are shown unless the text that is made goes to a terminal.
     pub(crate) fn new(rt: &'r HostRuntime) -> Texts<'r> {
-        Texts { rt }
+        Texts {
+            rt,
+            progress: Progress::beside_text(rt),
+        }
+    }
+
+    /// The same. Counts are shown whether or not: the text is made behind them, or none is.
+    pub(crate) fn shown(rt: &'r HostRuntime) -> Texts<'r> {
+        Texts {
+            rt,
+            progress: Progress::new(rt),
+        }
+    }
+
+    /// A text that is read in pieces.
+    fn read(
+        &self,
+        name: Option<&str>,
+        progress: Progress<'r>,
+        shown: Shown,
+    ) -> Result<BufReader<Watched<'r, Opened>>, LoadFault> {
+        let from = opened(self.rt, name)?;
+        let watched = Watched::new(from, progress, Some(shown.bytes), shown.verb);
+        match BufReader::with_capacity(self.rt.alloc(), READ_BYTES, watched) {
+            Ok(reader) => Ok(reader),
+            Err(_) => Err(LoadFault::NoMemory),
+        }
     }
 }
 
-impl Source for Texts<'_> {
-    type Text = BufReader<Opened>;
+impl<'r> Source for Texts<'r> {
+    type Text = BufReader<Watched<'r, Opened>>;
 
-    fn open(&mut self, name: Option<&str>) -> Result<BufReader<Opened>, LoadFault> {
-        let opened = match name {
-            Some(name) => Opened::File(open_file(self.rt, name)?),
-            None => Opened::Input(self.rt.reader()),
+    fn open(&mut self, name: Option<&str>) -> Result<BufReader<Watched<'r, Opened>>, LoadFault> {
+        let unshown = Shown {
+            bytes: 0,
+            verb: "read",
         };
-        match BufReader::with_capacity(self.rt.alloc(), READ_BYTES, opened) {
-            Ok(reader) => Ok(reader),
-            Err(_) => Err(LoadFault::NoMemory),
+        self.read(name, Progress::hidden(self.rt), unshown)
+    }
+
+    fn open_shown(
+        &mut self,
+        name: Option<&str>,
+        shown: Shown,
+    ) -> Result<BufReader<Watched<'r, Opened>>, LoadFault> {
+        self.read(name, Progress::beside_text(self.rt), shown)
+    }
+
+    fn end_shown(&mut self, text: &mut BufReader<Watched<'r, Opened>>) {
+        text.get_mut().end();
+    }
+
+    fn show_count(&mut self, done: usize, all: usize, things: &'static str) {
+        self.progress.report(done, all, things);
+    }
+
+    fn end_count(&mut self) {
+        self.progress.end();
+    }
+
+    fn load_any(&mut self, alloc: Global, name: Option<&str>) -> Result<Vec<u8>, LoadFault> {
+        let from = opened(self.rt, name)?;
+        let mut watched = Watched::new(from, Progress::beside_text(self.rt), None, "read");
+        let bytes = read_whole(alloc, &mut watched);
+        watched.end();
+        bytes
+    }
+
+    fn load(&mut self, alloc: Global, name: Option<&str>) -> Result<Vec<u8>, LoadFault> {
+        match name {
+            Some(name) => load_file(self.rt, alloc, name),
+            None => load_from(alloc, &mut self.rt.reader()),
+        }
+    }
+
+    fn plain_bytes(&self, name: Option<&str>) -> Option<u64> {
+        match fs::metadata(self.rt, name?) {
+            Ok(about) if about.is_file() => Some(about.len()),
+            Ok(_) | Err(_) => None,
         }
     }
 }

@@ -1,20 +1,20 @@
 //! The command line.
 
 use crate::arguments::{Row, subcommand};
-use crate::correcting::{corrections_command, corrections_words};
-use crate::encode_words::{EncodeMistake, EncodeWords, RowsWords, encode_command, encode_words};
+use crate::corrections::{corrections_command, corrections_words};
+use crate::decode::{decode_command, decode_words};
+use crate::encode::{EncodeMistake, EncodeWords, RowsWords, encode_command, encode_words};
+use crate::later_tables::LaterTable;
 use crate::list_words::has_input_twice;
 use crate::look_words::{LookMistake, LookWords, asks_for_look, look_words, uploads_command};
-use crate::part_words::{
-    LedgerWords, MergeWords, merge_command, merge_ledgers_command, merge_ledgers_words,
-    merge_words, split_command, split_words,
-};
-use crate::sorting::{SortWords, sort_command, sort_words};
-use crate::splitting::SplitWords;
+use crate::merge::{MergeWords, merge_command, merge_words};
+use crate::merge_ledgers::{LedgerWords, merge_ledgers_command, merge_ledgers_words};
+use crate::sort::{Sorting, sort_command, sort_words};
+use crate::split::{Splitting, split_command, split_words};
 use crate::table::Question;
 use clap::{ArgMatches, Command, Error};
 use jiff::Timestamp;
-use program_manners::new_command;
+use program_manners::{WrongWord, names_in, new_command};
 use std::alloc::{AllocError, Global};
 use tool_program::{CorrectedLedgers, Name};
 
@@ -29,17 +29,6 @@ const STATUS: &str = "Exit status:
      error says
   2  the command line is wrong";
 
-/// What `decode` does.
-const DECODE_ABOUT: &str =
-    "Writes the taps of uploads as one tap table for encode, to standard output.
-
-Tokens have lower-case digits, moments are milliseconds. Of an upload with a layout fault the taps
-before it are written, and the fault is reported.";
-
-/// The help of `decode`'s uploads.
-const DECODE_HELP: &str =
-    "Uploads of at most 67108864 bytes; - stands for standard input [default: standard input]";
-
 /// What `table` does.
 const TABLE_ABOUT: &str =
     "Prints a fare table as it is understood: the zone with its next changes of clocks, the modes,
@@ -49,11 +38,18 @@ the gaps between them, and how many riders each class has.
 Warnings name what the rules of the table pass over: keys that have no meaning and, where uploads
 are given, ranges that no validator of theirs is in, and validators of theirs that are in no range.
 Faults name each wrong value: its whole path, its line and column, and what is wanted. Both go to
-the standard error, and of a table with a fault nothing else is printed.";
+the standard error, and of a table with a fault nothing else is printed.
+
+With --table the tables that follow, each from its date on, are printed behind it. Uploads are held
+against each table by the taps of its own time.";
 
 /// The help of the table.
 const TABLE_HELP: &str =
     "The fare table, a TOML file of at most 67108864 bytes; - stands for standard input";
+
+/// The help of the tables that follow it.
+const LATER_HELP: &str =
+    "A fare table that is valid from 00:00 of this date on, by the clocks of the tables' zone";
 
 /// The help of `table`'s uploads.
 const TABLE_UPLOADS_HELP: &str =
@@ -76,25 +72,27 @@ const FROM_HELP: &str =
 /// What the words ask for.
 #[derive(Drop)]
 pub(crate) enum Task<'a> {
-    /// Write the upload of a table.
-    Encode(Name<'a>),
+    /// Write the upload of a tap table.
+    Encode(&'a str),
     /// Write the upload of the rows of an agency's CSV.
     EncodeRows(Name<'a>, RowsWords<'a>),
-    /// Write the table of uploads.
-    Decode(Vec<Name<'a>>),
-    /// Tell what uploads have, and how many tokens they share, where that is asked for.
-    Uploads(Vec<Name<'a>>, bool),
-    /// Tell what one upload has, make a file of its good part, and tell how many tokens it has,
-    /// where that is asked for.
+    /// Write the tap table of uploads.
+    Decode(Vec<&'a str>),
+    /// Print what uploads have, by the words that name them.
+    Uploads(Vec<&'a str>),
+    /// Print what uploads have, and how many tokens they share.
+    UploadTokens(Vec<Name<'a>>),
+    /// Print what one upload has, make a file of its good part, and print how many tokens it has,
+    /// if that is asked for.
     GoodPart(Name<'a>, Name<'a>, bool),
     /// Tell what uploads have, and what is found in them.
     Look(LookWords<'a>),
     /// Tell what a fare table has.
     Table(Question<'a>),
     /// Sort uploads, or merge sorted ones.
-    Sort(SortWords<'a>),
+    Sort(Sorting<'a>),
     /// Split uploads into parts.
-    Split(SplitWords<'a>),
+    Split(Splitting<'a>),
     /// Merge the reports of parts.
     Merge(MergeWords<'a>),
     /// Merge the ledgers of parts.
@@ -111,6 +109,10 @@ pub(crate) enum Task<'a> {
     NotEachReport,
     /// What is to be a moment is none.
     NoMoment,
+    /// Several fare tables are to be written as SQL.
+    TablesAsSql,
+    /// The word of a fare table has a wrong date, or none.
+    WrongDate(WrongWord<'a>),
     /// The words of `encode` are wrong in this way.
     WrongRows(EncodeMistake),
     /// The options of a look are wrong.
@@ -119,19 +121,14 @@ pub(crate) enum Task<'a> {
     Nothing,
 }
 
-/// `decode [--files-from LIST [-0]] [FILE]...`
-fn decode_command<'a>(alloc: Global) -> Result<Command<'a>, AllocError> {
-    let rows = [Row::list(), Row::words("FILE", DECODE_HELP)];
-    subcommand(alloc, "decode", DECODE_ABOUT, STATUS, &rows)
-}
-
-/// `table [--strict] [--riders] [--from MOMENT] [--sql] F [UPLOAD]...`
+/// `table [--strict] [--riders] [--from MOMENT] [--sql] F [--table G@YYYY-MM-DD]... [UPLOAD]...`
 fn table_command<'a>(alloc: Global) -> Result<Command<'a>, AllocError> {
     let rows = [
         Row::flag("strict", STRICT_HELP),
         Row::flag("riders", RIDERS_HELP),
         Row::option("from", "MOMENT", FROM_HELP),
         Row::flag("sql", SQL_HELP).apart_from(&["riders", "from"]),
+        Row::repeated("table", "G@YYYY-MM-DD", LATER_HELP),
         Row::word("F", TABLE_HELP).needed(),
         Row::words("UPLOAD", TABLE_UPLOADS_HELP),
     ];
@@ -142,7 +139,7 @@ fn table_command<'a>(alloc: Global) -> Result<Command<'a>, AllocError> {
 fn subcommands<'a>(alloc: Global) -> Result<Vec<Command<'a>>, AllocError> {
     let mut all = Vec::new(alloc);
     all.push(encode_command(alloc)?)?;
-    all.push(decode_command(alloc)?)?;
+    all.push(decode_command(alloc, STATUS)?)?;
     all.push(uploads_command(alloc, STATUS)?)?;
     all.push(table_command(alloc)?)?;
     all.push(sort_command(alloc)?)?;
@@ -179,18 +176,6 @@ pub(crate) fn names_at<'a>(
     Ok(names)
 }
 
-/// The names of FILE, or standard input where there is none.
-fn names_or_input<'a>(
-    alloc: Global,
-    matches: &ArgMatches<'a>,
-) -> Result<Vec<Name<'a>>, AllocError> {
-    let mut names = names_at(alloc, matches, "FILE")?;
-    if names.is_empty() {
-        names.push(Name::input())?;
-    }
-    Ok(names)
-}
-
 /// What `uploads` is asked for.
 fn uploads_task<'a>(alloc: Global, matches: &ArgMatches<'a>) -> Result<Task<'a>, AllocError> {
     if asks_for_look(matches) {
@@ -199,12 +184,32 @@ fn uploads_task<'a>(alloc: Global, matches: &ArgMatches<'a>) -> Result<Task<'a>,
     let names = names_at(alloc, matches, "FILE")?;
     let has_tokens = matches.get_flag("tokens");
     let Some(good) = matches.get_str("good-part") else {
-        return Ok(Task::Uploads(names, has_tokens));
+        if has_tokens {
+            return Ok(Task::UploadTokens(names));
+        }
+        return Ok(Task::Uploads(names_in(alloc, matches, "FILE")?));
     };
     match names.as_slice() {
         [name] => Ok(Task::GoodPart(*name, Name(good), has_tokens)),
         _ => Ok(Task::NotOneUpload),
     }
+}
+
+/// The tables behind the first one, or the first wrong date of their words.
+fn later_tables<'a>(
+    alloc: Global,
+    matches: &ArgMatches<'a>,
+) -> Result<Result<Vec<LaterTable<'a>>, WrongWord<'a>>, AllocError> {
+    let mut tables = Vec::new(alloc);
+    if let Some(words) = matches.get_strs("table") {
+        for word in words {
+            match LaterTable::of(alloc, word)? {
+                Ok(table) => tables.push(table)?,
+                Err(wrong) => return Ok(Err(wrong)),
+            }
+        }
+    }
+    Ok(Ok(tables))
 }
 
 /// What `table` is asked for.
@@ -216,16 +221,40 @@ fn table_task<'a>(alloc: Global, matches: &ArgMatches<'a>) -> Result<Task<'a>, A
         },
         None => None,
     };
-    Ok(Task::Table(Question {
+    let is_sql = matches.get_flag("sql");
+    if is_sql && matches.get_str("table").is_some() {
+        return Ok(Task::TablesAsSql);
+    }
+    let later = match later_tables(alloc, matches)? {
+        Ok(later) => later,
+        Err(wrong) => return Ok(Task::WrongDate(wrong)),
+    };
+    Ok(tables_task(Question {
         table: matches
             .get_str("F")
             .map_or(Name::input(), |word| Name(word)),
+        later,
         uploads: names_at(alloc, matches, "UPLOAD")?,
         is_strict: matches.get_flag("strict"),
         has_riders: matches.get_flag("riders"),
         from,
-        is_sql: matches.get_flag("sql"),
+        is_sql,
     }))
+}
+
+/// What is asked of tables. Of several only one text can be standard input.
+fn tables_task<'a>(question: Question<'a>) -> Task<'a> {
+    let later = question
+        .later
+        .iter()
+        .filter(|table| table.is_input())
+        .count();
+    let first = if question.table.is_input() { 1 } else { 0 };
+    let others = inputs_in(&question.uploads).saturating_add(first);
+    if later > 0 && later.saturating_add(others) > 1 {
+        return Task::InputTwice;
+    }
+    Task::Table(question)
 }
 
 /// How many of the names stand for standard input.
@@ -274,8 +303,8 @@ fn merge_ledgers_task<'a>(words: LedgerWords<'a>) -> Task<'a> {
 }
 
 /// What `sort` is asked for. Uploads that are merged are read at any offset.
-fn sort_task<'a>(words: SortWords<'a>) -> Task<'a> {
-    match inputs_in(&words.uploads) {
+fn sort_task<'a>(words: Sorting<'a>) -> Task<'a> {
+    match inputs_among(&words.uploads) {
         0 => Task::Sort(words),
         _ if words.is_merge => Task::InputMerged,
         1 => Task::Sort(words),
@@ -286,7 +315,7 @@ fn sort_task<'a>(words: SortWords<'a>) -> Task<'a> {
 /// What `encode` is asked for.
 fn encode_task<'a>(words: EncodeWords<'a>) -> Task<'a> {
     match words {
-        EncodeWords::TapTable(name) => Task::Encode(name),
+        EncodeWords::TapTable(word) => Task::Encode(word),
         EncodeWords::Rows(name, words) => Task::EncodeRows(name, words),
         EncodeWords::Mistake(mistake) => Task::WrongRows(mistake),
     }
@@ -313,7 +342,7 @@ pub(crate) fn task_of<'a>(alloc: Global, words: &'a [String]) -> Result<Task<'a>
         return Ok(encode_task(encode_words(alloc, matches)?));
     }
     if name == "decode" {
-        return Ok(Task::Decode(names_or_input(alloc, matches)?));
+        return Ok(Task::Decode(decode_words(alloc, matches)?));
     }
     if name == "table" {
         return Ok(table_task(alloc, matches)?);

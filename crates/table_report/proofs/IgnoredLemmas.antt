@@ -1,4 +1,4 @@
--- The keys that are told are those of the text that have no meaning where they stand.
+-- The keys that are reported are those of the text that have no meaning where they stand.
 use Rattle.std.proofs.Common.{◌≡◌, ◌⊎◌, ℕ, ◌+◌, zero, suc, Bool, true, false, List, [], ◌∷◌}
 use Rattle.std.proofs.Common.{◌++◌, Option, Some, None, option_map, refl, sym, ap, ◌∙◌, subst, inl}
 use Rattle.std.proofs.Common.{inr, codes, arith}
@@ -19,14 +19,14 @@ use Rattle.table_report.specs.declared.holder.KeyHolder.{KeyHolder}
 use Rattle.table_report.specs.declared.holder.KeyHolder.TheVariants.{Top, Class, Range}
 
 -- ---- the keys of one table
-abbrev Told : Type 0
-Told = KeyHolder × List ℕ
+abbrev Found : Type 0
+Found = KeyHolder × List ℕ
 
 -- the key stands in the table with these keys, and has no meaning there
-pub record IsNew (holder : KeyHolder) (keys : Members) (told : Told) : Type 0 where
-  pub here : told.0 ≡ holder
-  pub stands : IsSome (get_member told.1 keys)
-  pub no_meaning : has_meaning holder told.1 ≡ false
+pub record IsNew (holder : KeyHolder) (keys : Members) (reported : Found) : Type 0 where
+  pub here : reported.0 ≡ holder
+  pub stands : IsSome (get_member reported.1 keys)
+  pub no_meaning : has_meaning holder reported.1 ≡ false
 
 stands_here : (key k : List ℕ) (v : Data) (more : Members) → key ≡ k
     → IsSome (get_member key (member k v more))
@@ -44,7 +44,7 @@ stands_later key k v more some = by_same (is_eq (slice_cmp nat_cmp key k)) refl
     by_same false other = subst (λ (o : Option Data).
         IsSome o) (sym (member-later key k v more other)) some
 
-later : (h : KeyHolder) (k : List ℕ) (v : Data) (more : Members) (x : Told) → IsNew h more x
+later : (h : KeyHolder) (k : List ℕ) (v : Data) (more : Members) (x : Found) → IsNew h more x
     → IsNew h (member k v more) x
 later h k v more x new = record {
   here = new.here;
@@ -52,12 +52,12 @@ later h k v more x new = record {
   no_meaning = new.no_meaning;
 }
 
-pub told_from : (h : KeyHolder) (ms : Members) (found : List Told) (x : Told)
+pub reported_from : (h : KeyHolder) (ms : Members) (found : List Found) (x : Found)
     → Contains (ignored_from h found ms) x → Contains found x ⊎ IsNew h ms x
-told_from h no_members found x has = inl has
-told_from h (member k v more) found x has =
-    by_known (has_meaning h k) refl (told_from h more found x)
-    (told_from h more (found ++ (h, k) ∷ []) x)
+reported_from h no_members found x has = inl has
+reported_from h (member k v more) found x has =
+    by_known (has_meaning h k) refl (reported_from h more found x)
+    (reported_from h more (found ++ (h, k) ∷ []) x)
   where
     if_known : Contains found x ⊎ IsNew h more x → Contains found x ⊎ IsNew h (member k v more) x
     if_known (inl c) = inl c
@@ -65,9 +65,9 @@ told_from h (member k v more) found x has =
 
     is_it : has_meaning h k ≡ false → (h, k) ≡ x → IsNew h (member k v more) x
     is_it is same = record {
-      here = sym (ap (λ (y : Told). y.0) same);
-      stands = stands_here x.1 k v more (sym (ap (λ (y : Told). y.1) same));
-      no_meaning = ap (λ (y : Told). has_meaning h y.1) (sym same) ∙ is;
+      here = sym (ap (λ (y : Found). y.0) same);
+      stands = stands_here x.1 k v more (sym (ap (λ (y : Found). y.1) same));
+      no_meaning = ap (λ (y : Found). has_meaning h y.1) (sym same) ∙ is;
     }
 
     by_push : has_meaning h k ≡ false → Contains found x ⊎ ((h, k) ≡ x) → Contains found x
@@ -94,7 +94,7 @@ told_from h (member k v more) found x has =
         Contains (ignored_from h (if b then found else found ++ (h, k) ∷ []) more) x) is has))
 
 -- a key that stands in a table, and is not its first one, stands among the others
-others : (h : KeyHolder) (k : List ℕ) (v : Data) (more : Members) (x : Told)
+others : (h : KeyHolder) (k : List ℕ) (v : Data) (more : Members) (x : Found)
     → is_eq (slice_cmp nat_cmp x.1 k) ≡ false → IsNew h (member k v more) x → IsNew h more x
 others h k v more x other new = record {
   here = new.here;
@@ -102,13 +102,13 @@ others h k v more x other new = record {
   no_meaning = new.no_meaning;
 }
 
-pub told_to : (h : KeyHolder) (ms : Members) (found : List Told) (x : Told) → Contains found x
+pub reported_to : (h : KeyHolder) (ms : Members) (found : List Found) (x : Found) → Contains found x
     ⊎ IsNew h ms x → Contains (ignored_from h found ms) x
-told_to h no_members found x (inl has) = has
-told_to h no_members found x (inr new) = absurd (false≢true new.stands)
-told_to h (member k v more) found x is =
-    by_known (has_meaning h k) refl (told_to h more found x)
-    (told_to h more (found ++ (h, k) ∷ []) x)
+reported_to h no_members found x (inl has) = has
+reported_to h no_members found x (inr new) = absurd (false≢true new.stands)
+reported_to h (member k v more) found x is =
+    by_known (has_meaning h k) refl (reported_to h more found x)
+    (reported_to h more (found ++ (h, k) ∷ []) x)
     is
   where
     back : (b : Bool) → has_meaning h k ≡ b
@@ -130,7 +130,7 @@ told_to h (member k v more) found x is =
     if_new new true same =
         let it : x ≡ (h, k) = ap (λ (a : KeyHolder). (a, x.1)) new.here
         ∙ ap (λ (key : List ℕ). (h, key)) (same_bytes x.1 k same) in
-        inl (subst (λ (y : Told). Contains (found ++ (h, k) ∷ []) y) (sym it)
+        inl (subst (λ (y : Found). Contains (found ++ (h, k) ∷ []) y) (sym it)
         (Contains-push found (h, k)))
     if_new new false other = inr (others h k v more x other new)
 
@@ -148,29 +148,29 @@ told_to h (member k v more) found x is =
     by_known false is_b known_more new_more (inr new) =
         back false is_b (new_more (if_new new (is_eq (slice_cmp nat_cmp x.1 k)) refl))
 
--- ---- the keys of a value, where it is a table
+-- ---- the keys of a value, if it is a table
 abbrev keys_in : Option Members → Members
 keys_in keys = unwrap_or keys no_members
 
-value_from : (h : KeyHolder) (o : Option Members) (found : List Told) (x : Told)
+value_from : (h : KeyHolder) (o : Option Members) (found : List Found) (x : Found)
     → Contains (ignored_of h found o) x → Contains found x ⊎ IsNew h (keys_in o) x
 value_from h None found x has = inl has
-value_from h (Some keys) found x has = told_from h keys found x has
+value_from h (Some keys) found x has = reported_from h keys found x has
 
-value_to : (h : KeyHolder) (o : Option Members) (found : List Told) (x : Told) → Contains found x
+value_to : (h : KeyHolder) (o : Option Members) (found : List Found) (x : Found) → Contains found x
     ⊎ IsNew h (keys_in o) x → Contains (ignored_of h found o) x
 value_to h None found x (inl has) = has
 value_to h None found x (inr new) = absurd (false≢true new.stands)
-value_to h (Some keys) found x is = told_to h keys found x is
+value_to h (Some keys) found x is = reported_to h keys found x is
 
 -- ---- the classes from a place on
 abbrev class_keys : ℕ → Members → Members
 class_keys n ms = members_of (option_map (λ one. one.1) (member_at n ms))
 
-abbrev InClass : ℕ → Members → Told → Type 0
+abbrev InClass : ℕ → Members → Found → Type 0
 InClass p ms x = (n : ℕ) × IsNew (Class (p + n)) (class_keys n ms) x
 
-class_from : (ms : Members) (p : ℕ) (found : List Told) (x : Told)
+class_from : (ms : Members) (p : ℕ) (found : List Found) (x : Found)
     → Contains (ignored_of_classes p found ms) x → Contains found x ⊎ InClass p ms x
 class_from no_members p found x has = inl has
 class_from (member name value more) p found x has =
@@ -190,7 +190,7 @@ class_from (member name value more) p found x has =
         let at : suc p + n ≡ p + suc n = omega arith in
         inr (suc n, subst (λ (q : ℕ). IsNew (Class q) (class_keys n more) x) at new)
 
-class_to : (ms : Members) (p : ℕ) (found : List Told) (x : Told) → Contains found x ⊎ InClass p ms x
+class_to : (ms : Members) (p : ℕ) (found : List Found) (x : Found) → Contains found x ⊎ InClass p ms x
     → Contains (ignored_of_classes p found ms) x
 class_to no_members p found x (inl has) = has
 class_to no_members p found x (inr (zero, new)) = absurd (false≢true new.stands)
@@ -212,10 +212,10 @@ class_to (member name value more) p found x (inr (suc n, new)) =
 abbrev range_keys : ℕ → Items → Members
 range_keys n elements = members_of (get_item n elements)
 
-abbrev InRange : ℕ → Items → Told → Type 0
+abbrev InRange : ℕ → Items → Found → Type 0
 InRange p elements x = (n : ℕ) × IsNew (Range (p + n)) (range_keys n elements) x
 
-range_from : (elements : Items) (p : ℕ) (found : List Told) (x : Told)
+range_from : (elements : Items) (p : ℕ) (found : List Found) (x : Found)
     → Contains (ignored_of_ranges p found elements) x → Contains found x ⊎ InRange p elements x
 range_from no_items p found x has = inl has
 range_from (item value more) p found x has =
@@ -235,7 +235,7 @@ range_from (item value more) p found x has =
         let at : suc p + n ≡ p + suc n = omega arith in
         inr (suc n, subst (λ (q : ℕ). IsNew (Range q) (range_keys n more) x) at new)
 
-range_to : (elements : Items) (p : ℕ) (found : List Told) (x : Told) → Contains found x
+range_to : (elements : Items) (p : ℕ) (found : List Found) (x : Found) → Contains found x
     ⊎ InRange p elements x → Contains (ignored_of_ranges p found elements) x
 range_to no_items p found x (inl has) = has
 range_to no_items p found x (inr (zero, new)) = absurd (false≢true new.stands)
@@ -254,7 +254,7 @@ range_to (item value more) p found x (inr (suc n, new)) =
     (inr (n, subst (λ (q : ℕ). IsNew (Range q) (range_keys n more) x) at new))
 
 -- ---- the whole text
-as_ignored : (tree : Members) (h : KeyHolder) (x : Told) → IsNew h (members_at (where_of h) tree) x
+as_ignored : (tree : Members) (h : KeyHolder) (x : Found) → IsNew h (members_at (where_of h) tree) x
     → IsIgnored tree x
 as_ignored tree h x new = record {
   stands = subst (λ (g : KeyHolder). IsSome (get_member x.1 (members_at (where_of g) tree)))
@@ -262,8 +262,8 @@ as_ignored tree h x new = record {
   no_meaning = subst (λ (g : KeyHolder). has_meaning g x.1 ≡ false) (sym new.here) new.no_meaning;
 }
 
-pub ignored_told : (tree : Members) (x : Told) → Contains (ignored_in tree) x → IsIgnored tree x
-ignored_told tree x has = by_range (range_from elements 0 with_classes x has)
+pub ignored_reported : (tree : Members) (x : Found) → Contains (ignored_in tree) x → IsIgnored tree x
+ignored_reported tree x has = by_range (range_from elements 0 with_classes x has)
   where
     elements : Items
     elements = items_of (get_member (codes "validators") tree)
@@ -271,10 +271,10 @@ ignored_told tree x has = by_range (range_from elements 0 with_classes x has)
     classes : Members
     classes = members_of (get_member (codes "classes") tree)
 
-    with_top : List Told
+    with_top : List Found
     with_top = ignored_from Top [] tree
 
-    with_classes : List Told
+    with_classes : List Found
     with_classes = ignored_of_classes 0 with_top classes
 
     by_top : Contains [] x ⊎ IsNew Top tree x → IsIgnored tree x
@@ -282,7 +282,7 @@ ignored_told tree x has = by_range (range_from elements 0 with_classes x has)
     by_top (inr new) = as_ignored tree Top x new
 
     by_class : Contains with_top x ⊎ InClass 0 classes x → IsIgnored tree x
-    by_class (inl c) = by_top (told_from Top tree [] x c)
+    by_class (inl c) = by_top (reported_from Top tree [] x c)
     by_class (inr (n, new)) =
         let at : 0 + n ≡ n = omega arith in
         as_ignored tree (Class n) x
@@ -295,19 +295,19 @@ ignored_told tree x has = by_range (range_from elements 0 with_classes x has)
         as_ignored tree (Range n) x
         (subst (λ (q : ℕ). IsNew (Range q) (range_keys n elements) x) at new)
 
-pub all_told : (tree : Members) (x : Told) → IsIgnored tree x → Contains (ignored_in tree) x
-all_told tree (Top, key) is =
-    let top_told = told_to Top tree [] (Top, key) (inr (record {
+pub all_reported : (tree : Members) (x : Found) → IsIgnored tree x → Contains (ignored_in tree) x
+all_reported tree (Top, key) is =
+    let top_reported = reported_to Top tree [] (Top, key) (inr (record {
       here = refl;
       stands = is.stands;
       no_meaning = is.no_meaning;
     })) in
-    let class_told = class_to (members_of (get_member (codes "classes") tree)) 0
-    (ignored_from Top [] tree) (Top, key) (inl top_told) in
+    let class_reported = class_to (members_of (get_member (codes "classes") tree)) 0
+    (ignored_from Top [] tree) (Top, key) (inl top_reported) in
     range_to (items_of (get_member (codes "validators") tree)) 0
     (ignored_of_classes 0 (ignored_from Top [] tree)
-    (members_of (get_member (codes "classes") tree))) (Top, key) (inl class_told)
-all_told tree (Class n, key) is =
+    (members_of (get_member (codes "classes") tree))) (Top, key) (inl class_reported)
+all_reported tree (Class n, key) is =
     let classes = members_of (get_member (codes "classes") tree) in
     let at : n ≡ 0 + n = omega arith in
     let new : IsNew (Class n) (class_keys n classes) (Class n, key) = record {
@@ -315,15 +315,15 @@ all_told tree (Class n, key) is =
       stands = is.stands;
       no_meaning = is.no_meaning;
     } in
-    let class_told = class_to classes 0 (ignored_from Top [] tree) (Class n, key)
+    let class_reported = class_to classes 0 (ignored_from Top [] tree) (Class n, key)
     (inr (
       n,
       subst (λ (q : ℕ). IsNew (Class q) (class_keys n classes) (Class n, key)) at
           new,
     )) in
     range_to (items_of (get_member (codes "validators") tree)) 0
-    (ignored_of_classes 0 (ignored_from Top [] tree) classes) (Class n, key) (inl class_told)
-all_told tree (Range n, key) is =
+    (ignored_of_classes 0 (ignored_from Top [] tree) classes) (Class n, key) (inl class_reported)
+all_reported tree (Range n, key) is =
     let elements = items_of (get_member (codes "validators") tree) in
     let at : n ≡ 0 + n = omega arith in
     let new : IsNew (Range n) (range_keys n elements) (Range n, key) = record {

@@ -1,9 +1,9 @@
 -- Validators that are among others.
-use Rattle.std.proofs.Common.{◌≡◌, ℕ, ◌<◌, ◌||◌, Bool, true, false, List, [], ◌∷◌, ◌++◌, cond}
+use Rattle.std.proofs.Common.{◌≡◌, ℕ, ◌<◌, ◌&&◌, ◌||◌, Bool, true, false, List, [], ◌∷◌, ◌++◌, cond}
 use Rattle.std.proofs.Common.{refl, sym, ap, ◌∙◌, arith, nat_eq}
 use Rattle.std.proofs.lemmas.Bool.Decides.{nat_tests}
 use Rattle.std.proofs.lemmas.List.Folds.{list_any-append}
-use Rattle.std.proofs.Math.Bool.{or_assoc}
+use Rattle.std.proofs.Math.Bool.{or-false, or_assoc}
 use Rattle.std.specs.BTreeMap.{is_at}
 use Rattle.std.specs.BTreeMap.Range.{range_contains}
 use Rattle.std.specs.Cmp.{nat_eq_equiv, unsigned_tied}
@@ -11,8 +11,9 @@ use Rattle.std.specs.List.{filter, list_any}
 use Rattle.std.specs.Ordering.{nat_cmp}
 use Rattle.std.specs.declared.ops.Bound.TheVariants.{Included}
 use Rattle.tap_views.specs.Layout.{Tap, num}
+use Rattle.tap_views.specs.declared.span.MomentSpan.{MomentSpan}
 use Rattle.table_report.specs.Ranges.{is_from_to}
-use Rattle.table_report.specs.SeenValidators.{has_tap_at, is_among}
+use Rattle.table_report.specs.SeenValidators.{has_tap_at, is_among, is_tap_at}
 
 -- a set has what is among its numbers
 among : (keys : List ℕ) (v : ℕ) → list_any (is_at (nat_cmp v)) keys ≡ is_among keys v
@@ -20,42 +21,59 @@ among [] v = refl
 among (k ∷ keys) v = ap (λ b. b || list_any (is_at (nat_cmp v)) keys) (unsigned_tied v k)
     ∙ ap (λ b. nat_eq v k || b) (among keys v)
 
-one_of_three : (a b e : Bool) → cond e true (a || b) ≡ (a || (b || (e || false)))
-one_of_three true b true = refl
-one_of_three true b false = refl
-one_of_three false true true = refl
-one_of_three false true false = refl
-one_of_three false false true = refl
-one_of_three false false false = refl
+in_one : (a e : Bool) → cond e true a ≡ (a || (true && e))
+in_one true true = refl
+in_one true false = refl
+in_one false true = refl
+in_one false false = refl
 
--- one more tap, whose validator was put into the set
-pub one_more : (old keys new : List ℕ) (taps : List Tap) (tap : Tap) (n : ℕ) → n ≡ num tap.validator
+-- a tap whose moment the span has, and whose validator was put into the set
+pub one_inserted : (span : MomentSpan) (keys new : List ℕ) (tap : Tap) (n : ℕ)
+    → n ≡ num tap.validator → is_from_to span.first span.last (num tap.moment) ≡ true
     → ((v : ℕ) → list_any (is_at (nat_cmp v)) new
     ≡ cond (is_at (nat_cmp n) v) true (list_any (is_at (nat_cmp v)) keys))
-    → ((v : ℕ) → is_among keys v ≡ (is_among old v || has_tap_at taps v)) → (v : ℕ)
-    → is_among new v ≡ (is_among old v || has_tap_at (taps ++ tap ∷ []) v)
-one_more old keys new taps tap n is update same v =
-    let had = is_among old v in
-    let taken = has_tap_at taps v in
-    let flip : is_at (nat_cmp n) v ≡ nat_eq v (num tap.validator) =
+    → (v : ℕ) → is_among new v ≡ (is_among keys v || is_tap_at span v tap)
+one_inserted span keys new tap n is has update v =
+    let same : Bool = nat_eq v (num tap.validator) in
+    let flip : is_at (nat_cmp n) v ≡ same =
     unsigned_tied n v ∙ nat_eq_equiv.symm n v ∙ ap (λ m. nat_eq v m) is in
-    let all : has_tap_at (taps ++ tap ∷ []) v ≡ (taken || (nat_eq v (num tap.validator) || false)) =
-    list_any-append (λ (t : Tap). nat_eq v (num t.validator)) taps (tap ∷ []) in
     sym (among new v) ∙ update v ∙ ap (λ b. cond b true (list_any (is_at (nat_cmp v)) keys)) flip
-    ∙ ap (λ b. cond (nat_eq v (num tap.validator)) true b) (among keys v ∙ same v)
-    ∙ one_of_three had taken (nat_eq v (num tap.validator)) ∙ ap (λ b. had || b) (sym all)
+    ∙ ap (λ b. cond same true b) (among keys v) ∙ in_one (is_among keys v) same
+    ∙ ap (λ b. is_among keys v || (b && same)) (sym has)
+
+-- a tap whose moment the span has not
+pub none_inserted : (span : MomentSpan) (keys : List ℕ) (tap : Tap)
+    → is_from_to span.first span.last (num tap.moment) ≡ false
+    → (v : ℕ) → is_among keys v ≡ (is_among keys v || is_tap_at span v tap)
+none_inserted span keys tap not v =
+    sym (or-false (is_among keys v))
+    ∙ ap (λ b. is_among keys v || (b && nat_eq v (num tap.validator))) (sym not)
+
+-- one more tap
+pub one_more : (span : MomentSpan) (old keys new : List ℕ) (taps : List Tap) (tap : Tap)
+    → ((v : ℕ) → is_among new v ≡ (is_among keys v || is_tap_at span v tap))
+    → ((v : ℕ) → is_among keys v ≡ (is_among old v || has_tap_at span taps v)) → (v : ℕ)
+    → is_among new v ≡ (is_among old v || has_tap_at span (taps ++ tap ∷ []) v)
+one_more span old keys new taps tap update same v =
+    let one = is_tap_at span v tap in
+    let all : has_tap_at span (taps ++ tap ∷ []) v ≡ (has_tap_at span taps v || (one || false)) =
+    list_any-append (is_tap_at span v) taps (tap ∷ []) in
+    update v ∙ ap (λ b. b || one) (same v)
+    ∙ or_assoc (is_among old v) (has_tap_at span taps v) one
+    ∙ ap (λ b. is_among old v || (has_tap_at span taps v || b)) (sym (or-false one))
+    ∙ ap (λ b. is_among old v || b) (sym all)
 
 -- one more batch
-pub one_batch : (old keys new : List ℕ) (taps more all : List Tap) → all ≡ taps ++ more
-    → ((v : ℕ) → is_among new v ≡ (is_among keys v || has_tap_at more v))
-    → ((v : ℕ) → is_among keys v ≡ (is_among old v || has_tap_at taps v)) → (v : ℕ)
-    → is_among new v ≡ (is_among old v || has_tap_at all v)
-one_batch old keys new taps more all whole update same v =
-    let joined : has_tap_at all v ≡ (has_tap_at taps v || has_tap_at more v) =
-    ap (λ ts. has_tap_at ts v) whole
-    ∙ list_any-append (λ (t : Tap). nat_eq v (num t.validator)) taps more in
-    update v ∙ ap (λ b. b || has_tap_at more v) (same v)
-    ∙ or_assoc (is_among old v) (has_tap_at taps v) (has_tap_at more v)
+pub one_batch : (span : MomentSpan) (old keys new : List ℕ) (taps more all : List Tap)
+    → all ≡ taps ++ more
+    → ((v : ℕ) → is_among new v ≡ (is_among keys v || has_tap_at span more v))
+    → ((v : ℕ) → is_among keys v ≡ (is_among old v || has_tap_at span taps v)) → (v : ℕ)
+    → is_among new v ≡ (is_among old v || has_tap_at span all v)
+one_batch span old keys new taps more all whole update same v =
+    let joined : has_tap_at span all v ≡ (has_tap_at span taps v || has_tap_at span more v) =
+    ap (λ ts. has_tap_at span ts v) whole ∙ list_any-append (is_tap_at span v) taps more in
+    update v ∙ ap (λ b. b || has_tap_at span more v) (same v)
+    ∙ or_assoc (is_among old v) (has_tap_at span taps v) (has_tap_at span more v)
     ∙ ap (λ b. is_among old v || b) (sym joined)
 
 in_range : (first last q : ℕ)

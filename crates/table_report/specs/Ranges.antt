@@ -22,9 +22,9 @@ abbrev pub validator_at : List ℕ → Members → Option ℕ
 validator_at key element =
     option_and_then as_validator (option_and_then as_integer (get_member key element))
 
--- the validator lies from the one number to the other
+-- the number lies from the first to the last one
 abbrev pub is_from_to : ℕ → ℕ → ℕ → Bool
-is_from_to first last validator = nat_le first validator && nat_le validator last
+is_from_to first last number = nat_le first number && nat_le number last
 
 -- the value is an element of `validators`, and no validator that was seen is one of its
 abbrev pub is_unused : List ℕ → Data → Bool

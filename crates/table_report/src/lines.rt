@@ -1,6 +1,8 @@
 //! The lines of a table without a fault.
 
+ghost use Rattle.std.specs.Prelude.{◌≡◌, ◌++◌, ℕ, List, OnOk, string_bytes};
 ghost use Rattle.fare_table.specs.Terms.{IsBoundedClass};
+ghost use Rattle.table_report.specs.inside.NameLine.{IsNameLine};
 
 use crate::clocks::push_changes;
 use crate::names::{class_name, mode_name};
@@ -8,6 +10,7 @@ use crate::paths::Key;
 use crate::prices::{push_fares, push_prices, push_ride_transfers};
 use crate::report::Wanted;
 use fare_table::{Class, FareTable, Terms};
+use fare_texts::write_moment;
 use jiff::Timestamp;
 use std::alloc::{AllocError, Global};
 use toml::Table;
@@ -205,6 +208,22 @@ fn push_window(text: &mut String, tree: &Table) -> Result<(), AllocError> {
     }
 }
 
+/// Appends the first line: the name of the table's file and, if it follows other tables, the moment
+/// from which it is valid.
+fn push_name(text: &mut String, name: &str, valid_from: Option<u64>) -> Result<(), AllocError>
+    ensures { OnOk result ((line : List ℕ) × IsNameLine name.now valid_from line
+        × (string_bytes text.new ≡ string_bytes text.old ++ line)) }
+{
+    let Some(from) = valid_from else {
+        write!(text, "table {name}\n")?;
+        return Ok(());
+    };
+    write!(text, "table {name} from ")?;
+    write_moment(text, from)?;
+    text.push_str("\n")?;
+    Ok(())
+}
+
 /// The lines of a table without a fault, the last with the number of its warnings.
 pub(crate) fn lines_of(
     alloc: Global,
@@ -213,8 +232,8 @@ pub(crate) fn lines_of(
     fares: &FareTable,
     warnings: usize,
 ) -> Result<String, AllocError> {
-    let name = wanted.name;
-    let mut text = format!(in alloc; "table {name}\n")?;
+    let mut text = String::new(alloc);
+    push_name(&mut text, wanted.name, wanted.valid_from)?;
     push_zone(&mut text, fares, wanted.from)?;
     push_window(&mut text, tree)?;
     push_modes(&mut text, fares)?;

@@ -15,14 +15,12 @@ fn name_at(names: &[String], place: usize) -> &str
     }
 }
 
-/// The name of the class at the place.
 pub(crate) fn class_name(fares: &FareTable, place: usize) -> &str
     ensures { result.now ≡ name_at fares.now.meaning.names place }
 {
     name_at(fares.class_names(), place)
 }
 
-/// The name of the mode at the place.
 pub(crate) fn mode_name(fares: &FareTable, place: usize) -> &str
     ensures { result.now ≡ name_at fares.now.meaning.modes place }
 {

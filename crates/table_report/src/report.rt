@@ -19,6 +19,7 @@ use jiff::Timestamp;
 use std::alloc::{AllocError, Global};
 use std::io::Write;
 use std::marker::Model;
+use tap_views::NoMemory;
 use toml::Table;
 use toml::de::Error as TomlError;
 
@@ -27,6 +28,9 @@ use toml::de::Error as TomlError;
 pub struct Wanted<'a> {
     /// The name of its file, as lines show it.
     pub name: &'a str,
+    /// The moment from which it is valid, if it follows other tables, in milliseconds since
+    /// 1970-01-01T00:00Z.
+    pub valid_from: Option<u64>,
     /// Whether each rider has a line.
     pub has_riders: bool,
     /// The moment after which changes of clocks have lines.
@@ -72,7 +76,6 @@ impl From<AllocError> for Refusal {
 /// The text of a fare table, and what it means.
 #[derive(Drop)]
 pub struct TableText<'t> {
-    /// The text.
     text: &'t str,
     /// Its keys and values.
     tree: Table,
@@ -119,6 +122,13 @@ impl<'t> TableText<'t> {
             Err(TableFault::NoMemory) => Err(Refusal::NoMemory),
             Err(fault) => Err(refusal_of(alloc, name, text, &tree, fault)?),
         }
+    }
+
+    /// What it means.
+    pub fn fares(&self, alloc: Global) -> Result<FareTable, NoMemory>
+        ensures { IfOk result (λ fares. fares ≡ self.now) }
+    {
+        self.fares.try_clone(alloc)
     }
 
     /// Writes what the table is understood as, and returns its warnings. They speak of its ranges

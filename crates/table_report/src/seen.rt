@@ -3,18 +3,17 @@
 ghost use Rattle.std.specs.Prelude.{◌≡◌, [], ℕ, ◌||◌, IfOk, OnOk};
 ghost use Rattle.std.specs.List.{filter, list_any};
 ghost use Rattle.table_report.specs.Ranges.{is_from_to, is_in_no_range};
-ghost use Rattle.table_report.specs.SeenValidators.{AddsValidators, has_tap_at, is_among};
+ghost use Rattle.table_report.specs.SeenValidators.{AddsValidators, has_tap_at, is_among, is_tap_at};
 
 use fare_table::FareTable;
 use std::alloc::Global;
 use std::collections::BTreeSet;
 use std::marker::Model;
-use tap_views::{Batch, NoMemory, good_batches};
+use tap_views::{Batch, MomentSpan, NoMemory, TapView, good_batches};
 
 /// The validators of some uploads, each once, rising.
 #[derive(Drop)]
 pub struct SeenValidators {
-    /// Their numbers.
     numbers: BTreeSet<u32>,
 }
 
@@ -41,11 +40,12 @@ impl SeenValidators {
         }
     }
 
-    /// Adds the validators of an upload's taps before its first layout fault.
-    pub fn add(&mut self, upload: &[u8]) -> Result<(), NoMemory>
-        ensures { OnOk result (AddsValidators self.old upload.now self.new) }
+    /// Adds the validators of an upload's taps before its first layout fault, of those whose moment
+    /// the span has.
+    pub fn add(&mut self, upload: &[u8], span: MomentSpan) -> Result<(), NoMemory>
+        ensures { OnOk result (AddsValidators span self.old upload.now self.new) }
     {
-        add_upload(&mut self.numbers, upload)
+        add_upload(&mut self.numbers, upload, span)
     }
 
     /// Those that no range of the table has.
@@ -69,25 +69,45 @@ impl SeenValidators {
     }
 }
 
-/// Adds the validators of an upload's taps before its first layout fault.
-fn add_upload(numbers: &mut BTreeSet<u32>, upload: &[u8]) -> Result<(), NoMemory>
-    ensures { OnOk result (AddsValidators numbers.old.keys upload.now numbers.new.keys) }
+/// Adds the validators of an upload's taps before its first layout fault, of those whose moment the
+/// span has.
+fn add_upload(numbers: &mut BTreeSet<u32>, upload: &[u8], span: MomentSpan) -> Result<(), NoMemory>
+    ensures { OnOk result (AddsValidators span numbers.old.keys upload.now numbers.new.keys) }
 {
     for batch in good_batches(upload) {
-        add_batch(numbers, &batch)?;
+        add_batch(numbers, &batch, span)?;
     }
     Ok(())
 }
 
-/// Adds the validators of a batch's taps.
-fn add_batch(numbers: &mut BTreeSet<u32>, batch: &Batch) -> Result<(), NoMemory>
+/// Adds the validators of a batch's taps, of those whose moment the span has.
+fn add_batch(numbers: &mut BTreeSet<u32>, batch: &Batch, span: MomentSpan) -> Result<(), NoMemory>
     ensures { OnOk result ((validator : ℕ) → is_among numbers.new.keys validator
-        ≡ (is_among numbers.old.keys validator || has_tap_at batch.now validator)) }
+        ≡ (is_among numbers.old.keys validator || has_tap_at span batch.now validator)) }
 {
     for tap in batch.taps() {
-        numbers.insert(tap.validator_number())?;
+        add_tap(numbers, &tap, span)?;
     }
     Ok(())
+}
+
+/// Adds the validator of a tap, if the span has its moment.
+fn add_tap(numbers: &mut BTreeSet<u32>, tap: &TapView<'_>, span: MomentSpan) -> Result<(), NoMemory>
+    ensures { OnOk result ((validator : ℕ) → is_among numbers.new.keys validator
+        ≡ (is_among numbers.old.keys validator || is_tap_at span validator tap.now)) }
+{
+    if !has_moment(span, tap.moment_ms()) {
+        return Ok(());
+    }
+    numbers.insert(tap.validator_number())?;
+    Ok(())
+}
+
+/// Whether the span has the moment.
+fn has_moment(span: MomentSpan, moment: u64) -> bool
+    ensures { result ≡ is_from_to span.first span.last moment }
+{
+    span.first <= moment && moment <= span.last
 }
 
 /// Whether one of the numbers lies from the one to the other.

@@ -9,14 +9,12 @@ ghost use Rattle.table_report.specs.Ranges as spec;
 use toml::value::Array;
 use toml::{Table, Value};
 
-/// The value at a key.
 fn at<'a>(table: &'a Table, key: &str) -> Option<&'a Value>
     ensures { option_map (λ v. view v.now) result ≡ get_member key.now (table_view table.now) }
 {
     table.get(key)
 }
 
-/// The table at a key.
 pub(crate) fn keys_at<'a>(table: &'a Table, key: &str) -> Option<&'a Table>
     ensures { option_map (λ m. table_view m.now) result
         ≡ option_and_then as_table (get_member key.now (table_view table.now)) }
@@ -24,7 +22,6 @@ pub(crate) fn keys_at<'a>(table: &'a Table, key: &str) -> Option<&'a Table>
     at(table, key)?.as_table()
 }
 
-/// The array at a key.
 pub(crate) fn elements_at<'a>(table: &'a Table, key: &str) -> Option<&'a Array>
     ensures { option_map (λ a. array_view a.now) result
         ≡ option_and_then as_array (get_member key.now (table_view table.now)) }

@@ -14,9 +14,7 @@ use toml::Table;
 /// A text without a fault, and what it means.
 #[derive(Clone, Copy)]
 pub(crate) struct ReadText<'a, 't> {
-    /// Its name.
     pub(crate) name: &'a str,
-    /// Its text.
     pub(crate) text: &'t str,
     /// The keys and values of the text.
     pub(crate) tree: &'t Table,

@@ -115,7 +115,7 @@ column_found head name end (Some at) whole is = record {
       is.2 other (omega (arith, within, whole)) named;
 }
 
--- ---- what a row's fields tell
+-- ---- what a row's fields contain
 -- a condition that is met, or not, at the place of its column
 pub met_there : (head row : List (List ℕ)) (condition : Condition) (place : ℕ)
     → IsPlaceOf head condition place → field_at row place ≡ Some condition.value.now
@@ -129,7 +129,7 @@ pub not_met_there : (head row : List (List ℕ)) (condition : Condition) (place 
 not_met_there head row condition place column none is =
     none (value_there head row condition.column.now condition.value.now place column is)
 
--- a moment's field that tells none
+-- a moment's field that names none
 pub wrong_moment : (choice : Choice) (head row : List (List ℕ)) (bytes : List ℕ) (number : ℕ)
     (text : List ℕ) (reason : Reason)
     → HasSome head row choice.token.now (λ text. IsTokenText text bytes)
@@ -210,7 +210,7 @@ wrong_validator choice head row bytes text why.Device token has is =
 wrong_validator choice head row bytes text why.LocalTime token has is = absurd is
 wrong_validator choice head row bytes text why.Moment token has is = absurd is
 
--- ---- no column is wanting where all were found
+-- ---- no column is wanting if all were found
 only_there : (head : List (List ℕ)) (only : List Condition) (places : List ℕ) (k : ℕ)
     → AllZip (IsPlaceOf head) only places
     → ¬ (IsSomeAnd (slice_get only k) (λ condition. HasNoColumn head condition.column.now))

@@ -77,7 +77,7 @@ device_added {V} f old new key name number same none more =
     ap (map pair) (more absent) ∙ map-append pair old ((key, number) ∷ [])
     ∙ ap (λ (n : List ℕ). map pair old ++ (n, number) ∷ []) same
 
--- what was found is none, where a test says so
+-- what was found is none, if a test says so
 pub none_found : (found : Option ℕ) (test : Bool) → test ≡ is_some found → test ≡ false
     → found ≡ None
 none_found None test is other = refl

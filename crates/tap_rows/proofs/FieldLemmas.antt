@@ -96,27 +96,27 @@ ends_quoted (x ∷ text) value some quote (inr is) =
           ∙ ap (λ bytes. slice_index bytes (suc (length value))) is ∙ last,
     )
 
--- what is found in the value is told by the text
-told : {A : Type 0} (P : List ℕ → A → Type 0) (text value : List ℕ) (found : Option A)
+-- what is found in the value is determined by the text
+reported : {A : Type 0} (P : List ℕ → A → Type 0) (text value : List ℕ) (found : Option A)
     → FieldStandsFor text value
     → MatchOption found ((one : A) → ¬ (P value one)) (λ one. P value one)
     → MatchOption found ((one : A) → ¬ (FieldStandsForSome (λ v. P v one) text))
     (λ one. FieldStandsForSome (λ v. P v one) text)
-told {A = A} P text value None stands none = nothing_told
+reported {A = A} P text value None stands none = nothing_reported
   where
-    nothing_told : (one : A) → ¬ (FieldStandsForSome (λ v. P v one) text)
-    nothing_told one (other, also, is) =
+    nothing_reported : (one : A) → ¬ (FieldStandsForSome (λ v. P v one) text)
+    nothing_reported one (other, also, is) =
         none one (subst (λ v. P v one) (one_value text other value also stands) is)
-told P text value (Some one) stands is = (value, stands, is)
+reported P text value (Some one) stands is = (value, stands, is)
 
--- a text that stands for no value tells nothing
-untold : {A : Type 0} (P : List ℕ → A → Type 0) (text : List ℕ)
+-- nothing is found in a text that stands for no value
+unreported : {A : Type 0} (P : List ℕ → A → Type 0) (text : List ℕ)
     → ((value : List ℕ) → ¬ (FieldStandsFor text value)) → (one : A)
     → ¬ (FieldStandsForSome (λ v. P v one) text)
-untold P text none one (value, stands, is) = none value stands
+unreported P text none one (value, stands, is) = none value stands
 
--- what is found in the value of a field, if it has one, is told by its text
-pub told_of : {A V : Type 0} (P : List ℕ → A → Type 0) (now : V → List ℕ) (text : List ℕ)
+-- what is found in the value of a field, if it has one, is determined by its text
+pub reported_of : {A V : Type 0} (P : List ℕ → A → Type 0) (now : V → List ℕ) (text : List ℕ)
     (value : Option V) (found : Option A)
     → MatchOption value ((v : List ℕ) → ¬ (FieldStandsFor text v))
     (λ v. FieldStandsFor text (now v))
@@ -124,10 +124,10 @@ pub told_of : {A V : Type 0} (P : List ℕ → A → Type 0) (now : V → List �
     (λ v. MatchOption found ((one : A) → ¬ (P (now v) one)) (λ one. P (now v) one))
     → MatchOption found ((one : A) → ¬ (FieldStandsForSome (λ v. P v one) text))
     (λ one. FieldStandsForSome (λ v. P v one) text)
-told_of P now text None found none is =
+reported_of P now text None found none is =
     subst (λ o. MatchOption o ((one : _) → ¬ (FieldStandsForSome (λ v. P v one) text))
-    (λ one. FieldStandsForSome (λ v. P v one) text)) (sym is) (untold P text none)
-told_of P now text (Some value) found stands is = told P text (now value) found stands is
+    (λ one. FieldStandsForSome (λ v. P v one) text)) (sym is) (unreported P text none)
+reported_of P now text (Some value) found stands is = reported P text (now value) found stands is
 
 -- the names that stand in the fields of a head line
 pub names_of : (line token validator moment : List ℕ) → AreFields line token validator moment

@@ -1,6 +1,7 @@
 mod AgencyLemmas
 mod AgencyMomentLemmas
 mod AgencyRowLemmas
+pub mod BegunLemmas
 mod DeviceLemmas
 mod FieldLemmas
 mod GoingLemmas

@@ -1,4 +1,4 @@
--- A text tells at most one moment.
+-- A text names at most one moment.
 use Rattle.std.proofs.Common.{◌≡◌, ℕ, zero, suc, ◌*◌, ◌<◌, List, [], ◌∷◌, length, sym, ◌∙◌, arith}
 use Rattle.std.proofs.Common.{Ok, pos, inl, inr}
 use Rattle.std.specs.Prelude.{slice_index, MatchOption, None, Some, Option, ◌^◌}

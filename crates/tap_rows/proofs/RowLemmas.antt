@@ -10,7 +10,7 @@ use Rattle.tap_rows.specs.Rows.{IsNoTapRow, row_text, rows_text}
 use Rattle.tap_rows.specs.declared.column.Column.{Column}
 use Rattle.tap_rows.specs.declared.column.Column.TheVariants.{Fields, Token, Validator, Moment}
 
--- what a field tells
+-- what a field contains
 one_token : (text token other : List ℕ) → IsTokenField text token → IsTokenField text other
     → token ≡ other
 one_token text token other (value, stands, is) (again, also_stands, also) =

@@ -95,7 +95,7 @@ reached_end text now new number taps reached next =
     reached.now_is next in
     record { head_line = reached.head_line; rows = subst (λ left. BeginsWithRows (drop_through 10 text) taps left) none reached.rows }
 
--- a fault tells of the row behind those that were read
+-- a fault is of the row behind those that were read
 pub reached_fault : (text : List ℕ) (now new : Option (List ℕ)) (number : ℕ) (taps : List TapFields)
     (fault : RowsFault) → Reached text now taps → number ≡ length taps + 2
     → IfSome now (λ left. IsNextRow left number new (Err fault)) → IsRowsFault text fault
@@ -287,7 +287,7 @@ ready_written old now out0 here there out count pending after none same writing 
       writing = subst (λ taps. P taps out) (sym none) (subst (λ o. P [] o) (sym same) done);
     }
 
--- where the batch is not full
+-- if the batch is not full
 pub ready_same : (old now out0 here out : Option (List ℕ)) (count : ℕ)
     (pending after : List TapFields) → after ≡ pending → out ≡ here → length pending < 4096
     → All (λ tap. tap.moment < 4102444800000) pending

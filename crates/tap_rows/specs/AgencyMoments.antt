@@ -5,8 +5,8 @@ use Rattle.jiff_fmt.specs.Temporal.{parse_timestamp}
 use Rattle.tap_rows.specs.Moments.{IsDecimal}
 use Rattle.tap_views.specs.Layout.{moment_limit}
 
--- where `2024-03-08T17:00:00` has its dashes, its `T` and its colons, this text has them too, or a
--- blank for the `T`
+-- at the places at which `2024-03-08T17:00:00` has its dashes, its `T` and its colons, this text
+-- has them too, or a blank for the `T`
 abbrev pub HasClock : List ℕ → Type 0
 HasClock text =
     (19 ≤ length text) × (slice_index text 4 ≡ 45) × (slice_index text 7 ≡ 45)

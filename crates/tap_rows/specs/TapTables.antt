@@ -3,6 +3,7 @@
 use Rattle.std.specs.Prelude.{◌≡◌, ℕ, ◌+◌, List, [], ◌∷◌, ◌++◌, length, codes, Option}
 use Rattle.std.specs.Io.BufRead.{first_line, drop_through}
 use Rattle.std.specs.Io.KnownBytes.{Appends}
+use Rattle.fare_texts.specs.WrittenOut.{Begins}
 use Rattle.tap_views.specs.declared.encoder.TapFields.{TapFields}
 use Rattle.tap_views.specs.Files.{IsFileOf}
 use Rattle.tap_rows.specs.Fields.{AreFields, FieldStandsFor}
@@ -66,6 +67,15 @@ IsOfTapTable Unread = ⊥
 IsOfTapTable Write = ⊥
 IsOfTapTable NoMemory = ⊥
 
+-- the fault is that a write failed, or that memory was refused
+abbrev pub IsOfOutput : RowsFault → Type 0
+IsOfOutput Head = ⊥
+IsOfOutput (Row number column) = ⊥
+IsOfOutput Changed = ⊥
+IsOfOutput Unread = ⊥
+IsOfOutput Write = Unit {0}
+IsOfOutput NoMemory = Unit {0}
+
 -- what was written behind the old bytes is an upload with no fault, of exactly the taps of the tap
 -- table, in their order
 pub record IsEncoded (text : List ℕ) (old new : Option (List ℕ)) (count : ℕ) : Type 0 where
@@ -75,6 +85,16 @@ pub record IsEncoded (text : List ℕ) (old new : Option (List ℕ)) (count : �
   pub file : List ℕ
   pub upload : IsFileOf file taps
   pub written : Appends old new file
+
+-- what was written behind the old bytes is a beginning of an upload with no fault, of the taps of
+-- the first rows of the text, in their order
+pub record IsBegun (text : List ℕ) (old new : Option (List ℕ)) : Type 0 where
+  pub taps : List TapFields
+  pub rest : List ℕ
+  pub rows : BeginsWithRows (drop_through 10 text) taps rest
+  pub file : List ℕ
+  pub upload : IsFileOf file taps
+  pub begun : Begins old new file
 
 -- the tap table that is written for these taps
 abbrev pub tap_table_text : List TapFields → List ℕ

@@ -1,14 +1,17 @@
 //! Uploads, written as rows of a table.
 
 ghost use Rattle.std.specs.Prelude.{◌≡◌, ◌++◌, ◌∷◌, [], ℕ, List, IfErr, IfOk};
-ghost use Rattle.std.specs.Prelude.{OnOk, map};
+ghost use Rattle.std.specs.Prelude.{OnErr, OnOk, Option, map};
 ghost use Rattle.std.specs.Io.KnownBytes.{Appends};
+ghost use Rattle.fare_texts.specs.WrittenOut.{Begins};
 ghost use Rattle.tap_rows.specs.Decoded.{IsDecoded};
 ghost use Rattle.tap_rows.specs.Rows.{row_text, rows_text};
-ghost use Rattle.tap_rows.specs.TapTables.{head};
+ghost use Rattle.tap_rows.specs.TapTables.{IsOfOutput, head};
 ghost use Rattle.tap_views.specs.Encoding.{fields_of};
+ghost use Rattle.tap_views.specs.declared.fault.LayoutFault.{LayoutFault as ALayoutFault};
 
 use crate::fault::RowsFault;
+use fare_texts::write_bytes;
 use itoa::Buffer;
 use std::alloc::Global;
 use std::io::Write;
@@ -16,9 +19,10 @@ use tap_views::{Batch, LayoutFault, TapView, good_batches};
 
 fn put<W: Write>(out: &mut W, bytes: &[u8]) -> Result<(), RowsFault>
     ensures bytes { OnOk result (Appends (W.contents out.old) (W.contents out.new) bytes.now) }
+    ensures begun { OnErr result (Begins (W.contents out.old) (W.contents out.new) bytes.now) }
     ensures fault { IfErr result (λ fault. fault ≡ RowsFault.Write) }
 {
-    match out.write_all(bytes) {
+    match write_bytes(bytes, out) {
         Ok(()) => Ok(()),
         Err(_) => Err(RowsFault::Write),
     }
@@ -26,7 +30,8 @@ fn put<W: Write>(out: &mut W, bytes: &[u8]) -> Result<(), RowsFault>
 
 /// Appends a tap's row, with its line feed.
 fn push_row(text: &mut Vec<u8>, tap: &TapView) -> Result<(), RowsFault>
-    ensures { OnOk result (text.new.items ≡ text.old.items ++ row_text (fields_of tap.now)) }
+    ensures row { OnOk result (text.new.items ≡ text.old.items ++ row_text (fields_of tap.now)) }
+    ensures fault { IfErr result (λ fault. fault ≡ RowsFault.NoMemory) }
 {
     let mut token = [0; 32];
     let _ = hex::encode_to_slice(tap.token(), &mut token);
@@ -43,7 +48,8 @@ fn push_row(text: &mut Vec<u8>, tap: &TapView) -> Result<(), RowsFault>
 
 /// Puts the rows of a batch in place of what `text` holds.
 fn fill(text: &mut Vec<u8>, batch: &Batch) -> Result<(), RowsFault>
-    ensures { OnOk result (text.new.items ≡ rows_text (map fields_of batch.now)) }
+    ensures rows { OnOk result (text.new.items ≡ rows_text (map fields_of batch.now)) }
+    ensures fault { IfErr result (λ fault. fault ≡ RowsFault.NoMemory) }
 {
     text.clear();
     for tap in batch.taps() {
@@ -56,13 +62,16 @@ fn fill(text: &mut Vec<u8>, batch: &Batch) -> Result<(), RowsFault>
 pub fn write_head<W: Write>(out: &mut W) -> Result<(), RowsFault>
     ensures head { OnOk result
         (Appends (W.contents out.old) (W.contents out.new) (head ++ 10 ∷ [])) }
+    ensures begun { OnErr result
+        (Begins (W.contents out.old) (W.contents out.new) (head ++ 10 ∷ [])) }
     ensures fault { IfErr result (λ fault. fault ≡ RowsFault.Write) }
 {
     put(out, b"token,validator,moment\n")
 }
 
 /// Writes the rows of an upload's taps, without a head line: of all of them, or of those before its
-/// first layout fault, which is given with the offset of its batch.
+/// first layout fault, which is given with the offset of its batch in bytes. After an error a
+/// beginning of these rows is written: a write failed, or memory was refused.
 pub fn decode<W: Write>(
     alloc: Global,
     file: &[u8],
@@ -70,6 +79,9 @@ pub fn decode<W: Write>(
 ) -> Result<Option<(u64, LayoutFault)>, RowsFault>
     ensures rows { IfOk result (λ fault. (text : List ℕ) × IsDecoded file.now text fault
         × Appends (W.contents out.old) (W.contents out.new) text) }
+    ensures begun { OnErr result ((text : List ℕ) × (at : Option (ℕ × ALayoutFault))
+        × IsDecoded file.now text at × Begins (W.contents out.old) (W.contents out.new) text) }
+    ensures fault { IfErr result IsOfOutput }
 {
     let mut text = Vec::new(alloc);
     let mut good = good_batches(file);

@@ -2,15 +2,17 @@
 
 ghost use Rattle.std.specs.Prelude.{◌≡◌, ◌<◌, ◌≤◌, ℕ, List, [], All, IfErr, IfOk};
 ghost use Rattle.std.specs.Prelude.{IfSome, IsSome};
-ghost use Rattle.std.specs.Prelude.{IsErrOf, OnOk, length};
+ghost use Rattle.std.specs.Prelude.{IsErrOf, OnErr, OnOk, length};
 ghost use Rattle.std.specs.Io.KnownBytes.{Appends};
 ghost use Rattle.tap_views.specs.Files.{IsFileOf};
-ghost use Rattle.tap_rows.specs.TapTables.{IsEncoded, IsOfTapTable, IsRowsFault};
-ghost use Rattle.tap_rows.specs.inside.TapTables.{IsBatchFault, IsEncodedAs};
+ghost use Rattle.tap_rows.specs.TapTables.{IsBegun, IsEncoded, IsOfOutput, IsOfTapTable};
+ghost use Rattle.tap_rows.specs.TapTables.{IsRowsFault};
+ghost use Rattle.tap_rows.specs.inside.TapTables.{IsBegunAs, IsEncodedAs};
 ghost use Rattle.tap_views.specs.Encoding.{AreEncodable};
 
 use crate::fault::RowsFault;
 use crate::read::{check, next_row, read_head};
+use fare_texts::write_bytes;
 use std::alloc::Global;
 use std::io::{BufRead, Write};
 use tap_views::{EncodeFault, MAX_TAPS, TapFields};
@@ -34,13 +36,14 @@ pub(crate) fn write_batch<W: Write>(
 ) -> Result<(), RowsFault>
     requires { AreEncodable (λ tap. tap.moment) taps.now }
     ensures upload { OnOk result (IsEncodedAs taps.now (W.contents out.old) (W.contents out.new)) }
-    ensures fault { IfErr result IsBatchFault }
+    ensures begun { OnErr result (IsBegunAs taps.now (W.contents out.old) (W.contents out.new)) }
+    ensures fault { IfErr result IsOfOutput }
 {
     if taps.is_empty() {
         return Ok(());
     }
     match tap_views::encode(alloc, taps) {
-        Ok(bytes) => match out.write_all(&bytes) {
+        Ok(bytes) => match write_bytes(&bytes, out) {
             Ok(()) => Ok(()),
             Err(_) => Err(RowsFault::Write),
         },
@@ -57,6 +60,8 @@ fn write_taps<R: BufRead, W: Write>(
     ensures upload { IfOk result
         (λ count. IfSome (R.remaining table.old)
         (λ text. IsEncoded text (W.contents out.old) (W.contents out.new) count)) }
+    ensures begun { OnErr result (IfSome (R.remaining table.old)
+        (λ text. IsBegun text (W.contents out.old) (W.contents out.new))) }
     ensures refused { IfErr result
         (λ fault. IfSome (R.remaining table.old) (λ text. IsRowsFault text fault)) }
 {
@@ -94,7 +99,8 @@ fn when_read_again(fault: RowsFault) -> RowsFault
 }
 
 /// Writes the upload of a table: `TAP1` batches of 4,096 taps, the last of fewer. The table is read
-/// twice, from two readers of it, so that nothing is written if a row is bad.
+/// twice, from two readers of it, so that nothing is written if a row is bad. After another error a
+/// beginning of an upload of the first of its taps is written.
 pub fn encode<R: BufRead, S: BufRead, W: Write>(
     alloc: Global,
     table: &mut R,
@@ -107,6 +113,8 @@ pub fn encode<R: BufRead, S: BufRead, W: Write>(
     ensures refused { IfErr result (λ fault. IsOfTapTable fault
         → IfSome (R.remaining table.old) (λ text. IsRowsFault text fault)) }
     ensures nothing { IfErr result (λ fault. IsOfTapTable fault → out.new ≡ out.old) }
+    ensures begun { OnErr result (IfSome (S.remaining again.old)
+        (λ text. IsBegun text (W.contents out.old) (W.contents out.new))) }
     ensures same { IsErrOf result RowsFault.Changed → IsSome (R.remaining table.old)
         → R.remaining table.old ≡ S.remaining again.old → ⊥ }
 {

@@ -12,21 +12,21 @@ use Rattle.tool_program.specs.declared.output.WriteEnd.{WriteEnd}
 use Rattle.tool_program.specs.declared.output.WriteEnd.TheVariants as writes
 use Rattle.tool_program.specs.inside.Fault.{IsCorrectionsFault}
 
--- a write that failed is told as its writer remembers it
-pub right_corrections_write : (old new a b : List ℕ) (end : Option WriteEnd) (told : Fault)
-    → told ≡ failed_as end → IsRightCorrectionsFault old new a b end told
-right_corrections_write old new a b None told is =
+-- a write that failed is reported as its writer remembers it
+pub right_corrections_write : (old new a b : List ℕ) (end : Option WriteEnd) (reported : Fault)
+    → reported ≡ failed_as end → IsRightCorrectionsFault old new a b end reported
+right_corrections_write old new a b None reported is =
     subst (λ (f : Fault). IsRightCorrectionsFault old new a b None f) (sym is) tt
-right_corrections_write old new a b (Some writes.Closed) told is =
+right_corrections_write old new a b (Some writes.Closed) reported is =
     subst (λ (f : Fault). IsRightCorrectionsFault old new a b (Some writes.Closed) f) (sym is) refl
-right_corrections_write old new a b (Some writes.Refused) told is =
+right_corrections_write old new a b (Some writes.Refused) reported is =
     subst (λ (f : Fault). IsRightCorrectionsFault old new a b (Some writes.Refused) f) (sym is) refl
 
 -- the fault of ledgers that were opened is the right one
 pub right_corrections : (old new a b : List ℕ) (end : Option WriteEnd)
-    (fault : CorrectionsFault) (told : Fault) → IsCorrectionsFault old new end fault told
+    (fault : CorrectionsFault) (reported : Fault) → IsCorrectionsFault old new end fault reported
     → (IsOfLedger Old fault → IsUnsettled a) → (IsOfLedger New fault → IsUnsettled b)
-    → IsRightCorrectionsFault old new a b end told
+    → IsRightCorrectionsFault old new a b end reported
 right_corrections old new a b end (changes.Form Old number) (Line word line why) is of_a of_b =
     (inl (is.0, of_a refl), is.1)
 right_corrections old new a b end (changes.Form New number) (Line word line why) is of_a of_b =
@@ -37,7 +37,7 @@ right_corrections old new a b end (changes.Order New number) (Unsettled word lin
     inr (is, of_b refl)
 right_corrections old new a b end (changes.Unread Old) (Unread word) is of_a of_b = inl is
 right_corrections old new a b end (changes.Unread New) (Unread word) is of_a of_b = inr (inl is)
-right_corrections old new a b end changes.Write told is of_a of_b =
-    right_corrections_write old new a b end told is
+right_corrections old new a b end changes.Write reported is of_a of_b =
+    right_corrections_write old new a b end reported is
 right_corrections old new a b end changes.NoMemory NoMemory is of_a of_b = tt
-right_corrections old new a b end fault told is of_a of_b = absurd is
+right_corrections old new a b end fault reported is of_a of_b = absurd is

@@ -13,25 +13,26 @@ use Rattle.tool_program.specs.declared.output.WriteEnd.{WriteEnd}
 use Rattle.tool_program.specs.declared.output.WriteEnd.TheVariants as writes
 use Rattle.tool_program.specs.inside.Fault.{IsNamedAs}
 
--- a write that failed is told as its writer remembers it
+-- a write that failed is reported as its writer remembers it
 pub right_ledgers_write : (words ledgers reports : List (List ℕ)) (end : Option WriteEnd)
-    (told : Fault) → told ≡ failed_as end → IsRightLedgersFault words ledgers reports end told
-right_ledgers_write words ledgers reports None told is =
+    (reported : Fault) → reported ≡ failed_as end
+    → IsRightLedgersFault words ledgers reports end reported
+right_ledgers_write words ledgers reports None reported is =
     subst (λ (f : Fault). IsRightLedgersFault words ledgers reports None f) (sym is) tt
-right_ledgers_write words ledgers reports (Some writes.Closed) told is =
+right_ledgers_write words ledgers reports (Some writes.Closed) reported is =
     subst (λ (f : Fault). IsRightLedgersFault words ledgers reports (Some writes.Closed) f)
     (sym is) refl
-right_ledgers_write words ledgers reports (Some writes.Refused) told is =
+right_ledgers_write words ledgers reports (Some writes.Refused) reported is =
     subst (λ (f : Fault). IsRightLedgersFault words ledgers reports (Some writes.Refused) f)
     (sym is) refl
 
 -- the fault of ledgers that were opened is the right one
 pub right_ledgers : (words ledgers reports : List (List ℕ)) (end : Option WriteEnd)
-    (fault : MergeFault) (told : Fault) → IsNamedAs words end fault told
+    (fault : MergeFault) (reported : Fault) → IsNamedAs words end fault reported
     → (IsOfTexts fault → (text : List ℕ) → ¬ (IsWholeLedger ledgers reports text))
     → ¬ (IsOfTaps fault)
     → (nat_eq (length reports) (length ledgers) ≡ false → NamesWrongLedger ledgers fault)
-    → IsRightLedgersFault words ledgers reports end told
+    → IsRightLedgersFault words ledgers reports end reported
 right_ledgers words ledgers reports end (merge.Line text number why) (Line word line wrong) is of
     no_taps at = (of tt, named (nat_eq (length reports) (length ledgers)) at)
   where
@@ -44,8 +45,9 @@ right_ledgers words ledgers reports end (merge.Line text number why) NoMemory is
 right_ledgers words ledgers reports end (merge.Unread text) (Unread word) is of no_taps at =
     (text, is)
 right_ledgers words ledgers reports end (merge.Unread text) NoMemory is of no_taps at = tt
-right_ledgers words ledgers reports end (merge.Taps a b) told is of no_taps at = absurd (no_taps tt)
-right_ledgers words ledgers reports end merge.Write told is of no_taps at =
-    right_ledgers_write words ledgers reports end told is
+right_ledgers words ledgers reports end (merge.Taps a b) reported is of no_taps at =
+    absurd (no_taps tt)
+right_ledgers words ledgers reports end merge.Write reported is of no_taps at =
+    right_ledgers_write words ledgers reports end reported is
 right_ledgers words ledgers reports end merge.NoMemory NoMemory is of no_taps at = tt
-right_ledgers words ledgers reports end fault told is of no_taps at = absurd is
+right_ledgers words ledgers reports end fault reported is of no_taps at = absurd is

@@ -1,4 +1,12 @@
 pub mod Corrected
+pub mod DecodedTables
+pub mod Decoding
+pub mod Encoded
 pub mod Faults
+pub mod FilesMade
 pub mod LedgerFaults
+pub mod Listing
+pub mod MergedUploads
 pub mod Opened
+pub mod Sorting
+pub mod Splitting

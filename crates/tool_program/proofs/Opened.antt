@@ -4,37 +4,38 @@ use Rattle.std.proofs.Common.{append-nil, append_assoc, ap, get_or, refl, subst,
 use Rattle.std.proofs.Common.{Option, Some, None}
 use Rattle.std.proofs.lemmas.List.{map-append, take_more}
 use Rattle.part_reports.specs.Texts.{AreLeft}
-use Rattle.program_manners.specs.Loads.{Loaded, Tells}
+use Rattle.program_manners.specs.Loads.{Loaded, LoadsAll, LoadsOne}
 use Rattle.tool_program.specs.Names.{file_named}
 use Rattle.tool_program.specs.Source.{HasOpened, OpensOne}
 
 -- nothing was opened yet
-pub opened_none : (told : Option (List Loaded)) → HasOpened [] told told []
-opened_none told = record { loads = []; named = refl; bytes = refl; told_is = none told }
+pub opened_none : (loaded : Option (List Loaded)) → HasOpened [] loaded loaded []
+opened_none loaded = record { loads = []; named = refl; bytes = refl; is_loaded = none loaded }
   where
-    none : (told : Option (List Loaded)) → Tells told told []
+    none : (loaded : Option (List Loaded)) → LoadsAll loaded loaded []
     none None = tt
     none (Some before) = sym (append-nil before)
 
 -- a source that keeps what it opened goes on to keep it
-pub still_kept : (words : List (List ℕ)) (kept : List Loaded) (told told' : Option (List Loaded))
-    (texts : List (List ℕ)) → told ≡ Some kept → HasOpened words told told' texts
-    → (now : List Loaded) × (told' ≡ Some now)
-still_kept words kept told None texts is all =
-    absurd (subst (λ (t : Option (List Loaded)). Tells t None all.loads) is all.told_is)
-still_kept words kept told (Some now) texts is all = (now, refl)
+pub still_kept : (words : List (List ℕ)) (kept : List Loaded)
+    (loaded loaded' : Option (List Loaded)) (texts : List (List ℕ)) → loaded ≡ Some kept → HasOpened words loaded loaded' texts
+    → (now : List Loaded) × (loaded' ≡ Some now)
+still_kept words kept loaded None texts is all =
+    absurd (subst (λ (t : Option (List Loaded)). LoadsAll t None all.loads) is all.is_loaded)
+still_kept words kept loaded (Some now) texts is all = (now, refl)
 
 -- one more text that was opened
 pub opened_push : (words : List (List ℕ)) (word : List ℕ) (kept : List Loaded)
-    (told told' told'' : Option (List Loaded)) (texts : List (List ℕ)) (left : Option (List ℕ))
-    → told ≡ Some kept → HasOpened words told told' texts
-    → OpensOne told' told'' (file_named word) left
+    (loaded loaded' loaded'' : Option (List Loaded)) (texts : List (List ℕ))
+    (left : Option (List ℕ))
+    → loaded ≡ Some kept → HasOpened words loaded loaded' texts
+    → OpensOne loaded' loaded'' (file_named word) left
     → (text : List ℕ) × (left ≡ Some text)
-    × HasOpened (words ++ word ∷ []) told told'' (texts ++ text ∷ [])
-opened_push words word kept told None told'' texts left is all one =
-    absurd (subst (λ (t : Option (List Loaded)). Tells t None all.loads) is all.told_is)
-opened_push words word kept told (Some now) told'' texts None is all one = absurd one
-opened_push words word kept told (Some now) told'' texts (Some text) is all one = (
+    × HasOpened (words ++ word ∷ []) loaded loaded'' (texts ++ text ∷ [])
+opened_push words word kept loaded None loaded'' texts left is all one =
+    absurd (subst (λ (t : Option (List Loaded)). LoadsAll t None all.loads) is all.is_loaded)
+opened_push words word kept loaded (Some now) loaded'' texts None is all one = absurd one
+opened_push words word kept loaded (Some now) loaded'' texts (Some text) is all one = (
   text,
   refl,
   record {
@@ -44,14 +45,14 @@ opened_push words word kept told (Some now) told'' texts (Some text) is all one 
         ∙ sym (map-append file_named words (word ∷ []));
     bytes = map-append (λ (load : Loaded). load.bytes) all.loads _
         ∙ ap (λ (xs : List (List ℕ)). xs ++ text ∷ []) all.bytes;
-    told_is = on told told'' all.loads (record { name = file_named word; bytes = text } ∷ [])
-        all.told_is one;
+    is_loaded = on loaded loaded'' all.loads (record { name = file_named word; bytes = text } ∷ [])
+        all.is_loaded one;
   },
 )
   where
     on : (before after : Option (List Loaded)) (loads more : List Loaded)
-        → Tells before (Some now) loads → Tells (Some now) after more
-        → Tells before after (loads ++ more)
+        → LoadsAll before (Some now) loads → LoadsAll (Some now) after more
+        → LoadsAll before after (loads ++ more)
     on None after loads more first next = tt
     on (Some before) None loads more first next = absurd next
     on (Some before) (Some end) loads more first next =
@@ -70,7 +71,7 @@ left_push remaining readers more reader texts text pushed are is =
     ∙ sym (map-append (λ (file : List ℕ). Some file) texts (text ∷ []))
 
 -- one more word
-words_more : (words : List (Bor (List ℕ))) (k : ℕ) (d : Bor (List ℕ)) → k < length words
+pub words_more : (words : List (Bor (List ℕ))) (k : ℕ) (d : Bor (List ℕ)) → k < length words
     → map (λ w. w.now) (take (k + 1) words)
     ≡ map (λ w. w.now) (take k words) ++ (get_or words k d).now ∷ []
 words_more words k d within =
@@ -79,17 +80,24 @@ words_more words k d within =
 
 -- the text of one more word that was opened
 pub opened_word : (words : List (Bor (List ℕ))) (k : ℕ) (d : Bor (List ℕ)) (kept : List Loaded)
-    (told told' told'' : Option (List Loaded)) (texts : List (List ℕ)) (left : Option (List ℕ))
-    → k < length words → told ≡ Some kept
-    → HasOpened (map (λ w. w.now) (take k words)) told told' texts
-    → OpensOne told' told'' (file_named (get_or words k d).now) left
+    (loaded loaded' loaded'' : Option (List Loaded)) (texts : List (List ℕ))
+    (left : Option (List ℕ))
+    → k < length words → loaded ≡ Some kept
+    → HasOpened (map (λ w. w.now) (take k words)) loaded loaded' texts
+    → OpensOne loaded' loaded'' (file_named (get_or words k d).now) left
     → (text : List ℕ) × (left ≡ Some text)
-    × HasOpened (map (λ w. w.now) (take (k + 1) words)) told told'' (texts ++ text ∷ [])
-opened_word words k d kept told told' told'' texts left within is all one =
-    let more = opened_push (map (λ w. w.now) (take k words)) (get_or words k d).now kept told told'
-    told'' texts left is all one in (
+    × HasOpened (map (λ w. w.now) (take (k + 1) words)) loaded loaded'' (texts ++ text ∷ [])
+opened_word words k d kept loaded loaded' loaded'' texts left within is all one =
+    let more = opened_push (map (λ w. w.now) (take k words)) (get_or words k d).now kept loaded
+    loaded' loaded'' texts left is all one in (
       more.0,
       more.1,
-      subst (λ (ws : List (List ℕ)). HasOpened ws told told'' (texts ++ more.0 ∷ []))
+      subst (λ (ws : List (List ℕ)). HasOpened ws loaded loaded'' (texts ++ more.0 ∷ []))
           (sym (words_more words k d within)) more.2,
     )
+
+-- a text that was loaded is known
+pub loaded_as : (before after : Option (List Loaded)) (name : Option (List ℕ)) (bytes : List ℕ)
+    → LoadsOne before after name bytes → OpensOne before after name (Some bytes)
+loaded_as None after name bytes one = tt
+loaded_as (Some before) after name bytes one = one

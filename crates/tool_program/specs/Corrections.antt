@@ -21,7 +21,7 @@ use Rattle.tool_program.specs.declared.output.WriteEnd.{WriteEnd}
 use Rattle.tool_program.specs.declared.output.WriteEnd.TheVariants as writes
 
 -- the text is that of the corrections from the one ledger to the other, or of their sums by token,
--- and so many lines are removed
+-- and this number of lines is removed
 abbrev pub IsTextOfCorrections : Bool → List ℕ → List ℕ → List ℕ → ℕ → Type 0
 IsTextOfCorrections false old new text removed = IsCorrectionsText old new text removed
 IsTextOfCorrections true old new text removed = IsCorrectionsByTokenText old new text removed
@@ -37,16 +37,16 @@ NamesUnsettled old new old_text new_text word =
 
 -- The old ledger was opened and then the new one, and what was written is, whole, the text of the
 -- corrections between them.
-pub record Corrects (by_token : Bool) (old new : List ℕ) (told told' : Option (List Loaded))
+pub record Corrects (by_token : Bool) (old new : List ℕ) (loaded loaded' : Option (List Loaded))
     (out out' : Option (List ℕ)) (removed : ℕ) : Type 0 where
   pub old_text : List ℕ
   pub new_text : List ℕ
-  pub opened : HasOpened (old ∷ new ∷ []) told told' (old_text ∷ new_text ∷ [])
+  pub opened : HasOpened (old ∷ new ∷ []) loaded loaded' (old_text ∷ new_text ∷ [])
   pub text : List ℕ
   pub corrections : IsTextOfCorrections by_token old_text new_text text removed
   pub written : Appends out out' text
 
--- That lines are removed was told, with their number, unless a write of it failed. If none is,
+-- That lines are removed was reported, with their number, unless a write of it failed. If none is,
 -- this holds: `Silent`.
 abbrev pub IsWarned : List ℕ → List ℕ → ℕ → Option (List ℕ) → Option (List ℕ) → Bool → Type 0
     → Type 0
@@ -71,11 +71,11 @@ IsRightCorrectionsFault old new old_text new_text end NoMemory = ⊤
 IsRightCorrectionsFault old new old_text new_text end fault = ⊥
 
 -- both ledgers were opened, and the fault is the right one
-pub record BreaksOffCorrections (old new : List ℕ) (told told' : Option (List Loaded))
+pub record BreaksOffCorrections (old new : List ℕ) (loaded loaded' : Option (List Loaded))
     (end : Option WriteEnd) (fault : Fault) : Type 0 where
   pub old_text : List ℕ
   pub new_text : List ℕ
-  pub opened : HasOpened (old ∷ new ∷ []) told told' (old_text ∷ new_text ∷ [])
+  pub opened : HasOpened (old ∷ new ∷ []) loaded loaded' (old_text ∷ new_text ∷ [])
   pub right : IsRightCorrectionsFault old new old_text new_text end fault
 
 -- The corrections were given up: a ledger was not opened, or memory was refused before, and nothing
@@ -83,6 +83,6 @@ pub record BreaksOffCorrections (old new : List ℕ) (told told' : Option (List 
 abbrev pub GivesUpCorrections : List ℕ → List ℕ → Option (List Loaded) → Option (List Loaded)
     → Option (Option (List ℕ) × LoadFault) → Option WriteEnd → Fault → Option (List ℕ)
     → Option (List ℕ) → Type 0
-GivesUpCorrections old new told told' refused end fault out out' =
+GivesUpCorrections old new loaded loaded' refused end fault out out' =
     (IsRefusal refused (old ∷ new ∷ []) fault × Keeps out out')
-    ⊎ BreaksOffCorrections old new told told' end fault
+    ⊎ BreaksOffCorrections old new loaded loaded' end fault

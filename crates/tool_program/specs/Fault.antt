@@ -1,16 +1,23 @@
 -- Why a subcommand is given up, and the line that says so, without its line feed.
-use Rattle.std.specs.Prelude.{◌≡◌, ⊤, ℕ, Bool, true, false, List, ◌++◌, Option, None, Some, codes}
-use Rattle.std.specs.Prelude.{MatchBool, decimal}
+use Rattle.std.specs.Prelude.{◌≡◌, ⊤, ℕ, Bool, true, false, List, [], ◌++◌, Option, None, Some}
+use Rattle.std.specs.Prelude.{MatchBool, codes, decimal, if◌then◌else◌}
 use Rattle.part_reports.specs.declared.fault.Wrong.{Wrong}
 use Rattle.part_reports.specs.declared.fault.Wrong.TheVariants as wrong
 use Rattle.program_manners.specs.LineWritten.{LineWritten}
 use Rattle.program_manners.specs.Refusals.{IsOneOf, Refuses}
 use Rattle.program_manners.specs.declared.loading.LoadFault.{LoadFault}
 use Rattle.program_manners.specs.declared.loading.LoadFault.TheVariants as load
+use Rattle.tap_views.specs.declared.fault.LayoutFault.{LayoutFault}
+use Rattle.tool_program.specs.Layout.{cause_text, remedy_text}
 use Rattle.tool_program.specs.Names.{called, file_named}
+use Rattle.tool_program.specs.WrongTables.{devices_text, rows_text, tap_table_text}
 use Rattle.tool_program.specs.declared.fault.Fault.{Fault}
-use Rattle.tool_program.specs.declared.fault.Fault.TheVariants.{Closed, Line, NoMemory, Taps}
-use Rattle.tool_program.specs.declared.fault.Fault.TheVariants.{TooLong, Unread, Unsettled, Write}
+use Rattle.tool_program.specs.declared.fault.Fault.TheVariants.{Changed, Closed, Devices, Exists}
+use Rattle.tool_program.specs.declared.fault.Fault.TheVariants.{Layout, Line, NoMemory, OutOfOrder}
+use Rattle.tool_program.specs.declared.fault.Fault.TheVariants.{Rows, SomeChanged, TapTable, Taps}
+use Rattle.tool_program.specs.declared.fault.Fault.TheVariants.{TooLong, TooManyOpen, Unmade}
+use Rattle.tool_program.specs.declared.fault.Fault.TheVariants.{UnmadePart, Unread, Unsettled}
+use Rattle.tool_program.specs.declared.fault.Fault.TheVariants.{Write}
 use Rattle.tool_program.specs.declared.output.WriteEnd.{WriteEnd}
 use Rattle.tool_program.specs.declared.output.WriteEnd.TheVariants as writes
 
@@ -29,10 +36,33 @@ wrong_text wrong.OtherToken = codes "its token is not the next one of the report
 wrong_text wrong.MissingToken = codes "the ledger ends, and the report has one more token"
 wrong_text wrong.OtherValidators = codes "the validators have other sums than in the report"
 
+-- the line of a layout fault, in the batch at this offset
+abbrev pub layout_text : List ℕ → ℕ → LayoutFault → List ℕ
+layout_text word offset fault = codes "fault: " ++ (called word ++ (codes " at "
+    ++ (decimal offset ++ (codes ": " ++ (cause_text fault ++ (codes "; " ++ remedy_text fault))))))
+
 -- the line of a fault
 abbrev pub fault_text : Fault → List ℕ
 fault_text (Unread word) = codes "fault: cannot read " ++ called word.now
 fault_text (TooLong word) = codes "fault: " ++ (called word.now ++ codes " is too long")
+fault_text (TooManyOpen word) =
+    codes "fault: cannot open " ++ (called word.now ++ codes ": too many files are open")
+fault_text (Exists word) = codes "fault: " ++ (called word.now ++ codes " is there already")
+fault_text (Unmade word) = codes "fault: cannot make " ++ called word.now
+fault_text (UnmadePart word part) = codes "fault: cannot make "
+    ++ (called word.now ++ (codes "/" ++ (decimal part ++ codes ".tap")))
+fault_text (Layout word offset wrong) = layout_text word.now offset wrong
+fault_text (OutOfOrder word tap) = codes "fault: " ++ (called word.now ++ (codes ": tap "
+    ++ (decimal tap ++ codes " is out of order")))
+fault_text (TapTable word wrong) =
+    codes "fault: " ++ (called word.now ++ (codes " " ++ tap_table_text wrong))
+fault_text (Rows word wrong) =
+    codes "fault: " ++ (called word.now ++ (codes " " ++ rows_text wrong))
+fault_text (Devices word wrong) =
+    codes "fault: " ++ (called word.now ++ (codes " " ++ devices_text wrong))
+fault_text (Changed word) = codes "fault: " ++ (called word.now
+    ++ codes " changed while it was read")
+fault_text SomeChanged = codes "fault: a file changed while it was read"
 fault_text (Line word number why) = codes "fault: " ++ (called word.now ++ (codes " line "
     ++ (decimal number ++ (codes ": " ++ wrong_text why))))
 fault_text (Unsettled word number) = codes "fault: " ++ (called word.now ++ (codes " line "
@@ -43,15 +73,19 @@ fault_text Write = codes "fault: cannot write"
 fault_text Closed = codes "fault: cannot write"
 fault_text NoMemory = codes "fault: out of memory"
 
--- whether who reads the text has closed it, so that nothing is told
+-- whether who reads the text has closed it, so that nothing is reported
 abbrev pub is_quiet : Fault → Bool
 is_quiet Closed = true
 is_quiet _ = false
 
--- The line of the fault was told, unless a write of it failed. If who reads the text has closed it,
--- nothing was told.
-abbrev pub IsFaultTold : Fault → Option (List ℕ) → Option (List ℕ) → Bool → Type 0
-IsFaultTold fault said said' failed = MatchBool (is_quiet fault) (said' ≡ said)
+-- the line of the fault as it is reported, with its line feed
+abbrev pub fault_line : Fault → List ℕ
+fault_line fault = if is_quiet fault then [] else fault_text fault ++ codes "\n"
+
+-- The line of the fault was reported, unless a write of it failed. If who reads the text has closed
+-- it, nothing was reported.
+abbrev pub IsFaultReported : Fault → Option (List ℕ) → Option (List ℕ) → Bool → Type 0
+IsFaultReported fault said said' failed = MatchBool (is_quiet fault) (said' ≡ said)
     (LineWritten said said' failed (fault_text fault))
 
 -- The source refused the file of one of these words, which the fault names, for its reason; or

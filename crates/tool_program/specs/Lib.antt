@@ -1,7 +1,16 @@
 pub mod Corrections
+pub mod Decode
+pub mod Encode
 pub mod Fault
+pub mod Layout
 pub mod Merge
 pub mod MergeLedgers
+pub mod MergeSorted
 pub mod Names
+pub mod Sink
+pub mod Sort
 pub mod Source
+pub mod Split
+pub mod Uploads
+pub mod WrongTables
 pub mod inside

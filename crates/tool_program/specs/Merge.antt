@@ -3,6 +3,7 @@ use Rattle.std.specs.Prelude.{◌≡◌, ◌↔◌, ◌⊎◌, ◌+◌, ◌<◌,
 use Rattle.std.specs.Prelude.{Option, Some, length, slice_get}
 use Rattle.std.specs.Io.KnownBytes.{Appends, Keeps}
 use Rattle.fare_texts.specs.WrittenOut.{Begins}
+use Rattle.part_reports.specs.FirstWrongLines.{IsFirstWrongOfEnds, IsFirstWrongOfReport}
 use Rattle.part_reports.specs.Reports.{AreWrongEndsAt, HaveTaps, IsMerged, IsWrongReportAt}
 use Rattle.part_reports.specs.Reports.{all_ends}
 use Rattle.program_manners.specs.Loads.{Loaded}
@@ -26,23 +27,28 @@ pub record WritesReport (end_texts report_texts : List (List ℕ)) (out out' : O
   pub written : Appends out out' text
 
 -- The ends were opened and then the reports, and their report was written whole.
-pub record MergesReports (ends reports : List (List ℕ)) (told told' : Option (List Loaded))
+pub record MergesReports (ends reports : List (List ℕ)) (loaded loaded' : Option (List Loaded))
     (out out' : Option (List ℕ)) (are_posted : Bool) : Type 0 where
   pub end_texts : List (List ℕ)
   pub report_texts : List (List ℕ)
-  pub opened : OpensBoth ends reports told told' end_texts report_texts
+  pub opened : OpensBoth ends reports loaded loaded' end_texts report_texts
   pub writes : WritesReport end_texts report_texts out out' are_posted
 
 -- The fault is the right one of texts that were opened under these words, those of the ends first:
--- a line of a text that is wrong, at the place of the word that is named; the taps of the texts; a
--- text that could not be read to its end; a write that failed, as the writer remembers it. Memory
--- may be refused at any time.
+-- a line of a text that is wrong, at the place of the word that is named, and the line is the first
+-- wrong one of its text, for the reason that is named; the taps of the texts; a text that could not
+-- be read to its end; a write that failed, as the writer remembers it. Memory may be refused at any
+-- time.
 abbrev pub IsRightMergeFault : List (List ℕ) → List (List ℕ) → List (List ℕ) → Option WriteEnd
     → Fault → Type 0
 IsRightMergeFault words end_texts report_texts end (Line word number why) =
-    ((place : ℕ) × (slice_get words place ≡ Some word.now) × AreWrongEndsAt end_texts place)
+    (((place : ℕ) × (slice_get words place ≡ Some word.now) × AreWrongEndsAt end_texts place)
     ⊎ ((place : ℕ) × (slice_get words (length end_texts + place) ≡ Some word.now)
-    × IsWrongReportAt report_texts place)
+    × IsWrongReportAt report_texts place))
+    × (((place : ℕ) × (slice_get words place ≡ Some word.now)
+    × IsFirstWrongOfEnds end_texts place number why)
+    ⊎ ((place : ℕ) × (slice_get words (length end_texts + place) ≡ Some word.now)
+    × IsFirstWrongOfReport report_texts place number why))
 IsRightMergeFault words end_texts report_texts end (Taps of_reports of_uploads) =
     HaveTaps end_texts report_texts of_reports of_uploads
 IsRightMergeFault words end_texts report_texts end (Unread word) =
@@ -61,11 +67,11 @@ pub record StopsMerge (words end_texts report_texts : List (List ℕ)) (end : Op
       → (text : List ℕ) × IsMerged end_texts report_texts text × Begins out out' text
 
 -- all texts were opened, and the merge was broken off
-pub record BreaksOffMerge (ends reports : List (List ℕ)) (told told' : Option (List Loaded))
+pub record BreaksOffMerge (ends reports : List (List ℕ)) (loaded loaded' : Option (List Loaded))
     (end : Option WriteEnd) (fault : Fault) (out out' : Option (List ℕ)) : Type 0 where
   pub end_texts : List (List ℕ)
   pub report_texts : List (List ℕ)
-  pub opened : OpensBoth ends reports told told' end_texts report_texts
+  pub opened : OpensBoth ends reports loaded loaded' end_texts report_texts
   pub stops : StopsMerge (ends ++ reports) end_texts report_texts end fault out out'
 
 -- The merge was given up: a file was not opened, or memory was refused before, and nothing was
@@ -73,6 +79,6 @@ pub record BreaksOffMerge (ends reports : List (List ℕ)) (told told' : Option 
 abbrev pub GivesUpMerge : List (List ℕ) → List (List ℕ) → Option (List Loaded)
     → Option (List Loaded) → Option (Option (List ℕ) × LoadFault) → Option WriteEnd → Fault
     → Option (List ℕ) → Option (List ℕ) → Type 0
-GivesUpMerge ends reports told told' refused end fault out out' =
+GivesUpMerge ends reports loaded loaded' refused end fault out out' =
     (IsRefusal refused (ends ++ reports) fault × Keeps out out')
-    ⊎ BreaksOffMerge ends reports told told' end fault out out'
+    ⊎ BreaksOffMerge ends reports loaded loaded' end fault out out'

@@ -29,11 +29,11 @@ pub record WritesLedger (ledger_texts report_texts : List (List ℕ)) (out out' 
   pub written : Appends out out' text
 
 -- The ledgers were opened and then the reports, and their ledger was written whole.
-pub record MergesLedgers (ledgers reports : List (List ℕ)) (told told' : Option (List Loaded))
+pub record MergesLedgers (ledgers reports : List (List ℕ)) (loaded loaded' : Option (List Loaded))
     (out out' : Option (List ℕ)) : Type 0 where
   pub ledger_texts : List (List ℕ)
   pub report_texts : List (List ℕ)
-  pub opened : OpensBoth ledgers reports told told' ledger_texts report_texts
+  pub opened : OpensBoth ledgers reports loaded loaded' ledger_texts report_texts
   pub writes : WritesLedger ledger_texts report_texts out out'
 
 -- The text of a line that is refused is wrong, at the place of the word that is named. Beside
@@ -69,11 +69,11 @@ pub record StopsLedgers (words ledger_texts report_texts : List (List ℕ)) (end
       → (text : List ℕ) × IsWholeLedger ledger_texts report_texts text × Begins out out' text
 
 -- all texts were opened, and the merge was broken off
-pub record BreaksOffLedgers (ledgers reports : List (List ℕ)) (told told' : Option (List Loaded))
-    (end : Option WriteEnd) (fault : Fault) (out out' : Option (List ℕ)) : Type 0 where
+pub record BreaksOffLedgers (ledgers reports : List (List ℕ))
+    (loaded loaded' : Option (List Loaded)) (end : Option WriteEnd) (fault : Fault) (out out' : Option (List ℕ)) : Type 0 where
   pub ledger_texts : List (List ℕ)
   pub report_texts : List (List ℕ)
-  pub opened : OpensBoth ledgers reports told told' ledger_texts report_texts
+  pub opened : OpensBoth ledgers reports loaded loaded' ledger_texts report_texts
   pub stops : StopsLedgers (ledgers ++ reports) ledger_texts report_texts end fault out out'
 
 -- The merge was given up: a file was not opened, or memory was refused before, and nothing was
@@ -81,6 +81,6 @@ pub record BreaksOffLedgers (ledgers reports : List (List ℕ)) (told told' : Op
 abbrev pub GivesUpLedgers : List (List ℕ) → List (List ℕ) → Option (List Loaded)
     → Option (List Loaded) → Option (Option (List ℕ) × LoadFault) → Option WriteEnd → Fault
     → Option (List ℕ) → Option (List ℕ) → Type 0
-GivesUpLedgers ledgers reports told told' refused end fault out out' =
+GivesUpLedgers ledgers reports loaded loaded' refused end fault out out' =
     (IsRefusal refused (ledgers ++ reports) fault × Keeps out out')
-    ⊎ BreaksOffLedgers ledgers reports told told' end fault out out'
+    ⊎ BreaksOffLedgers ledgers reports loaded loaded' end fault out out'

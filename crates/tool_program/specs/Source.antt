@@ -1,27 +1,27 @@
--- What a source tells of what it opened.
+-- What is known of what a source opened.
 use Rattle.std.specs.Prelude.{◌≡◌, ⊤, ℕ, List, map, Option, None, Some}
-use Rattle.program_manners.specs.Loads.{Loaded, Tells, TellsOne}
+use Rattle.program_manners.specs.Loads.{Loaded, LoadsAll, LoadsOne}
 use Rattle.tool_program.specs.Names.{file_named}
 
--- One load under this name, of all that a reader that was opened has left. Where the source keeps a
+-- One load under this name, of all that a reader that was opened has left. If the source keeps a
 -- list, it is known what the reader has.
 abbrev pub OpensOne : Option (List Loaded) → Option (List Loaded) → Option (List ℕ)
     → Option (List ℕ) → Type 0
 OpensOne None after name left = ⊤
 OpensOne (Some before) after name None = ⊥
-OpensOne (Some before) after name (Some text) = TellsOne (Some before) after name text
+OpensOne (Some before) after name (Some text) = LoadsOne (Some before) after name text
 
 -- these texts were opened, each under the name that its word names, one after the other
-pub record HasOpened (words : List (List ℕ)) (told told' : Option (List Loaded))
+pub record HasOpened (words : List (List ℕ)) (loaded loaded' : Option (List Loaded))
     (texts : List (List ℕ)) : Type 0 where
   pub loads : List Loaded
   pub named : map (λ load. load.name) loads ≡ map file_named words
   pub bytes : map (λ load. load.bytes) loads ≡ texts
-  pub told_is : Tells told told' loads
+  pub is_loaded : LoadsAll loaded loaded' loads
 
 -- the texts of the first words were opened, in order, and then those of the second ones
-pub record OpensBoth (first second : List (List ℕ)) (told told' : Option (List Loaded))
+pub record OpensBoth (first second : List (List ℕ)) (loaded loaded' : Option (List Loaded))
     (first_texts second_texts : List (List ℕ)) : Type 0 where
   pub between : Option (List Loaded)
-  pub opens_first : HasOpened first told between first_texts
-  pub opens_second : HasOpened second between told' second_texts
+  pub opens_first : HasOpened first loaded between first_texts
+  pub opens_second : HasOpened second between loaded' second_texts

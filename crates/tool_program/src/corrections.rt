@@ -7,7 +7,7 @@ ghost use Rattle.program_manners.specs.Loads.{Loaded};
 ghost use Rattle.tool_program.specs.Corrections.{Corrects, GivesUpCorrections};
 ghost use Rattle.tool_program.specs.Corrections.{IsRightCorrectionsFault, IsTextOfCorrections};
 ghost use Rattle.tool_program.specs.Corrections.{IsUnsettled, IsWarned};
-ghost use Rattle.tool_program.specs.Fault.{IsFaultTold};
+ghost use Rattle.tool_program.specs.Fault.{IsFaultReported};
 ghost use Rattle.tool_program.specs.declared.fault.Fault.{Fault as AFault};
 ghost use Rattle.tool_program.specs.inside.Fault.{IsCorrectionsFault, word_of};
 
@@ -150,7 +150,7 @@ fn warn<E: Write>(ledgers: &CorrectedLedgers<'_>, removed: u64, err: &mut Compla
     if removed > 0 {
         let old = Name(ledgers.old);
         let new = Name(ledgers.new);
-        err.tell_line(format_args!("warning: {new}: missing lines of {old}: {removed}"));
+        err.report_line(format_args!("warning: {new}: missing lines of {old}: {removed}"));
     }
 }
 
@@ -166,15 +166,15 @@ pub fn corrections_over<S: Source, W: Write + Drop, E: Write>(
     err: &mut Complaints<E>,
 ) -> u8
     // Of a source that keeps what it opened: with status 0 the whole text was written, and it was
-    // told how many lines are removed, if there are such.
+    // reported how many lines are removed, if any are.
     ensures done { (kept : List Loaded) → S.loaded source.old ≡ Some kept → result ≡ 0
         → (removed : ℕ) × Corrects ledgers.now.is_by_token ledgers.now.old.now
         ledgers.now.new.now (S.loaded source.old) (S.loaded source.new)
         (W.contents out.old.inner) (W.contents out.new.inner) removed
         × IsWarned ledgers.now.old.now ledgers.now.new.now removed (E.contents err.old.writer)
         (E.contents err.new.writer) err.new.failed (err.new ≡ err.old) }
-    // With status 1 the line of a fault was told, which is the right one.
-    ensures faults { result ≡ 1 → (fault : AFault) × IsFaultTold fault
+    // With status 1 the line of a fault was reported, which is the right one.
+    ensures faults { result ≡ 1 → (fault : AFault) × IsFaultReported fault
         (E.contents err.old.writer) (E.contents err.new.writer) err.new.failed
         × ((kept : List Loaded) → S.loaded source.old ≡ Some kept
         → GivesUpCorrections ledgers.now.old.now ledgers.now.new.now (S.loaded source.old)

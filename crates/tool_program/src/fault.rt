@@ -1,19 +1,22 @@
 //! Why a subcommand is given up, and the line that says so.
-ghost use Rattle.std.specs.Prelude.{◌≡◌, ℕ, IfErr, List, Option, Some};
+ghost use Rattle.std.specs.Prelude.{◌≡◌, ℕ, IfErr, List, OnOk, Option, Some, false};
 ghost use Rattle.std.specs.Io.KnownBytes.{Keeps};
 ghost use Rattle.program_manners.specs.Refusals.{IsOneOf, Refuses};
 ghost use Rattle.program_manners.specs.declared.loading.LoadFault.{LoadFault as ALoadFault};
-ghost use Rattle.tool_program.specs.Fault.{IsFaultTold, IsRefusal, failed_as, fault_text};
-ghost use Rattle.tool_program.specs.Fault.{is_quiet, wrong_text};
+ghost use Rattle.tool_program.specs.Fault.{IsFaultReported, IsRefusal, failed_as, fault_text, is_quiet};
+ghost use Rattle.tool_program.specs.Fault.{wrong_text};
 ghost use Rattle.tool_program.specs.Names.{file_named};
 
+use crate::layout::{Cause, Remedy};
 use crate::names::Name;
 use crate::output::{Output, WriteEnd};
+use crate::wrong_tables::{WrongDevices, WrongRows, WrongTapTable};
 use part_reports::Wrong;
 use program_manners::{Complaints, LoadFault};
 use std::alloc::{AllocError, AllocFailed};
 use std::fmt;
 use std::io::Write;
+use tap_views::LayoutFault;
 
 /// Why a subcommand is given up. A file is named by its word of the command line. Its `Display` is
 /// the fault line without its line feed.
@@ -23,11 +26,33 @@ pub enum Fault<'a> {
     Unread(&'a str),
     /// The file is longer than it may be.
     TooLong(&'a str),
+    /// The file could not be opened, since the system has too many open.
+    TooManyOpen(&'a str),
+    /// The file that was to be made is there already.
+    Exists(&'a str),
+    /// The file could not be made.
+    Unmade(&'a str),
+    /// The file of this part, in this folder, could not be made.
+    UnmadePart(&'a str, u32),
+    /// The upload has this layout fault, in the batch at this offset in bytes.
+    Layout(&'a str, u64, LayoutFault),
+    /// The tap of this number, from 0, in this file, belongs before the tap before it.
+    OutOfOrder(&'a str, u64),
+    /// The file is no tap table.
+    TapTable(&'a str, WrongTapTable),
+    /// The file is no CSV of the columns that are wanted, or one of its rows is no tap.
+    Rows(&'a str, WrongRows<'a>),
+    /// The file is no device table.
+    Devices(&'a str, WrongDevices),
+    /// The file was another one when it was read again.
+    Changed(&'a str),
+    /// A file was another one when it was read again.
+    SomeChanged,
     /// The line of this number, from 1, in this text of a part, is wrong.
     Line(&'a str, u64, Wrong),
     /// The line of this number, from 1, in this ledger, belongs before the line before it.
     Unsettled(&'a str, u64),
-    /// The reports of the parts have so many taps, and the uploads have so many.
+    /// The reports of the parts have the first number of taps, and the uploads the second.
     Taps(u128, u128),
     /// A write failed.
     Write,
@@ -67,12 +92,7 @@ impl<'a> Fault<'a> {
     fn is_quiet(&self) -> bool
         ensures { result ≡ is_quiet self.now }
     {
-        match self {
-            Fault::Closed => true,
-            Fault::Unread(_) | Fault::TooLong(_) | Fault::Line(_, _, _) => false,
-            Fault::Unsettled(_, _) | Fault::Taps(_, _) => false,
-            Fault::Write | Fault::NoMemory => false,
-        }
+        matches!(self, Fault::Closed)
     }
 }
 
@@ -121,18 +141,39 @@ impl fmt::Display for Fault<'_> {
 
     fn fmt<W: fmt::Write>(&self, f: &mut fmt::Formatter<W>) -> fmt::Result {
         match self {
-            Fault::Unread(word) => {
-                let name = Name(word);
-                write!(f, "fault: cannot read {name}")
+            Fault::Unread(word) => write!(f, "fault: cannot read {}", Name(word)),
+            Fault::TooLong(word) => write!(f, "fault: {} is too long", Name(word)),
+            Fault::TooManyOpen(word) => {
+                write!(
+                    f,
+                    "fault: cannot open {}: too many files are open",
+                    Name(word)
+                )
             }
-            Fault::TooLong(word) => {
-                let name = Name(word);
-                write!(f, "fault: {name} is too long")
+            Fault::Exists(word) => write!(f, "fault: {} is there already", Name(word)),
+            Fault::Unmade(word) => write!(f, "fault: cannot make {}", Name(word)),
+            Fault::UnmadePart(word, part) => {
+                write!(f, "fault: cannot make {}/{part}.tap", Name(word))
             }
+            Fault::Layout(word, offset, fault) => {
+                let (cause, remedy) = (Cause(*fault), Remedy(*fault));
+                write!(f, "fault: {} at {offset}: {cause}; {remedy}", Name(word))
+            }
+            Fault::OutOfOrder(word, tap) => {
+                write!(f, "fault: {}: tap {tap} is out of order", Name(word))
+            }
+            Fault::TapTable(word, wrong) => write!(f, "fault: {} {wrong}", Name(word)),
+            Fault::Rows(word, wrong) => write!(f, "fault: {} {wrong}", Name(word)),
+            Fault::Devices(word, wrong) => write!(f, "fault: {} {wrong}", Name(word)),
+            Fault::Changed(word) => write!(f, "fault: {} changed while it was read", Name(word)),
+            Fault::SomeChanged => f.write_str("fault: a file changed while it was read"),
             Fault::Line(word, number, wrong) => {
-                let name = Name(word);
-                let why = wrong_text(*wrong);
-                write!(f, "fault: {name} line {number}: {why}")
+                write!(
+                    f,
+                    "fault: {} line {number}: {}",
+                    Name(word),
+                    wrong_text(*wrong)
+                )
             }
             Fault::Unsettled(word, number) => {
                 let name = Name(word);
@@ -155,17 +196,19 @@ impl fmt::Display for Fault<'_> {
 
 /// Writes the line of a fault, unless the reader of the text is gone.
 pub fn say<E: Write>(err: &mut Complaints<E>, fault: &Fault<'_>)
-    ensures { IsFaultTold fault.now (E.contents err.old.writer) (E.contents err.new.writer)
-        err.new.failed }
+    ensures reported { IsFaultReported fault.now (E.contents err.old.writer)
+        (E.contents err.new.writer) err.new.failed }
+    ensures kept { err.new.failed ≡ false → err.old.failed ≡ false }
 {
     if !fault.is_quiet() {
-        err.tell_line(*fault);
+        err.report_line(*fault);
     }
 }
 
 /// Lets all that was written go out.
 pub fn finish<'a, W: Write + Drop>(out: &mut Output<W>) -> Result<(), Fault<'a>>
     ensures kept { Keeps (W.contents out.old.inner) (W.contents out.new.inner) }
+    ensures well { OnOk result (out.new.end ≡ out.old.end) }
     ensures fault { IfErr result (λ fault. fault ≡ failed_as out.new.end) }
 {
     match out.flush() {

@@ -6,24 +6,53 @@
 //! | `names` | words that name files, as they are opened and shown |
 //! | `source` | where texts come from |
 //! | `output` | where a text goes |
+//! | `sink` | where files are made |
 //! | `fault` | why a subcommand is given up, and the line that says so |
+//! | `layout`, `wrong_tables` | what is wrong with an upload, or with a table, in words |
+//! | `encode` | `encode` of a tap table |
+//! | `decode` | `decode` |
+//! | `placed` | files that are read at any offset |
+//! | `sort` | `sort` of uploads that are loaded |
+//! | `merge_sorted` | `sort --merge` |
+//! | `split` | `split` |
+//! | `uploads` | `uploads`: what each upload has |
 //! | `merge` | `merge` |
 //! | `merge_ledgers` | `merge-ledgers` |
 //! | `corrections` | `corrections` |
 #![tactic(auto)]
 
 mod corrections;
+mod decode;
+mod encode;
 mod fault;
+mod layout;
 mod merge;
 mod merge_ledgers;
+mod merge_sorted;
 mod names;
 mod output;
+mod placed;
+mod sink;
+mod sort;
 mod source;
+mod split;
+mod uploads;
+mod wrong_tables;
 
 pub use corrections::{CorrectedLedgers, corrections_over};
+pub use decode::decode_over;
+pub use encode::encode_over;
 pub use fault::{Fault, finish, say};
+pub use layout::{AtTap, Cause, Remedy};
 pub use merge::merge_over;
 pub use merge_ledgers::merge_ledgers_over;
+pub use merge_sorted::merge_sorted_over;
 pub use names::{Escaped, Name};
 pub use output::{Output, WriteEnd};
-pub use source::Source;
+pub use placed::PlacedFiles;
+pub use sink::{MakeFault, Sink};
+pub use sort::{SortWords, sort_over};
+pub use source::{Shown, Source};
+pub use split::{SplitWords, split_over};
+pub use uploads::{push_moment, upload_text, uploads_over};
+pub use wrong_tables::{WrongDevices, WrongRows, WrongTapTable};

@@ -3,7 +3,7 @@ ghost use Rattle.std.specs.Prelude.{◌≡◌, ◌≢◌, ◌⊎◌, ◌++◌, �
 ghost use Rattle.std.specs.Prelude.{option_map, slice_get, true};
 ghost use Rattle.part_reports.specs.Texts.{AreLeft};
 ghost use Rattle.program_manners.specs.Loads.{Loaded};
-ghost use Rattle.tool_program.specs.Fault.{IsFaultTold};
+ghost use Rattle.tool_program.specs.Fault.{IsFaultReported};
 ghost use Rattle.tool_program.specs.Merge.{GivesUpMerge, MergesReports, StopsMerge};
 ghost use Rattle.tool_program.specs.Merge.{WritesReport};
 ghost use Rattle.tool_program.specs.declared.fault.Fault.{Fault as AFault};
@@ -141,8 +141,8 @@ pub fn merge_over<S: Source, W: Write + Drop, E: Write>(
         → MergesReports (map (λ w. w.now) ends.now) (map (λ w. w.now) reports.now)
         (S.loaded source.old) (S.loaded source.new) (W.contents out.old.inner)
         (W.contents out.new.inner) false }
-    // With status 1 the line of a fault was told, which is the right one.
-    ensures faults { result ≡ 1 → (fault : AFault) × IsFaultTold fault
+    // With status 1 the line of a fault was reported, which is the right one.
+    ensures faults { result ≡ 1 → (fault : AFault) × IsFaultReported fault
         (E.contents err.old.writer) (E.contents err.new.writer) err.new.failed
         × ((kept : List Loaded) → S.loaded source.old ≡ Some kept
         → GivesUpMerge (map (λ w. w.now) ends.now) (map (λ w. w.now) reports.now)

@@ -6,7 +6,7 @@ ghost use Rattle.part_reports.specs.Faults.{IsOfTaps, IsOfTexts};
 ghost use Rattle.part_reports.specs.Ledgers.{NamesWrongLedger};
 ghost use Rattle.part_reports.specs.Texts.{AreLeft};
 ghost use Rattle.program_manners.specs.Loads.{Loaded};
-ghost use Rattle.tool_program.specs.Fault.{IsFaultTold};
+ghost use Rattle.tool_program.specs.Fault.{IsFaultReported};
 ghost use Rattle.tool_program.specs.MergeLedgers.{GivesUpLedgers, IsWholeLedger, MergesLedgers};
 ghost use Rattle.tool_program.specs.MergeLedgers.{StopsLedgers, WritesLedger};
 ghost use Rattle.tool_program.specs.declared.fault.Fault.{Fault as AFault};
@@ -129,8 +129,8 @@ pub fn merge_ledgers_over<S: Source, W: Write + Drop, E: Write>(
         → MergesLedgers (map (λ w. w.now) ledgers.now) (map (λ w. w.now) reports.now)
         (S.loaded source.old) (S.loaded source.new) (W.contents out.old.inner)
         (W.contents out.new.inner) }
-    // With status 1 the line of a fault was told, which is the right one.
-    ensures faults { result ≡ 1 → (fault : AFault) × IsFaultTold fault
+    // With status 1 the line of a fault was reported, which is the right one.
+    ensures faults { result ≡ 1 → (fault : AFault) × IsFaultReported fault
         (E.contents err.old.writer) (E.contents err.new.writer) err.new.failed
         × ((kept : List Loaded) → S.loaded source.old ≡ Some kept
         → GivesUpLedgers (map (λ w. w.now) ledgers.now) (map (λ w. w.now) reports.now)

@@ -1,5 +1,5 @@
 //! Words of the command line that name files, as they are opened and as they are shown.
-ghost use Rattle.std.specs.Prelude.{◌≡◌, ◌<◌, Some, codes, false, option_map};
+ghost use Rattle.std.specs.Prelude.{◌≡◌, ◌<◌, Some, codes, false, map, option_map, slice_get};
 ghost use Rattle.std.specs.Fmt.{WritesOnOk, digit_glyph};
 ghost use Rattle.std.specs.Str.{bytes_eq};
 ghost use Rattle.tool_program.specs.Names.{called, escaped, file_named, shown_letter};
@@ -15,6 +15,16 @@ pub fn file_of<'a>(word: &'a str) -> Option<&'a str>
     ensures { option_map (λ n. n.now) result ≡ file_named word.entry.now }
 {
     if word == INPUT_WORD { None } else { Some(word) }
+}
+
+/// The word of this number, from 0.
+pub(crate) fn word_at<'a>(words: &[&'a str], number: usize) -> Option<&'a str>
+    ensures { option_map (λ w. w.now) result ≡ slice_get (map (λ w. w.now) words.now) number }
+{
+    if number < words.len() {
+        return Some(words[number]);
+    }
+    None
 }
 
 /// A word that names a file. Its `Display` is what the file is called: its name with control

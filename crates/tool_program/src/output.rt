@@ -45,6 +45,13 @@ impl<W: Write + Drop> Output<W> {
         Output { inner, end: None }
     }
 
+    /// Where the bytes went.
+    pub fn into_inner(self) -> W
+        ensures { result ≡ self.inner }
+    {
+        self.inner
+    }
+
     /// Why the last write that failed did so; none if no write failed.
     pub fn end(&self) -> Option<WriteEnd>
         ensures { result ≡ self.now.end }

@@ -1,7 +1,7 @@
 //! Where texts come from.
 ghost use Rattle.std.specs.Prelude.{◌≡◌, ◌++◌, ℕ, List, IfErr, IfOk, Some, map};
 ghost use Rattle.part_reports.specs.Texts.{AreLeft};
-ghost use Rattle.program_manners.specs.Loads.{Loaded};
+ghost use Rattle.program_manners.specs.Loads.{Loaded, LoadsOne};
 ghost use Rattle.program_manners.specs.Refusals.{IsOneOf};
 ghost use Rattle.tool_program.specs.Fault.{IsRefusal};
 ghost use Rattle.tool_program.specs.Names.{file_named};
@@ -13,10 +13,19 @@ use program_manners::LoadFault;
 use std::alloc::Global;
 use std::io::BufRead;
 
+/// What whoever watches a run is shown of a text while it is read.
+#[derive(Clone, Copy, Debug)]
+pub struct Shown {
+    /// How many bytes it has.
+    pub bytes: u64,
+    /// What is done with them, as `checked`.
+    pub verb: &'static str,
+}
+
 /// Where texts come from. A file has a name, and standard input has none.
 pub trait Source {
-    ghost use Rattle.std.specs.Prelude.{ℕ, List, IfErr, IfOk, Option, None, option_map};
-    ghost use Rattle.program_manners.specs.Loads.{Loaded};
+    ghost use Rattle.std.specs.Prelude.{◌≡◌, ℕ, List, IfErr, IfOk, Option, None, option_map};
+    ghost use Rattle.program_manners.specs.Loads.{Loaded, LoadsOne};
     ghost use Rattle.program_manners.specs.Refusals.{Refuses};
     ghost use Rattle.program_manners.specs.declared.loading.LoadFault.{LoadFault as AFault};
     ghost use Rattle.tool_program.specs.Source.{OpensOne};
@@ -30,24 +39,117 @@ pub trait Source {
     // The last opening that it refused: the name, and why; of a source that keeps it.
     ghost refused: { Self → Option (Option (List ℕ) × AFault) } = { λ _. None };
 
-    /// The file of this name, or standard input if there is none, to be read from its beginning.
-    /// What a fault leaves opened is not told.
+    /// The file of this name, or standard input if there is none, to be read from its beginning. No
+    /// clause says what a fault leaves opened.
     fn open(&mut self, name: Option<&str>) -> Result<Self::Text, LoadFault>
-        ensures told { IfOk result (λ text. OpensOne (loaded self.old) (loaded self.new)
+        ensures reported { IfOk result (λ text. OpensOne (loaded self.old) (loaded self.new)
             (option_map (λ n. n.now) name.entry) (Self.Text.remaining text)) }
         ensures fault { IfErr result (λ fault. Refuses (refused self.new)
             (option_map (λ n. n.now) name.entry) fault) };
+
+    /// The same, and whoever watches the run may be shown how much of it was read.
+    fn open_shown(&mut self, name: Option<&str>, shown: Shown) -> Result<Self::Text, LoadFault>
+        ensures reported { IfOk result (λ text. OpensOne (loaded self.old) (loaded self.new)
+            (option_map (λ n. n.now) name.entry) (Self.Text.remaining text)) }
+        ensures fault { IfErr result (λ fault. Refuses (refused self.new)
+            (option_map (λ n. n.now) name.entry) fault) };
+
+    /// Takes away what is shown of a text.
+    fn end_shown(&mut self, text: &mut Self::Text)
+        ensures loaded { loaded self.new ≡ loaded self.old }
+        ensures refused { refused self.new ≡ refused self.old };
+
+    /// Shows to whoever watches the run how many of all these things, as `uploads`, are done.
+    fn show_count(&mut self, done: usize, all: usize, things: &'static str)
+        ensures loaded { loaded self.new ≡ loaded self.old }
+        ensures refused { refused self.new ≡ refused self.old };
+
+    /// Takes away what is shown of a count.
+    fn end_count(&mut self)
+        ensures loaded { loaded self.new ≡ loaded self.old }
+        ensures refused { refused self.new ≡ refused self.old };
+
+    /// All bytes of the file of this name, or of standard input if there is none, however many.
+    /// No clause says what a fault leaves loaded.
+    fn load_any(&mut self, alloc: Global, name: Option<&str>) -> Result<Vec<u8>, LoadFault>
+        ensures reported { IfOk result (λ bytes. LoadsOne (loaded self.old) (loaded self.new)
+            (option_map (λ n. n.now) name.entry) bytes.items) }
+        ensures fault { IfErr result (λ fault. Refuses (refused self.new)
+            (option_map (λ n. n.now) name.entry) fault) };
+
+    /// All bytes of the file of this name, or of standard input if there is none. One of more than
+    /// 64 MiB is refused. No clause says what a fault leaves loaded.
+    fn load(&mut self, alloc: Global, name: Option<&str>) -> Result<Vec<u8>, LoadFault>
+        ensures reported { IfOk result (λ bytes. LoadsOne (loaded self.old) (loaded self.new)
+            (option_map (λ n. n.now) name.entry) bytes.items) }
+        ensures fault { IfErr result (λ fault. Refuses (refused self.new)
+            (option_map (λ n. n.now) name.entry) fault) };
+
+    /// The number of bytes, if the same ones can be read twice: not of standard input, nor of a
+    /// pipe.
+    fn plain_bytes(&self, name: Option<&str>) -> Option<u64>;
 }
 
 /// Opens the file that the word names, or standard input.
 pub(crate) fn open_text<'a, S: Source>(source: &mut S, word: &'a str) -> Result<S::Text, Fault<'a>>
-    ensures told { IfOk result (λ text. OpensOne (S.loaded source.old) (S.loaded source.new)
+    ensures reported { IfOk result (λ text. OpensOne (S.loaded source.old) (S.loaded source.new)
         (file_named word.entry.now) (S.Text.remaining text)) }
     ensures refusal { IfErr result (λ fault. (words : List (List ℕ))
         → IsOneOf word.entry.now words → IsRefusal (S.refused source.new) words fault) }
 {
     match source.open(file_of(word)) {
         Ok(text) => Ok(text),
+        Err(fault) => Err(Fault::of_load(word, fault)),
+    }
+}
+
+/// Opens the file that the word names, or standard input. How much of it was read may be shown.
+pub(crate) fn open_text_shown<'a, S: Source>(
+    source: &mut S,
+    word: &'a str,
+    shown: Shown,
+) -> Result<S::Text, Fault<'a>>
+    ensures reported { IfOk result (λ text. OpensOne (S.loaded source.old) (S.loaded source.new)
+        (file_named word.entry.now) (S.Text.remaining text)) }
+    ensures refusal { IfErr result (λ fault. (words : List (List ℕ))
+        → IsOneOf word.entry.now words → IsRefusal (S.refused source.new) words fault) }
+{
+    match source.open_shown(file_of(word), shown) {
+        Ok(text) => Ok(text),
+        Err(fault) => Err(Fault::of_load(word, fault)),
+    }
+}
+
+/// Loads the file that the word names, or standard input, however long it is.
+pub(crate) fn load_text<'a, S: Source>(
+    alloc: Global,
+    source: &mut S,
+    word: &'a str,
+) -> Result<Vec<u8>, Fault<'a>>
+    ensures reported { IfOk result (λ bytes. LoadsOne (S.loaded source.old) (S.loaded source.new)
+        (file_named word.entry.now) bytes.items) }
+    ensures refusal { IfErr result (λ fault. (words : List (List ℕ))
+        → IsOneOf word.entry.now words → IsRefusal (S.refused source.new) words fault) }
+{
+    match source.load_any(alloc, file_of(word)) {
+        Ok(bytes) => Ok(bytes),
+        Err(fault) => Err(Fault::of_load(word, fault)),
+    }
+}
+
+/// Loads the upload that the word names, or standard input.
+pub(crate) fn load_upload<'a, S: Source>(
+    alloc: Global,
+    source: &mut S,
+    word: &'a str,
+) -> Result<Vec<u8>, Fault<'a>>
+    ensures reported { IfOk result (λ bytes. LoadsOne (S.loaded source.old) (S.loaded source.new)
+        (file_named word.entry.now) bytes.items) }
+    ensures refusal { IfErr result (λ fault. (words : List (List ℕ))
+        → IsOneOf word.entry.now words → IsRefusal (S.refused source.new) words fault) }
+{
+    match source.load(alloc, file_of(word)) {
+        Ok(bytes) => Ok(bytes),
         Err(fault) => Err(Fault::of_load(word, fault)),
     }
 }

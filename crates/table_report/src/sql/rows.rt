@@ -18,14 +18,12 @@ use fare_table::{Class, FareTable, Mode, RangeRest, WindowSpan};
 use std::alloc::AllocError;
 use tap_views::Token;
 
-/// The name of the class at the place.
 fn class_name(fares: &FareTable, place: usize) -> &[u8]
     ensures { result.now ≡ name_at fares.now.meaning.names place }
 {
     names::class_name(fares, place).as_bytes()
 }
 
-/// The name of the mode at the place.
 fn mode_name(fares: &FareTable, place: usize) -> &[u8]
     ensures { result.now ≡ name_at fares.now.meaning.modes place }
 {
@@ -43,7 +41,6 @@ fn default_mark(fares: &FareTable, place: usize) -> u32
     }
 }
 
-/// The class at the place.
 fn class_at(fares: &FareTable, place: usize) -> Class
     requires { place < length fares.now.meaning.classes }
     ensures { result ≡ class_at fares.now.meaning place }

@@ -15,7 +15,6 @@ enum Part {
     Missing,
     /// The key itself.
     Key,
-    /// The value.
     Value,
 }
 

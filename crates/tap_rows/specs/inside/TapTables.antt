@@ -1,7 +1,8 @@
 -- Tap tables: what private functions alone cite.
-use Rattle.std.specs.Prelude.{◌≡◌, ℕ, List, [], Some, None, Ok, Err, Result, Option, length}
+use Rattle.std.specs.Prelude.{◌≡◌, ◌⊎◌, ℕ, List, [], Some, None, Ok, Err, Result, Option, length}
 use Rattle.std.specs.Io.BufRead.{first_line, drop_through}
-use Rattle.std.specs.Io.KnownBytes.{Appends}
+use Rattle.std.specs.Io.KnownBytes.{Appends, Keeps}
+use Rattle.fare_texts.specs.WrittenOut.{Begins}
 use Rattle.tap_views.specs.declared.encoder.TapFields.{TapFields}
 use Rattle.tap_views.specs.Files.{IsFileOf}
 use Rattle.tap_rows.specs.Rows.{IsTapRow, IsNoTapRow}
@@ -42,11 +43,7 @@ IsHeadFault text NoMemory = Unit {0}
 abbrev pub IsEncodedAs : List TapFields → Option (List ℕ) → Option (List ℕ) → Type 0
 IsEncodedAs taps old new = (file : List ℕ) × IsFileOf file taps × Appends old new file
 
--- why a batch was not written
-abbrev pub IsBatchFault : RowsFault → Type 0
-IsBatchFault Head = ⊥
-IsBatchFault (Row number column) = ⊥
-IsBatchFault Changed = ⊥
-IsBatchFault Unread = ⊥
-IsBatchFault Write = Unit {0}
-IsBatchFault NoMemory = Unit {0}
+-- what was written behind the old bytes is nothing, or a beginning of an upload of these taps
+abbrev pub IsBegunAs : List TapFields → Option (List ℕ) → Option (List ℕ) → Type 0
+IsBegunAs taps old new =
+    Keeps old new ⊎ ((file : List ℕ) × IsFileOf file taps × Begins old new file)

@@ -7,11 +7,14 @@ use Rattle.ledger_changes.specs.declared.fault.CorrectionsFault.TheVariants as c
 use Rattle.part_reports.specs.declared.fault.MergeFault.{MergeFault}
 use Rattle.part_reports.specs.declared.fault.MergeFault.TheVariants as merge
 use Rattle.part_reports.specs.declared.fault.Wrong.TheVariants as wrong
+use Rattle.tap_rows.specs.declared.fault.RowsFault.{RowsFault}
+use Rattle.tap_rows.specs.declared.fault.RowsFault.TheVariants as rows
 use Rattle.tool_program.specs.Fault.{failed_as}
 use Rattle.tool_program.specs.declared.fault.Fault.{Fault}
 use Rattle.tool_program.specs.declared.fault.Fault.TheVariants.{Line, NoMemory, Taps, Unread}
-use Rattle.tool_program.specs.declared.fault.Fault.TheVariants.{Unsettled}
+use Rattle.tool_program.specs.declared.fault.Fault.TheVariants.{Changed, TapTable, Unsettled}
 use Rattle.tool_program.specs.declared.output.WriteEnd.{WriteEnd}
+use Rattle.tool_program.specs.declared.wrong_tables.WrongTapTable.TheVariants as table
 
 -- The second fault is the first one, with the word at the place of the text in place of its number.
 -- If there is no such word, memory is said to be refused. Of a write it is what the writer
@@ -46,3 +49,15 @@ IsCorrectionsFault old new end (changes.Unread bill) (Unread word) =
 IsCorrectionsFault old new end changes.Write fault = fault ≡ failed_as end
 IsCorrectionsFault old new end changes.NoMemory NoMemory = ⊤
 IsCorrectionsFault old new end first second = ⊥
+
+-- The second fault is the first one of the tap table of this word. Of a write it is what the writer
+-- remembers.
+abbrev pub IsEncodeFault : List ℕ → Option WriteEnd → RowsFault → Fault → Type 0
+IsEncodeFault word end rows.Head (TapTable named table.Head) = named.now ≡ word
+IsEncodeFault word end (rows.Row number column) (TapTable named (table.Row line wrong)) =
+    (named.now ≡ word) × (line ≡ number) × (wrong ≡ column)
+IsEncodeFault word end rows.Changed (Changed named) = named.now ≡ word
+IsEncodeFault word end rows.Unread (Unread named) = named.now ≡ word
+IsEncodeFault word end rows.Write fault = fault ≡ failed_as end
+IsEncodeFault word end rows.NoMemory NoMemory = ⊤
+IsEncodeFault word end first second = ⊥

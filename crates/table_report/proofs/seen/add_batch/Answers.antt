@@ -9,7 +9,7 @@ loop-tap-preserved c = record {
   all = append_assoc c.loop-tap.yielded (c.in-Some.tap ∷ []) c.next.new.self
       ∙ sym (ap (λ left. c.loop-tap.yielded ++ left) c.in-Some.ensures.steps)
       ∙ c.loop-tap.invariant.all;
-  same = one_more c.args.numbers.now.keys c.loop-tap.numbers.keys c.insert.new.self.keys
-      c.loop-tap.yielded c.in-Some.tap c.validator_number.result c.validator_number.ensures
-      c.in_ok-insert.ensures.updates.0 c.loop-tap.invariant.same;
+  same = one_more c.args.span c.args.numbers.now.keys c.loop-tap.numbers.keys
+      c.add_tap.new.numbers.keys c.loop-tap.yielded c.in-Some.tap c.in_ok-add_tap.ensures
+      c.loop-tap.invariant.same;
 }

@@ -9,5 +9,5 @@ invariant-loop-tap l = record {
   all : l.yielded ++ l.tap-iterator ≡ l.batch;
   same : (validator : ℕ)
       → is_among l.numbers.keys validator
-      ≡ (is_among l.fn.numbers.keys validator || has_tap_at l.yielded validator);
+      ≡ (is_among l.fn.numbers.keys validator || has_tap_at l.span l.yielded validator);
 }

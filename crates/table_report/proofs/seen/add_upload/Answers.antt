@@ -25,7 +25,7 @@ loop-batch-preserved c =
       may = tt;
       ends = tt;
       read = read_on _ _ _ _ _ c.loop-batch.invariant.read c.in-Some.ensures.steps;
-      same = one_batch c.args.numbers.now.keys c.loop-batch.numbers.keys
+      same = one_batch c.args.span c.args.numbers.now.keys c.loop-batch.numbers.keys
           c.add_batch.new.numbers.keys (taps_of_batches done) batch
           (taps_of_batches (done ++ batch ∷ [])) (taps_more done batch)
           c.in_ok-add_batch.ensures c.loop-batch.invariant.same;

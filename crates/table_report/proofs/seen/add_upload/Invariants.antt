@@ -9,5 +9,6 @@ invariant-loop-batch l = record {
   ends : (goal.iterator-loop-batch).is_finite l.batch-iterator;
   read : IsReadAs l.upload (l.yielded ++ l.batch-iterator.batches) l.batch-iterator.fault;
   same : (validator : ℕ) → is_among l.numbers.keys validator
-      ≡ (is_among l.fn.numbers.keys validator || has_tap_at (taps_of_batches l.yielded) validator);
+      ≡ (is_among l.fn.numbers.keys validator
+      || has_tap_at l.span (taps_of_batches l.yielded) validator);
 }

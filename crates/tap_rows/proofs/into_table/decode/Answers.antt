@@ -8,6 +8,10 @@ use Rattle.tap_views.specs.Files.{taps_of_batches}
 use Rattle.tap_views.proofs.ReadingLemmas.{read_end, read_on, taps_more}
 use Rattle.tap_rows.specs.Decoded.{fields_in}
 use Rattle.tap_rows.specs.Rows.{rows_text}
+use Rattle.std.proofs.lemmas.Result.{err_from_is_err_and}
+use Rattle.fare_texts.specs.WrittenOut.{Begins}
+use Rattle.fare_texts.proofs.Beginnings.{begins_nothing}
+use Rattle.tap_rows.proofs.BegunLemmas.{rows_begun}
 use Rattle.tap_rows.proofs.RowLemmas.{rows_joined}
 use Rattle.tap_rows.proofs.into_table.decode.Goals as goal
 
@@ -36,7 +40,7 @@ loop-batch-preserved g c =
     let here = g.W.Write.contents c.loop-batch.out in
     let new = g.W.Write.contents c.put.new.out in
     let bytes : c.deref.result.now ≡ rows_text (map fields_of batch) =
-    c.deref.ensures.value ∙ c.in_ok-fill.ensures in
+    c.deref.ensures.value ∙ c.in_ok-fill.ensures.rows in
     let more = subst (λ text. Appends here new text) bytes c.in_ok-put.ensures.bytes in
     record {
       may = tt;
@@ -47,14 +51,57 @@ loop-batch-preserved g c =
           c.loop-batch.invariant.written more);
     }
 
-pub returns : goal.returns
-returns g c =
+pub returns-clause-rows : goal.returns-clause-rows
+returns-clause-rows g c =
     let end = c.loop-batch.invariant in
-    let read = read_end _ _ _ _ _ end.read c.in_default.ensures.steps c.fault.ensures in
-    record {
-      rows = (
-        rows_text (fields_in c.loop-batch.yielded),
-        record { batches = c.loop-batch.yielded; read = read; rows = refl },
-        end.written,
-      );
-    }
+    let read = read_end _ _ _ _ _ end.read c.in_default.ensures.steps c.fault.ensures in (
+      rows_text (fields_in c.loop-batch.yielded),
+      record { batches = c.loop-batch.yielded; read = read; rows = refl },
+      end.written,
+    )
+
+pub returns-in_err-fill-clause-begun : goal.returns-in_err-fill-clause-begun
+returns-in_err-fill-clause-begun g c =
+    let done = c.loop-batch.yielded in
+    let batch = c.in-Some.batch in
+    let left = c.next.new.self in
+    let old = g.W.Write.contents c.args.out.now in
+    let here = g.W.Write.contents c.loop-batch.out in
+    let all = (done ++ batch ∷ []) ++ left.batches in
+    let p = err_from_is_err_and c.from_residual.result c.from_residual.ensures.1 in
+    rw p.1 (
+      rows_text (fields_in all),
+      left.fault,
+      record {
+        batches = all;
+        read = read_on _ _ _ _ _ c.loop-batch.invariant.read c.in-Some.ensures.steps;
+        rows = refl;
+      },
+      rows_begun done batch left.batches old here here c.loop-batch.invariant.written
+          (begins_nothing here (rows_text (map fields_of batch))),
+    )
+
+pub returns-in_err-put-clause-begun : goal.returns-in_err-put-clause-begun
+returns-in_err-put-clause-begun g c =
+    let done = c.loop-batch.yielded in
+    let batch = c.in-Some.batch in
+    let left = c.next.new.self in
+    let old = g.W.Write.contents c.args.out.now in
+    let here = g.W.Write.contents c.loop-batch.out in
+    let new = g.W.Write.contents c.put.new.out in
+    let all = (done ++ batch ∷ []) ++ left.batches in
+    let bytes : c.deref.result.now ≡ rows_text (map fields_of batch) =
+    c.deref.ensures.value ∙ c.in_ok-fill.ensures.rows in
+    let p = err_from_is_err_and c.from_residual-in_err-put.result
+    c.from_residual-in_err-put.ensures.1 in
+    rw p.1 (
+      rows_text (fields_in all),
+      left.fault,
+      record {
+        batches = all;
+        read = read_on _ _ _ _ _ c.loop-batch.invariant.read c.in-Some.ensures.steps;
+        rows = refl;
+      },
+      rows_begun done batch left.batches old here new c.loop-batch.invariant.written
+          (subst (λ text. Begins here new text) bytes c.in_err-put.ensures.begun),
+    )

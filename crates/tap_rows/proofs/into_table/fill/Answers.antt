@@ -12,14 +12,14 @@ loop-tap-preserved c = record {
   all = append_assoc c.loop-tap.yielded (c.in-Some.tap ∷ []) c.next.new.self
       ∙ sym (ap (λ left. c.loop-tap.yielded ++ left) c.in-Some.ensures.steps)
       ∙ c.loop-tap.invariant.all;
-  rows = c.in_ok-push_row.ensures
+  rows = c.in_ok-push_row.ensures.row
       ∙ ap (λ bytes. bytes ++ row_text (fields_of c.in-Some.tap)) c.loop-tap.invariant.rows
       ∙ sym (rows_more (map fields_of c.loop-tap.yielded) (fields_of c.in-Some.tap))
       ∙ ap rows_text (sym (map-append fields_of c.loop-tap.yielded (c.in-Some.tap ∷ [])));
 }
 
-pub returns : goal.returns
-returns c =
+pub returns-clause-rows : goal.returns-clause-rows
+returns-clause-rows c =
     let all : c.loop-tap.yielded ≡ c.args.batch.now =
     sym (append-nil c.loop-tap.yielded)
     ∙ sym (ap (λ left. c.loop-tap.yielded ++ left) c.in-None.ensures.steps.0)

@@ -1,7 +1,8 @@
-use Rattle.std.proofs.Common.{◌≡◌, ◌∙◌, [], sym, subst}
+use Rattle.std.proofs.Common.{◌≡◌, ◌∙◌, [], inr, sym, subst}
 use Rattle.std.specs.Io.KnownBytes.{Appends}
 use Rattle.std.proofs.lemmas.Bool.{eqb-true}
 use Rattle.std.proofs.KnownBytes.{Appends-nil}
+use Rattle.fare_texts.specs.WrittenOut.{Begins}
 use Rattle.std.proofs.lemmas.List.{nil_from_length}
 use Rattle.tap_views.specs.Files.{IsFileOf}
 use Rattle.tap_views.proofs.Texts.{no_text, more_text}
@@ -17,13 +18,22 @@ returns-then-is_empty-clause-upload g c =
       Appends-nil (g.W.Write.contents c.args.out.now),
     )
 
-pub returns-in-Ok-write_all-clause-upload : goal.returns-in-Ok-write_all-clause-upload
-returns-in-Ok-write_all-clause-upload g c = (
+pub returns-in-Ok-write_bytes-clause-upload : goal.returns-in-Ok-write_bytes-clause-upload
+returns-in-Ok-write_bytes-clause-upload g c = (
   c.in-Ok.bytes.items,
   more_text [] c.in-Ok.bytes.items [] c.args.taps.now no_text c.in-Ok.ensures.batch,
   subst (λ bytes. Appends (g.W.Write.contents c.args.out.now)
-      (g.W.Write.contents c.write_all.new.self) bytes) c.deref.ensures.value
-      c.in-Ok-write_all.ensures.bytes,
+      (g.W.Write.contents c.write_bytes.new.out) bytes) c.deref.ensures.value
+      c.in-Ok-write_bytes.ensures.whole,
+)
+
+pub returns-in-Ok-clause-begun : goal.returns-in-Ok-clause-begun
+returns-in-Ok-clause-begun g c = inr (
+  c.in-Ok.bytes.items,
+  more_text [] c.in-Ok.bytes.items [] c.args.taps.now no_text c.in-Ok.ensures.batch,
+  subst (λ bytes. Begins (g.W.Write.contents c.args.out.now)
+      (g.W.Write.contents c.write_bytes.new.out) bytes) c.deref.ensures.value
+      c.in-Err-write_bytes.ensures.begun,
 )
 
 pub why-requires : goal.why-requires

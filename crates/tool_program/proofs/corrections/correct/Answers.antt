@@ -28,14 +28,14 @@ returns-clause-done g c =
     IfOk-weaker c.correct_texts.result _ _ (λ removed written kept is.
     let old = c.args.ledgers.now.old.now in
     let new = c.args.ledgers.now.new.now in
-    let told = g.S.Source.loaded c.args.source.now in
+    let loaded = g.S.Source.loaded c.args.source.now in
     let mid = g.S.Source.loaded c.open_text.new.source in
     let end = g.S.Source.loaded c.open_text-2.new.source in
     let remaining = g.S.Text.Read.remaining in
-    let first = opened_push [] old kept told told mid [] (remaining c.in_ok-old.old) is
-    (opened_none told) c.in_ok-old.ensures.told in
-    let second = opened_push (old ∷ []) new kept told mid end (first.0 ∷ [])
-    (remaining c.in_ok-new.new) is first.2 c.in_ok-new.ensures.told in
+    let first = opened_push [] old kept loaded loaded mid [] (remaining c.in_ok-old.old) is
+    (opened_none loaded) c.in_ok-old.ensures.reported in
+    let second = opened_push (old ∷ []) new kept loaded mid end (first.0 ∷ [])
+    (remaining c.in_ok-new.new) is first.2 c.in_ok-new.ensures.reported in
     let whole = written first.0 second.0 first.1 second.1 in
     record {
       old_text = first.0;
@@ -51,14 +51,14 @@ returns-clause-fault g c =
     IfErr-weaker c.correct_texts.result _ _ (λ fault right kept is.
     let old = c.args.ledgers.now.old.now in
     let new = c.args.ledgers.now.new.now in
-    let told = g.S.Source.loaded c.args.source.now in
+    let loaded = g.S.Source.loaded c.args.source.now in
     let mid = g.S.Source.loaded c.open_text.new.source in
     let end = g.S.Source.loaded c.open_text-2.new.source in
     let remaining = g.S.Text.Read.remaining in
-    let first = opened_push [] old kept told told mid [] (remaining c.in_ok-old.old) is
-    (opened_none told) c.in_ok-old.ensures.told in
-    let second = opened_push (old ∷ []) new kept told mid end (first.0 ∷ [])
-    (remaining c.in_ok-new.new) is first.2 c.in_ok-new.ensures.told in
+    let first = opened_push [] old kept loaded loaded mid [] (remaining c.in_ok-old.old) is
+    (opened_none loaded) c.in_ok-old.ensures.reported in
+    let second = opened_push (old ∷ []) new kept loaded mid end (first.0 ∷ [])
+    (remaining c.in_ok-new.new) is first.2 c.in_ok-new.ensures.reported in
     inr (record {
       old_text = first.0;
       new_text = second.0;

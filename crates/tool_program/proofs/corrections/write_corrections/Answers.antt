@@ -5,8 +5,8 @@ use Rattle.tool_program.proofs.corrections.write_corrections.Goals as goal
 
 pub returns-then-is_by_token-clause-written : goal.returns-then-is_by_token-clause-written
 returns-then-is_by_token-clause-written g c =
-    IfOk-weaker c.corrections_by_token.result _ _ (λ removed told old_text new_text of_old of_new.
-    let t = told old_text new_text of_old of_new in (
+    IfOk-weaker c.corrections_by_token.result _ _ (λ removed is old_text new_text of_old of_new.
+    let t = is old_text new_text of_old of_new in (
       t.0,
       subst (λ (b : Bool). IsTextOfCorrections b old_text new_text t.0 removed)
           (sym c.if-is_by_token.true) t.1,
@@ -15,8 +15,8 @@ returns-then-is_by_token-clause-written g c =
 
 pub returns-clause-written : goal.returns-clause-written
 returns-clause-written g c =
-    IfOk-weaker c.corrections.result _ _ (λ removed told old_text new_text of_old of_new.
-    let t = told old_text new_text of_old of_new in (
+    IfOk-weaker c.corrections.result _ _ (λ removed is old_text new_text of_old of_new.
+    let t = is old_text new_text of_old of_new in (
       t.0,
       subst (λ (b : Bool). IsTextOfCorrections b old_text new_text t.0 removed)
           (sym c.if-is_by_token.false) t.1,

@@ -43,11 +43,12 @@ returns-in-Ok-finish-2-clause-fault g c = λ ends reports of_ends of_reports.
     let mid = g.W.Write.contents c.merge.new.out.inner in
     let new = g.W.Write.contents c.finish-in-Err.new.out.inner in
     let fault = c.in-Err.fault in
-    let told = c.fault_of.result in
+    let reported = c.fault_of.result in
     record {
-      right = λ few. right_merge words ends reports c.finish-in-Err.new.out.end fault told few
-          (subst (λ end. IsNamedAs words end fault told) c.end.ensures c.fault_of.ensures)
+      right = λ few. right_merge words ends reports c.finish-in-Err.new.out.end fault reported few
+          (subst (λ end. IsNamedAs words end fault reported) c.end.ensures c.fault_of.ensures)
           (c.in-Err.ensures.wrong ends reports of_ends of_reports)
+          (c.in-Err.ensures.first_wrong ends reports of_ends of_reports)
           (λ a b same. c.in-Err.ensures.numbers a b same ends reports of_ends of_reports);
       begun = λ some merged.
           let begun = c.in-Err.ensures.begun ends reports of_ends of_reports some merged in (

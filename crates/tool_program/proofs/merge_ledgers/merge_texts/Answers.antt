@@ -42,10 +42,10 @@ returns-in-Ok-finish-2-clause-fault g c = λ ledgers reports of_ledgers of_repor
     let mid = g.W.Write.contents c.write_ledger.new.out.inner in
     let new = g.W.Write.contents c.finish-in-Err.new.out.inner in
     let fault = c.in-Err.fault in
-    let told = c.fault_of.result in
+    let reported = c.fault_of.result in
     record {
-      right = right_ledgers words ledgers reports c.finish-in-Err.new.out.end fault told
-          (subst (λ end. IsNamedAs words end fault told) c.end.ensures c.fault_of.ensures)
+      right = right_ledgers words ledgers reports c.finish-in-Err.new.out.end fault reported
+          (subst (λ end. IsNamedAs words end fault reported) c.end.ensures c.fault_of.ensures)
           (λ of_texts. c.in-Err.ensures.refused of_texts ledgers reports of_ledgers of_reports)
           c.in-Err.ensures.no_taps
           (c.in-Err.ensures.wrong ledgers reports of_ledgers of_reports);

@@ -24,7 +24,7 @@ loop-word-preserved g c = λ kept is.
     let so_far = c.loop-word.invariant kept is in
     let more = opened_word words place no_word kept (g.S.Source.loaded c.args.source.now)
     (g.S.Source.loaded c.loop-word.source) (g.S.Source.loaded c.open_text.new.source) so_far.0
-    (remaining reader) c.loop-word-test.true is so_far.1 c.in_ok-text.ensures.told in (
+    (remaining reader) c.loop-word-test.true is so_far.1 c.in_ok-text.ensures.reported in (
       so_far.0 ++ more.0 ∷ [],
       more.2,
       left_push remaining c.loop-word.texts.items _ reader so_far.0 more.0

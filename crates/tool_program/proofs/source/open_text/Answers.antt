@@ -3,12 +3,13 @@ use Rattle.program_manners.specs.Refusals.{Refuses}
 use Rattle.tool_program.specs.Source.{OpensOne}
 use Rattle.tool_program.proofs.source.open_text.Goals as goal
 
-pub returns-in-Ok-clause-told : goal.returns-in-Ok-clause-told
-returns-in-Ok-clause-told g c =
+pub returns-in-Ok-clause-reported : goal.returns-in-Ok-clause-reported
+returns-in-Ok-clause-reported g c =
     let old = g.S.Source.loaded c.args.source.now in
     let new = g.S.Source.loaded c.open.new.self in
     let left = g.S.Text.Read.remaining c.in-Ok.text in
-    subst (λ (n : Option (List ℕ)). OpensOne old new n left) c.file_of.ensures c.in-Ok.ensures.told
+    subst (λ (n : Option (List ℕ)). OpensOne old new n left) c.file_of.ensures
+    c.in-Ok.ensures.reported
 
 pub returns-in-Err-clause-refusal : goal.returns-in-Err-clause-refusal
 returns-in-Err-clause-refusal g c = λ words one.

@@ -1,0 +1,129 @@
+//! Files of the system that are made.
+
+use std::alloc::{AllocError, Global};
+use std::io::Write;
+use std::{fs, io, process};
+use tool_program::{MakeFault, Output, Sink};
+
+/// Under which other name a file is begun.
+#[derive(Clone, Copy, Debug, PartialEq, Eq)]
+pub(crate) enum BegunName {
+    /// Its own name and a dot.
+    Dot,
+    /// Its own name, a dot and the number of the process, so that no two runs write to one file. Only
+    /// a regular file is replaced, and no device.
+    DotProcess,
+}
+
+/// Files of the system that are made under another name, so that a file of its own name is whole.
+/// It does not keep what it made.
+#[derive(Drop)]
+pub(crate) struct FilesMade<'r> {
+    /// The runtime that makes them.
+    rt: &'r HostRuntime,
+    /// Under which other name they are begun.
+    begun: BegunName,
+}
+
+impl<'r> FilesMade<'r> {
+    /// No files yet.
+    pub(crate) fn new(rt: &'r HostRuntime, begun: BegunName) -> FilesMade<'r> {
+        FilesMade { rt, begun }
+    }
+
+    /// The name under which the file is begun.
+    fn begun_name(&self, alloc: Global, name: &str) -> Result<String, AllocError> {
+        match self.begun {
+            BegunName::Dot => format!(in alloc; "{name}."),
+            BegunName::DotProcess => {
+                let number = process::id(self.rt.process());
+                format!(in alloc; "{name}.{number}")
+            }
+        }
+    }
+
+    /// Whether a file can have this name: none has it, or a regular file, which is replaced.
+    fn can_have(&self, name: &str) -> bool {
+        match fs::metadata(self.rt, name) {
+            Ok(about) => about.is_file(),
+            Err(_) => true,
+        }
+    }
+}
+
+/// A file that is being made.
+#[derive(Drop)]
+pub(crate) struct BegunFile {
+    /// The name under which it was begun.
+    begun: String,
+    /// What is written.
+    file: fs::File,
+}
+
+impl Write for BegunFile {
+    fn write(&mut self, bytes: &[u8]) -> io::Result<usize> {
+        self.file.write(bytes)
+    }
+
+    fn flush(&mut self) -> io::Result<()> {
+        self.file.flush()
+    }
+}
+
+/// Removes what was written.
+fn remove_begun(rt: &HostRuntime, file: BegunFile) {
+    let _ = fs::remove_file(rt, file.begun.as_str());
+}
+
+impl Sink for FilesMade<'_> {
+    ghost use Rattle.std.specs.Prelude.{◌≡◌, ⊤, ℕ, IfErr, OnOk, List, None, Option};
+    ghost use Rattle.tool_program.specs.Sink.{IsNotMade, Made, MakesOne, StopsFile};
+    ghost use Rattle.tool_program.specs.declared.sink.MakeFault.TheVariants.{Unmade};
+
+    type File = BegunFile;
+
+    fn begin(&mut self, alloc: Global, name: &str) -> Result<Output<BegunFile>, MakeFault> {
+        if self.begun == BegunName::DotProcess && !self.can_have(name) {
+            return Err(MakeFault::Unmade);
+        }
+        let begun = self.begun_name(alloc, name)?;
+        match fs::File::create(self.rt, begun.as_str()) {
+            Ok(file) => Ok(Output::new(BegunFile { begun, file })),
+            Err(_) => Err(MakeFault::Unmade),
+        }
+    }
+
+    // It keeps no list of the files, so nothing is known of them.
+    fn finish(&mut self, name: &str, file: Output<BegunFile>) -> Result<(), MakeFault>
+        ensures made { OnOk result (MakesOne None None name.now None) }
+        ensures kept { IfErr result (λ _. (λ (kept : Option (List Made)). kept ≡ kept) None) }
+        ensures failed { IfErr result (λ fault. fault ≡ Unmade → IsNotMade None name.now) }
+    {
+        let file = file.into_inner();
+        let made = match file.file.sync_all() {
+            Ok(()) => fs::rename(self.rt, file.begun.as_str(), name),
+            Err(error) => Err(error),
+        };
+        match made {
+            Ok(()) => Ok(()),
+            Err(_) => {
+                remove_begun(self.rt, file);
+                Err(MakeFault::Unmade)
+            }
+        }
+    }
+
+    fn remove(&mut self, file: Output<BegunFile>)
+        ensures made { (λ (kept : Option (List Made)). kept ≡ kept) None }
+        ensures failed { (λ (name : Option (List ℕ)). name ≡ name) None }
+    {
+        remove_begun(self.rt, file.into_inner());
+    }
+
+    fn fail(&mut self, name: &str, file: Output<BegunFile>)
+        ensures made { (λ (kept : Option (List Made)). kept ≡ kept) None }
+        ensures failed { StopsFile name.now file.end None None }
+    {
+        remove_begun(self.rt, file.into_inner());
+    }
+}

@@ -1,0 +1,186 @@
+//! `uploads`: what each upload has.
+ghost use Rattle.std.specs.Prelude.{◌≡◌, ◌≤◌, ◌⊎◌, ◌++◌, ℕ, IfErr, IfOk, List, OnOk, Some, map};
+ghost use Rattle.std.specs.Prelude.{string_bytes, true};
+ghost use Rattle.tool_program.specs.Fault.{IsFaultReported};
+ghost use Rattle.tool_program.specs.Uploads.{GivesUpUploads, IsMomentOrDash, IsUploadText, Listed};
+ghost use Rattle.tool_program.specs.Uploads.{ListsFaulty, ListsUploads, are_sound, damage_text};
+ghost use Rattle.tool_program.specs.declared.fault.Fault.{Fault as AFault};
+ghost use Rattle.tool_program.specs.inside.Uploads.{ListsOne, StopsListing};
+
+use crate::fault::{Fault, finish, say};
+use crate::layout::{AtTap, Cause, Remedy};
+use crate::names::Name;
+use crate::output::Output;
+use crate::source::{Source, load_upload};
+use fare_texts::{write_bytes, write_moment};
+use program_manners::Complaints;
+use std::alloc::{AllocError, Global};
+use std::io::Write;
+use tap_views::{Facts, facts_of};
+
+/// Appends a moment, in milliseconds since 1970-01-01T00:00Z, or `-` if there is none.
+pub fn push_moment(text: &mut String, moment: Option<u64>) -> Result<(), AllocError>
+    ensures { OnOk result ((written : List ℕ) × IsMomentOrDash moment written
+        × (string_bytes text.new ≡ string_bytes text.old ++ written)) }
+{
+    match moment {
+        Some(moment) => write_moment(text, moment),
+        None => text.push_str("-"),
+    }
+}
+
+/// Appends the line of the layout fault of the upload of this number, if it has one.
+fn push_damage(text: &mut String, number: usize, facts: &Facts) -> Result<(), AllocError>
+    ensures { OnOk result (string_bytes text.new
+        ≡ string_bytes text.old ++ damage_text number facts.now.batches facts.now.fault) }
+{
+    let batch = facts.batches;
+    match facts.fault {
+        Some((offset, fault)) => {
+            let at_tap = AtTap(fault);
+            let cause = Cause(fault);
+            let remedy = Remedy(fault);
+            write!(
+                text,
+                "fault {number} batch {batch}{at_tap} at {offset} {cause}; {remedy}\n"
+            )
+        }
+        None => Ok(()),
+    }
+}
+
+/// The lines of the upload that the word names, with its number on the command line, from 0.
+pub fn upload_text(
+    alloc: Global,
+    number: usize,
+    word: &str,
+    facts: &Facts,
+) -> Result<String, AllocError>
+    ensures { IfOk result (λ text. IsUploadText number word.entry.now facts.now
+        (string_bytes text)) }
+{
+    let batches = facts.batches;
+    let taps = facts.taps;
+    let name = Name(word);
+    let mut text = format!(in alloc; "upload {number} batches {batches} taps {taps} first ")?;
+    push_moment(&mut text, facts.span.map(|span| span.first))?;
+    text.push_str(" last ")?;
+    push_moment(&mut text, facts.span.map(|span| span.last))?;
+    write!(text, " {name}\n")?;
+    push_damage(&mut text, number, facts)?;
+    Ok(text)
+}
+
+/// Writes the lines of the upload that the word names. Says whether it has no layout fault.
+fn list_one<'a, S: Source, W: Write + Drop>(
+    alloc: Global,
+    number: usize,
+    word: &'a str,
+    source: &mut S,
+    out: &mut Output<W>,
+) -> Result<bool, Fault<'a>>
+    ensures done { IfOk result (ListsOne number word.entry.now (S.loaded source.old)
+        (S.loaded source.new) (W.contents out.old.inner) (W.contents out.new.inner)) }
+    ensures stops { IfErr result (λ fault. StopsListing number word.entry.now
+        (S.loaded source.old) (S.loaded source.new) (S.refused source.new) out.new.end fault
+        (W.contents out.old.inner) (W.contents out.new.inner)) }
+{
+    let upload = load_upload(alloc, source, word)?;
+    let facts = facts_of(&upload);
+    let text = upload_text(alloc, number, word, &facts)?;
+    match write_bytes(text.as_bytes(), out) {
+        Ok(()) => Ok(facts.fault.is_none()),
+        Err(_) => Err(Fault::of_write(out.end())),
+    }
+}
+
+/// Writes the lines of the uploads that the words name, in their order. Says whether none has a
+/// layout fault.
+fn list_each<'a, S: Source, W: Write + Drop>(
+    alloc: Global,
+    words: &[&'a str],
+    source: &mut S,
+    out: &mut Output<W>,
+) -> Result<bool, Fault<'a>>
+    ensures done { IfOk result (λ well. (listed : List Listed)
+        × ListsUploads (map (λ w. w.now) words.now) (S.loaded source.old) (S.loaded source.new)
+        (W.contents out.old.inner) (W.contents out.new.inner) listed
+        × (well ≡ are_sound listed)) }
+    ensures stops { IfErr result (λ fault. GivesUpUploads (map (λ w. w.now) words.now)
+        (S.loaded source.old) (S.refused source.new) out.new.end fault
+        (W.contents out.old.inner) (W.contents out.new.inner)) }
+{
+    let mut is_well = true;
+    for (number, word) in words.iter().enumerate() {
+        source.show_count(number, words.len(), "uploads");
+        is_well &= list_one(alloc, number, word, source, out)?;
+    }
+    Ok(is_well)
+}
+
+/// The same, and lets all that was written go out.
+fn list<'a, S: Source, W: Write + Drop>(
+    alloc: Global,
+    words: &[&'a str],
+    source: &mut S,
+    out: &mut Output<W>,
+) -> Result<bool, Fault<'a>>
+    ensures done { IfOk result (λ well. (listed : List Listed)
+        × ListsUploads (map (λ w. w.now) words.now) (S.loaded source.old) (S.loaded source.new)
+        (W.contents out.old.inner) (W.contents out.new.inner) listed
+        × (well ≡ are_sound listed)) }
+    ensures stops { IfErr result (λ fault. GivesUpUploads (map (λ w. w.now) words.now)
+        (S.loaded source.old) (S.refused source.new) out.new.end fault
+        (W.contents out.old.inner) (W.contents out.new.inner)) }
+{
+    let done = list_each(alloc, words, source, out);
+    source.end_count();
+    match done {
+        Ok(well) => match finish(out) {
+            Ok(()) => Ok(well),
+            Err(unwritten) => Err(unwritten),
+        },
+        Err(fault) => match finish(out) {
+            Ok(()) => Err(fault),
+            Err(unwritten) => Err(unwritten),
+        },
+    }
+}
+
+/// Writes to `out` what the uploads have that the words name, `-` being standard input: the lines
+/// of each, in their order. A fault that ends it is reported on `err`. Gives the status: 0 if all
+/// is written and no upload has a layout fault, else 1.
+pub fn uploads_over<S: Source, W: Write + Drop, E: Write>(
+    alloc: Global,
+    words: &[&str],
+    source: &mut S,
+    out: &mut Output<W>,
+    err: &mut Complaints<E>,
+) -> u8
+    // With status 0 the uploads that the words name were loaded, and the lines of each were
+    // written. None has a layout fault.
+    ensures done { result ≡ 0 → (listed : List Listed)
+        × ListsUploads (map (λ w. w.now) words.now) (S.loaded source.old) (S.loaded source.new)
+        (W.contents out.old.inner) (W.contents out.new.inner) listed
+        × (are_sound listed ≡ true) }
+    // Nothing is reported beside the lines of uploads without a fault.
+    ensures quiet { result ≡ 0 → err.new ≡ err.old }
+    // With status 1 all lines were written, also that of a layout fault, and nothing was reported;
+    // or a fault ended it, which was reported and is the right one.
+    ensures faults { result ≡ 1 → (ListsFaulty (map (λ w. w.now) words.now) (S.loaded source.old)
+        (S.loaded source.new) (W.contents out.old.inner) (W.contents out.new.inner)
+        × (err.new ≡ err.old)) ⊎ ((fault : AFault)
+        × GivesUpUploads (map (λ w. w.now) words.now) (S.loaded source.old)
+        (S.refused source.new) out.new.end fault (W.contents out.old.inner)
+        (W.contents out.new.inner) × IsFaultReported fault (E.contents err.old.writer)
+        (E.contents err.new.writer) err.new.failed) }
+    ensures status { result ≤ 1 }
+{
+    match list(alloc, words, source, out) {
+        Ok(well) => if well { 0 } else { 1 },
+        Err(fault) => {
+            say(err, &fault);
+            1
+        }
+    }
+}
