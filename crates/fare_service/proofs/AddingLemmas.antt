@@ -23,7 +23,7 @@ use Rattle.fare_table.specs.Fares.{Fares}
 use Rattle.report_texts.specs.declared.upload_end.UploadEnd.{UploadEnd}
 use Rattle.report_texts.specs.declared.upload_end.UploadEnd.TheVariants.{Posted, Refused, Cut}
 use Rattle.report_texts.specs.declared.upload_end.UploadEnd.TheVariants.{Undrawn}
-use Rattle.report_texts.specs.UploadEnds.{taps_told}
+use Rattle.report_texts.specs.UploadEnds.{taps_of_end}
 use Rattle.fare_service.specs.Adding.{AddUp}
 use Rattle.shard_book.proofs.SumsLemmas.{same_seven, sums-append, add_none}
 use Rattle.fare_service.specs.Headline.{Signed, end_of}
@@ -264,14 +264,14 @@ pub taps_of_sums : (entries : List Entry) → (sums entries).taps ≡ sum_by (λ
 unfolding sums_of_replies
 taps_of_sums entries = length_sum (map reply_of entries) ∙ sum_by-map (λ r. 1) reply_of entries
 
--- what an upload's end tells of its taps
-pub told_end_taps : (given : Given) (w : Worked) → IsWorkOf given.shards given.uploads w
-    → taps_told w.end ≡ taps_posted w.visits
-told_end_taps given w is = by_end w.end is.ended
+-- what an upload's end reports of its taps
+pub reported_end_taps : (given : Given) (w : Worked) → IsWorkOf given.shards given.uploads w
+    → taps_of_end w.end ≡ taps_posted w.visits
+reported_end_taps given w is = by_end w.end is.ended
   where
     by_end : (end : UploadEnd)
         → IsEndOf given.shards (file_at given.uploads w.upload) is.batches is.rest w.visits end
-        → taps_told end ≡ taps_posted w.visits
+        → taps_of_end end ≡ taps_posted w.visits
     by_end (Posted taps) e = e.2
     by_end (Refused taps offset fault) e = e.2
     by_end (Cut taps) e = e.1
@@ -308,32 +308,33 @@ ends_sum f blank n (w ∷ works) once all =
         let right : cond (w.upload == u) (f w.end) 0 ≡ 0 = ap (λ t. cond t (f w.end) 0) b in
         omega arith
 
--- the taps that the uploads' ends tell are those of the workers' visits
+-- the taps that the uploads' ends report are those of the workers' visits
 uploads_sum : (given : Given) (works : List (List Worked))
     → All (λ done. All (IsWorkOf given.shards given.uploads) done) works
-    → sum_by (λ w. taps_told w.end) (all_works works)
+    → sum_by (λ w. taps_of_end w.end) (all_works works)
     ≡ sum_by (λ e. 1) (flat_map (λ done. entries_of (all_visits done)) works)
 uploads_sum given works each =
-    sum_by-flat_map (λ w. taps_told w.end) (λ (done : List Worked). done) works
-    ∙ (same_sum (λ done. sum_by (λ w. taps_told w.end) done)
+    sum_by-flat_map (λ w. taps_of_end w.end) (λ (done : List Worked). done) works
+    ∙ (same_sum (λ done. sum_by (λ w. taps_of_end w.end) done)
     (λ done. sum_by (λ e. 1) (entries_of (all_visits done))) works
     (All-weaker (λ done. All (IsWorkOf given.shards given.uploads) done)
-    (λ done. sum_by (λ w. taps_told w.end) done ≡ sum_by (λ e. 1) (entries_of (all_visits done)))
+    (λ done. sum_by (λ w. taps_of_end w.end) done ≡ sum_by (λ e. 1) (entries_of (all_visits done)))
     here works each)
     ∙ sym (sum_by-flat_map (λ e. 1) (λ done. entries_of (all_visits done)) works))
   where
     one : (w : Worked) → IsWorkOf given.shards given.uploads w
-        → taps_told w.end ≡ sum_by (λ v. sum_by (λ e. 1) v.entries) w.visits
-    one w is = told_end_taps given w is
+        → taps_of_end w.end ≡ sum_by (λ v. sum_by (λ e. 1) v.entries) w.visits
+    one w is = reported_end_taps given w is
         ∙ (length_sum (entries_of w.visits)
         ∙ sum_by-flat_map (λ e. 1) (λ (v : RunVisit). v.entries) w.visits)
 
     here : (done : List Worked) → All (IsWorkOf given.shards given.uploads) done
-        → sum_by (λ w. taps_told w.end) done ≡ sum_by (λ e. 1) (entries_of (all_visits done))
+        → sum_by (λ w. taps_of_end w.end) done ≡ sum_by (λ e. 1) (entries_of (all_visits done))
     here done all =
-        same_sum (λ w. taps_told w.end) (λ w. sum_by (λ v. sum_by (λ e. 1) v.entries) w.visits) done
+        same_sum (λ w. taps_of_end w.end) (λ w. sum_by (λ v. sum_by (λ e. 1) v.entries) w.visits)
+        done
         (All-weaker (IsWorkOf given.shards given.uploads)
-        (λ w. taps_told w.end ≡ sum_by (λ v. sum_by (λ e. 1) v.entries) w.visits) one done all)
+        (λ w. taps_of_end w.end ≡ sum_by (λ v. sum_by (λ e. 1) v.entries) w.visits) one done all)
         ∙ (sym (sum_by-flat_map (λ (v : RunVisit). sum_by (λ e. 1) v.entries)
         (λ (w : Worked). w.visits) done)
         ∙ sym (sum_by-flat_map (λ e. 1) (λ (v : RunVisit). v.entries) (all_visits done)))
@@ -362,7 +363,7 @@ ends_are f blank given works outcome is =
     ∙ sum_of_places f outcome.ends (λ u. f (end_of u (all_works works)))
     (λ u end at. ap f (sym (is.ends u end at))))
 
--- the books and the workers have the same totals, whatever is told of them
+-- the books and the workers have the same totals, whatever is known of them
 pub workers_add_up : (given : Given) (works : List (List Worked)) (outcome : OutcomeView)
     → IsGathered given works outcome → sums (all_entries outcome.books) ≡ add_all outcome.workers
 workers_add_up given works outcome is =
@@ -386,7 +387,7 @@ gathered_sums given works outcome is totals =
       uploads = ap (λ s. s.taps) by_works
           ∙ (taps_of_sums made
           ∙ (sym (uploads_sum given works is.each)
-          ∙ ends_are taps_told refl given works outcome is));
+          ∙ ends_are taps_of_end refl given works outcome is));
     }
 
 -- the entries of one book more

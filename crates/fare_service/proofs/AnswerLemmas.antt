@@ -54,13 +54,13 @@ unlent_each service (old ∷ olds) (answer ∷ answers) zip =
     (unlent_each service olds answers zip.1)
 
 -- why there are not all shares is why nothing was gathered
-pub fault_told : (service : ServiceView) (workers : ℕ) (olds : List ShareView)
+pub fault_reported : (service : ServiceView) (workers : ℕ) (olds : List ShareView)
     (answers : List (Result ShareView Unlent)) (fault : RunFault)
     → AllZip (IsAnswer service) olds answers → IsFaultOf answers fault
     → WasNotGathered service workers fault
-fault_told service workers olds answers Workers zip is = absurd is
-fault_told service workers olds answers NoMemory zip is = tt
-fault_told service workers olds answers (Gather fault) zip is = absurd is
-fault_told service workers olds answers (ForUnlent unlent) zip is =
+fault_reported service workers olds answers Workers zip is = absurd is
+fault_reported service workers olds answers NoMemory zip is = tt
+fault_reported service workers olds answers (Gather fault) zip is = absurd is
+fault_reported service workers olds answers (ForUnlent unlent) zip is =
     All-contains (λ answer. IfErr answer (λ u. IsUnlent service.uploads u.upload)) answers
     (Err unlent) (unlent_each service olds answers zip) is

@@ -69,9 +69,9 @@ batch_cut shards shard taps p q r s t u within before here =
           (subst P (sym (below_more shards shard taps)) cut)),
     )
 
--- what was cut, told by an answer that is an error
-pub cuts_told : {A : Type 0} (r : Result A Stop) (shards : ℕ) (p q : List PassView) (s t : Sums)
+-- what was cut, shown by an answer that is an error
+pub cuts_reported : {A : Type 0} (r : Result A Stop) (shards : ℕ) (p q : List PassView) (s t : Sums)
     (runs : List PostedRun) → IsErr r → Cuts shards p q s t runs
     → (more : List RunVisit) × HasVisited shards p q s t more × ArePostedOrCut runs (is_ok r) more
-cuts_told (Ok x) shards p q s t runs err c = absurd (cc)
-cuts_told (Err e) shards p q s t runs err c = c
+cuts_reported (Ok x) shards p q s t runs err c = absurd (cc)
+cuts_reported (Err e) shards p q s t runs err c = c

@@ -51,8 +51,8 @@ doubled_some : (n : ℕ) → 0 < doubled n
 doubled_some zero = omega arith
 doubled_some (suc n) = let h = doubled_some n in omega arith
 
--- after n splits there are so many claims still that more splits lose none, and the others were
--- given away
+-- after n splits there are still claims enough for all further splits, and the others were given
+-- away
 pub record Halved (n claims given : ℕ) : Type 0 where
   pub many : (k : ℕ) → k + n ≡ 16 → doubled k ≤ claims
   pub all : claims + given ≡ all_claims

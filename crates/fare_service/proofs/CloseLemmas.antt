@@ -18,7 +18,7 @@ use Rattle.shared_books.specs.Marks.{history_of_visits}
 use Rattle.shared_books.specs.Passes.{SharedBookView, PassView}
 use Rattle.fare_service.specs.declared.faults.GatherFault.{GatherFault}
 use Rattle.fare_service.specs.declared.faults.GatherFault.TheVariants.{NoMemory, Missing, Drawn}
-use Rattle.fare_service.specs.Closing.{IsHistoryOf, HoldAllVisits, TellsFirst}
+use Rattle.fare_service.specs.Closing.{IsHistoryOf, HoldAllVisits, ReportsFirst}
 use Rattle.fare_service.specs.inside.Closing.{AreClosed, AreUnseen, IsClosedBy, IsUnseen}
 use Rattle.fare_service.specs.inside.Closing.{IsClosedWork, IsFirstMissing, IsFirstUnseen}
 use Rattle.fare_service.specs.inside.Closing.{LacksClaims}
@@ -53,7 +53,7 @@ unseen_history opened shard book u = record {
   limits = u.limits;
 }
 
--- nothing was seen, where there is no share
+-- nothing was seen, if there is no share
 pub closed_none : (opened : List SharedBookView) (shares : List ShareView) (closed : List Book)
     → shares ≡ [] → length closed ≡ length opened → AreUnseen opened closed
     → IsClosedWork opened shares closed
@@ -174,7 +174,7 @@ pub first_missing : (drawing : Drawing) (opened : List SharedBookView) (uploads 
     (shares : List ShareView) (drawer : DrawerView) (passes : List PassView) (closed : List Book)
     (fault : GatherFault)
     → IsJoinedOf drawing opened (length shares) shares drawer passes
-    → IsFirstMissing passes closed fault → TellsFirst opened uploads shares fault
+    → IsFirstMissing passes closed fault → ReportsFirst opened uploads shares fault
 first_missing drawing opened uploads shares drawer passes closed (Missing shard held kept) all m = (
   λ earlier h. whole_closed drawing opened shares drawer passes closed all m.1 earlier
       (omega (arith, h, m.0)),
@@ -187,10 +187,10 @@ first_missing drawing opened uploads shares drawer passes closed (Drawn held dra
 
 pub first_unseen : (opened : List SharedBookView) (uploads : ℕ) (shares : List ShareView)
     (closed : List Book) (fault : GatherFault) → shares ≡ [] → IsFirstUnseen opened closed fault
-    → TellsFirst opened uploads shares fault
+    → ReportsFirst opened uploads shares fault
 first_unseen opened uploads shares closed (Missing shard held kept) none m =
     let P : List ShareView → Type 0 =
-    λ ss. TellsFirst opened uploads ss (Missing shard held kept) in
+    λ ss. ReportsFirst opened uploads ss (Missing shard held kept) in
     subst P (sym none) (
       λ earlier h. whole_unseen opened closed m.1 earlier (omega (arith, h, m.0)),
       All-nil (λ share. length (marks_at shard share.passes) ≤ kept),
@@ -198,12 +198,12 @@ first_unseen opened uploads shares closed (Missing shard held kept) none m =
 first_unseen opened uploads shares closed NoMemory none m = absurd m
 first_unseen opened uploads shares closed (Drawn held drawn) none m = absurd m
 
--- missing uploads, where all books were closed
+-- missing uploads, if all books were closed
 pub first_drawn : (drawing : Drawing) (opened : List SharedBookView) (shares : List ShareView)
     (drawer : DrawerView) (passes : List PassView) (closed : List Book) (held drawn : ℕ)
     → IsJoinedOf drawing opened (length shares) shares drawer passes → AreClosed passes closed
     → length closed ≡ length opened → IsCount drawn drawer
-    → TellsFirst opened drawing.numbers shares (Drawn held drawn)
+    → ReportsFirst opened drawing.numbers shares (Drawn held drawn)
 first_drawn drawing opened shares drawer passes closed held drawn all books number is = (
   λ shard h. whole_closed drawing opened shares drawer passes closed all books shard
       (omega (arith, h, number)),
@@ -215,9 +215,9 @@ first_drawn drawing opened shares drawer passes closed held drawn all books numb
 pub first_undrawn : (opened : List SharedBookView) (uploads : ℕ) (shares : List ShareView)
     (closed : List Book) (held drawn : ℕ) → shares ≡ [] → AreUnseen opened closed
     → length closed ≡ length opened → drawn ≤ uploads
-    → TellsFirst opened uploads shares (Drawn held drawn)
+    → ReportsFirst opened uploads shares (Drawn held drawn)
 first_undrawn opened uploads shares closed held drawn none unseen number few =
-    let P : List ShareView → Type 0 = λ ss. TellsFirst opened uploads ss (Drawn held drawn) in
+    let P : List ShareView → Type 0 = λ ss. ReportsFirst opened uploads ss (Drawn held drawn) in
     subst P (sym none) (
       λ shard h. whole_unseen opened closed unseen shard (omega (arith, h, number)),
       All-nil (λ share. share.drawer.seen ≤ drawn),
@@ -245,7 +245,7 @@ joined_whole drawing opened shares first others drawer passes is all =
     λ ss. IsJoinedOf drawing opened (length shares) ss drawer passes in
     subst S (sym is) (subst N number all)
 
--- what holds anyway holds where the result is right
+-- what holds anyway holds if the result is right
 pub any_ok : {T E : Type 0} (r : Result T E) (P : Type 0) → P → OnOk r P
 any_ok (Ok x) P p = p
 any_ok (Err e) P p = tt
@@ -255,14 +255,14 @@ any_err (Ok x) P p = tt
 any_err (Err e) P p = p
 
 pub some_shares : (none : Bool) (number : ℕ) → none ≡ (number == 0) → none ≡ false → 0 < number
-some_shares none zero tells is = let h : (zero == 0) ≡ false = sym tells ∙ is in absurd (cc)
-some_shares none (suc number) tells is = omega arith
+some_shares none zero reports is = let h : (zero == 0) ≡ false = sym reports ∙ is in absurd (cc)
+some_shares none (suc number) reports is = omega arith
 
 pub none_there : (none : Bool) (number : ℕ) → none ≡ (number == 0) → none ≡ true → number ≡ 0
-none_there none zero tells is = refl
-none_there none (suc number) tells is = eqb-true (suc number) 0 (sym tells ∙ is)
+none_there none zero reports is = refl
+none_there none (suc number) reports is = eqb-true (suc number) 0 (sym reports ∙ is)
 
--- where there is no share, there is no claim
+-- if there is no share, there is no claim
 pub none_whole : (shards : ℕ) (shares : List ShareView) → shares ≡ [] → HaveAllClaims shards shares
     → ⊥
 none_whole shards shares none h =

@@ -22,11 +22,11 @@ use Rattle.fare_service.specs.declared.service.share.Done.{Done}
 use Rattle.report_texts.specs.declared.upload_end.UploadEnd.{UploadEnd}
 use Rattle.report_texts.specs.declared.upload_end.UploadEnd.TheVariants.{Posted, Refused, Cut}
 use Rattle.report_texts.specs.declared.upload_end.UploadEnd.TheVariants.{Undrawn}
-use Rattle.report_texts.specs.UploadEnds.{taps_told}
+use Rattle.report_texts.specs.UploadEnds.{taps_of_end}
 use Rattle.fare_service.specs.Claims.{left_share}
 use Rattle.fare_service.specs.Closing.{IsHistoryOf}
 use Rattle.fare_service.specs.Faults.{visits_held}
-use Rattle.fare_service.specs.Headline.{Signed, HasOutcome, Headline, ToldUndrawn}
+use Rattle.fare_service.specs.Headline.{Signed, HasOutcome, Headline, AreUndrawnReported}
 use Rattle.fare_service.specs.Outcomes.{OutcomeView}
 use Rattle.fare_service.specs.Plain.{WasNotCut}
 use Rattle.fare_service.specs.Runs.{PostedRun, posted_run, if_any}
@@ -45,7 +45,7 @@ use Rattle.fare_service.specs.inside.Stopping.{WorkedOn}
 use Rattle.fare_service.specs.inside.Closing.{IsClosedWork}
 use Rattle.fare_service.specs.inside.ServiceView.{IsService, IsBookOf}
 use Rattle.fare_service.proofs.AddingLemmas.{ends_are, length_sum, sum_by_key, sum_by-map}
-use Rattle.fare_service.proofs.AddingLemmas.{sum_by-flat_map, sum_of_places, told_end_taps}
+use Rattle.fare_service.proofs.AddingLemmas.{sum_by-flat_map, sum_of_places, reported_end_taps}
 use Rattle.fare_service.proofs.CloseLemmas.{there}
 use Rattle.fare_service.proofs.GatheredWork.{Given, given_of, IsGathered}
 use Rattle.fare_service.proofs.HeadlineLemmas.{gathered_of}
@@ -179,7 +179,7 @@ all_stop service (old ∷ olds) (new ∷ news) (done ∷ works) fresh worked kep
 abbrev posted_one : List Worked → ℕ
 posted_one done = cond (nat_lt 0 (sums (entries_of (all_visits done))).taps) 1 0
 
--- where uploads are left, whoever posted a tap had an upload cut
+-- if uploads are left, whoever posted a tap had an upload cut
 posted_few : (service : ServiceView) (new : ShareView) (done : List Worked) → Stops service new done
     → new.drawer.seen < length service.uploads → posted_one done ≤ cuts_in done
 posted_few service new [] s left = omega (arith, ap {B = ℕ} (λ n. cond (nat_lt 0 n) 1 0) no_taps)
@@ -283,13 +283,13 @@ all_before P [] ys all = All-nil P
 all_before P (x ∷ xs) ys all =
     All-cons P x xs (All-head P x (xs ++ ys) all) (all_before P xs ys (All-tail P x (xs ++ ys) all))
 
--- an upload's visits are not more than its posted taps, and one more where it was cut
+-- an upload's visits are not more than its posted taps, and one more if it was cut
 work_few : (given : Given) (w : Worked) → IsWorkOf given.shards given.uploads w
-    → length w.visits ≤ taps_told w.end + cut_one w.end
+    → length w.visits ≤ taps_of_end w.end + cut_one w.end
 work_few given w is =
-    let told = told_end_taps given w is in
+    let reported = reported_end_taps given w is in
     let h : length w.visits ≤ taps_posted w.visits + cut_one w.end = by_end w.end is.ended in
-    omega (arith, h, told)
+    omega (arith, h, reported)
   where
     whole : ArePostedWhole (runs_of given.shards is.batches) w.visits
         → length w.visits ≤ taps_posted w.visits
@@ -331,7 +331,7 @@ work_few given w is =
     by_end Undrawn e = absurd e
 
 done_few : (given : Given) (done : List Worked) → All (IsWorkOf given.shards given.uploads) done
-    → length (all_visits done) ≤ sum_by (λ w. taps_told w.end) done + cuts_in done
+    → length (all_visits done) ≤ sum_by (λ w. taps_of_end w.end) done + cuts_in done
 done_few given [] all = omega arith
 done_few given (w ∷ done) all =
     let both : length (all_visits (w ∷ done)) ≡ length w.visits + length (all_visits done) =
@@ -343,14 +343,14 @@ done_few given (w ∷ done) all =
       both,
       first,
       rest,
-      sum_by-cons (λ (x : Worked). taps_told x.end) w done,
+      sum_by-cons (λ (x : Worked). taps_of_end x.end) w done,
       sum_by-cons (λ (x : Worked). cut_one x.end) w done,
     )
 
 works_few : (given : Given) (works : List (List Worked))
     → All (λ done. All (IsWorkOf given.shards given.uploads) done) works
     → sum_by (λ done. length (all_visits done)) works ≤ sum_by
-    (λ done. sum_by (λ w. taps_told w.end) done) works + sum_by cuts_in works
+    (λ done. sum_by (λ w. taps_of_end w.end) done) works + sum_by cuts_in works
 works_few given [] all = omega arith
 works_few given (done ∷ works) all =
     let first = done_few given done
@@ -362,7 +362,7 @@ works_few given (done ∷ works) all =
       first,
       rest,
       sum_by-cons (λ (d : List Worked). length (all_visits d)) done works,
-      sum_by-cons (λ (d : List Worked). sum_by (λ (w : Worked). taps_told w.end) d) done works,
+      sum_by-cons (λ (d : List Worked). sum_by (λ (w : Worked). taps_of_end w.end) d) done works,
       sum_by-cons cuts_in done works,
     )
 
@@ -473,7 +473,7 @@ full_made service is shares all closed work = each shares all seen
 pub have_stopped : (service : ServiceView) (olds news : List ShareView) (workers : ℕ)
     (outcome : OutcomeView) → length news ≡ workers → All IsFresh olds
     → AllZip (WorkedOn service) olds news
-    → HasOutcome service news outcome → ToldUndrawn news outcome → FullIsMade news
+    → HasOutcome service news outcome → AreUndrawnReported news outcome → FullIsMade news
     → HaveStopped workers outcome
 have_stopped service olds news workers outcome number fresh worked has undrawn full = record {
   few_cut = few
@@ -519,10 +519,10 @@ have_stopped service olds news workers outcome number fresh worked has undrawn f
         (sum_by-flat_map (λ (w : Worked). cut_one w.end) (λ (done : List Worked). done) works)
         ∙ ends_are cut_one refl given works outcome is
 
-    taps_are : sum_by (λ done. sum_by (λ w. taps_told w.end) done) works ≡ outcome.totals.taps
+    taps_are : sum_by (λ done. sum_by (λ w. taps_of_end w.end) done) works ≡ outcome.totals.taps
     taps_are = sym
-        (sum_by-flat_map (λ (w : Worked). taps_told w.end) (λ (done : List Worked). done) works)
-        ∙ (ends_are taps_told refl given works outcome is
+        (sum_by-flat_map (λ (w : Worked). taps_of_end w.end) (λ (done : List Worked). done) works)
+        ∙ (ends_are taps_of_end refl given works outcome is
         ∙ sym headline.totals.uploads)
 
     posting_are : posting outcome ≡ sum_by posted_one works

@@ -9,35 +9,18 @@ use Rattle.std.proofs.lemmas.Bool.Decides.{eqb_tells}
 use Rattle.shard_book.specs.declared.entry.Entry.{Entry}
 use Rattle.shared_books.specs.declared.turns.rule.Mark.{Mark}
 use Rattle.shared_books.specs.Marks.{mark, others}
-use Rattle.shared_books.specs.Passes.{PassView, IsFull, HasSeenMore, Visits, seen_by}
+use Rattle.shared_books.specs.Passes.{PassView, IsFull, Visits, seen_by}
 use Rattle.fare_service.specs.declared.service.working.Stop.{Stop}
 use Rattle.fare_service.specs.declared.service.working.Stop.TheVariants.{Memory, Full}
 use Rattle.fare_service.specs.Shares.{made_visits, made_visits_at}
 use Rattle.fare_service.specs.Stopping.{KnowsFull, SomeFull}
-use Rattle.fare_service.specs.inside.Stopping.{TellsFull}
+use Rattle.fare_service.specs.inside.Stopping.{ReportsFull}
 use Rattle.fare_service.proofs.RunVisits.{marks_here}
 use Rattle.fare_service.proofs.VisitLemmas.{marks-set_same, own-visits}
 
 -- how many visits a pass has seen
 pub marks_seen : (pass : PassView) → length (seen_by pass) ≡ length pass.marks
 marks_seen pass = length-map pass.marks (λ (m : Mark). m.visit)
-
--- a pass has seen no less later
-pub knows_more : (old new : PassView) (more : List Mark) → new.book ≡ old.book
-    → new.marks ≡ old.marks ++ more → KnowsFull old → KnowsFull new
-knows_more old new more book marks full =
-    omega (
-      arith,
-      full,
-      ap (λ b. b.first) book,
-      marks_seen old,
-      marks_seen new,
-      ap length marks,
-      length-append old.marks more,
-    )
-
-pub later_full : (old new : PassView) → HasSeenMore old new → KnowsFull old → KnowsFull new
-later_full old new l = knows_more old new (others l.between) l.book l.marks
 
 pub visits_full : (old new : PassView) (number : ℕ) (visit : List Entry)
     → Visits old new number visit → KnowsFull old → KnowsFull new
@@ -97,16 +80,16 @@ full_stays passes shard old new within is more (k, x, below, at, full) =
       full,
     )
 
--- what an answer tells
-pub tells_ok : {A : Type 0} (x : A) (old new : List PassView) → (SomeFull old → SomeFull new)
-    → TellsFull (Ok x) old new
-tells_ok x old new more (inl some) = more some
-tells_ok x old new more (inr e) = absurd (cc)
+-- what an answer says of full shards
+pub reports_ok : {A : Type 0} (x : A) (old new : List PassView) → (SomeFull old → SomeFull new)
+    → ReportsFull (Ok x) old new
+reports_ok x old new more (inl some) = more some
+reports_ok x old new more (inr e) = absurd (cc)
 
-pub tells_refused : {A : Type 0} (r : Result A Stop) (old new : List PassView) → r ≡ Err Memory
-    → (SomeFull old → SomeFull new) → TellsFull r old new
-tells_refused r old new is more (inl some) = more some
-tells_refused r old new is more (inr e) = absurd (cc)
+pub reports_refused : {A : Type 0} (r : Result A Stop) (old new : List PassView) → r ≡ Err Memory
+    → (SomeFull old → SomeFull new) → ReportsFull r old new
+reports_refused r old new is more (inl some) = more some
+reports_refused r old new is more (inr e) = absurd (cc)
 
 -- the error that an answer has
 pub the_error : {A : Type 0} (r : Result A Stop) (stop : Stop) → IsErrAnd r (λ e. e ≡ stop)
@@ -117,11 +100,11 @@ the_error (Err e) stop h = ap Err h
 -- an answer that hands on the error of another
 pub handed_on : {A B : Type 0} (r : Result A Stop) (s : Result B Stop) (stop : Stop)
     (old between new : List PassView) → r ≡ Err stop → s ≡ Err stop
-    → (SomeFull old → SomeFull between) → TellsFull r between new → TellsFull s old new
-handed_on r s stop old between new is also more tells (inl some) = tells (inl (more some))
-handed_on r s stop old between new is also more tells (inr e) =
+    → (SomeFull old → SomeFull between) → ReportsFull r between new → ReportsFull s old new
+handed_on r s stop old between new is also more reports (inl some) = reports (inl (more some))
+handed_on r s stop old between new is also more reports (inr e) =
     let same : stop ≡ Full = cc in
-    tells (inr (is ∙ ap Err same))
+    reports (inr (is ∙ ap Err same))
 
 -- the visit that the pass to a shard made
 pub own_grows : (passes : List PassView) (shard : ℕ) (old new : PassView) (number : ℕ)

@@ -108,21 +108,21 @@ kept_at service (s ∷ shares) (w ∷ works) (suc worker) done kept at =
     kept_at service shares works worker done kept.1 at
 
 -- the ends, of what all did
-told-append : (ends : List UploadEnd) (xs ys : List Done)
+reported-append : (ends : List UploadEnd) (xs ys : List Done)
     → with_done ends (xs ++ ys) ≡ with_done (with_done ends xs) ys
-told-append ends [] ys = refl
-told-append ends (d ∷ xs) ys = told-append (slice_set ends d.upload d.end) xs ys
+reported-append ends [] ys = refl
+reported-append ends (d ∷ xs) ys = reported-append (slice_set ends d.upload d.end) xs ys
 
-told_works : (service : ServiceView) (ends : List UploadEnd) (shares : List ShareView)
+reported_works : (service : ServiceView) (ends : List UploadEnd) (shares : List ShareView)
     (works : List (List Worked)) → Kept service shares works
     → with_all_done ends shares ≡ with_done ends (map done_of (all_works works))
-told_works service ends [] [] kept = refl
-told_works service ends [] (w ∷ works) kept = absurd kept
-told_works service ends (s ∷ shares) [] kept = absurd kept
-told_works service ends (s ∷ shares) (w ∷ works) kept =
+reported_works service ends [] [] kept = refl
+reported_works service ends [] (w ∷ works) kept = absurd kept
+reported_works service ends (s ∷ shares) [] kept = absurd kept
+reported_works service ends (s ∷ shares) (w ∷ works) kept =
     ap (λ ds. with_all_done (with_done ends ds) shares) kept.0.done
-    ∙ told_works service (with_done ends (map done_of w)) shares works kept.1
-    ∙ sym (told-append ends (map done_of w) (map done_of (all_works works)))
+    ∙ reported_works service (with_done ends (map done_of w)) shares works kept.1
+    ∙ sym (reported-append ends (map done_of w) (map done_of (all_works works)))
     ∙ ap (with_done ends) (sym (map-append done_of w (all_works works)))
 
 set_same : (ends : List UploadEnd) (upload : ℕ) (new end : UploadEnd)
@@ -182,19 +182,19 @@ fewer_after w works once x = by_test (eqb_tells w.upload x)
     by_test (inl (is, same)) = omega (arith, once x, times_same w works x is)
     by_test (inr (is, apart)) = omega (arith, once x, times_other w works x is)
 
--- an upload with its end was not drawn, or it ended as the one that drew it tells
+-- an upload with its end was not drawn, or it ended as the one that drew it reports
 abbrev pub Told : List UploadEnd → List Worked → ℕ → UploadEnd → Type 0
 Told ends works upload end =
     ((drawn_times upload works ≡ 0) × (slice_get ends upload ≡ Some end))
     ⊎ ((0 < drawn_times upload works) × (end ≡ end_of upload works))
 
-told_end : (ends : List UploadEnd) (works : List Worked) (upload : ℕ) (end : UploadEnd)
+reported_end : (ends : List UploadEnd) (works : List Worked) (upload : ℕ) (end : UploadEnd)
     → NoneTwice (map (λ w. w.upload) works)
     → slice_get (with_done ends (map done_of works)) upload ≡ Some end → Told ends works upload end
-told_end ends [] upload end once at = inl (refl, at)
-told_end ends (w ∷ works) upload end once at =
+reported_end ends [] upload end once at = inl (refl, at)
+reported_end ends (w ∷ works) upload end once at =
     by_test (eqb_tells w.upload upload)
-    (told_end (slice_set ends w.upload w.end) works upload end (fewer_after w works once) at)
+    (reported_end (slice_set ends w.upload w.end) works upload end (fewer_after w works once) at)
   where
     by_test : (((w.upload == upload) ≡ true) × (w.upload ≡ upload))
         ⊎ (((w.upload == upload) ≡ false) × (w.upload ≢ upload))
@@ -225,7 +225,8 @@ never_undrawn : (service : ServiceView) (w : Worked) → IsWorked service w → 
 never_undrawn service w worked = by_end w.end worked.ended
   where
     by_end : (end : UploadEnd)
-        → IsEndOf (shards_of service) worked.file worked.batches worked.rest w.visits end → end ≢ Undrawn
+        → IsEndOf (shards_of service) worked.file worked.batches worked.rest w.visits end
+        → end ≢ Undrawn
     by_end Undrawn e is = e
     by_end (Posted taps) e is = absurd (cc)
     by_end (Refused taps offset fault) e is = absurd (cc)
@@ -262,17 +263,17 @@ not_drawn (w ∷ works) upload none = by_test (eqb_tells w.upload upload) (not_d
     by_test (inr (is, apart)) rest =
         end_other w works upload is ∙ rest (omega (arith, none, times_other w works upload is))
 
--- the ends that the shares tell
-pub ends_told : (service : ServiceView) (shares : List ShareView) (works : List (List Worked))
+-- the ends that the shares report
+pub ends_reported : (service : ServiceView) (shares : List ShareView) (works : List (List Worked))
     → Kept service shares works → NoneTwice (map (λ w. w.upload) (all_works works))
     → (ends : List UploadEnd)
     → ends ≡ with_all_done (replicate (length service.uploads) Undrawn) shares
     → (upload : ℕ) (end : UploadEnd) → slice_get ends upload ≡ Some end
     → Told (replicate (length service.uploads) Undrawn) (all_works works) upload end
-ends_told service shares works kept once ends are upload end at =
+ends_reported service shares works kept once ends are upload end at =
     let G : List UploadEnd → Type 0 = λ es. slice_get es upload ≡ Some end in
-    told_end (replicate (length service.uploads) Undrawn) (all_works works) upload end once
-    (subst G (are ∙ told_works service (replicate (length service.uploads) Undrawn) shares works
+    reported_end (replicate (length service.uploads) Undrawn) (all_works works) upload end once
+    (subst G (are ∙ reported_works service (replicate (length service.uploads) Undrawn) shares works
     kept) at)
 
 pub book_of_work : (service : ServiceView) → IsService service
@@ -296,7 +297,7 @@ book_of_work service is shares works kept shard book h =
       legal = subst L (h.table ∙ opened.its_table) h.legal;
     }
 
-pub told_undrawn : (service : ServiceView) (shares : List ShareView)
+pub reported_undrawn : (service : ServiceView) (shares : List ShareView)
     → All (IsShareOf service) shares → (closed : List Book)
     → IsClosedWork service.books shares closed
     → (ends : List UploadEnd)
@@ -304,18 +305,18 @@ pub told_undrawn : (service : ServiceView) (shares : List ShareView)
     → length ends ≡ length service.uploads
     → (upload : ℕ) → slice_get ends upload ≡ Some Undrawn
     → All (λ share. share.drawer.seen ≤ upload) shares
-told_undrawn service shares all closed work ends are number upload at =
+reported_undrawn service shares all closed work ends are number upload at =
     let k = keepings service shares all in
     let D : List ℕ → Type 0 = NoneTwice in
     let once = subst D (drawn_all service shares k.0 k.1) work.once in
-    by_told k.0 k.1 (ends_told service shares k.0 k.1 once ends are upload Undrawn at)
+    by_reported k.0 k.1 (ends_reported service shares k.0 k.1 once ends are upload Undrawn at)
   where
-    by_told : (works : List (List Worked)) → Kept service shares works
+    by_reported : (works : List (List Worked)) → Kept service shares works
         → Told (replicate (length service.uploads) Undrawn) (all_works works) upload Undrawn
         → All (λ share. share.drawer.seen ≤ upload) shares
-    by_told works kept (inl (none, there)) =
+    by_reported works kept (inl (none, there)) =
         work.undrawn upload (ap (times upload) (drawn_all service shares works kept) ∙ none)
-    by_told works kept (inr (some, e)) =
+    by_reported works kept (inr (some, e)) =
         absurd (drawn_ended service (all_works works) upload
         (All-flat (IsWorked service) works (all_each service shares works kept)) some (sym e))
 

@@ -1,4 +1,5 @@
--- Shares are gathered: what their workers did is an outcome of files, with which the uploads were lent.
+-- Shares are gathered: what their workers did is an outcome of files, with which the uploads were
+-- lent.
 use Rattle.std.specs.Prelude.{ℕ, ◌≡◌, List, length, map, replicate, All}
 use Rattle.std.specs.List.{AllZip}
 use Rattle.std.proofs.Common.{sym, ◌∙◌, inl, inr, subst}
@@ -17,7 +18,7 @@ use Rattle.fare_service.specs.inside.Closing.{IsClosedWork}
 use Rattle.fare_service.specs.inside.Joining.{with_all_done}
 use Rattle.fare_service.specs.inside.ServiceView.{IsService}
 use Rattle.fare_service.proofs.GatheredWork.{given_of, IsGathered}
-use Rattle.fare_service.proofs.GatherLemmas.{Told, all_each, book_of_work, drawn_all, ends_told}
+use Rattle.fare_service.proofs.GatherLemmas.{Told, all_each, book_of_work, drawn_all, ends_reported}
 use Rattle.fare_service.proofs.GatherLemmas.{get_replicate, keepings, kept_length, not_drawn}
 use Rattle.fare_service.proofs.GatherLemmas.{totals_all}
 use Rattle.fare_service.proofs.LentFiles.{lent_files, lent_number}
@@ -59,21 +60,21 @@ has_gathered service is shares all closed work ends are number workers sums_are 
         books = λ shard book at. book_of_work service is shares k.0 k.1 shard book
             (work.books shard book at);
         uploads = number ∙ sym (lent_number service.uploads lent.files lent.lent);
-        ends = λ upload end at. by_told k.0 upload end
-            (ends_told service shares k.0 k.1 once ends are upload end at);
+        ends = λ upload end at. by_reported k.0 upload end
+            (ends_reported service shares k.0 k.1 once ends are upload end at);
         workers = sums_are ∙ totals_all service shares k.0 k.1;
       };
     }
   where
-    by_told : (works : List (List Worked)) (upload : ℕ) (end : UploadEnd)
+    by_reported : (works : List (List Worked)) (upload : ℕ) (end : UploadEnd)
         → Told (replicate (length service.uploads) Undrawn) (all_works works) upload end
         → end ≡ end_of upload (all_works works)
-    by_told works upload end (inl (none, there)) =
+    by_reported works upload end (inl (none, there)) =
         get_replicate (length service.uploads) upload end there
         ∙ sym (not_drawn (all_works works) upload none)
-    by_told works upload end (inr (some, e)) = e
+    by_reported works upload end (inr (some, e)) = e
 
--- a run of so many workers was gathered
+-- a run of this number of workers was gathered
 pub has_run : (service : ServiceView) (shares : List ShareView) (workers : ℕ)
     (outcome : OutcomeView) → length shares ≡ workers → HasOutcome service shares outcome
     → HasRunOver service.table (shards_of service) service.uploads workers outcome

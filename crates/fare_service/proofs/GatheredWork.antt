@@ -13,7 +13,8 @@ use Rattle.fare_service.specs.Outcomes.{OutcomeView}
 use Rattle.fare_service.specs.Runs.{entries_to, entries_of}
 use Rattle.fare_service.specs.Shares.{Worked, all_works, all_visits, IsWorkOf}
 
--- what a service was given: its table, how many shards there are, and the bytes with which the uploads
+-- what a service was given: its table, how many shards there are, and the bytes with which the
+-- uploads
 -- were lent
 pub record Given : Type 0 where
   pub table : Fares

@@ -52,7 +52,7 @@ thread_of table shard shards works book is = record {
         (λ v h. ne_eqb v.worker worker (λ e. omega (arith, e, h, past))) is.visits is.signed))
         ∙ sym (ap (λ done. entries_to shard (all_visits done)) (get_or_past works worker [] past))
 
--- all visits were made by workers, where none is another's
+-- all visits were made by workers, if none is another's
 all_signed : (workers : ℕ) (visits : List Signed)
     → ((worker : ℕ) → workers ≤ worker → by_worker worker visits ≡ [])
     → All (λ v. v.worker < workers) visits

@@ -12,8 +12,8 @@ use Rattle.fare_service.specs.Shares.{Worked, IsEndOf, IsWorked, IsWorkOf, file_
 use Rattle.fare_service.proofs.GatherLemmas.{fewer_after}
 use Rattle.fare_service.proofs.PlainLists.{count, count_other, count_same}
 
-abbrev pub Tells : ℕ → ℕ → Type 0
-Tells m n = (((m == n) ≡ true) × (m ≡ n)) ⊎ (((m == n) ≡ false) × (m ≢ n))
+abbrev pub IsTest : ℕ → ℕ → Type 0
+IsTest m n = (((m == n) ≡ true) × (m ≡ n)) ⊎ (((m == n) ≡ false) × (m ≢ n))
 
 -- an upload that is not among those that were drawn
 pub not_again : (works : List Worked) (upload : ℕ)
@@ -29,14 +29,15 @@ not_again (w ∷ works) upload none =
     )))
     (not_again works upload (by_test (eqb_tells w.upload upload)))
   where
-    by_test : Tells w.upload upload → count upload (map (λ x. x.upload) works) ≡ 0
+    by_test : IsTest w.upload upload → count upload (map (λ x. x.upload) works) ≡ 0
     by_test (inl (is, same)) =
         absurd (omega (arith, none, count_same upload w.upload (map (λ x. x.upload) works) is))
     by_test (inr (is, apart)) =
         sym (count_other upload w.upload (map (λ x. x.upload) works) is) ∙ none
 
 -- the bytes with which an upload was lent; none if nobody drew it
-abbrev lent_as : (service : ServiceView) (works : List Worked) → All (IsWorked service) works → ℕ → List ℕ
+abbrev lent_as : (service : ServiceView) (works : List Worked) → All (IsWorked service) works → ℕ
+    → List ℕ
 lent_as service [] all upload = []
 lent_as service (w ∷ works) all upload =
     cond (w.upload == upload) (All-head (IsWorked service) w works all).file
@@ -46,14 +47,15 @@ lent_as service (w ∷ works) all upload =
 abbrev WorkedAs : ServiceView → List ℕ → Worked → Type 0
 WorkedAs service file w = (is : IsWorked service w) × (is.file ≡ file)
 
--- where no upload was drawn twice, each was lent with the bytes that the one who drew it posted
-lent_told : (service : ServiceView) (works : List Worked) (all : All (IsWorked service) works)
+-- if no upload was drawn twice, each was lent with the bytes that the one who drew it posted
+lent_reported : (service : ServiceView) (works : List Worked) (all : All (IsWorked service) works)
     → NoneTwice (map (λ w. w.upload) works)
     → All (λ w. WorkedAs service (lent_as service works all w.upload) w) works
-lent_told service [] all once = All-nil (λ w. WorkedAs service (lent_as service [] all w.upload) w)
-lent_told service (w ∷ works) all once =
+lent_reported service [] all once =
+    All-nil (λ w. WorkedAs service (lent_as service [] all w.upload) w)
+lent_reported service (w ∷ works) all once =
     let test : (w.upload == w.upload) ≡ true = eq-eqb w.upload w.upload refl in
-    let rest = lent_told service works tail (fewer_after w works once) in
+    let rest = lent_reported service works tail (fewer_after w works once) in
     let others = not_again works w.upload
     (omega (arith, once w.upload, count_same w.upload w.upload (map (λ x. x.upload) works) test)) in
     All-cons (λ x. WorkedAs service (lent_as service (w ∷ works) all x.upload) x) w works
@@ -69,9 +71,9 @@ lent_told service (w ∷ works) all once =
     later : (x : Worked) → x.upload ≢ w.upload
         → WorkedAs service (lent_as service works tail x.upload) x
         → WorkedAs service (lent_as service (w ∷ works) all x.upload) x
-    later x apart (is, told) = (is, told ∙ by_test (eqb_tells w.upload x.upload))
+    later x apart (is, reported) = (is, reported ∙ by_test (eqb_tells w.upload x.upload))
       where
-        by_test : Tells w.upload x.upload → lent_as service works tail x.upload
+        by_test : IsTest w.upload x.upload → lent_as service works tail x.upload
             ≡ lent_as service (w ∷ works) all x.upload
         by_test (inl (hit, same)) = absurd (apart (sym same))
         by_test (inr (miss, other)) =
@@ -130,7 +132,7 @@ lent_files service works all once = record {
   files = files;
   lent = are;
   each = All-weaker (λ w. WorkedAs service (lent w.upload) w) (IsWorkOf (shards_of service) files)
-      (λ w h. one w h) works (lent_told service works all once);
+      (λ w h. one w h) works (lent_reported service works all once);
 }
   where
     lent : ℕ → List ℕ
@@ -143,12 +145,12 @@ lent_files service works all once = record {
     are = are_lent lent 0 service.uploads
 
     one : (w : Worked) → WorkedAs service (lent w.upload) w → IsWorkOf (shards_of service) files w
-    one w (is, told) =
+    one w (is, reported) =
         let from_zero : 0 + w.upload ≡ w.upload = omega arith in
         let at : file_at files w.upload ≡ is.file =
         file_there lent 0 service.uploads w.upload is.within
         ∙ (ap (λ n. file_for (known_at service.uploads w.upload) (lent n)) from_zero
-        ∙ same_file (known_at service.uploads w.upload) (lent w.upload) is.file is.lent told) in
+        ∙ same_file (known_at service.uploads w.upload) (lent w.upload) is.file is.lent reported) in
         let F : List ℕ → Type 0 = λ f. IsFile f is.batches is.rest in
         let E : List ℕ → Type 0 =
         λ f. IsEndOf (shards_of service) f is.batches is.rest w.visits w.end in

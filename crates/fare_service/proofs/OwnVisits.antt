@@ -283,7 +283,7 @@ cut_taps_are runs visits c = made c.made
               (flat_map (λ r. r.taps) runs) whole);
         })
 
--- what an end tells of an upload is what its visits posted
+-- what an end reports of an upload is what its visits posted
 worked_posted : (given : Given) (w : Worked) → IsWorkOf given.shards given.uploads w
     → WerePostedOf given.shards (file_at given.uploads w.upload) w.end
     (flat_map (λ v. v.taps) w.visits)
@@ -340,7 +340,7 @@ no_works_on upload (w ∷ works) none = by_test (eqb_tells w.upload upload) (no_
         ap (λ t. cond t (w ∷ works_on upload works) (works_on upload works)) b
         ∙ rest (omega (arith, none, times_other w works upload b))
 
--- an upload's end tells what was posted of it
+-- an upload's end reports what was posted of it
 pub end_posted : (given : Given) (upload : ℕ) (works : List Worked)
     → All (IsWorkOf given.shards given.uploads) works → NoneTwice (map (λ w. w.upload) works)
     → WerePostedOf given.shards (file_at given.uploads upload) (end_of upload works)

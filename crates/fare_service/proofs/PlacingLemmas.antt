@@ -584,13 +584,13 @@ stands_once given works outcome is shard book at =
           s.each;
     }
 
--- what each upload's end tells was posted of it
-pub posted_told : (given : Given) (works : List (List Worked)) (outcome : OutcomeView)
+-- what each upload's end reports was posted of it
+pub posted_reported : (given : Given) (works : List (List Worked)) (outcome : OutcomeView)
     → IsGathered given works outcome → (upload : ℕ) (end : UploadEnd)
     → slice_get outcome.ends upload ≡ Some end
     → WerePostedOf given.shards (file_at given.uploads upload) end
     (posted_of upload (all_works works))
-posted_told given works outcome is upload end e =
+posted_reported given works outcome is upload end e =
     let E : UploadEnd → Type 0 =
     λ x. WerePostedOf given.shards (file_at given.uploads upload) x
     (posted_of upload (all_works works)) in

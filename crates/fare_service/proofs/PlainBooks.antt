@@ -41,7 +41,7 @@ use Rattle.fare_service.proofs.PlainRuns.{IsName, shard_entries, named_entries, 
 use Rattle.fare_service.proofs.VisitLemmas.{entries_to-append}
 use Rattle.fare_service.proofs.GatheredWork.{Given, IsBookOfWork, IsGathered}
 use Rattle.fare_service.proofs.GatherLemmas.{end_other, end_same, fewer_after}
-use Rattle.fare_service.proofs.LentFiles.{Tells, not_again}
+use Rattle.fare_service.proofs.LentFiles.{IsTest, not_again}
 
 entries-cons : (shard : ℕ) (w : Worked) (done : List Worked)
     → history_of_visits (entries_to shard (all_visits (w ∷ done)))
@@ -150,9 +150,6 @@ work_read given token taps w some cuts each worked whole named =
     }
 
 -- ---- ends
-uploads_of : List Worked → List ℕ
-uploads_of works = map (λ w. w.upload) works
-
 -- an upload that ended was drawn
 pub drawn_by : (P : Worked → Type 0) (works : List Worked) → All P works → (upload : ℕ)
     → end_of upload works ≢ Undrawn → (w : Worked) × P w × (w.upload ≡ upload)
@@ -160,7 +157,7 @@ drawn_by P [] all upload ended = absurd (ended refl)
 drawn_by P (w ∷ works) all upload ended =
     by_test (eqb_tells w.upload upload) (drawn_by P works (All-tail P w works all) upload)
   where
-    by_test : Tells w.upload upload
+    by_test : IsTest w.upload upload
         → (end_of upload works ≢ Undrawn → (x : Worked) × P x × (x.upload ≡ upload))
         → (x : Worked) × P x × (x.upload ≡ upload)
     by_test (inl (is, same)) more = (w, All-head P w works all, same)
@@ -172,7 +169,7 @@ drawn_count [] upload ended = absurd (ended refl)
 drawn_count (w ∷ works) upload ended =
     by_test (eqb_tells w.upload upload) (drawn_count works upload)
   where
-    by_test : Tells w.upload upload
+    by_test : IsTest w.upload upload
         → (end_of upload works ≢ Undrawn → 0 < count upload (map (λ x. x.upload) works))
         → 0 < count upload (map (λ x. x.upload) (w ∷ works))
     by_test (inl (is, same)) more =
@@ -184,12 +181,12 @@ drawn_count (w ∷ works) upload ended =
           more (λ e. ended (end_other w works upload is ∙ e)),
         )
 
--- where no upload was drawn twice, each ended as the one that drew it tells
-pub end_told : (works : List Worked) → NoneTwice (map (λ w. w.upload) works)
+-- if no upload was drawn twice, each ended as the one that drew it reports
+pub end_reported : (works : List Worked) → NoneTwice (map (λ w. w.upload) works)
     → All (λ w. end_of w.upload works ≡ w.end) works
-end_told [] once = All-nil (λ w. end_of w.upload [] ≡ w.end)
-end_told (w ∷ works) once =
-    let rest = end_told works (fewer_after w works once) in
+end_reported [] once = All-nil (λ w. end_of w.upload [] ≡ w.end)
+end_reported (w ∷ works) once =
+    let rest = end_reported works (fewer_after w works once) in
     let test : (w.upload == w.upload) ≡ true = eq-eqb w.upload w.upload refl in
     let others = not_again works w.upload
     (omega (arith, once w.upload, count_same w.upload w.upload (map (λ x. x.upload) works) test)) in
@@ -198,11 +195,11 @@ end_told (w ∷ works) once =
   where
     later : (x : Worked) → x.upload ≢ w.upload → end_of x.upload works ≡ x.end
         → end_of x.upload (w ∷ works) ≡ x.end
-    later x apart told = by_test (eqb_tells w.upload x.upload)
+    later x apart reported = by_test (eqb_tells w.upload x.upload)
       where
-        by_test : Tells w.upload x.upload → end_of x.upload (w ∷ works) ≡ x.end
+        by_test : IsTest w.upload x.upload → end_of x.upload (w ∷ works) ≡ x.end
         by_test (inl (is, same)) = absurd (apart (sym same))
-        by_test (inr (is, no_same)) = end_other w works x.upload is ∙ told
+        by_test (inr (is, no_same)) = end_other w works x.upload is ∙ reported
 
 -- ---- all that was gathered
 -- what the laws of a gathering stand on: no upload was cut or left undrawn, and each token of the
@@ -238,20 +235,20 @@ module _ (given : Given) (works : List (List Worked)) (outcome : OutcomeView)
   pub ended : (upload : ℕ) → upload < length given.uploads
       → end_of upload (all_works works) ≢ Undrawn
   ended upload within e =
-      let (end, at, told, whole) = end_at upload within in
+      let (end, at, reported, whole) = end_at upload within in
       let W : UploadEnd → Type 0 = WasNotCut in
-      subst W (told ∙ e) whole
+      subst W (reported ∙ e) whole
 
   pub all_whole : All (λ w. WasNotCut w.end) (all_works works)
   all_whole = λ k d few. of_one (slice_index_or (all_works works) k d) (each_work k d few)
-      (end_told (all_works works) all.gathered.once k d few)
+      (end_reported (all_works works) all.gathered.once k d few)
     where
       of_one : (w : Worked) → IsWorkOf given.shards given.uploads w
           → end_of w.upload (all_works works) ≡ w.end → WasNotCut w.end
-      of_one w worked told =
+      of_one w worked reported =
           let (end, at, is, whole) = end_at w.upload worked.within in
           let W : UploadEnd → Type 0 = WasNotCut in
-          subst W (is ∙ told) whole
+          subst W (is ∙ reported) whole
 
   -- the entries that a worker brought to a shard for an upload are named by their bytes
   named_works : (shard : ℕ) → shard < given.shards

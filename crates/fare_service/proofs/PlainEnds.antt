@@ -14,7 +14,7 @@ use Rattle.fare_service.specs.Plain.{WasNotCut}
 use Rattle.report_texts.specs.UploadEnds.{IsPlainEnd, ArePlainEnds}
 use Rattle.fare_service.specs.Runs.{RunVisit, IsEntered, ArePostedWhole, runs_of, taps_posted}
 use Rattle.fare_service.specs.Shares.{Worked, IsWorkOf, IsEndOf, all_works, file_at}
-use Rattle.fare_service.proofs.PlainBooks.{drawn_by, end_told, whole_posted}
+use Rattle.fare_service.proofs.PlainBooks.{drawn_by, end_reported, whole_posted}
 use Rattle.fare_service.proofs.PlainLists.{All-flat, All-at}
 use Rattle.fare_service.proofs.TapCounts.{posted_taps, all_runs_taps}
 use Rattle.fare_service.proofs.GatheredWork.{Given, IsGathered}
@@ -91,17 +91,18 @@ plain_ends given works outcome some gathered whole =
         → slice_get given.uploads upload ≡ Some file → slice_get outcome.ends upload ≡ Some end
         → IsPlainEnd file end
     of_one upload file end at there =
-        let told = gathered.ends upload end there in
+        let reported = gathered.ends upload end there in
         let posted = All-at WasNotCut outcome.ends upload end whole there in
         let W : UploadEnd → Type 0 = WasNotCut in
         let each = All-flat (IsWorkOf given.shards given.uploads) works gathered.each in
-        let ends = end_told (all_works works) gathered.once in
-        let (w, (worked, tells), same) =
+        let ends = end_reported (all_works works) gathered.once in
+        let (w, (worked, reports), same) =
         drawn_by (λ w. IsWorkOf given.shards given.uploads w
         × (end_of w.upload (all_works works) ≡ w.end)) (all_works works)
         (λ k d few. (each k d few, ends k d few)) upload
-        (λ undrawn. subst W (told ∙ undrawn) posted) in
-        let is : w.end ≡ end = sym tells ∙ ap (λ u. end_of u (all_works works)) same ∙ sym told in
+        (λ undrawn. subst W (reported ∙ undrawn) posted) in
+        let is : w.end ≡ end =
+        sym reports ∙ ap (λ u. end_of u (all_works works)) same ∙ sym reported in
         let bytes : file_at given.uploads w.upload ≡ file =
         ap (file_at given.uploads) same ∙ get_or_from_slice_get given.uploads upload file [] at in
         let E : UploadEnd → Type 0 = λ e. IsPlainEnd file e in

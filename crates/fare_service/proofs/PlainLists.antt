@@ -150,12 +150,12 @@ has_alone only (l ∷ lists) h = by_count (count only l) refl (has_alone only li
         others zero ns at apart = absurd (apart refl)
         others (suc other) ns at apart = none_at only lists (omega (arith, both, e)) other ns at
 
--- what workers did, where each did the parts of some numbers, in any order of their steps
+-- what workers did, if each did the parts of some numbers, in any order of their steps
 module _ {V A : Type 0} (worker : V → ℕ) (part : V → List A) where
   abbrev pub parts_of : ℕ → List V → List A
   parts_of w visits = flat_map part (filter (λ v. worker v == w) visits)
 
-  -- where the others did nothing, all is what the one did
+  -- if the others did nothing, all is what the one did
   of_worker : (w : ℕ) (visits : List V) → All (λ v. worker v ≢ w → part v ≡ []) visits
       → flat_map part visits ≡ parts_of w visits
   of_worker w [] all = refl
@@ -219,7 +219,7 @@ module _ {V A : Type 0} (worker : V → ℕ) (part : V → List A) where
       (w : ℕ) (done : List ℕ) → slice_get works w ≡ Some done
       → parts_of w visits ≡ flat_map mine done
 
-  -- where one number alone has a part, and one worker did it once, all that was done is that part
+  -- if one number alone has a part, and one worker did it once, all that was done is that part
   pub done_alone : (mine : ℕ → List A) (only : ℕ) (works : List (List ℕ)) (visits : List V)
       → ((n : ℕ) → n ≢ only → mine n ≡ []) → count only (flat_map (λ ns. ns) works) ≡ 1
       → All (λ v. worker v < length works) visits → DoTheirs mine works visits
@@ -234,7 +234,7 @@ module _ {V A : Type 0} (worker : V → ℕ) (part : V → List A) where
       of_worker alone.place visits idle ∙ theirs alone.place alone.list alone.at
       ∙ once_there mine only none alone.list alone.there
 
-  -- where no number has a part, nothing was done
+  -- if no number has a part, nothing was done
   pub done_none : (mine : ℕ → List A) (works : List (List ℕ)) (visits : List V)
       → ((n : ℕ) → mine n ≡ [])
       → All (λ v. worker v < length works) visits → DoTheirs mine works visits

@@ -15,14 +15,14 @@ use Rattle.tap_views.specs.Files.{IsEndAfterBatches, HasOneReading}
 use Rattle.tap_views.proofs.Deciding.{same_fault}
 use Rattle.report_texts.specs.Report.{report}
 
-same_told : (file rest : List ℕ) (fault other : Option (ℕ × LayoutFault))
+same_reported : (file rest : List ℕ) (fault other : Option (ℕ × LayoutFault))
     → IsEndAfterBatches file rest fault → IsEndAfterBatches file rest other → fault ≡ other
-same_told file rest None None one two = refl
-same_told file rest None (Some (offset, fault)) one two =
+same_reported file rest None None one two = refl
+same_reported file rest None (Some (offset, fault)) one two =
     absurd (omega (arith, ap length one, two.some_byte))
-same_told file rest (Some (offset, fault)) None one two =
+same_reported file rest (Some (offset, fault)) None one two =
     absurd (omega (arith, ap length two, one.some_byte))
-same_told file rest (Some (offset, fault)) (Some (offset', other)) one two =
+same_reported file rest (Some (offset, fault)) (Some (offset', other)) one two =
     ap (λ n. Some (n, fault)) (omega (arith, one.stands_at, two.stands_at))
     ∙ ap (λ f. Some (offset', f)) (same_fault rest fault other one.is_fault two.is_fault)
 
@@ -35,7 +35,7 @@ same_end file end other cut one two =
     one.ended ∙ ap
     (λ (bs : List (List Tap)). end_by (length (flat_map (λ (b : List Tap). b) bs)) one.fault) same.0
     ∙ ap (end_by (length (flat_map (λ (b : List Tap). b) two.batches)))
-    (same_told file two.rest one.fault two.fault (subst F same.1 one.is_fault) two.is_fault)
+    (same_reported file two.rest one.fault two.fault (subst F same.1 one.is_fault) two.is_fault)
     ∙ sym two.ended
 
 pub same_ends : (files : List (List ℕ)) (ends others : List UploadEnd) → All HasOneReading files

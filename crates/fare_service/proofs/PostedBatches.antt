@@ -102,7 +102,7 @@ posted_few shards p q s t more file batches whole made posted room small =
         omega (arith, posted_taps shards (runs_of shards batches) more made.entered posted)
     no_more false posted = cut_taps shards (runs_of shards batches) more made.entered posted
 
--- an upload that was cut, told by an answer that is an error
+-- an upload that was cut, shown by an answer that is an error
 pub cut_upload : (r : Result (Option (ℕ × LayoutFault)) Stop) (shards : ℕ) (file : List ℕ)
     (p q : List PassView) (s t : Sums) (batches : List (List Tap)) (rest : List ℕ)
     → IsErr r → IsFile file batches rest → Cuts shards p q s t (runs_of shards batches)

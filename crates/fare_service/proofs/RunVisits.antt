@@ -28,7 +28,7 @@ use Rattle.fare_service.specs.Shares.{made_visits, marks_at, made_visits_at, Has
 use Rattle.fare_service.proofs.RunLemmas.{no_run, cut_none, cut_some, whole_run}
 use Rattle.fare_service.proofs.VisitLemmas.{made_none, made_by_pass, own-visits, own-later}
 
--- an answer that is an error tells of a cut
+-- an answer that is an error means a cut
 pub was_cut : (r : Result (Unit {0}) Stop) (runs : List PostedRun) (visits : List RunVisit)
     → IsErr r → AreCut runs visits → ArePostedOrCut runs (is_ok r) visits
 was_cut (Ok x) runs visits e c = absurd (cc)

@@ -1,6 +1,5 @@
 -- Who made which visit to a book. A sign is a visit with the worker that made it; a visit that no
--- joined worker made is signed by nobody, who
--- is told by a number above all workers.
+-- joined worker made is signed by nobody, who has a number above all workers.
 use Rattle.std.specs.Prelude.{ℕ, suc, ◌≡◌, ◌≢◌, ◌⊎◌, ◌+◌, ◌<◌, ◌≤◌, ◌==◌, ◌||◌, nat_lt, Bool, true}
 use Rattle.std.specs.Prelude.{false, cond, List, [], ◌∷◌, ◌++◌, length, map, filter, All}
 use Rattle.std.proofs.Common.{refl, sym, ◌∙◌, ap, inl, inr, subst, arith, eq-eqb, ne_eqb}
@@ -51,7 +50,7 @@ lt_self i = grind (arith, nat_tests)
 not_lt : (i nobody : ℕ) → i < nobody → nat_lt nobody (suc i) ≡ false
 not_lt i nobody below = grind (arith, nat_tests)
 
--- a sign stays where the next worker did not make the visit
+-- a sign stays if the next worker did not make the visit
 sign_kept : (i nobody : ℕ) (s : Signed) (m : Mark) (b : Bool) → m.mine ≡ b → i < nobody
     → IsSign i nobody s m → IsSign (suc i) nobody s m
 sign_kept i nobody s m true e below is =
@@ -87,7 +86,7 @@ sign_by i nobody s x false below is =
           λ h. is.other (sym (or-false x.mine) ∙ h);
     }
 
--- the marks of a worker where nothing was seen before
+-- the marks of a worker that had seen nothing before
 signed_first : (i nobody : ℕ) (marks : List Mark) → i < nobody
     → AreSigns (suc i) nobody (signed i nobody [] marks) marks
 signed_first i nobody [] below = tt
@@ -284,7 +283,7 @@ length-numbered : (n : ℕ) (vs : List (List Entry)) → length (numbered n vs) 
 length-numbered n [] = refl
 length-numbered n (v ∷ vs) = ap suc (length-numbered (n + 1) vs)
 
--- where a pass made all visits, each of them was made by a worker that was joined
+-- if a pass made all visits, each of them was made by a worker that was joined
 pub all_signed : (i nobody n : ℕ) (signs : List Signed) (marks : List Mark)
     → AreSigns i nobody signs marks → made_from n marks ≡ numbered n (visits_of marks)
     → All (λ s. s.worker < i) signs

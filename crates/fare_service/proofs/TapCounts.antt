@@ -194,7 +194,7 @@ all_below shards (p ∷ taps) within =
     (lt-ltb (shard_of_token p.token shards) shards (within p.token))
     ∙ ap (λ ps. p ∷ ps) (all_below shards taps within)
 
--- where each token has one of the shards, the runs of batches have all their taps
+-- if each token has one of the shards, the runs of batches have all their taps
 pub all_runs_taps : (shards : ℕ) (batches : List (List Tap))
     → ((token : List ℕ) → shard_of_token token shards < shards)
     → runs_taps (runs_of shards batches) ≡ batches_taps batches

@@ -1,7 +1,7 @@
 -- Totals that add up: over the books, over the workers and, of taps, over the uploads.
 use Rattle.std.specs.Prelude.{◌≡◌, List, map, sum_by}
 use Rattle.shard_book.specs.Sums.{sums, add_all}
-use Rattle.report_texts.specs.UploadEnds.{taps_told}
+use Rattle.report_texts.specs.UploadEnds.{taps_of_end}
 use Rattle.fare_service.specs.Outcomes.{OutcomeView}
 use Rattle.fare_service.specs.Runs.{entries_of}
 use Rattle.fare_service.specs.Shares.{Worked, all_visits}
@@ -12,4 +12,4 @@ pub record AddUp (works : List (List Worked)) (outcome : OutcomeView) : Type 0 w
   pub each : outcome.workers ≡ map (λ done. sums (entries_of (all_visits done))) works
   pub workers : outcome.totals ≡ add_all outcome.workers
   pub books : outcome.totals ≡ add_all (map (λ book. sums book.entries) outcome.books)
-  pub uploads : outcome.totals.taps ≡ sum_by taps_told outcome.ends
+  pub uploads : outcome.totals.taps ≡ sum_by taps_of_end outcome.ends

@@ -35,11 +35,11 @@ HoldAllVisits opened shares shard = (book : Book) × IsHistoryOf opened shares s
 
 -- Of the shards that miss visits the first one is named, and missing uploads are reported if no
 -- visits are missing. A count leaves out nothing that a share has seen.
-abbrev pub TellsFirst : List SharedBookView → ℕ → List ShareView → GatherFault → Type 0
-TellsFirst opened uploads shares NoMemory = Unit {0}
-TellsFirst opened uploads shares (Missing shard held kept) =
+abbrev pub ReportsFirst : List SharedBookView → ℕ → List ShareView → GatherFault → Type 0
+ReportsFirst opened uploads shares NoMemory = Unit {0}
+ReportsFirst opened uploads shares (Missing shard held kept) =
     ((earlier : ℕ) → earlier < shard → HoldAllVisits opened shares earlier)
     × All (λ share. length (marks_at shard share.passes) ≤ kept) shares
-TellsFirst opened uploads shares (Drawn held drawn) =
+ReportsFirst opened uploads shares (Drawn held drawn) =
     ((shard : ℕ) → shard < length opened → HoldAllVisits opened shares shard)
     × All (λ share. share.drawer.seen ≤ drawn) shares × (drawn ≤ uploads)

@@ -29,7 +29,8 @@ abbrev pub IsGatherFault : ℕ → List ShareView → GatherFault → Type 0
 IsGatherFault shards shares gather.NoMemory = Unit {0}
 IsGatherFault shards shares (gather.Missing shard held kept) =
     (shard < shards) × (held ≡ visits_held shard shares) × (held < kept)
-IsGatherFault shards shares (gather.Drawn held drawn) = (held ≡ uploads_held shares) × (held < drawn)
+IsGatherFault shards shares (gather.Drawn held drawn) = (held ≡ uploads_held shares)
+    × (held < drawn)
 
 -- a gathering that misses nothing is refused for memory alone
 abbrev pub IsForMemory : GatherFault → Type 0

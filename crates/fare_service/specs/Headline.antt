@@ -82,7 +82,7 @@ HasRun fares shards files workers outcome =
     (works : List (List Worked)) × (length works ≡ workers)
     × Headline fares shards files works outcome
 
--- the headline of a run over uploads that were lent: of some files, which are the known ones where
+-- the headline of a run over uploads that were lent: of some files, which are the known ones if
 -- their bytes are known
 pub record HasRunOver (fares : Fares) (shards : ℕ) (uploads : List (Option (List ℕ)))
     (workers : ℕ) (outcome : OutcomeView) : Type 0 where
@@ -90,8 +90,8 @@ pub record HasRunOver (fares : Fares) (shards : ℕ) (uploads : List (Option (Li
   pub lent : AreLentAs uploads files
   pub run : HasRun fares shards files workers outcome
 
--- the headline, for what the workers of these shares of a service did: each upload was lent with the
--- bytes of its file
+-- the headline, for what the workers of these shares of a service did: each upload was lent with
+-- the bytes of its file
 pub record HasOutcome (service : ServiceView) (shares : List ShareView) (outcome : OutcomeView)
     : Type 0 where
   pub files : List (List ℕ)
@@ -102,7 +102,7 @@ pub record HasOutcome (service : ServiceView) (shares : List ShareView) (outcome
 
 -- an upload that nobody drew: no share has seen it drawn. Uploads are drawn in their order, so
 -- these are the last ones
-abbrev pub ToldUndrawn : List ShareView → OutcomeView → Type 0
-ToldUndrawn shares outcome =
+abbrev pub AreUndrawnReported : List ShareView → OutcomeView → Type 0
+AreUndrawnReported shares outcome =
     (upload : ℕ) → slice_get outcome.ends upload ≡ Some Undrawn
     → All (λ share. share.drawer.seen ≤ upload) shares

@@ -58,8 +58,8 @@ pub record StandOnce (shard shards : ℕ) (works : List Worked) (entries : List 
   pub exactly : (upload : ℕ)
       → of_upload upload origins ≡ run_of shard shards (posted_of upload works)
 
--- The same taps in another order: those of each shard stand in the same order, and of each kind there
--- are as many.
+-- The same taps in another order: those of each shard stand in the same order, and of each kind
+-- there are as many.
 pub record IsReordered (shards : ℕ) (taps ordered : List Tap) : Type 0 where
   pub same : (shard : ℕ) → shard < shards
       → run_of shard shards ordered ≡ run_of shard shards taps

@@ -1,9 +1,10 @@
 -- Why the shares of a run were not gathered.
 use Rattle.std.specs.Prelude.{◌≡◌, ℕ, List, length, All}
 use Rattle.fare_service.specs.declared.faults.RunFault.{RunFault}
-use Rattle.fare_service.specs.declared.faults.RunFault.TheVariants.{Workers, NoMemory, Gather, Unlent}
+use Rattle.fare_service.specs.declared.faults.RunFault.TheVariants.{Workers, NoMemory, Gather}
+use Rattle.fare_service.specs.declared.faults.RunFault.TheVariants.{Unlent}
 use Rattle.fare_service.specs.Lending.{IsUnlent}
-use Rattle.fare_service.specs.Closing.{TellsFirst}
+use Rattle.fare_service.specs.Closing.{ReportsFirst}
 use Rattle.fare_service.specs.Faults.{IsGatherFault}
 use Rattle.fare_service.specs.ServiceView.{ServiceView, shards_of}
 use Rattle.fare_service.specs.ShareView.{ShareView}
@@ -17,5 +18,5 @@ WasNotGathered service workers NoMemory = Unit {0}
 WasNotGathered service workers (Gather fault) =
     (shares : List ShareView) × (length shares ≡ workers) × All (IsShareOf service) shares
     × IsGatherFault (shards_of service) shares fault
-    × TellsFirst service.books (length service.uploads) shares fault
+    × ReportsFirst service.books (length service.uploads) shares fault
 WasNotGathered service workers (Unlent unlent) = IsUnlent service.uploads unlent.upload

@@ -5,7 +5,7 @@ use Rattle.shared_books.specs.Drawing.{Drawing}
 use Rattle.shared_books.specs.Passes.{SharedBookView}
 
 -- a service: its table, the drawing of its uploads, a shared book for each shard, and the bytes of
--- each upload where they are known
+-- each upload if they are known
 pub record ServiceView : Type 0 where
   pub table : Fares
   pub drawing : Drawing

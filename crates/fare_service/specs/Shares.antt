@@ -78,8 +78,8 @@ pub record IsWorkOf (shards : ℕ) (files : List (List ℕ)) (w : Worked) : Type
   pub ended : IsEndOf shards (file_at files w.upload) batches rest w.visits w.end
   pub entered : All (IsEntered shards) w.visits
 
--- what was done with an upload of a service: its visits and its end are those of the bytes with which
--- it was lent
+-- what was done with an upload of a service: its visits and its end are those of the bytes with
+-- which it was lent
 pub record IsWorked (service : ServiceView) (w : Worked) : Type 0 where
   pub within : w.upload < length service.uploads
   pub file : List ℕ

@@ -9,14 +9,14 @@ pub struct Unlent {
 }
 
 /// Uploads that are lent, each by its number, to several threads at once. A list of loaded uploads
-/// lends itself. Another source may load an upload when it is lent: no more than one upload a worker
-/// lies in memory then.
+/// lends itself. Another source may load an upload when it is lent: no more than one upload a
+/// worker lies in memory then.
 pub trait LentUploads {
     ghost use Rattle.std.specs.Prelude.{◌≡◌, ◌<◌, ℕ, List, Option, None, Some, IfNone, IfSome};
     ghost use Rattle.std.specs.Prelude.{length, slice_get};
     ghost use Rattle.fare_service.specs.Lending.{IsLentAs};
 
-    // The bytes of each upload, in their order, where they are known.
+    // The bytes of each upload, in their order, if they are known.
     ghost known: { Self → List (Option (List ℕ)) };
 
     /// How many uploads there are.

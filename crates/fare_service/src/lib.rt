@@ -16,4 +16,4 @@ pub use outcome::Outcome;
 pub use report_texts::UploadEnd;
 pub use service::Service;
 pub use service::share::{Done, Share};
-pub use service::working::{Gate, OpenGate};
+pub use service::working::{Gatekeeper, OpenGatekeeper};

@@ -9,7 +9,6 @@ use std::marker::Model;
 pub struct Outcome {
     pub(crate) books: Vec<ShardBook>,
     pub(crate) ends: Vec<UploadEnd>,
-    /// The totals of each worker.
     pub(crate) workers: Vec<Totals>,
     /// The totals of all workers.
     pub(crate) totals: Totals,

@@ -2,7 +2,7 @@
 
 use crate::sample::{table, uploads};
 use crate::stop::{Case, Stop, again, promise, twice};
-use fare_service::{Gate, OpenGate, Outcome, PrintFault, Service, UploadEnd};
+use fare_service::{Gatekeeper, OpenGatekeeper, Outcome, PrintFault, Service, UploadEnd};
 use sample_table::{NEW_YORK_STATEMENT, REPORT, bytes_of};
 use std::alloc::Global;
 use std::marker::Sync;
@@ -11,14 +11,14 @@ use std::sync::Wait;
 use std::thread::Threads;
 use tap_views::Token;
 
-/// A gate that prints which uploads have ended, so that whoever refuses memory knows what was
+/// A gatekeeper that prints which uploads have ended, so that whoever refuses memory knows what was
 /// refused before and what after.
 #[derive(Drop)]
 struct Printing<'a, R> {
     rt: &'a R,
 }
 
-impl<R: Print> Gate for Printing<'_, R> {
+impl<R: Print> Gatekeeper for Printing<'_, R> {
     type Begun = u32;
 
     ghost begins = { λ begun. begun };
@@ -39,7 +39,7 @@ fn outcome_of<R: Threads + Wait + RandomSource + Sync>(
     uploads: &[Vec<u8>],
 ) -> Result<Outcome, Stop> {
     let (service, share) = Service::open(rt, alloc, table(alloc)?, 8, uploads)?;
-    Ok(service.run(rt, alloc, share, 1, &OpenGate)?)
+    Ok(service.run(rt, alloc, share, 1, &OpenGatekeeper)?)
 }
 
 /// A service opens, and its first share is gathered: both uploads are undrawn.
@@ -82,15 +82,15 @@ fn posted(outcome: &Outcome) -> Result<(u128, bool), Stop> {
 }
 
 /// One worker posts all, or reports less, and the books have what the ends say.
-fn runs<R: Threads + Wait + RandomSource + Sync + Print, G: Gate + Sync>(
+fn runs<R: Threads + Wait + RandomSource + Sync + Print, G: Gatekeeper + Sync>(
     rt: &R,
     alloc: Global,
     uploads: &[Vec<u8>],
-    gate: &G,
+    keeper: &G,
 ) -> Case {
     let (service, share) = Service::open(rt, alloc, table(alloc)?, 8, uploads)?;
     let _printed = println!(rt; "service opened");
-    let outcome = service.run(rt, alloc, share, 1, gate)?;
+    let outcome = service.run(rt, alloc, share, 1, keeper)?;
     let (taps, whole) = posted(&outcome)?;
     promise(
         outcome.totals().taps == taps,
@@ -114,7 +114,7 @@ pub(crate) fn run<R: Threads + Wait + RandomSource + Sync + Print>(rt: &R, alloc
     let uploads = uploads(alloc)?;
     let first = runs(rt, alloc, uploads.as_slice(), &Printing { rt });
     if first == Err(Stop::Refused) || first == Err(Stop::Less) {
-        let second = runs(rt, alloc, uploads.as_slice(), &OpenGate);
+        let second = runs(rt, alloc, uploads.as_slice(), &OpenGatekeeper);
         promise(second == Ok(()), "a second run does not post all")?;
     }
     first

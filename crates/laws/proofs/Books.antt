@@ -18,9 +18,9 @@ use Rattle.tap_views.specs.declared.token.Token.{Token}
 use Rattle.tap_views.proofs.TokenLemmas.{same_token}
 use Rattle.ledger_check.specs.Ledger.{IsLedgerOf, IsPostable}
 use Rattle.fare_texts.specs.Ledger.{IsLedgerOfBooks as IsWrittenOf, IsLedgerOver}
-use Rattle.laws.specs.Written.{AreBooksOf, AreLetters, AreShort, CanBeTold, told_entries}
+use Rattle.laws.specs.Written.{AreBooksOf, AreLetters, AreShort, CanBePrinted, reported_entries}
 use Rattle.laws.proofs.Owned.{own_is_legal}
-use Rattle.laws.proofs.Telling.{written_is_read}
+use Rattle.laws.proofs.LedgerTokens.{written_is_read}
 
 same_or_not : (a b : ℕ) → (a ≡ b) ⊎ (a ≢ b)
 same_or_not zero zero = inl refl
@@ -115,12 +115,12 @@ from_none fares shards books each k book is =
 pub books_are_read : (fares : Fares) (shards : ℕ) (books : List Book) (only : Option Token)
     (text : List ℕ) → AreBooksOf fares shards books
     → AllByRecursion IsPostable (all_entries books) → AreLetters fares.meaning.modes
-    → length (told_entries only (all_entries books)) ≤ 2 ^ 62
+    → length (reported_entries only (all_entries books)) ≤ 2 ^ 62
     → AreShort text → IsWrittenOf books only text
-    → IsLedgerOf fares (told_entries only (all_entries books)) text
+    → IsLedgerOf fares (reported_entries only (all_entries books)) text
 books_are_read fares shards books only text each postable names few short written =
     let table : written.first.table ≡ fares = (each 0 written.first written.stands_first).0 in
-    let can : CanBeTold fares only (all_entries books) = record {
+    let can : CanBePrinted fares only (all_entries books) = record {
       legal = λ token. legal_from fares shards token 0 books (from_none fares shards books each);
       postable = postable;
       names = names;

@@ -195,13 +195,13 @@ pub exchanged : (ends front : List (List ℕ)) (a : List ℕ) (middle : List (Li
 exchanged ends front a middle b back text merged = record {
   ends = merged.ends;
   parts = later;
-  told = record {
-    ends_told = merged.told.ends_told;
-    ends_fit = merged.told.ends_fit;
-    parts_told = texts;
-    parts_fit = All-permutation IsPartReport merged.parts later moved merged.told.parts_fit;
+  reported = record {
+    ends_reported = merged.reported.ends_reported;
+    ends_fit = merged.reported.ends_fit;
+    parts_reported = texts;
+    parts_fit = All-permutation IsPartReport merged.parts later moved merged.reported.parts_fit;
     taps = sum_by-IsPermutation (λ (part : Report). part.totals.taps) merged.parts later moved
-        ∙ merged.told.taps;
+        ∙ merged.reported.taps;
   };
   whole = merged.whole;
   is = record {
@@ -230,7 +230,7 @@ exchanged ends front a middle b back text merged = record {
 }
   where
     two : AreTwo merged.parts front a middle b back
-    two = two_there merged.parts front a middle b back merged.told.parts_told
+    two = two_there merged.parts front a middle b back merged.reported.parts_reported
 
     later : List Report
     later = with_two two.before two.other two.between two.one two.behind

@@ -100,7 +100,7 @@ module _ {K : Type 0} (at : K → Entry → Bool) (law : SumsAdd) where
 
 -- ---- rising keys
 module _ {K : Type 0} (cmp : K → K → Ordering) (key : Entry → K) (at : K → Entry → Bool)
-    (tells : (k : K) (entry : Entry) → at k entry ≡ is_eq (cmp (key entry) k))
+    (reports : (k : K) (entry : Entry) → at k entry ≡ is_eq (cmp (key entry) k))
     (above : (k other q : K) → is_eq (cmp q k) ≡ true → cmp k other ≡ Less
     → is_eq (cmp q other) ≡ false)
     (same : (k : K) → is_eq (cmp k k) ≡ true) where
@@ -109,7 +109,7 @@ module _ {K : Type 0} (cmp : K → K → Ordering) (key : Entry → K) (at : K �
       → AllByRecursion (λ other. at other entry ≡ false) keys
   others k [] entry is rise = tt
   others k (other ∷ keys) entry is rise = (
-    tells other entry ∙ above k other (key entry) is rise.0,
+    reports other entry ∙ above k other (key entry) is rise.0,
     others k keys entry is rise.1,
   )
 
@@ -119,8 +119,8 @@ module _ {K : Type 0} (cmp : K → K → Ordering) (key : Entry → K) (at : K �
       → (is_member (eq_by_cmp cmp) keys (key entry) ≡ true → HasOneKey at keys entry)
       → HasOneKey at (k ∷ keys) entry
   one_by k keys entry true is rise member rest =
-      inl (tells k entry ∙ is, others k keys entry is rise)
-  one_by k keys entry false is rise member rest = inr (tells k entry ∙ is, rest member)
+      inl (reports k entry ∙ is, others k keys entry is rise)
+  one_by k keys entry false is rise member rest = inr (reports k entry ∙ is, rest member)
 
   one_of : (keys : List K) (entry : Entry) → IsStrictlySortedBy cmp keys
       → is_member (eq_by_cmp cmp) keys (key entry) ≡ true → HasOneKey at keys entry
@@ -166,8 +166,8 @@ module _ {K : Type 0} (cmp : K → K → Ordering) (key : Entry → K) (at : K �
       (members entries entries (λ q is. is)))
 
 -- ---- validators and tokens
-number_tells : (k : ℕ) (entry : Entry) → is_at k entry ≡ is_eq (nat_cmp (validator_of entry) k)
-number_tells k entry = grind (arith, nat_tests)
+number_reports : (k : ℕ) (entry : Entry) → is_at k entry ≡ is_eq (nat_cmp (validator_of entry) k)
+number_reports k entry = grind (arith, nat_tests)
 
 number_above : (k other q : ℕ) → is_eq (nat_cmp q k) ≡ true → nat_cmp k other ≡ Less
     → is_eq (nat_cmp q other) ≡ false
@@ -176,25 +176,25 @@ number_above k other q is less = grind (arith, nat_tests)
 token_same : (k : Token) → is_eq (token_cmp k k) ≡ true
 token_same k = ap is_eq (tied_itself token_cmp-total k)
 
-tells_by : (token k : Token) (a b : Bool) → token_eq token k ≡ a → is_eq (token_cmp token k) ≡ b
+reports_by : (token k : Token) (a b : Bool) → token_eq token k ≡ a → is_eq (token_cmp token k) ≡ b
     → a ≡ b
-tells_by token k true true is also = refl
-tells_by token k true false is also =
+reports_by token k true true is also = refl
+reports_by token k true false is also =
     let yes : is_eq (token_cmp token k) ≡ true =
     ap (λ (other : Token). is_eq (token_cmp token other)) (sym (same_token token k is))
     ∙ token_same token
     in
     absurd (true≢false (sym yes ∙ also))
-tells_by token k false true is also =
+reports_by token k false true is also =
     let yes : token_eq token k ≡ true =
     ap (λ (other : Token). token_eq token other)
     (sym (token_cmp-ties token k ((Equal-is (token_cmp token k)).0 also))) ∙ token_eq-refl token in
     absurd (true≢false (sym yes ∙ is))
-tells_by token k false false is also = refl
+reports_by token k false false is also = refl
 
-token_tells : (k : Token) (entry : Entry) → is_of k entry ≡ is_eq (token_cmp (token_of entry) k)
-token_tells k entry =
-    tells_by entry.token k (token_eq entry.token k) (is_eq (token_cmp entry.token k)) refl refl
+token_reports : (k : Token) (entry : Entry) → is_of k entry ≡ is_eq (token_cmp (token_of entry) k)
+token_reports k entry =
+    reports_by entry.token k (token_eq entry.token k) (is_eq (token_cmp entry.token k)) refl refl
 
 token_above : (k other q : Token) → is_eq (token_cmp q k) ≡ true → token_cmp k other ≡ Less
     → is_eq (token_cmp q other) ≡ false
@@ -214,7 +214,7 @@ unfolding sums_by_validator validators entries_of_validator
 validators_add numbers law entries =
     let keys = rising nat_cmp (map validator_of entries) in
     let risen = (numbers (map validator_of entries) keys).1 refl in
-    sym (keys_add nat_cmp validator_of is_at number_tells number_above same_key law keys entries
+    sym (keys_add nat_cmp validator_of is_at number_reports number_above same_key law keys entries
     risen.rises risen.same)
     ∙ ap add_all (sym (seconds (λ k. sums (filter (is_at k) entries)) keys))
 
@@ -224,6 +224,6 @@ unfolding sums_by_token tokens own
 tokens_add names law entries =
     let keys = rising token_cmp (map token_of entries) in
     let risen = (names (map token_of entries) keys).1 refl in
-    sym (keys_add token_cmp token_of is_of token_tells token_above token_same law keys entries
+    sym (keys_add token_cmp token_of is_of token_reports token_above token_same law keys entries
     risen.rises risen.same)
     ∙ ap add_all (sym (seconds (λ k. sums (filter (is_of k) entries)) keys))

@@ -232,7 +232,7 @@ line_ends_once fares token place entry why line letters is = record {
   lacks = (both (head_free token place)
       (both (free is.moment (moment_lacks entry.moment is.moment is.is))
       (both (fields_free fares entry letters)
-      (free is.reason_fields (reason_fields_lacks why is.reason_fields is.told))))).lacks;
+      (free is.reason_fields (reason_fields_lacks why is.reason_fields is.explained))))).lacks;
   shown = is.shown ∙ five (line_head token place) is.moment (entry_fields fares entry)
       is.reason_fields (10 ∷ []);
 }

@@ -130,7 +130,8 @@ pub record LedgerTexts (fares : Fares) (history : List Entry) (list : List Token
   pub lines : List TokenLine
   pub each : AllByRecursion IsLedgerEntryLine lines
   pub shown : text ≡ text_of lines
-  pub told : (token : Token) → AreLedgerLines fares token (own_if (among list token) token history)
+  pub reported : (token : Token)
+      → AreLedgerLines fares token (own_if (among list token) token history)
       (text_of (lines_of_token token lines))
 
 pub eq_test : (a b : Token) → eq_by_cmp token_cmp a b ≡ true → a ≡ b
@@ -163,7 +164,7 @@ ledger_texts : (fares : Fares) (history : List Entry) (list : List Token) (text 
     → LedgerTexts fares history list text
 unfolding IsStrictlySortedBy
 ledger_texts fares history [] text letters fit rise are =
-    record { lines = []; each = tt; shown = are; told = λ token. refl }
+    record { lines = []; each = tt; shown = are; reported = λ token. refl }
 ledger_texts fares history (first ∷ list) text letters fit rise are =
     let (mine, rest, is, more, shown) = are in
     let here = token_texts fares first [] (own first history) mine letters fit.0 is in
@@ -172,19 +173,19 @@ ledger_texts fares history (first ∷ list) text letters fit rise are =
     ≡ lines_of_token token here.lines ++ lines_of_token token behind.lines =
     λ token. filter-append (λ (line : TokenLine). token_eq token line.token) here.lines
     behind.lines in
-    let told : (token : Token) (t : Bool) → eq_by_cmp token_cmp token first ≡ t
+    let reported : (token : Token) (t : Bool) → eq_by_cmp token_cmp token first ≡ t
     → AreLedgerLines fares token (own_if (t || among list token) token history)
     (text_of (lines_of_token token (here.lines ++ behind.lines))) = λ token t is_t.
-    told_by token t is_t here behind (split token) is rise.0 in
+    reported_by token t is_t here behind (split token) is rise.0 in
     record {
       lines = here.lines ++ behind.lines;
       each = each-append IsLedgerEntryLine here.lines behind.lines here.each behind.each;
       shown = shown ∙ (λ i. here.shown i ++ behind.shown i)
           ∙ sym (flat_map-append (λ (line : TokenLine). line.text) here.lines behind.lines);
-      told = λ token. told token (eq_by_cmp token_cmp token first) refl;
+      reported = λ token. reported token (eq_by_cmp token_cmp token first) refl;
     }
   where
-    told_by : (token : Token) (t : Bool) → eq_by_cmp token_cmp token first ≡ t
+    reported_by : (token : Token) (t : Bool) → eq_by_cmp token_cmp token first ≡ t
         → {mine rest : List ℕ} (here : TokenTexts first mine)
         → (behind : LedgerTexts fares history list rest)
         → lines_of_token token (here.lines ++ behind.lines)
@@ -193,12 +194,12 @@ ledger_texts fares history (first ∷ list) text letters fit rise are =
         → AllByRecursion (λ other. token_cmp first other ≡ Less) list
         → AreLedgerLines fares token (own_if (t || among list token) token history)
         (text_of (lines_of_token token (here.lines ++ behind.lines)))
-    told_by token true is_t here behind split is less =
+    reported_by token true is_t here behind split is less =
         let same : token ≡ first = eq_test token first is_t in
         let none : text_of (lines_of_token first behind.lines) ≡ [] =
         subst (λ b. AreLedgerLines fares first (own_if b first history)
         (text_of (lines_of_token first behind.lines))) (not_among first list less)
-        (behind.told first) in
+        (behind.reported first) in
         subst (λ token. AreLedgerLines fares token (own token history)
         (text_of (lines_of_token token (here.lines ++ behind.lines)))) (sym same)
         (subst (λ text. AreLedgerLines fares first (own first history) text)
@@ -209,12 +210,12 @@ ledger_texts fares history (first ∷ list) text letters fit rise are =
         (lines_of_token first here.lines) (lines_of_token first behind.lines))
         ∙ sym (ap text_of (filter-append (λ (line : TokenLine). token_eq first line.token)
         here.lines behind.lines))) is)
-    told_by token false is_t here behind split is less =
+    reported_by token false is_t here behind split is less =
         subst (λ lines. AreLedgerLines fares token (own_if (among list token) token history)
         (text_of lines))
         (sym (split ∙ ap (λ lines. lines ++ lines_of_token token behind.lines)
         (none_its token first here.lines (eq_apart token first is_t) here.its)))
-        (behind.told token)
+        (behind.reported token)
 
 -- ---- the tokens of a history
 pub none_own : (history : List Entry) (token : Token)
@@ -250,9 +251,9 @@ tokens_fit history fit = recursion_from_All Fits (tokens history)
     (All-map Fits token_of history
     (All-weaker EntryFits (λ (e : Entry). Fits e.token) (λ e fits. fits.1) history fit)))
 
-own_told : RisingTokens → (history : List Entry) (token : Token)
+own_reported : RisingTokens → (history : List Entry) (token : Token)
     → own_if (among (tokens history) token) token history ≡ own token history
-own_told risen history token = by_test (among (tokens history) token) refl
+own_reported risen history token = by_test (among (tokens history) token) refl
   where
     by_test : (t : Bool) → among (tokens history) token ≡ t
         → own_if t token history ≡ own token history
@@ -294,7 +295,8 @@ ledger_lines risen fares history file lines letters fit over part token =
     subst (λ lines. AreLedgerLines fares token (own token history)
     (text_of (lines_of_token token lines))) (sym same)
     (subst (λ entries. AreLedgerLines fares token entries
-    (text_of (lines_of_token token texts.lines))) (own_told risen history token) (texts.told token))
+    (text_of (lines_of_token token texts.lines))) (own_reported risen history token)
+    (texts.reported token))
   where
     one_way : (lines others : List TokenLine) → AllByRecursion IsLedgerEntryLine lines
         → AllByRecursion IsLedgerEntryLine others → text_of lines ≡ text_of others → lines ≡ others

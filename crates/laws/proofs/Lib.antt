@@ -26,7 +26,7 @@ mod Sets
 mod SplitFiles
 mod States
 mod SumsFit
-pub mod Telling
+pub mod LedgerTokens
 mod TokenMoves
 mod Tokens
 mod Validators

@@ -1,4 +1,4 @@
--- The lines before a moment are told by the taps before it.
+-- The lines before a moment depend on the taps before it alone.
 use Rattle.std.proofs.Common.{◌≡◌, ℕ, Bool, true, false, cond, List, [], ◌∷◌, ◌++◌, map, filter}
 use Rattle.std.proofs.Common.{refl, sym, ap, subst, ◌∙◌, arith, All, nat_lt}
 use Rattle.std.specs.Prelude.{slice_index_or}

@@ -187,9 +187,9 @@ assembled : (fares : Fares) (history : List Entry) (list : List Token) (lines : 
     (text_of (lines_of_token token lines)))
     → AreLinesOfEach fares history list (text_of lines)
 unfolding IsStrictlySortedBy
-assembled fares history [] [] rise sorted stand told = refl
-assembled fares history [] (line ∷ lines) rise sorted stand told = absurd stand.0
-assembled fares history (token ∷ list) lines rise sorted stand told =
+assembled fares history [] [] rise sorted stand reported = refl
+assembled fares history [] (line ∷ lines) rise sorted stand reported = absurd stand.0
+assembled fares history (token ∷ list) lines rise sorted stand reported =
     let out = least_out token lines rise (least_of token list lines sorted.0 stand) in
     let behind : AllByRecursion (λ line. Stands line.token (token ∷ list)) out.others =
     each-back (λ (line : TokenLine). Stands line.token (token ∷ list))
@@ -198,13 +198,13 @@ assembled fares history (token ∷ list) lines rise sorted stand told =
     out.whole stand) in (
       text_of (lines_of_token token lines),
       text_of out.others,
-      told token (inl refl),
+      reported token (inl refl),
       assembled fares history list out.others out.rise sorted.1
           (stand_behind token list out.others behind out.apart)
           (λ other there. subst (λ some. AreLedgerLines fares other (own other history)
           (text_of some)) (sym (out.same other
           (less_apart token other (above token other list sorted.0 there))))
-          (told other (inr there))),
+          (reported other (inr there))),
       ap text_of out.whole
           ∙ flat_map-append (λ (line : TokenLine). line.text) (lines_of_token token lines)
           out.others,
@@ -338,10 +338,10 @@ module _ (risen : RisingTokens) (fares : Fares) (uploads : List (List ℕ)) (his
     (letters : AreLetters fares.meaning.modes) (files : List (List ℕ))
     (overs : AllZip (λ part file. IsLedgerOver fares part.history None file) parts files)
     (text : List ℕ) (merged : IsMergedLedger files text) where
-  told_of : (place : ℕ) → (at : PartAt fares parts merged.parts place) → (token : Token)
+  reported_of : (place : ℕ) → (at : PartAt fares parts merged.parts place) → (token : Token)
       → AreLedgerLines fares token (own token at.part.history)
       (text_of (lines_of_token token at.lines))
-  told_of place at token =
+  reported_of place at token =
       ledger_lines risen fares at.part.history at.file at.lines letters
       (entries_fit fares uploads history parts split place at.part at.there) at.over at.is token
 
@@ -362,7 +362,7 @@ module _ (risen : RisingTokens) (fares : Fares) (uploads : List (List ℕ)) (his
       (subst (λ entries. AreLedgerLines fares token entries
       (text_of (lines_of_token token at.lines)))
       (own_there fares uploads history parts split token at.part at.there)
-      (told_of number at token))
+      (reported_of number at token))
     where
       elsewhere : (other : ℕ) (some : List TokenLine)
           → slice_get (map (lines_of_token token) merged.parts) other ≡ Some some
@@ -379,7 +379,7 @@ module _ (risen : RisingTokens) (fares : Fares) (uploads : List (List ℕ)) (his
           subst (λ entries. AreLedgerLines fares token entries
           (text_of (lines_of_token token at.lines)))
           (own_elsewhere fares uploads history parts split token other at.part at.there apart)
-          (told_of other at token) in
+          (reported_of other at token) in
           is ∙ ap (lines_of_token token) same
           ∙ no_text (lines_of_token token at.lines)
           (kept_each IsLedgerEntryLine (λ line. token_eq token line.token) at.lines

@@ -26,27 +26,27 @@ use Rattle.part_reports.specs.Reports.{HasTapNumbers, IsMerged, IsPartReport, Re
 use Rattle.part_reports.specs.Reports.{all_ends, report_text, tokens_of_reports}
 use Rattle.part_reports.specs.Reports.{validators_of_reports, sums_of_validator as listed_at}
 use Rattle.part_reports.proofs.TextsRead.{end_lines_joined, lines_whole}
-use Rattle.part_reports.proofs.UniqueTexts.{told as told_of_part}
+use Rattle.part_reports.proofs.UniqueTexts.{reported as reported_of_part}
 use Rattle.laws.specs.Sizes.{CanBeWritten, HasSize, HaveBoundedTerms}
 use Rattle.laws.specs.Split.{AreTokensOf, AreValidatorsOf, IsSplit, Part, pairs_of_parts, sums_at}
 use Rattle.laws.proofs.CentsFit.{entries_few}
 use Rattle.laws.proofs.FieldsFit.{entries_fit}
 use Rattle.laws.proofs.PartSums.{by_validator, listed_parts, members}
-use Rattle.laws.proofs.ReportTexts.{end_of, ends_fit, same_lines, same_text, told_by}
+use Rattle.laws.proofs.ReportTexts.{end_of, ends_fit, same_lines, same_text, reported_by}
 use Rattle.laws.proofs.SumsFit.{CanBeSummed, CostsFew, EntryFits, summed}
 
--- reports that tell something else have other texts
+-- reports of other numbers have other texts
 abbrev pub TextsDiffer : Type 0
 TextsDiffer = (a b : Report) → HasTapNumbers a → HasTapNumbers b → report_text a ≡ report_text b
     → a ≡ b
 
--- the report tells the part's totals, validators and tokens
-pub record TellsOf (part : Part) (told : Report) : Type 0 where
-  pub totals : told.totals ≡ sums part.history
-  pub validators : told.validators ≡ sums_by_validator part.history
-  pub tokens : told.tokens ≡ sums_by_token part.history
+-- the report contains the part's totals, validators and tokens
+pub record ReportsOf (part : Part) (reported : Report) : Type 0 where
+  pub totals : reported.totals ≡ sums part.history
+  pub validators : reported.validators ≡ sums_by_validator part.history
+  pub tokens : reported.tokens ≡ sums_by_token part.history
 
--- what the part's report tells has 64 bits
+-- the numbers of the part's report have 64 bits
 pub record IsWritable (part : Part) : Type 0 where
   pub number : length part.files < 2 ^ 64
   pub sizes : All HasSize part.files
@@ -75,14 +75,15 @@ writable fares uploads history parts split bounds can =
     all_writable parts (entries_fit fares uploads history parts split)
     (entries_few fares uploads history parts split bounds) can
 
--- what the report of the part's history tells
-abbrev pub own_told : (part : Part) (ends : List UploadEnd) → Report
-own_told part ends =
-    told_by ends (sums part.history) (sums_by_validator part.history) (sums_by_token part.history)
+-- what the report of the part's history contains
+abbrev pub own_reported : (part : Part) (ends : List UploadEnd) → Report
+own_reported part ends =
+    reported_by ends (sums part.history) (sums_by_validator part.history)
+    (sums_by_token part.history)
 
-pub own_can_be_told : (part : Part) (ends : List UploadEnd) → IsWritable part
-    → ArePlainEnds part.files ends → HasTapNumbers (own_told part ends)
-own_can_be_told part ends can plain = record {
+pub own_can_be_printed : (part : Part) (ends : List UploadEnd) → IsWritable part
+    → ArePlainEnds part.files ends → HasTapNumbers (own_reported part ends)
+own_can_be_printed part ends can plain = record {
   number = omega (
     arith,
     can.number,
@@ -99,12 +100,13 @@ own_can_be_told part ends can plain = record {
 }
 
 module _ (differ : TextsDiffer) where
-  tells : (part : Part) (told : Report) → IsWritable part → IsPartReport told
-      → IsReportOver part.files part.history (report_text told) → TellsOf part told
-  tells part told can is over =
-      let same : own_told part over.ends ≡ told =
-      differ (own_told part over.ends) told (own_can_be_told part over.ends can over.of_uploads)
-      (told_of_part told is)
+  reports : (part : Part) (reported : Report) → IsWritable part → IsPartReport reported
+      → IsReportOver part.files part.history (report_text reported) → ReportsOf part reported
+  reports part reported can is over =
+      let same : own_reported part over.ends ≡ reported =
+      differ (own_reported part over.ends) reported
+      (own_can_be_printed part over.ends can over.of_uploads)
+      (reported_of_part reported is)
       (sym (over.shown ∙ same_text over.ends (sums part.history)
       (sums_by_validator part.history) (sums_by_token part.history))) in
       record {
@@ -113,39 +115,40 @@ module _ (differ : TextsDiffer) where
         tokens = ap (λ (r : Report). r.tokens) (sym same);
       }
 
-  all_tell : (parts : List Part) (told : List Report) → AllByRecursion IsWritable parts
-      → AllByRecursion IsPartReport told
+  all_report : (parts : List Part) (reported : List Report) → AllByRecursion IsWritable parts
+      → AllByRecursion IsPartReport reported
       → AllZip (λ part file. IsReportOver part.files part.history file) parts
-      (map report_text told) → AllZip TellsOf parts told
-  all_tell [] [] can is over = tt
-  all_tell [] (t ∷ told) can is over = absurd over
-  all_tell (p ∷ parts) [] can is over = absurd over
-  all_tell (p ∷ parts) (t ∷ told) can is over =
-      (tells p t can.0 is.0 over.0, all_tell parts told can.1 is.1 over.1)
+      (map report_text reported) → AllZip ReportsOf parts reported
+  all_report [] [] can is over = tt
+  all_report [] (t ∷ reported) can is over = absurd over
+  all_report (p ∷ parts) [] can is over = absurd over
+  all_report (p ∷ parts) (t ∷ reported) can is over =
+      (reports p t can.0 is.0 over.0, all_report parts reported can.1 is.1 over.1)
 
-pub totals_told : (parts : List Part) (told : List Report) → AllZip TellsOf parts told
-    → map (λ t. t.totals) told ≡ map (λ p. sums p.history) parts
-totals_told [] [] tell = refl
-totals_told [] (t ∷ told) tell = absurd tell
-totals_told (p ∷ parts) [] tell = absurd tell
-totals_told (p ∷ parts) (t ∷ told) tell =
-    λ i. tell.0.totals i ∷ totals_told parts told tell.1 i
+pub totals_reported : (parts : List Part) (reported : List Report) → AllZip ReportsOf parts reported
+    → map (λ t. t.totals) reported ≡ map (λ p. sums p.history) parts
+totals_reported [] [] agreeing = refl
+totals_reported [] (t ∷ reported) agreeing = absurd agreeing
+totals_reported (p ∷ parts) [] agreeing = absurd agreeing
+totals_reported (p ∷ parts) (t ∷ reported) agreeing =
+    λ i. agreeing.0.totals i ∷ totals_reported parts reported agreeing.1 i
 
-pub validators_told : (parts : List Part) (told : List Report) → AllZip TellsOf parts told
-    → validators_of_reports told ≡ by_validator parts
-validators_told [] [] tell = refl
-validators_told [] (t ∷ told) tell = absurd tell
-validators_told (p ∷ parts) [] tell = absurd tell
-validators_told (p ∷ parts) (t ∷ told) tell =
-    λ i. tell.0.validators i ++ validators_told parts told tell.1 i
+pub validators_reported : (parts : List Part) (reported : List Report)
+    → AllZip ReportsOf parts reported
+    → validators_of_reports reported ≡ by_validator parts
+validators_reported [] [] agreeing = refl
+validators_reported [] (t ∷ reported) agreeing = absurd agreeing
+validators_reported (p ∷ parts) [] agreeing = absurd agreeing
+validators_reported (p ∷ parts) (t ∷ reported) agreeing =
+    λ i. agreeing.0.validators i ++ validators_reported parts reported agreeing.1 i
 
-pub tokens_told : (parts : List Part) (told : List Report) → AllZip TellsOf parts told
-    → tokens_of_reports told ≡ pairs_of_parts parts
-tokens_told [] [] tell = refl
-tokens_told [] (t ∷ told) tell = absurd tell
-tokens_told (p ∷ parts) [] tell = absurd tell
-tokens_told (p ∷ parts) (t ∷ told) tell =
-    λ i. tell.0.tokens i ++ tokens_told parts told tell.1 i
+pub ledger_tokens : (parts : List Part) (reported : List Report) → AllZip ReportsOf parts reported
+    → tokens_of_reports reported ≡ pairs_of_parts parts
+ledger_tokens [] [] agreeing = refl
+ledger_tokens [] (t ∷ reported) agreeing = absurd agreeing
+ledger_tokens (p ∷ parts) [] agreeing = absurd agreeing
+ledger_tokens (p ∷ parts) (t ∷ reported) agreeing =
+    λ i. agreeing.0.tokens i ++ ledger_tokens parts reported agreeing.1 i
 
 -- ---- the ends of the uploads
 texts_joined : (number : ℕ) (ends : List (List UploadEnd))
@@ -159,35 +162,35 @@ module _ (differ : TextsDiffer) (risen : RisingNumbers) (uploads : List (List �
     (parts : List Part) (ends : List UploadEnd) (plain : ArePlainEnds uploads ends)
     (sizes : All HasSize uploads) (can : All IsWritable parts)
     (end_files report_files : List (List ℕ))
-    (told_ends : flat_map (λ file. file) end_files ≡ upload_lines 0 ends)
-    (told_parts : AllZip (λ part file. IsReportOver part.files part.history file) parts
+    (reported_ends : flat_map (λ file. file) end_files ≡ upload_lines 0 ends)
+    (reported_parts : AllZip (λ part file. IsReportOver part.files part.history file) parts
     report_files) (text : List ℕ) (is : IsMerged end_files report_files text) where
-  each_tells : AllZip TellsOf parts is.parts
-  each_tells =
+  each_reports : AllZip ReportsOf parts is.parts
+  each_reports =
       let Z : List (List ℕ) → Type 0 =
       AllZip (λ part file. IsReportOver part.files part.history file) parts in
-      all_tell differ parts is.parts (recursion_from_All IsWritable parts can)
-      (recursion_from_All IsPartReport is.parts is.told.parts_fit)
-      (subst Z is.told.parts_told told_parts)
+      all_report differ parts is.parts (recursion_from_All IsWritable parts can)
+      (recursion_from_All IsPartReport is.parts is.reported.parts_fit)
+      (subst Z is.reported.parts_reported reported_parts)
 
   same_ends : all_ends is.ends ≡ map end_of ends
   same_ends =
-      lines_whole 0 (all_ends is.ends) (map end_of ends) is.told.ends_fit
+      lines_whole 0 (all_ends is.ends) (map end_of ends) is.reported.ends_fit
       (All-from_recursion IsUploadEnd (map end_of ends)
       (ends_fit uploads ends (recursion_from_All HasSize uploads sizes) plain))
-      (sym (ap (flat_map (λ file. file)) is.told.ends_told ∙ texts_joined 0 is.ends)
-      ∙ told_ends ∙ same_lines 0 ends)
+      (sym (ap (flat_map (λ file. file)) is.reported.ends_reported ∙ texts_joined 0 is.ends)
+      ∙ reported_ends ∙ same_lines 0 ends)
 
   pub are_tokens : AreTokensOf parts is.whole.tokens
   are_tokens = record {
     moved = subst (λ (list : List (Token × Sums)). IsPermutation list is.whole.tokens)
-        (tokens_told parts is.parts each_tells) is.is.tokens_moved;
+        (ledger_tokens parts is.parts each_reports) is.is.tokens_moved;
     rise = is.is.tokens_rise;
   }
 
   pub are_validators : AreValidatorsOf parts is.whole.validators
   are_validators =
-      let listed = validators_told parts is.parts each_tells in
+      let listed = validators_reported parts is.parts each_reports in
       record {
         rise = is.is.validators_rise;
         same = λ v. is.is.validators_same v
@@ -203,8 +206,8 @@ module _ (differ : TextsDiffer) (risen : RisingNumbers) (uploads : List (List �
       is.whole.validators is.whole.tokens
   shown =
       let totals : is.whole.totals ≡ add_all (map (λ part. sums part.history) parts) =
-      is.is.totals ∙ ap add_all (totals_told parts is.parts each_tells) in
-      let whole : is.whole ≡ told_by ends (add_all (map (λ part. sums part.history) parts))
+      is.is.totals ∙ ap add_all (totals_reported parts is.parts each_reports) in
+      let whole : is.whole ≡ reported_by ends (add_all (map (λ part. sums part.history) parts))
       is.whole.validators is.whole.tokens =
       λ i. record {
         ends = (is.is.ends ∙ same_ends) i;

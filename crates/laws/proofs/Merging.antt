@@ -46,7 +46,7 @@ either : (entries : List Entry) (b : Bool) → entries ≡ cond b entries entrie
 either entries true = refl
 either entries false = refl
 
--- of a part's taps, the token's are all of them where it is the token's part, and else none
+-- of a part's taps, the token's are all of them if it is the token's part, and else none
 own_part : (token : Token) (number parts : ℕ) (taps : List Tap) → All IsName taps
     → own token (map unanswered (of_part number parts taps))
     ≡ cond (part_of_token (bytes_of token) parts == number) (own token (map unanswered taps)) []
@@ -95,7 +95,7 @@ own_part token number parts (tap ∷ taps) names =
     by_tests false true ea eb rest = rw (eb, ea) rest
     by_tests false false ea eb rest = rw (eb, ea) rest
 
--- entries without replies tell how many there are
+-- there are no entries if there are none without their replies
 none_bare : (entries : List Entry) → map bare entries ≡ [] → entries ≡ []
 none_bare [] e = refl
 none_bare (entry ∷ entries) e = absurd (let h : bare entry ∷ map bare entries ≡ [] = e in cc)

@@ -1,5 +1,5 @@
--- Taps in canonical order, each once: equal neighbours are billed as one, and what is left is told
--- by the set of taps.
+-- Taps in canonical order, each once: equal neighbours are billed as one, and what is left depends
+-- on the set of taps alone.
 use Rattle.std.proofs.Common.{◌≡◌, List, [], ◌∷◌, ◌++◌, Bool}
 use Rattle.std.proofs.Common.{true, false, cond, refl, sym, ap, subst, ◌∙◌, arith, inl, inr}
 use Rattle.std.specs.Prelude.{◌⊎◌, Contains}

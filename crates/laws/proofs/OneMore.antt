@@ -88,7 +88,8 @@ module _ (fares : Fares) (token : Token) (x : TapFields) where
       → IsBehind (tap_in fares x) (tap_in fares f)
   unfolding tap_in tap_of entry_of
   behind_one f named named_too is is_too up apart = λ seen.
-      by_order (apart (sym (mapped_is_some mode_of_place (mode_at fares f.moment f.validator)) ∙ seen))
+      by_order (apart
+      (sym (mapped_is_some mode_of_place (mode_at fares f.moment f.validator)) ∙ seen))
       (no_earlier x f up (one_token token x f named named_too is is_too))
       (cases_lt x.moment f.moment)
     where

@@ -14,6 +14,7 @@ use Rattle.jiff_fmt.specs.Text.{fraction_part, offset_text, pad2, sign_byte, yea
 use Rattle.jiff_tz.specs.declared.posix.TimeZone.{TimeZone as PosixRule}
 use Rattle.fare_table.specs.ClockView.{ClockView}
 use Rattle.fare_table.specs.Fares.{Fares, terms_at}
+use Rattle.fare_table.specs.TableMeaning.{TableMeaning}
 use Rattle.tap_views.specs.Token.{bytes_of}
 use Rattle.fare_table.specs.Until.{moment_nanos}
 use Rattle.tap_views.specs.declared.token.Token.{Token}
@@ -45,8 +46,9 @@ use Rattle.fare_texts.specs.ReasonWords.{IsReasonWords, IsRideText, IsStaleText,
 use Rattle.fare_texts.specs.ReasonWords.{IsWindowText, charge_end, charge_start, giver_start}
 use Rattle.fare_texts.specs.Explained.{AreEarlierLines, AreExplainedAfter, AreWindowLines}
 use Rattle.fare_texts.specs.Explained.{IsExplained, IsExplainedLine, IsExplainedWindow}
-use Rattle.fare_texts.specs.Explained.{IsLastLine, earlier_windows, terms_line}
-use Rattle.fare_texts.specs.Ledger.{AreLinesOfEach, IsLedgerOver, tokens_told}
+use Rattle.fare_texts.specs.Explained.{AreLaterTerms, AreTermsLines, IsLastLine, earlier_windows}
+use Rattle.fare_texts.specs.Explained.{terms_line, terms_words}
+use Rattle.fare_texts.specs.Ledger.{AreLinesOfEach, IsLedgerOver, ledger_tokens}
 use Rattle.report_texts.specs.OverHistory.{IsStatementOver}
 use Rattle.ledger_check.proofs.SameLines.{line_same, moment_same}
 
@@ -83,7 +85,7 @@ pub one_ledger : (fares : Fares) (history : List Entry) (only : Option Token) (a
     → IsLedgerOver fares history only a → IsLedgerOver fares history only b → a ≡ b
 one_ledger fares history only a b is also =
     is.whole ∙ ap (λ ls. head_text ++ ls)
-    (each_same fares history (tokens_told only history) is.lines also.lines is.of_each
+    (each_same fares history (ledger_tokens only history) is.lines also.lines is.of_each
     also.of_each)
     ∙ sym also.whole
 
@@ -175,7 +177,7 @@ shown_same a b same =
     second
     ∙ ap (λ (r : ℕ). shown_by d.year d.month d.day t.hour t.minute t.second r) rest
 
--- the hours and minutes of an offset of so many seconds
+-- the hours and minutes of an offset in seconds
 abbrev minutes_by : ℤ → ℕ × ℕ
 minutes_by seconds =
     let total = unsigned_abs seconds in
@@ -302,7 +304,7 @@ explained_line_same fares entry why none a b is also =
     ∙ ap (λ m. m ++ (words ++ (is.reason_words ++ (is.lack ++ (is.local ++ codes "\n")))))
     (moment_same entry.moment is.moment also.moment is.is also.is)
     ∙ ap (λ r. also.moment ++ (words ++ (r ++ (is.lack ++ (is.local ++ codes "\n")))))
-    (words_same fares why is.reason_words also.reason_words is.told also.told)
+    (words_same fares why is.reason_words also.reason_words is.explained also.explained)
     ∙ ap (λ l. also.moment ++ (words ++ (also.reason_words ++ (l ++ (is.local ++ codes "\n")))))
     (lack_end_same fares entry.moment why none is.lack also.lack is.lacks also.lacks)
     ∙ ap (λ l. also.moment ++ (words ++ (also.reason_words ++ (also.lack ++ (l ++ codes "\n")))))
@@ -365,17 +367,38 @@ window_lines_same clocks rules taps a b is also =
     (last_same clocks (last_window rules taps) is.last also.last is.of_last also.of_last)
     ∙ sym also.whole
 
+later_terms_same : (token : List ℕ) (later : List (ℕ × TableMeaning)) (a b : List ℕ)
+    → AreLaterTerms token later a → AreLaterTerms token later b → a ≡ b
+later_terms_same token [] a b is also = is ∙ sym also
+later_terms_same token (next ∷ later) a b is also =
+    let (line, rest, one, more, whole) = is in
+    let (line', rest', one', more', whole') = also in
+    let words = terms_words (terms_at next.1 token) in
+    let lines : line ≡ line' =
+    one.shown ∙ ap (λ m. codes "terms from " ++ (m ++ words))
+    (moment_same next.0 one.moment one'.moment one.is one'.is) ∙ sym one'.shown in
+    whole ∙ both line line' rest rest' lines
+    (later_terms_same token later rest rest' more more') ∙ sym whole'
+
+terms_same : (fares : Fares) (token a b : List ℕ) → AreTermsLines fares token a
+    → AreTermsLines fares token b → a ≡ b
+terms_same fares token a b is also =
+    is.whole ∙ ap (λ ls. terms_line (terms_at fares.meaning token) ++ ls)
+    (later_terms_same token fares.later is.later also.later is.of_later also.of_later)
+    ∙ sym also.whole
+
 pub one_explained : (fares : Fares) (token : Token) (entries : List Entry) (a b : List ℕ)
     → IsExplained fares token entries a → IsExplained fares token entries b → a ≡ b
 one_explained fares token entries a b is also =
     let head = statement_head token in
-    let terms = terms_line (terms_at fares.meaning (bytes_of token)) in
     let totals = totals_line (sums entries) in
     is.whole
-    ∙ ap (λ ls. head ++ (terms ++ (ls ++ (totals ++ is.windows))))
+    ∙ ap (λ ts. head ++ (ts ++ (is.lines ++ (totals ++ is.windows))))
+    (terms_same fares (bytes_of token) is.terms also.terms is.of_terms also.of_terms)
+    ∙ ap (λ ls. head ++ (also.terms ++ (ls ++ (totals ++ is.windows))))
     (explained_after_same fares token [] entries is.lines also.lines is.of_entries
     also.of_entries)
-    ∙ ap (λ ws. head ++ (terms ++ (also.lines ++ (totals ++ ws))))
+    ∙ ap (λ ws. head ++ (also.terms ++ (also.lines ++ (totals ++ ws))))
     (window_lines_same fares.zone (rules_of fares (bytes_of token)) (map (tap_of fares) entries)
     is.windows also.windows is.of_windows also.of_windows)
     ∙ sym also.whole

@@ -1,4 +1,4 @@
--- Posting taps after histories that the account rule cannot tell apart.
+-- Posting taps after histories that are the same to the account rule.
 use Rattle.std.proofs.Common.{◌≡◌, Bool, true, false, cond, List, [], ◌∷◌, ◌++◌, map, filter}
 use Rattle.std.proofs.Common.{refl, sym, ap, ◌∙◌, subst, append-nil, append_assoc}
 use Rattle.fare_table.specs.Fares.{Fares}
@@ -35,7 +35,7 @@ plain_is_after fares earlier (tap ∷ taps) =
     ap (λ es. answered fares earlier (unanswered tap) ∷ es)
     (plain_is_after fares (earlier ++ answered fares earlier (unanswered tap) ∷ []) taps)
 
--- the rule cannot tell them apart, whatever token is asked for
+-- they are the same to the rule, whatever token is asked for
 abbrev pub SameStates : Fares → List Entry → List Entry → Type 0
 SameStates fares one other =
     (token : Token) → SameState (taps_of fares token one) (taps_of fares token other)

@@ -1,4 +1,4 @@
--- What a token is charged before a moment is told by its taps before the moment.
+-- What a token is charged before a moment depends on its taps before the moment alone.
 use Rattle.std.proofs.Common.{◌≡◌, ℕ, Bool, true, false, ◌&&◌, cond, List, [], ◌∷◌, ◌++◌, map}
 use Rattle.std.proofs.Common.{filter, refl, sym, ap, subst, ◌∙◌, arith, All, nat_lt}
 use Rattle.std.specs.Prelude.{Contains, slice_index_or}

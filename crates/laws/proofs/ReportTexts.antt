@@ -1,4 +1,4 @@
--- What the lines of a report tell of ends whose faults have numbers of their own.
+-- What the lines of a report say of ends whose faults have numbers of their own.
 use Rattle.std.specs.Prelude.{◌≡◌, ℕ, ◌+◌, ◌<◌, ◌^◌, List, [], ◌∷◌, ◌++◌, length, map}
 use Rattle.std.specs.Prelude.{flat_map, codes, Option, Some, None}
 use Rattle.std.specs.Fmt.{decimal}
@@ -26,7 +26,7 @@ use Rattle.report_texts.specs.Numbers.{IsNameAlone, IsUploadEnd}
 use Rattle.part_reports.specs.Reports.{Report, report_text}
 use Rattle.laws.specs.Sizes.{HasSize}
 
--- a fault as a line tells it: without its own numbers
+-- a fault as a line reports it: without its own numbers
 abbrev pub fault_alone : LayoutFault → LayoutFault
 fault_alone (Short have) = Short 0
 fault_alone Magic = Magic
@@ -51,16 +51,16 @@ same_name (TooMany count) = refl
 same_name (Length want have) = refl
 same_name (Moment index) = refl
 
--- how an upload ended, as its line tells it
+-- how an upload ended, as its line reports it
 abbrev pub end_of : UploadEnd → UploadEnd
 end_of (Posted taps) = Posted taps
 end_of (Refused taps offset fault) = Refused taps offset (fault_alone fault)
 end_of (Cut taps) = Cut taps
 end_of Undrawn = Undrawn
 
--- what the report of these ends and sums tells
-abbrev pub told_by : List UploadEnd → Sums → List (ℕ × Sums) → List (Token × Sums) → Report
-told_by ends totals validators tokens = record {
+-- what the report of these ends and sums contains
+abbrev pub reported_by : List UploadEnd → Sums → List (ℕ × Sums) → List (Token × Sums) → Report
+reported_by ends totals validators tokens = record {
   ends = map end_of ends;
   totals = totals;
   validators = validators;
@@ -87,7 +87,7 @@ same_lines number (end ∷ ends) =
 
 pub same_text : (ends : List UploadEnd) (totals : Sums) (validators : List (ℕ × Sums))
     (tokens : List (Token × Sums))
-    → report ends totals validators tokens ≡ report_text (told_by ends totals validators tokens)
+    → report ends totals validators tokens ≡ report_text (reported_by ends totals validators tokens)
 same_text ends totals validators tokens =
     let sizes : length ends ≡ length (map end_of ends) = sym (length-map ends end_of) in
     let behind : List ℕ =

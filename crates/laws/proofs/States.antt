@@ -1,4 +1,4 @@
--- Lists of taps that the account rule cannot tell apart.
+-- Lists of taps that are the same to the account rule.
 use Rattle.std.proofs.Common.{◌≡◌, ℕ, Bool, true, false, not, ◌&&◌, ◌||◌, cond, List, [], ◌∷◌}
 use Rattle.std.proofs.Common.{◌++◌, length, Option, Some, None, refl, sym, ap, ◌∙◌, append-nil}
 use Rattle.std.proofs.Common.{nat_lt, is_some, arith, take}

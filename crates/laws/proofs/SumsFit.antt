@@ -1,4 +1,4 @@
--- The sums of a history have 64 bits, where the fares have bounded terms.
+-- The sums of a history have 64 bits, if the fares have bounded terms.
 use Rattle.std.specs.Prelude.{◌≡◌, ℕ, ◌+◌, ◌*◌, ◌<◌, ◌≤◌, ◌^◌, Bool, true, false, cond, List, []}
 use Rattle.std.specs.Prelude.{◌∷◌, length, map, filter, All, sum_by}
 use Rattle.std.specs.BTreeSet.{insert_key}

@@ -25,7 +25,7 @@ use Rattle.shard_book.specs.SumsByKey.{entries_of_validator, sums_by_token, sums
 use Rattle.shard_book.specs.SumsByKey.{token_of, tokens, validator_of, validators}
 use Rattle.shard_book.specs.Rising.{rising}
 use Rattle.shard_book.specs.Sums.{Sums, add_all, sums, sums_of_replies}
-use Rattle.report_texts.specs.UploadEnds.{end_by, is_posted, taps_told, ArePlainEnds, IsPlainEnd}
+use Rattle.report_texts.specs.UploadEnds.{end_by, is_posted, taps_of_end, ArePlainEnds, IsPlainEnd}
 use Rattle.tap_views.specs.Files.{AreGoodTaps, AreGoodTapsOfEach, HasOneReading, IsEndAfterBatches}
 use Rattle.report_texts.specs.OverHistory.{IsReportOver}
 use Rattle.shard_book.specs.Plain.{unanswered}
@@ -40,12 +40,12 @@ use Rattle.part_reports.specs.Reports.{sums_of_validator as listed_at}
 use Rattle.laws.specs.Files.{HasNoFault}
 use Rattle.laws.specs.Sizes.{HasSize}
 use Rattle.laws.specs.Split.{IsSplit, Part, entries_of_parts}
-use Rattle.laws.proofs.MergedTexts.{IsWritable, TellsOf, own_can_be_told, own_told}
-use Rattle.laws.proofs.MergedTexts.{tokens_told, totals_told, validators_told}
+use Rattle.laws.proofs.MergedTexts.{IsWritable, ReportsOf, own_can_be_printed, own_reported}
+use Rattle.laws.proofs.MergedTexts.{ledger_tokens, totals_reported, validators_reported}
 use Rattle.laws.proofs.KeySums.{tokens_add, validators_add}
 use Rattle.laws.proofs.Merging.{own_all}
 use Rattle.laws.proofs.PartSums.{keys-map as number_keys, listed_parts, members}
-use Rattle.laws.proofs.ReportTexts.{end_of, ends_fit, same_lines, same_text, told_by}
+use Rattle.laws.proofs.ReportTexts.{end_of, ends_fit, same_lines, same_text, reported_by}
 use Rattle.laws.proofs.TokenMoves.{pairs_moved}
 use Rattle.laws.proofs.Tokens.{keys-map as name_keys}
 use Rattle.laws.proofs.Validators.{SumsAdd, at_history, merged_totals}
@@ -90,86 +90,86 @@ names_rise risen entries =
     subst (IsStrictlySortedBy token_cmp) (sym (name_keys (λ k. sums (own k entries)) keys))
     ((risen (map token_of entries) keys).1 refl).rises
 
--- what the files of the parts tell
-record Telling (parts : List Part) (files : List (List ℕ)) : Type 0 where
-  told : List Report
-  are : files ≡ map report_text told
-  tell : AllZip TellsOf parts told
-  fit : All IsPartReport told
+-- what the files of the parts contain
+record LedgerTokens (parts : List Part) (files : List (List ℕ)) : Type 0 where
+  reported : List Report
+  are : files ≡ map report_text reported
+  agreeing : AllZip ReportsOf parts reported
+  fit : All IsPartReport reported
 
 module _ (law : SumsAdd) (numbers : RisingNumbers) (names : RisingTokens) where
   own_is_part : (part : Part) (ends : List UploadEnd) → IsWritable part
       → All HasNoFault part.files → ArePlainEnds part.files ends
-      → IsPartReport (own_told part ends)
+      → IsPartReport (own_reported part ends)
   own_is_part part ends can none plain =
-      let told = own_can_be_told part ends can plain in
+      let reported = own_can_be_printed part ends can plain in
       record {
-        number = told.number;
-        ends = told.ends;
+        number = reported.number;
+        ends = reported.ends;
         posted = All-from_recursion (λ end. is_posted end ≡ true) (map end_of ends)
             (ends_posted part.files ends (recursion_from_All HasNoFault part.files none) plain);
-        totals = told.totals;
-        validators_number = told.validators_number;
-        validators = told.validators;
+        totals = reported.totals;
+        validators_number = reported.validators_number;
+        validators = reported.validators;
         validators_rise = numbers_rise numbers part.history;
         validators_add = validators_add numbers law part.history;
-        tokens_number = told.tokens_number;
-        tokens = told.tokens;
+        tokens_number = reported.tokens_number;
+        tokens = reported.tokens;
         tokens_rise = names_rise names part.history;
         tokens_add = tokens_add names law part.history;
       }
 
-  telling : (parts : List Part) (files : List (List ℕ)) → AllByRecursion IsWritable parts
+  reporting : (parts : List Part) (files : List (List ℕ)) → AllByRecursion IsWritable parts
       → AllByRecursion (λ part. All HasNoFault part.files) parts
       → AllZip (λ part file. IsReportOver part.files part.history file) parts files
-      → Telling parts files
-  telling [] [] can none over =
-      record { told = []; are = refl; tell = tt; fit = All-nil IsPartReport }
-  telling [] (file ∷ files) can none over = absurd over
-  telling (p ∷ parts) [] can none over = absurd over
-  telling (p ∷ parts) (file ∷ files) can none over =
-      let rest = telling parts files can.1 none.1 over.1 in
+      → LedgerTokens parts files
+  reporting [] [] can none over =
+      record { reported = []; are = refl; agreeing = tt; fit = All-nil IsPartReport }
+  reporting [] (file ∷ files) can none over = absurd over
+  reporting (p ∷ parts) [] can none over = absurd over
+  reporting (p ∷ parts) (file ∷ files) can none over =
+      let rest = reporting parts files can.1 none.1 over.1 in
       let here = over.0 in
-      let shown : file ≡ report_text (own_told p here.ends) =
+      let shown : file ≡ report_text (own_reported p here.ends) =
       here.shown ∙ same_text here.ends (sums p.history) (sums_by_validator p.history)
       (sums_by_token p.history) in
-      let tells : TellsOf p (own_told p here.ends) =
+      let reports : ReportsOf p (own_reported p here.ends) =
       record { totals = refl; validators = refl; tokens = refl } in
       record {
-        told = own_told p here.ends ∷ rest.told;
+        reported = own_reported p here.ends ∷ rest.reported;
         are = λ i. shown i ∷ rest.are i;
-        tell = (tells, rest.tell);
-        fit = All-cons IsPartReport (own_told p here.ends) rest.told
+        agreeing = (reports, rest.agreeing);
+        fit = All-cons IsPartReport (own_reported p here.ends) rest.reported
             (own_is_part p here.ends can.0 none.0 here.of_uploads) rest.fit;
       }
 
 -- ---- numbers of taps
-told_taps : (parts : List Part) (told : List Report) → AllZip TellsOf parts told
-    → sum_by (λ part. part.totals.taps) told ≡ (add_all (map (λ p. sums p.history) parts)).taps
+reported_taps : (parts : List Part) (reported : List Report) → AllZip ReportsOf parts reported
+    → sum_by (λ part. part.totals.taps) reported ≡ (add_all (map (λ p. sums p.history) parts)).taps
 unfolding sums_of_replies
-told_taps [] [] tell = refl
-told_taps [] (t ∷ told) tell = absurd tell
-told_taps (p ∷ parts) [] tell = absurd tell
-told_taps (p ∷ parts) (t ∷ told) tell =
-    sum_by-cons (λ (r : Report). r.totals.taps) t told
-    ∙ (λ i. (tell.0.totals i).taps + told_taps parts told tell.1 i)
+reported_taps [] [] agreeing = refl
+reported_taps [] (t ∷ reported) agreeing = absurd agreeing
+reported_taps (p ∷ parts) [] agreeing = absurd agreeing
+reported_taps (p ∷ parts) (t ∷ reported) agreeing =
+    sum_by-cons (λ (r : Report). r.totals.taps) t reported
+    ∙ (λ i. (agreeing.0.totals i).taps + reported_taps parts reported agreeing.1 i)
 
 all_posted : (taps : ℕ) (fault : Option (ℕ × LayoutFault))
-    → taps_told (end_of (end_by taps fault)) ≡ taps
+    → taps_of_end (end_of (end_by taps fault)) ≡ taps
 all_posted taps None = refl
 all_posted taps (Some (offset, fault)) = refl
 
 one_end : (file : List ℕ) (taps : List Tap) (end : UploadEnd) → HasOneReading file
-    → AreGoodTaps file taps → IsPlainEnd file end → taps_told (end_of end) ≡ length taps
+    → AreGoodTaps file taps → IsPlainEnd file end → taps_of_end (end_of end) ≡ length taps
 one_end file taps end cut of is =
     let same = cut of.batches is.batches of.rest is.rest of.is_file is.is_file in
-    ap (λ e. taps_told (end_of e)) is.ended
+    ap (λ e. taps_of_end (end_of e)) is.ended
     ∙ all_posted (length (flat_map (λ batch. batch) is.batches)) is.fault
     ∙ sym (ap length (of.all ∙ ap (flat_map (λ (batch : List Tap). batch)) same.0))
 
 end_taps : (files : List (List ℕ)) (taps : List (List Tap)) (ends : List UploadEnd)
     → AllByRecursion HasOneReading files → AreGoodTapsOfEach files taps → ArePlainEnds files ends
-    → sum_by taps_told (map end_of ends) ≡ length (taps_of_uploads taps)
+    → sum_by taps_of_end (map end_of ends) ≡ length (taps_of_uploads taps)
 end_taps [] [] [] cuts each plain = refl
 end_taps [] [] (end ∷ ends) cuts each plain = absurd plain
 end_taps [] (t ∷ taps) ends cuts each plain = absurd each
@@ -177,7 +177,7 @@ end_taps (file ∷ files) [] ends cuts each plain = absurd each
 end_taps (file ∷ files) (t ∷ taps) [] cuts each plain = absurd plain
 end_taps (file ∷ files) (t ∷ taps) (end ∷ ends) cuts each plain = omega (
   arith,
-  sum_by-cons taps_told (end_of end) (map end_of ends),
+  sum_by-cons taps_of_end (end_of end) (map end_of ends),
   one_end file t end cuts.0 each.0 plain.0,
   end_taps files taps ends cuts.1 each.1 plain.1,
   length-append t (taps_of_uploads taps),
@@ -225,12 +225,12 @@ module _ (fares : Fares) (uploads : List (List ℕ)) (history : List Entry) (par
     (plain : ArePlainEnds uploads (flat_map (λ some. some) lists))
     (sizes : All HasSize uploads) (cuts : All HasOneReading uploads) (can : All IsWritable parts)
     (none : All (λ part. All HasNoFault part.files) parts) (report_files : List (List ℕ))
-    (told_parts : AllZip (λ part file. IsReportOver part.files part.history file) parts
+    (reported_parts : AllZip (λ part file. IsReportOver part.files part.history file) parts
     report_files) where
-  tellings : Telling parts report_files
-  tellings =
-      telling law numbers names parts report_files (recursion_from_All IsWritable parts can)
-      (recursion_from_All (λ part. All HasNoFault part.files) parts none) told_parts
+  reportings : LedgerTokens parts report_files
+  reportings =
+      reporting law numbers names parts report_files (recursion_from_All IsWritable parts can)
+      (recursion_from_All (λ part. All HasNoFault part.files) parts none) reported_parts
 
   history_taps : (sums history).taps ≡ length (taps_of_uploads split.settled.taps)
   unfolding sums_of_replies
@@ -253,20 +253,20 @@ module _ (fares : Fares) (uploads : List (List ℕ)) (history : List Entry) (par
 
   pub whole : Report
   whole =
-      told_by (flat_map (λ some. some) lists) (sums history) (sums_by_validator history)
+      reported_by (flat_map (λ some. some) lists) (sums history) (sums_by_validator history)
       (sums_by_token history)
 
-  is_whole : IsWholeReport (all_ends (map (map end_of) lists)) tellings.told whole
+  is_whole : IsWholeReport (all_ends (map (map end_of) lists)) reportings.reported whole
   unfolding whole
   is_whole =
-      let told = tellings.told in
-      let listed = validators_told parts told tellings.tell in
+      let reported = reportings.reported in
+      let listed = validators_reported parts reported reportings.agreeing in
       let moved = IsPermutation-map validator_of (entries_of_parts parts) history
       (same_entries (entries_of_parts parts) history (own_all fares uploads history parts split)) in
       record {
         ends = sym (joined_map lists);
         totals = sym (merged_totals fares uploads history parts split law numbers)
-            ∙ ap add_all (sym (totals_told parts told tellings.tell));
+            ∙ ap add_all (sym (totals_reported parts reported reportings.agreeing));
         validators_rise = numbers_rise numbers history;
         validators_same = λ v. member_validators numbers history v
             ∙ sym (list_any-IsPermutation (eq_by_cmp nat_cmp v)
@@ -274,12 +274,12 @@ module _ (fares : Fares) (uploads : List (List ℕ)) (history : List Entry) (par
             ∙ sym (ap (λ (list : List (ℕ × Sums)). is_member (eq_by_cmp nat_cmp) (keys_of list) v)
             listed ∙ members numbers parts v);
         validators_sums = all_sums history
-            (λ sum. sum.1 ≡ listed_at sum.0 (validators_of_reports told))
+            (λ sum. sum.1 ≡ listed_at sum.0 (validators_of_reports reported))
             (λ v. sym (ap (listed_at v) listed ∙ listed_parts numbers v parts
             ∙ at_history fares uploads history parts split law numbers v));
         tokens_moved = subst
             (λ (list : List (Token × Sums)). IsPermutation list (sums_by_token history))
-            (sym (tokens_told parts told tellings.tell))
+            (sym (ledger_tokens parts reported reportings.agreeing))
             (pairs_moved fares uploads history parts split names);
         tokens_rise = names_rise names history;
       }
@@ -294,16 +294,17 @@ module _ (fares : Fares) (uploads : List (List ℕ)) (history : List Entry) (par
       (recursion_from_All HasOneReading uploads cuts) split.settled.of_uploads plain in
       record {
         ends = map (map end_of) lists;
-        parts = tellings.told;
-        told = record {
-          ends_told = same_texts 0 lists;
+        parts = reportings.reported;
+        reported = record {
+          ends_reported = same_texts 0 lists;
           ends_fit = subst E (sym (joined_map lists))
               (All-from_recursion IsUploadEnd (map end_of all)
               (ends_fit uploads all (recursion_from_All HasSize uploads sizes) plain));
-          parts_told = tellings.are;
-          parts_fit = tellings.fit;
-          taps = told_taps parts tellings.told tellings.tell ∙ taps ∙ history_taps ∙ sym counted
-              ∙ ap (sum_by taps_told) (sym (joined_map lists));
+          parts_reported = reportings.are;
+          parts_fit = reportings.fit;
+          taps = reported_taps parts reportings.reported reportings.agreeing ∙ taps ∙ history_taps
+              ∙ sym counted
+              ∙ ap (sum_by taps_of_end) (sym (joined_map lists));
         };
         whole = whole;
         is = is_whole;

@@ -51,7 +51,8 @@ abbrev pub bill_before : Token → ℕ → List Entry → List Entry
 bill_before token moment entries =
     filter (λ entry. nat_lt entry.moment moment) (live_entries (own token entries))
 
--- both tokens have the same terms, fares and transfers at each moment, as two riders of one class do
+-- both tokens have the same terms, fares and transfers at each moment, as two riders of one class
+-- do
 abbrev pub HaveSameTerms : Fares → Token → Token → Type 0
 HaveSameTerms fares token other =
     (moment : ℕ)

@@ -10,11 +10,11 @@ use Rattle.shard_book.specs.declared.entry.Entry.{Entry}
 use Rattle.tap_views.specs.declared.token.Token.{Token}
 use Rattle.ledger_check.specs.Ledger.{IsPostable}
 use Rattle.ledger_check.specs.Lines.{lines_of}
-use Rattle.fare_texts.specs.Ledger.{tokens_told}
+use Rattle.fare_texts.specs.Ledger.{ledger_tokens}
 
 -- the entries that have a line in a ledger: token by token, those of each in history order
-abbrev pub told_entries : Option Token → List Entry → List Entry
-told_entries only history = flat_map (λ token. own token history) (tokens_told only history)
+abbrev pub reported_entries : Option Token → List Entry → List Entry
+reported_entries only history = flat_map (λ token. own token history) (ledger_tokens only history)
 
 -- each name of a mode is of letters `a` to `z`, as those of every table that was read
 abbrev pub AreLetters : List (List ℕ) → Type 0
@@ -25,11 +25,11 @@ abbrev pub AreShort : List ℕ → Type 0
 AreShort text = AllByRecursion (λ line. length line ≤ 255) (lines_of text)
 
 -- each token's own entries are a legal history, all can be posted, and there are not too many
-pub record CanBeTold (fares : Fares) (only : Option Token) (history : List Entry) : Type 0 where
+pub record CanBePrinted (fares : Fares) (only : Option Token) (history : List Entry) : Type 0 where
   pub legal : (token : Token) → IsLegal fares (own token history)
   pub postable : AllByRecursion IsPostable history
   pub names : AreLetters fares.meaning.modes
-  pub few : length (told_entries only history) ≤ 2 ^ 62
+  pub few : length (reported_entries only history) ≤ 2 ^ 62
 
 -- books under one table, each of its own of `shards` shards, and with a legal history
 abbrev pub AreBooksOf : Fares → ℕ → List Book → Type 0

@@ -57,9 +57,9 @@ pub fn late_taps_change_nothing_before(uploads: &[Vec<u8>], others: &[Vec<u8>])
     plain_history(others);
 }
 
-/// What is posted from a moment on changes nothing before it. If the good taps before the moment are
-/// the same, of all tokens, so are all lines before it: rides, transfers, stale and unknown taps, each
-/// with its answer and cents, in the same order.
+/// What is posted from a moment on changes nothing before it. If the good taps before the moment
+/// are the same, of all tokens, so are all lines before it: rides, transfers, stale and unknown
+/// taps, each with its answer and cents, in the same order.
 pub fn later_taps_change_no_line_before(uploads: &[Vec<u8>], others: &[Vec<u8>])
     ensures { (fares : Fares) (moment : ℕ) (history again : List Entry)
         → HaveTapsAlikeBefore moment (map (λ u. u.items) uploads.now)
@@ -76,8 +76,8 @@ pub fn later_taps_change_no_line_before(uploads: &[Vec<u8>], others: &[Vec<u8>])
 
 /// A token is charged by its own taps alone, whatever it is called and whatever others tap. If two
 /// tokens have the same terms and taps at the same moments and validators, each in uploads of its
-/// own, then the one's lines are the other's but for the token: the same answers, cents and reasons,
-/// and the same windows.
+/// own, then the one's lines are the other's but for the token: the same answers, cents and
+/// reasons, and the same windows.
 pub fn tokens_are_charged_by_their_taps(uploads: &[Vec<u8>], others: &[Vec<u8>])
     ensures { (fares : Fares) (token other : Token) (history again : List Entry)
         → HaveSameTerms fares token other

@@ -13,8 +13,8 @@ ghost use Rattle.ledger_check.specs.Ledger.{IsLedgerOf, IsPostable};
 ghost use Rattle.ledger_check.specs.Verdicts.{IsVerdict, is_legal};
 ghost use Rattle.ledger_check.specs.declared.checker.Verdict.{Verdict};
 ghost use Rattle.fare_texts.specs.Ledger.{IsLedgerOfBooks as IsWrittenOf, IsLedgerOver};
-ghost use Rattle.laws.specs.Written.{AreBooksOf, AreLetters, AreShort, CanBeTold};
-ghost use Rattle.laws.specs.Written.{told_entries};
+ghost use Rattle.laws.specs.Written.{AreBooksOf, AreLetters, AreShort, CanBePrinted};
+ghost use Rattle.laws.specs.Written.{reported_entries};
 
 use ledger_check::laws::verdicts_decide;
 
@@ -22,8 +22,8 @@ use ledger_check::laws::verdicts_decide;
 /// reads it, of the same entries token by token, if no line is too long for one.
 pub fn written_is_a_ledger()
     ensures { (fares : Fares) (only : Option Token) (history : List Entry) (text : List ℕ)
-        → CanBeTold fares only history → AreShort text → IsLedgerOver fares history only text
-        → IsLedgerOf fares (told_entries only history) text }
+        → CanBePrinted fares only history → AreShort text → IsLedgerOver fares history only text
+        → IsLedgerOf fares (reported_entries only history) text }
 {}
 
 /// In a legal history each token's own entries are one.
@@ -38,15 +38,15 @@ pub fn printed_ledger_is_legal()
     ensures ledger { (fares : Fares) (shards : ℕ) (books : List Book) (only : Option Token)
         (text : List ℕ) → AreBooksOf fares shards books
         → AllByRecursion IsPostable (all_entries books) → AreLetters fares.meaning.modes
-        → length (told_entries only (all_entries books)) ≤ 2 ^ 62 → AreShort text
+        → length (reported_entries only (all_entries books)) ≤ 2 ^ 62 → AreShort text
         → IsWrittenOf books only text
-        → IsLedgerOf fares (told_entries only (all_entries books)) text }
+        → IsLedgerOf fares (reported_entries only (all_entries books)) text }
 
     // So a check of it ends with the verdict that it is legal.
     ensures legal { (fares : Fares) (shards : ℕ) (books : List Book) (only : Option Token)
         (text : List ℕ) (verdict : Verdict) → AreBooksOf fares shards books
         → AllByRecursion IsPostable (all_entries books) → AreLetters fares.meaning.modes
-        → length (told_entries only (all_entries books)) ≤ 2 ^ 62 → AreShort text
+        → length (reported_entries only (all_entries books)) ≤ 2 ^ 62 → AreShort text
         → IsWrittenOf books only text → IsVerdict fares text verdict
         → IsTrue (is_legal verdict) }
 {

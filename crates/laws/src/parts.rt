@@ -89,7 +89,7 @@ pub fn parts_have_the_whole_sums()
 
 /// Uploads were split by token, and each part was settled by itself. A token's explained statement
 /// over its part is that over the settled history of the uploads, and so is its ledger.
-pub fn parts_tell_each_token()
+pub fn parts_report_each_token()
     ensures explained { (fares : Fares) (uploads : List (List ℕ)) (history : List Entry)
         (parts : List Part) → IsSplit fares uploads history parts
         → (token : Token) (part : Part)

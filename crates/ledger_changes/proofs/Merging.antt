@@ -23,7 +23,8 @@ use Rattle.ledger_changes.specs.Texts.{corrections_lines, is_removed, removed_in
 use Rattle.ledger_changes.specs.inside.LedgerRows.{rows_in}
 use Rattle.ledger_changes.specs.inside.Standings.{HasRows, HasRowsAt, IsKnown, IsMoved, Standing}
 use Rattle.ledger_changes.specs.inside.Standings.{StandsBefore}
-use Rattle.ledger_changes.specs.inside.Written.{HoldsOfCorrections, AreWritten, changes_of, next_sides}
+use Rattle.ledger_changes.specs.inside.Written.{HoldsOfCorrections, AreWritten, changes_of}
+use Rattle.ledger_changes.specs.inside.Written.{next_sides}
 use Rattle.ledger_changes.specs.inside.Written.{pairs_of, row_in, sides_by, taken_if}
 use Rattle.ledger_changes.proofs.Keys.{key_cmp_total, same_key}
 use Rattle.ledger_changes.proofs.Sorted.{Rise, rise_all}
@@ -215,7 +216,7 @@ up_behind : (row : Row) (rows : List Row) → Begin (Some row) (row ∷ rows)
     → AllByRecursion (λ later. Le row.key later.key) rows
 up_behind row rows is = rise_all row rows is.2
 
--- all rows, where the first is past the key
+-- all rows, if the first is past the key
 past_first : (key : Key) (row : Row) (rows : List Row) → key_cmp key row.key ≡ Less
     → Begin (Some row) rows → AllByRecursion (λ later. Lt key later.key) rows
 past_first key row rows less is =

@@ -197,7 +197,7 @@ stuck row left before after next is read may rows has =
     may (follows row next after has.more
     (to_rows left next after has.more read lines (rise_tail row has.more up)) up)
 
--- ---- where it is known that there is a row
+-- ---- if it is known that there is a row
 pub moves_at : (at : Option Row) (row : Row) → at ≡ Some row → (left : List ℕ)
     (before after : Option (List ℕ)) (next : Option Row) → before ≡ Some left
     → ReadsRow left next after → MayFollow at next

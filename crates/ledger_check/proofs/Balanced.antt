@@ -1,4 +1,4 @@
--- What a balance is after one tap more, and what it tells.
+-- What a balance is after one tap more, and what it finds.
 use Rattle.std.proofs.Common.{◌≡◌, ℕ, ◌+◌, ◌<◌, Bool, true, false, List, [], ◌∷◌, ◌++◌, cond}
 use Rattle.std.proofs.Common.{Option, Some, None, is_some, refl, sym, ap, ◌∙◌, arith}
 use Rattle.std.proofs.lemmas.List.Sums.{sum_by-append, sum_by-cons}
@@ -81,9 +81,9 @@ pub some_left : (left : BTreeMap TapFields ℕ) (good struck : List TapFields) (
     → ((other : TapFields) → 0 < left_at left other → is_lt (tap_cmp other tap) ≡ false)
     → Balances left None good struck → IsFirstMissing good struck tap
 some_left left good struck tap some first is =
-    let told = is tap in
+    let reported = is tap in
     record {
-      fewer = omega (arith, some, told);
+      fewer = omega (arith, some, reported);
       first = λ other less. let e = is other in first other (omega (arith, less, e));
       no_surplus = λ other. let e = is other in omega (arith, e);
     }

@@ -206,10 +206,10 @@ took_whole fares checker after text line whole fed is joined empty taken = recor
 }
 
 pub took_line : (fares : Fares) (checker after : Checker) (text line whole : List ℕ)
-    (told : Option Verdict) → (fed : HasFed fares checker text) → IsLine line
+    (reported : Option Verdict) → (fed : HasFed fares checker text) → IsLine line
     → whole ≡ checker.begun.items ++ line → after.begun.items ≡ []
-    → IsTaken fares after.so_far fed.lines whole told
-    → IsFed fares after (text ++ line) told
+    → IsTaken fares after.so_far fed.lines whole reported
+    → IsFed fares after (text ++ line) reported
 took_line fares checker after text line whole None fed is joined empty taken =
     took_whole fares checker after text line whole fed is joined empty taken
 took_line fares checker after text line whole (Some verdict) fed is joined empty taken = λ more.
@@ -271,17 +271,17 @@ ended_well fares checker text fed empty some =
 
 -- a piece after a piece
 pub fed_on : (fares : Fares) (after : Checker) (text consumed piece : List ℕ)
-    (told : Option Verdict) → IsFed fares after ((text ++ consumed) ++ piece) told
-    → IsFed fares after (text ++ (consumed ++ piece)) told
-fed_on fares after text consumed piece told fed =
-    subst (λ (t : List ℕ). IsFed fares after t told) (append_assoc text consumed piece) fed
+    (reported : Option Verdict) → IsFed fares after ((text ++ consumed) ++ piece) reported
+    → IsFed fares after (text ++ (consumed ++ piece)) reported
+fed_on fares after text consumed piece reported fed =
+    subst (λ (t : List ℕ). IsFed fares after t reported) (append_assoc text consumed piece) fed
 
-pub told_early : (fares : Fares) (after : Checker) (text consumed line behind : List ℕ)
-    (told : Option Verdict) → is_some told ≡ true
-    → IsFed fares after ((text ++ consumed) ++ line) told
-    → IsFed fares after (text ++ (consumed ++ (line ++ behind))) told
-told_early fares after text consumed line behind None some fed = absurd (apart (sym some))
-told_early fares after text consumed line behind (Some verdict) some fed =
+pub remark_early : (fares : Fares) (after : Checker) (text consumed line behind : List ℕ)
+    (reported : Option Verdict) → is_some reported ≡ true
+    → IsFed fares after ((text ++ consumed) ++ line) reported
+    → IsFed fares after (text ++ (consumed ++ (line ++ behind))) reported
+remark_early fares after text consumed line behind None some fed = absurd (apart (sym some))
+remark_early fares after text consumed line behind (Some verdict) some fed =
     λ more. subst (λ (t : List ℕ). IsVerdict fares t verdict) (joined more) (fed (behind ++ more))
   where
     joined : (more : List ℕ)
@@ -289,8 +289,8 @@ told_early fares after text consumed line behind (Some verdict) some fed =
         ≡ (text ++ (consumed ++ (line ++ behind))) ++ more
     joined more = simp append_assoc
 
-pub fed_none : (fares : Fares) (after : Checker) (text : List ℕ) (told : Option Verdict)
-    → is_some told ≡ false → IsFed fares after text told
+pub fed_none : (fares : Fares) (after : Checker) (text : List ℕ) (reported : Option Verdict)
+    → is_some reported ≡ false → IsFed fares after text reported
     → HasFed fares after text
 fed_none fares after text None none fed = fed
 fed_none fares after text (Some verdict) none fed = absurd (apart none)

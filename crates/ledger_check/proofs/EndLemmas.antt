@@ -12,15 +12,15 @@ use Rattle.tap_views.specs.declared.encoder.TapFields.{TapFields}
 use Rattle.fare_texts.specs.LedgerLines.{head_text}
 use Rattle.ledger_check.specs.Lines.{Lacks, lines_of}
 use Rattle.ledger_check.specs.Recounts.{IsTaken, TakenLine, lines_from, no_line_text, taps_from}
-use Rattle.ledger_check.specs.Recounts.{taps_with, told_lines, told_text, with_first}
+use Rattle.ledger_check.specs.Recounts.{taps_with, remark_lines, remark_text, with_first}
 use Rattle.ledger_check.specs.RecountStates.{AreSums, HasRecounted}
 use Rattle.ledger_check.specs.inside.Recounts.{HasEnded}
 use Rattle.ledger_check.specs.declared.recount.Recount.{Recount}
 use Rattle.ledger_check.specs.declared.recount_sums.RecountSums.{RecountSums}
 use Rattle.ledger_check.specs.declared.walk.LineFinding.{LineFinding}
 use Rattle.ledger_check.specs.declared.walk.CountedTap.{CountedTap}
-use Rattle.ledger_check.specs.declared.walk.Told.{Told}
-use Rattle.ledger_check.specs.declared.walk.Told.TheVariants.{Nothing, NoLine}
+use Rattle.ledger_check.specs.declared.walk.Remark.{Remark}
+use Rattle.ledger_check.specs.declared.walk.Remark.TheVariants.{Nothing, NoLine}
 use Rattle.ledger_check.proofs.CheckerLemmas.{head_ends}
 use Rattle.ledger_check.proofs.LineLemmas.{lines-part}
 use Rattle.ledger_check.proofs.RecountLemmas.{cut_line, kept_none, none_kept}
@@ -46,11 +46,11 @@ lines_some (next ∷ taken) some = omega (arith, length-append (lines_from taken
 
 -- the text ends behind a line
 pub ended_whole : (fares : Fares) (recount : Recount) (strikes : Bool) (full : FullBalance)
-    (text written : List ℕ) (good : List TapFields) (told : List ℕ)
+    (text written : List ℕ) (good : List TapFields) (reported : List ℕ)
     → HasRecounted fares recount strikes full text written good → 0 < recount.so_far.sums.lines
     → recount.begun.items ≡ []
-    → HasEnded fares strikes full text written good recount.so_far.sums told told
-ended_whole fares recount strikes full text written good told is some none =
+    → HasEnded fares strikes full text written good recount.so_far.sums reported reported
+ended_whole fares recount strikes full text written good reported is some none =
     let begun : is.begun ≡ [] = kept_none recount.begun.items is.begun is.kept none in
     let counted : recount.so_far.sums.lines ≡ length is.taken = is.lines.sums.lines in
     let lines : lines_of text ≡ lines_from is.taken =
@@ -69,26 +69,26 @@ ended_whole fares recount strikes full text written good told is some none =
       };
       sums_are = is.lines.sums;
       more = [];
-      grown = sym (append-nil told);
-      all = append-nil written ∙ is.told;
+      grown = sym (append-nil reported);
+      all = append-nil written ∙ is.reported;
       struck = is.struck;
     }
 
 -- the text's end cuts a line, or the text has none
 cut_taken : (fares : Fares) (taken : List TakenLine) (line : List ℕ) (finding : LineFinding)
-    → Lacks 10 line → finding.tap ≡ None → finding.told ≡ NoLine
+    → Lacks 10 line → finding.tap ≡ None → finding.remark ≡ NoLine
     → IsTaken fares taken (record { line = line; finding = finding; wanted = [] })
-cut_taken fares [] line finding lacks none told = (
+cut_taken fares [] line finding lacks none reported = (
   none,
-  told ∙ ap (λ (b : Bool). if b then Nothing else NoLine)
+  reported ∙ ap (λ (b : Bool). if b then Nothing else NoLine)
       (sym (by_test (bytes_eq line head_text) refl)),
 )
   where
     by_test : (b : Bool) → bytes_eq line head_text ≡ b → bytes_eq line head_text ≡ false
     by_test true same = absurd (head_ends line lacks ((bytes_eq-Decides line head_text).0 same))
     by_test false other = other
-cut_taken fares (before ∷ earlier) line finding lacks none told =
-    rw none (cut_line line lacks, told)
+cut_taken fares (before ∷ earlier) line finding lacks none reported =
+    rw none (cut_line line lacks, reported)
 
 lines_cut : (taken : List TakenLine) (text begun : List ℕ)
     → lines_of text ≡ lines_from taken ++ lines_of begun → Lacks 10 begun
@@ -105,15 +105,16 @@ lines_cut taken text (byte ∷ begun) lines lacks not_whole =
 
 pub ended_cut : (fares : Fares) (recount : Recount) (strikes : Bool) (full : FullBalance)
     (text written : List ℕ) (good : List TapFields) (finding : LineFinding) (sums : RecountSums)
-    (told told' : List ℕ)
+    (reported reported' : List ℕ)
     → (is : HasRecounted fares recount strikes full text written good)
     → ((0 < recount.so_far.sums.lines) × (recount.begun.items ≡ []) → ⊥)
-    → finding.tap ≡ None → finding.told ≡ NoLine
+    → finding.tap ≡ None → finding.remark ≡ NoLine
     → ((taken : List TakenLine) (next : TakenLine) → next.finding ≡ finding
     → AreSums recount.so_far.sums taken → AreSums sums (next ∷ taken))
-    → told' ≡ told ++ no_line_text sums.lines
-    → HasEnded fares strikes full text written good sums told told'
-ended_cut fares recount strikes full text written good finding sums told told' is not_whole none
+    → reported' ≡ reported ++ no_line_text sums.lines
+    → HasEnded fares strikes full text written good sums reported reported'
+ended_cut fares recount strikes full text written good finding sums reported reported' is not_whole
+    none
     no_line grows grown =
     let next : TakenLine = record { line = is.begun; finding = finding; wanted = [] } in
     let counted : recount.so_far.sums.lines ≡ length is.taken = is.lines.sums.lines in
@@ -134,15 +135,16 @@ ended_cut fares recount strikes full text written good finding sums told told' i
       sums_are = all;
       more = no_line_text sums.lines;
       grown = grown;
-      all = ap (λ (w : List ℕ). w ++ no_line_text sums.lines) is.told
-          ∙ ap (λ (t : List ℕ). told_lines is.taken ++ t)
-          (ap no_line_text number ∙ sym (told_no_line (length is.taken + 1) finding no_line));
+      all = ap (λ (w : List ℕ). w ++ no_line_text sums.lines) is.reported
+          ∙ ap (λ (t : List ℕ). remark_lines is.taken ++ t)
+          (ap no_line_text number ∙ sym (remark_no_line (length is.taken + 1) finding no_line));
       struck = λ strike. taps_none (is.struck strike);
     }
   where
-    told_no_line : (number : ℕ) (finding : LineFinding) → finding.told ≡ NoLine
-        → told_text number finding.told [] ≡ no_line_text number
-    told_no_line number finding told_is = ap (λ (t : Told). told_text number t []) told_is
+    remark_no_line : (number : ℕ) (finding : LineFinding) → finding.remark ≡ NoLine
+        → remark_text number finding.remark [] ≡ no_line_text number
+    remark_no_line number finding is_remark_none =
+        ap (λ (t : Remark). remark_text number t []) is_remark_none
 
     taps_none : IsFullBalance full good (taps_from is.taken)
         → IsFullBalance full good (taps_with (taps_from is.taken) finding.tap)

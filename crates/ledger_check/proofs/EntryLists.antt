@@ -32,8 +32,10 @@ pub record Parts (fares : Fares) (earlier others : List Entry) (lines : List (Li
   pub rest : AreNext fares ((earlier ++ entries) ++ entry ∷ []) after more
 
 -- the entries before a line, its own, and those behind it
-pub next-parts : (fares : Fares) (earlier others : List Entry) (lines : List (List ℕ)) (line : List ℕ) (more : List (List ℕ))
-    → AreNext fares earlier others (lines ++ line ∷ more) → Parts fares earlier others lines line more
+pub next-parts : (fares : Fares) (earlier others : List Entry) (lines : List (List ℕ))
+    (line : List ℕ) (more : List (List ℕ))
+    → AreNext fares earlier others (lines ++ line ∷ more)
+    → Parts fares earlier others lines line more
 next-parts fares earlier [] [] line more are = absurd are
 next-parts fares earlier [] (l ∷ lines) line more are = absurd are
 next-parts fares earlier (e ∷ others) [] line more are = record {

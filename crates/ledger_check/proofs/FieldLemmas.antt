@@ -1,5 +1,5 @@
 -- The fields with which a line begins: what they lack, and what they say.
-use Rattle.std.proofs.Common.{◌≡◌, ◌≢◌, ℕ, ◌+◌, ◌/◌, ◌%◌, ◌^◌, ◌<◌, ℤ, pos, negsuc, List, [], ◌∷◌}
+use Rattle.std.proofs.Common.{◌≡◌, ℕ, ◌+◌, ◌/◌, ◌%◌, ◌^◌, ◌<◌, ℤ, pos, negsuc, List, [], ◌∷◌}
 use Rattle.std.proofs.Common.{◌++◌, length, take, drop, length-drop, append_assoc, refl, sym, ap}
 use Rattle.std.proofs.Common.{subst, ◌∙◌, arith, suc}
 use Rattle.std.proofs.lemmas.Bool.Decides.{nat_tests}
@@ -60,9 +60,6 @@ year_lacks (negsuc n) =
     (lacks-append 44 (pad2 (suc n / 100)) (pad2 (suc n % 100)) (pad2_lacks (suc n / 100))
     (pad2_lacks (suc n % 100)))
 
-one_lacks : (byte : ℕ) → byte ≢ 44 → Lacks 44 (byte ∷ [])
-one_lacks byte other = (other, tt)
-
 date_lacks : (date : Date) → Lacks 44 (date_text date)
 date_lacks date =
     let dash = lacks-tested 44 (45 ∷ []) refl in
@@ -116,7 +113,8 @@ clock_lacks ms = (
 )
 
 -- a moment's text has no comma
-pub moment_lacks : (moment : ℕ) (text : List ℕ) → moment < 4_102_444_800_000 → IsMomentText moment text → Lacks 44 text
+pub moment_lacks : (moment : ℕ) (text : List ℕ) → moment < 4_102_444_800_000
+    → IsMomentText moment text → Lacks 44 text
 moment_lacks moment text small is =
     let civil = is.civil (omega arith) in
     subst (Lacks 44) (sym civil.shown)

@@ -46,7 +46,7 @@ below (first ∷ done) entry rest tap sorted zero less =
         ap (λ (o : Option ℕ). unwrap_or o 0)
         (lookup_tail (is_at (tap_cmp tap)) first (done ++ entry ∷ rest) e) ∙ later
 
--- where none are left of the entries before this one, no tap of which some are left is below it
+-- if none are left of the entries before this one, no tap of which some are left is below it
 pub none_before : (left : BTreeMap TapFields ℕ) (done : List (TapFields × ℕ))
     (entry : TapFields × ℕ)
     (rest : List (TapFields × ℕ)) → left.entries ≡ done ++ entry ∷ rest → IsOrdered tap_cmp left

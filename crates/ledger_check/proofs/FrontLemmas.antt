@@ -1,4 +1,4 @@
--- A line tells one tap.
+-- A line names one tap.
 use Rattle.std.proofs.Common.{◌≡◌, ℕ, ◌+◌, ◌/◌, ◌%◌, ◌^◌, ◌<◌, pos, List, ◌∷◌, ◌++◌, get_or, Ok}
 use Rattle.std.proofs.Common.{refl, sym, ap, subst, ◌∙◌, arith, decimal}
 use Rattle.std.proofs.lemmas.Fmt.{decimal_injective}
@@ -63,7 +63,7 @@ tap_front line token validator moment rest is =
       shown = is.shown;
     }
 
--- texts of tokens, and of moments, tell them apart
+-- tokens with the same text are one token, and so with moments
 pub token_exact : (a b : Token) → Fits a → Fits b
     → encode_lower (bytes_of a) ≡ encode_lower (bytes_of b) → a ≡ b
 token_exact a b fits_a fits_b same =
@@ -122,7 +122,7 @@ moment_exact m n text small_m small_n is_m is_n =
     let clocks = clock_exact (m % 86_400_000) (n % 86_400_000) (sym a.clock_is ∙ b.clock_is) in
     omega (arith, days, clocks)
 
--- the tap that a line tells is one
+-- a line names one tap
 pub record SameTap (token token' : Token) (validator validator' moment moment' : ℕ)
     (rest rest' : List ℕ) : Type 0 where
   pub token_is : token ≡ token'

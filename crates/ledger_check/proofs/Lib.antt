@@ -19,7 +19,7 @@ pub mod SameLines
 mod SameTaps
 mod Spread
 pub mod StruckLemmas
-pub mod TellerLemmas
+pub mod ExplainerLemmas
 mod Times
 pub mod TokenOrder
 pub mod VerdictLemmas

@@ -39,7 +39,8 @@ lacks-reads byte (other ∷ text) none =
     (none 0 (omega arith), lacks-reads byte text (λ k within. none (suc k) (omega arith)))
 
 -- no byte of a text without the byte is that byte
-pub lacks-at : (byte : ℕ) (text : List ℕ) (k : ℕ) → Lacks byte text → 0 ≢ byte → get_or text k 0 ≢ byte
+pub lacks-at : (byte : ℕ) (text : List ℕ) (k : ℕ) → Lacks byte text → 0 ≢ byte
+    → get_or text k 0 ≢ byte
 lacks-at byte [] k lacks zeros = zeros
 lacks-at byte (other ∷ text) zero lacks zeros = lacks.0
 lacks-at byte (other ∷ text) (suc k) lacks zeros = lacks-at byte text k lacks.1 zeros
@@ -104,7 +105,8 @@ begun-open byte [] = record { rest = []; after = []; is = refl }
 begun-open byte (line ∷ lines) = record { rest = line; after = lines; is = refl }
 
 -- a line that has begun, before more text, is the first line
-pub lines-open : (begun more : List ℕ) → Lacks 10 begun → 0 < length begun → Opens begun (lines_of (begun ++ more))
+pub lines-open : (begun more : List ℕ) → Lacks 10 begun → 0 < length begun
+    → Opens begun (lines_of (begun ++ more))
 unfolding begun_with
 lines-open [] more lacks some = absurd (omega arith)
 lines-open (byte ∷ []) more lacks some =

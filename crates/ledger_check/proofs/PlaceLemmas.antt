@@ -1,6 +1,8 @@
 -- Places of taps, and what is written there.
-use Rattle.std.proofs.Common.{◌≡◌, ◌≢◌, ◌∙◌, ℕ, ◌+◌, ◌-◌, ◌<◌, ◌≤◌, ◌||◌, ◌&&◌, Bool, true, false, List, []}
-use Rattle.std.proofs.Common.{◌∷◌, ◌++◌, ap, arith, eqb-true, get_or, length, map, nat_eq, None, Option, refl}
+use Rattle.std.proofs.Common.{◌≡◌, ◌≢◌, ◌∙◌, ℕ, ◌+◌, ◌-◌, ◌<◌, ◌≤◌, ◌||◌, ◌&&◌, Bool, true, false}
+use Rattle.std.proofs.Common.{List, []}
+use Rattle.std.proofs.Common.{◌∷◌, ◌++◌, ap, arith, eqb-true, get_or, length, map, nat_eq, None}
+use Rattle.std.proofs.Common.{Option, refl}
 use Rattle.std.proofs.Common.{set, slice_get, Some, suc, sym, zero, if◌then◌else◌}
 use Rattle.std.proofs.Math.Bool.{and-true, or-false, or-true}
 use Rattle.std.proofs.lemmas.Bool.{eqb-false}
@@ -49,7 +51,8 @@ read_written {X = X} n xs at other v old b within was is = by_test (nat_eq other
         → n (slice_get (set xs at v) other) ≡ (n (slice_get xs other) || (nat_eq other at && b))
     by_test true same =
         let here : other ≡ at = eqb-true other at same in
-        ap (λ (k : ℕ). n (slice_get (set xs at v) k)) here ∙ ap n (slice_get-set_same xs at v within)
+        ap (λ (k : ℕ). n (slice_get (set xs at v) k)) here
+        ∙ ap n (slice_get-set_same xs at v within)
         ∙ is ∙ ap (λ (o : Option X). n o || b) (sym (ap (slice_get xs) here ∙ was))
         ∙ ap (λ (t : Bool). n (slice_get xs other) || (t && b)) (sym same)
     by_test false apart =
@@ -73,7 +76,8 @@ named_written xs place at there is within was (suc other) =
     ∙ read_written named_of xs at other _ there true within
     (slice_get_read xs (length xs) at there refl within was) (sym (or-true there.is_named))
     ∙ ap (λ (o : Option PlacedTap). named_of o || (nat_eq other at && true)) (sym before)
-    ∙ ap (λ (t : Bool). named_of (at_place xs (suc other)) || t) (and-true (nat_eq other at) ∙ tests)
+    ∙ ap (λ (t : Bool). named_of (at_place xs (suc other)) || t)
+    (and-true (nat_eq other at) ∙ tests)
   where
     after : List PlacedTap
     after = set xs at (record { tap = there.tap; is_named = true })

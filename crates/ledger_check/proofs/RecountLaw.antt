@@ -11,17 +11,17 @@ use Rattle.shard_book.specs.declared.entry.Entry.{Entry}
 use Rattle.tap_views.specs.declared.encoder.TapFields.{TapFields}
 use Rattle.tap_views.specs.declared.token.Token.{Token}
 use Rattle.fare_texts.specs.LedgerLines.{head_text, IsLedgerLineAfter, line_head, entry_fields}
-use Rattle.fare_texts.specs.Tellers.{next_entry}
+use Rattle.fare_texts.specs.Explainers.{next_entry}
 use Rattle.ledger_check.specs.Ledger.{AreNext, IsNext, IsNextLine, token_number}
 use Rattle.ledger_check.specs.Lines.{lines_of}
 use Rattle.ledger_check.specs.Struck.{tap_of_entry}
 use Rattle.ledger_check.specs.Recounts.{AreTaken, IsCounted, IsJudged, IsLineOfTap, RecountsDecide}
 use Rattle.ledger_check.specs.Recounts.{TakenLine, falls_after, lines_from, one_wrong, run_of}
-use Rattle.ledger_check.specs.Recounts.{run_with, taps_from, taps_with, told_for, with_first}
+use Rattle.ledger_check.specs.Recounts.{run_with, taps_from, taps_with, remark_for, with_first}
 use Rattle.ledger_check.specs.Recounts.{wrong_count}
 use Rattle.ledger_check.specs.declared.walk.CountedTap.{CountedTap}
-use Rattle.ledger_check.specs.declared.walk.Told.{Told}
-use Rattle.ledger_check.specs.declared.walk.Told.TheVariants.{Nothing, NoLine}
+use Rattle.ledger_check.specs.declared.walk.Remark.{Remark}
+use Rattle.ledger_check.specs.declared.walk.Remark.TheVariants.{Nothing, NoLine}
 use Rattle.ledger_check.proofs.EntryLists.{next-parts, next-push, none_left}
 use Rattle.ledger_check.proofs.FieldLemmas.{decimal_lacks, first_fields}
 use Rattle.ledger_check.proofs.FrontLemmas.{tap_same_of_line}
@@ -33,11 +33,11 @@ one_zero : ◌≡◌ {A = ℕ} 1 0 → ⊥
 one_zero is = absurd (omega (arith, is))
 
 -- a right line's token does not fall, and the line is the wanted one
-told_right : (falls same : Bool) → one_wrong (told_for falls same) ≡ 0
+remark_right : (falls same : Bool) → one_wrong (remark_for falls same) ≡ 0
     → (falls ≡ false) × (same ≡ true)
-told_right true same none = absurd (one_zero none)
-told_right false true none = (refl, refl)
-told_right false false none = absurd (one_zero none)
+remark_right true same none = absurd (one_zero none)
+remark_right false true none = (refl, refl)
+remark_right false false none = absurd (one_zero none)
 
 -- one line more of a ledger
 pub record Step (fares : Fares) (run entries : List Entry) (line : List ℕ) (tap : Option CountedTap)
@@ -56,10 +56,10 @@ pub record Ruled (fares : Fares) (run entries : List Entry) (tap : CountedTap)
   pub shown : IsNextLine fares (own tap.entry.token entries) tap.entry wanted
 
 ruled_of : (fares : Fares) (run entries : List Entry) (line : List ℕ) (tap : CountedTap)
-    (told : Told) (wanted : List ℕ)
-    → IsCounted fares run line tap told wanted → State run entries
+    (remark : Remark) (wanted : List ℕ)
+    → IsCounted fares run line tap remark wanted → State run entries
     → falls_after run tap.entry.token ≡ false → Ruled fares run entries tap wanted
-ruled_of fares run entries line tap told wanted is state up =
+ruled_of fares run entries line tap remark wanted is state up =
     let same = (unfallen run entries tap.entry.token state is.of_tap.fits up).same in record {
       same = same;
       ruled = subst
@@ -71,17 +71,17 @@ ruled_of fares run entries line tap told wanted is state up =
     }
 
 right_step : (fares : Fares) (run entries : List Entry) (line : List ℕ) (tap : Option CountedTap)
-    (told : Told) (wanted : List ℕ)
-    → IsJudged fares run line tap told wanted → one_wrong told ≡ 0 → State run entries
+    (remark : Remark) (wanted : List ℕ)
+    → IsJudged fares run line tap remark wanted → one_wrong remark ≡ 0 → State run entries
     → length entries < 2 ^ 62
     → (entry : Entry) × Step fares run entries line tap entry
-right_step fares run entries line None told wanted judged none state few =
+right_step fares run entries line None remark wanted judged none state few =
     absurd (one_zero (ap one_wrong (sym judged.1) ∙ none))
-right_step fares run entries line (Some tap) told wanted is none state few =
+right_step fares run entries line (Some tap) remark wanted is none state few =
     let entry = tap.entry in
-    let is_right = told_right (falls_after run entry.token) (bytes_eq line wanted)
-    (ap one_wrong (sym is.is_told) ∙ none) in
-    let all = ruled_of fares run entries line tap told wanted is state is_right.0 in
+    let is_right = remark_right (falls_after run entry.token) (bytes_eq line wanted)
+    (ap one_wrong (sym is.is_remark) ∙ none) in
+    let all = ruled_of fares run entries line tap remark wanted is state is_right.0 in
     let line_is : line ≡ wanted = (bytes_eq-Decides line wanted).0 is_right.1 in (
       entry,
       record {
@@ -125,10 +125,10 @@ legal_push fares taken next entries lines entry legal step =
       counted = omega (arith, size, before);
     }
 
-head_tested : (line : List ℕ) (b : Bool) (told : Told) → bytes_eq line head_text ≡ b
-    → told ≡ (if b then Nothing else NoLine) → one_wrong told ≡ 0 → line ≡ head_text
-head_tested line true told same is none = (bytes_eq-Decides line head_text).0 same
-head_tested line false told same is none = absurd (one_zero (ap one_wrong (sym is) ∙ none))
+head_tested : (line : List ℕ) (b : Bool) (remark : Remark) → bytes_eq line head_text ≡ b
+    → remark ≡ (if b then Nothing else NoLine) → one_wrong remark ≡ 0 → line ≡ head_text
+head_tested line true remark same is none = (bytes_eq-Decides line head_text).0 same
+head_tested line false remark same is none = absurd (one_zero (ap one_wrong (sym is) ∙ none))
 
 legal_head : (fares : Fares) (first : TakenLine) → first.finding.tap ≡ None
     → Legal fares (first ∷ []) [] []
@@ -151,7 +151,8 @@ right_at : (fares : Fares) (next : TakenLine) (taken : List TakenLine)
     → length (next ∷ taken) ≤ 2 ^ 62 → (0 < length taken → Right fares taken)
     → Right fares (next ∷ taken)
 right_at fares first [] are none few before =
-    let is = head_tested first.line (bytes_eq first.line head_text) first.finding.told refl are.1.1
+    let is = head_tested first.line (bytes_eq first.line head_text) first.finding.remark refl
+    are.1.1
     (omega (arith, none)) in record {
       entries = [];
       lines = [];
@@ -163,7 +164,7 @@ right_at fares next (last ∷ earlier) are none few before =
     let rest = before (omega arith) in
     let counted : length taken ≡ length rest.entries + 1 = rest.legal.counted in
     let step = right_step fares (run_of taken) rest.entries next.line next.finding.tap
-    next.finding.told next.wanted are.1 (omega (arith, none)) rest.legal.state
+    next.finding.remark next.wanted are.1 (omega (arith, none)) rest.legal.state
     (omega (arith, few, counted)) in record {
       entries = rest.entries ++ step.0 ∷ [];
       lines = rest.lines ++ next.line ∷ [];
@@ -179,7 +180,7 @@ right fares (next ∷ taken) are none some few =
     right_at fares next taken are none few
     (λ more. right fares taken are.0 (omega (arith, none)) more (omega (arith, few)))
 
--- the line of a ledger's entry tells its tap
+-- the line of a ledger's entry names its tap
 pub next_line_tap : (fares : Fares) (earlier : List Entry) (entry : Entry) (line : List ℕ)
     → IsNext fares earlier entry line
     → (rest : List ℕ) × IsLineOfTap line entry.token entry.validator entry.moment rest
@@ -217,34 +218,35 @@ next_line_tap fares earlier entry line is =
 
 -- the line of a ledger's entry is right
 pub record StepRight (fares : Fares) (run entries : List Entry) (line : List ℕ)
-    (tap : Option CountedTap) (told : Told) (entry : Entry) : Type 0 where
-  pub none : one_wrong told ≡ 0
+    (tap : Option CountedTap) (remark : Remark) (entry : Entry) : Type 0 where
+  pub none : one_wrong remark ≡ 0
   pub step : Step fares run entries line tap entry
 
 legal_step : (fares : Fares) (run entries : List Entry) (line : List ℕ) (tap : Option CountedTap)
-    (told : Told) (wanted : List ℕ) (entry : Entry)
-    → IsJudged fares run line tap told wanted → State run entries → IsNext fares entries entry line
-    → StepRight fares run entries line tap told entry
-legal_step fares run entries line None told wanted entry judged state next =
-    let tells = next_line_tap fares entries entry line next in
-    absurd (judged.0 entry.token entry.validator entry.moment tells.0 tells.1)
-legal_step fares run entries line (Some tap) told wanted entry is state next =
-    let tells = next_line_tap fares entries entry line next in
+    (remark : Remark) (wanted : List ℕ) (entry : Entry)
+    → IsJudged fares run line tap remark wanted → State run entries
+    → IsNext fares entries entry line
+    → StepRight fares run entries line tap remark entry
+legal_step fares run entries line None remark wanted entry judged state next =
+    let reports = next_line_tap fares entries entry line next in
+    absurd (judged.0 entry.token entry.validator entry.moment reports.0 reports.1)
+legal_step fares run entries line (Some tap) remark wanted entry is state next =
+    let reports = next_line_tap fares entries entry line next in
     let same = tap_same_of_line line entry.token tap.entry.token entry.validator tap.entry.validator
-    entry.moment tap.entry.moment tells.0 is.rest tells.1 is.of_tap in
+    entry.moment tap.entry.moment reports.0 is.rest reports.1 is.of_tap in
     let up = no_fall run entries tap.entry.token state
     (subst (λ (t : Token). All (λ (e : Entry). token_number e.token ≤ token_number t) entries)
     same.token_is next.no_fall) in
-    let all = ruled_of fares run entries line tap told wanted is state up in
+    let all = ruled_of fares run entries line tap remark wanted is state up in
     let one = next_same fares entries entry tap.entry line wanted next
     (ruled_replied fares entries tap.entry all.ruled) all.shown same.token_is same.validator_is
     same.moment_is in
-    let told_is : told ≡ Nothing = is.is_told
-    ∙ ap (λ (b : Bool). told_for b (bytes_eq line wanted)) up
-    ∙ ap (λ (b : Bool). told_for false b) ((bytes_eq-Decides line wanted).1 one.1) in
+    let is_remark_none : remark ≡ Nothing = is.is_remark
+    ∙ ap (λ (b : Bool). remark_for b (bytes_eq line wanted)) up
+    ∙ ap (λ (b : Bool). remark_for false b) ((bytes_eq-Decides line wanted).1 one.1) in
     let back : tap.entry ≡ entry = sym one.0 in
     record {
-      none = ap one_wrong told_is;
+      none = ap one_wrong is_remark_none;
       step = record {
         next = next;
         state = subst
@@ -288,8 +290,10 @@ all_right_at fares first [] are before entries lines split next =
     let none : entries ≡ [] =
     none_left fares [] entries
     (subst (λ (ls : List (List ℕ)). AreNext fares [] entries ls) empty next) in
-    let told : first.finding.told ≡ Nothing = are.1.1 ∙ ap (λ (b : Bool). if b then Nothing else NoLine) ((bytes_eq-Decides first.line head_text).1 head) in
-    let here : one_wrong first.finding.told ≡ 0 = ap one_wrong told in
+    let remark : first.finding.remark ≡ Nothing =
+    are.1.1 ∙ ap (λ (b : Bool). if b then Nothing else NoLine)
+    ((bytes_eq-Decides first.line head_text).1 head) in
+    let here : one_wrong first.finding.remark ≡ 0 = ap one_wrong remark in
     record {
       none = omega (arith, here);
       legal = subst (λ (es : List Entry). Legal fares (first ∷ []) es lines) (sym none)
@@ -304,12 +308,13 @@ all_right_at fares next (last ∷ earlier) are before entries lines split nexts 
     let parts = next-parts fares [] entries cut.rest next.line []
     (subst (λ (ls : List (List ℕ)). AreNext fares [] entries ls) cut.whole nexts) in
     let rest = before parts.entries cut.rest cut.front parts.are in
-    let one = legal_step fares (run_of taken) parts.entries next.line next.finding.tap next.finding.told next.wanted parts.entry are.1 rest.legal.state parts.is in
+    let one = legal_step fares (run_of taken) parts.entries next.line next.finding.tap
+    next.finding.remark next.wanted parts.entry are.1 rest.legal.state parts.is in
     let whole : entries ≡ parts.entries ++ parts.entry ∷ [] =
     parts.whole ∙ ap (λ (es : List Entry). parts.entries ++ parts.entry ∷ es)
     (none_left fares _ parts.after parts.rest) in
     let before_none : wrong_count taken ≡ 0 = rest.none in
-    let here : one_wrong next.finding.told ≡ 0 = one.none in
+    let here : one_wrong next.finding.remark ≡ 0 = one.none in
     record {
       none = omega (arith, before_none, here);
       legal = subst (λ (es : List Entry). Legal fares (next ∷ taken) es lines) (sym whole)

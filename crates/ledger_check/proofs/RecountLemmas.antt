@@ -13,14 +13,15 @@ use Rattle.tap_views.specs.declared.token.Token.{Token}
 use Rattle.fare_texts.specs.LedgerLines.{head_text}
 use Rattle.ledger_check.specs.Lines.{IsLine, Lacks, lines_of}
 use Rattle.ledger_check.specs.Recounts.{IsJudged, IsLineOfTap, IsTaken, TakenLine, lines_from}
-use Rattle.ledger_check.specs.Recounts.{run_of, run_with, told_text}
-use Rattle.ledger_check.specs.RecountStates.{AreSums, HasRecounted, HasRunTeller, HasTakenLines, IsKept}
+use Rattle.ledger_check.specs.Recounts.{run_of, run_with, remark_text}
+use Rattle.ledger_check.specs.RecountStates.{AreSums, HasRecounted, HasRunExplainer, HasTakenLines}
+use Rattle.ledger_check.specs.RecountStates.{IsKept}
 use Rattle.ledger_check.specs.inside.Recounts.{HasFound, HasJudged, IsFirstFinding, TookLine}
 use Rattle.ledger_check.specs.declared.recount.LinesTaken.{LinesTaken}
 use Rattle.ledger_check.specs.declared.recount.Recount.{Recount}
 use Rattle.ledger_check.specs.declared.walk.CountedTap.{CountedTap}
 use Rattle.ledger_check.specs.declared.walk.LineFinding.{LineFinding}
-use Rattle.ledger_check.specs.declared.walk.Told.TheVariants.{Nothing, NoLine}
+use Rattle.ledger_check.specs.declared.walk.Remark.TheVariants.{Nothing, NoLine}
 use Rattle.ledger_check.specs.declared.walk.Walk.{Walk}
 use Rattle.ledger_check.proofs.LineLemmas.{lacks-append, lacks-last, lines-line}
 use Rattle.ledger_check.proofs.TokenOrder.{own-few}
@@ -67,14 +68,14 @@ found_first fares so_far taken kept whole finding lines none same is =
     subst (λ (ts : List TakenLine). HasFound fares ts whole so_far.walk finding) (sym empty)
     (record {
       is = first;
-      teller = subst (λ (r : List Entry). HasRunTeller fares so_far.walk.teller r)
-          (run ∙ sym (ap (run_with []) first.0)) lines.teller;
+      explainer = subst (λ (r : List Entry). HasRunExplainer fares so_far.walk.explainer r)
+          (run ∙ sym (ap (run_with []) first.0)) lines.explainer;
     })
 
 -- behind the first line a line is judged
 judged_taken : (fares : Fares) (taken : List TakenLine) (line : List ℕ) (finding : LineFinding)
     (wanted : List ℕ) → 0 < length taken
-    → IsJudged fares (run_of taken) line finding.tap finding.told wanted
+    → IsJudged fares (run_of taken) line finding.tap finding.remark wanted
     → IsTaken fares taken (record { line = line; finding = finding; wanted = wanted })
 judged_taken fares [] line finding wanted some is = absurd (omega (arith, some))
 judged_taken fares (before ∷ earlier) line finding wanted some is = is
@@ -96,24 +97,24 @@ pub found_long : (fares : Fares) (so_far : LinesTaken) (taken : List TakenLine)
     (kept whole : List ℕ) (finding : LineFinding)
     → HasTakenLines fares so_far taken → 0 < so_far.sums.lines → IsKept kept whole
     → 255 < length kept
-    → finding.tap ≡ None → finding.told ≡ NoLine → HasFound fares taken whole so_far.walk finding
-found_long fares so_far taken kept whole finding lines some same long none told =
+    → finding.tap ≡ None → finding.remark ≡ NoLine → HasFound fares taken whole so_far.walk finding
+found_long fares so_far taken kept whole finding lines some same long none reported =
     let counted : so_far.sums.lines ≡ length taken = lines.sums.lines in
     let wanted = string_bytes so_far.walk.wanted in
     let longer = kept_long kept whole same long in
     record {
       is = judged_taken fares taken whole finding wanted (omega (arith, some, counted))
-          (subst (λ (t : Option CountedTap). IsJudged fares (run_of taken) whole t finding.told
+          (subst (λ (t : Option CountedTap). IsJudged fares (run_of taken) whole t finding.remark
           wanted) (sym none) (
             λ token validator moment rest is. let short : length whole ≤ 255 = is.short in
                 omega (arith, longer, short),
-            told,
+            reported,
           ));
-      teller = subst
-          (λ (t : Option CountedTap). HasRunTeller fares so_far.walk.teller
+      explainer = subst
+          (λ (t : Option CountedTap). HasRunExplainer fares so_far.walk.explainer
           (run_with (run_of taken) t)) (sym none)
-          (subst (λ (r : List Entry). HasRunTeller fares so_far.walk.teller r) lines.is_run
-          lines.teller);
+          (subst (λ (r : List Entry). HasRunExplainer fares so_far.walk.explainer r) lines.is_run
+          lines.explainer);
     }
 
 pub found_judged : (fares : Fares) (so_far : LinesTaken) (after : Walk) (taken : List TakenLine)
@@ -127,12 +128,13 @@ found_judged fares so_far after taken kept whole finding lines some same short j
     let line = kept_short kept whole same short in
     record {
       is = judged_taken fares taken whole finding wanted (omega (arith, some, counted))
-          (subst (λ (r : List Entry). IsJudged fares r whole finding.tap finding.told wanted)
+          (subst (λ (r : List Entry). IsJudged fares r whole finding.tap finding.remark wanted)
           lines.is_run
-          (subst (λ (l : List ℕ). IsJudged fares lines.run l finding.tap finding.told wanted) line
+          (subst (λ (l : List ℕ). IsJudged fares lines.run l finding.tap finding.remark wanted) line
           judged.is));
-      teller = subst (λ (r : List Entry). HasRunTeller fares after.teller (run_with r finding.tap))
-          lines.is_run judged.teller;
+      explainer = subst
+          (λ (r : List Entry). HasRunExplainer fares after.explainer (run_with r finding.tap))
+          lines.is_run judged.explainer;
     }
 
 -- a run has no more entries than there are lines
@@ -161,7 +163,7 @@ lines_more fares so_far after taken line finding lines found sums = record {
       lines.is_run
       (few_with lines.run finding.tap (length taken) lines.few) in
       omega (arith, size);
-  teller = found.teller;
+  explainer = found.explainer;
 }
 
 pub kept_none : (kept begun : List ℕ) → IsKept kept begun → kept ≡ [] → begun ≡ []
@@ -175,7 +177,9 @@ none_kept kept begun (inr (left, right)) none =
     absurd (omega (arith, right, ap (λ (l : List ℕ). length l) none))
 
 -- a piece without a newline
-pub split_part : (lines : List (List ℕ)) (text begun piece : List ℕ) → ((more : List ℕ) → lines_of (text ++ more) ≡ lines ++ lines_of (begun ++ more)) → (more : List ℕ)
+pub split_part : (lines : List (List ℕ)) (text begun piece : List ℕ)
+    → ((more : List ℕ) → lines_of (text ++ more) ≡ lines ++ lines_of (begun ++ more))
+    → (more : List ℕ)
     → lines_of ((text ++ piece) ++ more) ≡ lines ++ lines_of ((begun ++ piece) ++ more)
 split_part lines text begun piece split more =
     ap lines_of (append_assoc text piece more) ∙ split (piece ++ more)
@@ -194,13 +198,16 @@ kept_piece fares recount after strikes full text piece written good is lacks sam
   kept = kept;
   lacks = lacks-append 10 is.begun piece is.lacks lacks;
   split = split_part (lines_from is.taken) text is.begun piece is.split;
-  told = append-nil written ∙ is.told;
+  reported = append-nil written ∙ is.reported;
   struck = is.struck;
 }
 
 -- a piece that ends a line
-pub split_line_at : (lines : List (List ℕ)) (text begun line : List ℕ) → ((more : List ℕ) → lines_of (text ++ more) ≡ lines ++ lines_of (begun ++ more)) → Lacks 10 begun → IsLine line
-    → (more : List ℕ) → lines_of ((text ++ line) ++ more) ≡ (lines ++ (begun ++ line) ∷ []) ++ lines_of more
+pub split_line_at : (lines : List (List ℕ)) (text begun line : List ℕ)
+    → ((more : List ℕ) → lines_of (text ++ more) ≡ lines ++ lines_of (begun ++ more))
+    → Lacks 10 begun → IsLine line
+    → (more : List ℕ) → lines_of ((text ++ line) ++ more)
+    ≡ (lines ++ (begun ++ line) ∷ []) ++ lines_of more
 split_line_at lines text begun line split lacks is more =
     let whole : begun ++ line ≡ (begun ++ is.front) ++ 10 ∷ [] =
     ap (λ (l : List ℕ). begun ++ l) is.shown ∙ sym (append_assoc begun is.front (10 ∷ [])) in
@@ -224,15 +231,16 @@ line_ends begun line lacks is = record {
 -- the next line was taken, and nothing is begun behind it
 pub took_line_of : (fares : Fares) (recount after : Recount) (strikes : Bool)
     (full full' : FullBalance) (text line written : List ℕ) (good : List TapFields)
-    (told told' : List ℕ)
+    (reported reported' : List ℕ)
     → (is : HasRecounted fares recount strikes full text written good) → IsLine line
     → after.begun.items ≡ []
-    → TookLine fares is.taken (is.begun ++ line) after.so_far strikes full full' told told'
-    → (more : List ℕ) × (told' ≡ told ++ more)
+    → TookLine fares is.taken (is.begun ++ line) after.so_far strikes full full' reported reported'
+    → (more : List ℕ) × (reported' ≡ reported ++ more)
     × HasRecounted fares after strikes full' (text ++ line) (written ++ more) good
-took_line_of fares recount after strikes full full' text line written good told told' is ends none
+took_line_of fares recount after strikes full full' text line written good reported reported' is
+    ends none
     took = (
-      told_text (length is.taken + 1) took.next.finding.told took.next.wanted,
+      remark_text (length is.taken + 1) took.next.finding.remark took.next.wanted,
       took.written,
       record {
         taken = took.next ∷ is.taken;
@@ -244,14 +252,14 @@ took_line_of fares recount after strikes full full' text line written good told 
             ends
             more
             ∙ ap (λ (l : List ℕ). (lines_from is.taken ++ l ∷ []) ++ lines_of more) (sym took.is);
-        told = ap
-            (λ (t : List ℕ). t ++ told_text (length is.taken + 1) took.next.finding.told
-            took.next.wanted) is.told;
+        reported = ap
+            (λ (t : List ℕ). t ++ remark_text (length is.taken + 1) took.next.finding.remark
+            took.next.wanted) is.reported;
         struck = λ strike. took.struck good strike (is.struck strike);
       },
     )
 
--- no tap is told by a line without its newline
+-- a line without its newline names no tap
 pub cut_line : (line : List ℕ) → Lacks 10 line
     → (token : Token) (validator moment : ℕ) (rest : List ℕ)
     → IsLineOfTap line token validator moment rest → ⊥

@@ -8,11 +8,11 @@ use Rattle.tap_views.specs.Token.{Fits}
 use Rattle.shard_book.specs.declared.entry.Entry.{Entry}
 use Rattle.tap_views.specs.declared.token.Token.{Token}
 use Rattle.fare_texts.specs.LedgerLines.{IsLedgerLine}
-use Rattle.fare_texts.specs.declared.teller.Teller.{Teller}
+use Rattle.fare_texts.specs.declared.explainer.Explainer.{Explainer}
 use Rattle.ledger_check.specs.Ledger.{AreNext, IsNext, IsPostable, token_number}
-use Rattle.ledger_check.specs.Replays.{HasRead, HasTeller, IsWanted, IsWrongAfter, StandsForOwn}
+use Rattle.ledger_check.specs.Replays.{HasRead, HasExplainer, IsWanted, IsWrongAfter, StandsForOwn}
 use Rattle.ledger_check.specs.inside.Replays.{GoesOn}
-use Rattle.ledger_check.specs.inside.Taps.{IsEntryOfTap, TellsTap}
+use Rattle.ledger_check.specs.inside.Taps.{IsEntryOfTap, NamesTap}
 use Rattle.ledger_check.specs.declared.replay.Replay.{Replay}
 use Rattle.ledger_check.specs.declared.tap.Tap.{Tap}
 use Rattle.ledger_check.proofs.EntryLists.{next-parts, next-push, none_left}
@@ -57,8 +57,8 @@ wrong_full fares replay lines line read full =
     absurd (omega (arith, read.counted)))
 
 -- no entry has the line
-abbrev pub TellsNone : Fares → List ℕ → Type 0
-TellsNone fares line =
+abbrev pub NamesNone : Fares → List ℕ → Type 0
+NamesNone fares line =
     (number : ℕ) (entry : Entry) (why : Reason) → number < 2 ^ 64 → IsPostable entry
     → IsLedgerLine fares entry.token number entry why line → ⊥
 
@@ -71,67 +71,67 @@ small_number fares earlier entry line is =
 
 pub wrong_unread : (fares : Fares) (replay : Replay) (lines : List (List ℕ)) (line : List ℕ)
     → HasRead fares replay lines
-    → TellsNone fares line → IsWrongAfter fares lines line
+    → NamesNone fares line → IsWrongAfter fares lines line
 wrong_unread fares replay lines line read none =
     wrong fares replay lines line read
     (λ entry is. none _ entry _ (small_number fares read.entries entry line is) is.postable
     is.shown)
 
 pub tap_of_next : (fares : Fares) (earlier : List Entry) (entry : Entry) (line : List ℕ) (tap : Tap)
-    → TellsTap fares line tap
+    → NamesTap fares line tap
     → IsNext fares earlier entry line → IsEntryOfTap tap entry
-tap_of_next fares earlier entry line tap tells is =
-    tells _ entry _ (small_number fares earlier entry line is) is.postable is.shown
+tap_of_next fares earlier entry line tap reports is =
+    reports _ entry _ (small_number fares earlier entry line is) is.postable is.shown
 
--- there is no teller for the token, since it is less than the last one
+-- there is no explainer for the token, since it is less than the last one
 abbrev pub IsLess : Fares → Replay → Token → Type 0
-IsLess fares replay token = (entries : List Entry) → HasTeller fares replay.teller entries
+IsLess fares replay token = (entries : List Entry) → HasExplainer fares replay.explainer entries
     → All (λ entry. token_number entry.token ≤ token_number token) entries → ⊥
 
 pub wrong_less : (fares : Fares) (replay : Replay) (lines : List (List ℕ)) (line : List ℕ)
     (tap : Tap) → HasRead fares replay lines
-    → TellsTap fares line tap → IsLess fares replay tap.token → IsWrongAfter fares lines line
-wrong_less fares replay lines line tap read tells less =
+    → NamesTap fares line tap → IsLess fares replay tap.token → IsWrongAfter fares lines line
+wrong_less fares replay lines line tap read reports less =
     wrong fares replay lines line read (λ entry is.
-    let of = tap_of_next fares read.entries entry line tap tells is in
-    less read.entries read.teller
+    let of = tap_of_next fares read.entries entry line tap reports is in
+    less read.entries read.explainer
     (subst (λ (t : Token). All (λ (e : Entry). token_number e.token ≤ token_number t) read.entries)
     of.token is.no_fall))
 
 -- the entry that the tap makes, and its line
-pub same_next : (fares : Fares) (teller after : Teller) (earlier : List Entry)
+pub same_next : (fares : Fares) (explainer after : Explainer) (earlier : List Entry)
     (line wanted : List ℕ) (tap : Tap)
-    (goes : GoesOn fares teller earlier tap.validator tap.moment wanted after)
-    → teller.token ≡ tap.token → TellsTap fares line tap → (entry : Entry)
+    (goes : GoesOn fares explainer earlier tap.validator tap.moment wanted after)
+    → explainer.token ≡ tap.token → NamesTap fares line tap → (entry : Entry)
     → IsNext fares earlier entry line
     → (entry ≡ goes.entry) × (line ≡ wanted)
-same_next fares teller after earlier line wanted tap goes token tells entry is =
-    let of = tap_of_next fares earlier entry line tap tells is in
+same_next fares explainer after earlier line wanted tap goes token reports entry is =
+    let of = tap_of_next fares earlier entry line tap reports is in
     next_same fares earlier entry goes.entry line wanted is goes.replied goes.shown
     (of.token ∙ sym token ∙ sym goes.token) (of.validator ∙ sym goes.of_validator)
     (of.moment ∙ sym goes.of_moment)
 
 pub wrong_other : (fares : Fares) (replay : Replay) (lines : List (List ℕ)) (line wanted : List ℕ)
-    (teller after : Teller) (tap : Tap)
+    (explainer after : Explainer) (tap : Tap)
     → (read : HasRead fares replay lines)
-    → GoesOn fares teller read.entries tap.validator tap.moment wanted after
-    → teller.token ≡ tap.token → TellsTap fares line tap → (wanted ≡ line → ⊥)
+    → GoesOn fares explainer read.entries tap.validator tap.moment wanted after
+    → explainer.token ≡ tap.token → NamesTap fares line tap → (wanted ≡ line → ⊥)
     → IsWrongAfter fares lines line
-wrong_other fares replay lines line wanted teller after tap read goes token tells other =
+wrong_other fares replay lines line wanted explainer after tap read goes token reports other =
     wrong fares replay lines line read (λ entry is.
     other (sym
-    (same_next fares teller after read.entries line wanted tap goes token tells entry is).1))
+    (same_next fares explainer after read.entries line wanted tap goes token reports entry is).1))
 
 -- what the tap makes is postable
 abbrev pub CanPost : Tap → Type 0
 CanPost tap = (tap.validator < 2 ^ 32) × (tap.moment < 4_102_444_800_000)
 
-pub next_of : (fares : Fares) (teller after : Teller) (earlier : List Entry) (wanted : List ℕ)
+pub next_of : (fares : Fares) (explainer after : Explainer) (earlier : List Entry) (wanted : List ℕ)
     (tap : Tap)
-    → (goes : GoesOn fares teller earlier tap.validator tap.moment wanted after)
-    → StandsForOwn fares teller earlier → CanPost tap
+    → (goes : GoesOn fares explainer earlier tap.validator tap.moment wanted after)
+    → StandsForOwn fares explainer earlier → CanPost tap
     → length wanted ≤ 255 → length earlier < 2 ^ 62 → IsNext fares earlier goes.entry wanted
-next_of fares teller after earlier wanted tap goes stands can short few =
+next_of fares explainer after earlier wanted tap goes stands can short few =
     let validator : goes.entry.validator ≡ tap.validator = goes.of_validator in
     let moment : goes.entry.moment ≡ tap.moment = goes.of_moment in
     record {
@@ -151,20 +151,21 @@ next_of fares teller after earlier wanted tap goes stands can short few =
 
 -- the line is the one that its tap should have
 pub read_more : (fares : Fares) (replay next : Replay) (lines : List (List ℕ))
-    (line wanted : List ℕ) (teller after : Teller) (tap : Tap)
+    (line wanted : List ℕ) (explainer after : Explainer) (tap : Tap)
     → (read : HasRead fares replay lines)
-    → GoesOn fares teller read.entries tap.validator tap.moment wanted after
-    → StandsForOwn fares teller read.entries → CanPost tap
-    → teller.token ≡ tap.token → TellsTap fares line tap → wanted ≡ line → length line ≤ 255
+    → GoesOn fares explainer read.entries tap.validator tap.moment wanted after
+    → StandsForOwn fares explainer read.entries → CanPost tap
+    → explainer.token ≡ tap.token → NamesTap fares line tap → wanted ≡ line → length line ≤ 255
     → replay.lines < 4_611_686_018_427_387_904 → next.lines ≡ replay.lines + 1
-    → next.teller ≡ Some after
+    → next.explainer ≡ Some after
     → HasRead fares next (lines ++ line ∷ [])
-read_more fares replay next lines line wanted teller after tap read goes stands can token tells same
-    short room counted is_teller =
+read_more fares replay next lines line wanted explainer after tap read goes stands can token reports
+    same
+    short room counted is_explainer =
     let few : length read.entries < 2 ^ 62 = omega (arith, read.counted) in
     let is : IsNext fares read.entries goes.entry line =
     subst (λ (l : List ℕ). IsNext fares read.entries goes.entry l) same
-    (next_of fares teller after read.entries wanted tap goes stands can
+    (next_of fares explainer after read.entries wanted tap goes stands can
     (subst (λ (l : List ℕ). length l ≤ 255) (sym same) short) few) in
     let more = length-append read.entries (goes.entry ∷ []) in
     record {
@@ -173,25 +174,26 @@ read_more fares replay next lines line wanted teller after tap read goes stands 
       only = λ others are.
           let last = last_of fares replay lines line read others are in
           last.2 ∙ ap (λ (e : Entry). read.entries ++ e ∷ [])
-          (same_next fares teller after read.entries line wanted tap goes token tells last.0
+          (same_next fares explainer after read.entries line wanted tap goes token reports last.0
           last.1).0;
       counted = omega (arith, more, read.counted);
       few = omega (arith, more);
-      teller = subst (λ (t : Option Teller). HasTeller fares t (read.entries ++ goes.entry ∷ []))
-          (sym is_teller) (goes.stands, goes.some);
+      explainer = subst
+          (λ (t : Option Explainer). HasExplainer fares t (read.entries ++ goes.entry ∷ []))
+          (sym is_explainer) (goes.stands, goes.some);
     }
 
 pub wanted_next : (fares : Fares) (replay : Replay) (lines : List (List ℕ)) (wanted : List ℕ)
-    (teller after : Teller) (tap : Tap)
+    (explainer after : Explainer) (tap : Tap)
     → (read : HasRead fares replay lines)
-    → GoesOn fares teller read.entries tap.validator tap.moment wanted after
-    → StandsForOwn fares teller read.entries → CanPost tap → length wanted ≤ 255
+    → GoesOn fares explainer read.entries tap.validator tap.moment wanted after
+    → StandsForOwn fares explainer read.entries → CanPost tap → length wanted ≤ 255
     → replay.lines < 4_611_686_018_427_387_904
     → IsWanted fares lines wanted
-wanted_next fares replay lines wanted teller after tap read goes stands can short room =
+wanted_next fares replay lines wanted explainer after tap read goes stands can short room =
     let few : length read.entries < 2 ^ 62 = omega (arith, read.counted) in (
       read.entries,
       goes.entry,
       read.are,
-      next_of fares teller after read.entries wanted tap goes stands can short few,
+      next_of fares explainer after read.entries wanted tap goes stands can short few,
     )

@@ -14,7 +14,7 @@ use Rattle.shard_book.proofs.OwnEntries.{own_all}
 use Rattle.tap_views.proofs.TokenLemmas.{same_token}
 use Rattle.tap_views.specs.Token.{Fits}
 use Rattle.tap_views.specs.declared.token.Token.{Token}
-use Rattle.fare_texts.specs.Tellers.{next_entry}
+use Rattle.fare_texts.specs.Explainers.{next_entry}
 use Rattle.ledger_check.specs.Ledger.{token_number}
 use Rattle.ledger_check.specs.Recounts.{falls_after}
 use Rattle.ledger_check.proofs.TokenOrder.{own-above, own-more}
@@ -38,7 +38,7 @@ own-of token (e ∷ entries) = by_test (is_of token e) refl (own-of token entrie
         at (suc k) d within = rest k d (omega arith)
     by_test false apart rest = rest
 
--- the entries of the last token, which are those of the run, where no token falls
+-- the entries of the last token, which are those of the run, if no token falls
 pub record LastRun (run entries : List Entry) : Type 0 where
   pub last : Token
   pub fits : Fits last
@@ -67,7 +67,7 @@ up_run : (run : List Entry) (last : Token) → All (λ entry. entry.token ≡ la
     → All (λ entry. token_number entry.token ≤ token_number last) run
 up_run run last all = λ k d within. le_of_eq (ap (λ (t : Token). token_number t) (all k d within))
 
--- where a token does not fall, its entries of the run are all its entries
+-- if a token does not fall, its entries of the run are all its entries
 pub record Unfallen (run entries : List Entry) (token : Token) : Type 0 where
   pub same : own token run ≡ own token entries
   pub up_to : All (λ entry. token_number entry.token ≤ token_number token) entries
@@ -105,7 +105,7 @@ unfolding own
 own_still token entries other all =
     All-filter (is_of token) (λ (e : Entry). token_number e.token ≤ token_number other) entries all
 
--- where no entry's token is greater, the token does not fall
+-- if no entry's token is greater, the token does not fall
 pub no_fall : (run entries : List Entry) (token : Token) → State run entries
     → All (λ entry. token_number entry.token ≤ token_number token) entries
     → falls_after run token ≡ false

@@ -42,7 +42,8 @@ civil_same moment a b is also =
     ∙ sym also.shown
 
 -- a moment has one text
-pub moment_same : (moment : ℕ) (a b : List ℕ) → IsMomentText moment a → IsMomentText moment b → a ≡ b
+pub moment_same : (moment : ℕ) (a b : List ℕ) → IsMomentText moment a → IsMomentText moment b
+    → a ≡ b
 moment_same moment a b is also =
     ⊎_elim
     (λ (below : moment < 253_402_207_200_000). civil_same moment a b (is.civil below)
@@ -75,8 +76,10 @@ reason_fields_same (Transfer moment mode) a b is also = pointing_same _ moment a
 reason_fields_same (Ride start until charge) a b is also = ride_same start until charge a b is also
 
 -- an entry has one line
-pub line_same : (fares : Fares) (token : Token) (number : ℕ) (entry : Entry) (why : Reason) (a b : List ℕ)
-    → IsLedgerLine fares token number entry why a → IsLedgerLine fares token number entry why b → a ≡ b
+pub line_same : (fares : Fares) (token : Token) (number : ℕ) (entry : Entry) (why : Reason)
+    (a b : List ℕ)
+    → IsLedgerLine fares token number entry why a → IsLedgerLine fares token number entry why b
+    → a ≡ b
 line_same fares token number entry why a b is also =
     let head = line_head token number in
     let fields = entry_fields fares entry in
@@ -84,7 +87,7 @@ line_same fares token number entry why a b is also =
     ∙ ap (λ (t : List ℕ). head ++ (t ++ (fields ++ (is.reason_fields ++ 10 ∷ []))))
     (moment_same entry.moment is.moment also.moment is.is also.is)
     ∙ ap (λ (t : List ℕ). head ++ (also.moment ++ (fields ++ (t ++ 10 ∷ []))))
-    (reason_fields_same why is.reason_fields also.reason_fields is.told also.told)
+    (reason_fields_same why is.reason_fields also.reason_fields is.explained also.explained)
     ∙ sym also.shown
 
 abbrev entry_by : Token → ℕ → ℕ → Answer → ℕ → Entry

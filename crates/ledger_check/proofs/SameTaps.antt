@@ -1,4 +1,4 @@
--- Taps that are told to be the same are one tap.
+-- Taps that compare equal are one tap.
 use Rattle.std.proofs.Common.{◌≡◌, true, refl, subst}
 use Rattle.std.specs.Cmp.{eq_by_cmp_equiv, Equal-is}
 use Rattle.tap_views.specs.TapOrder.{tap_cmp}

@@ -10,9 +10,10 @@ use Rattle.ledger_check.specs.Balances.{IsBalance}
 use Rattle.ledger_check.specs.declared.balance.Balance.{Balance}
 use Rattle.tap_views.specs.declared.encoder.TapFields.{TapFields}
 use Rattle.ledger_check.specs.Ledger.{IsLedgerOf}
-use Rattle.ledger_check.specs.Struck.{AreStruck, AreTapsOfLines, HasStruck, IfUntold, tap_of_entry}
+use Rattle.ledger_check.specs.Struck.{AreStruck, AreTapsOfLines, HasStruck, IfUndecided}
+use Rattle.ledger_check.specs.Struck.{tap_of_entry}
 use Rattle.ledger_check.specs.Lines.{IsLine}
-use Rattle.ledger_check.specs.inside.Taps.{IsEntryOfTap, TellsTap, tap_fields}
+use Rattle.ledger_check.specs.inside.Taps.{IsEntryOfTap, NamesTap, tap_fields}
 use Rattle.ledger_check.specs.inside.Verdicts.{IsTaken}
 use Rattle.ledger_check.specs.declared.checker.Checker.{Checker}
 use Rattle.ledger_check.specs.declared.checker.Verdict.{Verdict}
@@ -32,52 +33,53 @@ pub struck_head : (fares : Fares) (lines : List (List ℕ)) (line : List ℕ) (b
     → AreStruck fares lines balance good → AreStruck fares (lines ++ line ∷ []) balance good
 struck_head fares [] line balance good none struck = record {
   taps = struck.taps;
-  told = λ entries are. ap (map tap_of_entry) (none_left fares [] entries are) ∙ sym struck.told;
+  reported = λ entries are. ap (map tap_of_entry) (none_left fares [] entries are)
+      ∙ sym struck.reported;
   is = struck.is;
 }
 struck_head fares (l ∷ lines) line balance good none struck = absurd cc
 
 -- a line more, and its tap
 line_more : (fares : Fares) (rest : List (List ℕ)) (line : List ℕ) (taps : List TapFields)
-    (tap : Tap) → TellsTap fares line tap
+    (tap : Tap) → NamesTap fares line tap
     → AreTapsOfLines fares (head_text ∷ rest) taps
     → AreTapsOfLines fares (head_text ∷ (rest ++ line ∷ [])) (taps ++ tap_fields tap ∷ [])
-line_more fares rest line taps tap tells told = λ entries are.
+line_more fares rest line taps tap reports reported = λ entries are.
     let parts = next-parts fares [] entries rest line [] are in
     let whole : entries ≡ parts.entries ++ parts.entry ∷ [] =
     parts.whole ∙ ap (λ (es : List Entry). parts.entries ++ parts.entry ∷ es)
     (none_left fares _ parts.after parts.rest) in
-    let of = tap_of_next fares parts.entries parts.entry line tap tells parts.is in
+    let of = tap_of_next fares parts.entries parts.entry line tap reports parts.is in
     ap (map tap_of_entry) whole ∙ map-append tap_of_entry parts.entries (parts.entry ∷ [])
     ∙ ap (λ (ts : List TapFields). ts ++ tap_of_entry parts.entry ∷ [])
-    (told parts.entries parts.are)
+    (reported parts.entries parts.are)
     ∙ ap (λ (t : TapFields). taps ++ t ∷ []) (tap_same tap parts.entry of)
 
 pub struck_more : (fares : Fares) (lines rest : List (List ℕ)) (line : List ℕ) (tap : Tap)
     (fields : TapFields) (old new : Balance) (good : List TapFields)
-    → lines ≡ head_text ∷ rest → TellsTap fares line tap → fields ≡ tap_fields tap
+    → lines ≡ head_text ∷ rest → NamesTap fares line tap → fields ≡ tap_fields tap
     → ((good struck : List TapFields) → IsBalance old good struck
     → IsBalance new good (struck ++ fields ∷ []))
     → AreStruck fares lines old good → AreStruck fares (lines ++ line ∷ []) new good
-struck_more fares lines rest line tap fields old new good is tells same strikes struck = record {
+struck_more fares lines rest line tap fields old new good is reports same strikes struck = record {
   taps = struck.taps ++ fields ∷ [];
-  told =
+  reported =
       subst (λ (ls : List (List ℕ)). AreTapsOfLines fares (ls ++ line ∷ [])
       (struck.taps ++ fields ∷ [])) (sym is)
       (subst (λ (t : TapFields). AreTapsOfLines fares (head_text ∷ (rest ++ line ∷ []))
       (struck.taps ++ t ∷ [])) (sym same)
-      (line_more fares rest line struck.taps tap tells
-      (subst (λ (ls : List (List ℕ)). AreTapsOfLines fares ls struck.taps) is struck.told)));
+      (line_more fares rest line struck.taps tap reports
+      (subst (λ (ls : List (List ℕ)). AreTapsOfLines fares ls struck.taps) is struck.reported)));
   is = strikes good struck.taps struck.is;
 }
 
 pub took_struck : (fares : Fares) (checker after : Checker) (old new : Balance)
-    (text line whole : List ℕ) (good : List TapFields) (told : Option Verdict)
+    (text line whole : List ℕ) (good : List TapFields) (reported : Option Verdict)
     → (is : HasStruck fares checker old text good) → IsLine line
     → whole ≡ checker.begun.items ++ line → after.begun.items ≡ []
-    → IsTaken fares after.so_far is.fed.lines whole told
-    → IfUntold told (AreStruck fares (is.fed.lines ++ whole ∷ []) new good)
-    → IfUntold told (HasStruck fares after new (text ++ line) good)
+    → IsTaken fares after.so_far is.fed.lines whole reported
+    → IfUndecided reported (AreStruck fares (is.fed.lines ++ whole ∷ []) new good)
+    → IfUndecided reported (HasStruck fares after new (text ++ line) good)
 took_struck fares checker after old new text line whole good None is ends joined empty taken
     struck = record {
       fed = took_whole fares checker after text line whole is.fed ends joined empty taken;
@@ -86,14 +88,16 @@ took_struck fares checker after old new text line whole good None is ends joined
 took_struck fares checker after old new text line whole good (Some verdict) is ends joined empty
     taken struck = struck
 
-pub none_told : (told : Option Verdict) (P : Type 0) → is_some told ≡ false → IfUntold told P → P
-none_told None P none is = is
-none_told (Some verdict) P none is = absurd cc
+pub none_reported : (reported : Option Verdict) (P : Type 0) → is_some reported ≡ false
+    → IfUndecided reported P → P
+none_reported None P none is = is
+none_reported (Some verdict) P none is = absurd cc
 
-pub some_told : (told : Option Verdict) (P Q : Type 0) → is_some told ≡ true → IfUntold told P
-    → IfUntold told Q
-some_told None P Q some is = absurd cc
-some_told (Some verdict) P Q some is = is
+pub some_reported : (reported : Option Verdict) (P Q : Type 0) → is_some reported ≡ true
+    → IfUndecided reported P
+    → IfUndecided reported Q
+some_reported None P Q some is = absurd cc
+some_reported (Some verdict) P Q some is = is
 
 -- the text ends with a line
 pub all_struck : (fares : Fares) (checker : Checker) (balance : Balance) (text : List ℕ)
@@ -103,7 +107,8 @@ pub all_struck : (fares : Fares) (checker : Checker) (balance : Balance) (text :
 all_struck fares checker balance text good is empty entries ledger =
     let lines : is.fed.lines ≡ head_text ∷ ledger.lines =
     sym (ended_at_line fares checker text is.fed empty) ∙ ledger.split in
-    let told : AreTapsOfLines fares (head_text ∷ ledger.lines) is.struck.taps =
-    subst (λ (ls : List (List ℕ)). AreTapsOfLines fares ls is.struck.taps) lines is.struck.told in
-    subst (λ (ts : List TapFields). IsBalance balance good ts) (sym (told entries ledger.are))
+    let reported : AreTapsOfLines fares (head_text ∷ ledger.lines) is.struck.taps =
+    subst (λ (ls : List (List ℕ)). AreTapsOfLines fares ls is.struck.taps) lines
+    is.struck.reported in
+    subst (λ (ts : List TapFields). IsBalance balance good ts) (sym (reported entries ledger.are))
     is.struck.is

@@ -12,11 +12,13 @@ use Rattle.tap_views.proofs.TokenLemmas.{same_token, token_eq-refl}
 use Rattle.ledger_check.specs.Ledger.{token_number}
 
 -- of two tokens the lesser has the lesser number
-pub less_number : (a b : Token) → Fits a → Fits b → token_cmp a b ≡ Less → token_number a < token_number b
+pub less_number : (a b : Token) → Fits a → Fits b → token_cmp a b ≡ Less
+    → token_number a < token_number b
 less_number a b fits_a fits_b less = grind (arith, nat_tests)
 
 -- of two tokens the greater has the greater number
-pub greater_number : (a b : Token) → Fits a → Fits b → token_cmp a b ≡ Greater → token_number b < token_number a
+pub greater_number : (a b : Token) → Fits a → Fits b → token_cmp a b ≡ Greater
+    → token_number b < token_number a
 greater_number a b fits_a fits_b greater = grind (arith, nat_tests)
 
 pub not_of : (a b : Token) → token_number a < token_number b → token_eq a b ≡ false
@@ -36,7 +38,8 @@ unfolding own
 own-above token [] limit up_to above = refl
 own-above token (e ∷ entries) limit up_to above =
     let first : token_number e.token ≤ limit = up_to 0 e (omega arith) in
-    ap (λ (test : Bool). cond test (e ∷ filter (is_of token) entries) (filter (is_of token) entries)) (not_of e.token token (omega arith))
+    ap (λ (test : Bool). cond test (e ∷ filter (is_of token) entries)
+    (filter (is_of token) entries)) (not_of e.token token (omega arith))
     ∙ own-above token entries limit
     (All-tail (λ (x : Entry). token_number x.token ≤ limit) e entries up_to) above
 

@@ -1,4 +1,4 @@
--- A walk's teller, and the entries of the last token.
+-- A walk's explainer, and the entries of the last token.
 use Rattle.std.proofs.Common.{◌≡◌, ◌+◌, ◌<◌, Bool, true, false, cond, List, [], ◌∷◌, ◌++◌, filter}
 use Rattle.std.proofs.Common.{All, Some, refl, sym, ap, subst, ◌∙◌, arith, length-append}
 use Rattle.std.specs.Prelude.{nat_lt}
@@ -12,11 +12,11 @@ use Rattle.shard_book.proofs.OwnEntries.{own_all}
 use Rattle.tap_views.proofs.TokenLemmas.{same_token}
 use Rattle.tap_views.specs.Token.{Fits, token_eq}
 use Rattle.tap_views.specs.declared.token.Token.{Token}
-use Rattle.fare_texts.specs.Tellers.{HasTold}
-use Rattle.fare_texts.specs.declared.teller.Teller.{Teller}
+use Rattle.fare_texts.specs.Explainers.{HasExplained}
+use Rattle.fare_texts.specs.declared.explainer.Explainer.{Explainer}
 use Rattle.ledger_check.specs.Ledger.{token_number}
 use Rattle.ledger_check.specs.Recounts.{falls_after}
-use Rattle.ledger_check.specs.RecountStates.{HasRunTeller, StandsForRun}
+use Rattle.ledger_check.specs.RecountStates.{HasRunExplainer, StandsForRun}
 use Rattle.ledger_check.proofs.RunLemmas.{falls_is, own-of}
 
 pub run_none : (token : Token) (run : List Entry) → run ≡ [] → own token run ≡ []
@@ -41,47 +41,50 @@ apart_of a b other = by_test (token_eq a b) refl
     by_test false apart = apart
 
 -- the token is another one
-pub run_less : (fares : Fares) (teller : Teller) (run : List Entry) (token : Token)
-    → StandsForRun fares teller run → token_number teller.token < token_number token
+pub run_less : (fares : Fares) (explainer : Explainer) (run : List Entry) (token : Token)
+    → StandsForRun fares explainer run → token_number explainer.token < token_number token
     → (own token run ≡ []) × (falls_after run token ≡ false)
-run_less fares teller run token stands less = (
-  own-apart token teller.token run stands.of_token
-      (apart_of teller.token token (λ is. omega (arith, is, less))),
-  falls_is run teller.token token stands.of_token stands.some
-      ∙ (let e : nat_lt (token_number token) (token_number teller.token) ≡ false =
+run_less fares explainer run token stands less = (
+  own-apart token explainer.token run stands.of_token
+      (apart_of explainer.token token (λ is. omega (arith, is, less))),
+  falls_is run explainer.token token stands.of_token stands.some
+      ∙ (let e : nat_lt (token_number token) (token_number explainer.token) ≡ false =
       grind (arith, nat_tests) in e),
 )
 
-pub run_greater : (fares : Fares) (teller : Teller) (run : List Entry) (token : Token)
-    → StandsForRun fares teller run → token_number token < token_number teller.token
+pub run_greater : (fares : Fares) (explainer : Explainer) (run : List Entry) (token : Token)
+    → StandsForRun fares explainer run → token_number token < token_number explainer.token
     → (own token run ≡ []) × (falls_after run token ≡ true)
-run_greater fares teller run token stands less = (
-  own-apart token teller.token run stands.of_token
-      (apart_of teller.token token (λ is. omega (arith, is, less))),
-  falls_is run teller.token token stands.of_token stands.some
-      ∙ lt-ltb (token_number token) (token_number teller.token) less,
+run_greater fares explainer run token stands less = (
+  own-apart token explainer.token run stands.of_token
+      (apart_of explainer.token token (λ is. omega (arith, is, less))),
+  falls_is run explainer.token token stands.of_token stands.some
+      ∙ lt-ltb (token_number token) (token_number explainer.token) less,
 )
 
-pub run_equal : (fares : Fares) (teller : Teller) (run : List Entry) (token : Token)
-    → StandsForRun fares teller run → teller.token ≡ token
+pub run_equal : (fares : Fares) (explainer : Explainer) (run : List Entry) (token : Token)
+    → StandsForRun fares explainer run → explainer.token ≡ token
     → (own token run ≡ run) × (falls_after run token ≡ false)
-run_equal fares teller run token stands same =
-    let number : token_number teller.token ≡ token_number token = ap (λ (t : Token). token_number t) same in (
+run_equal fares explainer run token stands same =
+    let number : token_number explainer.token ≡ token_number token =
+    ap (λ (t : Token). token_number t) same in (
       own_all token run
           (subst (λ (t : Token). All (λ (e : Entry). e.token ≡ t) run) same stands.of_token),
-      falls_is run teller.token token stands.of_token stands.some ∙ (let e : nat_lt (token_number token) (token_number teller.token) ≡ false = grind (arith, nat_tests) in e),
+      falls_is run explainer.token token stands.of_token stands.some
+          ∙ (let e : nat_lt (token_number token) (token_number explainer.token) ≡ false =
+          grind (arith, nat_tests) in e),
     )
 
--- the teller that has told one entry more stands for the run with it
-pub stands_more : (fares : Fares) (teller : Teller) (run : List Entry) (token : Token)
-    (entry : Entry) → Fits token → teller.token ≡ token → entry.token ≡ token
-    → HasTold fares teller (own token run ++ entry ∷ [])
-    → HasRunTeller fares (Some teller) (own token run ++ entry ∷ [])
-stands_more fares teller run token entry fits same of told =
+-- the explainer that has taken one entry more stands for the run with it
+pub stands_more : (fares : Fares) (explainer : Explainer) (run : List Entry) (token : Token)
+    (entry : Entry) → Fits token → explainer.token ≡ token → entry.token ≡ token
+    → HasExplained fares explainer (own token run ++ entry ∷ [])
+    → HasRunExplainer fares (Some explainer) (own token run ++ entry ∷ [])
+stands_more fares explainer run token entry fits same of explained =
     let size = length-append (own token run) (entry ∷ []) in
     record {
       fits = subst Fits (sym same) fits;
-      told = told;
+      explained = explained;
       of_token = subst
           (λ (t : Token). All (λ (e : Entry). e.token ≡ t) (own token run ++ entry ∷ [])) (sym same)
           (All-push (λ (e : Entry). e.token ≡ token) (own token run) entry (own-of token run) of);

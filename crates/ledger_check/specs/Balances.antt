@@ -33,8 +33,8 @@ copies_among tap taps = count_by (λ other. is_same other tap) taps
 abbrev pub left_at : BTreeMap TapFields ℕ → TapFields → ℕ
 left_at left tap = unwrap_or (tree.get tap_cmp left tap) 0
 
--- The tap stands among the others where, for the first time, a tap is there more often than among
--- the good taps: up to this place this one is, and before it none.
+-- The tap stands at the first place among the others at which a tap is there more often than among
+-- the good taps.
 pub record IsFirstSurplus (good others : List TapFields) (tap : TapFields) : Type 0 where
   pub before : List TapFields
   pub after : List TapFields
@@ -50,7 +50,7 @@ pub record IsFirstMissing (good others : List TapFields) (tap : TapFields) : Typ
       → is_lt (tap_cmp other tap) ≡ false
   pub no_surplus : (other : TapFields) → copies_among other others ≤ copies_among other good
 
--- of each good tap some were struck out, and so many are left; or the first tap is known that was
+-- of each good tap some were struck out, and the rest are left; or the first tap is known that was
 -- struck out more often than the uploads have it
 abbrev pub IsBalance : Balance → List TapFields → List TapFields → Type 0
 IsBalance balance good struck =
@@ -59,7 +59,7 @@ IsBalance balance good struck =
     ≡ left_at balance.left tap + copies_among tap struck)
     (IsFirstSurplus good struck)
 
--- the others are the good taps in some order; or the told tap is the first that they lack, where
+-- the others are the good taps in some order; or the reported tap is the first that they lack, if
 -- none is surplus; or it is the first that is surplus among them
 abbrev pub IsDifference : List TapFields → List TapFields → Option Difference → Type 0
 IsDifference good others None = IsPermutation good others

@@ -1,6 +1,7 @@
 -- The three columns of a traced ledger's line: the class of the token's rider, the number of an
 -- upload, and the tap's place there.
-use Rattle.std.specs.Prelude.{ℕ, ◌^◌, ◌&&◌, ◌||◌, ◌==◌, ◌-◌, Bool, List, [], ◌∷◌, ◌++◌, codes, length}
+use Rattle.std.specs.Prelude.{ℕ, ◌^◌, ◌&&◌, ◌||◌, ◌==◌, ◌-◌, Bool, List, [], ◌∷◌, ◌++◌, codes}
+use Rattle.std.specs.Prelude.{length}
 use Rattle.std.specs.Prelude.{if◌then◌else◌, nat_le, nat_lt, Option, None, Some, option_map, take}
 use Rattle.std.specs.Fmt.{decimal}
 use Rattle.std.specs.List.{list_all}
@@ -19,7 +20,7 @@ traced_head = codes "token,line,moment,validator,mode,answer,cents,window_start,
 abbrev pub has_traced_head : List ℕ → Bool
 has_traced_head text = bytes_eq (take (length traced_head) text) traced_head
 
--- what stands before the last comma of a text and behind it, where it has one behind this byte
+-- what stands before the last comma of a text and behind it, if it has one behind this byte
 abbrev pub with_byte : ℕ → List ℕ → Option (List ℕ × List ℕ) → Option (List ℕ × List ℕ)
 with_byte byte text None = if byte == 44 then Some ([], text) else None
 with_byte byte text (Some parts) = Some (byte ∷ parts.0, parts.1)

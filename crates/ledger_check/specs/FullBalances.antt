@@ -13,8 +13,8 @@ pub record AreLacking (good others taps : List TapFields) : Type 0 where
       → copies_among tap taps ≡ copies_among tap good - copies_among tap others
   pub sorted : IsSorted tap_cmp taps
 
--- of each good tap some were struck out and so many are left, or more were struck out than the
--- uploads have, by so many
+-- of each good tap some were struck out and this number is left, or this number more was struck out
+-- than the uploads have
 pub record IsFullBalance (full : FullBalance) (good struck : List TapFields) : Type 0 where
   pub sums : (tap : TapFields)
       → copies_among tap good + left_at full.surplus tap

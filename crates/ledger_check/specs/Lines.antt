@@ -12,7 +12,7 @@ pub record IsLine (text : List ℕ) : Type 0 where
   pub lacks : Lacks 10 front
   pub shown : text ≡ front ++ 10 ∷ []
 
--- the lines, where the byte stands before the first of them
+-- the lines, if the byte stands before the first of them
 unfoldable pub begun_with : ℕ → List (List ℕ) → List (List ℕ)
 begun_with byte [] = (byte ∷ []) ∷ []
 begun_with byte (line ∷ lines) = (byte ∷ line) ∷ lines

@@ -1,5 +1,6 @@
 -- What a recount knows of the lines that it has read.
-use Rattle.std.specs.Prelude.{◌≡◌, ◌⊎◌, ℕ, ◌+◌, ◌^◌, ◌<◌, ◌≤◌, Bool, true, List, [], ◌∷◌, ◌++◌, length}
+use Rattle.std.specs.Prelude.{◌≡◌, ◌⊎◌, ℕ, ◌+◌, ◌^◌, ◌<◌, ◌≤◌, Bool, true, List, [], ◌∷◌, ◌++◌}
+use Rattle.std.specs.Prelude.{length}
 use Rattle.std.specs.Prelude.{All, Option, None, Some}
 use Rattle.fare_table.specs.Fares.{Fares}
 use Rattle.shard_book.specs.declared.entry.Entry.{Entry}
@@ -7,27 +8,27 @@ use Rattle.ledger_check.specs.FullBalances.{IsFullBalance}
 use Rattle.ledger_check.specs.declared.full_balance.FullBalance.{FullBalance}
 use Rattle.tap_views.specs.Token.{Fits}
 use Rattle.tap_views.specs.declared.encoder.TapFields.{TapFields}
-use Rattle.fare_texts.specs.Tellers.{HasTold}
-use Rattle.fare_texts.specs.declared.teller.Teller.{Teller}
+use Rattle.fare_texts.specs.Explainers.{HasExplained}
+use Rattle.fare_texts.specs.declared.explainer.Explainer.{Explainer}
 use Rattle.ledger_check.specs.Lines.{Lacks, lines_of}
 use Rattle.ledger_check.specs.Recounts.{AreTaken, TakenLine, cents_from, last_wrong_token}
-use Rattle.ledger_check.specs.Recounts.{lines_from, run_of, taps_from, token_count, told_lines}
+use Rattle.ledger_check.specs.Recounts.{lines_from, run_of, taps_from, token_count, remark_lines}
 use Rattle.ledger_check.specs.Recounts.{wanted_cents_from, wrong_count}
 use Rattle.ledger_check.specs.declared.recount.Recount.{Recount}
 use Rattle.ledger_check.specs.declared.recount.LinesTaken.{LinesTaken}
 use Rattle.ledger_check.specs.declared.recount_sums.RecountSums.{RecountSums}
 
--- the teller stands for the entries, which are its token's, and has told some
-pub record StandsForRun (fares : Fares) (teller : Teller) (run : List Entry) : Type 0 where
-  pub fits : Fits teller.token
-  pub told : HasTold fares teller run
-  pub of_token : All (λ entry. entry.token ≡ teller.token) run
+-- the explainer stands for the entries, which are its token's, and has taken some
+pub record StandsForRun (fares : Fares) (explainer : Explainer) (run : List Entry) : Type 0 where
+  pub fits : Fits explainer.token
+  pub explained : HasExplained fares explainer run
+  pub of_token : All (λ entry. entry.token ≡ explainer.token) run
   pub some : 0 < length run
 
--- the last teller, if there were entries, stands for them
-abbrev pub HasRunTeller : Fares → Option Teller → List Entry → Type 0
-HasRunTeller fares None run = run ≡ []
-HasRunTeller fares (Some teller) run = StandsForRun fares teller run
+-- the last explainer, if there were entries, stands for them
+abbrev pub HasRunExplainer : Fares → Option Explainer → List Entry → Type 0
+HasRunExplainer fares None run = run ≡ []
+HasRunExplainer fares (Some explainer) run = StandsForRun fares explainer run
 
 -- the sums are those of the taken lines
 pub record AreSums (sums : RecountSums) (taken : List TakenLine) : Type 0 where
@@ -47,14 +48,14 @@ pub record HasTakenLines (fares : Fares) (so_far : LinesTaken) (taken : List Tak
   pub run : List Entry
   pub is_run : run ≡ run_of taken
   pub few : length run ≤ length taken
-  pub teller : HasRunTeller fares so_far.walk.teller run
+  pub explainer : HasRunExplainer fares so_far.walk.explainer run
 
 -- of the text all is kept, or more than the longest line has
 abbrev pub IsKept : List ℕ → List ℕ → Type 0
 IsKept kept text = (kept ≡ text) ⊎ ((255 < length kept) × (255 < length text))
 
--- The recount has read this text: these whole lines, and some of the next one. It has told what is
--- written of them, and struck their taps out of the balance, if it strikes.
+-- The recount has read this text: these whole lines, and some of the next one. It has reported what
+-- is written of them, and struck their taps out of the balance, if it strikes.
 pub record HasRecounted (fares : Fares) (recount : Recount) (strikes : Bool) (full : FullBalance)
     (text written : List ℕ) (good : List TapFields) : Type 0 where
   pub taken : List TakenLine
@@ -64,5 +65,5 @@ pub record HasRecounted (fares : Fares) (recount : Recount) (strikes : Bool) (fu
   pub lacks : Lacks 10 begun
   pub split : (more : List ℕ)
       → lines_of (text ++ more) ≡ lines_from taken ++ lines_of (begun ++ more)
-  pub told : written ≡ told_lines taken
+  pub reported : written ≡ remark_lines taken
   pub struck : strikes ≡ true → IsFullBalance full good (taps_from taken)

@@ -2,7 +2,8 @@
 -- taps of the lines before it, whatever those lines say of their replies. Taken lines stand last
 -- first.
 use Rattle.std.specs.Prelude.{◌≡◌, ◌⊎◌, ℕ, ◌+◌, ◌-◌, ◌*◌, ◌^◌, ◌<◌, ◌≤◌, Bool, true, false, List}
-use Rattle.std.specs.Prelude.{[], ◌∷◌, ◌++◌, length, Option, None, Some, codes, if◌then◌else◌, nat_eq}
+use Rattle.std.specs.Prelude.{[], ◌∷◌, ◌++◌, length, Option, None, Some, codes, if◌then◌else◌}
+use Rattle.std.specs.Prelude.{nat_eq}
 use Rattle.std.specs.Prelude.{map, nat_lt}
 use Rattle.std.specs.Fmt.{decimal}
 use Rattle.std.specs.Str.{bytes_eq}
@@ -15,16 +16,16 @@ use Rattle.tap_views.specs.Token.{Fits, bytes_of, token_eq}
 use Rattle.tap_views.specs.declared.token.Token.{Token}
 use Rattle.tap_views.specs.declared.encoder.TapFields.{TapFields}
 use Rattle.fare_texts.specs.LedgerLines.{IsLedgerLineAfter, head_text}
-use Rattle.fare_texts.specs.Tellers.{next_entry}
+use Rattle.fare_texts.specs.Explainers.{next_entry}
 use Rattle.ledger_check.specs.Ledger.{IsLedger, IsLedgerOf, token_number}
 use Rattle.ledger_check.specs.Lines.{Lacks, lines_of}
 use Rattle.ledger_check.specs.Struck.{tap_of_entry}
 use Rattle.ledger_check.specs.declared.walk.CountedTap.{CountedTap}
 use Rattle.ledger_check.specs.declared.walk.LineFinding.{LineFinding}
-use Rattle.ledger_check.specs.declared.walk.Told.{Told}
-use Rattle.ledger_check.specs.declared.walk.Told.TheVariants.{Nothing, Wants, NoLine}
+use Rattle.ledger_check.specs.declared.walk.Remark.{Remark}
+use Rattle.ledger_check.specs.declared.walk.Remark.TheVariants.{Nothing, Wants, NoLine}
 
--- The line tells this tap: its first four fields are the token, any text, the moment and the
+-- The line names this tap: its first four fields are the token, any text, the moment and the
 -- validator. Nothing is said of what stands behind them.
 pub record IsLineOfTap (line : List ℕ) (token : Token) (validator moment : ℕ) (rest : List ℕ)
     : Type 0 where
@@ -58,7 +59,7 @@ AreCents rest cents =
     IsCentsField rest cents ⊎ ((cents ≡ 0) × ((other : ℕ) → ¬ (IsCentsField rest other)))
 
 -- A line as a recount takes it: what is found of it, and the line that its tap should have, if it
--- tells one.
+-- names one.
 pub record TakenLine : Type 0 where
   pub line : List ℕ
   pub finding : LineFinding
@@ -69,7 +70,7 @@ abbrev pub run_with : List Entry → Option CountedTap → List Entry
 run_with run None = run
 run_with run (Some tap) = own tap.entry.token run ++ tap.entry ∷ []
 
--- the entries of the last token, from where its lines begin: those of the lines that tell taps
+-- the entries of the last token, from where its lines begin: those of the lines that name taps
 abbrev pub run_of : List TakenLine → List Entry
 run_of [] = []
 run_of (taken ∷ earlier) = run_with (run_of earlier) taken.finding.tap
@@ -79,38 +80,38 @@ abbrev pub falls_after : List Entry → Token → Bool
 falls_after [] token = false
 falls_after (before ∷ run) token = nat_lt (token_number token) (token_number before.token)
 
--- what is told of a line: that it is no ledger line, if its token falls, or the wanted line, if
--- it is another
-abbrev pub told_for : Bool → Bool → Told
-told_for true same = NoLine
-told_for false true = Nothing
-told_for false false = Wants
+-- the remark on a line: that it is no ledger line, if its token falls, or the wanted line, if it is
+-- another
+abbrev pub remark_for : Bool → Bool → Remark
+remark_for true same = NoLine
+remark_for false true = Nothing
+remark_for false false = Wants
 
--- the line tells a tap, and is held against the line that the rules give this tap after the
--- entries of its token
+-- the line names a tap, and is held against the line that the rules give this tap after the entries
+-- of its token
 pub record IsCounted (fares : Fares) (run : List Entry) (line : List ℕ) (tap : CountedTap)
-    (told : Told) (wanted : List ℕ) : Type 0 where
+    (remark : Remark) (wanted : List ℕ) : Type 0 where
   pub rest : List ℕ
   pub of_tap : IsLineOfTap line tap.entry.token tap.entry.validator tap.entry.moment rest
   pub ruled : tap.entry ≡ next_entry fares tap.entry.token (own tap.entry.token run)
       tap.entry.validator tap.entry.moment
   pub shown : IsLedgerLineAfter fares tap.entry.token (own tap.entry.token run) tap.entry wanted
   pub cents : AreCents rest tap.cents
-  pub is_told : told ≡ told_for (falls_after run tap.entry.token) (bytes_eq line wanted)
+  pub is_remark : remark ≡ remark_for (falls_after run tap.entry.token) (bytes_eq line wanted)
 
--- a line that tells no tap is no ledger line
-abbrev pub IsJudged : Fares → List Entry → List ℕ → Option CountedTap → Told → List ℕ → Type 0
-IsJudged fares run line None told wanted =
+-- a line that names no tap is no ledger line
+abbrev pub IsJudged : Fares → List Entry → List ℕ → Option CountedTap → Remark → List ℕ → Type 0
+IsJudged fares run line None remark wanted =
     ((token : Token) (validator moment : ℕ) (rest : List ℕ)
-    → ¬ (IsLineOfTap line token validator moment rest)) × (told ≡ NoLine)
-IsJudged fares run line (Some tap) told wanted = IsCounted fares run line tap told wanted
+    → ¬ (IsLineOfTap line token validator moment rest)) × (remark ≡ NoLine)
+IsJudged fares run line (Some tap) remark wanted = IsCounted fares run line tap remark wanted
 
 -- the first line should be the head line
 abbrev pub IsTaken : Fares → List TakenLine → TakenLine → Type 0
 IsTaken fares [] taken = (taken.finding.tap ≡ None)
-    × (taken.finding.told ≡ (if bytes_eq taken.line head_text then Nothing else NoLine))
+    × (taken.finding.remark ≡ (if bytes_eq taken.line head_text then Nothing else NoLine))
 IsTaken fares (before ∷ earlier) taken = IsJudged fares (run_of (before ∷ earlier)) taken.line
-    taken.finding.tap taken.finding.told taken.wanted
+    taken.finding.tap taken.finding.remark taken.wanted
 
 -- each line was taken after those before it
 abbrev pub AreTaken : Fares → List TakenLine → Type 0
@@ -122,7 +123,7 @@ abbrev pub lines_from : List TakenLine → List (List ℕ)
 lines_from [] = []
 lines_from (taken ∷ earlier) = lines_from earlier ++ taken.line ∷ []
 
--- the taps that the lines tell, the first one first
+-- the taps that the lines name, the first one first
 abbrev pub taps_with : List TapFields → Option CountedTap → List TapFields
 taps_with taps None = taps
 taps_with taps (Some tap) = taps ++ tap_of_entry tap.entry ∷ []
@@ -139,20 +140,20 @@ no_line_text number = codes "line " ++ (decimal number ++ codes " is no ledger l
 unfoldable pub wants_text : ℕ → List ℕ → List ℕ
 wants_text number wanted = codes "line " ++ (decimal number ++ (codes " wants " ++ wanted))
 
--- what is told of the line of this number
-abbrev pub told_text : ℕ → Told → List ℕ → List ℕ
-told_text number Nothing wanted = []
-told_text number Wants wanted = wants_text number wanted
-told_text number NoLine wanted = no_line_text number
+-- the remark on the line of this number
+abbrev pub remark_text : ℕ → Remark → List ℕ → List ℕ
+remark_text number Nothing wanted = []
+remark_text number Wants wanted = wants_text number wanted
+remark_text number NoLine wanted = no_line_text number
 
--- what is told of the lines, the first one first
-abbrev pub told_lines : List TakenLine → List ℕ
-told_lines [] = []
-told_lines (taken ∷ earlier) =
-    told_lines earlier ++ told_text (length earlier + 1) taken.finding.told taken.wanted
+-- the remarks on the lines, the first one first
+abbrev pub remark_lines : List TakenLine → List ℕ
+remark_lines [] = []
+remark_lines (taken ∷ earlier) =
+    remark_lines earlier ++ remark_text (length earlier + 1) taken.finding.remark taken.wanted
 
--- 1 for a line of which something is told
-abbrev pub one_wrong : Told → ℕ
+-- 1 for a line with a remark
+abbrev pub one_wrong : Remark → ℕ
 one_wrong Nothing = 0
 one_wrong Wants = 1
 one_wrong NoLine = 1
@@ -160,11 +161,11 @@ one_wrong NoLine = 1
 -- how many lines are wrong
 abbrev pub wrong_count : List TakenLine → ℕ
 wrong_count [] = 0
-wrong_count (taken ∷ earlier) = wrong_count earlier + one_wrong taken.finding.told
+wrong_count (taken ∷ earlier) = wrong_count earlier + one_wrong taken.finding.remark
 
--- the token of a wrong line, if it tells a tap; else the last one
-abbrev pub wrong_token_of : Option Token → Told → Option CountedTap → Option Token
-wrong_token_of last told None = last
+-- the token of a wrong line, if it names a tap; else the last one
+abbrev pub wrong_token_of : Option Token → Remark → Option CountedTap → Option Token
+wrong_token_of last remark None = last
 wrong_token_of last Nothing (Some tap) = last
 wrong_token_of last Wants (Some tap) = Some tap.entry.token
 wrong_token_of last NoLine (Some tap) = Some tap.entry.token
@@ -172,7 +173,7 @@ wrong_token_of last NoLine (Some tap) = Some tap.entry.token
 abbrev pub last_wrong_token : List TakenLine → Option Token
 last_wrong_token [] = None
 last_wrong_token (taken ∷ earlier) =
-    wrong_token_of (last_wrong_token earlier) taken.finding.told taken.finding.tap
+    wrong_token_of (last_wrong_token earlier) taken.finding.remark taken.finding.tap
 
 -- 1 for another token
 abbrev pub one_other : Option Token → Option Token → ℕ
@@ -216,7 +217,7 @@ wrong_text wrong entries tokens cents wanted =
     ++ (codes " lines, of " ++ (decimal tokens ++ (codes " tokens; cents " ++ (decimal cents
     ++ (codes ", wanted " ++ (decimal wanted ++ codes "\n")))))))))
 
--- the line behind what is told of the lines; the head line is not counted among them
+-- the line behind the remarks; the head line is not counted among them
 abbrev pub end_text : List TakenLine → List ℕ
 end_text taken =
     if nat_eq (wrong_count taken) 0 then legal_text (length taken - 1)
@@ -236,10 +237,10 @@ pub record IsRecount (fares : Fares) (text : List ℕ) (taken : List TakenLine) 
 
 -- the whole text of a recount: the wrong lines, and its end
 abbrev pub recount_text : List TakenLine → List ℕ
-recount_text taken = told_lines taken ++ end_text taken
+recount_text taken = remark_lines taken ++ end_text taken
 
--- Nothing is told of a line exactly if the text is, whole, a ledger of legal histories; then the
--- taps that were read are its entries'.
+-- No line has a remark exactly if the text is, whole, a ledger of legal histories; then the taps
+-- that were read are its entries'.
 pub record RecountDecides (fares : Fares) (text : List ℕ) (taken : List TakenLine) : Type 0 where
   pub right : wrong_count taken ≡ 0 → IsLedger fares text
   pub all_right : IsLedger fares text → wrong_count taken ≡ 0

@@ -5,21 +5,23 @@ use Rattle.fare_table.specs.Fares.{Fares}
 use Rattle.shard_book.specs.Entry.{own}
 use Rattle.tap_views.specs.Token.{Fits}
 use Rattle.shard_book.specs.declared.entry.Entry.{Entry}
-use Rattle.fare_texts.specs.Tellers.{HasTold}
-use Rattle.fare_texts.specs.declared.teller.Teller.{Teller}
+use Rattle.fare_texts.specs.Explainers.{HasExplained}
+use Rattle.fare_texts.specs.declared.explainer.Explainer.{Explainer}
 use Rattle.ledger_check.specs.Ledger.{AreNext, IsNext, token_number}
 use Rattle.ledger_check.specs.declared.replay.Replay.{Replay}
 
--- the teller stands for its token's entries among these, which are of no greater token
-pub record StandsForOwn (fares : Fares) (teller : Teller) (entries : List Entry) : Type 0 where
-  pub fits : Fits teller.token
-  pub told : HasTold fares teller (own teller.token entries)
-  pub up_to : All (λ entry. token_number entry.token ≤ token_number teller.token) entries
+-- the explainer stands for its token's entries among these, which are of no greater token
+pub record StandsForOwn (fares : Fares) (explainer : Explainer)
+    (entries : List Entry) : Type 0 where
+  pub fits : Fits explainer.token
+  pub explained : HasExplained fares explainer (own explainer.token entries)
+  pub up_to : All (λ entry. token_number entry.token ≤ token_number explainer.token) entries
 
--- the last teller, if there were entries, stands for them and has told some
-abbrev pub HasTeller : Fares → Option Teller → List Entry → Type 0
-HasTeller fares None entries = entries ≡ []
-HasTeller fares (Some teller) entries = StandsForOwn fares teller entries × (0 < teller.number)
+-- the last explainer, if there were entries, stands for them and has taken some
+abbrev pub HasExplainer : Fares → Option Explainer → List Entry → Type 0
+HasExplainer fares None entries = entries ≡ []
+HasExplainer fares (Some explainer) entries = StandsForOwn fares explainer entries
+    × (0 < explainer.number)
 
 -- these are the lines that were read: of the entries, and of no others
 pub record HasRead (fares : Fares) (replay : Replay) (lines : List (List ℕ)) : Type 0 where
@@ -28,7 +30,7 @@ pub record HasRead (fares : Fares) (replay : Replay) (lines : List (List ℕ)) :
   pub only : (others : List Entry) → AreNext fares [] others lines → others ≡ entries
   pub counted : replay.lines ≡ length entries
   pub few : length entries ≤ 2 ^ 62
-  pub teller : HasTeller fares replay.teller entries
+  pub explainer : HasExplainer fares replay.explainer entries
 
 -- no ledger has this line after these
 abbrev pub IsWrongAfter : Fares → List (List ℕ) → List ℕ → Type 0

@@ -26,7 +26,7 @@ AreTapsOfLines fares (head ∷ lines) taps =
 pub record AreStruck (fares : Fares) (lines : List (List ℕ)) (balance : Balance)
     (good : List TapFields) : Type 0 where
   pub taps : List TapFields
-  pub told : AreTapsOfLines fares lines taps
+  pub reported : AreTapsOfLines fares lines taps
   pub is : IsBalance balance good taps
 
 -- the checker has read this text and found no wrong line, and the taps of the whole lines were
@@ -36,7 +36,7 @@ pub record HasStruck (fares : Fares) (checker : Checker) (balance : Balance) (te
   pub fed : HasFed fares checker text
   pub struck : AreStruck fares fed.lines balance good
 
--- nothing is told, and this holds; or what is told is not `legal`
-abbrev pub IfUntold : Option Verdict → Type 0 → Type 0
-IfUntold None holds = holds
-IfUntold (Some verdict) holds = is_legal verdict ≡ false
+-- there is no verdict, and this holds; or the verdict is not `legal`
+abbrev pub IfUndecided : Option Verdict → Type 0 → Type 0
+IfUndecided None holds = holds
+IfUndecided (Some verdict) holds = is_legal verdict ≡ false

@@ -1,11 +1,11 @@
--- The tap that a line tells.
+-- The tap that a line names.
 use Rattle.std.specs.Prelude.{◌≡◌, ℕ, List, Option, None, Some}
 use Rattle.tap_views.specs.Token.{bytes_of}
 use Rattle.tap_views.specs.declared.encoder.TapFields.{TapFields}
 use Rattle.tap_views.specs.declared.token.Token.{Token}
 use Rattle.ledger_check.specs.Recounts.{IsLineOfTap}
 
--- the line tells this tap, or none
+-- the line names this tap, or none
 abbrev pub IsTapOfLine : List ℕ → Option TapFields → Type 0
 IsTapOfLine line None =
     (token : Token) (validator moment : ℕ) (rest : List ℕ)

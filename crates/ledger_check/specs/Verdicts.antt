@@ -1,4 +1,4 @@
--- What a check tells of a ledger's text.
+-- What a check finds of a ledger's text.
 use Rattle.std.specs.Prelude.{◌≡◌, ◌↔◌, ℕ, ◌+◌, ◌≤◌, Bool, true, false, List, [], ◌∷◌, ◌++◌, length}
 use Rattle.std.specs.Prelude.{Option, Some, None, IsTrue, string_bytes, ◌⊎◌}
 use Rattle.fare_table.specs.Fares.{Fares}
@@ -28,7 +28,7 @@ pub record IsFirstWrong (fares : Fares) (lines : List (List ℕ)) (number : ℕ)
 abbrev pub IsHeadless : List (List ℕ) → Type 0
 IsHeadless lines = (others : List (List ℕ)) → lines ≡ head_text ∷ others → ⊥
 
--- the lines are a ledger's of so many entries
+-- the lines are a ledger's, of this number of entries
 pub record IsWholeLedger (fares : Fares) (lines : List (List ℕ)) (number : ℕ) : Type 0 where
   pub others : List (List ℕ)
   pub split : lines ≡ head_text ∷ others
@@ -42,14 +42,14 @@ pub record IsFirstWanted (fares : Fares) (lines : List (List ℕ)) (number : ℕ
   pub first : IsFirstWrong fares lines number
   pub is : IsWanted fares first.before wanted
 
--- what is told is true of the lines
+-- the verdict is true of the lines
 abbrev pub IsTrueOf : Fares → List (List ℕ) → Verdict → Type 0
 IsTrueOf fares lines (Legal number) = IsWholeLedger fares lines number
 IsTrueOf fares lines (Wants number wanted) = IsFirstWanted fares lines number (string_bytes wanted)
 IsTrueOf fares lines (NoLine number) =
     ((number ≡ 1) × IsHeadless lines) ⊎ IsFirstWrong fares lines number
 
--- what is told is true of the text
+-- the verdict is true of the text
 abbrev pub IsVerdict : Fares → List ℕ → Verdict → Type 0
 IsVerdict fares text verdict = IsTrueOf fares (lines_of text) verdict
 
@@ -59,7 +59,7 @@ is_legal (Legal number) = true
 is_legal (Wants number wanted) = false
 is_legal (NoLine number) = false
 
--- a true verdict says `legal` exactly where the text is a ledger
+-- a true verdict says `legal` exactly if the text is a ledger
 abbrev pub VerdictsDecide : Type 0
 VerdictsDecide =
     (fares : Fares) (text : List ℕ) (verdict : Verdict) → IsVerdict fares text verdict
@@ -81,7 +81,7 @@ pub record HasFed (fares : Fares) (checker : Checker) (text : List ℕ) : Type 0
   pub lacks : Lacks 10 checker.begun.items
   pub short : length checker.begun.items ≤ 255
 
--- the text was read and no wrong line found, or what is told is true of the text, whatever follows
+-- the text was read and no wrong line found, or the verdict is true of the text, whatever follows
 abbrev pub IsFed : Fares → Checker → List ℕ → Option Verdict → Type 0
 IsFed fares after text None = HasFed fares after text
 IsFed fares after text (Some verdict) = (more : List ℕ) → IsVerdict fares (text ++ more) verdict

@@ -17,8 +17,8 @@ use tap_views::{Batch, TapFields, good_batches};
 /// surplus, else the first that is missing.
 #[derive(Clone, Copy, Debug, PartialEq, Eq)]
 pub enum Difference {
-    /// The uploads have it more often: the first such one by token, moment and validator, where
-    /// none is surplus.
+    /// The uploads have it more often: the first such one by token, moment and validator, if none
+    /// is surplus.
     Missing(TapFields),
     /// The other side has it more often: the first that was struck out once too often.
     Surplus(TapFields),
@@ -54,7 +54,7 @@ pub(crate) fn put_one(left: &mut BTreeMap<TapFields, u64>, tap: TapFields) -> Re
     Ok(())
 }
 
-/// One fewer is left of the tap. False where none was left.
+/// One fewer is left of the tap. False if none was left.
 pub(crate) fn take_one(left: &mut BTreeMap<TapFields, u64>, tap: TapFields) -> bool
     ensures taken { result ≡ true → (other : TapFields) → left_at left.old other
         ≡ left_at left.new other + (if is_eq (tap_cmp tap other) then 1 else 0) }
@@ -152,7 +152,7 @@ impl Balance {
 
     /// A tap that one side has more often than the other: the first struck one of which the uploads
     /// have no more, else the first of those that are left, by token, moment and validator. `None`
-    /// where the taps that were struck out are, in some order, those of the uploads.
+    /// if the taps that were struck out are, in some order, those of the uploads.
     pub fn difference(&self) -> Option<Difference>
         ensures { (good struck : List TapFields) → IsBalance self.now good struck
             → IsDifference good struck result }

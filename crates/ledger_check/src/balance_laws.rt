@@ -8,7 +8,7 @@ ghost use Rattle.ledger_check.specs.FullBalances.{AreLacking};
 ghost use Rattle.ledger_check.specs.declared.balance.Difference.{Difference};
 ghost use Rattle.tap_views.specs.declared.encoder.TapFields.{TapFields};
 
-/// Taps that are the same by token, moment and validator are one tap; where a tap is told that one
+/// Taps that are the same by token, moment and validator are one tap; if a tap is reported that one
 /// side has more often, the taps of both sides are not the same in any order.
 pub fn differences_are_real()
     ensures same { (tap other : TapFields) → (is_same tap other ≡ true) ↔ (tap ≡ other) }

@@ -33,8 +33,8 @@ pub fn field(text: &[u8]) -> Option<(&[u8], &[u8])>
     }
 }
 
-/// The first line of the text with its newline, and what stands behind it; `None` where the text
-/// has no newline.
+/// The first line of the text with its newline, and what stands behind it; `None` if the text has
+/// no newline.
 pub fn split_line(text: &[u8]) -> Option<(&[u8], &[u8])>
     ensures some { IfSome result (λ parts. IsLine parts.0.now
         × (text.now ≡ parts.0.now ++ parts.1.now)) }

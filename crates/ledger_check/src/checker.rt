@@ -9,7 +9,7 @@ ghost use Rattle.ledger_check.specs.declared.balance.Balance.{Balance};
 ghost use Rattle.tap_views.specs.declared.encoder.TapFields.{TapFields};
 ghost use Rattle.ledger_check.specs.Ledger.{IsLedgerOf};
 ghost use Rattle.ledger_check.specs.Lines.{IsLine, Lacks};
-ghost use Rattle.ledger_check.specs.Struck.{AreStruck, HasStruck, IfUntold, tap_of_entry};
+ghost use Rattle.ledger_check.specs.Struck.{AreStruck, HasStruck, IfUndecided, tap_of_entry};
 ghost use Rattle.ledger_check.specs.Verdicts.{HasFed, HasTaken, IsFed, IsVerdict, is_legal};
 ghost use Rattle.ledger_check.specs.inside.Verdicts.{IsTaken, number_after};
 ghost use Rattle.ledger_check.specs.declared.checker.Verdict.TheVariants.{NoLine};
@@ -22,10 +22,10 @@ use fare_texts::head_line;
 use std::alloc::Global;
 use tap_views::NoMemory;
 
-/// What a check tells of a text. Lines count from 1, the head line.
+/// What a check finds of a text. Lines count from 1, the head line.
 #[derive(Drop)]
 pub enum Verdict {
-    /// The text is the ledger of so many entries.
+    /// The text is a ledger of this number of entries.
     Legal(u64),
     /// The line of this number is the first that no ledger has there. Its tap should have this
     /// line, with the newline.
@@ -68,12 +68,13 @@ impl LinesSoFar {
     ) -> Result<Option<Verdict>, NoMemory>
         requires clock { clock.now ≡ table.now.zone }
         requires taken { (lines : List (List ℕ)) × HasTaken table.now self.old lines }
-        ensures taken { IfOk result (λ told. (lines : List (List ℕ))
+        ensures taken { IfOk result (λ reported. (lines : List (List ℕ))
             → HasTaken table.now self.old lines
-            → IsTaken table.now self.new lines line.now told) }
-        ensures struck { IfOk result (λ told. (lines : List (List ℕ)) (good : List TapFields)
+            → IsTaken table.now self.new lines line.now reported) }
+        ensures struck { IfOk result (λ reported. (lines : List (List ℕ)) (good : List TapFields)
             → HasTaken table.now self.old lines → AreStruck table.now lines balance.old good
-            → IfUntold told (AreStruck table.now (lines ++ line.now ∷ []) balance.new good)) }
+            → IfUndecided reported
+            (AreStruck table.now (lines ++ line.now ∷ []) balance.new good)) }
     {
         if !self.has_head {
             if !same_bytes(line, head_line().as_bytes()) {
@@ -122,9 +123,9 @@ impl Checker {
     }
 
     /// Reads the next piece of the text, and strikes the taps of its lines out. A verdict, if there
-    /// is one, tells the first wrong line, whatever follows the piece; the checker and the balance
-    /// are of no use then, nor after an error. The clock is the table's, and the table and the
-    /// balance are the same in all calls.
+    /// is one, reports the first wrong line, whatever follows the piece; the checker and the
+    /// balance are of no use then, nor after an error. The clock is the table's, and the table and
+    /// the balance are the same in all calls.
     pub fn feed(
         &mut self,
         table: &FareTable,
@@ -136,21 +137,22 @@ impl Checker {
         requires fed { (text : List ℕ) × HasFed table.now self.old text }
 
         // After every text that was read so far.
-        ensures fed { IfOk result (λ told. (text : List ℕ) → HasFed table.now self.old text
-            → IsFed table.now self.new (text ++ piece.now) told) }
-        ensures struck { IfOk result (λ told. (text : List ℕ) (good : List TapFields)
+        ensures fed { IfOk result (λ reported. (text : List ℕ) → HasFed table.now self.old text
+            → IsFed table.now self.new (text ++ piece.now) reported) }
+        ensures struck { IfOk result (λ reported. (text : List ℕ) (good : List TapFields)
             → HasStruck table.now self.old balance.old text good
-            → IfUntold told (HasStruck table.now self.new balance.new (text ++ piece.now) good)) }
+            → IfUndecided reported
+            (HasStruck table.now self.new balance.new (text ++ piece.now) good)) }
     {
         let mut rest = piece;
         while !rest.is_empty() {
             let Some((line, behind)) = split_line(rest) else {
-                let told = self.keep(rest)?;
-                return Ok(told);
+                let reported = self.keep(rest)?;
+                return Ok(reported);
             };
-            let told = self.take_line(table, clock, line, balance)?;
-            if told.is_some() {
-                return Ok(told);
+            let reported = self.take_line(table, clock, line, balance)?;
+            if reported.is_some() {
+                return Ok(reported);
             }
             rest = behind;
         }
@@ -168,33 +170,35 @@ impl Checker {
         requires clock { clock.now ≡ table.now.zone }
         requires fed { (text : List ℕ) × HasFed table.now self.old text }
         requires line { IsLine line.now }
-        ensures fed { IfOk result (λ told. (text : List ℕ) → HasFed table.now self.old text
-            → IsFed table.now self.new (text ++ line.now) told) }
-        ensures struck { IfOk result (λ told. (text : List ℕ) (good : List TapFields)
+        ensures fed { IfOk result (λ reported. (text : List ℕ) → HasFed table.now self.old text
+            → IsFed table.now self.new (text ++ line.now) reported) }
+        ensures struck { IfOk result (λ reported. (text : List ℕ) (good : List TapFields)
             → HasStruck table.now self.old balance.old text good
-            → IfUntold told (HasStruck table.now self.new balance.new (text ++ line.now) good)) }
+            → IfUndecided reported
+            (HasStruck table.now self.new balance.new (text ++ line.now) good)) }
     {
         if self.begun.is_empty() {
-            let told = self.so_far.take(table, clock, line, balance)?;
-            return Ok(told);
+            let reported = self.so_far.take(table, clock, line, balance)?;
+            return Ok(reported);
         }
         self.begun.extend_from_slice(line)?;
-        let told = self
+        let reported = self
             .so_far
             .take(table, clock, self.begun.as_slice(), balance)?;
         self.begun.clear();
-        Ok(told)
+        Ok(reported)
     }
 
-    /// Keeps the beginning of a line, or tells that it is too long.
+    /// Keeps the beginning of a line, or reports that it is too long.
     fn keep(&mut self, rest: &[u8]) -> Result<Option<Verdict>, NoMemory>
         requires fed { (fares : Fares) × (text : List ℕ) × HasFed fares self.old text }
         requires rest { Lacks 10 rest.now }
-        ensures fed { IfOk result (λ told. (fares : Fares) (text : List ℕ)
-            → HasFed fares self.old text → IsFed fares self.new (text ++ rest.now) told) }
-        ensures struck { IfOk result (λ told. (fares : Fares) (text : List ℕ) (balance : Balance)
+        ensures fed { IfOk result (λ reported. (fares : Fares) (text : List ℕ)
+            → HasFed fares self.old text → IsFed fares self.new (text ++ rest.now) reported) }
+        ensures struck { IfOk result
+            (λ reported. (fares : Fares) (text : List ℕ) (balance : Balance)
             (good : List TapFields) → HasStruck fares self.old balance text good
-            → IfUntold told (HasStruck fares self.new balance (text ++ rest.now) good)) }
+            → IfUndecided reported (HasStruck fares self.new balance (text ++ rest.now) good)) }
     {
         self.begun.extend_from_slice(rest)?;
         if self.begun.len() > MAX_LINE_BYTES {
@@ -209,7 +213,7 @@ impl Checker {
         ensures verdict { (fares : Fares) (text : List ℕ) → HasFed fares self.now text
             → IsVerdict fares text result }
 
-        // What is left is the balance of the taps of the ledger, where the text is one.
+        // What is left is the balance of the taps of the ledger, if the text is one.
         ensures struck { (fares : Fares) (text : List ℕ) (balance : Balance)
             (good : List TapFields) → HasStruck fares self.now balance text good
             → IsTrue (is_legal result) → (entries : List Entry) → IsLedgerOf fares entries text

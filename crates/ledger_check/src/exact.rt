@@ -1,6 +1,7 @@
-//! The tap that a line tells, whatever it says of the tap's reply.
+//! The tap that a line names, whatever it says of the tap's reply.
 
-ghost use Rattle.std.specs.Prelude.{◌≡◌, ◌<◌, ◌≤◌, ◌^◌, ◌∷◌, ◌++◌, [], ℕ, List, IfNone, IfOk, IfSome};
+ghost use Rattle.std.specs.Prelude.{◌≡◌, ◌<◌, ◌≤◌, ◌^◌, ◌∷◌, ◌++◌, [], ℕ, List, IfNone, IfOk};
+ghost use Rattle.std.specs.Prelude.{IfSome};
 ghost use Rattle.std.specs.Prelude.{IsTrue, ◌↔◌, MatchOption, length};
 ghost use Rattle.std.specs.Fmt.{decimal};
 ghost use Rattle.hex.specs.Hex.{encode_lower};
@@ -115,7 +116,7 @@ fn is_moment_text(text: &[u8], moment: u64, again: &mut String) -> Result<bool, 
     Ok(same_bytes(again.as_bytes(), text))
 }
 
-/// The tap that the line tells, and what stands behind its validator. The text in `again` is
+/// The tap that the line names, and what stands behind its validator. The text in `again` is
 /// replaced.
 pub(crate) fn exact_tap<'a>(
     line: &'a [u8],
@@ -153,7 +154,7 @@ pub(crate) fn exact_tap<'a>(
     Ok(Some((tap, front.rest)))
 }
 
-/// The tap that the line tells, if it tells one. The text in `again` is replaced.
+/// The tap that the line names, if it names one. The text in `again` is replaced.
 pub fn tap_of_line(line: &[u8], again: &mut String) -> Result<Option<TapFields>, AllocError>
     requires line { (front : List ℕ) × (line.now ≡ front ++ 10 ∷ []) }
     requires short { length line.now ≤ 255 }

@@ -13,7 +13,7 @@ use std::alloc::{AllocError, Global};
 use std::collections::BTreeMap;
 use tap_views::TapFields;
 
-/// Appends the tap so many times.
+/// Appends the tap this number of times.
 fn push_times(taps: &mut Vec<TapFields>, tap: &TapFields, times: u64) -> Result<(), AllocError>
     ensures { OnOk result (taps.new.items ≡ taps.old.items ++ replicate times tap.now) }
 {

@@ -3,13 +3,13 @@
 ghost use Rattle.ledger_check.specs.Recounts.{RecountsDecide};
 ghost use Rattle.ledger_check.specs.Verdicts.{VerdictsDecide};
 
-/// A verdict that is true of a text is `legal` exactly where the text is, whole, a ledger of legal
+/// A verdict that is true of a text is `legal` exactly if the text is, whole, a ledger of legal
 /// histories.
 pub fn verdicts_decide()
     ensures { VerdictsDecide }
 {}
 
-/// A recount tells of no line exactly if the text is, whole, a ledger of legal histories.
+/// A recount has no remark on a line exactly if the text is, whole, a ledger of legal histories.
 pub fn recounts_decide()
     ensures { RecountsDecide }
 {}

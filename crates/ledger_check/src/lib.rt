@@ -5,9 +5,10 @@
 //! prints the line that the tap should have, and compares the bytes. It keeps one account and at
 //! most 255 bytes of the text.
 //!
-//! A balance holds the taps of uploads against the taps that a ledger has: whether both are the same
-//! taps, in whatever order, and else a tap that one side has more often than the other. It keeps each
-//! tap of the uploads once, with a number, and nothing of the other side. It knows no fare.
+//! A balance holds the taps of uploads against the taps that a ledger has: whether both are the
+//! same taps, in whatever order, and else a tap that one side has more often than the other. It
+//! keeps each tap of the uploads once, with a number, and nothing of the other side. It knows no
+//! fare.
 #![tactic(auto)]
 
 mod balance;

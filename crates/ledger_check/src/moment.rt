@@ -1,4 +1,4 @@
-//! The moment that a text tells.
+//! The moment that a text names.
 
 ghost use Rattle.std.specs.Prelude.{◌≡◌, ◌≢◌, ◌+◌, ◌/◌, ◌%◌, ◌<◌, ℕ};
 ghost use Rattle.std.specs.Prelude.{length, pos, IfNone, IfSome};
@@ -68,7 +68,8 @@ fn since_epoch(date: Date) -> Option<u64>
     Some(days - EPOCH_DAY)
 }
 
-/// The day number of a date of the years 0 to 9999, where 1970-01-01 is 0; `None` before that.
+/// The day number of a date of the years 0 to 9999, counted from 1970-01-01 as 0; `None` before
+/// that.
 fn read_day(text: &[u8; 10]) -> Option<u64>
     ensures small { IfSome result (λ day. day < 2_932_897) }
     ensures found { (date : Date) (day : ℕ) → epoch_day date ≡ pos day
@@ -140,7 +141,7 @@ pub(crate) fn read_any_moment(text: &[u8]) -> Option<u64>
     Some(day * DAY_MS + ms)
 }
 
-/// The text as the 14 bytes of a time of day, if it has so many.
+/// The text as the 14 bytes of a time of day, if it has 14.
 fn whole_clock(text: &[u8]) -> Option<&[u8; 14]>
     ensures some { IfSome result (λ clock. clock.now ≡ text.now) }
     ensures none { IfNone result (length text.now ≢ 14) }

@@ -1,6 +1,7 @@
 //! Where the taps of uploads stand, and whether somebody else names each place once.
 
-ghost use Rattle.std.specs.Prelude.{◌≡◌, ◌+◌, ◌<◌, ◌≤◌, ◌⊎◌, ◌++◌, ◌∷◌, ◌||◌, [], ℕ, List, MatchOption};
+ghost use Rattle.std.specs.Prelude.{◌≡◌, ◌+◌, ◌<◌, ◌≤◌, ◌⊎◌, ◌++◌, ◌∷◌, ◌||◌, [], ℕ, List};
+ghost use Rattle.std.specs.Prelude.{MatchOption};
 ghost use Rattle.std.specs.Prelude.{IfNone, IfOk, IfSome, OnOk, false, length, map, nat_eq, true};
 ghost use Rattle.tap_views.specs.Encoding.{fields_of};
 ghost use Rattle.tap_views.specs.declared.encoder.TapFields.{TapFields as ATap};
@@ -16,7 +17,6 @@ use tap_views::{Batch, TapFields, good_batches};
 /// A good tap of an upload.
 #[derive(Clone, Copy)]
 pub(crate) struct PlacedTap {
-    /// The tap.
     tap: TapFields,
     /// Whether its place was named.
     is_named: bool,
@@ -138,8 +138,8 @@ impl Places {
     }
 
     /// Adds the good taps of the next upload: those before its first layout fault. All uploads are
-    /// added before a place is named. Its one error is want of memory, and after it the places are of
-    /// no use.
+    /// added before a place is named. Its one error is want of memory, and after it the places are
+    /// of no use.
     pub fn add_upload(&mut self, alloc: Global, upload: &[u8]) -> Result<(), AllocError>
         ensures { OnOk result ((taps : List ATap) × AreGoodFields upload.now taps
             × ((uploads : List (List ATap)) → HasUploads self.old uploads

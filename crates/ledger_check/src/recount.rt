@@ -17,16 +17,16 @@ use crate::FullBalance;
 use crate::bytes::{same_bytes, split_line};
 use crate::recount_sums::RecountSums;
 use crate::replay::MAX_LINE_BYTES;
-use crate::walk::{LineFinding, Told, Walk, write_told};
+use crate::walk::{LineFinding, Remark, Walk, write_remark};
 use fare_table::{Clock, FareTable};
 use fare_texts::head_line;
 use std::alloc::{AllocError, Global};
 use tap_views::{NoMemory, TapFields};
 
-/// A line that tells no tap.
+/// A line that names no tap.
 const NO_LINE: LineFinding = LineFinding {
     tap: None,
-    told: Told::NoLine,
+    remark: Remark::NoLine,
 };
 
 /// What is found of the first line.
@@ -36,14 +36,14 @@ fn first_finding(line: &[u8]) -> LineFinding
     if same_bytes(line, head_line().as_bytes()) {
         LineFinding {
             tap: None,
-            told: Told::Nothing,
+            remark: Remark::Nothing,
         }
     } else {
         NO_LINE
     }
 }
 
-/// Strikes out the tap of a line, if taps are struck out and it tells one.
+/// Strikes out the tap of a line, if taps are struck out and it names one.
 fn strike_tap(strikes: bool, full: &mut FullBalance, finding: LineFinding) -> Result<(), AllocError>
     ensures { OnOk result ((good taps : List TapFields) → strikes ≡ true
         → IsFullBalance full.old good taps
@@ -67,7 +67,6 @@ fn strike_tap(strikes: bool, full: &mut FullBalance, finding: LineFinding) -> Re
 pub(crate) struct LinesTaken {
     /// The walk behind them.
     walk: Walk,
-    /// Their sums.
     sums: RecountSums,
 }
 
@@ -97,7 +96,7 @@ impl LinesTaken {
         Ok(finding)
     }
 
-    /// Takes the next line, appends what is told of it, and strikes its tap out, if it is to strike
+    /// Takes the next line, appends the remark on it, and strikes its tap out, if it is to strike
     /// taps out.
     fn take(
         &mut self,
@@ -106,7 +105,7 @@ impl LinesTaken {
         line: &[u8],
         strikes: bool,
         full: &mut FullBalance,
-        told: &mut String,
+        reported: &mut String,
     ) -> Result<(), AllocError>
         requires clock { clock.now ≡ table.now.zone }
         requires taken { (taken : List TakenLine) × HasTakenLines table.now self.old taken }
@@ -114,18 +113,23 @@ impl LinesTaken {
         ensures { OnOk result ((taken : List TakenLine) (whole : List ℕ)
             → HasTakenLines table.now self.old taken → IsLine whole → IsKept line.now whole
             → TookLine table.now taken whole self.new strikes full.old full.new
-            (string_bytes told.old) (string_bytes told.new)) }
+            (string_bytes reported.old) (string_bytes reported.new)) }
     {
         let finding = self.find(table, clock, line)?;
         let sums = self.sums.with(finding)?;
         self.sums = sums;
         strike_tap(strikes, full, finding)?;
-        write_told(told, sums.lines, finding.told, self.walk.wanted.as_str())?;
+        write_remark(
+            reported,
+            sums.lines,
+            finding.remark,
+            self.walk.wanted.as_str(),
+        )?;
         Ok(())
     }
 }
 
-/// Appends the text to what is kept of a line, but no more than tells that the line is too long.
+/// Appends the text to what is kept of a line, but no more than shows that the line is too long.
 fn keep(kept: &mut Vec<u8>, text: &[u8]) -> Result<(), AllocError>
     ensures { OnOk result ((before : List ℕ) → IsKept kept.old.items before
         → IsKept kept.new.items (before ++ text.now)) }
@@ -167,8 +171,8 @@ impl Recount {
         }
     }
 
-    /// Reads the next piece of the text, appends what is told of its lines, and strikes the taps
-    /// that they tell out of the balance, if it is to strike taps out. Its one error is want of
+    /// Reads the next piece of the text, appends the remarks on its lines, and strikes the taps
+    /// that they name out of the balance, if it is to strike taps out. Its one error is want of
     /// memory, and after it the recount is of no use. The clock is the table's, and the table, the
     /// balance and whether taps are struck out are the same in all calls.
     pub fn feed(
@@ -178,7 +182,7 @@ impl Recount {
         piece: &[u8],
         strikes: bool,
         full: &mut FullBalance,
-        told: &mut String,
+        reported: &mut String,
     ) -> Result<(), AllocError>
         requires clock { clock.now ≡ table.now.zone }
         requires fed { (text : List ℕ) × (written : List ℕ) × (good : List TapFields)
@@ -187,7 +191,7 @@ impl Recount {
         // After every text that was read so far.
         ensures { OnOk result ((text written : List ℕ) (good : List TapFields)
             → HasRecounted table.now self.old strikes full.old text written good
-            → (more : List ℕ) × (string_bytes told.new ≡ string_bytes told.old ++ more)
+            → (more : List ℕ) × (string_bytes reported.new ≡ string_bytes reported.old ++ more)
             × HasRecounted table.now self.new strikes full.new (text ++ piece.now)
             (written ++ more) good) }
     {
@@ -197,7 +201,7 @@ impl Recount {
                 keep(&mut self.begun, rest)?;
                 return Ok(());
             };
-            self.end_line(table, clock, line, strikes, full, told)?;
+            self.end_line(table, clock, line, strikes, full, reported)?;
             rest = behind;
         }
         Ok(())
@@ -211,7 +215,7 @@ impl Recount {
         line: &[u8],
         strikes: bool,
         full: &mut FullBalance,
-        told: &mut String,
+        reported: &mut String,
     ) -> Result<(), AllocError>
         requires clock { clock.now ≡ table.now.zone }
         requires fed { (text : List ℕ) × (written : List ℕ) × (good : List TapFields)
@@ -219,17 +223,17 @@ impl Recount {
         requires line { IsLine line.now }
         ensures { OnOk result ((text written : List ℕ) (good : List TapFields)
             → HasRecounted table.now self.old strikes full.old text written good
-            → (more : List ℕ) × (string_bytes told.new ≡ string_bytes told.old ++ more)
+            → (more : List ℕ) × (string_bytes reported.new ≡ string_bytes reported.old ++ more)
             × HasRecounted table.now self.new strikes full.new (text ++ line.now)
             (written ++ more) good) }
     {
         if self.begun.is_empty() {
-            self.so_far.take(table, clock, line, strikes, full, told)?;
+            self.so_far
+                .take(table, clock, line, strikes, full, reported)?;
             return Ok(());
         }
         keep(&mut self.begun, line)?;
-        self.so_far
-            .take(table, clock, self.begun.as_slice(), strikes, full, told)?;
+        self.so_far.take(table, clock, self.begun.as_slice(), strikes, full, reported)?;
         self.begun.clear();
         Ok(())
     }
@@ -244,36 +248,36 @@ impl Recount {
 
     /// Takes the line that the text's end cuts, or the first line of a text that has none, and
     /// gives the sums of all lines.
-    fn end_text(&self, told: &mut String) -> Result<RecountSums, AllocError>
+    fn end_text(&self, reported: &mut String) -> Result<RecountSums, AllocError>
         ensures { IfOk result (λ sums. (fares : Fares) (strikes : Bool) (full : AFullBalance)
             (text written : List ℕ) (good : List TapFields)
             → HasRecounted fares self.now strikes full text written good
             → HasEnded fares strikes full text written good sums
-            (string_bytes told.old) (string_bytes told.new)) }
+            (string_bytes reported.old) (string_bytes reported.new)) }
     {
         let sums = self.so_far.sums;
         if self.is_whole() {
             return Ok(sums);
         }
         let ended = sums.with(NO_LINE)?;
-        write_told(told, ended.lines, Told::NoLine, "")?;
+        write_remark(reported, ended.lines, Remark::NoLine, "")?;
         Ok(ended)
     }
 
-    /// Ends the text that was read, and appends the rest of what is told of it. Says whether no
-    /// line is wrong.
-    pub fn finish(&self, told: &mut String) -> Result<bool, AllocError>
+    /// Ends the text that was read, and appends the rest of the report. Says whether no line is
+    /// wrong.
+    pub fn finish(&self, reported: &mut String) -> Result<bool, AllocError>
         ensures { IfOk result (λ legal. (fares : Fares) (strikes : Bool) (full : AFullBalance)
             (text written : List ℕ) (good : List TapFields)
             → HasRecounted fares self.now strikes full text written good
             → (taken : List TakenLine) × IsRecount fares text taken
             × (legal ≡ nat_eq (wrong_count taken) 0)
             × (strikes ≡ true → IsFullBalance full good (taps_from taken))
-            × (more : List ℕ) × (string_bytes told.new ≡ string_bytes told.old ++ more)
+            × (more : List ℕ) × (string_bytes reported.new ≡ string_bytes reported.old ++ more)
             × (written ++ more ≡ recount_text taken)) }
     {
-        let sums = self.end_text(told)?;
-        sums.write_end(told)?;
+        let sums = self.end_text(reported)?;
+        sums.write_end(reported)?;
         Ok(sums.wrong == 0)
     }
 }

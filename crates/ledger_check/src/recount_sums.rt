@@ -7,7 +7,7 @@ ghost use Rattle.ledger_check.specs.Recounts.{one_other, one_wrong, ruled_cents,
 ghost use Rattle.ledger_check.specs.Recounts.{wrong_token_of};
 ghost use Rattle.ledger_check.specs.RecountStates.{AreSums};
 
-use crate::walk::{CountedTap, LineFinding, Told};
+use crate::walk::{CountedTap, LineFinding, Remark};
 use std::alloc::AllocError;
 use tap_views::Token;
 
@@ -21,7 +21,7 @@ pub(crate) struct RecountSums {
     pub(crate) lines: u64,
     /// How many of them are wrong.
     pub(crate) wrong: u64,
-    /// The token of the last wrong line that tells a tap.
+    /// The token of the last wrong line that names a tap.
     last_wrong: Option<Token>,
     /// How many tokens have wrong lines.
     tokens: u64,
@@ -41,25 +41,25 @@ fn sum(a: u64, b: u64) -> Result<u64, AllocError>
     }
 }
 
-/// 1 for a line of which something is told.
-fn one_wrong(told: Told) -> u64
-    ensures { result ≡ one_wrong told }
+/// 1 for a line with a remark.
+fn one_wrong(remark: Remark) -> u64
+    ensures { result ≡ one_wrong remark }
 {
-    match told {
-        Told::Nothing => 0,
-        Told::Wants | Told::NoLine => 1,
+    match remark {
+        Remark::Nothing => 0,
+        Remark::Wants | Remark::NoLine => 1,
     }
 }
 
-/// The token of a wrong line, if it tells a tap; else the last one.
-fn wrong_token_of(last: Option<Token>, told: Told, tap: Option<CountedTap>) -> Option<Token>
-    ensures { result ≡ wrong_token_of last told tap }
+/// The token of a wrong line, if it names a tap; else the last one.
+fn wrong_token_of(last: Option<Token>, remark: Remark, tap: Option<CountedTap>) -> Option<Token>
+    ensures { result ≡ wrong_token_of last remark tap }
 {
-    match (told, tap) {
+    match (remark, tap) {
         (_, None) => last,
-        (Told::Nothing, Some(_)) => last,
-        (Told::Wants, Some(tap)) => Some(tap.entry.token),
-        (Told::NoLine, Some(tap)) => Some(tap.entry.token),
+        (Remark::Nothing, Some(_)) => last,
+        (Remark::Wants, Some(tap)) => Some(tap.entry.token),
+        (Remark::NoLine, Some(tap)) => Some(tap.entry.token),
     }
 }
 
@@ -125,8 +125,8 @@ impl RecountSums {
         if self.lines >= MAX_LINES {
             return Err(AllocError);
         }
-        let last_wrong = wrong_token_of(self.last_wrong, finding.told, finding.tap);
-        let wrong = sum(self.wrong, one_wrong(finding.told))?;
+        let last_wrong = wrong_token_of(self.last_wrong, finding.remark, finding.tap);
+        let wrong = sum(self.wrong, one_wrong(finding.remark))?;
         let tokens = sum(self.tokens, one_other(self.last_wrong, last_wrong))?;
         let cents = sum(self.cents, asked_cents(finding.tap))?;
         let wanted = sum(self.wanted, ruled_cents(finding.tap))?;
@@ -156,7 +156,7 @@ impl RecountSums {
         )
     }
 
-    /// Appends the line behind what is told of the lines.
+    /// Appends the line behind the remarks.
     pub(crate) fn write_end(self, text: &mut String) -> Result<(), AllocError>
         ensures { OnOk result ((taken : List TakenLine) → AreSums self taken
             → string_bytes text.new ≡ string_bytes text.old ++ end_text taken) }

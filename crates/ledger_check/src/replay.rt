@@ -7,7 +7,7 @@ ghost use Rattle.fare_table.specs.Fares.{Fares};
 ghost use Rattle.tap_views.specs.Token.{Fits};
 ghost use Rattle.shard_book.specs.declared.entry.Entry.{Entry};
 ghost use Rattle.ledger_check.specs.Ledger.{token_number};
-ghost use Rattle.ledger_check.specs.Replays.{HasRead, HasTeller, StandsForOwn};
+ghost use Rattle.ledger_check.specs.Replays.{HasRead, HasExplainer, StandsForOwn};
 ghost use Rattle.ledger_check.specs.inside.Replays.{IsStep};
 
 use crate::bytes::same_bytes;
@@ -15,7 +15,7 @@ use crate::form::has_form;
 use crate::tap::{Tap, read_tap};
 use crate::wanted::write_wanted;
 use fare_table::{Clock, FareTable};
-use fare_texts::Teller;
+use fare_texts::Explainer;
 use std::cmp::Ordering;
 use tap_views::{NoMemory, Token};
 
@@ -36,13 +36,13 @@ pub(crate) enum Step {
     NoLine,
 }
 
-/// The lines read so far: how many there are, and the teller of the last one's token.
+/// The lines read so far: how many there are, and the explainer of the last one's token.
 #[derive(Clone, Copy)]
 pub(crate) struct Replay {
     /// How many lines were read.
     pub(crate) lines: u64,
-    /// The teller of the last line's token; none where no line was read.
-    teller: Option<Teller>,
+    /// The explainer of the last line's token; none if no line was read.
+    explainer: Option<Explainer>,
 }
 
 impl Replay {
@@ -52,27 +52,28 @@ impl Replay {
     {
         Replay {
             lines: 0,
-            teller: None,
+            explainer: None,
         }
     }
 
-    /// The teller of the token, which goes on or begins here; `None` where the token is less than
+    /// The explainer of the token, which goes on or begins here; `None` if the token is less than
     /// the last one.
-    fn teller_of(&self, token: Token) -> Option<Teller>
+    fn explainer_of(&self, token: Token) -> Option<Explainer>
         requires { Fits token }
-        ensures token { IfSome result (λ teller. teller.token ≡ token) }
-        ensures stands { IfSome result (λ teller. (fares : Fares) (entries : List Entry)
-            → HasTeller fares self.now.teller entries → StandsForOwn fares teller entries) }
+        ensures token { IfSome result (λ explainer. explainer.token ≡ token) }
+        ensures stands { IfSome result (λ explainer. (fares : Fares) (entries : List Entry)
+            → HasExplainer fares self.now.explainer entries
+            → StandsForOwn fares explainer entries) }
         ensures less { IfNone result ((fares : Fares) (entries : List Entry)
-            → HasTeller fares self.now.teller entries
+            → HasExplainer fares self.now.explainer entries
             → All (λ entry. token_number entry.token ≤ token_number token) entries → ⊥) }
     {
-        let Some(teller) = self.teller else {
-            return Some(Teller::of(token));
+        let Some(explainer) = self.explainer else {
+            return Some(Explainer::of(token));
         };
-        match teller.token.cmp(&token) {
-            Ordering::Less => Some(Teller::of(token)),
-            Ordering::Equal => Some(teller),
+        match explainer.token.cmp(&token) {
+            Ordering::Less => Some(Explainer::of(token)),
+            Ordering::Equal => Some(explainer),
             Ordering::Greater => None,
         }
     }
@@ -98,13 +99,20 @@ impl Replay {
         let Some(tap) = read_tap(line) else {
             return Ok(Step::NoLine);
         };
-        let Some(mut teller) = self.teller_of(tap.token) else {
+        let Some(mut explainer) = self.explainer_of(tap.token) else {
             return Ok(Step::NoLine);
         };
-        write_wanted(&mut teller, table, clock, tap.validator, tap.moment, wanted)?;
+        write_wanted(
+            &mut explainer,
+            table,
+            clock,
+            tap.validator,
+            tap.moment,
+            wanted,
+        )?;
         if same_bytes(wanted.as_bytes(), line) {
             self.lines += 1;
-            self.teller = Some(teller);
+            self.explainer = Some(explainer);
             return Ok(Step::Legal(tap));
         }
         if wanted.len() <= MAX_LINE_BYTES && has_form(line) {

@@ -1,4 +1,4 @@
-//! The tap that a ledger's line tells.
+//! The tap that a ledger's line names.
 
 ghost use Rattle.std.specs.Prelude.{◌≡◌, ◌<◌, ◌^◌, ℕ, List, IfSome, IsSomeAnd};
 ghost use Rattle.std.specs.Prelude.{Some};
@@ -17,7 +17,7 @@ use crate::bytes::field;
 use crate::moment::read_moment;
 use tap_views::{TapFields, Token};
 
-/// What a line tells of a tap.
+/// What a line says of a tap.
 #[derive(Clone, Copy)]
 pub(crate) struct Tap {
     /// Whose account was tapped.
@@ -76,8 +76,8 @@ pub(crate) fn read_long_number(digits: &[u8]) -> Option<u64>
     }
 }
 
-/// The tap of the line, from its first fields; what follows the validator is not read. `None` where
-/// no entry has this line.
+/// The tap of the line, from its first fields; what follows the validator is not read. `None` if no
+/// entry has this line.
 pub(crate) fn read_tap(line: &[u8]) -> Option<Tap>
     ensures fits { IfSome result (λ tap. Fits tap.token) }
     ensures moment { IfSome result (λ tap. tap.moment < 4_102_444_800_000) }

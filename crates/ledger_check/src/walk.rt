@@ -6,10 +6,10 @@ ghost use Rattle.fare_table.specs.Fares.{Fares};
 ghost use Rattle.shard_book.specs.Entry.{own};
 ghost use Rattle.shard_book.specs.declared.entry.Entry.{Entry as AnEntry};
 ghost use Rattle.tap_views.specs.Token.{Fits};
-ghost use Rattle.fare_texts.specs.Tellers.{HasTold};
-ghost use Rattle.ledger_check.specs.Recounts.{falls_after, told_for, told_text, no_line_text};
+ghost use Rattle.fare_texts.specs.Explainers.{HasExplained};
+ghost use Rattle.ledger_check.specs.Recounts.{falls_after, remark_for, remark_text, no_line_text};
 ghost use Rattle.ledger_check.specs.Recounts.{wants_text};
-ghost use Rattle.ledger_check.specs.RecountStates.{HasRunTeller};
+ghost use Rattle.ledger_check.specs.RecountStates.{HasRunExplainer};
 ghost use Rattle.ledger_check.specs.Lines.{IsLine};
 ghost use Rattle.ledger_check.specs.inside.Recounts.{HasJudged, TookTap};
 
@@ -17,13 +17,13 @@ use crate::bytes::same_bytes;
 use crate::exact::{exact_cents, exact_tap};
 use crate::tap::Tap;
 use fare_table::{Clock, FareTable};
-use fare_texts::{Teller, write_line};
+use fare_texts::{Explainer, write_line};
 use shard_book::Entry;
 use std::alloc::{AllocError, Global};
 use std::cmp::Ordering;
 use tap_views::{NoMemory, Token};
 
-/// A tap that a line tells.
+/// A tap that a line names.
 #[derive(Clone, Copy)]
 pub(crate) struct CountedTap {
     /// The entry that the rules give it.
@@ -32,37 +32,36 @@ pub(crate) struct CountedTap {
     pub(crate) cents: u32,
 }
 
-/// What is told of a line.
+/// The remark on a line.
 #[derive(Clone, Copy)]
-pub(crate) enum Told {
+pub(crate) enum Remark {
     /// It is right.
     Nothing,
     /// Its tap should have another line.
     Wants,
-    /// It is no ledger line: it tells no tap, or its token is less than that of the tap before it.
+    /// It is no ledger line: it names no tap, or its token is less than that of the tap before it.
     NoLine,
 }
 
 /// What a recount finds of a line.
 #[derive(Clone, Copy)]
 pub(crate) struct LineFinding {
-    /// The tap that it tells, if it tells one.
+    /// The tap that it names, if it names one.
     pub(crate) tap: Option<CountedTap>,
-    /// What is told of it.
-    pub(crate) told: Told,
+    pub(crate) remark: Remark,
 }
 
-/// What is told of a line that tells a tap, by whether its token falls, and whether it is the line
+/// The remark on a line that names a tap, by whether its token falls, and whether it is the line
 /// that the tap should have.
-fn told_for(falls: bool, same: bool) -> Told
-    ensures { result ≡ told_for falls same }
+fn remark_for(falls: bool, same: bool) -> Remark
+    ensures { result ≡ remark_for falls same }
 {
     if falls {
-        Told::NoLine
+        Remark::NoLine
     } else if same {
-        Told::Nothing
+        Remark::Nothing
     } else {
-        Told::Wants
+        Remark::Wants
     }
 }
 
@@ -83,48 +82,48 @@ fn write_wants(text: &mut String, number: u64, wanted: &str) -> Result<(), Alloc
     write!(text, "line {number} wants {wanted}")
 }
 
-/// Appends what is told of the line of this number.
-pub(crate) fn write_told(
+/// Appends the remark on the line of this number.
+pub(crate) fn write_remark(
     text: &mut String,
     number: u64,
-    told: Told,
+    remark: Remark,
     wanted: &str,
 ) -> Result<(), AllocError>
     ensures { OnOk result (string_bytes text.new
-        ≡ string_bytes text.old ++ told_text number told wanted.now) }
+        ≡ string_bytes text.old ++ remark_text number remark wanted.now) }
 {
-    match told {
-        Told::Nothing => Ok(()),
-        Told::Wants => write_wants(text, number, wanted),
-        Told::NoLine => write_no_line(text, number),
+    match remark {
+        Remark::Nothing => Ok(()),
+        Remark::Wants => write_wants(text, number, wanted),
+        Remark::NoLine => write_no_line(text, number),
     }
 }
 
-/// The teller of the token, which goes on or begins here; and whether the token is less than the
+/// The explainer of the token, which goes on or begins here; and whether the token is less than the
 /// last one.
-fn teller_after(last: &Option<Teller>, token: Token) -> (Teller, bool)
+fn explainer_after(last: &Option<Explainer>, token: Token) -> (Explainer, bool)
     requires { Fits token }
     ensures token { result.0.token ≡ token }
-    ensures told { (fares : Fares) (run : List AnEntry) → HasRunTeller fares last.now run
-        → HasTold fares result.0 (own token run) }
-    ensures falls { (fares : Fares) (run : List AnEntry) → HasRunTeller fares last.now run
+    ensures explained { (fares : Fares) (run : List AnEntry) → HasRunExplainer fares last.now run
+        → HasExplained fares result.0 (own token run) }
+    ensures falls { (fares : Fares) (run : List AnEntry) → HasRunExplainer fares last.now run
         → result.1 ≡ falls_after run token }
 {
-    let Some(teller) = *last else {
-        return (Teller::of(token), false);
+    let Some(explainer) = *last else {
+        return (Explainer::of(token), false);
     };
-    match teller.token.cmp(&token) {
-        Ordering::Less => (Teller::of(token), false),
-        Ordering::Equal => (teller, false),
-        Ordering::Greater => (Teller::of(token), true),
+    match explainer.token.cmp(&token) {
+        Ordering::Less => (Explainer::of(token), false),
+        Ordering::Equal => (explainer, false),
+        Ordering::Greater => (Explainer::of(token), true),
     }
 }
 
-/// The teller of the last tap's token, and the line that this tap should have.
+/// The explainer of the last tap's token, and the line that this tap should have.
 #[derive(Drop)]
 pub(crate) struct Walk {
-    /// The teller of the last tap's token; none before the first tap.
-    teller: Option<Teller>,
+    /// The explainer of the last tap's token; none before the first tap.
+    explainer: Option<Explainer>,
     /// The line that the last tap should have.
     pub(crate) wanted: String,
     /// A moment, printed again.
@@ -134,10 +133,10 @@ pub(crate) struct Walk {
 impl Walk {
     /// No tap was taken.
     pub(crate) fn new(alloc: Global) -> Walk
-        ensures { (fares : Fares) → HasRunTeller fares result.teller [] }
+        ensures { (fares : Fares) → HasRunExplainer fares result.explainer [] }
     {
         Walk {
-            teller: None,
+            explainer: None,
             wanted: String::new(alloc),
             again: String::new(alloc),
         }
@@ -154,26 +153,26 @@ impl Walk {
         requires clock { clock.now ≡ table.now.zone }
         requires fits { Fits tap.token }
         requires early { tap.moment < 4_102_444_800_000 }
-        requires run { (run : List AnEntry) × HasRunTeller table.now self.old.teller run
+        requires run { (run : List AnEntry) × HasRunExplainer table.now self.old.explainer run
             × (length run < 2 ^ 63) }
 
         // After all entries for which it stood.
         ensures { IfOk result (λ took. (run : List AnEntry)
-            → HasRunTeller table.now self.old.teller run
+            → HasRunExplainer table.now self.old.explainer run
             → TookTap table.now run tap self.new took.0 took.1) }
     {
-        let (mut teller, falls) = teller_after(&self.teller, tap.token);
-        let (entry, reason) = teller.post_next(table, clock, tap.validator, tap.moment);
+        let (mut explainer, falls) = explainer_after(&self.explainer, tap.token);
+        let (entry, reason) = explainer.post_next(table, clock, tap.validator, tap.moment);
         self.wanted.clear();
         write_line(
             &mut self.wanted,
             table,
             tap.token,
-            teller.number,
+            explainer.number,
             &entry,
             &reason,
         )?;
-        self.teller = Some(teller);
+        self.explainer = Some(explainer);
         Ok((entry, falls))
     }
 
@@ -187,18 +186,18 @@ impl Walk {
         requires clock { clock.now ≡ table.now.zone }
         requires line { IsLine line.now }
         requires short { length line.now ≤ 255 }
-        requires run { (run : List AnEntry) × HasRunTeller table.now self.old.teller run
+        requires run { (run : List AnEntry) × HasRunExplainer table.now self.old.explainer run
             × (length run < 2 ^ 63) }
 
         // After all entries for which it stood.
         ensures { IfOk result (λ finding. (run : List AnEntry)
-            → HasRunTeller table.now self.old.teller run
+            → HasRunExplainer table.now self.old.explainer run
             → HasJudged table.now run line.now self.new finding) }
     {
         let Some((tap, rest)) = exact_tap(line, &mut self.again)? else {
             return Ok(LineFinding {
                 tap: None,
-                told: Told::NoLine,
+                remark: Remark::NoLine,
             });
         };
         let (entry, falls) = self.take_tap(table, clock, tap)?;
@@ -206,7 +205,7 @@ impl Walk {
         let is_same = same_bytes(line, self.wanted.as_bytes());
         Ok(LineFinding {
             tap: Some(CountedTap { entry, cents }),
-            told: told_for(falls, is_same),
+            remark: remark_for(falls, is_same),
         })
     }
 }

@@ -7,14 +7,14 @@ ghost use Rattle.ledger_check.specs.inside.Replays.{GoesOn};
 
 use account_rule::Answer;
 use fare_table::{Clock, FareTable};
-use fare_texts::{Teller, write_line};
+use fare_texts::{Explainer, write_line};
 use shard_book::Entry;
 use tap_views::NoMemory;
 
-/// Takes one more tap of the teller's token, and writes the line that it should have in place of
+/// Takes one more tap of the explainer's token, and writes the line that it should have in place of
 /// the text.
 pub(crate) fn write_wanted(
-    teller: &mut Teller,
+    explainer: &mut Explainer,
     table: &FareTable,
     clock: &Clock,
     validator: u32,
@@ -22,23 +22,23 @@ pub(crate) fn write_wanted(
     wanted: &mut String,
 ) -> Result<(), NoMemory>
     requires clock { clock.now ≡ table.now.zone }
-    requires number { teller.old.number + 1 < 2 ^ 64 }
-    requires stands { (entries : List Entry) × StandsForOwn table.now teller.old entries }
+    requires number { explainer.old.number + 1 < 2 ^ 64 }
+    requires stands { (entries : List Entry) × StandsForOwn table.now explainer.old entries }
 
-    // Of all entries for which the teller stood.
-    ensures { OnOk result ((entries : List Entry) → StandsForOwn table.now teller.old entries
-        → GoesOn table.now teller.old entries validator moment
-        (string_bytes wanted.new) teller.new) }
+    // Of all entries for which the explainer stood.
+    ensures { OnOk result ((entries : List Entry) → StandsForOwn table.now explainer.old entries
+        → GoesOn table.now explainer.old entries validator moment
+        (string_bytes wanted.new) explainer.new) }
 {
     // The reply comes with the reason, which does not look at it.
     let tap = Entry {
-        token: teller.token,
+        token: explainer.token,
         validator,
         moment,
         answer: Answer::Unknown,
         cents: 0,
     };
-    let reason = teller.explain_next(table, clock, &tap)?;
+    let reason = explainer.explain_next(table, clock, &tap)?;
     let reply = reason.reply();
     let entry = Entry {
         answer: reply.answer,
@@ -46,6 +46,13 @@ pub(crate) fn write_wanted(
         ..tap
     };
     wanted.clear();
-    write_line(wanted, table, teller.token, teller.number, &entry, &reason)?;
+    write_line(
+        wanted,
+        table,
+        explainer.token,
+        explainer.number,
+        &entry,
+        &reason,
+    )?;
     Ok(())
 }

@@ -8,7 +8,7 @@ ghost use Rattle.fare_service.specs.Printed.{report_of};
 ghost use Rattle.fare_service.specs.Shares.{IsShareOf};
 
 use crate::runs::{opened, report_text, two_taps};
-use fare_service::{Gate, OpenGate, Outcome, RunFault, Service, Share, laws};
+use fare_service::{Gatekeeper, OpenGatekeeper, Outcome, RunFault, Service, Share, laws};
 use std::alloc::Global;
 use std::marker::Sync;
 use std::process::Abort;
@@ -19,14 +19,14 @@ use std::thread::Threads;
 
 /// Runs a service of these uploads, and knows of the outcome that its report is that of their plain
 /// history.
-fn run<R: Threads + Wait + Sync, G: Gate + Sync>(
+fn run<R: Threads + Wait + Sync, G: Gatekeeper + Sync>(
     service: Service<&[Vec<u8>]>,
     uploads: &[Vec<u8>],
     rt: &R,
     alloc: Global,
     share: Share,
     workers: u32,
-    gate: &G,
+    keeper: &G,
 ) -> Result<Outcome, RunFault>
     requires share { IsShareOf service share }
     requires uploads { service.uploads ≡ map (λ upload. Some upload.items) uploads.now }
@@ -36,7 +36,7 @@ fn run<R: Threads + Wait + Sync, G: Gate + Sync>(
         → AreApart plain.taps → IsReportOver (map (λ upload. upload.items) uploads.now) history
         (report_of outcome)) }
 {
-    let outcome = service.run(rt, alloc, share, workers, gate)?;
+    let outcome = service.run(rt, alloc, share, workers, keeper)?;
     laws::report_is_plain(uploads, &outcome);
     Ok(outcome)
 }
@@ -49,7 +49,7 @@ fn posted<R: Threads + Wait + RandomSource + Sync>(
     workers: u32,
 ) -> Result<Outcome, Fail> {
     let (service, share) = opened(rt, alloc, uploads, shards)?;
-    Ok(run(service, uploads, rt, alloc, share, workers, &OpenGate)?)
+    Ok(run(service, uploads, rt, alloc, share, workers, &OpenGatekeeper)?)
 }
 
 fn have_one_text<R: Abort + Threads + Sync>(

@@ -1,7 +1,7 @@
 //! Damaged uploads through the whole service.
 
 use crate::runs::{BUS, SUBWAY, end_of, run, tap_after};
-use fare_service::{OpenGate, UploadEnd};
+use fare_service::{OpenGatekeeper, UploadEnd};
 use std::alloc::Global;
 use std::test::Fail;
 use tap_views::{LayoutFault, encode};
@@ -56,7 +56,7 @@ fn a_file_cut_at_every_length(rt: HostRuntime) -> Result<(), Fail> {
         cut.push(left)?;
     }
     cut.push(file)?;
-    let outcome = run(&rt, alloc, cut.as_slice(), 8, 1, &OpenGate)?;
+    let outcome = run(&rt, alloc, cut.as_slice(), 8, 1, &OpenGatekeeper)?;
     for bytes in 0..=100u32 {
         assert_eq!(rt;
             end_of(&outcome, bytes),
@@ -105,7 +105,7 @@ fn every_bit_of_a_header_turned(rt: HostRuntime) -> Result<(), Fail> {
             files.push(file)?;
         }
     }
-    let outcome = run(&rt, alloc, files.as_slice(), 8, 1, &OpenGate)?;
+    let outcome = run(&rt, alloc, files.as_slice(), 8, 1, &OpenGatekeeper)?;
     for byte in 0..8usize {
         for bit in 0..8u32 {
             let wanted = end_of_a_turned_bit(byte, bit);

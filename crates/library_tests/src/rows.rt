@@ -7,7 +7,8 @@ use crate::runs::{
     REPORT, SAMPLE, end_of, opened, report_text, run, two_taps, two_uploads, uploads_of,
 };
 use fare_service::{
-    Gate, GatherFault, OpenFault, OpenGate, Outcome, RunFault, Service, Share, Unlent, UploadEnd,
+    Gatekeeper, GatherFault, OpenFault, OpenGatekeeper, Outcome, RunFault, Service, Share, Unlent,
+    UploadEnd,
 };
 use fare_table::FareTable;
 use shard_book::Totals;
@@ -59,12 +60,12 @@ fn a_cut_upload_is_reported(rt: HostRuntime) -> Result<(), Fail> {
 fn no_uploads_are_reported(rt: HostRuntime) -> Result<(), Fail> {
     let alloc = rt.alloc();
     let uploads = Vec::new(alloc);
-    let outcome = run(&rt, alloc, uploads.as_slice(), 64, 16, &OpenGate)?;
+    let outcome = run(&rt, alloc, uploads.as_slice(), 64, 16, &OpenGatekeeper)?;
     assert_eq!(rt; (outcome.uploads(), outcome.totals()), (0, Totals::new()));
     is_reported(&rt, alloc, &outcome, NO_REPORT)
 }
 
-/// The most turns that a gate waits.
+/// The most turns that a gatekeeper waits.
 const TURNS: u64 = 1_000_000_000;
 
 /// The first upload waits for the end of the second, which waits for the start of the first: so two
@@ -95,7 +96,7 @@ impl Both {
     }
 }
 
-impl Gate for Both {
+impl Gatekeeper for Both {
     type Begun = u32;
 
     ghost begins = { λ begun. begun };
@@ -135,9 +136,9 @@ fn were_both_posted<R: Abort>(rt: &R, outcome: &Outcome) {
 fn two_workers_post_at_once(rt: HostRuntime) -> Result<(), Fail> {
     let alloc = rt.alloc();
     let uploads = two_uploads(alloc)?;
-    let gate = Both::new();
-    let outcome = run(&rt, alloc, uploads.as_slice(), 8, 2, &gate)?;
-    assert!(rt; !gate.gave_up.load(Ordering::SeqCst));
+    let keeper = Both::new();
+    let outcome = run(&rt, alloc, uploads.as_slice(), 8, 2, &keeper)?;
+    assert!(rt; !keeper.gave_up.load(Ordering::SeqCst));
     were_both_posted(&rt, &outcome);
     is_reported(&rt, alloc, &outcome, REPORT)
 }
@@ -152,17 +153,17 @@ fn both_worked<'a, R: Threads + Wait + RandomSource + Sync>(
 {
     let (service, mut first) = opened(rt, alloc, uploads, 1)?;
     let second = service.share(alloc, &mut first)?;
-    let gate = Both::new();
+    let keeper = Both::new();
     let (one, two) = thread::join(
         rt,
         || -> Result<Share, Unlent>
             requires { IsShareOf service first }
             ensures { IfOk result (IsShareOf service.entry) }
-        { service.work(rt, alloc, first, &gate) },
+        { service.work(rt, alloc, first, &keeper) },
         || -> Result<Share, Unlent>
             requires { IsShareOf service second }
             ensures { IfOk result (IsShareOf service.entry) }
-        { service.work(rt, alloc, second, &gate) },
+        { service.work(rt, alloc, second, &keeper) },
     );
     let (Ok(one), Ok(two)) = (one, two) else {
         return Err(Fail::from("a loaded upload is not lent"));
@@ -297,7 +298,11 @@ fn running_fault<R: Threads + Wait + RandomSource + Sync>(
     workers: u32,
 ) -> Result<Option<RunFault>, Fail> {
     let (service, share) = opened(rt, alloc, &[], 1)?;
-    Ok(service.run(rt, alloc, share, workers, &OpenGate).err())
+    Ok(
+        service
+            .run(rt, alloc, share, workers, &OpenGatekeeper)
+            .err(),
+    )
 }
 
 #[test]

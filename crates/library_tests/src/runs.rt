@@ -3,7 +3,7 @@
 ghost use Rattle.std.specs.Prelude.{◌≡◌, IfOk, Some, map};
 ghost use Rattle.fare_service.specs.Shares.{IsShareOf};
 
-use fare_service::{Gate, Outcome, Service, Share, UploadEnd};
+use fare_service::{Gatekeeper, Outcome, Service, Share, UploadEnd};
 use fare_table::FareTable;
 pub use sample_table::{BUS, REPORT, SAMPLE, START, STATEMENT, SUBWAY, bytes_of, tap_after};
 use sample_table::{rides, strays};
@@ -54,16 +54,16 @@ pub(crate) fn opened<'a, R: RandomSource>(
     Ok(Service::open(rt, alloc, table, shards, uploads)?)
 }
 
-pub(crate) fn run<R: Threads + Wait + RandomSource + Sync, G: Gate + Sync>(
+pub(crate) fn run<R: Threads + Wait + RandomSource + Sync, G: Gatekeeper + Sync>(
     rt: &R,
     alloc: Global,
     uploads: &[Vec<u8>],
     shards: u32,
     workers: u32,
-    gate: &G,
+    keeper: &G,
 ) -> Result<Outcome, Fail> {
     let (service, share) = opened(rt, alloc, uploads, shards)?;
-    Ok(service.run(rt, alloc, share, workers, gate)?)
+    Ok(service.run(rt, alloc, share, workers, keeper)?)
 }
 
 /// The end of an upload, or nothing if there is no such upload.

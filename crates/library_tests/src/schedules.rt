@@ -1,7 +1,7 @@
 //! The same answers for every number of workers and of shards.
 
 use crate::runs::{REPORT, SUBWAY, are_posted, report_text, run, tap_after, two_uploads};
-use fare_service::OpenGate;
+use fare_service::OpenGatekeeper;
 use std::alloc::Global;
 use std::marker::Sync;
 use std::process::Abort;
@@ -19,7 +19,7 @@ fn report_by_all_workers<R: Threads + Wait + RandomSource + Sync + Abort>(
     shards: u32,
 ) -> Result<(), Fail> {
     for workers in 1..=16u32 {
-        let outcome = run(rt, alloc, uploads, shards, workers, &OpenGate)?;
+        let outcome = run(rt, alloc, uploads, shards, workers, &OpenGatekeeper)?;
         let text = report_text(rt, alloc, &outcome)?;
         assert_eq!(rt;
             (
@@ -66,7 +66,7 @@ fn twenty_uploads_by_two_workers(rt: HostRuntime) -> Result<(), Fail> {
         uploads.push(ten_rides(alloc, upload)?)?;
     }
     for shards in [1, 2, 8, 64] {
-        let outcome = run(&rt, alloc, uploads.as_slice(), shards, 2, &OpenGate)?;
+        let outcome = run(&rt, alloc, uploads.as_slice(), shards, 2, &OpenGatekeeper)?;
         assert_eq!(rt; outcome.uploads(), 20);
         are_posted(&rt, &outcome, 10);
         let totals = outcome.totals();

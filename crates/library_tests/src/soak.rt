@@ -4,7 +4,7 @@ ghost use Rattle.std.specs.Prelude.{◌<◌};
 
 use crate::reference::ReferenceAccount;
 use crate::runs::{START, are_posted, bytes_of, run};
-use fare_service::{OpenGate, Outcome};
+use fare_service::{OpenGatekeeper, Outcome};
 use shard_book::{ShardBook, Statement};
 use std::alloc::Global;
 use std::process::Abort;
@@ -138,7 +138,7 @@ fn sixteen_workers_share_tokens(rt: HostRuntime) -> Result<(), Fail> {
         uploads.push(some_upload(alloc, &mut numbers)?)?;
     }
     for _ in 0..ROUNDS {
-        let outcome = run(&rt, alloc, uploads.as_slice(), 64, 16, &OpenGate)?;
+        let outcome = run(&rt, alloc, uploads.as_slice(), 64, 16, &OpenGatekeeper)?;
         are_posted(&rt, &outcome, u64::from(BATCHES * TAPS));
         are_explained(&rt, alloc, &outcome)?;
         assert_eq!(rt; taps_of_workers(&outcome), outcome.totals().taps);

@@ -1,7 +1,7 @@
 //! Writers that fail.
 
 use crate::runs::{REPORT, STATEMENT, bytes_of, run, two_uploads};
-use fare_service::{OpenGate, PrintFault};
+use fare_service::{OpenGatekeeper, PrintFault};
 use sample_table::Narrow;
 use std::test::Fail;
 use tap_views::Token;
@@ -11,7 +11,7 @@ use tap_views::Token;
 fn a_writer_that_fails_after_some_bytes(rt: HostRuntime) -> Result<(), Fail> {
     let alloc = rt.alloc();
     let uploads = two_uploads(alloc)?;
-    let outcome = run(&rt, alloc, uploads.as_slice(), 8, 1, &OpenGate)?;
+    let outcome = run(&rt, alloc, uploads.as_slice(), 8, 1, &OpenGatekeeper)?;
     for room in 0..REPORT.len() {
         let written = outcome.write_report(&rt, alloc, &mut Narrow { room });
         assert!(rt;

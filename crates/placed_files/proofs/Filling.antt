@@ -10,14 +10,14 @@ use Rattle.std.proofs.lemmas.Slice.{take-put_mid_below}
 use Rattle.placed_files.specs.Placed.{IsReadAt}
 use Rattle.placed_files.specs.inside.Begun.{IsBegunFrom}
 
--- so many elements of two lists, of which the first is taken whole
+-- the first elements of two lists, if they reach past the first list
 take_past : (us vs : List ℕ) (n m : ℕ) → m ≡ length us + n → take m (us ++ vs) ≡ us ++ take n vs
 take_past [] vs n m e = ap (λ k. take k vs) (let same : m ≡ n = omega (arith, e) in same)
 take_past (u ∷ us) vs n zero e = absurd (omega (arith, e))
 take_past (u ∷ us) vs n (suc m) e =
     ap (λ l. u ∷ l) (take_past us vs n m (omega (arith, e)))
 
--- what was read is kept where the rest of the buffer is written
+-- what was read is kept if the rest of the buffer is written
 pub kept : (known : Option (List ℕ)) (offset at k : ℕ) (buffer part : List ℕ) → at ≤ length buffer
     → IfSome known (λ all. IsBegunFrom all offset buffer at)
     → IfSome known (λ all. IsBegunFrom all offset (put_mid at k buffer part) at)

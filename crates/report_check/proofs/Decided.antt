@@ -11,7 +11,7 @@ use Rattle.shard_book.specs.SumsByKey.{sums_by_token, sums_by_validator}
 use Rattle.shard_book.specs.declared.entry.Entry.{Entry}
 use Rattle.report_texts.specs.Report.{tokens_section, upload_line, upload_lines, uploads_section}
 use Rattle.report_texts.specs.Report.{validators_section}
-use Rattle.report_texts.specs.UploadEnds.{taps_told}
+use Rattle.report_texts.specs.UploadEnds.{taps_of_end}
 use Rattle.report_texts.specs.declared.upload_end.UploadEnd.{UploadEnd}
 use Rattle.report_check.specs.Reports.{BeginsWithUploads, HasNoUploads, HasOtherTaps}
 use Rattle.report_check.specs.Reports.{HasReportBefore, HasWrongLine, HaveTapsOf, IsNoUploadLine}
@@ -21,7 +21,7 @@ use Rattle.report_check.specs.declared.verdict.ReportVerdict.{ReportVerdict}
 use Rattle.report_check.specs.declared.verdict.ReportVerdict.TheVariants.{OfLedger, Wants, NoLine}
 use Rattle.report_check.specs.declared.verdict.ReportVerdict.TheVariants.{Taps}
 use Rattle.ledger_check.proofs.LineLemmas.{lacks-tested}
-use Rattle.report_check.proofs.EndsTold.{next_end, number_line_is, section_same, upload_line_is}
+use Rattle.report_check.proofs.EndsReported.{next_end, number_line_is, section_same, upload_line_is}
 use Rattle.report_check.proofs.Through.{taken_line}
 use Rattle.part_reports.proofs.Firsts.{taken_and_left}
 
@@ -108,7 +108,7 @@ taps_not : (entries : List Entry) (text : List ℕ) (line uploads ledger : ℕ)
     → HasOtherTaps entries text line uploads ledger → ¬ (IsReportOfLedger entries text)
 taps_not entries text line uploads ledger has own =
     let same = same_uploads entries text has.ends has.begins own in
-    has.apart (has.told ∙ ap (λ (es : List UploadEnd). sum_by taps_told es) (sym same)
+    has.apart (has.reported ∙ ap (λ (es : List UploadEnd). sum_by taps_of_end es) (sym same)
     ∙ own.have.taps ∙ sym has.has)
 
 other : (entries : List Entry) (text : List ℕ) → ¬ (IsReportOfLedger entries text)

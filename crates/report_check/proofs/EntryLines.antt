@@ -63,12 +63,14 @@ cents_fields fares token number entry why line is = record {
   behind = is.reason_fields ++ 10 ∷ [];
   shown = is.shown
       ∙ spelt (encode_lower (bytes_of token)) (decimal number) is.moment (decimal entry.validator)
-      (mode_field fares entry.moment entry.validator) (answer_text entry.answer) (decimal entry.cents)
+      (mode_field fares entry.moment entry.validator) (answer_text entry.answer)
+      (decimal entry.cents)
       (is.reason_fields ++ 10 ∷ []);
 }
 
 -- the terms on the mode of an entry
-terms_at_entry : (fares : Fares) (entry : Entry) → HasRideTerms fares entry.token entry.moment entry.validator
+terms_at_entry : (fares : Fares) (entry : Entry)
+    → HasRideTerms fares entry.token entry.moment entry.validator
     → (mode : Mode) → (tap_of fares entry).mode ≡ Some mode
     → AreRideTerms ((rules_of fares (bytes_of entry.token)).terms (live_at entry.moment mode))
 unfolding tap_of rules_of token_class live_at

@@ -1,6 +1,6 @@
 pub mod Decided
 pub mod Differences
-pub mod EndsTold
+pub mod EndsReported
 pub mod EntryLines
 pub mod Feeds
 pub mod OpenSums

@@ -7,7 +7,7 @@ use Rattle.std.specs.Io.BufRead.{drop_through, take_through}
 use Rattle.fare_texts.specs.ReportLines.{number_line}
 use Rattle.report_texts.specs.Numbers.{IsUploadEnd}
 use Rattle.report_texts.specs.Report.{upload_line, upload_lines}
-use Rattle.report_texts.specs.UploadEnds.{taps_told}
+use Rattle.report_texts.specs.UploadEnds.{taps_of_end}
 use Rattle.report_texts.specs.declared.upload_end.UploadEnd.{UploadEnd}
 use Rattle.report_texts.specs.declared.upload_end.UploadEnd.TheVariants.{Posted, Refused, Cut}
 use Rattle.report_texts.specs.declared.upload_end.UploadEnd.TheVariants.{Undrawn}
@@ -128,17 +128,18 @@ wrong_end text rest line uploads upload ends number begun each at fewer small co
           wrong end fits (taken ∙ is ∙ ap (λ (n : ℕ). upload_line n end) at);
     }
 
-pub small_taps : (end : UploadEnd) → IsReportEnd end → taps_told end < 2 ^ 64
+pub small_taps : (end : UploadEnd) → IsReportEnd end → taps_of_end end < 2 ^ 64
 small_taps (Posted taps) fits = fits
 small_taps (Refused taps offset fault) fits = fits.0
 small_taps (Cut taps) fits = fits
 small_taps Undrawn fits = omega arith
 
-pub any_told : (line : List ℕ) (upload : ℕ) (told : Option UploadEnd)
+pub any_reported : (line : List ℕ) (upload : ℕ) (reported : Option UploadEnd)
     → ((end : UploadEnd) → IsUploadEnd end → ¬ (line ≡ upload_line upload end))
-    → MatchOption told ((end : UploadEnd) → IsUnfinished end → ¬ (line ≡ upload_line upload end))
+    → MatchOption reported
+    ((end : UploadEnd) → IsUnfinished end → ¬ (line ≡ upload_line upload end))
     (λ end. IsReportEnd end × (line ≡ upload_line upload end))
-    → MatchOption told ((end : UploadEnd) → IsReportEnd end → ¬ (line ≡ upload_line upload end))
+    → MatchOption reported ((end : UploadEnd) → IsReportEnd end → ¬ (line ≡ upload_line upload end))
     (λ end. IsReportEnd end × (line ≡ upload_line upload end))
-any_told line upload None one two = no_end line upload one two
-any_told line upload (Some end) one two = two
+any_reported line upload None one two = no_end line upload one two
+any_reported line upload (Some end) one two = two

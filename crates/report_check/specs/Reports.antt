@@ -5,7 +5,7 @@ use Rattle.std.specs.Io.BufRead.{take_through}
 use Rattle.fare_texts.specs.ReportLines.{number_line}
 use Rattle.report_texts.specs.Numbers.{IsUploadEnd}
 use Rattle.report_texts.specs.Report.{report, upload_line, upload_lines, uploads_section}
-use Rattle.report_texts.specs.UploadEnds.{taps_told}
+use Rattle.report_texts.specs.UploadEnds.{taps_of_end}
 use Rattle.report_texts.specs.declared.upload_end.UploadEnd.{UploadEnd}
 use Rattle.report_texts.specs.declared.upload_end.UploadEnd.TheVariants.{Posted, Refused, Cut}
 use Rattle.report_texts.specs.declared.upload_end.UploadEnd.TheVariants.{Undrawn}
@@ -32,7 +32,7 @@ report_of ends entries =
 pub record HaveTapsOf (ends : List UploadEnd) (entries : List Entry) : Type 0 where
   pub each : All IsReportEnd ends
   pub number : length ends < 2 ^ 64
-  pub taps : sum_by taps_told ends ≡ length entries
+  pub taps : sum_by taps_of_end ends ≡ length entries
 
 -- The text is the report of the entries, and of some uploads that have as many taps: what a ledger
 -- does not know is how its uploads ended.
@@ -122,7 +122,7 @@ pub record HasOtherTaps (entries : List Entry) (text : List ℕ) (line uploads l
   pub ends : List UploadEnd
   pub begins : BeginsWithUploads text ends
   pub counted : line ≡ length ends + 1
-  pub told : uploads ≡ sum_by taps_told ends
+  pub reported : uploads ≡ sum_by taps_of_end ends
   pub has : ledger ≡ length entries
   pub apart : uploads ≢ ledger
 

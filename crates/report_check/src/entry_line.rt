@@ -104,7 +104,8 @@ fn reply_of(text: &[u8], mode: &[u8]) -> Option<(Answer, u32)>
 /// line.
 pub(crate) fn entry_of(table: &FareTable, line: &[u8]) -> Option<Entry>
     ensures fits { IfSome result (λ entry. Fits entry.token) }
-    ensures found { (earlier : List AnEntry) (entry : AnEntry) → IsNext table.now earlier entry line.now
+    ensures found { (earlier : List AnEntry) (entry : AnEntry)
+        → IsNext table.now earlier entry line.now
         → result ≡ Some (without_moment entry) }
 {
     let (token, rest) = token_of(line)?;

@@ -18,7 +18,7 @@ use tap_views::NoMemory;
 #[derive(Drop)]
 pub(crate) enum UploadLines {
     /// How the uploads ended, and how many taps of them were posted.
-    Told(Vec<UploadEnd>, u128),
+    Reported(Vec<UploadEnd>, u128),
     /// The line of this number, from 1, is the first that no report has there.
     NoLine(u64),
 }
@@ -53,7 +53,7 @@ fn undrawn_line(alloc: Global, upload: u64) -> Result<String, AllocError>
 
 /// The end of an upload that was not posted up to its end or its fault, by the line.
 fn unfinished_end(alloc: Global, line: &[u8], upload: u64) -> Result<Option<UploadEnd>, AllocError>
-    ensures { IfOk result (λ told. MatchOption told
+    ensures { IfOk result (λ reported. MatchOption reported
         ((end : AnEnd) → IsUnfinished end → ¬ (line.now ≡ upload_line upload end))
         (λ end. IsReportEnd end × (line.now ≡ upload_line upload end))) }
 {
@@ -70,7 +70,7 @@ fn unfinished_end(alloc: Global, line: &[u8], upload: u64) -> Result<Option<Uplo
 
 /// The end of the upload of this number, by the line.
 fn any_end(alloc: Global, line: &[u8], upload: u64) -> Result<Option<UploadEnd>, AllocError>
-    ensures { IfOk result (λ told. MatchOption told
+    ensures { IfOk result (λ reported. MatchOption reported
         ((end : AnEnd) → IsReportEnd end → ¬ (line.now ≡ upload_line upload end))
         (λ end. IsReportEnd end × (line.now ≡ upload_line upload end))) }
 {
@@ -100,5 +100,5 @@ pub(crate) fn upload_lines(alloc: Global, text: &[u8]) -> Result<UploadLines, No
         ends.push(end)?;
         rest = more;
     }
-    Ok(UploadLines::Told(ends, taps))
+    Ok(UploadLines::Reported(ends, taps))
 }

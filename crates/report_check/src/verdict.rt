@@ -88,7 +88,7 @@ pub fn check_report(alloc: Global, sums: &EntrySums, text: &[u8]) -> Result<Repo
 {
     match upload_lines(alloc, text)? {
         UploadLines::NoLine(number) => Ok(ReportVerdict::NoLine(number)),
-        UploadLines::Told(ends, taps) => {
+        UploadLines::Reported(ends, taps) => {
             if taps != sums.totals.taps {
                 return Ok(ReportVerdict::Taps {
                     line: ends.len() as u64 + 1,

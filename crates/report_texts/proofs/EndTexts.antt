@@ -58,7 +58,7 @@ small_number (TooMany count) = omega arith
 small_number (Length want have) = omega arith
 small_number (Moment index) = omega arith
 
--- a text that tells of no posted upload, nor of a refused one, tells of no end
+-- a text with no line of a posted upload, nor of a refused one, has no line of an end
 pub no_end : (text : List ℕ) (end : UploadEnd) → IsUploadEnd end
     → ((taps : ℕ) → taps < 2 ^ 64 → ¬ (text ≡ number_line (codes " posted ") taps))
     → ((taps offset : ℕ) (fault : LayoutFault) → taps < 2 ^ 64 → offset < 2 ^ 64

@@ -1,4 +1,4 @@
--- What is said of nothing, where nothing is returned.
+-- What is said of a value, if none is returned.
 use Rattle.std.proofs.Common.{Option, None, Some}
 use Rattle.std.specs.Prelude.{MatchOption}
 

@@ -56,7 +56,7 @@ last_out a b c start waits sums i all gone written =
     (take_all i sums all)
     (goes_last a b c start waits (flat_map token_line (take i sums)) gone written)
 
--- where a write fails, a beginning of all lines is out
+-- if a write fails, a beginning of all lines is out
 pub lines_begun : (a b c : Option (List ℕ)) (start waits : List ℕ) (sums : List (Token × Sums))
     (i : ℕ) → GoesOut a start b waits (flat_map token_line (take i sums)) → Begins b c waits
     → Begins a c (start ++ flat_map token_line sums)

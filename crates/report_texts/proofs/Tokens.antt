@@ -43,7 +43,7 @@ token_text_unique a b x y fits fits_too e =
     (ap decode_of digits ∙ decode_of-encode_lower (bytes_of b) (token_bytes b)) in
     (bytes_of-injective a b fits fits_too bytes, rest)
 
--- where decoding is known to give these bytes, it gave them
+-- if decoding is known to give these bytes, it gave them
 pub decoded : (answer : Result (List ℕ) FromHexError) (result : Result Unit FromHexError)
     (out bytes : List ℕ)
     → MatchResult answer (λ bs. (result ≡ Ok tt) × (out ≡ bs)) (λ e. result ≡ Err e)

@@ -10,11 +10,11 @@ use Rattle.report_texts.specs.declared.upload_end.UploadEnd.TheVariants.{Posted,
 use Rattle.report_texts.specs.declared.upload_end.UploadEnd.TheVariants.{Undrawn}
 
 -- how many taps of an upload were posted, by its end
-abbrev pub taps_told : UploadEnd → ℕ
-taps_told (Posted taps) = taps
-taps_told (Refused taps offset fault) = taps
-taps_told (Cut taps) = taps
-taps_told Undrawn = 0
+abbrev pub taps_of_end : UploadEnd → ℕ
+taps_of_end (Posted taps) = taps
+taps_of_end (Refused taps offset fault) = taps
+taps_of_end (Cut taps) = taps
+taps_of_end Undrawn = 0
 
 -- whether the upload was posted whole
 abbrev pub is_posted : UploadEnd → Bool

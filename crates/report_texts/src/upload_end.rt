@@ -1,7 +1,7 @@
 //! How an upload ended, and how a report prints it.
 
 ghost use Rattle.std.specs.Prelude.{◌≡◌, Some};
-ghost use Rattle.report_texts.specs.UploadEnds.{end_by, is_posted, taps_told};
+ghost use Rattle.report_texts.specs.UploadEnds.{end_by, is_posted, taps_of_end};
 
 use std::fmt;
 use tap_views::LayoutFault;
@@ -50,7 +50,7 @@ impl UploadEnd {
 impl UploadEnd {
     /// How many taps were posted; 0 if no share drew the upload.
     pub fn taps(&self) -> u64
-        ensures { result ≡ taps_told self.now }
+        ensures { result ≡ taps_of_end self.now }
     {
         match self {
             UploadEnd::Posted { taps } => *taps,

@@ -7,7 +7,8 @@ use Rattle.tap_parts.proofs.Early.{Early, file_early}
 use Rattle.tap_views.specs.Files.{AreGoodTapsOfEach}
 
 -- the taps of uploads have moments that fit
-pub uploads_early : (uploads : List (List ℕ)) (taps : List (List Tap)) → AreGoodTapsOfEach uploads taps
+pub uploads_early : (uploads : List (List ℕ)) (taps : List (List Tap))
+    → AreGoodTapsOfEach uploads taps
     → All Early (taps_of_uploads taps)
 uploads_early [] [] each = All-nil Early
 uploads_early [] (t ∷ ts) each = absurd each

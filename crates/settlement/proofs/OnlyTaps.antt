@@ -104,7 +104,7 @@ upload_own token uploads upload old new ends end are is = record {
 
 -- ---- posted alone
 
--- a reply is told by the token's own entries alone
+-- a reply depends on the token's own entries alone
 answered_own : (fares : Fares) (token : Token) (earlier alone : List Entry) (entry : Entry)
     → entry.token ≡ token → own token earlier ≡ own token alone
     → answered fares earlier entry ≡ answered fares alone entry

@@ -26,7 +26,7 @@ fields_named (tap ∷ taps) (entry ∷ entries) zip same =
     (ap (λ (e : Entry). bytes_of e.token) (sym head)
     ∙ zip.0.token) (fields_named taps entries zip.1 rest)
 
--- the taps of each token have the same entries in both plain histories, where they are the same
+-- the taps of each token have the same entries in both plain histories, if they are the same
 -- without replies
 pub same_plain : (fares : Fares) (token : Token) (xs ys : List Tap)
     → own token (map unanswered xs) ≡ own token (map unanswered ys)

@@ -26,7 +26,7 @@ sum_filter {X} p f (x ∷ xs) = by_test (p x) refl (sum_filter p f xs)
         chosen true = sum_by-cons f x (filter p xs)
         chosen false = omega arith
 
--- a part, told by fields
+-- a part is known by its fields
 pub part_fields : (part_of : List ℕ → ℕ) (part : ℕ) (taps : List Tap)
     → map fields_of (taps_at part_of part taps)
     ≡ filter (λ f. part_of f.token == part) (map fields_of taps)

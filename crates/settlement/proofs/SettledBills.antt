@@ -110,7 +110,8 @@ module _ (uploads : List (List ℕ)) (ends : List UploadEnd) (parts : List (List
       → IsCanonical (map fields_of good) (flat_map (λ list. list) lists)
   whole_order lists zip =
       let as_many = sym (AllZip-long IsCanonical parts lists zip) in
-      places_are_canonical place_of (ranges_in_order split.bounds) (map fields_of good) split.tokens lists
+      places_are_canonical place_of (ranges_in_order split.bounds) (map fields_of good) split.tokens
+      lists
       (subst (λ n. All (λ tap. place_of tap < n) (map fields_of good)) as_many all_within)
       (λ place inside.
       let there : place < length parts = omega (arith, as_many, inside) in

@@ -191,7 +191,7 @@ below_first (t ∷ tokens) token (tap ∷ taps) some first below =
 abbrev pub no_tap : TapFields
 no_tap = record { token = []; validator = 0; moment = 0 }
 
--- the first so many taps are posted to as many entries, at most
+-- the first i taps are posted to at most i entries
 pub few_posted : (fares : Fares) (taps : List TapFields) (i : ℕ)
     → (length (posted fares (take i taps)) ≤ i)
     × (length (posted fares (take i taps)) ≤ length taps)

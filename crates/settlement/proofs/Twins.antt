@@ -62,5 +62,6 @@ twin_is_stale fares before entry after legal twin known =
     ∙ not_later fares entry.moment before twin.other twin.there twin.known
     (omega (arith, twin.moment)) in
     ap (λ (r : Reply). r.answer) (legal.each before entry after refl)
-    ∙ stale_answer fares (taps_of fares entry.token before) entry (mode_at fares entry.moment entry.validator)
+    ∙ stale_answer fares (taps_of fares entry.token before) entry
+    (mode_at fares entry.moment entry.validator)
     refl known not

@@ -3,7 +3,8 @@
 ghost use Rattle.std.specs.Prelude.{◌≡◌, ◌+◌, ◌<◌, ◌≤◌, length, IfOk};
 ghost use denote.Param.Send.{IsSync};
 ghost use Rattle.tap_parts.specs.Ranges.{range_of_token};
-ghost use Rattle.settlement.specs.inside.SplitTaps.{HasGoodTokens, AreAddedBetween, AreInPartsBetween};
+ghost use Rattle.settlement.specs.inside.SplitTaps.{HasGoodTokens, AreAddedBetween};
+ghost use Rattle.settlement.specs.inside.SplitTaps.{AreInPartsBetween};
 
 use crate::memory::release;
 use crate::uploads::Uploads;

@@ -175,12 +175,12 @@ on-same {old} {new} same = record {
   sums = ap counted same;
 }
 
--- no account moves where the entries stayed
+-- no account moves if the entries stayed
 pub keep_found : (old new : List (Token × KeptAccount)) → new ≡ old
     → KeepPlaces (keys_of old) (keys_of new)
 keep_found old new same = keep_same (ap (λ (es : List (Token × KeptAccount)). keys_of es) same)
 
--- nor where an account is opened
+-- nor if an account is opened
 pub keep_opened : (old : Accounts) (new : List (Token × KeptAccount)) (token : Token)
     (fresh : KeptAccount) → kept_at old token ≡ None
     → new ≡ insert_entry token_eq old.map.entries token fresh

@@ -150,7 +150,7 @@ module _ {K : Type 0} {eq : K → K → Bool} (laws : IsEquivalence eq)
           ap (λ (ks : List K). list_any (eq q) ks) (map-append key_of before (entry ∷ []))
           ∙ list_any-append (eq q) (map key_of before) (key_of entry ∷ [])
 
-  -- the same, as a map's entry tells it once its value was written
+  -- the same, as a map's entry has it once its value was written
   pub by_key-written : {S : Type 0} (before : List Entry) (entry : Entry) (key : K)
       (old next : HashMap K Tally S) (pairs : List (K × Tally)) (kept : Tally) (fresh : Tally)
       (totals : Tally) (answered : Reply)
@@ -175,7 +175,7 @@ module _ {K : Type 0} {eq : K → K → Bool} (laws : IsEquivalence eq)
       (sums_of_replies (r ∷ []))) is_reply)
       by_key
 
-  -- the same, where the tally at the key's place was written
+  -- the same, if the tally at the key's place was written
   pub by_key-at : {S : Type 0} (before : List Entry) (entry : Entry) (key there : K)
       (m : HashMap K Tally S) (place : ℕ) (tally kept totals : Tally) (answered : Reply)
       → key ≡ key_of entry

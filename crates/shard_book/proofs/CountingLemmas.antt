@@ -72,7 +72,7 @@ counted-push accounts after entries entry old added others = record {
 some-taps : (n : ℕ) → not (suc n == 0) ≡ true
 some-taps n = grind (arith, nat_tests)
 
--- a token has taps exactly where it is one of the entries' tokens
+-- a token has taps exactly if it is one of the entries' tokens
 pub own-member : (token : Token) (entries : List Entry)
     → has_taps (sums (own token entries)) ≡ is_member token_eq (map token_of entries) token
 unfolding own sums_of_replies

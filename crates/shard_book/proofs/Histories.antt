@@ -78,7 +78,7 @@ pub mode_at_place : (mode : Option Mode) (place : Option ℕ) → option_map (λ
 mode_at_place None place is = ap (λ (p : Option ℕ). option_map mode_of_place p) is
 mode_at_place (Some mode) place is = ap (λ (p : Option ℕ). option_map mode_of_place p) is
 
--- the accounts stand for the history with one entry more, where its token's account does and the
+-- the accounts stand for the history with one entry more, if its token's account does and the
 -- others stayed
 pub kept-push : (table : Fares) (accounts after : Accounts) (entries : List Entry) (entry : Entry)
     → AreKept table accounts entries

@@ -63,7 +63,7 @@ agree-more (first ∷ left) right i within same before =
     same-read (first ∷ left) right i (get_or (first ∷ left) i first) (get_or (first ∷ left) i first)
     at (sym same ∙ at) refl before
 
--- where one list has ended and the other has not, they differ
+-- if one list has ended and the other has not, they differ
 ended : (left right : List Entry) (place : ℕ) → length left ≤ place → place < length right
     → slice_get left place ≡ slice_get right place → ⊥
 ended left [] place past within same = omega arith

@@ -1,4 +1,4 @@
--- What packed entries stand for stays where accounts are only appended.
+-- What packed entries stand for stays if accounts are only appended.
 use Rattle.std.proofs.Common.{◌≡◌, ℕ, zero, suc, ◌+◌, ◌*◌, ◌<◌, ◌/◌, ◌%◌, ◌^◌, List, [], ◌∷◌, ◌++◌}
 use Rattle.std.proofs.Common.{Option, Some, refl, sym, ap, subst, ◌∙◌, slice_get, unwrap_or, arith}
 use Rattle.std.proofs.lemmas.List.{map-append}
@@ -111,7 +111,7 @@ slice_get-front [] ys i x is = cc
 slice_get-front (y ∷ xs) ys zero x is = is
 slice_get-front (y ∷ xs) ys (suc i) x is = slice_get-front xs ys i x is
 
--- no account moves where the tokens stay
+-- no account moves if the tokens stay
 pub keep_same : {before after : List Token} → after ≡ before → KeepPlaces before after
 keep_same same = record {
   each = λ at token is. subst (λ (tokens : List Token). slice_get tokens at ≡ Some token)
@@ -124,7 +124,7 @@ pub keep_then : {before between after : List Token} → KeepPlaces before betwee
 keep_then first second =
     record { each = λ at token is. second.each at token (first.each at token is) }
 
--- nor where an account is opened behind all others
+-- nor if an account is opened behind all others
 pub keep_entries : (before after : List (Token × KeptAccount)) (opened : Token × KeptAccount)
     → after ≡ before ++ opened ∷ [] → KeepPlaces (keys_of before) (keys_of after)
 keep_entries before after opened is = record {
@@ -142,7 +142,7 @@ token-at entries at token kept is =
     slice_get-map (λ (e : Token × KeptAccount). e.0) entries at
     ∙ ap (option_map (λ (e : Token × KeptAccount). e.0)) is
 
--- a packed history stands for the same entries where no account moves
+-- a packed history stands for the same entries if no account moves
 pub history-kept : (before after : List Token) (packed : List PackedEntry) → ArePlaced before packed
     → KeepPlaces before after → history_of after packed ≡ history_of before packed
 history-kept before after [] placed keep = refl

@@ -92,8 +92,7 @@ module _ {K : Type 0} {cmp : K → K → Ordering} (total : IsTotalOrder cmp)
             (tied_itself total y)))
       ] refl
 
-  -- a key is a member of a rising list with one key more where it ties with that one or was a
-  -- member
+  -- a key is a member of a rising list with one key more if it ties with that one or was a member
   insert-member : (keys : List K) (key q : K)
       → is_member (eq_by_cmp cmp) (insert_key cmp keys key) q
       ≡ (eq_by_cmp cmp q key || is_member (eq_by_cmp cmp) keys q)

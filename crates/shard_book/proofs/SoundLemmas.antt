@@ -77,7 +77,7 @@ sound-push {table} {shard} {shards} {accounts} {after} {entries} {items} entry p
           (sound.counted (counting counts)) (added counts) others;
     })
 
--- one tap was posted: what the account's step tells makes the book sound again
+-- one tap was posted: what the account's step gives makes the book sound again
 pub sound-post : {table : Fares} {shard shards : ℕ} {accounts after : Accounts}
     {entries items : List Entry} (entry : Entry) (mode : Option Mode)
     → items ≡ entries ++ entry ∷ []
@@ -148,7 +148,7 @@ book-on {table} {shard} {shards} {accounts} {after} {packed} {next} same keep ot
       placed = placed-kept (tokens_of accounts) (tokens_of after) packed next same book.placed keep;
     }
 
--- likewise where all that is kept stayed
+-- likewise if all that is kept stayed
 pub book-same : {table : Fares} {shard shards : ℕ} {accounts after : Accounts}
     {packed next : List PackedEntry} → next ≡ packed
     → KeepPlaces (tokens_of accounts) (tokens_of after)

@@ -54,7 +54,7 @@ member-apart test token (e ∷ es) apart = by (test e) (member-apart test token 
         apart.0 ∙ rest
     by false rest = rest
 
--- a token is among those that have taps exactly where the sums that are kept of it have
+-- a token is among those that have taps exactly if the sums that are kept of it have
 used-member : (token : Token) (es : List (Token × KeptAccount)) → IsDistinct token_eq (keys_of es)
     → is_member token_eq (keys_of (filter is_used es)) token
     ≡ has_taps (counted (lookup (token_eq token) es))
@@ -157,7 +157,7 @@ own-none token (entry ∷ entries) none =
     ap (λ (b : Bool). cond b (entry ∷ own token entries) (own token entries)) none.0
     ∙ own-none token entries none.1
 
--- Two lists of entries whose tokens lie below a number and from it on: f tells where a token lies.
+-- Two lists of entries whose tokens lie below a number and from it on: f says where a token lies.
 module _ (f : Token → ℕ) (n : ℕ) where
   apart : (a b : Token) → f a < n → n ≤ f b → token_eq a b ≡ false
   apart a b low high =
@@ -360,7 +360,8 @@ summed-more books i blank book shards lowest before after within is same_shards 
     (λ entry under. let u : f entry.token < lowest = under in omega arith)
     (all_entries (take i books)) below.each in (
       subst (λ (es : List Entry). AreSummed es after) (sym more)
-          (subst (λ (ps : List (Token × Sums)). AreSummed (all_entries (take i books) ++ book.entries)
+          (subst (λ (ps : List (Token × Sums)). AreSummed
+          (all_entries (take i books) ++ book.entries)
           ps) (sym adds.appended)
           (summed-append f lowest (all_entries (take i books)) book.entries before adds.added summed
           adds.summed below.each high)),

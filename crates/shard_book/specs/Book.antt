@@ -8,7 +8,7 @@ use Rattle.shard_book.specs.declared.entry.Entry.{Entry}
 use Rattle.shard_book.specs.Entry.{IsEntryOf, reply_of}
 use Rattle.tap_views.specs.Token.{bytes_of}
 
--- a book: its table, its shard of so many, and its whole history
+-- a book: its table, its shard and the number of shards, and its whole history
 pub record Book : Type 0 where
   pub table : Fares
   pub shard : ℕ

@@ -8,7 +8,7 @@ pub record DifferFirstAt (left right : List Entry) (place : ℕ) : Type 0 where
   pub before : take place left ≡ take place right
   pub here : slice_get left place ≢ slice_get right place
 
--- the first place where the lists differ, or none where they are equal
+-- the first place where the lists differ, or none if they are equal
 abbrev pub IsFirstDifference : List Entry → List Entry → Option ℕ → Type 0
 IsFirstDifference left right None = left ≡ right
 IsFirstDifference left right (Some place) = DifferFirstAt left right place

@@ -9,7 +9,7 @@ use Rattle.shard_book.specs.ByKey.{with_key}
 use Rattle.shard_book.specs.Sums.{Sums, sums, sums_of_replies}
 use Rattle.shard_book.specs.Tally.{sums_of_tally}
 
--- the sums that are kept for a key, of nothing where there are none
+-- the sums that are kept for a key, of nothing if there are none
 abbrev pub kept_sums : Option Tally → Sums
 kept_sums None = sums_of_replies []
 kept_sums (Some tally) = sums_of_tally tally
@@ -20,7 +20,7 @@ pub record AreByKey {K : Type 0} (eq : K → K → Bool) (key_of : Entry → K) 
   pub sums : (key : K) → kept_sums (lookup (eq key) tallies) ≡ sums (with_key eq key_of key entries)
   pub keys : (key : K) → is_some (lookup (eq key) tallies) ≡ is_member eq (map key_of entries) key
 
--- it stands for some entries, and there is room for so many more
+-- it stands for some entries, and there is room for this number more
 unfoldable pub HasRoom : {K : Type 0} → (K → K → Bool) → (Entry → K) → List (K × Tally) → ℕ → Type 0
 HasRoom eq key_of tallies more =
     (entries : List Entry) × AreByKey eq key_of entries tallies × (length entries + more ≤ 2 ^ 95)

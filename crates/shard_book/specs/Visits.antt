@@ -13,7 +13,7 @@ use Rattle.shard_book.specs.Replies.{RepliesView}
 abbrev pub AreEntriesOf : List Tap → List Entry → Type 0
 AreEntriesOf taps entries = AllZip IsEntryOf taps entries
 
--- the visit of a run: of all its taps, or, where it was cut, of its first ones and not of all
+-- the visit of a run: of all its taps, or, if it was cut, of its first ones and not of all
 abbrev pub IsVisit : List Tap → RunEnd → List Entry → Type 0
 IsVisit taps Whole visit = AreEntriesOf taps visit
 IsVisit taps (Cut posted) visit = (posted < length taps) × AreEntriesOf (take posted taps) visit

@@ -15,16 +15,18 @@ use Rattle.shard_book.specs.Sums.{sums_of_replies}
 use Rattle.tap_views.specs.Token.{bytes_of}
 
 -- No window has more paid rides than the ride limit or costs more than the ceiling.
-pub record BlocksKeepLimits (terms : LiveTap → Terms) (limits : Terms) (blocks : List (List LiveTap))
+pub record BlocksKeepLimits (terms : LiveTap → Terms) (limits : Terms)
+    (blocks : List (List LiveTap))
     : Type 0 where
   pub rides : All (λ window. paid_rides terms window ≤ limits.rides) blocks
   pub ceiling : All (λ window. window_cents terms window ≤ limits.ceiling) blocks
 
--- The windows of the token's taps keep the limits of its terms, where one table is valid at all times.
--- Where others follow it, each window grows within the limits of its rides. The replies to rides are,
--- window by window, those of its charges, so that the windows' paid rides and cents add up to those of
--- all replies.
-pub record BlocksAreLimited (terms : LiveTap → Terms) (limits : Terms) (later : List (ℕ × TableMeaning))
+-- The windows of the token's taps keep the limits of its terms, if one table is valid at all times.
+-- If others follow it, each window grows within the limits of its rides. The replies to rides are,
+-- window by window, those of its charges, so that the windows' paid rides and cents add up to those
+-- of all replies.
+pub record BlocksAreLimited (terms : LiveTap → Terms) (limits : Terms)
+    (later : List (ℕ × TableMeaning))
     (blocks : List (List LiveTap)) (replied : List Reply) : Type 0 where
   pub alone : later ≡ [] → BlocksKeepLimits terms limits blocks
   pub each : All (GrowsWithinLimits terms) blocks

@@ -34,9 +34,7 @@ const MAX_ACCOUNTS: usize = 4_294_967_295;
 /// What is kept of one token: its account, and the counts of its entries.
 #[derive(Clone, Copy, Debug, PartialEq, Eq)]
 pub(crate) struct KeptAccount {
-    /// The account.
     pub(crate) account: Account,
-    /// The counts.
     pub(crate) counts: Counts,
 }
 
@@ -46,7 +44,7 @@ pub(crate) struct KeptAccount {
 pub(crate) struct Accounts {
     /// What is kept of each token, at the place where it was opened.
     pub(crate) map: IndexMap<Token, KeptAccount, HashSeed>,
-    /// Whether the counts are right: it ends where one of them would be too large.
+    /// Whether the counts are right: it ends if one of them would be too large.
     counting: bool,
 }
 
@@ -67,7 +65,7 @@ impl Accounts {
         *self.map.hasher()
     }
 
-    /// The token's account, a fresh one where none is kept.
+    /// The token's account, a fresh one if none is kept.
     #[tactic(auto, unfolding(crate::specs::inside::Accounts::kept_at))]
     pub(crate) fn account_of(&self, token: Token) -> Account
         ensures { (rules : TokenRules) (taps : List TapIn)
@@ -80,9 +78,9 @@ impl Accounts {
         }
     }
 
-    /// The place of the token's account, which is opened where there is none: the one look-up that
-    /// a tap takes. On want of memory all that is kept stays. A book with the most accounts has no
-    /// room for the place of one more, which is told as want of memory at every look-up.
+    /// The place of the token's account, which is opened if there is none: the one look-up that a
+    /// tap takes. On want of memory all that is kept stays. A book with the most accounts has no
+    /// room for the place of one more, which is reported as want of memory at every look-up.
     #[inline(always)]
     #[tactic(auto, unfolding(crate::specs::inside::Accounts::kept_at))]
     pub(crate) fn open(&mut self, token: Token) -> Result<u32, NoMemory>
@@ -137,8 +135,8 @@ impl Accounts {
         self.open(token)
     }
 
-    /// The place of the token's account, which is opened where there is none. No look-up is needed
-    /// where it is at `known`.
+    /// The place of the token's account, which is opened if there is none. No look-up is needed if
+    /// it is at `known`.
     #[inline(always)]
     fn place(&mut self, token: Token, known: u32) -> Result<u32, NoMemory>
         ensures made { IfOk result (HasPlaceFor self.old self.new token) }
@@ -156,9 +154,9 @@ impl Accounts {
         }
     }
 
-    /// The account rule's step of the token's account, whose reply is then counted. Where the
-    /// account is at the known place no look-up is needed; another place costs time alone. The
-    /// account's place comes with the reply. On want of memory all that is kept stays.
+    /// The account rule's step of the token's account, whose reply is then counted. If the account
+    /// is at the known place no look-up is needed; another place costs time alone. The account's
+    /// place comes with the reply. On want of memory all that is kept stays.
     #[tactic(auto, unfolding(crate::specs::inside::Accounts::kept_at))]
     pub(crate) fn step(
         &mut self,

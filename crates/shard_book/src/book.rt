@@ -30,7 +30,6 @@ use tap_views::{NoMemory, TapView, Token};
 /// legal at all times: each entry has the account rule's reply for its token's earlier taps.
 #[derive(Drop)]
 pub struct ShardBook {
-    /// The fare table.
     table: FareTable,
     /// The number of the shard.
     shard: u32,
@@ -86,7 +85,7 @@ impl ShardBook {
     /// Posts one tap: the account rule answers it, and one entry is appended to the history.
     ///
     /// The clock is the table's. On want of memory the book stays as it was: all room is taken
-    /// first. A book has room for fewer than 2^32 accounts, and tells want of memory for what is
+    /// first. A book has room for fewer than 2^32 accounts, and reports want of memory for what is
     /// beyond.
     pub fn post(&mut self, clock: &Clock, tap: &TapView) -> Result<Reply, NoMemory>
         requires here { shard_of_token tap.now.token self.old.shards ≡ self.old.shard }
@@ -98,7 +97,7 @@ impl ShardBook {
         self.post_at(clock, tap, NO_PLACE)
     }
 
-    /// Posts one tap as `post` does. Where its token's account is at the known place, no look-up is
+    /// Posts one tap as `post` does. If its token's account is at the known place, no look-up is
     /// needed.
     #[inline(always)]
     pub(crate) fn post_at(
@@ -183,7 +182,7 @@ impl ShardBook {
     }
 
     /// Appends each token of the history with the counts of its entries, in no order. It answers
-    /// `false`, and appends none, where a count has grown too large to be kept.
+    /// `false`, and appends none, if a count has grown too large to be kept.
     pub(crate) fn push_counts(&self, list: &mut Vec<TokenCounts>) -> Result<bool, NoMemory>
         ensures sums { IfOk result (λ told. IsTrue told
             → AddsSums self.now.entries (map token_counts list.old.items)

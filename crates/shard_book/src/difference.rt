@@ -7,7 +7,7 @@ use crate::book::ShardBook;
 use crate::entry::Entry;
 
 /// The first place at which the book's history and the list differ, the end of the shorter among
-/// them. `None` where they are equal.
+/// them. `None` if they are equal.
 pub fn first_difference(book: &ShardBook, list: &[Entry]) -> Option<u64>
     ensures { IsFirstDifference book.now.entries list.now result }
 {

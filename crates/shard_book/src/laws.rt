@@ -33,9 +33,9 @@ pub fn beginnings_are_legal()
         → IsLegal table before }
 {}
 
-/// Under one table no window of any token has more paid rides than the ride limit or costs more than
-/// the ceiling (MTA, fare capping). Under several each ride takes its window no further than it was,
-/// or than the ride's own limits. The token's entries were charged what its windows cost.
+/// Under one table no window of any token has more paid rides than the ride limit or costs more
+/// than the ceiling (MTA, fare capping). Under several each ride takes its window no further than
+/// it was, or than the ride's own limits. The token's entries were charged what its windows cost.
 pub fn book_keeps_limits(book: &ShardBook)
     ensures { (token : Token) → WindowsKeepLimits book.now.table book.now.entries token }
 {

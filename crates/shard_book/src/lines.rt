@@ -8,7 +8,6 @@ use std::marker::Model;
 /// The entries of one token, in history order. Contracts see the list.
 #[derive(Drop)]
 pub struct Lines {
-    /// The entries.
     pub(crate) entries: Vec<Entry>,
 }
 

@@ -42,7 +42,6 @@ fn bits_of(moment: u64, reply: Reply) -> u64
     (u64::from(reply.cents) * ANSWERS + number) * MOMENTS + moment
 }
 
-/// The answer with the number.
 #[inline(always)]
 fn answer_of(number: u64) -> Answer
     ensures { result ≡ answer_at number }

@@ -1,5 +1,5 @@
 //! Prefetch: what is read before its time, for the processor's sake. Each tap needs its account
-//! from wherever the caches have it. Sixteen look-ups in a row wait for memory side by side, where
+//! from wherever the caches have it. Sixteen look-ups in a row wait for memory side by side, and
 //! each tap's own would wait alone. No promise rests on what is found here: a place that is not the
 //! token's costs a second look-up.
 
@@ -38,7 +38,7 @@ impl KeptAccount {
 
 impl Accounts {
     /// The place of the token's account, for `step`. If there is none, an account without taps is
-    /// opened. No look-up is needed where it is at `known`. If memory is refused, all that is kept
+    /// opened. No look-up is needed if it is at `known`. If memory is refused, all that is kept
     /// stays.
     #[inline(always)]
     pub(crate) fn open_early(&mut self, token: Token, known: u32) -> Result<u32, NoMemory>
@@ -66,7 +66,7 @@ impl Accounts {
 
 impl ShardBook {
     /// The place of the token's account, for `post_at`. If there is none, an account without taps
-    /// is opened: the book stays as it is. No look-up is needed where it is at `known`.
+    /// is opened: the book stays as it is. No look-up is needed if it is at `known`.
     #[inline(always)]
     pub(crate) fn open_early(&mut self, token: Token, known: u32) -> Result<u32, NoMemory>
         ensures { self.new ≡ self.old }

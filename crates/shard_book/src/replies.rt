@@ -43,7 +43,7 @@ impl Replies {
         ensures ok { OnOk result (n ≤ self.new.spare) }
         ensures spare { self.old.spare ≤ self.new.spare }
 
-        // It fails only where that room was missing, and then the room stays as it was.
+        // It fails only if that room was missing, and then the room stays as it was.
         ensures full { OnErr result (self.old.spare < n) }
         ensures err { OnErr result (self.new ≡ self.old) }
     {

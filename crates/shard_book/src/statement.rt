@@ -13,7 +13,7 @@ use account_rule::WindowView;
 use std::alloc::Global;
 use tap_views::{NoMemory, Token};
 
-/// What a book tells of one token.
+/// What a book has of one token.
 #[derive(Drop)]
 pub struct Statement {
     /// The token.
@@ -26,7 +26,7 @@ pub struct Statement {
     pub window: Option<WindowView>,
 }
 
-/// Appends the entry, where it is the token's.
+/// Appends the entry, if it is the token's.
 #[inline(always)]
 #[tactic(auto, unfolding(crate::specs::Entry::own))]
 fn push_if_own(list: &mut Vec<Entry>, entry: Entry, token: Token) -> Result<(), NoMemory>

@@ -129,9 +129,9 @@ pub fn sums_by_validator<R: Threads + Sync>(
     listed(alloc, &tallies)
 }
 
-/// The tokens of the books, rising, each with the totals of its entries: one scan of what the
-/// books keep of their tokens, and a sort of the tokens. Where two books may share a token, a scan
-/// of the histories.
+/// The tokens of the books, rising, each with the totals of its entries: one scan of what the books
+/// keep of their tokens, and a sort of the tokens. If two books may share a token, a scan of the
+/// histories.
 pub(crate) fn sums_by_token(alloc: Global, books: &[ShardBook]) -> Result<Vec<TokenSum>, NoMemory>
     requires { length books.now ≤ 64 }
     ensures { IfOk result (λ list.

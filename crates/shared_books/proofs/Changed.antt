@@ -52,7 +52,7 @@ module _ {A : Type 0} where
   sum_none f (x ∷ xs) none = let one = none 0 x refl in let rest =
       sum_none f xs (λ i k e. none (suc i) k e) in omega (arith, sum_by-cons f x xs)
 
-  -- where all others are nothing, an element is the sum
+  -- if all others are nothing, an element is the sum
   pub sum_only : (f : A → ℕ) (xs : List A) (j : ℕ) (h : A) → get_elem? xs j ≡ some h
       → ((i : ℕ) (k : A) → i ≢ j → get_elem? xs i ≡ some k → f k ≡ 0) → sum_by f xs ≡ f h
   sum_only f [] j h at none = absurd (some-ne-none h (sym at))

@@ -108,7 +108,7 @@ module _ {V : Type 0} (claims : V → ℕ) (Spent : V → Type 0) where
       × ((i : ℕ) (u : V) → get_elem? views i ≡ some u → claims u ≡ 0 → Spent u)). let s = all.0 in
       omega arith) c
 
-  -- where one view has all claims, all others were joined into another
+  -- if one view has all claims, all others were joined into another
   pub others_spent : (views : List V) (j : ℕ) (v : V) → get_elem? views j ≡ some v
       → all_claims ≤ claims v → AreClaims claims Spent views → (i : ℕ) (u : V) → i ≢ j
       → get_elem? views i ≡ some u → Spent u

@@ -40,7 +40,7 @@ drawn_once n s j h r at = (
       omega arith),
 )
 
--- where one drawer's state changes, and not its numbers
+-- if one drawer's state changes, and not its numbers
 same_drawn : (n : ℕ) (s : S) (j : ℕ) (h : DrawerState) (d : ℕ) → IsDrawn n s
     → get_elem? s.views j ≡ some h → h.unjoined ≡ true → d ≤ get_or s.words 0 0
     → IsDrawn n record {

@@ -28,6 +28,9 @@ pub store_allowed : (k : Opening) (slots id : ℕ) (me now : Seat) (number : ℕ
     → BringsVisit me number book.value → now ≡ (me.0, (0, Some book) ∷ rest me.1)
     → Allows (IsTurn k) slots id now 0 (λ _. 2 * number + 2) (λ _ after. after ≡ given_back now)
 store_allowed k slots id me now number book b e =
-    let is : now ≡ (me.0, (0, Some book) ∷ []) = e ∙ ap (λ (xs : Slots). (me.0, (0, Some book) ∷ xs)) (ap rest b.carries) in
-    subst (λ (z : Seat). Allows (IsTurn k) slots id z 0 (λ _. 2 * number + 2) (λ _ after. after ≡ given_back z)) (sym is)
-    (gives_turn k slots id me.0 book b.visit (2 * number + 2) b.unjoined b.turn (ap (λ n. 2 * n + 2) b.number_is) (subst (λ n. n < 2 ^ 62) b.number_is b.few) b.book_is b.legal)
+    let is : now ≡ (me.0, (0, Some book) ∷ []) =
+    e ∙ ap (λ (xs : Slots). (me.0, (0, Some book) ∷ xs)) (ap rest b.carries) in
+    subst (λ (z : Seat). Allows (IsTurn k) slots id z 0 (λ _. 2 * number + 2)
+    (λ _ after. after ≡ given_back z)) (sym is)
+    (gives_turn k slots id me.0 book b.visit (2 * number + 2) b.unjoined b.turn
+    (ap (λ n. 2 * n + 2) b.number_is) (subst (λ n. n < 2 ^ 62) b.number_is b.few) b.book_is b.legal)

@@ -29,7 +29,8 @@ others-append [] ws = refl
 others-append (v ∷ vs) ws = λ k. mark false v ∷ others-append vs ws k
 
 -- the histories of two lists of visits are joined
-pub joined-append : (vs ws : List (List Entry)) → history_of_visits (vs ++ ws) ≡ history_of_visits vs ++ history_of_visits ws
+pub joined-append : (vs ws : List (List Entry))
+    → history_of_visits (vs ++ ws) ≡ history_of_visits vs ++ history_of_visits ws
 joined-append [] ws = refl
 joined-append (v ∷ vs) ws =
     ap (λ es. v ++ es) (joined-append vs ws)
@@ -123,7 +124,7 @@ many_step : (b : Bool) (x : ℕ × List Entry) (made : List (ℕ × List Entry))
 many_step true x made k own le = omega arith
 many_step false x made k own le = absurd (omega arith)
 
--- where the first k marks are own
+-- if the first k marks are own
 pub made_many : (n : ℕ) (ms : List Mark) (k : ℕ) → ((i : ℕ) → i < k → made_at i ms ≡ 1)
     → k ≤ length (made_from n ms)
 made_many n ms zero own = omega arith
@@ -139,7 +140,7 @@ all_step : (b : Bool) (x : ℕ × List Entry) (made all : List (ℕ × List Entr
 all_step true x made all k few most e = let same = e (omega arith) in λ i. x ∷ same i
 all_step false x made all k few most e = absurd (omega arith)
 
--- where all marks are own
+-- if all marks are own
 pub made_all : (n : ℕ) (ms : List Mark) → length ms ≤ length (made_from n ms)
     → made_from n ms ≡ numbered n (visits_of ms)
 made_all n [] le = refl

@@ -74,7 +74,7 @@ below_full (suc k) xs h full x lt =
     (λ e. subst (λ y. times y xs ≡ 1) (sym e) (omega arith))
     (λ n. below_full k xs h (omega arith) x (omega arith))
 
--- and where they are k, each is there
+-- and if they are k, each is there
 pub full : (k : ℕ) (xs : List ℕ) → AllBelow k xs → NoneTwice xs → k ≤ length xs → HasAll k xs
 full k xs all none many = below_full k xs none (let e = below_all k xs all in omega arith)
 
@@ -83,6 +83,6 @@ below_has zero xs all = refl
 below_has (suc k) xs all = let rest = below_has k xs (λ x lt. all x (omega arith)) in let one =
     all k (omega arith) in omega arith
 
--- where each number below k is there, they are k at least
+-- if each number below k is there, they are k at least
 pub as_many : (k : ℕ) (xs : List ℕ) → AllBelow k xs → HasAll k xs → k ≤ length xs
 as_many k xs below all = let e = below_all k xs below in let h = below_has k xs all in omega arith

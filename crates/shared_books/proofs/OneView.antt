@@ -56,7 +56,7 @@ pub word_of : (k : Opening) (m : Machine) (s : S) → ShowsMachine k m s
 word_of k m s r = ⊎_elim (λ e. inl (e, (r.free e).0)) (λ t. inr (t.0, t.1, (r.held t.0 t.1).0))
     (holder_of m.holder)
 
--- whoever has the turn has it still, where the one view that changed kept its own
+-- whoever has the turn has it still, if the one view that changed kept its own
 pub turn_set : (views : List PassState) (id : ℕ) (v w : PassState) (seat : ℕ)
     → get_elem? views id ≡ some v → w.unjoined ≡ true → w.turn ≡ v.turn
     → (u : PassState) × (get_elem? views seat ≡ some u) × (u.unjoined ≡ true) × (u.turn ≡ true)
@@ -75,7 +75,7 @@ turn_set views id v w seat at unjoined same t = dite (ℕ_discrete seat id)
     ))
     (λ ne. (t.0, set_else views id seat w ne ∙ t.1, t.2, t.3))
 
--- where one view changes, and not the visits that it made
+-- if one view changes, and not the visits that it made
 pub seen_set : (k : Opening) (m : Machine) (s : S) (id : ℕ) (v : PassState) (marks met : List Mark)
     → ShowsMachine k m s → get_elem? s.views id ≡ some v → v.unjoined ≡ true
     → Begins (visits_of marks) m.visits → Begins (visits_of met) m.visits

@@ -11,8 +11,10 @@ use Rattle.shared_books.specs.declared.turns.rule.Opening.{Opening}
 use Rattle.shared_books.specs.declared.turns.rule.Mark.{Mark}
 use Rattle.shared_books.specs.declared.turns.rule.PassState.{PassState}
 use Rattle.shared_books.specs.Claims.{all_claims}
-use Rattle.shared_books.specs.Marks.{mark, others, visits_of, history_of_visits, made_from, joined_marks, Apart}
-use Rattle.shared_books.specs.Passes.{PassView, seen_by, book_of, HasSeenMore, Visits, IsFull, IsJoined, HasMadeAll}
+use Rattle.shared_books.specs.Marks.{mark, others, visits_of, history_of_visits, made_from}
+use Rattle.shared_books.specs.Marks.{joined_marks, Apart}
+use Rattle.shared_books.specs.Passes.{PassView, seen_by, book_of, HasSeenMore, Visits, IsFull}
+use Rattle.shared_books.specs.Passes.{IsJoined, HasMadeAll}
 use Rattle.shared_books.specs.inside.Passes.{opened_of}
 use Rattle.shared_books.specs.Turns.{Boxed, book_after}
 use Rattle.shared_books.specs.PassStates.{pass_state}
@@ -179,7 +181,8 @@ later_by_look home a found b h =
     (subst (λ (v : PassState). IsLegal v.opened.book.value.table
     (history_of_visits (visits_of v.marks))) (sym h.state_is) h.legal)
 
-pub full_pass : (home : TableId) (b : Seat) → b.0.opened.first + length b.0.marks ≡ 2 ^ 62 → IsFull (knows home b)
+pub full_pass : (home : TableId) (b : Seat) → b.0.opened.first + length b.0.marks ≡ 2 ^ 62
+    → IsFull (knows home b)
 full_pass home b e = record { count = ap (λ n. b.0.opened.first + n) (length-visits b.0.marks) ∙ e }
 
 -- a new pass
@@ -417,7 +420,7 @@ made_whole home k held me word slot book closed p c le is out =
           ∙ (whole.2 ∙ ap (λ o. book_of (opened_of home o) (visits_of me.0.marks)) (sym c.opened)));
     }
 
--- where the pass holds fewer visits than are kept, some claim is not its own
+-- if the pass holds fewer visits than are kept, some claim is not its own
 pub lacks_claims : (home : TableId) (k : Opening) (held : ℕ) (me : Seat) (word : ℕ)
     (slot : Option Boxed) → IsPass held me → Closes k me.0 word slot
     → held < word / 2 + word % 2 - k.first → (knows home me).claims < all_claims

@@ -96,7 +96,8 @@ gives_are k s seat v t at unjoined on visit book is legal =
         events = t.events ++ given seat visit ∷ [];
         schedule = schedule_snoc (start k.first) t.events (given seat visit) t.schedule holds;
         shows = subst
-            (λ w. ShowsMachine k (after (start k.first) (t.events ++ given seat visit ∷ [])) record {
+            (λ w. ShowsMachine k
+            (after (start k.first) (t.events ++ given seat visit ∷ [])) record {
               words = set s.words 0 w;
               homes = set s.homes 0 (some (Some book));
               views =

@@ -74,8 +74,8 @@ opens first o b x holds is book empty legal small =
         }
     first_view o (suc j) u e = absurd (some-ne-none u (sym e))
 
--- what the closing shows of a pass: the visits that it has seen are among those kept, and where
--- these are not more the book of them is there
+-- what the closing shows of a pass: the visits that it has seen are among those kept, and if these
+-- are not more the book of them is there
 pub record Closes (k : Opening) (v : PassState) (word : ℕ) (slot : Option Boxed) : Type 0 where
   pub opened : v.opened ≡ k
   pub seen : k.first + length v.marks ≤ word / 2 + word % 2
@@ -95,7 +95,7 @@ first_word : (us : List ℕ) (n : ℕ) → get_elem? us 0 ≡ some n → get_or 
 first_word [] n e = absurd (some-ne-none n (sym e))
 first_word (u ∷ us) n e = some-injective u n e
 
--- who has all claims has the turn, where somebody has it
+-- who has all claims has the turn, if somebody has it
 nobody_else : (k : Opening) (m : Machine) (s : S) (id : ℕ) (v : PassState) → ShowsMachine k m s
     → get_elem? s.views id ≡ some v → v.turn ≡ false → all_claims ≤ v.claims → (seat : ℕ)
     → m.holder ≡ some seat → ⊥
@@ -177,8 +177,8 @@ closes k id v ws xs word slot final at home unjoined off met =
     })
     (word_of k m s sh)
 
--- and of the table alone: where no more visits are kept than the first number says, the opened book
--- is there
+-- and of the table alone: if no more visits are kept than the first number says, the opened book is
+-- there
 pub whole_unseen : (k : Opening) (ws : List ℕ) (xs : List (Option Boxed)) (word : ℕ)
     (slot : Option Boxed) → Final (IsTurn k) ws xs → get_elem? ws 0 ≡ some word
     → get_elem? xs 0 ≡ some slot

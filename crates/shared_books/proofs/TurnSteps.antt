@@ -219,7 +219,8 @@ pub gave : (k : Opening) (m : Machine) (s : S) (id : ℕ) (v : PassState) (visit
       words = set s.words 0 (2 * m.count + 2);
       homes = set s.homes 0 (some (Some b));
       views =
-          set s.views id (pass_state v.opened v.claims false (v.marks ++ mark true visit ∷ []) v.met);
+          set s.views id
+          (pass_state v.opened v.claims false (v.marks ++ mark true visit ∷ []) v.met);
     }
 gave k m s id v visit b r at unjoined holds all few book legal =
     let marks : List Mark = v.marks ++ mark true visit ∷ [] in

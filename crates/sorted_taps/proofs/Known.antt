@@ -1,4 +1,4 @@
--- What holds of bytes where they are known.
+-- What holds of bytes if they are known.
 use Rattle.std.specs.Prelude.{◌≡◌, Option, None, Some, IfSome, MatchOption, Result, Ok, Err, OnOk}
 use Rattle.std.specs.Prelude.{true, false}
 use Rattle.std.specs.Option.{is_some}
@@ -27,7 +27,7 @@ pub on_ok : {T E : Type 0} (P Q : Type 0) (result : Result T E) → (P → Q) �
 on_ok P Q (Ok value) f given = f given
 on_ok P Q (Err fault) f given = tt
 
--- what holds where there is no value
+-- what holds if there is no value
 pub at_none : {A : Type 0} (P : Type 0) (Q : A → Type 0) (answer : Option A)
     → is_some answer ≡ false → MatchOption answer P Q → P
 at_none P Q None none is = is

@@ -150,7 +150,7 @@ module _ (readers : List TapReader) (tree : List Head) (is : IsRanked readers tr
       (subst (λ t. IsNotAfter t (head_of (get_or readers k e))) none
       (none_before root here k e within))
 
--- the second half of the tree has the heads of so many readers
+-- the second half of the tree has the heads of the readers
 pub record HasLeavesBelow (readers : List TapReader) (tree : List Head) (below : ℕ) : Type 0 where
   pub size : length tree ≡ 2 * length readers
   pub tap : (k : ℕ) (d : Head) (e : TapReader) → k < below
@@ -168,7 +168,7 @@ abbrev pub AreChosenFrom : ℕ → List Head → ℕ → Type 0
 AreChosenFrom n tree from =
     (place : ℕ) → 0 < place → from ≤ place → place < n → IsChosenAt tree place
 
--- a place has what it had, where another is set
+-- a place has what it had, if another is set
 kept_at : (tree : List Head) (at : ℕ) (head : Head) (place : ℕ) → place ≢ at
     → 2 * place ≢ at → 2 * place + 1 ≢ at → IsChosenAt tree place
     → IsChosenAt (set tree at head) place
@@ -319,6 +319,6 @@ set_back readers at is was there =
         get_or-set_other (set readers at is) at k was d other
         ∙ get_or-set_other readers at k is d other
 
--- a head that is read where there is none
+-- a head that is read if there is none
 abbrev pub no_head : Head
 no_head = record { tap = None; at = 0 }

@@ -25,7 +25,7 @@ size_most : (layout : Layout) (count : ℕ) → count ≤ 4096
 size_most Tap1 count few = omega (arith, few)
 size_most (Tap2 validator) count few = omega (arith, few)
 
--- of so many bytes more ones mend no fault
+-- more bytes mend no fault of 114696 bytes or more
 pub long_decides : (bytes : List ℕ) (fault : LayoutFault) → IsFault bytes fault
     → 114696 ≤ length bytes → IsFinal fault
 long_decides bytes (Short have) is long =
@@ -116,11 +116,11 @@ module _ (all : List ℕ) (offset room : ℕ) (taps : List TapFields) (decoded :
       found = subst (λ r. IsFault r fault × (0 < length r)) (sym rest)
           (of_fault decoded.fault is at.is_decoded.fault)
         where
-          of_fault : (told : Option LayoutFault) → told ≡ Some fault
-              → IfSome told
+          of_fault : (reported : Option LayoutFault) → reported ≡ Some fault
+              → IfSome reported
               (λ fault. IsFault at.is_decoded.rest fault × (0 < length at.is_decoded.rest))
               → IsFault at.is_decoded.rest fault × (0 < length at.is_decoded.rest)
-          of_fault told e is = subst
+          of_fault reported e is = subst
               (λ t. IfSome t
               (λ fault. IsFault at.is_decoded.rest fault × (0 < length at.is_decoded.rest))) e is
 

@@ -1,5 +1,6 @@
 -- Readers that stand for others take the same taps.
-use Rattle.std.proofs.Common.{◌≡◌, ◌≢◌, ◌⊎◌, ℕ, suc, ◌+◌, ◌<◌, ◌≤◌, List, [], ◌∷◌, ◌++◌, length, map}
+use Rattle.std.proofs.Common.{◌≡◌, ◌≢◌, ◌⊎◌, ℕ, suc, ◌+◌, ◌<◌, ◌≤◌, List, [], ◌∷◌, ◌++◌, length}
+use Rattle.std.proofs.Common.{map}
 use Rattle.std.proofs.Common.{refl, sym, ap, subst, ◌∙◌, arith, inl, inr, get_or, set}
 use Rattle.std.proofs.lemmas.Bool.{cases_eq}
 use Rattle.std.proofs.lemmas.List.{get_or_default, get_or-map, get_or-set_other, get_or-set_same}
@@ -30,7 +31,7 @@ pub stand_alone : (readers : List TapReader) → StandAs readers readers
 stand_alone readers =
     record { number = refl; each = λ k d within. stands_alone (get_or readers k d) }
 
--- pair by pair, the first have passed so many taps more
+-- pair by pair, the first have passed this number of taps more
 record AreShifted (more : ℕ → ℕ) (ones others : List TapReader) : Type 0 where
   number : length ones ≡ length others
   each : (k : ℕ) (d : TapReader) → k < length ones
@@ -229,7 +230,7 @@ as_many (one ∷ ones) (other ∷ others) stand =
     ap (λ n. n ∷ map (λ (r : TapReader). r.passed) ones) first
     ∙ ap (λ ns. other.passed ∷ ns) rest
 
--- so many of the readers stand where the span begins, and its ends count their taps as well
+-- this number of the readers stand where the span begins, and its ends count their taps as well
 pub record AreJoinedTo (readers begin ends now : List TapReader) (at : ℕ) : Type 0 where
   pub number : length now ≡ length ends
   pub begins : (k : ℕ) (d : TapReader) → k < at

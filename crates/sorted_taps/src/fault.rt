@@ -11,7 +11,7 @@ pub enum SortedFault {
     /// A tap is before its predecessor in canonical order.
     #[error("tap {tap} is out of order")]
     OutOfOrder {
-        /// The first such tap, counted from 0 where the reader began.
+        /// The first such tap, counted from 0 at the place where the reader began.
         tap: u64,
     },
     /// The bytes begin with no batch.

@@ -23,7 +23,8 @@ batch_early layout (tap ∷ taps) all =
     All-cons Early tap taps (tap_early layout tap all.0) (batch_early layout taps all.1)
 
 -- the taps of a file have moments that fit
-pub file_early : (file : List ℕ) (batches : List (List Tap)) (rest : List ℕ) → IsFile file batches rest
+pub file_early : (file : List ℕ) (batches : List (List Tap)) (rest : List ℕ)
+    → IsFile file batches rest
     → All Early (flat_map (λ batch. batch) batches)
 file_early file [] rest is = All-nil Early
 file_early file (batch ∷ batches) rest is =

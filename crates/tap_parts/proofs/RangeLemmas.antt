@@ -16,7 +16,7 @@ use Rattle.tap_parts.specs.Ranges.{range_of_token}
 use Rattle.tap_parts.specs.inside.Places.{ArePlacesInOrder}
 use Rattle.tap_parts.proofs.TokenOrder.{lower_number}
 
--- the first so many are not above the number, and all others are
+-- up to a place none is above the number, and all others are
 pub counted : (xs : List ℕ) (k n : ℕ) → k ≤ length xs
     → ((i : ℕ) → i < k → get_or xs i 0 ≤ n)
     → ((i : ℕ) → k ≤ i → i < length xs → n < get_or xs i 0)

@@ -17,7 +17,7 @@ use Rattle.tap_views.specs.declared.fault.LayoutFault.{LayoutFault}
 use Rattle.tap_views.specs.declared.fault.LayoutFault.TheVariants.{Short, Magic, Flags, TooMany}
 use Rattle.tap_views.specs.declared.fault.LayoutFault.TheVariants.{Length, Moment}
 
--- a test that tells something false is false
+-- a test for something false is false
 tests_false : {P : Type 0} (b : Bool) → (b ≡ true → P) → ¬ P → b ≡ false
 tests_false true tells never = absurd (never (tells refl))
 tests_false false tells never = refl
@@ -89,7 +89,7 @@ module _ (bytes : List ℕ) where
       go (inr here) more = let same : k ≡ index = omega (arith, from, here) in
           rw (same, late_row index late) refl
 
-  -- where no row holds, none is found
+  -- if no row holds, none is found
   pub first_fault-none : ((fault : LayoutFault) → ¬ (Row fault bytes))
       → AllEarly bytes (count_in bytes) → found_fault bytes ≡ None
   first_fault-none none early =

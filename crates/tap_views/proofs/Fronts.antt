@@ -19,7 +19,7 @@ front_of upload (batch ∷ batches) rest (first, back, is_batch, joined, is) =
       joined ∙ ap (λ bytes. first ++ bytes) more ∙ sym (append_assoc first front rest),
     )
 
--- the bytes up to an offset are the front where the rest begins there
+-- the bytes up to an offset are the front if the rest begins there
 pub is_front : (upload : List ℕ) (batches : List (List Tap)) (rest : List ℕ) (offset : ℕ)
     → IsFile upload batches rest → offset + length rest ≡ length upload
     → IsGoodPart upload (take offset upload)

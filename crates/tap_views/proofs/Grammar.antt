@@ -529,7 +529,7 @@ module _ (bytes : List ℕ) (n : ℕ) (measured : IsMeasured bytes n) where
       let same : n ≡ length taps = measured.sound.count ∙ begin.count in
       rw (is, cut-off (layout_in bytes) n bytes long_enough, same) (begin.cut_again, begin.left)
 
--- where a batch stands, no row of the table holds
+-- at a place with a batch, no row of the table holds
 pub no_row : (bytes : List ℕ) (taps : List Tap) (rest : List ℕ) (fault : LayoutFault)
     → Begins bytes taps rest → ¬ (Row fault bytes)
 no_row bytes taps rest (Short have) begin row = absurd (omega (arith, begin.whole, row.1))

@@ -77,7 +77,7 @@ hold_more n lists taps tap own grown number is below grows held shard within =
 abbrev at_places : List Tap → List ℕ → List Tap
 at_places all places = flat_map (λ place. option_to_list (slice_get all place)) places
 
--- where the first tap stands at its place in all
+-- if the first tap stands at its place in all
 run_step : (shard shards : ℕ) (before taps : List Tap) (tap : Tap) (own : Bool)
     → at_places (before ++ tap ∷ taps) (places_from shard shards (suc (length before)) taps)
     ≡ run_of shard shards taps

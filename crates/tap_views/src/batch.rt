@@ -52,7 +52,7 @@ impl<'a> Batch<'a> {
         ensures found { IfOk result (λ (taps, rest). (front : List ℕ) × IsBatch front taps
             × (bytes.now ≡ front ++ rest.now)) }
 
-        // Where the bytes begin with a batch, that one is answered: no batch begins another.
+        // If the bytes begin with a batch, that one is returned: no batch begins another.
         ensures only { (front rest : List ℕ) (taps : List Tap) → IsBatch front taps
             → bytes.now ≡ front ++ rest
             → MatchResult result (λ answer. (answer.0 ≡ taps) × (answer.1.now ≡ rest)) (λ _. ⊥) }

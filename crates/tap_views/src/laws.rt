@@ -1,5 +1,6 @@
-//! What the grammar promises whoever reads bytes by it, and laws of tokens. Each law is the contract
-//! of a function that does nothing, but for `round_trip`. Call it where a proof needs its law.
+//! What the grammar promises whoever reads bytes by it, and laws of tokens. Each law is the
+//! contract of a function that does nothing, but for `round_trip`. Call it if a proof needs its
+//! law.
 
 ghost use Rattle.std.specs.Prelude.{◌≡◌, ◌++◌, ℕ, List, map, All, MatchResult};
 ghost use Rattle.std.specs.Cmp.Lexicographic.{slice_cmp};

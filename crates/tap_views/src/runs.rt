@@ -95,9 +95,9 @@ fn sort_in(lists: &mut [Places], batch: &Batch<'_>)
 
 /// The places of a batch's taps, shard by shard, found by one scan of the batch.
 ///
-/// Where all runs of a batch are wanted, `Batch::run_of` scans the batch once a shard and
-/// use; `fill` scans it once for all of them. A worker keeps one `Runs`, with room for any
-/// batch (8 KiB a shard), and fills it anew for each batch; what an earlier batch left is gone.
+/// If all runs of a batch are wanted, `Batch::run_of` scans the batch once a shard and use; `fill`
+/// scans it once for all of them. A worker keeps one `Runs`, with room for any batch (8 KiB a
+/// shard), and fills it anew for each batch; what an earlier batch left is gone.
 #[derive(Drop)]
 pub struct Runs {
     /// The places of each shard.

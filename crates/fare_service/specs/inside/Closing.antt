@@ -51,11 +51,11 @@ pub record IsAppended (end : Result Book LackingVisits) (before after : List Boo
   pub limits : BookKeepsLimits book
 
 -- a closing lacked visits to the shard, as many as the fault says
-pub record TellsMissing (shard : ℕ) (end : Result Book LackingVisits) (fault : GatherFault)
+pub record ReportsMissing (shard : ℕ) (end : Result Book LackingVisits) (fault : GatherFault)
     : Type 0 where
   pub lacking : LackingVisits
   pub is : end ≡ Err lacking
-  pub told : fault ≡ Missing shard lacking.held lacking.kept
+  pub reported : fault ≡ Missing shard lacking.held lacking.kept
 
 -- visits to a shard are missing
 abbrev pub IsMissing : ℕ → List PassView → GatherFault → Type 0

@@ -10,13 +10,13 @@ use Rattle.fare_service.specs.declared.service.working.Stop.TheVariants.{Memory,
 use Rattle.fare_service.specs.Stopping.{SomeFull, StoppedWell}
 
 -- What was known of a full shard is still known. If a full shard stopped the work, it is known now.
-abbrev pub TellsFull : {A : Type 0} → Result A Stop → List PassView → List PassView → Type 0
-TellsFull answer old new = SomeFull old ⊎ IsErrOf answer Full → SomeFull new
+abbrev pub ReportsFull : {A : Type 0} → Result A Stop → List PassView → List PassView → Type 0
+ReportsFull answer old new = SomeFull old ⊎ IsErrOf answer Full → SomeFull new
 
 -- if want of memory stopped a run, no full shard did: the passes are as they were, or a visit to
 -- the shard was made
-abbrev pub TellsMemory : ℕ → Result (Unit {0}) Stop → List PassView → List PassView → Type 0
-TellsMemory shard answer old new =
+abbrev pub ReportsMemory : ℕ → Result (Unit {0}) Stop → List PassView → List PassView → Type 0
+ReportsMemory shard answer old new =
     IsErrOf answer Memory → (new ≡ old)
     ⊎ ((visit : List Entry) × (made_visits_at shard new ≡ made_visits_at shard old ++ visit ∷ []))
 

@@ -11,8 +11,8 @@ ghost use Rattle.fare_service.specs.Placing.{IsReordered, WerePostedOf};
 ghost use Rattle.fare_service.specs.Shares.{Worked, all_works, file_at};
 
 /// In posting order, batch by batch and each batch by rising shard, stand the taps of an upload's
-/// batches, of each kind as many as there, and the taps of a shard in the order of the upload. So what
-/// the clauses say of posted taps, they say of the taps of the upload.
+/// batches, of each kind as many as there, and the taps of a shard in the order of the upload. So
+/// what the clauses say of posted taps, they say of the taps of the upload.
 pub fn posting_order()
     ensures { (shards : ℕ) (batches : List (List Tap)) → 0 < shards
         → IsReordered shards (in_file_order batches) (in_posting_order shards batches) }

@@ -6,9 +6,9 @@ ghost use Rattle.std.specs.List.{flat_map};
 ghost use Rattle.shard_book.specs.Sums.{sums_of};
 ghost use Rattle.shared_books.specs.Passes.{PassView};
 ghost use Rattle.fare_service.specs.Claims.{claims_at, HaveAllClaims};
-ghost use Rattle.fare_service.specs.Closing.{TellsFirst};
+ghost use Rattle.fare_service.specs.Closing.{ReportsFirst};
 ghost use Rattle.fare_service.specs.inside.Closing.{AreClosed, AreUnseen, IsClosedWork};
-ghost use Rattle.fare_service.specs.inside.Closing.{IsAppended, TellsMissing};
+ghost use Rattle.fare_service.specs.inside.Closing.{IsAppended, ReportsMissing};
 ghost use Rattle.fare_service.specs.inside.Closing.{IsFirstMissing, IsFirstUnseen, IsMissing};
 ghost use Rattle.fare_service.specs.inside.Closing.{LacksClaims, NoneMissing};
 ghost use Rattle.fare_service.specs.inside.Joining.{AreJoinedAt, Belongs, IsJoinedOf, with_done};
@@ -171,7 +171,7 @@ fn push_closed(
     requires room { length closed.old.items < vec_capacity closed.old }
     ensures ok { OnOk result (IsAppended end closed.old.items closed.new.items) }
     ensures capacity { vec_capacity closed.old ≤ vec_capacity closed.new }
-    ensures missing { IfErr result (TellsMissing shard end) }
+    ensures missing { IfErr result (ReportsMissing shard end) }
     ensures same { OnErr result (closed.new.items ≡ closed.old.items) }
 {
     match end {
@@ -203,7 +203,7 @@ fn close_with(
     requires room { length books.items ≤ vec_capacity closed.old }
     ensures ok { OnOk result (IsClosedWork books.items shares.items closed.new.items) }
     ensures fault { IfErr result (IsGatherFault (length books.items) shares.items) }
-    ensures first { IfErr result (TellsFirst books.items draw.numbers shares.items) }
+    ensures first { IfErr result (ReportsFirst books.items draw.numbers shares.items) }
     ensures claims { IfErr result (λ _. HaveAllClaims (length books.items) shares.items → ⊥) }
 {
     if shares.is_empty() {
@@ -234,7 +234,7 @@ fn close_with(
 
 impl<U: LentUploads + Drop> Service<U> {
     ghost use Rattle.fare_service.specs.ServiceView.{shards_of};
-    ghost use Rattle.fare_service.specs.Headline.{HasOutcome, ToldUndrawn};
+    ghost use Rattle.fare_service.specs.Headline.{HasOutcome, AreUndrawnReported};
     ghost use Rattle.fare_service.specs.Shares.{IsShareOf};
     ghost use Rattle.fare_service.specs.Stopping.{FullIsMade};
 
@@ -246,11 +246,11 @@ impl<U: LentUploads + Drop> Service<U> {
     pub fn gather(self, alloc: Global, shares: Vec<Share>) -> Result<Outcome, GatherFault>
         requires { All (IsShareOf self) shares.items }
         ensures headline { IfOk result (HasOutcome self shares.items) }
-        ensures undrawn { IfOk result (ToldUndrawn shares.items) }
+        ensures undrawn { IfOk result (AreUndrawnReported shares.items) }
         ensures full { IfOk result (λ _. FullIsMade shares.items) }
         ensures fault { IfErr result (IsGatherFault (shards_of self) shares.items) }
         ensures first { IfErr result
-            (TellsFirst self.books (length self.uploads) shares.items) }
+            (ReportsFirst self.books (length self.uploads) shares.items) }
         ensures claims { HaveAllClaims (shards_of self) shares.items
             → IfErr result IsForMemory }
     {

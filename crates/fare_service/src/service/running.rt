@@ -17,7 +17,7 @@ use crate::lending::{LentUploads, Unlent};
 use crate::outcome::Outcome;
 use crate::service::Service;
 use crate::service::share::Share;
-use crate::service::working::Gate;
+use crate::service::working::Gatekeeper;
 use std::alloc::{AllocError, Global};
 use std::marker::Sync;
 use std::snapshot::Snapshot;
@@ -86,13 +86,13 @@ impl<U: LentUploads + Drop + Sync> Service<U> {
 
     /// Starts a thread for each share, and joins them. If one is refused, those that were started
     /// end with the scope.
-    fn work_in<'s, E, R: Threads + Wait + Sync, G: Gate + Sync>(
+    fn work_in<'s, E, R: Threads + Wait + Sync, G: Gatekeeper + Sync>(
         &'s self,
         scope: &Scope<'s, E>,
         rt: &'s R,
         alloc: Global,
         shares: Vec<Share>,
-        gate: &'s G,
+        keeper: &'s G,
     ) -> Result<Vec<Result<Share, Unlent>>, NoMemory>
         requires { All (IsShareOf self.now) shares.items }
         ensures { IfOk result (λ r. AllZip (IsAnswer self.now) shares.items r.items) }
@@ -108,7 +108,7 @@ impl<U: LentUploads + Drop + Sync> Service<U> {
                 move || -> Result<Share, Unlent>
                     requires { IsShareOf self.now share }
                     ensures { IsAnswer self.entry.now share result }
-                { self.work(rt, alloc, share, gate) },
+                { self.work(rt, alloc, share, keeper) },
             );
             let Ok(thread) = started else {
                 return Err(NoMemory);
@@ -122,12 +122,12 @@ impl<U: LentUploads + Drop + Sync> Service<U> {
     }
 
     /// Works with each share, in a thread of its own.
-    fn work_all<R: Threads + Wait + Sync, G: Gate + Sync>(
+    fn work_all<R: Threads + Wait + Sync, G: Gatekeeper + Sync>(
         &self,
         rt: &R,
         alloc: Global,
         shares: Vec<Share>,
-        gate: &G,
+        keeper: &G,
     ) -> Result<Vec<Result<Share, Unlent>>, NoMemory>
         requires { All (IsShareOf self.now) shares.items }
         ensures { IfOk result (λ r. AllZip (IsAnswer self.now) shares.items r.items) }
@@ -139,7 +139,7 @@ impl<U: LentUploads + Drop + Sync> Service<U> {
                 requires { All (IsShareOf self.now) shares.items }
                 ensures { IfOk result
                     (λ r. AllZip (IsAnswer self.entry.now) shares.items r.items) }
-            { self.work_in(scope, rt, alloc, shares, gate) },
+            { self.work_in(scope, rt, alloc, shares, keeper) },
         )?;
         Ok(worked)
     }
@@ -147,13 +147,13 @@ impl<U: LentUploads + Drop + Sync> Service<U> {
     /// Runs the service with `workers` workers, 1 to 16, each in a thread of its own, and gathers
     /// their shares. The given share is the first worker's. If it has all claims, nothing is
     /// missing. Nothing is gathered if an upload was not lent.
-    pub fn run<R: Threads + Wait + Sync, G: Gate + Sync>(
+    pub fn run<R: Threads + Wait + Sync, G: Gatekeeper + Sync>(
         self,
         rt: &R,
         alloc: Global,
         share: Share,
         workers: u32,
-        gate: &G,
+        keeper: &G,
     ) -> Result<Outcome, RunFault>
         requires { IsShareOf self share }
         ensures headline { IfOk result
@@ -168,7 +168,7 @@ impl<U: LentUploads + Drop + Sync> Service<U> {
             return Err(RunFault::Workers);
         }
         let shares = self.share_out(alloc, share, workers)?;
-        let answers = self.work_all(rt, alloc, shares, gate)?;
+        let answers = self.work_all(rt, alloc, shares, keeper)?;
         let shares = all_shares(alloc, answers)?;
         let outcome = self.gather(alloc, shares)?;
         Ok(outcome)

@@ -1,6 +1,7 @@
 //! The work of one thread: it draws uploads and posts their batches, run by run.
 
-ghost use Rattle.std.specs.Prelude.{◌≡◌, ◌⊎◌, ℕ, ◌+◌, ◌*◌, ◌^◌, ◌<◌, ◌≤◌, List, length, OnOk, IfErr, IfOk};
+ghost use Rattle.std.specs.Prelude.{◌≡◌, ◌⊎◌, ℕ, ◌+◌, ◌*◌, ◌^◌, ◌<◌, ◌≤◌, List, length, OnOk};
+ghost use Rattle.std.specs.Prelude.{IfErr, IfOk};
 ghost use Rattle.std.specs.Prelude.{IfNone, IfSome, is_ok, is_some, map, true, false, ◌++◌, ◌∷◌};
 ghost use Rattle.std.specs.Prelude.{[]};
 ghost use Rattle.shard_book.specs.Sums.{sums_of, sums_of_replies, add_sums};
@@ -17,7 +18,7 @@ use std::sync::Wait;
 use tap_views::{Batch, LayoutFault, NoMemory, Runs, good_batches};
 
 /// What a worker calls before it posts an upload and after it. A test can make workers wait there.
-pub trait Gate {
+pub trait Gatekeeper {
     ghost use Rattle.std.specs.Prelude.{ℕ, ◌≡◌};
 
     /// What shows that an upload was begun. A worker cannot post the upload without it, nor let it
@@ -35,11 +36,11 @@ pub trait Gate {
     fn after(&self, begun: Self::Begun);
 }
 
-/// A gate that keeps nobody waiting.
+/// A gatekeeper that keeps nobody waiting.
 #[derive(Clone, Copy, Debug)]
-pub struct OpenGate;
+pub struct OpenGatekeeper;
 
-impl Gate for OpenGate {
+impl Gatekeeper for OpenGatekeeper {
     type Begun = u32;
 
     ghost begins = { λ begun. begun };
@@ -132,7 +133,7 @@ impl<U: LentUploads + Drop> Service<U> {
     ghost use Rattle.fare_service.specs.inside.Shares.{worked};
     ghost use Rattle.fare_service.specs.Plain.{WasNotCut};
     ghost use Rattle.fare_service.specs.Stopping.{SomeFull, StoppedWell, WasCut};
-    ghost use Rattle.fare_service.specs.inside.Stopping.{TellsFull, TellsMemory};
+    ghost use Rattle.fare_service.specs.inside.Stopping.{ReportsFull, ReportsMemory};
 
     /// Posts a run of the batch, if it has a tap. Memory for its replies is taken before the turn.
     fn post_run<'b, R: Wait>(
@@ -157,8 +158,8 @@ impl<U: LentUploads + Drop> Service<U> {
             (is_ok result) more }
         ensures clock { buffers.new.clock ≡ buffers.old.clock }
         ensures few { posting.new.totals.taps ≤ posting.old.totals.taps + 4096 }
-        ensures full { TellsFull result posting.old.passes.items posting.new.passes.items }
-        ensures memory { TellsMemory shard result posting.old.passes.items
+        ensures full { ReportsFull result posting.old.passes.items posting.new.passes.items }
+        ensures memory { ReportsMemory shard result posting.old.passes.items
             posting.new.passes.items }
     {
         let len = runs.len_of(batch, shard);
@@ -201,7 +202,7 @@ impl<U: LentUploads + Drop> Service<U> {
             (is_ok result) more }
         ensures clock { buffers.new.run.clock ≡ buffers.old.run.clock }
         ensures runs { length buffers.new.runs ≡ length buffers.old.runs }
-        ensures full { TellsFull result posting.old.passes.items posting.new.passes.items }
+        ensures full { ReportsFull result posting.old.passes.items posting.new.passes.items }
     {
         buffers.runs.fill(batch);
         for shard in 0..self.shards() {
@@ -232,7 +233,7 @@ impl<U: LentUploads + Drop> Service<U> {
         ensures clock { buffers.new.run.clock ≡ buffers.old.run.clock }
         ensures runs { length buffers.new.runs ≡ length buffers.old.runs }
         ensures few { posting.new.totals.taps ≤ posting.old.totals.taps + 2 ^ 60 }
-        ensures full { TellsFull result posting.old.passes.items posting.new.passes.items }
+        ensures full { ReportsFull result posting.old.passes.items posting.new.passes.items }
     {
         // proof: a file has fewer than 2^64 bytes, so that the counts of its taps fit
         let _bytes = bytes_in(file);
@@ -243,9 +244,9 @@ impl<U: LentUploads + Drop> Service<U> {
         Ok(good.fault())
     }
 
-    /// Posts an upload that was begun at the gate and lent. Returns how it ended, and whether the
-    /// worker may go on.
-    fn post_upload<R: Wait, G: Gate>(
+    /// Posts an upload that was begun at the gatekeeper and lent. Returns how it ended, and whether
+    /// the worker may go on.
+    fn post_upload<R: Wait, G: Gatekeeper>(
         &self,
         rt: &R,
         posting: &mut Posting,
@@ -298,14 +299,14 @@ impl<U: LentUploads + Drop> Service<U> {
 
     /// Posts an upload that was drawn and lent. Returns how it ended, and whether the worker may go
     /// on.
-    fn post_drawn<R: Wait, G: Gate>(
+    fn post_drawn<R: Wait, G: Gatekeeper>(
         &self,
         rt: &R,
         posting: &mut Posting,
         buffers: &mut Buffers,
         upload: u32,
         file: &[u8],
-        gate: &G,
+        keeper: &G,
     ) -> (Done, bool)
         requires upload { upload < length self.now.uploads }
         requires lent { IsLentAs self.now.uploads upload file.now }
@@ -326,9 +327,9 @@ impl<U: LentUploads + Drop> Service<U> {
         ensures clock { buffers.new.run.clock ≡ buffers.old.run.clock }
         ensures runs { length buffers.new.runs ≡ length buffers.old.runs }
     {
-        let begun = gate.before(upload);
+        let begun = keeper.before(upload);
         let (end, goes_on) = self.post_upload::<R, G>(rt, posting, buffers, upload, file, &begun);
-        gate.after(begun);
+        keeper.after(begun);
         (Done { upload, end }, goes_on)
     }
 
@@ -352,14 +353,14 @@ impl<U: LentUploads + Drop> Service<U> {
     /// refused, the share is given back as it was.
     ///
     /// Gives the share back with the uploads that it drew, the visits that it made and the totals
-    /// of their replies. If an upload is not lent, the share is dropped, and the upload is named. It
-    /// waits for turns at the shards' books.
-    pub fn work<R: Wait, G: Gate>(
+    /// of their replies. If an upload is not lent, the share is dropped, and the upload is named.
+    /// It waits for turns at the shards' books.
+    pub fn work<R: Wait, G: Gatekeeper>(
         &self,
         rt: &R,
         alloc: Global,
         share: Share,
-        gate: &G,
+        keeper: &G,
     ) -> Result<Share, Unlent>
         requires { IsShareOf self.now share }
         ensures share { IfOk result (IsShareOf self.now) }
@@ -403,7 +404,7 @@ impl<U: LentUploads + Drop> Service<U> {
                 &mut buffers,
                 upload,
                 file,
-                gate,
+                keeper,
             );
             done.push_reserved(next);
             if !goes_on {

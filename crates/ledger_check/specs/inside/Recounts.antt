@@ -7,11 +7,11 @@ use Rattle.ledger_check.specs.FullBalances.{IsFullBalance}
 use Rattle.ledger_check.specs.declared.full_balance.FullBalance.{FullBalance}
 use Rattle.tap_views.specs.declared.encoder.TapFields.{TapFields}
 use Rattle.fare_texts.specs.LedgerLines.{IsLedgerLineAfter, head_text}
-use Rattle.fare_texts.specs.Tellers.{next_entry}
-use Rattle.fare_texts.specs.declared.teller.Teller.{Teller}
+use Rattle.fare_texts.specs.Explainers.{next_entry}
+use Rattle.fare_texts.specs.declared.explainer.Explainer.{Explainer}
 use Rattle.ledger_check.specs.Recounts.{IsJudged, IsRecount, IsTaken, TakenLine, falls_after}
-use Rattle.ledger_check.specs.Recounts.{run_of, run_with, taps_from, told_lines, told_text}
-use Rattle.ledger_check.specs.RecountStates.{AreSums, HasRunTeller, HasTakenLines}
+use Rattle.ledger_check.specs.Recounts.{run_of, run_with, taps_from, remark_lines, remark_text}
+use Rattle.ledger_check.specs.RecountStates.{AreSums, HasRunExplainer, HasTakenLines}
 use Rattle.ledger_check.specs.declared.recount.LinesTaken.{LinesTaken}
 use Rattle.ledger_check.specs.declared.recount_sums.RecountSums.{RecountSums}
 use Rattle.ledger_check.specs.declared.tap.Tap.{Tap}
@@ -19,7 +19,7 @@ use Rattle.ledger_check.specs.declared.walk.LineFinding.{LineFinding}
 use Rattle.ledger_check.specs.declared.walk.Walk.{Walk}
 use Rattle.std.specs.Prelude.{None, if◌then◌else◌, string_bytes}
 use Rattle.std.specs.Str.{bytes_eq}
-use Rattle.ledger_check.specs.declared.walk.Told.TheVariants.{Nothing, NoLine}
+use Rattle.ledger_check.specs.declared.walk.Remark.TheVariants.{Nothing, NoLine}
 
 -- the tap was taken after the entries: its entry, whether its token falls, and its line
 pub record TookTap (fares : Fares) (run : List Entry) (tap : Tap) (walk : Walk) (entry : Entry)
@@ -29,45 +29,45 @@ pub record TookTap (fares : Fares) (run : List Entry) (tap : Tap) (walk : Walk) 
   pub shown : IsLedgerLineAfter fares tap.token (own tap.token run) entry
       (string_bytes walk.wanted)
   pub falling : falls ≡ falls_after run tap.token
-  pub teller : HasRunTeller fares walk.teller (own tap.token run ++ entry ∷ [])
+  pub explainer : HasRunExplainer fares walk.explainer (own tap.token run ++ entry ∷ [])
 
 -- the line was judged after the entries, and the walk stands behind it
 pub record HasJudged (fares : Fares) (run : List Entry) (line : List ℕ) (walk : Walk)
     (finding : LineFinding) : Type 0 where
-  pub is : IsJudged fares run line finding.tap finding.told (string_bytes walk.wanted)
-  pub teller : HasRunTeller fares walk.teller (run_with run finding.tap)
+  pub is : IsJudged fares run line finding.tap finding.remark (string_bytes walk.wanted)
+  pub explainer : HasRunExplainer fares walk.explainer (run_with run finding.tap)
 
 -- what is found of the first line
 abbrev pub IsFirstFinding : List ℕ → LineFinding → Type 0
 IsFirstFinding line finding = (finding.tap ≡ None)
-    × (finding.told ≡ (if bytes_eq line head_text then Nothing else NoLine))
+    × (finding.remark ≡ (if bytes_eq line head_text then Nothing else NoLine))
 
 -- the line was taken after these, and the walk stands behind it
 pub record HasFound (fares : Fares) (taken : List TakenLine) (line : List ℕ) (walk : Walk)
     (finding : LineFinding) : Type 0 where
   pub is : IsTaken fares taken
       (record { line = line; finding = finding; wanted = string_bytes walk.wanted })
-  pub teller : HasRunTeller fares walk.teller (run_with (run_of taken) finding.tap)
+  pub explainer : HasRunExplainer fares walk.explainer (run_with (run_of taken) finding.tap)
 
--- one line more was taken and told, and its tap struck out, if taps are struck out
+-- one line more was taken, its remark was written, and its tap struck out, if taps are struck out
 pub record TookLine (fares : Fares) (taken : List TakenLine) (line : List ℕ) (after : LinesTaken)
-    (strikes : Bool) (full full' : FullBalance) (told told' : List ℕ) : Type 0 where
+    (strikes : Bool) (full full' : FullBalance) (reported reported' : List ℕ) : Type 0 where
   pub next : TakenLine
   pub is : next.line ≡ line
   pub lines : HasTakenLines fares after (next ∷ taken)
-  pub written : told' ≡ told
-      ++ told_text (length taken + 1) next.finding.told next.wanted
+  pub written : reported' ≡ reported
+      ++ remark_text (length taken + 1) next.finding.remark next.wanted
   pub struck : (good : List TapFields) → strikes ≡ true
       → IsFullBalance full good (taps_from taken)
       → IsFullBalance full' good (taps_from (next ∷ taken))
 
--- all lines of the text were taken, the last one too, and told
+-- all lines of the text were taken, the last one too, and the remarks were written
 pub record HasEnded (fares : Fares) (strikes : Bool) (full : FullBalance) (text written : List ℕ)
-    (good : List TapFields) (sums : RecountSums) (told told' : List ℕ) : Type 0 where
+    (good : List TapFields) (sums : RecountSums) (reported reported' : List ℕ) : Type 0 where
   pub taken : List TakenLine
   pub recount : IsRecount fares text taken
   pub sums_are : AreSums sums taken
   pub more : List ℕ
-  pub grown : told' ≡ told ++ more
-  pub all : written ++ more ≡ told_lines taken
+  pub grown : reported' ≡ reported ++ more
+  pub all : written ++ more ≡ remark_lines taken
   pub struck : strikes ≡ true → IsFullBalance full good (taps_from taken)

@@ -1,4 +1,4 @@
--- The tap of an entry, as a line tells it.
+-- The tap of an entry, as a line names it.
 use Rattle.std.specs.Prelude.{◌≡◌, ℕ, ◌^◌, ◌<◌, List}
 use Rattle.account_rule.specs.declared.reason.Reason.{Reason}
 use Rattle.fare_table.specs.Fares.{Fares}
@@ -16,8 +16,8 @@ pub record IsEntryOfTap (tap : Tap) (entry : Entry) : Type 0 where
   pub moment : entry.moment ≡ tap.moment
 
 -- whatever entry has the line, it is one of this tap
-abbrev pub TellsTap : Fares → List ℕ → Tap → Type 0
-TellsTap fares line tap =
+abbrev pub NamesTap : Fares → List ℕ → Tap → Type 0
+NamesTap fares line tap =
     (number : ℕ) (entry : Entry) (why : Reason) → number < 2 ^ 64 → IsPostable entry
     → IsLedgerLine fares entry.token number entry why line → IsEntryOfTap tap entry
 

@@ -9,7 +9,7 @@ use Rattle.ledger_check.specs.Verdicts.{HasTaken, IsTrueOf}
 abbrev pub number_after : LinesSoFar → ℕ
 number_after so_far = if so_far.has_head then so_far.replay.lines + 2 else 1
 
--- one line more was read, or what is told is true of the lines, whatever follows
+-- one line more was read, or the verdict is true of the lines, whatever follows
 abbrev pub IsTaken : Fares → LinesSoFar → List (List ℕ) → List ℕ → Option Verdict → Type 0
 IsTaken fares after lines line None = HasTaken fares after (lines ++ line ∷ [])
 IsTaken fares after lines line (Some verdict) =

@@ -5,7 +5,8 @@ use Rattle.fare_table.specs.Terms.{AreRideTerms}
 use Rattle.tap_views.specs.Token.{bytes_of}
 use Rattle.tap_views.specs.declared.token.Token.{Token}
 
--- if the validator is known at the moment, the terms of the token on its mode are within their bounds
+-- if the validator is known at the moment, the terms of the token on its mode are within their
+-- bounds
 abbrev pub HasRideTerms : Fares → Token → ℕ → ℕ → Type 0
 HasRideTerms fares token moment validator =
     (place : ℕ) → mode_at fares moment validator ≡ Some place

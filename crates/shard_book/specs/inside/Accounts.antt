@@ -21,7 +21,7 @@ kept_at accounts token = get token_eq accounts.map token
 abbrev pub IsCounting : Accounts → Type 0
 IsCounting accounts = IsTrue accounts.counting
 
--- the kept account stands for the taps; where none is kept there are none
+-- the kept account stands for the taps; if none is kept there are none
 abbrev pub IsKept : TokenRules → Option KeptAccount → List TapIn → Type 0
 IsKept rules None taps = taps ≡ []
 IsKept rules (Some kept) taps = Stands rules kept.account taps
@@ -46,7 +46,7 @@ pub record HasPlaceFor (old new : Accounts) (token : Token) (place : ℕ) : Type
   pub is : IsKeptOrFresh (kept_at old token) kept
   pub now : kept_at new token ≡ Some kept
 
--- the kept sums, of nothing where none are kept
+-- the kept sums, of nothing if none are kept
 abbrev pub counted : Option KeptAccount → Sums
 counted None = sums_of_replies []
 counted (Some kept) = sums_of_counts kept.counts

@@ -13,7 +13,7 @@ use Rattle.shard_book.specs.SumsByKey.{token_of}
 use Rattle.shard_book.specs.Sums.{Sums, sums}
 use Rattle.tap_views.specs.Token.{bytes_of, token_eq}
 
--- for each token the sums of its own entries are kept, those of nothing where it has none
+-- for each token the sums of its own entries are kept, those of nothing if it has none
 pub record AreCounted (accounts : Accounts) (entries : List Entry) : Type 0 where
   pub sums : (token : Token) → counted (kept_at accounts token) ≡ sums (own token entries)
 

@@ -33,7 +33,7 @@ bits_cents bits = bits / 2 ^ 42 / 8
 abbrev pub tokens_of : Accounts → List Token
 tokens_of accounts = keys_of accounts.map.entries
 
--- the token that is read where there is none
+-- the token that is read if there is none
 abbrev pub no_token : Token
 no_token = record { high = 0; low = 0 }
 
@@ -47,7 +47,7 @@ entry_with token validator moment reply = record {
   cents = reply.cents;
 }
 
--- the entry for which a packed one stands, where the accounts have these tokens
+-- the entry for which a packed one stands, if the accounts have these tokens
 unfoldable pub entry_of : List Token → PackedEntry → Entry
 entry_of tokens packed = record {
   token = unwrap_or (slice_get tokens packed.place) no_token;

@@ -113,7 +113,6 @@ fn add_entries<K: SumKey>(
     Ok(())
 }
 
-/// The keys, rising.
 fn rising_keys<K: SumKey>(
     alloc: Global,
     tallies: &IndexMap<K, Tally, HashSeed>,
@@ -127,7 +126,7 @@ fn rising_keys<K: SumKey>(
     Ok(keys)
 }
 
-/// The totals that are kept for the key, of nothing where there are none.
+/// The totals that are kept for the key, of nothing if there are none.
 fn kept_totals<K: SumKey>(tallies: &IndexMap<K, Tally, HashSeed>, key: K) -> Totals
     requires { HasRoom K.eq K.key_of tallies.now.entries 0 }
     ensures { sums_of result ≡ kept_sums (get K.eq tallies.now key) }

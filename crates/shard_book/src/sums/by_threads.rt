@@ -94,7 +94,7 @@ fn tallies_by_four<R: Threads + Sync>(
     Ok(tallies)
 }
 
-/// Whether the books have so many entries that threads share the work.
+/// Whether the books have enough entries for threads to share the work.
 fn are_worth_threads(books: &[ShardBook]) -> bool {
     let mut entries = 0u64;
     for book in books {

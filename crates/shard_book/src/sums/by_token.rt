@@ -13,9 +13,8 @@ use crate::sums::counts::TokenCounts;
 use std::alloc::Global;
 use tap_views::NoMemory;
 
-/// The tokens of the books, in no order, each with its counts. `None` where a book does not keep
-/// them, and where two books may share a token: those of rising shards, of one number of shards,
-/// share none.
+/// The tokens of the books, in no order, each with its counts. `None` if a book does not keep them,
+/// or if two books may share a token: those of rising shards, of one number of shards, share none.
 fn collected(alloc: Global, books: &[ShardBook]) -> Result<Option<Vec<TokenCounts>>, NoMemory>
     ensures { IfOk result (λ found.
         IfSome found (λ list. AreSummed (all_entries books.now) (map token_counts list.items))) }
@@ -39,7 +38,6 @@ fn collected(alloc: Global, books: &[ShardBook]) -> Result<Option<Vec<TokenCount
     Ok(Some(list))
 }
 
-/// Sorts by token.
 fn sort(list: &mut Vec<TokenCounts>)
     ensures permutation { IsPermutation (map token_counts list.old.items)
         (map token_counts list.new.items) }
@@ -48,8 +46,8 @@ fn sort(list: &mut Vec<TokenCounts>)
     list.sort_unstable_by_key(|counts| counts.token);
 }
 
-/// The tokens of the books, rising, each with its counts. `None` where the books' counts do not
-/// tell it.
+/// The tokens of the books, rising, each with its counts. `None` if the books' counts do not say
+/// so.
 pub(crate) fn rising_counts(
     alloc: Global,
     books: &[ShardBook],

@@ -7,8 +7,8 @@ use crate::sums::totals::Totals;
 use account_rule::{Answer, Reply};
 use tap_views::Token;
 
-/// What `Totals` counts, while the cents fit 32 bits and each other number 16. Of 16 bytes, where
-/// `Totals` has 112, so that an account and its counts take 64.
+/// What `Totals` counts, while the cents fit 32 bits and each other number 16. They take 16 bytes,
+/// and `Totals` 112, so that an account and its counts take 64.
 #[derive(Clone, Copy, Debug, PartialEq, Eq)]
 pub(crate) struct Counts {
     /// What was charged, in cents.
@@ -124,7 +124,6 @@ impl Counts {
 /// A token and the counts of its entries.
 #[derive(Clone, Copy, Debug, PartialEq, Eq)]
 pub(crate) struct TokenCounts {
-    /// The token.
     pub(crate) token: Token,
     /// The counts of its entries.
     pub(crate) counts: Counts,

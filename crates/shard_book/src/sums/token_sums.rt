@@ -1,6 +1,7 @@
 //! The sums of the tokens of many books, in the little memory that the books keep of each.
 
-ghost use Rattle.std.specs.Prelude.{◌≡◌, ◌<◌, ◌≤◌, ◌^◌, ◌++◌, ◌∷◌, [], length, slice_get, Some, IfOk};
+ghost use Rattle.std.specs.Prelude.{◌≡◌, ◌<◌, ◌≤◌, ◌^◌, ◌++◌, ◌∷◌, [], length, slice_get, Some};
+ghost use Rattle.std.specs.Prelude.{IfOk};
 ghost use Rattle.std.specs.Prelude.{OnOk};
 ghost use Rattle.shard_book.specs.Tally.{sums_of_tally};
 ghost use Rattle.shard_book.specs.inside.Shown.{sums_in};
@@ -16,7 +17,7 @@ use std::alloc::Global;
 use std::marker::Model;
 use tap_views::{NoMemory, Token};
 
-/// Counts of 32 bytes a token where the books tell them, else sums of 128.
+/// Counts of 32 bytes a token if the books keep them, else sums of 128.
 #[derive(Drop)]
 pub(crate) enum SumList {
     /// The counts that the books keep of each token.
@@ -41,7 +42,7 @@ impl SumList {
     }
 }
 
-/// One list behind the other: small where both are.
+/// One list behind the other: small if both are.
 fn joined(alloc: Global, first: SumList, second: SumList) -> Result<SumList, NoMemory>
     ensures { IfOk result (λ list. sums_in list ≡ sums_in first ++ sums_in second) }
 {

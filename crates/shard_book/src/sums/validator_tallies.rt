@@ -22,7 +22,8 @@ use tap_views::NoMemory;
 /// How many hints there are, a power of two.
 const HINTS: usize = 16_384;
 
-/// By how many bits a number is shifted, once it is spread, so that it is below the number of hints.
+/// By how many bits a number is shifted, once it is spread, so that it is below the number of
+/// hints.
 const HINT_SHIFT: u32 = 18;
 
 /// The tally of each validator of the entries that were added. Contracts see the validators with

@@ -1,4 +1,4 @@
-use Rattle.laws.proofs.Telling.{written_is_read}
+use Rattle.laws.proofs.LedgerTokens.{written_is_read}
 use Rattle.laws.proofs.ledgers.written_is_a_ledger.Goals as goal
 
 pub returns : goal.returns

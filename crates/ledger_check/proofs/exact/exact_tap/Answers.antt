@@ -1,4 +1,4 @@
--- A line tells a tap exactly if each of its fields is read.
+-- A line names a tap exactly if each of its fields is read.
 use Rattle.std.proofs.Common.{◌≡◌, ◌∷◌, ◌++◌, ◌∙◌, ℕ, List, Some, None, true, false, sym, ap, subst}
 use Rattle.std.proofs.Common.{rules, tests}
 use Rattle.std.proofs.lemmas.Bool.{false≢true}
@@ -65,8 +65,12 @@ returns c =
       moment_text = front.moment.now;
       is = c.in_ok-is_exact.ensures.0 yes;
       shown = fields.1.shown
-          ∙ ap (λ (t : List ℕ). t ++ 44 ∷ (fields.0 ++ 44 ∷ (front.moment.now ++ 44 ∷ (front.validator.now ++ 44 ∷ front.rest.now)))) token.1
-          ∙ ap (λ (v : List ℕ). encode_lower (bytes_of c.in-Some-exact_token.token) ++ 44 ∷ (fields.0 ++ 44 ∷ (front.moment.now ++ 44 ∷ (v ++ 44 ∷ front.rest.now)))) number.1;
+          ∙ ap (λ (t : List ℕ).
+          t ++ 44 ∷ (fields.0 ++ 44
+          ∷ (front.moment.now ++ 44 ∷ (front.validator.now ++ 44 ∷ front.rest.now)))) token.1
+          ∙ ap (λ (v : List ℕ). encode_lower
+          (bytes_of c.in-Some-exact_token.token) ++ 44
+          ∷ (fields.0 ++ 44 ∷ (front.moment.now ++ 44 ∷ (v ++ 44 ∷ front.rest.now)))) number.1;
       front = c.requires.line.0;
       ends = c.requires.line.1;
       short = c.requires.short;

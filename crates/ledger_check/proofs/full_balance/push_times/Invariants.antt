@@ -2,6 +2,6 @@ use Rattle.std.proofs.Common.{◌≡◌, ◌++◌}
 use Rattle.std.proofs.Math.ListN.{replicate}
 use Rattle.ledger_check.proofs.full_balance.push_times.Given as goal
 
--- so many were appended
+-- as many as there were rounds were appended
 abbrev pub invariant-loop-copy : goal.invariant-loop-copy
 invariant-loop-copy l = l.taps.items ≡ l.fn.taps.items ++ replicate l._copy l.tap

@@ -6,7 +6,8 @@ use Rattle.ledger_check.proofs.places.name_in.Goals as goal
 
 pub returns-clause-taps : goal.returns-clause-taps
 returns-clause-taps c =
-    map-set_same (λ (p : PlacedTap). p.tap) c.args.placed.now.items c.in-Some.at _ c.index.result.now
+    map-set_same (λ (p : PlacedTap). p.tap) c.args.placed.now.items c.in-Some.at _
+    c.index.result.now
     (ap (λ (p : PlacedTap). p.tap) c.index.ensures)
 
 pub returns-clause-named : goal.returns-clause-named

@@ -3,22 +3,22 @@ use Rattle.shard_book.specs.Entry.{own, tap_of}
 use Rattle.shard_book.specs.declared.entry.Entry.{Entry}
 use Rattle.account_rule.specs.declared.reply.Answer.TheVariants.{Unknown}
 use Rattle.fare_texts.specs.LedgerLines.{IsLedgerLine}
-use Rattle.ledger_check.proofs.TellerLemmas.{goes_on}
+use Rattle.ledger_check.proofs.ExplainerLemmas.{goes_on}
 use Rattle.ledger_check.proofs.wanted.write_wanted.Goals as goal
 
-pub explain_next-requires-clause-told : goal.explain_next-requires-clause-told
-explain_next-requires-clause-told c =
-    (own c.args.teller.now.token c.requires.stands.0, c.requires.stands.1.told)
+pub explain_next-requires-clause-explained : goal.explain_next-requires-clause-explained
+explain_next-requires-clause-explained c =
+    (own c.args.explainer.now.token c.requires.stands.0, c.requires.stands.1.explained)
 
 pub returns : goal.returns
 unfolding tap_of
 returns c = λ entries stands.
     let fares = c.args.table.now in
-    let teller = c.args.teller.now in
+    let explainer = c.args.explainer.now in
     let after = c.explain_next.new.self in
     let replied = c.reply-reply.result in
     let tap : Entry = record {
-      token = teller.token;
+      token = explainer.token;
       validator = c.args.validator;
       moment = c.args.moment;
       answer =
@@ -26,7 +26,7 @@ returns c = λ entries stands.
       cents = 0;
     } in
     let entry : Entry = record {
-      token = teller.token;
+      token = explainer.token;
       validator = c.args.validator;
       moment = c.args.moment;
       answer =
@@ -34,17 +34,17 @@ returns c = λ entries stands.
       cents = replied.cents;
     } in
     let next = c.in_ok-reason.ensures in
-    let done = own teller.token entries in
+    let done = own explainer.token entries in
     let line = c.in_ok-write_line.ensures in
     let written = line.2 ∙ ap (λ (t : List ℕ). t ++ line.0) c.clear.ensures.bytes in
-    goes_on fares teller after entries tap entry c.in_ok-reason.reason
+    goes_on fares explainer after entries tap entry c.in_ok-reason.reason
     (string_bytes c.write_line.new.text)
     (record {
       token = refl;
       is_tap = refl;
-      is_why = next.reason done stands.told;
+      is_why = next.reason done stands.explained;
       is_reply = c.reply-reply.ensures;
-      told = next.told done stands.told;
+      explained = next.explained done stands.explained;
       same_token = next.token;
       counted = next.number;
       shown = subst

@@ -48,6 +48,6 @@ returns c = λ answer cents behind small is.
     let three = c.in_ok-name.ensures.found _ _ (answer_lacks answer) two in
     let four = c.in_ok-digits.ensures.found _ _ (decimal_lacks cents (omega (arith, small)))
     three.1 in
-    let told = c.in_ok-answer.ensures answer three.0 in
+    let reported = c.in_ok-answer.ensures answer three.0 in
     let got = c.in_ok-cents.ensures.found cents small four.0 in
     ((cc), (cc))

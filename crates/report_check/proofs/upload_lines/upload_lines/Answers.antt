@@ -5,7 +5,7 @@ use Rattle.std.proofs.lemmas.List.Elements.{All-nil, All-push}
 use Rattle.std.proofs.lemmas.List.Sums.{sum_by_push}
 use Rattle.fare_texts.specs.ReportLines.{number_line}
 use Rattle.report_texts.specs.Report.{upload_lines}
-use Rattle.report_texts.specs.UploadEnds.{taps_told}
+use Rattle.report_texts.specs.UploadEnds.{taps_of_end}
 use Rattle.report_texts.specs.declared.upload_end.UploadEnd.{UploadEnd}
 use Rattle.report_check.specs.Reports.{IsReportEnd}
 use Rattle.report_check.proofs.UploadLines.{all_lines, head_then, line_then, small_taps, wrong_end}
@@ -23,7 +23,7 @@ loop-upload-init c =
           ++ (upload_lines 0 es ++ c.first_line.result.1.now)) none first;
       each = subst (λ (es : List UploadEnd). All IsReportEnd es) none (All-nil IsReportEnd);
       counted = ap (λ (es : List UploadEnd). length es) c.new-ends.ensures.items;
-      taps = ap (λ (es : List UploadEnd). sum_by taps_told es) none;
+      taps = ap (λ (es : List UploadEnd). sum_by taps_of_end es) none;
       few = omega arith;
     }
 
@@ -42,28 +42,28 @@ loop-upload-preserved c =
     let ends = c.loop-upload.ends.items in
     let end = c.in-Some-2.end in
     let more = c.first_line-in-loop-upload.result.1.now in
-    let told = rw c.in-Some-2.is at c.in_ok-end.ensures in
+    let reported = rw c.in-Some-2.is at c.in_ok-end.ensures in
     let items = c.in_ok-push.ensures.items in
     let at = ap (λ (n : ℕ). Rattle.report_texts.specs.Report.upload_line n end) (sym inv.counted) in
     let next = line_then text c.loop-upload.rest.now c.first_line-in-loop-upload.result.0.now more
     c.in-Some.uploads ends end inv.begun c.first_line-in-loop-upload.ensures.line
-    c.first_line-in-loop-upload.ensures.behind (told.1 ∙ at) in
-    let small = small_taps end told.0 in
+    c.first_line-in-loop-upload.ensures.behind (reported.1 ∙ at) in
+    let small = small_taps end reported.0 in
     let size = ap (λ (es : List UploadEnd). length es) items in
     record {
       begun = subst
           (λ (es : List UploadEnd). text ≡ number_line (codes "uploads ") c.in-Some.uploads
           ++ (upload_lines 0 es ++ more)) (sym items) next;
       each = subst (λ (es : List UploadEnd). All IsReportEnd es) (sym items)
-          (All-push IsReportEnd ends end inv.each told.0);
+          (All-push IsReportEnd ends end inv.each reported.0);
       counted = omega (arith, size, length-append ends (end ∷ []), inv.counted);
       taps = omega (
         arith,
         inv.taps,
         c.from-taps.ensures,
         c.taps.ensures,
-        sum_by_push taps_told ends end,
-        ap (λ (es : List UploadEnd). sum_by taps_told es) items,
+        sum_by_push taps_of_end ends end,
+        ap (λ (es : List UploadEnd). sum_by taps_of_end es) items,
       );
       few = omega (arith, inv.few, small, c.from-taps.ensures, c.taps.ensures);
     }

@@ -2,7 +2,7 @@ use Rattle.std.proofs.Common.{◌≡◌, ◌++◌, ◌*◌, ◌^◌, ◌≤◌, 
 use Rattle.std.specs.Prelude.{sum_by}
 use Rattle.fare_texts.specs.ReportLines.{number_line}
 use Rattle.report_texts.specs.Report.{upload_lines}
-use Rattle.report_texts.specs.UploadEnds.{taps_told}
+use Rattle.report_texts.specs.UploadEnds.{taps_of_end}
 use Rattle.report_check.specs.Reports.{IsReportEnd}
 use Rattle.report_check.proofs.upload_lines.upload_lines.Given as goal
 
@@ -13,6 +13,6 @@ invariant-loop-upload l = record {
       l.uploads ++ (upload_lines 0 l.ends.items ++ l.rest);
   each : All IsReportEnd l.ends.items;
   counted : length l.ends.items ≡ l.upload;
-  taps : l.taps ≡ sum_by taps_told l.ends.items;
+  taps : l.taps ≡ sum_by taps_of_end l.ends.items;
   few : l.taps ≤ l.upload * 2 ^ 64;
 }

@@ -7,18 +7,19 @@ use Rattle.report_check.proofs.verdict.check_report.Goals as goal
 
 pub returns-then-taps-sums : goal.returns-then-taps-sums
 returns-then-taps-sums c = λ entries are.
-    let told = rw c.in-Told.is at c.in_ok-number.ensures in
-    other_taps entries c.args.text.now c.args.sums.now c.in-Told.ends.items _ c.in-Told.taps are
-    told.0
-    (omega (arith, c.len.ensures)) told.1 c.if-taps-sums.true
+    let reported = rw c.in-Reported.is at c.in_ok-number.ensures in
+    other_taps entries c.args.text.now c.args.sums.now c.in-Reported.ends.items _ c.in-Reported.taps
+    are
+    reported.0
+    (omega (arith, c.len.ensures)) reported.1 c.if-taps-sums.true
 
-pub returns-in_ok-wanted-in-Told : goal.returns-in_ok-wanted-in-Told
-returns-in_ok-wanted-in-Told c =
-    let told = rw c.in-Told.is at c.in_ok-number.ensures in
+pub returns-in_ok-wanted-in-Reported : goal.returns-in_ok-wanted-in-Reported
+returns-in_ok-wanted-in-Reported c =
+    let reported = rw c.in-Reported.is at c.in_ok-number.ensures in
     IfOk-weaker c.first_difference.result _ _ (λ verdict found entries are.
-    by_difference entries c.args.text.now c.deref-in-Told.result.now c.args.sums.now
-    c.in-Told.ends.items
-    c.in-Told.taps verdict are told.0 told.1 c.if-taps-sums.false
-    (c.deref-in-Told.ensures.value ∙ c.in_ok-wanted-in-Told.ensures.report entries are
+    by_difference entries c.args.text.now c.deref-in-Reported.result.now c.args.sums.now
+    c.in-Reported.ends.items
+    c.in-Reported.taps verdict are reported.0 reported.1 c.if-taps-sums.false
+    (c.deref-in-Reported.ensures.value ∙ c.in_ok-wanted-in-Reported.ensures.report entries are
     ∙ ap (λ (es : List UploadEnd). report_of es entries) c.deref.ensures.value) found)
     c.first_difference.ensures

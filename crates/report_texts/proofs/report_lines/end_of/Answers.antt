@@ -49,11 +49,11 @@ returns-in-None c =
       shown = is ∙ line_words c.args.upload end;
     }) in
     no_end c.in_ok-number.rest.now end fits c.in-None.ensures refused rest)
-    (λ end told. (
-      told.0,
+    (λ end reported. (
+      reported.0,
       c.in_ok-number.ensures.shown
           ∙ ap (λ n. codes "upload " ++ (decimal n ++ c.in_ok-number.rest.now))
           c.if-number-upload.false
-          ∙ ap (λ (x : List ℕ). codes "upload " ++ (decimal c.args.upload ++ x)) told.1
+          ∙ ap (λ (x : List ℕ). codes "upload " ++ (decimal c.args.upload ++ x)) reported.1
           ∙ sym (line_words c.args.upload end),
     )) c.refused_of.ensures

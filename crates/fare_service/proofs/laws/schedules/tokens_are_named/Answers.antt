@@ -32,7 +32,7 @@ named high low fits_high fits_low =
     (sym (ap (from_be_bytes w64) (drop_at (to_be_bytes w64 high) (to_be_bytes w64 low) 8 refl)
     ∙ from_be_bytes-to_be_bytes_8 low fits_low))
 
--- where the tokens fit, their bytes name them
+-- if the tokens fit, their bytes name them
 all_named : (entries : List Entry) → TokensFit entries → All IsNamed entries
 all_named entries fit =
     All-weaker (λ (e : Entry). Fits e.token) (λ (e : Entry). IsNamed e)

@@ -5,7 +5,7 @@ use Rattle.shard_book.specs.SumsByKey.{all_entries}
 use Rattle.report_texts.specs.declared.upload_end.UploadEnd.TheVariants.{Undrawn}
 use Rattle.fare_service.specs.declared.faults.GatherFault.{GatherFault}
 use Rattle.fare_service.specs.Claims.{HaveAllClaims}
-use Rattle.fare_service.specs.Closing.{TellsFirst}
+use Rattle.fare_service.specs.Closing.{ReportsFirst}
 use Rattle.fare_service.specs.Faults.{IsForMemory}
 use Rattle.fare_service.specs.inside.Joining.{with_all_done}
 use Rattle.fare_service.specs.ServiceView.{ServiceView, shards_of}
@@ -16,7 +16,7 @@ use Rattle.fare_service.proofs.AddingLemmas.{shares_add_up, few_taps}
 use Rattle.fare_service.proofs.EndingLemmas.{full_made}
 use Rattle.fare_service.proofs.GatheredShares.{has_gathered}
 use Rattle.fare_service.proofs.GatheredWork.{given_of}
-use Rattle.fare_service.proofs.GatherLemmas.{told_undrawn, undrawn_last, is_outcome}
+use Rattle.fare_service.proofs.GatherLemmas.{reported_undrawn, undrawn_last, is_outcome}
 use Rattle.fare_service.proofs.GatherLemmas.{done_within}
 use Rattle.fare_service.proofs.HeadlineLemmas.{headline_of}
 use Rattle.fare_service.proofs.service.Service.gather.Goals as goal
@@ -54,7 +54,7 @@ added-totals-requires g c =
     let all : All (IsShareOf service) c.args.shares.items =
     subst S (sym c.self.view_is) c.requires in
     let number : c.len-2.result ≡ length service.uploads = c.len-2.ensures in
-    let told : c.in_ok-ends.ends.items
+    let reported : c.in_ok-ends.ends.items
     ≡ with_all_done (replicate (length service.uploads) Undrawn) c.args.shares.items =
     c.in_ok-ends.ensures.ends
     ∙ ap (with_all_done (replicate c.len-2.result Undrawn)) c.as_slice.ensures.value
@@ -66,7 +66,7 @@ added-totals-requires g c =
     let same : sums (all_entries c.close_with.new.closed.items)
     ≡ add_all (map sums_of c.in_ok-workers.workers.items) =
     shares_add_up service c.self.invariant c.args.shares.items all c.close_with.new.closed.items
-    c.in_ok-close_with.ensures.ok c.in_ok-ends.ends.items told
+    c.in_ok-close_with.ensures.ok c.in_ok-ends.ends.items reported
     (c.in_ok-ends.ensures.number ∙ number) (map sums_of c.in_ok-workers.workers.items)
     workers in
     let few : length (all_entries c.close_with.new.closed.items) ≤ 2 ^ 70 =
@@ -95,7 +95,7 @@ invariant_of-result g c =
     let all : All (IsShareOf service) c.args.shares.items =
     subst S (sym c.self.view_is) c.requires in
     let number : c.len-2.result ≡ length service.uploads = c.len-2.ensures in
-    let told : c.in_ok-ends.ends.items
+    let reported : c.in_ok-ends.ends.items
     ≡ with_all_done (replicate (length service.uploads) Undrawn) c.args.shares.items =
     c.in_ok-ends.ensures.ends
     ∙ ap (with_all_done (replicate c.len-2.result Undrawn)) c.as_slice.ensures.value
@@ -107,7 +107,7 @@ invariant_of-result g c =
     let same : sums (all_entries c.close_with.new.closed.items)
     ≡ add_all (map sums_of c.in_ok-workers.workers.items) =
     shares_add_up service c.self.invariant c.args.shares.items all c.close_with.new.closed.items
-    c.in_ok-close_with.ensures.ok c.in_ok-ends.ends.items told
+    c.in_ok-close_with.ensures.ok c.in_ok-ends.ends.items reported
     (c.in_ok-ends.ensures.number ∙ number) (map sums_of c.in_ok-workers.workers.items)
     workers in
     is_outcome service c.self.invariant c.args.shares.items c.close_with.new.closed.items
@@ -131,7 +131,7 @@ returns-clause-headline g c =
     let all : All (IsShareOf service) c.args.shares.items =
     subst S (sym c.self.view_is) c.requires in
     let number : c.len-2.result ≡ length service.uploads = c.len-2.ensures in
-    let told : c.in_ok-ends.ends.items
+    let reported : c.in_ok-ends.ends.items
     ≡ with_all_done (replicate (length service.uploads) Undrawn) c.args.shares.items =
     c.in_ok-ends.ensures.ends
     ∙ ap (with_all_done (replicate c.len-2.result Undrawn)) c.as_slice.ensures.value
@@ -144,7 +144,7 @@ returns-clause-headline g c =
     let work = c.in_ok-close_with.ensures.ok in
     let same : sums (all_entries closed) ≡ add_all (map sums_of c.in_ok-workers.workers.items) =
     shares_add_up service c.self.invariant c.args.shares.items all closed work
-    c.in_ok-ends.ends.items told
+    c.in_ok-ends.ends.items reported
     (c.in_ok-ends.ensures.number ∙ number) (map sums_of c.in_ok-workers.workers.items)
     workers in
     let H : ServiceView → Type 0 =
@@ -157,7 +157,7 @@ returns-clause-headline g c =
       totals = sums_of c.added-totals.result;
     }) in
     let o = has_gathered service c.self.invariant c.args.shares.items all closed work
-    c.in_ok-ends.ends.items told
+    c.in_ok-ends.ends.items reported
     (c.in_ok-ends.ensures.number ∙ number) (map sums_of c.in_ok-workers.workers.items) workers
     (sums_of c.added-totals.result) in
     subst H c.self.view_is (record {
@@ -186,13 +186,13 @@ returns-clause-undrawn g c =
     let all : All (IsShareOf service) c.args.shares.items =
     subst S (sym c.self.view_is) c.requires in
     let number : c.len-2.result ≡ length service.uploads = c.len-2.ensures in
-    let told : c.in_ok-ends.ends.items
+    let reported : c.in_ok-ends.ends.items
     ≡ with_all_done (replicate (length service.uploads) Undrawn) c.args.shares.items =
     c.in_ok-ends.ensures.ends
     ∙ ap (with_all_done (replicate c.len-2.result Undrawn)) c.as_slice.ensures.value
     ∙ ap (λ n. with_all_done (replicate n Undrawn) c.args.shares.items) number in
-    told_undrawn service c.args.shares.items all c.close_with.new.closed.items
-    c.in_ok-close_with.ensures.ok c.in_ok-ends.ends.items told
+    reported_undrawn service c.args.shares.items all c.close_with.new.closed.items
+    c.in_ok-close_with.ensures.ok c.in_ok-ends.ends.items reported
     (c.in_ok-ends.ensures.number ∙ number)
 
 pub returns-clause-full : goal.returns-clause-full
@@ -214,11 +214,11 @@ returns-clause-full g c =
 pub returns-in_err-close_with-clause-first : goal.returns-in_err-close_with-clause-first
 returns-in_err-close_with-clause-first g c =
     let fault : GatherFault = c.in_err-close_with.field-0.0 in
-    let F : ℕ → Type 0 = λ n. TellsFirst c.self.inside.books.items n c.args.shares.items fault in
+    let F : ℕ → Type 0 = λ n. ReportsFirst c.self.inside.books.items n c.args.shares.items fault in
     let H : ServiceView → Type 0 =
-    λ h. TellsFirst h.books (length h.uploads) c.args.shares.items fault in
+    λ h. ReportsFirst h.books (length h.uploads) c.args.shares.items fault in
     IfErr_handed_on c.from_residual-in_err-close_with.result fault
-    (TellsFirst c.args.self.books (length c.args.self.uploads) c.args.shares.items)
+    (ReportsFirst c.args.self.books (length c.args.self.uploads) c.args.shares.items)
     c.from_residual-in_err-close_with.ensures.1
     (subst H c.self.view_is (subst F c.self.invariant.numbers c.in_err-close_with.ensures.first))
 

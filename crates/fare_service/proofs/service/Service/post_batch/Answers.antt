@@ -3,8 +3,8 @@ use Rattle.shard_book.specs.Sums.{sums_of}
 use Rattle.fare_service.specs.ServiceView.{shards_of}
 use Rattle.fare_service.specs.Runs.{runs_below}
 use Rattle.fare_service.proofs.VisitLemmas.{made_none}
-use Rattle.fare_service.proofs.BatchLemmas.{Posts, batch_more, batch_cut, cuts_told}
-use Rattle.fare_service.proofs.FullLemmas.{handed_on, tells_ok, the_error}
+use Rattle.fare_service.proofs.BatchLemmas.{Posts, batch_more, batch_cut, cuts_reported}
+use Rattle.fare_service.proofs.FullLemmas.{handed_on, reports_ok, the_error}
 use Rattle.fare_service.proofs.service.Service.post_batch.Goals as goal
 
 pub loop-shard-init : goal.loop-shard-init
@@ -46,7 +46,7 @@ loop-shard-preserved g c =
 pub returns-in_err-post_run-clause-made : goal.returns-in_err-post_run-clause-made
 returns-in_err-post_run-clause-made g c =
     let shards = shards_of c.args.self.now in
-    cuts_told c.from_residual.result shards c.args.posting.now.passes.items
+    cuts_reported c.from_residual.result shards c.args.posting.now.passes.items
     c.post_run.new.posting.passes.items (sums_of c.args.posting.now.totals)
     (sums_of c.post_run.new.posting.totals)
     (runs_below shards shards c.args.batch.now) c.from_residual.ensures.0
@@ -82,4 +82,4 @@ returns-in_err-post_run-clause-full g c =
     c.loop-shard.invariant.full c.post_run.ensures.full
 
 pub returns-clause-full : goal.returns-clause-full
-returns-clause-full g c = tells_ok tt _ _ c.loop-shard.invariant.full
+returns-clause-full g c = reports_ok tt _ _ c.loop-shard.invariant.full

@@ -9,7 +9,7 @@ use Rattle.fare_service.proofs.TapCounts.{batches_taps}
 use Rattle.tap_views.proofs.ReadingLemmas.{read_end, read_on}
 use Rattle.fare_service.proofs.PostedBatches.{done_room, posted_few, batches_more, batches_cut}
 use Rattle.fare_service.proofs.PostedBatches.{cut_upload}
-use Rattle.fare_service.proofs.FullLemmas.{handed_on, tells_ok, the_error}
+use Rattle.fare_service.proofs.FullLemmas.{handed_on, reports_ok, the_error}
 use Rattle.fare_service.proofs.service.Service.post_batches.Goals as goal
 
 pub loop-batch-init : goal.loop-batch-init
@@ -132,4 +132,4 @@ returns-in_err-post_batch-clause-full g c =
     c.loop-batch.invariant.full c.post_batch.ensures.full
 
 pub returns-clause-full : goal.returns-clause-full
-returns-clause-full g c = tells_ok _ _ _ c.loop-batch.invariant.full
+returns-clause-full g c = reports_ok _ _ _ c.loop-batch.invariant.full

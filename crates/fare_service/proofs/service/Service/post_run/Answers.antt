@@ -15,7 +15,7 @@ use Rattle.fare_service.proofs.RunVisits.{same_run, run_empty, run_refused, run_
 use Rattle.fare_service.proofs.RunVisits.{visit_length, book_at}
 use Rattle.fare_service.proofs.VisitLemmas.{taps_after}
 use Rattle.fare_service.proofs.FullLemmas.{full_here, full_stays, is_full, own_grows, the_error}
-use Rattle.fare_service.proofs.FullLemmas.{tells_ok, tells_refused, visits_full}
+use Rattle.fare_service.proofs.FullLemmas.{reports_ok, reports_refused, visits_full}
 use Rattle.fare_service.proofs.service.Service.post_run.Goals as goal
 
 pub returns-then-len-eq0-clause-made : goal.returns-then-len-eq0-clause-made
@@ -228,11 +228,11 @@ returns-in-Cut-clause-few g c =
     )
 
 pub returns-then-len-eq0-clause-full : goal.returns-then-len-eq0-clause-full
-returns-then-len-eq0-clause-full g c = tells_ok tt _ _ (λ h. h)
+returns-then-len-eq0-clause-full g c = reports_ok tt _ _ (λ h. h)
 
 pub returns-in_err-reserve-clause-full : goal.returns-in_err-reserve-clause-full
 returns-in_err-reserve-clause-full g c =
-    tells_refused c.from_residual.result _ _
+    reports_refused c.from_residual.result _ _
     (the_error c.from_residual.result Memory c.from_residual.ensures.1) (λ h. h)
 
 pub returns-in_err-visit-clause-full : goal.returns-in_err-visit-clause-full
@@ -256,7 +256,7 @@ returns-in-Whole-clause-full g c =
       ap length c.requires.passes,
       length-map c.args.posting.now.passes.items (λ (p : PassView). p.book),
     ) in
-    tells_ok tt _ _
+    reports_ok tt _ _
     (full_stays c.args.posting.now.passes.items c.args.shard c.index_mut.result.now c.visit.new.pass
     within c.index_mut.ensures.value
     (visits_full c.index_mut.result.now c.visit.new.pass _ _ c.in_ok-visit.ensures.visit.stands))
@@ -270,7 +270,7 @@ returns-in-Cut-clause-full g c =
       ap length c.requires.passes,
       length-map c.args.posting.now.passes.items (λ (p : PassView). p.book),
     ) in
-    tells_refused _ _ _ refl
+    reports_refused _ _ _ refl
     (full_stays c.args.posting.now.passes.items c.args.shard c.index_mut.result.now c.visit.new.pass
     within c.index_mut.ensures.value
     (visits_full c.index_mut.result.now c.visit.new.pass _ _ c.in_ok-visit.ensures.visit.stands))

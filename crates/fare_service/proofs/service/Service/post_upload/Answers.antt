@@ -17,7 +17,8 @@ returns-in-Ok-clause-worked g c =
     (upload_whole c.args.self.now c.args.upload _ c.in-Ok.found c.args.file.now
     c.args.posting.now.passes.items c.post_batches-posted.new.posting.passes.items
     (sums_of c.args.posting.now.totals) (sums_of c.post_batches-posted.new.posting.totals)
-    c.post_batches-posted.result c.requires.upload c.requires.lent c.post_batches-posted.ensures.made
+    c.post_batches-posted.result c.requires.upload c.requires.lent
+    c.post_batches-posted.ensures.made
     c.in-Ok.is refl)
 
 pub returns-in-Err-clause-worked : goal.returns-in-Err-clause-worked
@@ -25,7 +26,8 @@ returns-in-Err-clause-worked g c =
     upload_cut c.args.self.now c.args.upload _ c.in-Err.stop c.args.file.now
     c.args.posting.now.passes.items c.post_batches-posted.new.posting.passes.items
     (sums_of c.args.posting.now.totals) (sums_of c.post_batches-posted.new.posting.totals)
-    c.post_batches-posted.result c.requires.upload c.requires.lent c.post_batches-posted.ensures.made
+    c.post_batches-posted.result c.requires.upload c.requires.lent
+    c.post_batches-posted.ensures.made
     c.in-Err.is refl
 
 whole_by : (taps : ℕ) (found : Option (ℕ × LayoutFault)) → WasNotCut (end_by taps found)

@@ -5,7 +5,7 @@ use Rattle.fare_service.specs.declared.faults.RunFault.{RunFault}
 use Rattle.fare_service.specs.Faults.{MissesNothing}
 use Rattle.fare_service.specs.Refusals.{WasNotGathered}
 use Rattle.fare_service.specs.inside.Stopping.{WorkedOn}
-use Rattle.fare_service.proofs.AnswerLemmas.{answered, fault_told}
+use Rattle.fare_service.proofs.AnswerLemmas.{answered, fault_reported}
 use Rattle.fare_service.proofs.ClaimLemmas.{claims_kept}
 use Rattle.fare_service.proofs.EndingLemmas.{have_stopped}
 use Rattle.fare_service.proofs.GatheredShares.{has_run}
@@ -51,7 +51,7 @@ returns-in_err-shares-2-clause-gathered g c =
     let fault : RunFault = c.in_err-shares-2.field-0.0 in
     IfErr_handed_on c.from_residual-in_err-shares-2.result fault
     (WasNotGathered c.args.self c.args.workers) c.from_residual-in_err-shares-2.ensures.1
-    (fault_told c.args.self c.args.workers c.in_ok-shares.shares.items
+    (fault_reported c.args.self c.args.workers c.in_ok-shares.shares.items
     c.in_ok-answers.answers.items fault c.in_ok-answers.ensures c.in_err-shares-2.ensures.fault)
 
 pub returns-in_err-outcome-clause-gathered : goal.returns-in_err-outcome-clause-gathered

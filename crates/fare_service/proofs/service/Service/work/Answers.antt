@@ -100,7 +100,8 @@ returns-then-not-goes_on-clause-share g c =
     ∙ ap (λ (u : ℕ). c.loop.drawer.drawn ++ u ∷ []) (sym done.upload) in
     next_share c.args.self.now c.loop.drawer c.next_number.new.drawer c.loop.posting.passes.items
     c.post_drawn-goes_on.new.posting.passes.items
-    (sums_of c.loop.posting.totals) (sums_of c.post_drawn-goes_on.new.posting.totals) c.loop.done.items
+    (sums_of c.loop.posting.totals) (sums_of c.post_drawn-goes_on.new.posting.totals)
+    c.loop.done.items
     c.push_reserved.new.self.items next.upload next.end
     (holding c.loop.drawer c.loop.posting.passes.items (sums_of c.loop.posting.totals)
     c.loop.done.items) refl c.loop.invariant.share
@@ -117,7 +118,8 @@ returns-then-not-goes_on-clause-went_on g c =
     stopped_went_on c.args.self.now c.args.share _
     (cut_next c.args.self.now c.args.share c.loop.drawer c.next_number.new.drawer
     c.loop.posting.passes.items c.post_drawn-goes_on.new.posting.passes.items
-    (sums_of c.loop.posting.totals) (sums_of c.post_drawn-goes_on.new.posting.totals) c.loop.done.items
+    (sums_of c.loop.posting.totals) (sums_of c.post_drawn-goes_on.new.posting.totals)
+    c.loop.done.items
     c.push_reserved.new.self.items next
     c.loop.invariant.going (ap (λ d. d.claims) e.2) drawn
     c.push_reserved.ensures.items done.worked done.full
@@ -133,7 +135,8 @@ returns-then-not-goes_on-clause-stopped g c =
     inr
     (cut_next c.args.self.now c.args.share c.loop.drawer c.next_number.new.drawer
     c.loop.posting.passes.items c.post_drawn-goes_on.new.posting.passes.items
-    (sums_of c.loop.posting.totals) (sums_of c.post_drawn-goes_on.new.posting.totals) c.loop.done.items
+    (sums_of c.loop.posting.totals) (sums_of c.post_drawn-goes_on.new.posting.totals)
+    c.loop.done.items
     c.push_reserved.new.self.items next
     c.loop.invariant.going (ap (λ d. d.claims) e.2) drawn
     c.push_reserved.ensures.items done.worked done.full

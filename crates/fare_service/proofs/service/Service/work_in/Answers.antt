@@ -22,7 +22,8 @@ began_with h = h.promise.began.value
 pub loop-share-preserved : goal.loop-share-preserved
 loop-share-preserved g c =
     let steps = c.in-Some.ensures.steps in
-    let H : PromisedHandle Answer (OfShare _) → Type 0 = λ h. h.promise.service.now ≡ c.args.self.now in
+    let H : PromisedHandle Answer (OfShare _) → Type 0 =
+    λ h. h.promise.service.now ≡ c.args.self.now in
     let P : List (PromisedHandle Answer (OfShare _)) → Type 0 = All H in
     let items = c.in_ok-push.ensures.items in
     let mine : H c.in-Ok.thread = ap (λ (p : OfShare _). p.service.now) c.in-Ok.ensures.ok in

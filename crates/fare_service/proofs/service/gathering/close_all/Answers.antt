@@ -34,7 +34,7 @@ returns-in-Err-clause-missing c =
     let m = c.in-Err.ensures.missing in
     let missing = rw m.is at c.close.ensures.err in
     let F : GatherFault → Type 0 = IsMissing (length c.args.books.items) c.args.passes.items in
-    subst F (sym m.told) (
+    subst F (sym m.reported) (
       omega (
         arith,
         c.loop-book.invariant.shard,
@@ -67,7 +67,7 @@ returns-in-Err-clause-first c =
     let missing = rw m.is at c.close.ensures.err in
     let F : List Book → GatherFault → Type 0 = IsFirstMissing c.args.passes.items in
     subst (λ bs. F bs c.in-Err.fault) (sym c.in-Err.ensures.same)
-    (subst (F c.loop-book.closed.items) (sym m.told) (
+    (subst (F c.loop-book.closed.items) (sym m.reported) (
       c.loop-book.invariant.shard ∙ sym c.loop-book.invariant.number,
       c.loop-book.invariant.closed,
       omega (

@@ -4,7 +4,7 @@ use Rattle.std.specs.Prelude.{Result, IfErr}
 use Rattle.std.specs.Vec.{vec_len}
 use Rattle.shared_books.specs.Passes.{SharedBookView}
 use Rattle.fare_service.specs.declared.faults.GatherFault.{GatherFault}
-use Rattle.fare_service.specs.Closing.{TellsFirst}
+use Rattle.fare_service.specs.Closing.{ReportsFirst}
 use Rattle.fare_service.specs.inside.Closing.{IsClosedWork}
 use Rattle.fare_service.specs.inside.Joining.{IsJoinedOf}
 use Rattle.fare_service.proofs.CloseLemmas.{split_first, closed_none, closed_all, held_drawn}
@@ -86,7 +86,7 @@ returns-then-is_empty-clause-first c =
     (sym c.args.shares.ok.0
     ∙ none_there c.is_empty.result (vec_len c.args.shares) c.is_empty.ensures c.if-is_empty.true) in
     let R : Result (Unit {0}) GatherFault → Type 0 =
-    λ r. IfErr r (TellsFirst c.args.books.items c.args.draw.numbers c.args.shares.items) in
+    λ r. IfErr r (ReportsFirst c.args.books.items c.args.draw.numbers c.args.shares.items) in
     elim c.match-finish_unseen.branch [
       | in-Ok w ↦ subst R (sym w.result-is) tt
       | in-Err-finish_unseen w ↦ subst R (sym w.result-is)

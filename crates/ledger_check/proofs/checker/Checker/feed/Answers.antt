@@ -2,10 +2,10 @@
 use Rattle.std.proofs.Common.{◌≡◌, ◌++◌, [], ℕ, List, sym, ap, subst, ◌∙◌, append_assoc, append-nil}
 use Rattle.std.proofs.Common.{arith, rules, tests}
 use Rattle.std.proofs.lemmas.Bool.Decides.{nat_tests}
-use Rattle.ledger_check.specs.Struck.{HasStruck, IfUntold}
+use Rattle.ledger_check.specs.Struck.{HasStruck, IfUndecided}
 use Rattle.ledger_check.specs.Verdicts.{HasFed, IsFed}
-use Rattle.ledger_check.proofs.CheckerLemmas.{empty_list, fed_none, fed_on, told_early}
-use Rattle.ledger_check.proofs.StruckLemmas.{none_told, some_told}
+use Rattle.ledger_check.proofs.CheckerLemmas.{empty_list, fed_none, fed_on, remark_early}
+use Rattle.ledger_check.proofs.StruckLemmas.{none_reported, some_reported}
 use Rattle.ledger_check.proofs.checker.Checker.feed.Goals as goal
 
 pub keep-requires-clause-fed : goal.keep-requires-clause-fed
@@ -25,21 +25,22 @@ pub returns-in_default-clause-fed : goal.returns-in_default-clause-fed
 returns-in_default-clause-fed c = λ text fed.
     let fares = c.args.table.now in
     let before = c.loop-rest.invariant in
-    let got = c.in_ok-told.ensures.fed fares (text ++ before.consumed) (before.fed text fed) in
-    subst (λ (p : List ℕ). IsFed fares c.keep.new.self (text ++ p) c.in_ok-told.told)
+    let got = c.in_ok-reported.ensures.fed fares (text ++ before.consumed) (before.fed text fed) in
+    subst (λ (p : List ℕ). IsFed fares c.keep.new.self (text ++ p) c.in_ok-reported.reported)
     (sym before.whole)
-    (fed_on fares c.keep.new.self text before.consumed c.loop-rest.rest.now c.in_ok-told.told got)
+    (fed_on fares c.keep.new.self text before.consumed c.loop-rest.rest.now
+    c.in_ok-reported.reported got)
 
 pub returns-then-is_some-clause-fed : goal.returns-then-is_some-clause-fed
 returns-then-is_some-clause-fed c = λ text fed.
     let fares = c.args.table.now in
     let before = c.loop-rest.invariant in
     let whole = before.whole ∙ ap (λ (r : List ℕ). before.consumed ++ r) c.in-Some.ensures.some.1 in
-    let got = c.in_ok-told-2.ensures.fed (text ++ before.consumed) (before.fed text fed) in
-    subst (λ (p : List ℕ). IsFed fares c.take_line.new.self (text ++ p) c.in_ok-told-2.told)
+    let got = c.in_ok-reported-2.ensures.fed (text ++ before.consumed) (before.fed text fed) in
+    subst (λ (p : List ℕ). IsFed fares c.take_line.new.self (text ++ p) c.in_ok-reported-2.reported)
     (sym whole)
-    (told_early fares c.take_line.new.self text before.consumed c.in-Some.line.now
-    c.in-Some.behind.now c.in_ok-told-2.told
+    (remark_early fares c.take_line.new.self text before.consumed c.in-Some.line.now
+    c.in-Some.behind.now c.in_ok-reported-2.reported
     (sym c.is_some.ensures ∙ c.if-is_some.true) got)
 
 pub loop-rest-preserved : goal.loop-rest-preserved
@@ -56,13 +57,13 @@ loop-rest-preserved c =
           subst (λ (t : List ℕ). HasFed fares c.take_line.new.self t)
           (append_assoc text before.consumed line)
           (fed_none fares c.take_line.new.self ((text ++ before.consumed) ++ line)
-          c.in_ok-told-2.told (sym c.is_some.ensures ∙ c.if-is_some.false)
-          (c.in_ok-told-2.ensures.fed (text ++ before.consumed) (before.fed text fed)));
+          c.in_ok-reported-2.reported (sym c.is_some.ensures ∙ c.if-is_some.false)
+          (c.in_ok-reported-2.ensures.fed (text ++ before.consumed) (before.fed text fed)));
       struck = λ text good struck.
           subst (λ (t : List ℕ). HasStruck fares c.take_line.new.self c.take_line.new.balance t
           good) (append_assoc text before.consumed line)
-          (none_told c.in_ok-told-2.told _ (sym c.is_some.ensures ∙ c.if-is_some.false)
-          (c.in_ok-told-2.ensures.struck (text ++ before.consumed) good
+          (none_reported c.in_ok-reported-2.reported _ (sym c.is_some.ensures ∙ c.if-is_some.false)
+          (c.in_ok-reported-2.ensures.struck (text ++ before.consumed) good
           (before.struck text good struck)));
     }
 
@@ -73,16 +74,17 @@ returns-in_default-clause-struck c = λ text good struck.
     let joined : (text ++ before.consumed) ++ c.loop-rest.rest.now ≡ text ++ c.args.piece.now =
     append_assoc text before.consumed c.loop-rest.rest.now
     ∙ ap (λ (p : List ℕ). text ++ p) (sym before.whole) in
-    subst (λ (t : List ℕ). IfUntold c.in_ok-told.told
+    subst (λ (t : List ℕ). IfUndecided c.in_ok-reported.reported
     (HasStruck fares c.keep.new.self c.loop-rest.balance t good)) joined
-    (c.in_ok-told.ensures.struck fares (text ++ before.consumed) c.loop-rest.balance good
+    (c.in_ok-reported.ensures.struck fares (text ++ before.consumed) c.loop-rest.balance good
     (before.struck text good struck))
 
 pub returns-then-is_some-clause-struck : goal.returns-then-is_some-clause-struck
 returns-then-is_some-clause-struck c = λ text good struck.
     let before = c.loop-rest.invariant in
-    some_told c.in_ok-told-2.told _ _ (sym c.is_some.ensures ∙ c.if-is_some.true)
-    (c.in_ok-told-2.ensures.struck (text ++ before.consumed) good (before.struck text good struck))
+    some_reported c.in_ok-reported-2.reported _ _ (sym c.is_some.ensures ∙ c.if-is_some.true)
+    (c.in_ok-reported-2.ensures.struck (text ++ before.consumed) good
+    (before.struck text good struck))
 
 pub returns-clause-struck : goal.returns-clause-struck
 returns-clause-struck c = λ text good struck.

@@ -22,5 +22,5 @@ returns-clause-struck c = λ fares balance good is.
         lacks = subst (Lacks 10) (sym empty) tt;
         short = subst (λ (p : List ℕ). length p ≤ 255) (sym empty) (omega arith);
       };
-      struck = record { taps = []; told = refl; is = is };
+      struck = record { taps = []; reported = refl; is = is };
     }

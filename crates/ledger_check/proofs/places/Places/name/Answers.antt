@@ -19,5 +19,6 @@ returns-clause-named c = λ right upload' place'.
     let within : at < length all = search rules in
     read_written (λ o. named_of (option_and_then (λ placed. at_place placed.items place') o)) all at
     upload' c.name_in.new.placed c.index_mut.result.now (nat_eq place' c.args.place) within
-    (slice_get_read all (length all) at c.index_mut.result.now refl within c.index_mut.ensures.value)
+    (slice_get_read all (length all) at c.index_mut.result.now refl within
+    c.index_mut.ensures.value)
     (c.name_in.ensures.named right place')

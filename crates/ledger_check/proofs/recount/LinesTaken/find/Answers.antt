@@ -18,10 +18,10 @@ judge-requires-clause-line c = kept_line c.args.line.now (omega arith) c.require
 pub judge-requires-clause-run : goal.judge-requires-clause-run
 judge-requires-clause-run c =
     let lines = c.requires.taken.1 in
-    (lines.run, lines.teller, omega (arith, lines.few, lines.sums.few))
+    (lines.run, lines.explainer, omega (arith, lines.few, lines.sums.few))
 
 pub returns-clause-found : goal.returns-clause-found
 returns-clause-found c = λ taken whole lines line same.
     found_judged c.args.table.now c.args.self.now c.judge.new.self taken c.args.line.now whole
     c.in_ok-finding.finding lines (omega arith) same (omega arith)
-    (c.in_ok-finding.ensures lines.run lines.teller)
+    (c.in_ok-finding.ensures lines.run lines.explainer)

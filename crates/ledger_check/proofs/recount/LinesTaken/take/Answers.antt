@@ -1,6 +1,6 @@
 use Rattle.std.proofs.Common.{◌≡◌, ◌+◌, arith, ◌++◌, ◌∙◌, ℕ, List, ◌∷◌, length, refl, sym, ap}
 use Rattle.std.proofs.Common.{subst, string_bytes}
-use Rattle.ledger_check.specs.Recounts.{TakenLine, taps_from, told_text}
+use Rattle.ledger_check.specs.Recounts.{TakenLine, taps_from, remark_text}
 use Rattle.ledger_check.specs.RecountStates.{AreSums}
 use Rattle.ledger_check.specs.declared.recount_sums.RecountSums.{RecountSums}
 use Rattle.ledger_check.proofs.RecountLemmas.{lines_more}
@@ -28,9 +28,11 @@ returns c = λ taken whole lines line same.
       next = next;
       is = refl;
       lines = lines_more fares c.args.self.now _ taken whole finding lines found sums;
-      written = c.in_ok-write_told.ensures
-          ∙ ap (λ (w : List ℕ). string_bytes c.args.told.now ++ told_text c.in_ok-sums.sums.lines
-          finding.told w) c.as_str.ensures.value
-          ∙ ap (λ (n : ℕ). string_bytes c.args.told.now ++ told_text n finding.told wanted) number;
+      written = c.in_ok-write_remark.ensures
+          ∙ ap (λ (w : List ℕ). string_bytes c.args.reported.now ++ remark_text
+          c.in_ok-sums.sums.lines
+          finding.remark w) c.as_str.ensures.value
+          ∙ ap (λ (n : ℕ). string_bytes c.args.reported.now ++ remark_text n finding.remark wanted)
+          number;
       struck = λ good. c.in_ok-strike_tap.ensures good (taps_from taken);
     }

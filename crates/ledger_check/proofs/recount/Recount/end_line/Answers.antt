@@ -22,7 +22,7 @@ returns-then-is_empty c = λ text written good is.
     let same : c.args.line.now ≡ is.begun ++ c.args.line.now =
     ap (λ (b : List ℕ). b ++ c.args.line.now) (sym begun) in
     took_line_of c.args.table.now recount _ c.args.strikes c.args.full.now _ text c.args.line.now
-    written good (string_bytes c.args.told.now) _ is c.requires.line empty
+    written good (string_bytes c.args.reported.now) _ is c.requires.line empty
     (c.in_ok-take.ensures is.taken (is.begun ++ c.args.line.now) is.lines
     (line_ends is.begun c.args.line.now is.lacks c.requires.line) (inl same))
 
@@ -41,7 +41,7 @@ take-requires-2-clause-line c =
 pub returns : goal.returns
 returns c = λ text written good is.
     took_line_of c.args.table.now c.args.self.now _ c.args.strikes c.args.full.now _ text
-    c.args.line.now written good (string_bytes c.args.told.now) _ is c.requires.line
+    c.args.line.now written good (string_bytes c.args.reported.now) _ is c.requires.line
     c.clear.ensures.items
     (c.in_ok-take-2.ensures is.taken (is.begun ++ c.args.line.now) is.lines
     (line_ends is.begun c.args.line.now is.lacks c.requires.line)

@@ -6,12 +6,13 @@ use Rattle.ledger_check.proofs.recount.Recount.end_text.Goals as goal
 pub returns-then-is_whole : goal.returns-then-is_whole
 returns-then-is_whole c = λ fares strikes full text written good is.
     let whole = c.is_whole.ensures.0 c.if-is_whole.true in
-    ended_whole fares c.args.self.now strikes full text written good (string_bytes c.args.told.now)
+    ended_whole fares c.args.self.now strikes full text written good
+    (string_bytes c.args.reported.now)
     is whole.0 whole.1
 
 pub returns : goal.returns
 returns c = λ fares strikes full text written good is.
     ended_cut fares c.args.self.now strikes full text written good _ c.in_ok-ended.ended
-    (string_bytes c.args.told.now) (string_bytes c.write_told.new.text) is
+    (string_bytes c.args.reported.now) (string_bytes c.write_remark.new.text) is
     (λ whole. false≢true (sym c.if-is_whole.false ∙ c.is_whole.ensures.1 whole)) refl refl
-    c.in_ok-ended.ensures c.in_ok-write_told.ensures
+    c.in_ok-ended.ensures c.in_ok-write_remark.ensures

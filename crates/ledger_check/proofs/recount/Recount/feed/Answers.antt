@@ -12,7 +12,7 @@ loop-rest-init c = record {
   consumed = [];
   whole = refl;
   fed = λ text written good is. fed_none c.args.table.now c.args.self.now c.args.strikes
-      c.args.full.now text written good (string_bytes c.args.told.now) is;
+      c.args.full.now text written good (string_bytes c.args.reported.now) is;
 }
 
 pub end_line-requires-clause-fed : goal.end_line-requires-clause-fed
@@ -34,8 +34,8 @@ loop-rest-preserved c =
           let now = before.fed text written good is in
           fed_on c.args.table.now c.loop-rest.self c.end_line.new.self c.args.strikes
           c.loop-rest.full c.end_line.new.full text before.consumed line written good
-          (string_bytes c.args.told.now) (string_bytes c.loop-rest.told)
-          (string_bytes c.end_line.new.told) now
+          (string_bytes c.args.reported.now) (string_bytes c.loop-rest.reported)
+          (string_bytes c.end_line.new.reported) now
           (c.in_ok-end_line.ensures (text ++ before.consumed) (written ++ now.0) good now.2);
     }
 
@@ -47,13 +47,14 @@ returns-in_default c = λ text written good is.
     let after = record c.loop-rest.self { begun = c.keep.new.kept } in
     let joined : before.consumed ++ c.loop-rest.rest.now ≡ c.args.piece.now = sym before.whole in
     subst (λ (p : List ℕ). Fed fares after c.args.strikes c.loop-rest.full (text ++ p) written good
-    (string_bytes c.args.told.now) (string_bytes c.loop-rest.told)) joined
+    (string_bytes c.args.reported.now) (string_bytes c.loop-rest.reported)) joined
     (fed_on fares c.loop-rest.self after c.args.strikes c.loop-rest.full c.loop-rest.full text
     before.consumed c.loop-rest.rest.now written good
-    (string_bytes c.args.told.now) (string_bytes c.loop-rest.told) (string_bytes c.loop-rest.told)
+    (string_bytes c.args.reported.now) (string_bytes c.loop-rest.reported)
+    (string_bytes c.loop-rest.reported)
     now (
       [],
-      sym (append-nil (string_bytes c.loop-rest.told)),
+      sym (append-nil (string_bytes c.loop-rest.reported)),
       kept_piece fares c.loop-rest.self after c.args.strikes c.loop-rest.full
           (text ++ before.consumed) c.loop-rest.rest.now (written ++ now.0) good now.2
           c.in_default.ensures.none refl (c.in_ok-keep.ensures now.2.begun now.2.kept),
@@ -70,4 +71,5 @@ returns c = λ text written good is.
     sym (append-nil before.consumed)
     ∙ sym (before.whole ∙ ap (λ (r : List ℕ). before.consumed ++ r) none) in
     subst (λ (p : List ℕ). Fed c.args.table.now c.loop-rest.self c.args.strikes c.loop-rest.full
-    (text ++ p) written good (string_bytes c.args.told.now) (string_bytes c.loop-rest.told)) all now
+    (text ++ p) written good (string_bytes c.args.reported.now) (string_bytes c.loop-rest.reported))
+    all now

@@ -14,6 +14,6 @@ returns c = λ fares strikes full text written good is.
       ended.more ++ end,
       c.in_ok-write_end.ensures ended.taken ended.sums_are
           ∙ ap (λ (t : List ℕ). t ++ end) ended.grown
-          ∙ append_assoc (string_bytes c.args.told.now) ended.more end,
+          ∙ append_assoc (string_bytes c.args.reported.now) ended.more end,
       sym (append_assoc written ended.more end) ∙ ap (λ (t : List ℕ). t ++ end) ended.all,
     )

@@ -12,12 +12,12 @@ returns c = λ fares strikes full good struck. record {
     run = [];
     is_run = refl;
     few = omega arith;
-    teller = c.new.ensures fares;
+    explainer = c.new.ensures fares;
   };
   begun = [];
   kept = inl c.new-3.ensures.items;
   lacks = tt;
   split = λ more. refl;
-  told = refl;
+  reported = refl;
   struck = struck;
 }

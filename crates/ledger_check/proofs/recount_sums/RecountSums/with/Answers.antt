@@ -10,10 +10,10 @@ returns c = λ taken next same sums.
     let finding = c.args.finding in
     let last : c.wrong_token_of-last_wrong.result ≡ last_wrong_token (next ∷ taken) =
     c.wrong_token_of-last_wrong.ensures
-    ∙ ap (λ (l : Option Token). wrong_token_of l finding.told finding.tap) sums.last
-    ∙ ap (λ (f : LineFinding). wrong_token_of (last_wrong_token taken) f.told f.tap) (sym same) in
-    let wrong : one_wrong finding.told ≡ one_wrong next.finding.told =
-    ap (λ (f : LineFinding). one_wrong f.told) (sym same) in
+    ∙ ap (λ (l : Option Token). wrong_token_of l finding.remark finding.tap) sums.last
+    ∙ ap (λ (f : LineFinding). wrong_token_of (last_wrong_token taken) f.remark f.tap) (sym same) in
+    let wrong : one_wrong finding.remark ≡ one_wrong next.finding.remark =
+    ap (λ (f : LineFinding). one_wrong f.remark) (sym same) in
     let cents : asked_cents finding.tap ≡ asked_cents next.finding.tap =
     ap (λ (f : LineFinding). asked_cents f.tap) (sym same) in
     let wanted : ruled_cents finding.tap ≡ ruled_cents next.finding.tap =

@@ -9,5 +9,5 @@ returns c = λ fares. record {
   only = λ others are. none_left fares [] others are;
   counted = refl;
   few = omega arith;
-  teller = refl;
+  explainer = refl;
 }

@@ -1,4 +1,4 @@
--- Each return tells what its tests found.
+-- Each return says what its tests found.
 use Rattle.std.proofs.Common.{◌≡◌, ◌^◌, ◌<◌, ◌≤◌, ℕ, List, length, refl, sym, ap, ◌∙◌, arith}
 use Rattle.std.proofs.Common.{string_bytes}
 use Rattle.std.proofs.lemmas.Bool.{both_ways}
@@ -30,21 +30,22 @@ returns-in_default c = λ lines read.
     (rw c.in_default.is at c.read_tap.ensures.found) c.args.table.now number entry why small
     postable is)
 
-pub returns-in_default-teller_of : goal.returns-in_default-teller_of
-returns-in_default-teller_of c = λ lines read.
+pub returns-in_default-explainer_of : goal.returns-in_default-explainer_of
+returns-in_default-explainer_of c = λ lines read.
     wrong_less c.args.table.now c.args.self.now lines c.args.line.now c.in-Some.tap read
     (λ number entry why small postable is. c.in-Some.ensures.found c.args.table.now number entry why
     small postable is)
-    ((rw c.in_default-teller_of.is at c.teller_of.ensures.less) c.args.table.now)
+    ((rw c.in_default-explainer_of.is at c.explainer_of.ensures.less) c.args.table.now)
 
 pub write_wanted-requires-clause-number : goal.write_wanted-requires-clause-number
 write_wanted-requires-clause-number c =
     let read = c.requires.read.1 in
-    let stands = c.in-Some-teller_of.ensures.stands c.args.table.now read.entries read.teller in
+    let stands = c.in-Some-explainer_of.ensures.stands c.args.table.now read.entries
+    read.explainer in
     omega (
       arith,
-      stands.told.counted,
-      own-few c.in-Some-teller_of.teller.token read.entries,
+      stands.explained.counted,
+      own-few c.in-Some-explainer_of.explainer.token read.entries,
       read.few,
     )
 
@@ -52,32 +53,33 @@ pub returns-then-same_bytes : goal.returns-then-same_bytes
 returns-then-same_bytes c = λ lines read.
     let fares = c.args.table.now in
     let wanted = string_bytes c.write_wanted.new.wanted in
-    let teller = c.in-Some-teller_of.teller in
+    let explainer = c.in-Some-explainer_of.explainer in
     let tap = c.in-Some.tap in
-    let stands = c.in-Some-teller_of.ensures.stands fares read.entries read.teller in
+    let stands = c.in-Some-explainer_of.ensures.stands fares read.entries read.explainer in
     let goes = c.in_ok-write_wanted.ensures read.entries stands in
-    let tells =
+    let reports =
     λ (number : ℕ) (entry : Entry) (why : Reason) (small : number < 2 ^ 64) (postable : IsPostable
     entry) (is : IsLedgerLine fares entry.token number entry why c.args.line.now).
     c.in-Some.ensures.found fares number entry why small postable is in (
-      read_more fares c.args.self.now _ lines c.args.line.now wanted teller
-          c.write_wanted.new.teller tap read goes stands
-          (c.in-Some.ensures.validator, c.in-Some.ensures.moment) c.in-Some-teller_of.ensures.token
-          tells
+      read_more fares c.args.self.now _ lines c.args.line.now wanted explainer
+          c.write_wanted.new.explainer tap read goes stands
+          (c.in-Some.ensures.validator, c.in-Some.ensures.moment)
+          c.in-Some-explainer_of.ensures.token
+          reports
           (sym c.as_bytes.ensures.value ∙ c.same_bytes.ensures.0 c.if-same_bytes.true) (omega arith)
           (omega arith) refl refl,
-      tells,
+      reports,
     )
 
 pub returns-then-has_form : goal.returns-then-has_form
 returns-then-has_form c = λ lines read.
     let fares = c.args.table.now in
     let wanted = string_bytes c.write_wanted.new.wanted in
-    let teller = c.in-Some-teller_of.teller in
+    let explainer = c.in-Some-explainer_of.explainer in
     let tap = c.in-Some.tap in
-    let stands = c.in-Some-teller_of.ensures.stands fares read.entries read.teller in
+    let stands = c.in-Some-explainer_of.ensures.stands fares read.entries read.explainer in
     let goes = c.in_ok-write_wanted.ensures read.entries stands in
-    let tells =
+    let reports =
     λ (number : ℕ) (entry : Entry) (why : Reason) (small : number < 2 ^ 64) (postable : IsPostable
     entry) (is : IsLedgerLine fares entry.token number entry why c.args.line.now).
     c.in-Some.ensures.found fares number entry why small postable is in
@@ -85,9 +87,11 @@ returns-then-has_form c = λ lines read.
     c.if-same_bytes.false (c.same_bytes.ensures.1 (c.as_bytes.ensures.value ∙ e)) in
     let short : length wanted ≤ 255 =
     omega (arith, ap (λ (t : List ℕ). length t) c.as_bytes.ensures.value) in (
-      wrong_other fares c.args.self.now lines c.args.line.now wanted teller
-          c.write_wanted.new.teller tap read goes c.in-Some-teller_of.ensures.token tells other,
-      wanted_next fares c.args.self.now lines wanted teller c.write_wanted.new.teller tap read goes
+      wrong_other fares c.args.self.now lines c.args.line.now wanted explainer
+          c.write_wanted.new.explainer tap read goes c.in-Some-explainer_of.ensures.token reports
+          other,
+      wanted_next fares c.args.self.now lines wanted explainer c.write_wanted.new.explainer tap read
+          goes
           stands
           (c.in-Some.ensures.validator, c.in-Some.ensures.moment) short (omega arith),
     )
@@ -96,15 +100,16 @@ pub returns-else-len-le-MAX_LINE_BYTES : goal.returns-else-len-le-MAX_LINE_BYTES
 returns-else-len-le-MAX_LINE_BYTES c = λ lines read.
     let fares = c.args.table.now in
     let wanted = string_bytes c.write_wanted.new.wanted in
-    let teller = c.in-Some-teller_of.teller in
+    let explainer = c.in-Some-explainer_of.explainer in
     let tap = c.in-Some.tap in
-    let stands = c.in-Some-teller_of.ensures.stands fares read.entries read.teller in
+    let stands = c.in-Some-explainer_of.ensures.stands fares read.entries read.explainer in
     let goes = c.in_ok-write_wanted.ensures read.entries stands in
-    let tells =
+    let reports =
     λ (number : ℕ) (entry : Entry) (why : Reason) (small : number < 2 ^ 64) (postable : IsPostable
     entry) (is : IsLedgerLine fares entry.token number entry why c.args.line.now).
     c.in-Some.ensures.found fares number entry why small postable is in
     let other = λ (e : wanted ≡ c.args.line.now). both_ways c.same_bytes.result
     c.if-same_bytes.false (c.same_bytes.ensures.1 (c.as_bytes.ensures.value ∙ e)) in
-    wrong_other fares c.args.self.now lines c.args.line.now wanted teller c.write_wanted.new.teller
-    tap read goes c.in-Some-teller_of.ensures.token tells other
+    wrong_other fares c.args.self.now lines c.args.line.now wanted explainer
+    c.write_wanted.new.explainer
+    tap read goes c.in-Some-explainer_of.ensures.token reports other

@@ -7,9 +7,10 @@ use Rattle.std.proofs.lemmas.Slice.Eq.{bytes_eq-Decides}
 use Rattle.shard_book.specs.Entry.{own}
 use Rattle.shard_book.specs.declared.entry.Entry.{Entry}
 use Rattle.fare_texts.specs.LedgerLines.{IsLedgerLineAfter}
-use Rattle.fare_texts.specs.Tellers.{next_entry}
-use Rattle.ledger_check.specs.Recounts.{AreCents, IsCentsField, IsLineOfTap, falls_after, told_for}
-use Rattle.ledger_check.specs.RecountStates.{HasRunTeller}
+use Rattle.fare_texts.specs.Explainers.{next_entry}
+use Rattle.ledger_check.specs.Recounts.{AreCents, IsCentsField, IsLineOfTap, falls_after}
+use Rattle.ledger_check.specs.Recounts.{remark_for}
+use Rattle.ledger_check.specs.RecountStates.{HasRunExplainer}
 use Rattle.ledger_check.proofs.walk.Walk.judge.Goals as goal
 
 -- the cents that were read, or 0
@@ -57,12 +58,12 @@ returns c = λ run stands.
             took.shown;
         cents = subst (λ (n : ℕ). AreCents rest n) (sym c.unwrap_or-cents.ensures)
             (cents_or rest c.exact_cents.result c.exact_cents.ensures);
-        is_told = c.told_for.ensures
-            ∙ ap (λ (b : Bool). told_for b c.same_bytes-is_same.result) took.falling
-            ∙ ap (λ (b : Bool). told_for (falls_after run tap.token) b) same
-            ∙ ap (λ (e : Entry). told_for (falls_after run e.token) (bytes_eq line wanted)) is;
+        is_remark = c.remark_for.ensures
+            ∙ ap (λ (b : Bool). remark_for b c.same_bytes-is_same.result) took.falling
+            ∙ ap (λ (b : Bool). remark_for (falls_after run tap.token) b) same
+            ∙ ap (λ (e : Entry). remark_for (falls_after run e.token) (bytes_eq line wanted)) is;
       };
-      teller = subst
-          (λ (e : Entry). HasRunTeller fares c.take_tap.new.self.teller
-          (own e.token run ++ entry ∷ [])) is took.teller;
+      explainer = subst
+          (λ (e : Entry). HasRunExplainer fares c.take_tap.new.self.explainer
+          (own e.token run ++ entry ∷ [])) is took.explainer;
     }

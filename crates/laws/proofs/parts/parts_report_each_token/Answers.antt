@@ -6,7 +6,7 @@ use Rattle.shard_book.specs.declared.entry.Entry.{Entry}
 use Rattle.fare_texts.specs.LedgerLines.{AreLedgerLines}
 use Rattle.fare_texts.specs.Explained.{IsExplained}
 use Rattle.fare_texts.specs.Ledger.{IsLedgerOver}
-use Rattle.laws.proofs.parts.parts_tell_each_token.Goals as goal
+use Rattle.laws.proofs.parts.parts_report_each_token.Goals as goal
 
 pub returns-clause-explained : goal.returns-clause-explained
 returns-clause-explained c = λ fares uploads history parts split token part at text over.

@@ -18,13 +18,13 @@ use Rattle.shard_book.proofs.OwnEntries.{own-append}
 use Rattle.tap_views.proofs.TokenLemmas.{token_cmp-total, token_cmp-ties}
 use Rattle.tap_views.proofs.Lists.{each-append, each-weaker}
 use Rattle.fare_texts.specs.LedgerLines.{AreLedgerLinesAfter, IsLedgerLine, head_text, reason_after}
-use Rattle.fare_texts.specs.Ledger.{AreLinesOfEach, IsLedgerOver, tokens_told}
+use Rattle.fare_texts.specs.Ledger.{AreLinesOfEach, IsLedgerOver, ledger_tokens}
 use Rattle.ledger_check.specs.Ledger.{AreNext, IsLedgerOf, IsNextLine, IsNext, IsPostable}
 use Rattle.ledger_check.specs.Ledger.{token_number}
 use Rattle.ledger_check.specs.Lines.{lines_of}
 use Rattle.ledger_check.proofs.LineLemmas.{lacks-tested, lines-line}
 use Rattle.ledger_check.proofs.TokenOrder.{less_number}
-use Rattle.laws.specs.Written.{AreLetters, AreShort, CanBeTold, told_entries}
+use Rattle.laws.specs.Written.{AreLetters, AreShort, CanBePrinted, reported_entries}
 use Rattle.laws.proofs.Lacking.{line_ends_once}
 use Rattle.laws.proofs.Owned.{AllOf, all_parts, own_all, own_below, own_each, replied_same}
 
@@ -51,10 +51,10 @@ next_append fares done (e ∷ one) two (l ∷ lines) more first then = (
       then),
 )
 
--- nothing is told of no entries
-told_none : (fares : Fares) (done : List Entry) (text : List ℕ) → text ≡ []
+-- no entries have no lines
+reported_none : (fares : Fares) (done : List Entry) (text : List ℕ) → text ≡ []
     → Told fares done [] text
-told_none fares done text empty = record {
+reported_none fares done text empty = record {
   lines = [];
   cut = λ more. ap (λ (t : List ℕ). lines_of (t ++ more)) empty;
   are = λ short. tt;
@@ -117,7 +117,8 @@ module _ (fares : Fares) (letters : AreLetters fares.meaning.modes) (token : Tok
         no_fall = All-from_recursion
             (λ (before : Entry). token_number before.token ≤ token_number entry.token)
             (done ++ earlier) (no_fall earlier entry of.0 is postable);
-        replied = replied_same fares earlier (done ++ earlier) entry (alone ∙ sym owned) (known.legal.each earlier entry rest refl);
+        replied = replied_same fares earlier (done ++ earlier) entry (alone ∙ sym owned)
+            (known.legal.each earlier entry rest refl);
         shown = subst (λ (es : List Entry). IsNextLine fares es entry line) (sym owned) line_is;
         short = short;
         few = omega (
@@ -129,16 +130,16 @@ module _ (fares : Fares) (letters : AreLetters fares.meaning.modes) (token : Tok
         );
       }
 
-  told_token : (earlier rest : List Entry) (text : List ℕ) → IsOwn fares token (earlier ++ rest)
+  reported_token : (earlier rest : List Entry) (text : List ℕ) → IsOwn fares token (earlier ++ rest)
       → length (done ++ (earlier ++ rest)) ≤ 2 ^ 62
       → AreLedgerLinesAfter fares token earlier rest text → Told fares (done ++ earlier) rest text
-  told_token earlier [] text known few lines = told_none fares (done ++ earlier) text lines
-  told_token earlier (entry ∷ rest) text known few lines =
+  reported_token earlier [] text known few lines = reported_none fares (done ++ earlier) text lines
+  reported_token earlier (entry ∷ rest) text known few lines =
       let line = lines.0 in
       let others = lines.1 in
       let same : (earlier ++ entry ∷ []) ++ rest ≡ earlier ++ entry ∷ rest =
       append_assoc earlier (entry ∷ []) rest in
-      let more = told_token (earlier ++ entry ∷ []) rest others
+      let more = reported_token (earlier ++ entry ∷ []) rest others
       (subst (IsOwn fares token) (sym same) known)
       (subst (λ (es : List Entry). length (done ++ es) ≤ 2 ^ 62) (sym same) few) lines.3 in
       let ends = line_ends_once fares token (length earlier + 1) entry
@@ -161,7 +162,7 @@ module _ (fares : Fares) (letters : AreLetters fares.meaning.modes) (token : Tok
         );
       }
 
--- tokens that rise, all above those of the entries that were told
+-- tokens that rise, all above those of the entries that have lines
 record Goes (fares : Fares) (history done : List Entry) (list : List Token) : Type 0 where
   pub rises : IsStrictlySortedBy token_cmp list
   pub above : AllByRecursion (λ token. AreBelow token done) list
@@ -206,14 +207,14 @@ goes_on fares history done token list known goes = record {
       by ts less.1 before.1,
     )
 
-told_each : (fares : Fares) (history done : List Entry) (list : List Token) (text : List ℕ)
+reported_each : (fares : Fares) (history done : List Entry) (list : List Token) (text : List ℕ)
     → AreLetters fares.meaning.modes → ((t : Token) → IsLegal fares (own t history))
     → AllByRecursion IsPostable history → Goes fares history done list
     → AreLinesOfEach fares history list text
     → Told fares done (flat_map (λ token. own token history) list) text
-told_each fares history done [] text letters legal postable goes lines =
-    told_none fares done text lines
-told_each fares history done (token ∷ list) text letters legal postable goes lines =
+reported_each fares history done [] text letters legal postable goes lines =
+    reported_none fares done text lines
+reported_each fares history done (token ∷ list) text letters legal postable goes lines =
     let known = own_known fares history token legal postable in
     let mine = own token history in
     let others = flat_map (λ t. own t history) list in
@@ -225,9 +226,9 @@ told_each fares history done (token ∷ list) text letters legal postable goes l
       length-append mine others,
       length-append done mine,
     ) in
-    let first = told_token fares letters token done goes.above.0 [] mine lines.0 known few
+    let first = reported_token fares letters token done goes.above.0 [] mine lines.0 known few
     lines.2 in
-    let then = told_each fares history (done ++ mine) list lines.1 letters legal postable
+    let then = reported_each fares history (done ++ mine) list lines.1 letters legal postable
     (goes_on fares history done token list known goes) lines.3 in
     record {
       lines = first.lines ++ then.lines;
@@ -243,43 +244,44 @@ told_each fares history done (token ∷ list) text letters legal postable goes l
           (first.are parts.0)) (then.are parts.1);
     }
 
--- nothing was told yet
+-- no line was written yet
 above_none : (list : List Token) → AllByRecursion (λ token. AreBelow token []) list
 above_none [] = tt
 above_none (token ∷ list) = (tt, above_none list)
 
-told_rise : (only : Option Token) (history : List Entry)
-    → IsStrictlySortedBy token_cmp (tokens_told only history)
+reported_rise : (only : Option Token) (history : List Entry)
+    → IsStrictlySortedBy token_cmp (ledger_tokens only history)
 unfolding IsStrictlySortedBy tokens
-told_rise None history = (rising-is token_cmp-total token_cmp-ties (map token_of history)).rises
-told_rise (Some token) history = (tt, tt)
+reported_rise None history = (rising-is token_cmp-total token_cmp-ties (map token_of history)).rises
+reported_rise (Some token) history = (tt, tt)
 
 head_front : List ℕ
 head_front = codes
     "token,line,moment,validator,mode,answer,cents,window_start,window_end,ride,reason,points_at"
 
 pub written_is_read : (fares : Fares) (only : Option Token) (history : List Entry) (text : List ℕ)
-    → CanBeTold fares only history → AreShort text
-    → IsLedgerOver fares history only text → IsLedgerOf fares (told_entries only history) text
-unfolding lines_of told_each head_front
+    → CanBePrinted fares only history → AreShort text
+    → IsLedgerOver fares history only text → IsLedgerOf fares (reported_entries only history) text
+unfolding lines_of reported_each head_front
 written_is_read fares only history text can short over =
-    let told = told_each fares history [] (tokens_told only history) over.lines can.names can.legal
+    let reported = reported_each fares history [] (ledger_tokens only history) over.lines can.names
+    can.legal
     can.postable
     (record {
-      rises = told_rise only history;
-      above = above_none (tokens_told only history);
+      rises = reported_rise only history;
+      above = above_none (ledger_tokens only history);
       few =
           can.few;
     }) over.of_each in
-    let body : lines_of over.lines ≡ told.lines =
-    ap lines_of (sym (append-nil over.lines)) ∙ told.cut [] ∙ append-nil told.lines in
+    let body : lines_of over.lines ≡ reported.lines =
+    ap lines_of (sym (append-nil over.lines)) ∙ reported.cut [] ∙ append-nil reported.lines in
     let head : lines_of (head_text ++ over.lines) ≡ head_text ∷ lines_of over.lines =
     lines-line head_front over.lines (lacks-tested 10 head_front refl) in
-    let cut : lines_of text ≡ head_text ∷ told.lines =
+    let cut : lines_of text ≡ head_text ∷ reported.lines =
     ap lines_of over.whole ∙ head ∙ ap (λ (ls : List (List ℕ)). head_text ∷ ls) body in
     record {
-      lines = told.lines;
+      lines = reported.lines;
       split = cut;
       are =
-          told.are (subst (AllByRecursion Short) cut short).1;
+          reported.are (subst (AllByRecursion Short) cut short).1;
     }
