@@ -7,7 +7,7 @@
 #               builds the programs: crates/NAME/out/NAME. What rt says is in out/build.log
 # make install  the three proved programs, their manual pages and completions, the documents for
 #               users, the example, and what others do with a ledger (sql, viewer, audit), into
-#               DESTDIR/PREFIX; PREFIX is /usr/local if not given. scripts/installed tries it
+#               DESTDIR/PREFIX; PREFIX is /usr/local if not given. tests/installed tries it
 # make test     everything that must pass: what the documents say of the sources, no lemma proved
 #               once more, what must not compile, the proofs, the tests, the wrong bodies in
 #               must-fail/, the stored runs, and then the cases of the built program and the settled
@@ -16,7 +16,7 @@
 #               changes. Some crates alone: make wrong CRATES="tap_views fare_table"
 # make model    the turn protocol of a shared book in Spin: no worker sleeps for ever, and one at a
 #               time has the book. The fare rule as a program, on random lists of taps and tables.
-#               model/README.md says what the models have
+#               tests/model/README.md says what the models have
 # make hostile  memory, reads, writes, threads and the seed refused one at a time, in every place
 # make bench    one table of speed and memory, live and settled, beside Rust without proofs, within
 #               ten minutes, and a tap's instructions if valgrind is there. If no proved program is
@@ -56,34 +56,34 @@ test:
 	@scripts/check_documents
 	@scripts/private_definitions
 	@scripts/repeated_lemmas
-	scripts/must_not_compile
+	tests/must_not_compile
 	@scripts/version
 	@n=$$(nproc) && RT_JOBS=$${RT_JOBS:-$$((n < 4 ? n : 4))} rt ci
 	@scripts/version
-	@scripts/program_cases
-	@scripts/tool_manners
-	@scripts/settled_week
+	@tests/program_cases
+	@tests/tool_manners
+	@tests/settled_week
 
 wrong:
 	@scripts/wrong_bodies $(CRATES)
 
 model:
-	@model/run
+	@tests/model/run
 
 hostile:
-	@hostile/refuse
+	@tests/hostile/refuse
 
 bench:
 	@bench/run
 
 audit:
-	@audit/run
+	@ledgers/audit/run
 
 sql:
-	@sql/run
+	@ledgers/sql/run
 
 viewer:
-	@viewer/test
+	@ledgers/viewer/test
 
 cluster:
 	@cluster/try

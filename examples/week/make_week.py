@@ -4,7 +4,7 @@
 It writes table.toml, the uploads (one a depot and day; two are damaged), other/ (the posted taps of
 these uploads once more, dealt to other files in no order), report.txt and statement.txt.
 Both texts are made from docs/RULES.md and docs/FORMATS.md alone, by the account of
-audit/check_ledger.py, so that they share no mistake with the program. It needs Python 3.11 alone.
+ledgers/audit/check_ledger.py, so that they share no mistake with the program. It needs Python 3.11 alone.
 """
 import os, random, struct, sys, tomllib
 from collections import defaultdict
@@ -12,7 +12,7 @@ from datetime import datetime, timedelta
 from zoneinfo import ZoneInfo
 sys.dont_write_bytecode = True
 os.chdir(os.path.dirname(os.path.abspath(__file__)))
-sys.path.insert(0, "../../audit")
+sys.path.insert(0, "../../ledgers/audit")
 from check_ledger import MOMENT_LIMIT, Account, Fares, moment_text
 
 RIDERS = 200
