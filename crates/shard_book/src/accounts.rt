@@ -157,15 +157,19 @@ impl Accounts {
     /// The account rule's step of the token's account, whose reply is then counted. If the account
     /// is at the known place no look-up is needed; another place costs time alone. The account's
     /// place comes with the reply. On want of memory all that is kept stays.
+    ///
+    /// The token comes with its bytes, as the tap has them, so that no step writes them down.
     #[tactic(auto, unfolding(crate::specs::inside::Accounts::kept_at))]
     pub(crate) fn step(
         &mut self,
         table: &FareTable,
         clock: &Clock,
         token: Token,
+        bytes: &[u8],
         tap: TapIn,
         known: u32,
     ) -> Result<(u32, Reply), NoMemory>
+        requires bytes { bytes.now ≡ bytes_of token }
         requires clock { clock.now ≡ table.now.zone }
         requires mode { ForSome tap.mode (λ mode. mode.place < length table.now.meaning.modes) }
         requires early { tap.moment < 4_102_444_800_000 }
@@ -193,7 +197,7 @@ impl Accounts {
     {
         let place = self.place(token, known)?;
         let (_, kept) = self.map.pair_mut(place as usize);
-        let reply = kept.account.step(table, clock, &token.bytes(), tap);
+        let reply = kept.account.step(table, clock, bytes, tap);
         let was_counted = kept.counts.add(reply);
         self.counting = self.counting & was_counted;
         Ok((place, reply))

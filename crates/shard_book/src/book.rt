@@ -113,14 +113,15 @@ impl ShardBook {
         ensures legal { IsLegal self.new.table self.new.entries }
     {
         self.history.reserve(1)?;
-        let token = Token::of(tap.token());
         let validator = tap.validator_number();
         let moment = tap.moment_ms();
         let mode = self.table.mode_of(moment, validator);
+        let bytes = tap.token();
+        let token = Token::of(bytes);
         let tap_in = TapIn { moment, mode };
         let (place, reply) = self
             .accounts
-            .step(&self.table, clock, token, tap_in, known)?;
+            .step(&self.table, clock, token, bytes, tap_in, known)?;
         let packed = PackedEntry::of(place, validator, moment, reply);
         self.history.push_reserved(packed);
         Ok(reply)

@@ -32,9 +32,13 @@ fn add_one(count: &mut u16) -> bool
     ensures added { IsTrue result → count.new ≡ count.old + 1 }
     ensures some { 0 < count.new }
 {
-    let had_room = *count < u16::MAX;
-    *count = count.saturating_add(1);
-    had_room
+    match count.checked_add(1) {
+        Some(more) => {
+            *count = more;
+            true
+        }
+        None => false,
+    }
 }
 
 impl Counts {

@@ -1,5 +1,6 @@
 -- The step is taken on what stands at the token's place, and written there.
-use Rattle.std.proofs.Common.{arith, List, [], ◌∷◌, ◌++◌, Option, slice_get, subst, sym, ap, ◌∙◌}
+use Rattle.std.proofs.Common.{arith, ℕ, List, [], ◌∷◌, ◌++◌, Option, length, slice_get, subst, sym}
+use Rattle.std.proofs.Common.{ap, ◌∙◌}
 use Rattle.indexmap.proofs.CallerLemmas.{keys-with_value_at}
 use Rattle.account_rule.specs.TokenRules.{rules_of}
 use Rattle.account_rule.specs.Stands.{Stands, StandsForSome}
@@ -8,14 +9,19 @@ use Rattle.tap_views.specs.declared.token.Token.{Token}
 use Rattle.shard_book.specs.inside.Accounts.{kept_at, counted, IsKept}
 use Rattle.shard_book.specs.Sums.{Sums, add_sums, sums_of_replies}
 use Rattle.tap_views.specs.Token.{bytes_of}
+use Rattle.tap_views.proofs.TokenBytes.{token_length}
 use Rattle.shard_book.proofs.AccountsLemmas.{stands_or, counted_or, found, written}
 use Rattle.shard_book.proofs.PackedLemmas.{keep_same, keep_then, token-at}
 use Rattle.shard_book.proofs.accounts.Accounts.step.Goals as goal
 
+pub step-reply-requires-clause-token : goal.step-reply-requires-clause-token
+step-reply-requires-clause-token c =
+    ap (λ (bytes : List ℕ). length bytes) c.requires.bytes ∙ token_length c.args.token
+
 pub step-reply-requires-clause-stands : goal.step-reply-requires-clause-stands
 unfolding StandsForSome
 step-reply-requires-clause-stands c =
-    rw c.bytes.ensures (
+    rw c.requires.bytes (
       c.requires.kept.0,
       stands_or _ (kept_at c.args.self.now c.args.token) _ _
           (found c.in_ok-place.ensures.made c.pair_mut-kept.ensures.value) c.requires.kept.1,
@@ -28,7 +34,7 @@ returns-clause-kept c = λ taps kept.
     record { account = c.step-reply.new.self; counts = c.add-was_counted.new.self } in
     let stands : Stands (rules_of c.args.table.now (bytes_of c.args.token)) c.step-reply.new.self
     (taps ++ c.args.tap ∷ []) =
-    (rw c.bytes.ensures at c.step-reply.ensures.stands) taps
+    (rw c.requires.bytes at c.step-reply.ensures.stands) taps
     (stands_or _ (kept_at c.args.self.now c.args.token) _ taps
     (found c.in_ok-place.ensures.made c.pair_mut-kept.ensures.value) kept) in
     subst (λ (o : Option KeptAccount). IsKept (rules_of c.args.table.now (bytes_of c.args.token)) o

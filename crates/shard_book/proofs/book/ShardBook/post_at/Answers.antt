@@ -86,7 +86,7 @@ sound c =
     (history_of (tokens_of c.self.inside.accounts) c.self.inside.history.items) ≡ c.args.self.now =
     c.self.view_is in
     let token : bytes_of c.of-token.result ≡ tap.token =
-    c.of-token.ensures.bytes ∙ c.token.ensures.bytes in
+    c.of-token.ensures.bytes ∙ c.token-bytes.ensures.bytes in
     sound-post (entry_of_post c) c.mode_of-mode.result
     (pushed c)
     c.self.invariant.sound
@@ -118,7 +118,7 @@ pub returns-clause-ok : goal.returns-clause-ok
 returns-clause-ok c = record {
   entry = entry_of_post c;
   of_tap = record {
-    token = c.of-token.ensures.bytes ∙ c.token.ensures.bytes;
+    token = c.of-token.ensures.bytes ∙ c.token-bytes.ensures.bytes;
     validator =
         c.validator_number-validator.ensures;
     moment = c.moment_ms-moment.ensures.number;
