@@ -16,6 +16,7 @@ pub mod RecountLemmas
 pub mod ReplayLemmas
 pub mod RunLemmas
 pub mod SameLines
+pub mod SameTaken
 mod SameTaps
 mod Spread
 pub mod StruckLemmas

@@ -1,5 +1,6 @@
 pub mod Balances
 pub mod Columns
+pub mod FirstLines
 pub mod FullBalances
 pub mod Ledger
 pub mod Lines

@@ -1,5 +1,6 @@
 //! What follows from a verdict, and from a recount.
 
+ghost use Rattle.ledger_check.specs.FirstLines.{RecountsGoOn};
 ghost use Rattle.ledger_check.specs.Recounts.{RecountsDecide};
 ghost use Rattle.ledger_check.specs.Verdicts.{VerdictsDecide};
 
@@ -12,4 +13,10 @@ pub fn verdicts_decide()
 /// A recount has no remark on a line exactly if the text is, whole, a ledger of legal histories.
 pub fn recounts_decide()
     ensures { RecountsDecide }
+{}
+
+/// What is reported of the first lines of a text is a beginning of what each recount of the text
+/// reports.
+pub fn recounts_go_on()
+    ensures { RecountsGoOn }
 {}

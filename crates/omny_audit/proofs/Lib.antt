@@ -1,5 +1,7 @@
 pub mod AuditLemmas
+pub mod BegunAudits
 pub mod FindingLemmas
+pub mod Finished
 pub mod FullFindingLemmas
 pub mod Handing
 pub mod LoadedTables

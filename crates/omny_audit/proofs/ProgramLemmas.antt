@@ -21,7 +21,7 @@ use Rattle.omny_audit.specs.declared.fault.Fault.TheVariants.{ClassName, Closed,
 use Rattle.omny_audit.specs.declared.fault.Fault.TheVariants.{Ledger, NamedClass, NamedTable, NoMemory}
 use Rattle.omny_audit.specs.declared.fault.Fault.TheVariants.{Table, Write}
 use Rattle.omny_audit.specs.Program.{AreGoodFieldsOfAll, AreGoodFieldsOfEach, AreWanted}
-use Rattle.omny_audit.specs.Program.{IsRightAuditFault, IsTracedAs}
+use Rattle.omny_audit.specs.Program.{HasLoaded, IsRightAuditFault, IsTracedAs}
 use Rattle.omny_audit.specs.Program.{LoadsNamedFiles, LoadsReport, compared}
 use Rattle.omny_audit.specs.Source.{OpensOne}
 use Rattle.omny_audit.specs.Traced.{Wanted}
@@ -229,14 +229,20 @@ pub both_err : {A : Type 0} (r : Result A Fault) (P Q R : Fault → Type 0)
 both_err (Ok x) P Q R both p q = tt
 both_err (Err e) P Q R both p q = both e p q
 
+-- all wrong lines are asked for, or not
+pub not_both : (all : Bool) → all ≡ false → all ≡ true → ⊥
+not_both all never asked = cc
+
 -- a fault of loading is no write that failed
 pub written_first : (asked : AuditAsked) (loaded loaded' : Option (List Loaded))
     (refused : Option (Option (List ℕ) × LoadFault)) (fault : Fault) (out out' : Option (List ℕ))
-    → is_unwritten fault ≡ false → IsRightFault asked.table loaded loaded' refused fault
+    → is_unwritten fault ≡ false → Keeps out out'
+    → IsRightFault asked.table loaded loaded' refused fault
     → IsRightAuditFault asked loaded loaded' refused fault out out'
-written_first asked loaded loaded' refused fault out out' written right = record {
+written_first asked loaded loaded' refused fault out out' written kept right = record {
   right = right;
   begun = λ all un. absurd (apart (sym written ∙ un));
+  begun_of_all = λ all. inl (written, kept);
 }
   where
     apart : false ≡ true → ⊥
@@ -320,6 +326,41 @@ reads_ledger before after name left left' whole head begun fares texts file kept
           named);
     }
 
+-- the files that were loaded, one kind after another
+abbrev pub has_loaded : (asked : AuditAsked)
+    (loaded after_table after_uploads after_report loaded' : Option (List Loaded)) (fares : Fares)
+    (texts uploads : List (List ℕ)) (good : List TapFields) (lists : List (List TapFields))
+    (report : Option (List ℕ)) (wanted : Option Wanted) (ledger : List ℕ)
+    → LoadsTables asked.table loaded after_table texts fares
+    → LoadsNamedFiles asked.uploads after_table after_uploads uploads
+    → AreGoodFieldsOfAll uploads good → AreGoodFieldsOfEach uploads lists
+    → LoadsReport asked.report after_uploads after_report report
+    → ReadsLedger after_report loaded' asked.ledger fares texts (compared asked.uploads lists) wanted
+    ledger → HasLoaded asked loaded loaded'
+has_loaded asked loaded after_table after_uploads after_report loaded' fares texts uploads good lists
+    report wanted ledger tables each are_good are_lists of_report reads = record {
+      after_table = after_table;
+      after_uploads = after_uploads;
+      after_report = after_report;
+      fares = fares;
+      texts = texts;
+      loads_tables = tables;
+      uploads = uploads;
+      loads_uploads = each;
+      good = good;
+      are_good = are_good;
+      lists = lists;
+      are_lists = are_lists;
+      report = report;
+      loads_report = of_report;
+      ledger = ledger;
+      loads_ledger = reads.is_loaded;
+      traced = reads.traced;
+      is_traced = reads.is_traced;
+      wanted = wanted;
+      are_wanted = reads.are_wanted;
+    }
+
 -- what was loaded after the table, once the ledger was opened
 pub loaded_report : (name : Option Text) (loaded loaded' : Option (List Loaded))
     (report : Option (List ℕ)) → LoadsReport name loaded loaded' report
@@ -342,11 +383,11 @@ pub right_of_names : (asked : AuditAsked) (before between after : Option (List L
     → (later : List Loaded) → LoadsAll between after later
     → (wrong : WrongNames) → IsWrongAt texts wrong
     → (fault : Fault) (out out' : Option (List ℕ)) → IsClassFault asked.table wrong fault
-    → is_unwritten fault ≡ false
+    → is_unwritten fault ≡ false → Keeps out out'
     → IsRightAuditFault asked before after refused fault out out'
 right_of_names asked before between after refused texts fares loads later more wrong at fault out
-    out' is written =
-    written_first asked before after refused fault out out' written
+    out' is written kept =
+    written_first asked before after refused fault out out' written kept
     (classes_are_right asked.table before between after refused texts fares loads later more wrong
     at fault is)
 

@@ -1,5 +1,5 @@
 -- What a run of the program does.
-use Rattle.std.specs.Prelude.{◌≡◌, ◌↔◌, ⊤, ℕ, Bool, true, false, List, [], ◌∷◌, ◌++◌, map}
+use Rattle.std.specs.Prelude.{◌≡◌, ◌↔◌, ◌⊎◌, ⊤, ℕ, Bool, true, false, List, [], ◌∷◌, ◌++◌, map}
 use Rattle.std.specs.Prelude.{MatchBool, Option, None, Some}
 use Rattle.std.specs.Io.KnownBytes.{Appends, Keeps}
 use Rattle.clap.specs.Words.{Text}
@@ -9,7 +9,7 @@ use Rattle.ledger_check.specs.Columns.{has_traced_head}
 use Rattle.settled_texts.specs.Classes.{AreTrees, class_of_token, tree_at}
 use Rattle.toml.specs.Data.{Members}
 use Rattle.tap_views.specs.declared.encoder.TapFields.{TapFields}
-use Rattle.omny_audit.specs.Reports.{IsAudit, IsRightAudit}
+use Rattle.omny_audit.specs.Reports.{HasBegunAudit, IsAudit, IsRightAudit}
 use Rattle.omny_audit.specs.Fault.{IsRightFault, audit_fault_text, is_quiet, is_unwritten}
 use Rattle.omny_audit.specs.Options.{AuditAsked}
 use Rattle.fare_texts.specs.WrittenOut.{Begins}
@@ -72,10 +72,8 @@ AreWanted fares texts true uploads (Some wanted) =
     × (wanted.uploads ≡ uploads)
 
 -- The tables were loaded, then the uploads, then the report, if it is named, and then all of the
--- ledger. The text is what is found of the ledger beside the good taps of the uploads, if uploads
--- are named, and of the report. It says that all is well, or not.
-pub record HasFound (asked : AuditAsked) (loaded loaded' : Option (List Loaded)) (text : List ℕ)
-    (well : Bool) : Type 0 where
+-- ledger.
+pub record HasLoaded (asked : AuditAsked) (loaded loaded' : Option (List Loaded)) : Type 0 where
   pub after_table : Option (List Loaded)
   pub after_uploads : Option (List Loaded)
   pub after_report : Option (List Loaded)
@@ -98,13 +96,20 @@ pub record HasFound (asked : AuditAsked) (loaded loaded' : Option (List Loaded))
   pub is_traced : IsTracedAs after_report ledger traced
   pub wanted : Option Wanted
   pub are_wanted : AreWanted fares texts traced (compared asked.uploads lists) wanted
+
+-- The files were loaded, and the text is what is found of the ledger beside the good taps of the
+-- uploads, if uploads are named, and of the report. It says that all is well, or not.
+pub record HasFound (asked : AuditAsked) (loaded loaded' : Option (List Loaded)) (text : List ℕ)
+    (well : Bool) : Type 0 where
+  pub files : HasLoaded asked loaded loaded'
   pub read : List ReadLine
-  pub audit : IsAudit asked.all fares wanted ledger read (compared asked.uploads good) report text
-      well
+  pub audit : IsAudit asked.all files.fares files.wanted files.ledger read
+      (compared asked.uploads files.good) files.report text well
   -- well exactly if the text is, whole, a ledger of legal histories, with the taps of the uploads,
   -- and the columns of a traced one are right, and the report is its own
   pub right : (well ≡ true)
-      ↔ IsRightAudit fares wanted ledger read (compared asked.uploads good) report
+      ↔ IsRightAudit files.fares files.wanted files.ledger read (compared asked.uploads files.good)
+      files.report
 
 -- what was appended to the writer is the text of what was found
 pub record Audits (asked : AuditAsked) (loaded loaded' : Option (List Loaded))
@@ -121,6 +126,14 @@ pub record BeginsAudit (asked : AuditAsked) (loaded loaded' : Option (List Loade
   pub found : HasFound asked loaded loaded' text well
   pub begun : Begins out out' text
 
+-- The files were loaded, and what was appended to the writer is a beginning of what is found of
+-- them, if anything is found of them.
+pub record BeginsFound (asked : AuditAsked) (loaded loaded' : Option (List Loaded))
+    (out out' : Option (List ℕ)) : Type 0 where
+  pub files : HasLoaded asked loaded loaded'
+  pub begun : HasBegunAudit asked.all files.fares files.wanted files.ledger
+      (compared asked.uploads files.good) files.report out out'
+
 -- The fault's line was reported, unless a write of it failed. If who reads the text has closed it,
 -- nothing is reported.
 abbrev pub IsFaultReported : Fault → Option (List ℕ) → Option (List ℕ) → Bool → Type 0
@@ -134,10 +147,12 @@ pub record AuditGaveUp (all : Bool) (fault : Fault) (said said' : Option (List �
   pub line_reported : IsFaultReported fault said said' failed
   pub kept : all ≡ false → is_unwritten fault ≡ false → Keeps out out'
 
--- The fault is the right one. If a write failed, what it left is a beginning of the right text,
--- unless all wrong lines are asked for.
+-- The fault is the right one. If a write failed, what it left is a beginning of the right text. If
+-- all wrong lines are asked for, any fault leaves such a beginning, or nothing if no write failed.
 pub record IsRightAuditFault (asked : AuditAsked) (loaded loaded' : Option (List Loaded))
     (refused : Option (Option (List ℕ) × LoadFault)) (fault : Fault) (out out' : Option (List ℕ))
     : Type 0 where
   pub right : IsRightFault asked.table loaded loaded' refused fault
   pub begun : asked.all ≡ false → is_unwritten fault ≡ true → BeginsAudit asked loaded loaded' out out'
+  pub begun_of_all : asked.all ≡ true → ((is_unwritten fault ≡ false) × Keeps out out')
+      ⊎ BeginsFound asked loaded loaded' out out'

@@ -3,6 +3,7 @@ use Rattle.std.specs.Prelude.{◌≡◌, ◌↔◌, ◌&&◌, ◌||◌, ℕ, Boo
 use Rattle.std.specs.Prelude.{is_some, Option, None, Some}
 use Rattle.std.specs.Fmt.{decimal}
 use Rattle.fare_table.specs.Fares.{Fares}
+use Rattle.fare_texts.specs.WrittenOut.{Begins}
 use Rattle.ledger_check.specs.Columns.{read_as}
 use Rattle.ledger_check.specs.Ledger.{IsLedger, IsLedgerOf}
 use Rattle.omny_audit.specs.Findings.{HasGoodTaps, IsFindingOf}
@@ -63,6 +64,21 @@ pub record IsAudit (all : Bool) (fares : Fares) (wanted : Option Wanted) (file :
       rest fits
   pub shown : text ≡ found ++ (columns ++ rest)
   pub both : well ≡ (sound && (right && fits))
+
+-- what is found of a ledger's file, of which some lines were read
+abbrev pub IsAuditOf : Bool → Fares → Option Wanted → List ℕ → Option (List TapFields)
+    → Option (List ℕ) → List ℕ → Bool → Type 0
+IsAuditOf all fares wanted file good report text well =
+    (read : List ReadLine) × IsAudit all fares wanted file read good report text well
+
+-- What was written is a beginning of a text of what is found of a ledger's file, if there is such a
+-- text: if an audit of the file can come to its end.
+abbrev pub HasBegunAudit : Bool → Fares → Option Wanted → List ℕ → Option (List TapFields)
+    → Option (List ℕ) → Option (List ℕ) → Option (List ℕ) → Type 0
+HasBegunAudit all fares wanted file good report out out' = (some : List ℕ) (is_well : Bool)
+    → IsAuditOf all fares wanted file good report some is_well
+    → (text : List ℕ) × (well : Bool) × IsAuditOf all fares wanted file good report text well
+    × Begins out out' text
 
 -- the report is that of the ledger's entries, if there is a report
 abbrev pub HasOwnReport : Option (List ℕ) → List Entry → Type 0

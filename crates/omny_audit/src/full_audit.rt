@@ -15,20 +15,20 @@ ghost use Rattle.ledger_check.specs.Recounts.{IsRecount, TakenLine, recount_text
 ghost use Rattle.ledger_check.specs.Recounts.{wrong_count};
 ghost use Rattle.ledger_check.specs.RecountStates.{HasRecounted};
 ghost use Rattle.omny_audit.specs.Findings.{IsDifferencesEnd};
-ghost use Rattle.omny_audit.specs.Reports.{IsAudit, IsReportLine};
+ghost use Rattle.omny_audit.specs.Reports.{HasBegunAudit, IsAudit, IsReportLine};
 ghost use Rattle.omny_audit.specs.inside.Reports.{HasSummedFor, text_of};
-ghost use Rattle.omny_audit.specs.inside.Findings.{HasRecountedAll};
+ghost use Rattle.omny_audit.specs.inside.Findings.{HasBegunRecount, HasRecountedAll};
 ghost use Rattle.omny_audit.specs.inside.Source.{IsAllOf};
 ghost use Rattle.omny_audit.specs.Traced.{AreColumnsReported, ReadLine};
 ghost use Rattle.omny_audit.specs.inside.Traced.{HasReadAll, HasReadAs, wanted_by};
 
 use crate::fault::Fault;
-use crate::output::{write_piece, write_text};
+use crate::output::write_text;
 use crate::report::{ReportWithSums, add_piece, are_both, write_report_line};
 use crate::text::{are_none, write_differences};
 use crate::traced::{Trace, read_end, read_piece, write_columns};
 use fare_table::{Clock, FareTable};
-use ledger_check::laws::recounts_decide;
+use ledger_check::laws::{recounts_decide, recounts_go_on};
 use ledger_check::{Balance, FullBalance, Recount};
 use std::alloc::{AllocError, Global};
 use std::io::{Read, Write};
@@ -112,6 +112,11 @@ fn recount_all<R: Read, W: Write>(
         (W.contents out.new))
         × HasSummedFor table.now report.new (read_as (is_some (wanted_by trace.new)) file)
         × HasReadAll trace.new file) }
+
+    // What was written when a fault comes is a beginning of what is reported of the lines.
+    ensures begun { IfErr result (λ _. (file : List ℕ) × IsAllOf (R.remaining reader.old) file
+        × HasBegunRecount table.now (read_as (is_some (wanted_by trace.old)) file)
+        (W.contents out.old) (W.contents out.new)) }
     ensures wanted { wanted_by trace.new ≡ wanted_by trace.old }
     ensures report { text_of report.new ≡ text_of report.old }
     ensures named { IfErr result (λ fault. named_by fault ≡ None) }
@@ -139,14 +144,14 @@ fn recount_all<R: Read, W: Write>(
                 &mut text,
                 &mut reported,
             )?;
-            write_piece(out, reported.as_str())?;
+            write_text(out, reported.as_bytes())?;
             return Ok(legal);
         }
         read_piece(trace, &step[..count], &mut text)?;
         let part = text.as_slice();
         recount.feed(table, clock, part, has_uploads, full, &mut reported)?;
         add_piece(alloc, table, part, report)?;
-        write_piece(out, reported.as_str())?;
+        write_text(out, reported.as_bytes())?;
     }
     Err(Fault::Ledger)
 }
@@ -238,11 +243,19 @@ pub(crate) fn full_audit_over<R: Read, W: Write>(
         × (read : List ReadLine) × IsAudit true table.now (wanted_by trace) file read
         (if has_uploads then Some good else None) (text_of report) reported well
         × Appends (W.contents out.old) (W.contents out.new) reported)) }
+
+    // What was written when a fault comes is a beginning of the right text.
+    ensures begun { IfErr result (λ _. (file : List ℕ) × IsAllOf (R.remaining reader.old) file
+        × ((good : List TapFields) → IsBalance balance good [] → HasBegunAudit true table.now
+        (wanted_by trace) file (if has_uploads then Some good else None) (text_of report)
+        (W.contents out.old) (W.contents out.new))) }
     ensures named { IfErr result (λ fault. named_by fault ≡ None) }
     ensures later { IfErr result (λ fault. is_of_loading fault ≡ false) }
 {
     // proof: no line is wrong exactly if the text is a ledger
     recounts_decide();
+    // proof: what is reported of its first lines is a beginning of what is reported of all
+    recounts_go_on();
     let mut full = FullBalance::of(alloc, balance);
     let legal = recount_all(
         alloc,

@@ -14,7 +14,7 @@
 //! | `tables` | fare tables that are loaded in the order of their words |
 //! | `text` | the lines of a finding |
 //! | `traced` | a traced ledger, read as a ledger, and its columns |
-//! | `output` | texts, written out |
+//! | `output` | texts, written whole |
 //! | `fault` | why the program gives up, and the line that says so |
 //! | `escaping` | the control characters of mistakes and faults |
 //! | `program` | the whole |
@@ -39,7 +39,7 @@ use escaping::Escaping;
 use files::Host;
 use options::list_words;
 use program::main_over;
-use program_manners::{Complaints, take_list, unread_words, words_of};
+use program_manners::{Complaints, Output, take_list, unread_words, words_of};
 use std::io::Write;
 use std::process::ExitCode;
 
@@ -64,7 +64,7 @@ fn main(rt: HostRuntime) -> ExitCode {
             rt.alloc(),
             &words,
             &mut Host::new(&rt),
-            &mut rt.stdout(),
+            &mut Output::new(rt.stdout()),
             &mut err,
         ),
         Err(status) => status,

@@ -1,6 +1,6 @@
-//! Texts that are written out whole.
+//! Texts that are written whole.
 ghost use Rattle.std.specs.Prelude.{◌≡◌, ◌↔◌, IfErr, None, OnErr, OnOk, false, true};
-ghost use Rattle.std.specs.Io.KnownBytes.{Appends, Keeps};
+ghost use Rattle.std.specs.Io.KnownBytes.{Appends};
 ghost use Rattle.std.specs.IoError.{error_kind};
 ghost use Rattle.omny_audit.specs.Fault.{is_quiet, is_unwritten, named_by};
 ghost use Rattle.omny_audit.specs.inside.Fault.{is_of_loading};
@@ -25,33 +25,7 @@ pub(crate) fn unwritten<'a>(error: &io::Error) -> Fault<'a>
     }
 }
 
-/// Flushes the writer. No contract says where the bytes go.
-pub(crate) fn flush<'a, W: Write>(out: &mut W) -> Result<(), Fault<'a>>
-    ensures fault { IfErr result (λ fault. is_unwritten fault ≡ true) }
-    ensures named { IfErr result (λ fault. named_by fault ≡ None) }
-    ensures later { IfErr result (λ fault. is_of_loading fault ≡ false) }
-    ensures kept { Keeps (W.contents out.old) (W.contents out.new) }
-{
-    match out.flush() {
-        Ok(()) => Ok(()),
-        Err(error) => Err(unwritten(&error)),
-    }
-}
-
 /// Writes the whole text, which may wait in the writer.
-pub(crate) fn write_piece<'a, W: Write>(out: &mut W, text: &str) -> Result<(), Fault<'a>>
-    ensures fault { IfErr result (λ fault. is_unwritten fault ≡ true) }
-    ensures named { IfErr result (λ fault. named_by fault ≡ None) }
-    ensures later { IfErr result (λ fault. is_of_loading fault ≡ false) }
-    ensures text { OnOk result (Appends (W.contents out.old) (W.contents out.new) text.now) }
-{
-    match out.write_all(text.as_bytes()) {
-        Ok(()) => Ok(()),
-        Err(error) => Err(unwritten(&error)),
-    }
-}
-
-/// Writes the whole text, through to where the writer brings it.
 pub(crate) fn write_text<'a, W: Write>(out: &mut W, text: &[u8]) -> Result<(), Fault<'a>>
     ensures fault { IfErr result (λ fault. is_unwritten fault ≡ true) }
     ensures named { IfErr result (λ fault. named_by fault ≡ None) }
@@ -62,7 +36,7 @@ pub(crate) fn write_text<'a, W: Write>(out: &mut W, text: &[u8]) -> Result<(), F
     ensures begun { OnErr result (Begins (W.contents out.old) (W.contents out.new) text.now) }
 {
     match write_bytes(text, out) {
-        Ok(()) => flush(out),
+        Ok(()) => Ok(()),
         Err(error) => Err(unwritten(&error)),
     }
 }

@@ -46,7 +46,8 @@ use clap::Error;
 use clap::error::ErrorKind;
 use ledger_check::{Balance, Places, has_traced_head, traced_head_line};
 use program_manners::{
-    Complaints, NamedClassLine, STANDARD_INPUT, TableWord, TableWords, WrongWord, show_answer,
+    Complaints, NamedClassLine, Output, STANDARD_INPUT, TableWord, TableWords, WrongWord,
+    show_answer,
 };
 use settled_texts::{ClassFault, ClassNames, WrongNames};
 use shard_book::HashSeed;
@@ -337,6 +338,26 @@ fn show<W: Write, E: Write>(error: &Error, out: &mut W, err: &mut Complaints<E>)
     }
 }
 
+/// Flushes the output behind the whole finding, which is well or not, and gives the status. A flush
+/// that fails is reported as a write is.
+fn finish<W: Write, E: Write>(is_well: bool, out: &mut Output<W>, err: &mut Complaints<E>) -> u8
+    ensures kept { Keeps (W.contents out.old.writer) (W.contents out.new.writer) }
+    ensures well { result ≡ 0 → (is_well ≡ true) × (out.new.is_flushed ≡ true)
+        × (err.new ≡ err.old) }
+    ensures ill { result ≡ 1 → ((is_well ≡ false) × (out.new.is_flushed ≡ true)
+        × (err.new ≡ err.old))
+        ⊎ ((fault : Fault) × (is_unwritten fault ≡ true) × (named_by fault ≡ None)
+        × (is_of_loading fault ≡ false) × IsFaultReported fault (E.contents err.old.writer)
+        (E.contents err.new.writer) err.new.failed) }
+    ensures status { result ≤ 1 }
+{
+    match out.finish() {
+        Ok(()) if is_well => 0,
+        Ok(()) => 1,
+        Err(error) => report_fault(err, &unwritten(&error)),
+    }
+}
+
 /// The whole program: reads the words, of which the first is the program's name, checks the ledger
 /// that they name, from the source, and writes the finding to `out`, mistakes and faults to `err`.
 /// Gives the status: 0 if all is well, 1 if it is not or something failed, 2 if the words are no
@@ -346,32 +367,37 @@ pub fn main_over<R: RandomSource, S: Source, W: Write, E: Write>(
     alloc: Global,
     words: &[String],
     source: &mut S,
-    out: &mut W,
+    out: &mut Output<W>,
     err: &mut Complaints<E>,
 ) -> u8
     // With status 0 the finding was written, and says that all is well.
     ensures done { ParsesForAudit (map string_bytes words.now) → result ≡ 0
         → Audits (audit_asked_by (map string_bytes words.now)) (S.loaded source.old)
-        (S.loaded source.new) (W.contents out.old) (W.contents out.new) true }
+        (S.loaded source.new) (W.contents out.old.writer) (W.contents out.new.writer) true }
 
-    // With status 1 the finding was written, and says that not all is well, and nothing was said on
-    // `err`; or a fault was reported, which names no other file than one that the words name, and
-    // nothing was written, unless a write failed or all wrong lines are asked for. The fault is the
-    // right one, and what a write that failed left is a beginning of the right text.
+    // A finding that ends well was flushed.
+    ensures flushed { ParsesForAudit (map string_bytes words.now) → result ≡ 0
+        → out.new.is_flushed ≡ true }
+
+    // With status 1 the finding was written and flushed, and says that not all is well, and nothing
+    // was said on `err`; or a fault was reported, which names no other file than one that the words
+    // name, and nothing was written, unless a write or the flush failed or all wrong lines are asked
+    // for. The fault is the right one, and what a write that failed left is a beginning of the right
+    // text; if all wrong lines are asked for, what any fault left.
     ensures faults { result ≡ 1
         → (ParsesForAudit (map string_bytes words.now)
         × Audits (audit_asked_by (map string_bytes words.now)) (S.loaded source.old)
-        (S.loaded source.new) (W.contents out.old) (W.contents out.new) false
-        × (err.new ≡ err.old))
+        (S.loaded source.new) (W.contents out.old.writer) (W.contents out.new.writer) false
+        × (out.new.is_flushed ≡ true) × (err.new ≡ err.old))
         ⊎ ((fault : Fault)
         × NamesOneOf (files_of (audit_asked_by (map string_bytes words.now))) fault
         × (ParsesForAudit (map string_bytes words.now)
         → IsRightAuditFault (audit_asked_by (map string_bytes words.now)) (S.loaded source.old)
-        (S.loaded source.new) (S.refused source.new) fault (W.contents out.old)
-        (W.contents out.new))
+        (S.loaded source.new) (S.refused source.new) fault (W.contents out.old.writer)
+        (W.contents out.new.writer))
         × AuditGaveUp (audit_asked_by (map string_bytes words.now)).all fault
         (E.contents err.old.writer) (E.contents err.new.writer) err.new.failed
-        (W.contents out.old) (W.contents out.new)) }
+        (W.contents out.old.writer) (W.contents out.new.writer)) }
 
     // Words that are no command line end well only if they ask for help or the version.
     ensures helped { ¬ ParsesForAudit (map string_bytes words.now) → result ≡ 0
@@ -383,7 +409,7 @@ pub fn main_over<R: RandomSource, S: Source, W: Write, E: Write>(
         → (¬ AsksForAuditText (map string_bytes words.now))
         → (result ≡ 2) ⊎ ((result ≡ 1) × AuditGaveUp false Fault.NoMemory
         (E.contents err.old.writer) (E.contents err.new.writer) err.new.failed
-        (W.contents out.old) (W.contents out.new)) }
+        (W.contents out.old.writer) (W.contents out.new.writer)) }
 
     // The first word of a fare table with a wrong date, or with none if one is wanted, is reported.
     ensures mis_dated { (word : List ℕ) (why : DateFault) → ParsesForAudit (map string_bytes words.now)
@@ -391,7 +417,7 @@ pub fn main_over<R: RandomSource, S: Source, W: Write, E: Write>(
         → ((result ≡ 2) × LineWritten (E.contents err.old.writer) (E.contents err.new.writer)
         err.new.failed (codes "fault: " ++ date_text word why))
         ⊎ ((result ≡ 1) × AuditGaveUp false Fault.NoMemory (E.contents err.old.writer)
-        (E.contents err.new.writer) err.new.failed (W.contents out.old) (W.contents out.new)) }
+        (E.contents err.new.writer) err.new.failed (W.contents out.old.writer) (W.contents out.new.writer)) }
 
     // Only such words have status 2.
     ensures right { result ≡ 2 → (¬ ParsesForAudit (map string_bytes words.now))
@@ -402,7 +428,7 @@ pub fn main_over<R: RandomSource, S: Source, W: Write, E: Write>(
 
     // A mistake in the words loads nothing and writes nothing to `out`.
     ensures unloaded { result ≡ 2 → S.loaded source.new ≡ S.loaded source.old }
-    ensures unwritten { result ≡ 2 → Keeps (W.contents out.old) (W.contents out.new) }
+    ensures unwritten { result ≡ 2 → Keeps (W.contents out.old.writer) (W.contents out.new.writer) }
     ensures status { result ≤ 2 }
 {
     let options = match Options::read(alloc, words) {
@@ -413,8 +439,7 @@ pub fn main_over<R: RandomSource, S: Source, W: Write, E: Write>(
         return report_wrong(err, wrong);
     }
     match audit(rt, alloc, &options, source, out) {
-        Ok(true) => 0,
-        Ok(false) => 1,
+        Ok(is_well) => finish(is_well, out, err),
         Err(fault) => report_fault(err, &fault),
     }
 }

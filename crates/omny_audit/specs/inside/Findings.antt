@@ -1,10 +1,13 @@
 -- Findings: what private functions alone cite.
-use Rattle.std.specs.Prelude.{◌≡◌, ℕ, Bool, List, [], map, nat_eq, Option, IsTrue, true}
+use Rattle.std.specs.Prelude.{◌≡◌, ◌⊎◌, ℕ, Bool, List, [], map, nat_eq, Option, IsTrue, true}
 use Rattle.std.specs.Io.KnownBytes.{Appends}
 use Rattle.fare_table.specs.Fares.{Fares}
 use Rattle.shard_book.specs.declared.entry.Entry.{Entry}
+use Rattle.fare_texts.specs.WrittenOut.{Begins}
+use Rattle.ledger_check.specs.FirstLines.{AreFirstTaken}
 use Rattle.ledger_check.specs.Ledger.{IsLedgerOf}
-use Rattle.ledger_check.specs.Recounts.{IsRecount, TakenLine, recount_text, taps_from, wrong_count}
+use Rattle.ledger_check.specs.Recounts.{IsRecount, TakenLine, recount_text, remark_lines}
+use Rattle.ledger_check.specs.Recounts.{taps_from, wrong_count}
 use Rattle.ledger_check.specs.Struck.{tap_of_entry}
 use Rattle.ledger_check.specs.Verdicts.{is_legal}
 use Rattle.ledger_check.specs.declared.checker.Verdict.{Verdict}
@@ -31,3 +34,12 @@ pub record HasRecountedAll (fares : Fares) (has_uploads : Bool) (full : FullBala
   pub is_legal : legal ≡ nat_eq (wrong_count taken) 0
   pub struck : has_uploads ≡ true → IsFullBalance full good (taps_from taken)
   pub written : Appends out out' (recount_text taken)
+
+-- What was written is a beginning of the remarks on the first lines of the text, or of all that is
+-- reported of its lines.
+abbrev pub HasBegunRecount : Fares → List ℕ → Option (List ℕ) → Option (List ℕ) → Type 0
+HasBegunRecount fares text out out' =
+    ((first : List TakenLine) × AreFirstTaken fares text first
+    × Begins out out' (remark_lines first))
+    ⊎ ((taken : List TakenLine) × IsRecount fares text taken
+    × Begins out out' (recount_text taken))

@@ -1,16 +1,21 @@
 -- What is read of what was read so far is what the recount was fed.
 use Rattle.std.proofs.Common.{◌≡◌, ◌++◌, ℕ, List, [], true, refl, take, sym, ap, subst, ◌∙◌}
-use Rattle.std.proofs.Common.{append-nil, arith}
+use Rattle.std.proofs.Common.{Option, append-nil, arith, inr}
 use Rattle.std.specs.Prelude.{is_some}
 use Rattle.std.specs.Io.KnownBytes.{Appends}
 use Rattle.ledger_check.specs.Columns.{read_as}
 use Rattle.ledger_check.specs.FullBalances.{IsFullBalance}
+use Rattle.fare_texts.specs.WrittenOut.{Begins}
+use Rattle.fare_texts.proofs.Beginnings.{begins_behind, begins_whole}
+use Rattle.ledger_check.specs.Recounts.{IsRecount}
 use Rattle.ledger_check.specs.RecountStates.{HasRecounted}
 use Rattle.tap_views.specs.declared.encoder.TapFields.{TapFields}
-use Rattle.omny_audit.specs.inside.Findings.{HasRecountedAll}
+use Rattle.omny_audit.specs.Traced.{Wanted}
+use Rattle.omny_audit.specs.inside.Findings.{HasBegunRecount, HasRecountedAll}
 use Rattle.omny_audit.specs.inside.Reports.{HasSummedFor}
 use Rattle.omny_audit.specs.inside.Traced.{HasReadAll, wanted_by}
 use Rattle.std.proofs.KnownBytes.{Consumes-trans, Consumes-nil, Appends-trans, Appends-nil}
+use Rattle.omny_audit.proofs.BegunAudits.{after_any, begun_so_far}
 use Rattle.omny_audit.proofs.ReadLemmas.{at_end}
 use Rattle.omny_audit.proofs.full_audit.recount_all.Goals as goal
 
@@ -56,7 +61,7 @@ returns-then-count-eq0-clause-reported g c =
     → Type 0 = λ file. ((good : List TapFields)
     → (c.args.has_uploads ≡ true → IsFullBalance c.args.full.now good [])
     → HasRecountedAll fares c.args.has_uploads c.end_recount.new.full (read_as traced file) good
-    legal (g.W.Write.contents c.args.out.now) (g.W.Write.contents c.write_piece.new.out))
+    legal (g.W.Write.contents c.args.out.now) (g.W.Write.contents c.write_text.new.out))
     × HasSummedFor fares c.end_recount.new.report (read_as traced file)
     × HasReadAll c.end_recount.new.trace file in
     let reported = at_end Is _ _ _
@@ -75,11 +80,11 @@ returns-then-count-eq0-clause-reported g c =
             struck = ended.3;
             written = subst
                 (λ (t : List ℕ). Appends (g.W.Write.contents c.args.out.now)
-                (g.W.Write.contents c.write_piece.new.out) t) ended.6
+                (g.W.Write.contents c.write_text.new.out) t) ended.6
                 (Appends-trans _ _ _ now.0 ended.4 now.2
                 (subst (λ (t : List ℕ). Appends (g.W.Write.contents c.loop-piece.out)
-                (g.W.Write.contents c.write_piece.new.out) t) (c.as_str.ensures.value ∙ more)
-                c.in_ok-write_piece.ensures.text));
+                (g.W.Write.contents c.write_text.new.out) t) (c.as_bytes.ensures.value ∙ more)
+                c.in_ok-write_text.ensures.text));
           },
       c.in_ok-legal.ensures.sums before.file before.text before.as_text before.sums,
       c.in_ok-legal.ensures.all before.file before.text before.as_text,
@@ -118,10 +123,122 @@ loop-piece-preserved g c =
                 c.feed.new.full (before.text ++ t) (now.0 ++ fed.0) good) part fed.2,
             Appends-trans _ _ _ now.0 fed.0 now.2
                 (subst (λ (t : List ℕ). Appends (g.W.Write.contents c.loop-piece.out)
-                (g.W.Write.contents c.write_piece-in-loop-piece.new.out) t)
-                (c.as_str-in-loop-piece.ensures.value ∙ more) c.in_ok-write_piece-2.ensures.text),
+                (g.W.Write.contents c.write_text-in-loop-piece.new.out) t)
+                (c.as_bytes-in-loop-piece.ensures.value ∙ more) c.in_ok-write_text-2.ensures.text),
           );
       sums = subst (λ (t : List ℕ). HasSummedFor fares c.add_piece.new.report (before.text ++ t))
           part (c.in_ok-add_piece.ensures.sums before.text before.sums);
       report = c.add_piece.ensures.text ∙ before.report;
     }
+
+-- what was written so far is a beginning, if the next piece is not taken
+pub returns-in_default-clause-begun : goal.returns-in_default-clause-begun
+returns-in_default-clause-begun g c =
+    let before = c.loop-piece.invariant in
+    let now = before.known c.requires.good.0 c.requires.good.1 in
+    begun_so_far c.loop-piece.trace (wanted_by c.args.trace.now) c.args.table.now
+    c.loop-piece.recount c.args.has_uploads c.loop-piece.full before.file before.text now.0
+    c.requires.good.0 _ _ _ _ before.as_text before.wanted now.1 before.read
+    (begins_whole _ _ _ now.2)
+
+pub returns-clause-begun : goal.returns-clause-begun
+returns-clause-begun g c =
+    let before = c.loop-piece.invariant in
+    let now = before.known c.requires.good.0 c.requires.good.1 in
+    begun_so_far c.loop-piece.trace (wanted_by c.args.trace.now) c.args.table.now
+    c.loop-piece.recount c.args.has_uploads c.loop-piece.full before.file before.text now.0
+    c.requires.good.0 _ _ _ _ before.as_text before.wanted now.1 before.read
+    (begins_whole _ _ _ now.2)
+
+pub returns-in_err-legal-clause-begun : goal.returns-in_err-legal-clause-begun
+returns-in_err-legal-clause-begun g c =
+    let before = c.loop-piece.invariant in
+    let now = before.known c.requires.good.0 c.requires.good.1 in
+    after_any c.from_residual.result _
+    (begun_so_far c.loop-piece.trace (wanted_by c.args.trace.now) c.args.table.now
+    c.loop-piece.recount c.args.has_uploads c.loop-piece.full before.file before.text now.0
+    c.requires.good.0 _ _ _ _ before.as_text before.wanted now.1 before.read
+    (begins_whole _ _ _ now.2))
+
+pub returns-in_err-read_piece-clause-begun : goal.returns-in_err-read_piece-clause-begun
+returns-in_err-read_piece-clause-begun g c =
+    let before = c.loop-piece.invariant in
+    let now = before.known c.requires.good.0 c.requires.good.1 in
+    after_any c.from_residual-in_err-read_piece.result _
+    (begun_so_far c.loop-piece.trace (wanted_by c.args.trace.now) c.args.table.now
+    c.loop-piece.recount c.args.has_uploads c.loop-piece.full before.file before.text now.0
+    c.requires.good.0 _ _ _ _ before.as_text before.wanted now.1 before.read
+    (begins_whole _ _ _ now.2))
+
+pub returns-in_err-feed-clause-begun : goal.returns-in_err-feed-clause-begun
+returns-in_err-feed-clause-begun g c =
+    let before = c.loop-piece.invariant in
+    let now = before.known c.requires.good.0 c.requires.good.1 in
+    after_any c.from_residual-in_err-feed.result _
+    (begun_so_far c.loop-piece.trace (wanted_by c.args.trace.now) c.args.table.now
+    c.loop-piece.recount c.args.has_uploads c.loop-piece.full before.file before.text now.0
+    c.requires.good.0 _ _ _ _ before.as_text before.wanted now.1 before.read
+    (begins_whole _ _ _ now.2))
+
+pub returns-in_err-add_piece-clause-begun : goal.returns-in_err-add_piece-clause-begun
+returns-in_err-add_piece-clause-begun g c =
+    let before = c.loop-piece.invariant in
+    let now = before.known c.requires.good.0 c.requires.good.1 in
+    after_any c.from_residual-in_err-add_piece.result _
+    (begun_so_far c.loop-piece.trace (wanted_by c.args.trace.now) c.args.table.now
+    c.loop-piece.recount c.args.has_uploads c.loop-piece.full before.file before.text now.0
+    c.requires.good.0 _ _ _ _ before.as_text before.wanted now.1 before.read
+    (begins_whole _ _ _ now.2))
+
+-- and what a write of the last piece left, of all lines
+pub returns-in_err-write_text-clause-begun : goal.returns-in_err-write_text-clause-begun
+returns-in_err-write_text-clause-begun g c =
+    let before = c.loop-piece.invariant in
+    let now = before.known c.requires.good.0 c.requires.good.1 in
+    let fares = c.args.table.now in
+    let got = c.in-Ok.ensures.bytes in
+    let out = g.W.Write.contents c.args.out.now in
+    let last = g.W.Write.contents c.write_text.new.out in
+    let none = ap (λ (n : ℕ). before.file ++ take n c.read.new.buf) c.if-count-eq0.true
+    ∙ append-nil before.file in
+    let Is : List ℕ → Type 0 = λ file. HasBegunRecount fares
+    (read_as (is_some (wanted_by c.args.trace.now)) file) out last in
+    let ended = c.in_ok-legal.ensures.reported before.file before.text now.0 c.requires.good.0
+    before.as_text now.1 in
+    let more = ended.5 ∙ ap (λ (t : List ℕ). t ++ ended.4) c.clear.ensures.bytes in
+    after_any c.from_residual-in_err-write_text.result _
+    (at_end Is _ _ _
+    (Consumes-trans _ _ _ before.file (take c.in-Ok.count c.read.new.buf) before.read got.0)
+    (got.1 c.if-count-eq0.true (omega arith))
+    (subst Is (sym none) (inr (
+      ended.0,
+      subst (λ (w : Option Wanted). IsRecount fares (read_as (is_some w) before.file) ended.0)
+          (c.end_recount.ensures.wanted ∙ before.wanted) ended.1,
+      subst (λ (t : List ℕ). Begins out last t) ended.6
+          (begins_behind _ _ _ now.0 ended.4 now.2
+          (subst (λ (t : List ℕ). Begins (g.W.Write.contents c.loop-piece.out) last t)
+          (c.as_bytes.ensures.value ∙ more) c.in_err-write_text.ensures.begun)),
+    ))))
+
+-- and what a write of the next piece left
+pub returns-in_err-write_text-2-clause-begun : goal.returns-in_err-write_text-2-clause-begun
+returns-in_err-write_text-2-clause-begun g c =
+    let before = c.loop-piece.invariant in
+    let now = before.known c.requires.good.0 c.requires.good.1 in
+    let fares = c.args.table.now in
+    let got = c.in-Ok.ensures.bytes in
+    let fed = c.in_ok-feed.ensures before.text now.0 c.requires.good.0 now.1 in
+    let more = fed.1 ∙ ap (λ (t : List ℕ). t ++ fed.0) c.clear.ensures.bytes in
+    after_any c.from_residual-in_err-write_text-2.result _
+    (begun_so_far c.read_piece.new.trace (wanted_by c.args.trace.now) fares c.feed.new.self
+    c.args.has_uploads c.feed.new.full (before.file ++ take c.in-Ok.count c.read.new.buf)
+    (before.text ++ c.read_piece.new.text.items) (now.0 ++ fed.0) c.requires.good.0 _ _ _ _
+    (c.in_ok-read_piece.ensures.read before.file before.text before.as_text)
+    (c.read_piece.ensures.wanted ∙ before.wanted)
+    (subst (λ (t : List ℕ). HasRecounted fares c.feed.new.self c.args.has_uploads c.feed.new.full
+    (before.text ++ t) (now.0 ++ fed.0) c.requires.good.0) c.as_slice-part.ensures.value fed.2)
+    (Consumes-trans _ _ _ before.file (take c.in-Ok.count c.read.new.buf) before.read got.0)
+    (begins_behind _ _ _ now.0 fed.0 now.2
+    (subst (λ (t : List ℕ). Begins (g.W.Write.contents c.loop-piece.out)
+    (g.W.Write.contents c.write_text-in-loop-piece.new.out) t)
+    (c.as_bytes-in-loop-piece.ensures.value ∙ more) c.in_err-write_text-2.ensures.begun)))

@@ -1,17 +1,18 @@
 use Rattle.std.proofs.Common.{◌∙◌, ℕ, Bool, Bor, Option, Some, List, ap, false, map, not, subst}
-use Rattle.std.proofs.Common.{sym, true}
+use Rattle.std.proofs.Common.{inr, sym, true}
+use Rattle.std.proofs.KnownBytes.{Keeps-refl}
 use Rattle.std.proofs.lemmas.Result.{IfOk-weaker}
 use Rattle.std.specs.Fmt.{option_append}
 use Rattle.tap_views.specs.declared.encoder.TapFields.{TapFields}
 use Rattle.omny_audit.specs.Fault.{NamesOneOf}
 use Rattle.omny_audit.specs.Options.{files_of}
-use Rattle.omny_audit.specs.Reports.{IsAudit}
+use Rattle.omny_audit.specs.Reports.{HasBegunAudit, IsAudit}
 use Rattle.omny_audit.specs.inside.Options.{audit_asked_of}
 use Rattle.omny_audit.specs.inside.Reports.{text_of}
 use Rattle.omny_audit.specs.inside.Traced.{uploads_in, wanted_by}
 use Rattle.omny_audit.specs.Program.{IsRightAuditFault, compared}
 use Rattle.omny_audit.proofs.ProgramLemmas.{at_ledger, at_report, at_tables, at_uploads, both_err}
-use Rattle.omny_audit.proofs.ProgramLemmas.{compared_is}
+use Rattle.omny_audit.proofs.ProgramLemmas.{compared_is, has_loaded, not_both}
 use Rattle.omny_audit.proofs.ProgramLemmas.{kept_all, kept_lists, loads_same, names_none, names_same}
 use Rattle.omny_audit.proofs.ProgramLemmas.{loaded_ledger, loaded_report, reads_ledger, right_later}
 use Rattle.omny_audit.proofs.ProgramLemmas.{right_of_names, written_first}
@@ -44,11 +45,7 @@ returns-clause-ok g c =
     let same = compared_is c.as_slice-names.result.now loaded.1 _
     (ap not c.is_empty-has_uploads.ensures)
     ∙ ap (λ (ns : List (Bor (List ℕ))). compared (map (λ n. n.now) ns) loaded.1) names in
-    let reported = text_of c.in_ok-report.report in
-    let found = subst (λ (good : Option (List TapFields)). IsAudit false c.in_ok-tables.tables.fares
-    (wanted_by c.in_ok-trace.trace) audited.0 finding.1 good reported finding.0 well) same
-    finding.2 in
-    let ledger = reads_ledger _ _ _ _ _ _ c.in_ok-head.head.items c.as_slice.result.now
+    let reads = reads_ledger _ _ _ _ _ _ c.in_ok-head.head.items c.as_slice.result.now
     c.in_ok-tables.tables.fares
     (map (λ t. t.items) c.in_ok-tables.tables.texts.items) audited.0
     (uploads_in c.kept_if-kept.result) (compared (map (λ n. n.now) c.args.options.now.uploads.items) loaded.5)
@@ -61,34 +58,21 @@ returns-clause-ok g c =
     ∙ ap (λ (h : List ℕ). option_append (Some h)
     (g.S.Ledger.Read.remaining c.read_head.new.ledger)) c.from.ensures.0) audited.1
     c.in_ok-trace.ensures.wanted in
+    let files = has_loaded (audit_asked_of c.args.options.now) _ _ _ _ _ c.in_ok-tables.tables.fares _
+    loaded.0 loaded.1 loaded.5 (text_of c.in_ok-report.report) (wanted_by c.in_ok-trace.trace) audited.0
+    c.in_ok-tables.ensures.ok
+    (loads_same c.as_slice-names.result.now c.args.options.now.uploads.items _ _ loaded.0 names loaded.2)
+    loaded.3 loaded.6 c.in_ok-report.ensures.ok reads in
+    let found = subst (λ (good : Option (List TapFields)). IsAudit false files.fares files.wanted
+    files.ledger finding.1 good files.report finding.0 well) same finding.2 in
     record {
       text = finding.0;
       found = record {
-        after_table = _;
-        after_uploads = _;
-        after_report = _;
-        fares = c.in_ok-tables.tables.fares;
-        texts = _;
-        loads_tables = c.in_ok-tables.ensures.ok;
-        uploads = loaded.0;
-        loads_uploads = loads_same c.as_slice-names.result.now c.args.options.now.uploads.items _ _
-            loaded.0 names loaded.2;
-        good = loaded.1;
-        are_good = loaded.3;
-        lists = loaded.5;
-        are_lists = loaded.6;
-        report = reported;
-        loads_report = c.in_ok-report.ensures.ok;
-        ledger = audited.0;
-        loads_ledger = ledger.is_loaded;
-        traced = ledger.traced;
-        is_traced = ledger.is_traced;
-        wanted = wanted_by c.in_ok-trace.trace;
-        are_wanted = ledger.are_wanted;
+        files = files;
         read = finding.1;
-        audit = subst (λ (b : Bool). IsAudit b c.in_ok-tables.tables.fares (wanted_by c.in_ok-trace.trace)
-            audited.0 finding.1 (compared (map (λ n. n.now) c.args.options.now.uploads.items) loaded.1)
-            reported finding.0 well) (sym c.if-options.false) found;
+        audit = subst (λ (b : Bool). IsAudit b files.fares files.wanted files.ledger finding.1
+            (compared (map (λ n. n.now) c.args.options.now.uploads.items) loaded.1) files.report
+            finding.0 well) (sym c.if-options.false) found;
         right = c.audits_decide.ensures _ _ _ _ _ _ _ _ _ found;
       };
       written = finding.3;
@@ -104,11 +88,7 @@ returns-then-options-clause-ok g c =
     let same = compared_is c.as_slice-names.result.now loaded.1 _
     (ap not c.is_empty-has_uploads.ensures)
     ∙ ap (λ (ns : List (Bor (List ℕ))). compared (map (λ n. n.now) ns) loaded.1) names in
-    let reported = text_of c.in_ok-report.report in
-    let found = subst (λ (good : Option (List TapFields)). IsAudit true c.in_ok-tables.tables.fares
-    (wanted_by c.in_ok-trace.trace) audited.0 finding.1 good reported finding.0 well) same
-    finding.2 in
-    let ledger = reads_ledger _ _ _ _ _ _ c.in_ok-head.head.items c.as_slice.result.now
+    let reads = reads_ledger _ _ _ _ _ _ c.in_ok-head.head.items c.as_slice.result.now
     c.in_ok-tables.tables.fares
     (map (λ t. t.items) c.in_ok-tables.tables.texts.items) audited.0
     (uploads_in c.kept_if-kept.result) (compared (map (λ n. n.now) c.args.options.now.uploads.items) loaded.5)
@@ -121,34 +101,21 @@ returns-then-options-clause-ok g c =
     ∙ ap (λ (h : List ℕ). option_append (Some h)
     (g.S.Ledger.Read.remaining c.read_head.new.ledger)) c.from.ensures.0) audited.1
     c.in_ok-trace.ensures.wanted in
+    let files = has_loaded (audit_asked_of c.args.options.now) _ _ _ _ _ c.in_ok-tables.tables.fares _
+    loaded.0 loaded.1 loaded.5 (text_of c.in_ok-report.report) (wanted_by c.in_ok-trace.trace) audited.0
+    c.in_ok-tables.ensures.ok
+    (loads_same c.as_slice-names.result.now c.args.options.now.uploads.items _ _ loaded.0 names loaded.2)
+    loaded.3 loaded.6 c.in_ok-report.ensures.ok reads in
+    let found = subst (λ (good : Option (List TapFields)). IsAudit true files.fares files.wanted
+    files.ledger finding.1 good files.report finding.0 well) same finding.2 in
     record {
       text = finding.0;
       found = record {
-        after_table = _;
-        after_uploads = _;
-        after_report = _;
-        fares = c.in_ok-tables.tables.fares;
-        texts = _;
-        loads_tables = c.in_ok-tables.ensures.ok;
-        uploads = loaded.0;
-        loads_uploads = loads_same c.as_slice-names.result.now c.args.options.now.uploads.items _ _
-            loaded.0 names loaded.2;
-        good = loaded.1;
-        are_good = loaded.3;
-        lists = loaded.5;
-        are_lists = loaded.6;
-        report = reported;
-        loads_report = c.in_ok-report.ensures.ok;
-        ledger = audited.0;
-        loads_ledger = ledger.is_loaded;
-        traced = ledger.traced;
-        is_traced = ledger.is_traced;
-        wanted = wanted_by c.in_ok-trace.trace;
-        are_wanted = ledger.are_wanted;
+        files = files;
         read = finding.1;
-        audit = subst (λ (b : Bool). IsAudit b c.in_ok-tables.tables.fares (wanted_by c.in_ok-trace.trace)
-            audited.0 finding.1 (compared (map (λ n. n.now) c.args.options.now.uploads.items) loaded.1)
-            reported finding.0 well) (sym c.if-options.true) found;
+        audit = subst (λ (b : Bool). IsAudit b files.fares files.wanted files.ledger finding.1
+            (compared (map (λ n. n.now) c.args.options.now.uploads.items) loaded.1) files.report
+            finding.0 well) (sym c.if-options.true) found;
         right = c.audits_decide.ensures _ _ _ _ _ _ _ _ _ found;
       };
       written = finding.3;
@@ -187,7 +154,7 @@ returns-in_err-balance-clause-right g c =
     let asked = audit_asked_of c.args.options.now in
     handed_on c.from_residual-in_err-balance.result fault (λ f. IsRightAuditFault asked _ _ _ f _ _)
     c.from_residual-in_err-balance.ensures.1
-    (written_first asked _ _ _ fault _ _ c.in_err-balance.ensures.fault
+    (written_first asked _ _ _ fault _ _ c.in_err-balance.ensures.fault (Keeps-refl _)
     (c.in_err-balance.ensures.right asked.table _ _))
 
 pub returns-in_err-report-clause-right : goal.returns-in_err-report-clause-right
@@ -196,7 +163,7 @@ returns-in_err-report-clause-right g c =
     let asked = audit_asked_of c.args.options.now in
     handed_on c.from_residual-in_err-report.result fault (λ f. IsRightAuditFault asked _ _ _ f _ _)
     c.from_residual-in_err-report.ensures.1
-    (written_first asked _ _ _ fault _ _ c.in_err-report.ensures.fault
+    (written_first asked _ _ _ fault _ _ c.in_err-report.ensures.fault (Keeps-refl _)
     (c.in_err-report.ensures.right asked.table _ _))
 
 pub returns-in_err-ledger-clause-right : goal.returns-in_err-ledger-clause-right
@@ -205,7 +172,7 @@ returns-in_err-ledger-clause-right g c =
     let asked = audit_asked_of c.args.options.now in
     handed_on c.from_residual-in_err-ledger.result fault (λ f. IsRightAuditFault asked _ _ _ f _ _)
     c.from_residual-in_err-ledger.ensures.1
-    (written_first asked _ _ _ fault _ _ c.in_err-ledger.ensures.fault
+    (written_first asked _ _ _ fault _ _ c.in_err-ledger.ensures.fault (Keeps-refl _)
     (c.in_err-ledger.ensures.right asked.table _ _))
 
 -- the ledger was read, and what a write that failed left is a beginning of the right text
@@ -222,11 +189,7 @@ returns-clause-right g c =
           let same = compared_is c.as_slice-names.result.now loaded.1 _
           (ap not c.is_empty-has_uploads.ensures)
           ∙ ap (λ (ns : List (Bor (List ℕ))). compared (map (λ n. n.now) ns) loaded.1) names in
-          let reported = text_of c.in_ok-report.report in
-          let found = subst (λ (good : Option (List TapFields)). IsAudit false c.in_ok-tables.tables.fares
-          (wanted_by c.in_ok-trace.trace) audited.0 finding.2 good reported finding.0 finding.1) same
-          finding.3 in
-          let ledger = reads_ledger _ _ _ _ _ _ c.in_ok-head.head.items c.as_slice.result.now
+          let reads = reads_ledger _ _ _ _ _ _ c.in_ok-head.head.items c.as_slice.result.now
           c.in_ok-tables.tables.fares
           (map (λ t. t.items) c.in_ok-tables.tables.texts.items) audited.0
           (uploads_in c.kept_if-kept.result) (compared (map (λ n. n.now) c.args.options.now.uploads.items) loaded.5)
@@ -239,42 +202,72 @@ returns-clause-right g c =
           ∙ ap (λ (h : List ℕ). option_append (Some h)
           (g.S.Ledger.Read.remaining c.read_head.new.ledger)) c.from.ensures.0) audited.1
           c.in_ok-trace.ensures.wanted in
+          let files = has_loaded (audit_asked_of c.args.options.now) _ _ _ _ _ c.in_ok-tables.tables.fares _
+          loaded.0 loaded.1 loaded.5 (text_of c.in_ok-report.report) (wanted_by c.in_ok-trace.trace) audited.0
+          c.in_ok-tables.ensures.ok
+          (loads_same c.as_slice-names.result.now c.args.options.now.uploads.items _ _ loaded.0 names loaded.2)
+          loaded.3 loaded.6 c.in_ok-report.ensures.ok reads in
+          let found = subst (λ (good : Option (List TapFields)). IsAudit false files.fares files.wanted
+          files.ledger finding.2 good files.report finding.0 finding.1) same finding.3 in
           record {
             text = finding.0;
             well = finding.1;
             found = record {
-              after_table = _;
-              after_uploads = _;
-              after_report = _;
-              fares = c.in_ok-tables.tables.fares;
-              texts = _;
-              loads_tables = c.in_ok-tables.ensures.ok;
-              uploads = loaded.0;
-              loads_uploads = loads_same c.as_slice-names.result.now
-                  c.args.options.now.uploads.items _ _ loaded.0 names loaded.2;
-              good = loaded.1;
-              are_good = loaded.3;
-              lists = loaded.5;
-              are_lists = loaded.6;
-              report = reported;
-              loads_report = c.in_ok-report.ensures.ok;
-              ledger = audited.0;
-              loads_ledger = ledger.is_loaded;
-              traced = ledger.traced;
-              is_traced = ledger.is_traced;
-              wanted = wanted_by c.in_ok-trace.trace;
-              are_wanted = ledger.are_wanted;
+              files = files;
               read = finding.2;
-              audit = subst (λ (b : Bool). IsAudit b c.in_ok-tables.tables.fares
-                  (wanted_by c.in_ok-trace.trace) audited.0 finding.2
-                  (compared (map (λ n. n.now) c.args.options.now.uploads.items) loaded.1) reported
+              audit = subst (λ (b : Bool). IsAudit b files.fares files.wanted files.ledger finding.2
+                  (compared (map (λ n. n.now) c.args.options.now.uploads.items) loaded.1) files.report
                   finding.0 finding.1) (sym c.if-options.false) found;
               right = c.audits_decide.ensures _ _ _ _ _ _ _ _ _ found;
             };
             begun = finding.4;
           };
+      begun_of_all = λ all. absurd (not_both c.args.options.now.all c.if-options.false all);
     })
     c.audit_over.ensures.later c.audit_over.ensures.begun
+
+-- all lines were asked for, and what any fault left is a beginning of the right text
+pub returns-then-options-clause-right : goal.returns-then-options-clause-right
+returns-then-options-clause-right g c =
+    let loaded = c.in_ok-balance.ensures.ok in
+    both_err c.full_audit_over.result _ _ _ (λ fault later begun.
+    let names = c.as_slice-names.ensures.value in
+    let same = compared_is c.as_slice-names.result.now loaded.1 _
+    (ap not c.is_empty-has_uploads.ensures)
+    ∙ ap (λ (ns : List (Bor (List ℕ))). compared (map (λ n. n.now) ns) loaded.1) names in
+    let reads = reads_ledger _ _ _ _ _ _ c.in_ok-head.head.items c.as_slice.result.now
+    c.in_ok-tables.tables.fares
+    (map (λ t. t.items) c.in_ok-tables.tables.texts.items) begun.0
+    (uploads_in c.kept_if-kept.result) (compared (map (λ n. n.now) c.args.options.now.uploads.items) loaded.5)
+    (wanted_by c.in_ok-trace.trace)
+    c.in_ok-ledger.ensures.ok c.in_ok-head.ensures.read c.in_ok-head.ensures.enough
+    c.as_slice.ensures.value
+    (kept_lists c.as_slice-names.result.now c.args.options.now.uploads.items _ _ _ loaded.5
+    c.kept_if-kept.ensures.uploads loaded.7.taps (ap not c.is_empty-has_uploads.ensures) names)
+    (c.chain-whole.ensures.bytes
+    ∙ ap (λ (h : List ℕ). option_append (Some h)
+    (g.S.Ledger.Read.remaining c.read_head.new.ledger)) c.from.ensures.0) begun.1
+    c.in_ok-trace.ensures.wanted in
+    let files = has_loaded (audit_asked_of c.args.options.now) _ _ _ _ _ c.in_ok-tables.tables.fares _
+    loaded.0 loaded.1 loaded.5 (text_of c.in_ok-report.report) (wanted_by c.in_ok-trace.trace) begun.0
+    c.in_ok-tables.ensures.ok
+    (loads_same c.as_slice-names.result.now c.args.options.now.uploads.items _ _ loaded.0 names loaded.2)
+    loaded.3 loaded.6 c.in_ok-report.ensures.ok reads in
+    record {
+      right = right_later _ _ _ _ fault later;
+      begun = λ all un. absurd (not_both c.args.options.now.all all c.if-options.true);
+      begun_of_all = λ all. inr (record {
+        files = files;
+        begun = subst (λ (b : Bool). HasBegunAudit b files.fares files.wanted files.ledger
+            (compared (map (λ n. n.now) c.args.options.now.uploads.items) loaded.1) files.report
+            (g.W.Write.contents c.args.out.now) (g.W.Write.contents c.full_audit_over.new.out))
+            (sym all)
+            (subst (λ (good : Option (List TapFields)). HasBegunAudit true files.fares files.wanted
+            files.ledger good files.report (g.W.Write.contents c.args.out.now)
+            (g.W.Write.contents c.full_audit_over.new.out)) same (begun.2 loaded.1 loaded.4));
+      });
+    })
+    c.full_audit_over.ensures.later c.full_audit_over.ensures.begun
 
 pub returns-in_err-ledger-clause-fault : goal.returns-in_err-ledger-clause-fault
 returns-in_err-ledger-clause-fault g c = λ all. kept_all c.from_residual-in_err-ledger.result
@@ -302,7 +295,7 @@ returns-in_err-head-clause-right g c =
     let asked = audit_asked_of c.args.options.now in
     handed_on c.from_residual-in_err-head.result fault (λ f. IsRightAuditFault asked _ _ _ f _ _)
     c.from_residual-in_err-head.ensures.1
-    (written_first asked _ _ _ fault _ _ c.in_err-head.ensures.fault
+    (written_first asked _ _ _ fault _ _ c.in_err-head.ensures.fault (Keeps-refl _)
     (right_later asked.table _ _ _ fault c.in_err-head.ensures.later))
 
 -- the tables were loaded first, and then the uploads, the report and the ledger
@@ -318,7 +311,7 @@ returns-in_err-trace-clause-right g c =
     handed_on c.from_residual-in_err-trace.result fault (λ f. IsRightAuditFault asked _ _ _ f _ _)
     c.from_residual-in_err-trace.ensures.1
     (right_of_names asked _ _ _ _ _ c.in_ok-tables.tables.fares c.in_ok-tables.ensures.ok _ behind
-    wrong.0 wrong.1 fault _ _ wrong.2 c.in_err-trace.ensures.fault)
+    wrong.0 wrong.1 fault _ _ wrong.2 c.in_err-trace.ensures.fault (Keeps-refl _))
 
 pub returns-in_err-head-clause-fault : goal.returns-in_err-head-clause-fault
 returns-in_err-head-clause-fault g c = λ all. kept_all c.from_residual-in_err-head.result
@@ -344,4 +337,5 @@ returns-in_err-tables-clause-right g c =
     let asked = audit_asked_of c.args.options.now in
     handed_on c.from_residual.result fault (λ f. IsRightAuditFault asked _ _ _ f _ _)
     c.from_residual.ensures.1
-    (written_first asked _ _ _ fault _ _ c.in_err-tables.ensures.fault c.in_err-tables.ensures.right)
+    (written_first asked _ _ _ fault _ _ c.in_err-tables.ensures.fault (Keeps-refl _)
+    c.in_err-tables.ensures.right)

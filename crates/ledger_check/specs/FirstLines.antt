@@ -1,0 +1,18 @@
+-- What is reported of the first lines of a text.
+use Rattle.std.specs.Prelude.{◌≡◌, ℕ, List, ◌++◌}
+use Rattle.fare_table.specs.Fares.{Fares}
+use Rattle.ledger_check.specs.Lines.{lines_of}
+use Rattle.ledger_check.specs.Recounts.{AreTaken, IsRecount, TakenLine, lines_from, recount_text}
+use Rattle.ledger_check.specs.Recounts.{remark_lines}
+
+-- these are the first lines of the text, taken one after another
+pub record AreFirstTaken (fares : Fares) (text : List ℕ) (taken : List TakenLine) : Type 0 where
+  pub are : AreTaken fares taken
+  pub rest : List (List ℕ)
+  pub split : lines_of text ≡ lines_from taken ++ rest
+
+-- the remarks on the first lines of a text are a beginning of the text of each of its recounts
+abbrev pub RecountsGoOn : Type 0
+RecountsGoOn = (fares : Fares) (text : List ℕ) (first taken : List TakenLine)
+    → AreFirstTaken fares text first → IsRecount fares text taken
+    → (more : List ℕ) × (recount_text taken ≡ remark_lines first ++ more)

@@ -1,0 +1,191 @@
+-- What was written when an audit of all lines is broken off is a beginning of what is found of them.
+use Rattle.std.proofs.Common.{◌≡◌, ◌∙◌, ◌++◌, ℕ, Bool, true, List, Option, Some, None, inl, refl}
+use Rattle.std.proofs.Common.{sym, ap, subst, append_assoc, ⊎_elim, if◌then◌else◌}
+use Rattle.std.specs.Prelude.{◌↔◌, ◌&&◌, IfErr, Result, Ok, Err, is_some, nat_eq}
+use Rattle.std.specs.Io.KnownBytes.{Consumes}
+use Rattle.fare_table.specs.Fares.{Fares}
+use Rattle.fare_texts.specs.WrittenOut.{Begins}
+use Rattle.fare_texts.proofs.Beginnings.{begins_front}
+use Rattle.ledger_check.specs.Columns.{read_as}
+use Rattle.ledger_check.specs.FirstLines.{AreFirstTaken, RecountsGoOn}
+use Rattle.ledger_check.specs.FullBalances.{IsFullBalance}
+use Rattle.ledger_check.specs.Ledger.{IsLedger}
+use Rattle.ledger_check.specs.Lines.{lines_of}
+use Rattle.ledger_check.specs.Recounts.{IsRecount, RecountsDecide, TakenLine, recount_text}
+use Rattle.ledger_check.specs.Recounts.{remark_lines, taps_from, wrong_count}
+use Rattle.ledger_check.specs.RecountStates.{HasRecounted}
+use Rattle.ledger_check.specs.declared.full_balance.FullBalance.{FullBalance}
+use Rattle.ledger_check.specs.declared.recount.Recount.{Recount}
+use Rattle.ledger_check.proofs.SameTaken.{same_taken}
+use Rattle.tap_views.specs.declared.encoder.TapFields.{TapFields}
+use Rattle.omny_audit.specs.Findings.{IsDifferencesEnd}
+use Rattle.omny_audit.specs.Reports.{HasBegunAudit, IsAudit, IsReportLine}
+use Rattle.omny_audit.specs.Traced.{AreColumnsReported, ReadLine, Wanted}
+use Rattle.omny_audit.specs.declared.fault.Fault.{Fault}
+use Rattle.omny_audit.specs.declared.traced.Trace.{Trace}
+use Rattle.omny_audit.specs.inside.Findings.{HasBegunRecount}
+use Rattle.omny_audit.specs.inside.Source.{IsAllOf}
+use Rattle.omny_audit.specs.inside.Traced.{HasReadAs, wanted_by}
+use Rattle.omny_audit.proofs.FullFindingLemmas.{recount_legal}
+use Rattle.omny_audit.proofs.ReadLemmas.{whatever_follows}
+use Rattle.omny_audit.proofs.TraceLemmas.{reads_more}
+
+-- what holds after each fault
+pub after_any : {A : Type 0} (r : Result A Fault) (P : Type 0) → P → IfErr r (λ _. P)
+after_any (Ok x) P is = tt
+after_any (Err e) P is = is
+
+-- the lines that were recounted are the first ones of what is read of the file, however it goes on
+first_lines : (trace : Option Trace) (fares : Fares) (recount : Recount) (strikes : Bool)
+    (full : FullBalance) (file text written : List ℕ) (good : List TapFields)
+    → HasReadAs trace file text → (has : HasRecounted fares recount strikes full text written good)
+    → (more : List ℕ)
+    → AreFirstTaken fares (read_as (is_some (wanted_by trace)) (file ++ more)) has.taken
+first_lines trace fares recount strikes full file text written good known has more =
+    let left = reads_more trace file text known more in record {
+      are = has.lines.are;
+      rest = lines_of (has.begun ++ left.0);
+      split = ap lines_of left.1 ∙ has.split left.0;
+    }
+
+-- a beginning of the remarks on the lines so far was written, of a file that goes on or not
+pub begun_so_far : (trace : Option Trace) (wanted : Option Wanted) (fares : Fares)
+    (recount : Recount) (strikes : Bool) (full : FullBalance) (file text written : List ℕ)
+    (good : List TapFields) (left left' out out' : Option (List ℕ))
+    → HasReadAs trace file text → wanted_by trace ≡ wanted
+    → HasRecounted fares recount strikes full text written good
+    → Consumes left left' file → Begins out out' written
+    → (whole : List ℕ) × IsAllOf left whole
+    × HasBegunRecount fares (read_as (is_some wanted) whole) out out'
+begun_so_far trace wanted fares recount strikes full file text written good left left' out out' known
+    same has read begun =
+    whatever_follows
+    (λ (whole : List ℕ). HasBegunRecount fares (read_as (is_some wanted) whole) out out') left left'
+    file read (λ more. inl (
+      has.taken,
+      subst (λ (w : Option Wanted). AreFirstTaken fares (read_as (is_some w) (file ++ more)) has.taken)
+          same
+          (first_lines trace fares recount strikes full file text written good known has more),
+      subst (λ (t : List ℕ). Begins out out' t) has.reported begun,
+    ))
+
+-- what is found of all lines, by its parts
+pub full_audit_of : RecountsDecide → (fares : Fares) (wanted : Option Wanted) (file : List ℕ)
+    (good : Option (List TapFields)) (report : Option (List ℕ)) (taken : List TakenLine)
+    (legal : Bool) (ending columns rest last : List ℕ) (sound right fits well : Bool)
+    (read : List ReadLine)
+    → IsRecount fares (read_as (is_some wanted) file) taken
+    → legal ≡ nat_eq (wrong_count taken) 0
+    → IsDifferencesEnd good (taps_from taken) legal ending sound
+    → AreColumnsReported wanted true file read columns right
+    → IsReportLine fares (read_as (is_some wanted) file) report (legal && right) rest fits
+    → last ≡ (ending ++ columns) ++ rest → well ≡ (sound && (right && fits))
+    → IsAudit true fares wanted file read good report (recount_text taken ++ last) well
+full_audit_of decide fares wanted file good report taken legal ending columns rest last sound right
+    fits well read recount is end are line shown both = record {
+      found = recount_text taken ++ ending;
+      sound = sound;
+      finding = record {
+        taken = taken;
+        recount = recount;
+        rest = ending;
+        shown = refl;
+        second = subst (λ (b : Bool). IsDifferencesEnd good (taps_from taken) b ending sound) is end;
+      };
+      legal = legal;
+      is_legal = subst (λ (b : Bool). (b ≡ true) ↔ IsLedger fares (read_as (is_some wanted) file)) (sym is)
+          (recount_legal decide fares (read_as (is_some wanted) file) taken recount);
+      columns = columns;
+      right = right;
+      are_columns = are;
+      rest = rest;
+      fits = fits;
+      report_line = line;
+      shown = ap (λ (t : List ℕ). recount_text taken ++ t) (shown ∙ append_assoc ending columns rest)
+          ∙ sym (append_assoc (recount_text taken) ending (columns ++ rest));
+      both = both;
+    }
+
+-- What is found of all lines, with another recount of them. Both have the same taps, and as many
+-- wrong lines.
+other_recount : (fares : Fares) (wanted : Option Wanted) (file : List ℕ)
+    (good : Option (List TapFields)) (report : Option (List ℕ)) (some : List ℕ) (well : Bool)
+    (read : List ReadLine) (taken : List TakenLine)
+    → IsRecount fares (read_as (is_some wanted) file) taken
+    → (audit : IsAudit true fares wanted file read good report some well)
+    → IsAudit true fares wanted file read good report
+    (recount_text taken ++ (audit.finding.rest ++ (audit.columns ++ audit.rest))) well
+other_recount fares wanted file good report some well read taken recount audit =
+    let finding = audit.finding in
+    let same = same_taken fares finding.taken taken finding.recount.are recount.are
+    (sym finding.recount.split ∙ recount.split) in
+    record {
+      found = recount_text taken ++ finding.rest;
+      sound = audit.sound;
+      finding = record {
+        taken = taken;
+        recount = recount;
+        rest = finding.rest;
+        shown = refl;
+        second = subst (λ (n : ℕ). IsDifferencesEnd good (taps_from taken) (nat_eq n 0) finding.rest
+            audit.sound) same.wrong
+            (subst (λ (ts : List TapFields). IsDifferencesEnd good ts
+            (nat_eq (wrong_count finding.taken) 0) finding.rest audit.sound) same.taps
+            finding.second);
+      };
+      legal = audit.legal;
+      is_legal = audit.is_legal;
+      columns = audit.columns;
+      right = audit.right;
+      are_columns = audit.are_columns;
+      rest = audit.rest;
+      fits = audit.fits;
+      report_line = audit.report_line;
+      shown = sym (append_assoc (recount_text taken) finding.rest (audit.columns ++ audit.rest));
+      both = audit.both;
+    }
+
+-- the text of what is found of all lines goes on behind the remarks on the first ones
+goes_on : (fares : Fares) (wanted : Option Wanted) (file : List ℕ)
+    (good : Option (List TapFields)) (report : Option (List ℕ)) (some : List ℕ) (well : Bool)
+    (read : List ReadLine) (first : List TakenLine) → RecountsGoOn
+    → AreFirstTaken fares (read_as (is_some wanted) file) first
+    → IsAudit true fares wanted file read good report some well
+    → (more : List ℕ) × (some ≡ remark_lines first ++ more)
+goes_on fares wanted file good report some well read first go_on begins audit =
+    let finding = audit.finding in
+    let behind = audit.columns ++ audit.rest in
+    let more = go_on fares (read_as (is_some wanted) file) first finding.taken begins finding.recount in (
+      more.0 ++ (finding.rest ++ behind),
+      audit.shown ∙ ap (λ (t : List ℕ). t ++ behind) (finding.shown
+          ∙ ap (λ (t : List ℕ). t ++ finding.rest) more.1)
+          ∙ append_assoc (remark_lines first ++ more.0) finding.rest behind
+          ∙ append_assoc (remark_lines first) more.0 (finding.rest ++ behind),
+    )
+
+-- what was written of the lines is a beginning of what is found
+pub begun_audit : (fares : Fares) (wanted : Option Wanted) (file : List ℕ)
+    (good : Option (List TapFields)) (report : Option (List ℕ)) (out out' : Option (List ℕ))
+    → RecountsGoOn → HasBegunRecount fares (read_as (is_some wanted) file) out out'
+    → HasBegunAudit true fares wanted file good report out out'
+begun_audit fares wanted file good report out out' go_on begun = λ some well audit. ⊎_elim
+    (λ front.
+    let more = goes_on fares wanted file good report some well audit.0 front.0 go_on front.1 audit.1
+    in (
+      some,
+      well,
+      audit,
+      subst (λ (t : List ℕ). Begins out out' t) (sym more.1)
+          (begins_front out out' (remark_lines front.0) more.0 front.2),
+    ))
+    (λ all.
+    let rest = audit.1.finding.rest ++ (audit.1.columns ++ audit.1.rest) in (
+      recount_text all.0 ++ rest,
+      well,
+      (
+        audit.0,
+        other_recount fares wanted file good report some well audit.0 all.0 all.1 audit.1,
+      ),
+      begins_front out out' (recount_text all.0) rest all.2,
+    ))
+    begun
